@@ -1,0 +1,62 @@
+-- What an environment call does, by its number and its first two words.
+use Rattle.std.specs.Prelude.{ℕ, ◌%◌, ◌≡◌, ◌==◌, nat_lt, nat_le, if◌then◌else◌, List, [], ◌∷◌, IsTrue, ◌||◌}
+use Rattle.std.specs.Fmt.{signed_decimal}
+use Rattle.std.specs.Int.{cast_signed, w64}
+use Rattle.grift_base.specs.World.{WorldState, printing}
+use Rattle.grift_base.specs.declared.verdicts.AnswerKind.{AnswerKind}
+use Rattle.grift_base.specs.declared.verdicts.AnswerKind.TheVariants.{Int, Bool, Unit as UnitKind, Function, Tuple, Boxed, Vector}
+use Rattle.grift_base.specs.declared.verdicts.Trap.{Trap}
+use Rattle.grift_base.specs.declared.verdicts.Trap.TheVariants.{ZeroDivisor, Index, Length, Input}
+use Rattle.grift_base.specs.declared.worlds.EnvEffect.{EnvEffect}
+use Rattle.grift_base.specs.declared.worlds.EnvEffect.TheVariants.{Next, Ended, Blamed, Trapped, RegionOut, StackOut, Refused, OutOfMemory}
+
+-- what the call comes to, and the outside after it
+pub record Called : Type 0 where
+  pub effect : EnvEffect
+  pub world : WorldState
+
+-- the program ends with an answer of this kind, whose word is 0
+abbrev pub ends_plain : AnswerKind → ℕ → EnvEffect
+ends_plain kind word = if word == 0 then Ended (record { kind = kind; word = cast_signed w64 0 }) else Refused
+
+-- call 0: an answer of the kind of this number with this word
+abbrev pub ends : ℕ → ℕ → EnvEffect
+ends kind word =
+    if kind == 0 then Ended (record { kind = Int; word = cast_signed w64 word })
+    else if kind == 1 then (if nat_le word 1 then Ended (record { kind = Bool; word = cast_signed w64 word }) else Refused)
+    else if kind == 2 then ends_plain UnitKind word
+    else if kind == 3 then ends_plain Function word
+    else if kind == 4 then ends_plain Tuple word
+    else if kind == 5 then ends_plain Boxed word
+    else if kind == 6 then ends_plain Vector word
+    else Refused
+
+-- call 4: the trap of this number
+abbrev pub traps : ℕ → EnvEffect
+traps kind =
+    if kind == 1 then Trapped ZeroDivisor
+    else if kind == 2 then Trapped Index
+    else if kind == 3 then Trapped Length
+    else if kind == 4 then Trapped Input
+    else Refused
+
+-- the call with this number and these first two words, in a program with so many labels
+unfoldable pub environment_call : ℕ → ℕ → ℕ → ℕ → WorldState → Called
+environment_call number a0 a1 labels w =
+    if number == 0 then record { effect = ends a0 a1; world = w }
+    else if number == 1 then record { effect = Next a0 a1; world = printing (signed_decimal (cast_signed w64 a0)) w }
+    else if number == 2 then record { effect = Next a0 a1; world = printing (a0 % 256 ∷ []) w }
+    else if number == 3 then record { effect = if nat_lt a0 labels then Blamed a0 else Refused; world = w }
+    else if number == 4 then record { effect = traps a0; world = w }
+    else if number == 5 then record { effect = RegionOut; world = w }
+    else if number == 6 then record { effect = StackOut; world = w }
+    else record { effect = Refused; world = w }
+
+-- the calls that print
+abbrev pub Prints : ℕ → Type 0
+Prints number = IsTrue ((number == 1) || (number == 2))
+
+-- what came of the call in the program: what it comes to, or, where it prints, want of memory with the outside as before
+abbrev pub MakesCall : Called → ℕ → WorldState → EnvEffect → WorldState → Type 0
+MakesCall c number old OutOfMemory new = Prints number × (new ≡ old)
+MakesCall c number old effect new = (effect ≡ c.effect) × (new ≡ c.world)

@@ -1,0 +1,8 @@
+// What every part of the compiler and of the machine shares.
+#![tactic(auto)]
+
+pub mod lists;
+pub mod operators;
+pub mod places;
+pub mod verdicts;
+pub mod worlds;

@@ -1,0 +1,27 @@
+// The primitive operators of the language.
+
+/// A primitive operator.
+#[derive(Clone, Copy, PartialEq, Eq, Hash, Debug)]
+pub enum PrimOp {
+    Add,
+    Sub,
+    Mul,
+    Quot,
+    Rem,
+    Lt,
+    Le,
+    Eq,
+    Ge,
+    Gt,
+    Not,
+    PrintInt,
+    Newline,
+    ReadInt,
+    MakeBox,
+    Unbox,
+    BoxSet,
+    MakeVector,
+    VectorRef,
+    VectorSet,
+    VectorLength,
+}
