@@ -1,6 +1,7 @@
 -- The laws of following.
-use Rattle.std.proofs.Common.{◌≡◌, ◌⊎◌, inl, inr, ℕ, List, [], ◌++◌, Option, Some, None, refl, sym, ap, ◌∙◌, subst, append_assoc, append-nil}
-use Rattle.run_laws.specs.Runs.{Ending, Verdict, Exhausted, Wrong, Moment, Run, IsPrefix, IsExhausted, EndsAs, HasEndOf, NeverWrong, Follows, Agrees, Backed, Reached, FollowsBy, Through, Same}
+use Rattle.std.proofs.Common.{◌≡◌, ◌≢◌, ◌⊎◌, inl, inr, ℕ, ◌<◌, ◌≤◌, List, [], ◌++◌, Option, Some, None, refl, sym, ap, ◌∙◌, subst, arith, append_assoc, append-nil}
+use Rattle.std.proofs.lemmas.Bool.{cases_lt}
+use Rattle.run_laws.specs.Runs.{Ending, Verdict, Exhausted, Wrong, Moment, Run, IsPrefix, IsExhausted, EndsAs, HasEndOf, NeverWrong, StaysEnded, Follows, SameAnswer, Agrees, Backed, Reached, FollowsBy, Through, Same}
 
 -- endings and output
 ends_as_trans : {V : Type 0} (a b c : Option (Ending V)) → EndsAs a b → EndsAs b c → EndsAs a c
@@ -28,6 +29,9 @@ ends_as_equal a b e = subst (EndsAs a) e (ends_as_refl a)
 
 pub has_end_of_equal : {V : Type 0} (a b : Option (Ending V)) → a ≡ b → HasEndOf a b
 has_end_of_equal a b e = subst (HasEndOf a) e (has_end_of_refl a)
+
+some_injective : {V : Type 0} {a b : V} → Some a ≡ Some b → a ≡ b
+some_injective h = cc
 
 pub prefix_trans : (xs ys zs : List ℕ) → IsPrefix xs ys → IsPrefix ys zs → IsPrefix xs zs
 prefix_trans xs ys zs p q = (p.0 ++ q.0, q.1 ∙ ap (λ l. l ++ q.0) p.1 ∙ append_assoc xs p.0 q.0)
@@ -108,6 +112,25 @@ follows_of {X = X} {Y = Y} {K = K} {L = L} f = plain_of X Y K L f
 -- a run that follows one that never goes wrong never does
 pub never_wrong_back : {A B V : Type 0} {X : Run A V} {Y : Run B V} → Follows X Y → NeverWrong Y → NeverWrong X
 never_wrong_back {X = X} {Y = Y} f nw = wrong_back X Y f nw
+
+-- a run that follows one that stays ended gives no answer but its answer
+pub same_answer : {A B V : Type 0} {X : Run A V} {Y : Run B V} → Follows X Y → StaysEnded Y → SameAnswer X Y
+same_answer {V = V} {X = X} {Y = Y} f stays m n e e' ex ne ey = together (f.back m)
+  where
+    ends_so : (e : Ending V) (o : Option (Ending V)) → e ≢ Exhausted → EndsAs (Some e) o → o ≡ Some e
+    ends_so (Verdict v) o ne h = h
+    ends_so Exhausted o ne h = absurd (ne refl)
+    ends_so Wrong o ne h = h
+
+    same_moment : (k : ℕ) → (Y k).ending ≡ Some e → (k < n ⊎ n ≤ k) → Y k ≡ Y n
+    same_moment k h (inl le) = sym (stays k n e (omega arith) h)
+    same_moment k h (inr le) = stays n k e' le ey
+
+    together : (k : ℕ) × ((X m).output ≡ (Y k).output) × EndsAs (X m).ending (Y k).ending → (e ≡ e') × ((X m).output ≡ (Y n).output)
+    together (k, out, end) =
+        let so = ends_so e (Y k).ending ne (subst (λ o. EndsAs o (Y k).ending) ex end) in
+        let same = same_moment k so (cases_lt k n) in
+        (some_injective (sym so ∙ ap (λ y. y.ending) same ∙ ey), out ∙ ap (λ y. y.output) same)
 
 -- the relations may be weakened
 pub follows_by_weaken : {A B V : Type 0} {X : Run A V} {Y : Run B V} {K L : A → B → Type 0} (K' L' : A → B → Type 0) → ((a : A) (b : B) → K a b → K' a b) → ((a : A) (b : B) → L a b → L' a b) → FollowsBy K L X Y → FollowsBy K' L' X Y

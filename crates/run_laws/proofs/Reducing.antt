@@ -1,8 +1,8 @@
 -- What the run of a reduction does, and how it joins the run of its machine.
 use Rattle.std.proofs.Common.{◌≡◌, ◌≢◌, inr, ℕ, zero, suc, ◌+◌, ◌≤◌, Option, Some, None, refl, sym, ap, ◌∙◌, subst, arith}
-use Rattle.run_laws.specs.Runs.{Ending, Wrong, Moment, Run, IsPrefix, EndsAs, HasEndOf, NeverWrong, Agrees, FollowsBy, Same}
-use Rattle.run_laws.specs.Machines.{Machine, moment, after, run}
-use Rattle.run_laws.specs.Reductions.{Reduction, unless_ended, state_after, moment_at, reduction_run, go_or_stop, machine_of}
+use Rattle.run_laws.specs.Runs.{Ending, Wrong, Moment, Run, IsPrefix, EndsAs, HasEndOf, NeverWrong, StaysEnded, OutputGrows, Agrees, FollowsBy, Same}
+use Rattle.run_laws.specs.Machines.{Machine, moment, after, run, landing, OnlyAddsOutput}
+use Rattle.run_laws.specs.Reductions.{Reduction, unless_ended, state_after, moment_at, reduction_run, ReductionOnlyAddsOutput, go_or_stop, machine_of}
 use Rattle.run_laws.proofs.Following.{ends_as_equal, backed_equal, reached_equal, prefix_trans, prefix_refl}
 
 none_is_not_some : {V : Type 0} (o : Option (Ending V)) (e : Ending V) → o ≡ None → o ≡ Some e → ⊥
@@ -34,8 +34,8 @@ module _ {S A V : Type 0} (M : Reduction S A V) where
       state_after_stays n m (unless_ended (M.ending s) M.step s) e (omega arith) h
 
   -- so what has ended stays as it is
-  pub reduction_stays_ended : (n m : ℕ) (s : S) (e : Ending V) → n ≤ m → (reduction_run M s n).ending ≡ Some e → reduction_run M s m ≡ reduction_run M s n
-  reduction_stays_ended n m s e le h = ap (moment_at M) (state_after_stays n m s e le h)
+  pub reduction_stays_ended : (s : S) → StaysEnded (reduction_run M s)
+  reduction_stays_ended s n m e le h = ap (moment_at M) (state_after_stays n m s e le h)
 
   -- some steps and then some more
   pub state_after_sum : (n m : ℕ) (s : S) → state_after M s (n + m) ≡ state_after M (state_after M s n) m
@@ -59,17 +59,26 @@ module _ {S A V : Type 0} (M : Reduction S A V) where
   reduction_never_wrong I keeps safe s i n = safe (state_after M s n) (state_after_keeps I keeps n s i)
 
   -- where no step takes output back, the output only grows along the run
-  pub reduction_output_grows : ((s : S) → IsPrefix (M.output s) (M.output (M.step s))) → (n m : ℕ) (s : S) → n ≤ m → IsPrefix (reduction_run M s n).output (reduction_run M s m).output
-  reduction_output_grows grows zero m s le =
-      state_after_keeps (λ x. IsPrefix (M.output s) (M.output x)) (λ x p e. prefix_trans (M.output s) (M.output x) (M.output (M.step x)) p (grows x)) m s (prefix_refl (M.output s) (M.output s) refl)
-  reduction_output_grows grows (suc n) zero s le = absurd (omega arith)
-  reduction_output_grows grows (suc n) (suc m) s le =
-      reduction_output_grows grows n m (unless_ended (M.ending s) M.step s) (omega arith)
+  grows_from : ReductionOnlyAddsOutput M → (n m : ℕ) (s : S) → n ≤ m → IsPrefix (reduction_run M s n).output (reduction_run M s m).output
+  grows_from adds zero m s le =
+      state_after_keeps (λ x. IsPrefix (M.output s) (M.output x)) (λ x p e. prefix_trans (M.output s) (M.output x) (M.output (M.step x)) p (adds x e)) m s (prefix_refl (M.output s) (M.output s) refl)
+  grows_from adds (suc n) zero s le = absurd (omega arith)
+  grows_from adds (suc n) (suc m) s le = grows_from adds n m (unless_ended (M.ending s) M.step s) (omega arith)
+
+  pub reduction_output_grows : ReductionOnlyAddsOutput M → (s : S) → OutputGrows (reduction_run M s)
+  reduction_output_grows adds s n m le = grows_from adds n m s le
 
   -- ---- the machine of the reduction
 
   abbrev machine : Machine S A V
   machine = machine_of M
+
+  adds_at : (s : S) (o : Option (Ending V)) → (o ≡ None → IsPrefix (M.output s) (M.output (M.step s))) → IsPrefix (M.output s) (M.output (landing (go_or_stop o M.step s)))
+  adds_at s None adds = adds refl
+  adds_at s (Some e) adds = prefix_refl (M.output s) (M.output s) refl
+
+  pub machine_adds_output : ReductionOnlyAddsOutput M → OnlyAddsOutput (machine_of M)
+  machine_adds_output adds s = adds_at s (M.ending s) (adds s)
 
   first_step : (s : S) (o : Option (Ending V)) → after machine (go_or_stop o M.step s) (λ x. moment machine x None) ≡ moment machine (unless_ended o M.step s) o
   first_step s None = refl

@@ -1,6 +1,6 @@
 -- What the run of a machine does.
 use Rattle.std.proofs.Common.{◌≡◌, ◌≢◌, ℕ, zero, suc, ◌≤◌, Option, Some, None, refl, ap, arith}
-use Rattle.run_laws.specs.Runs.{Ending, Verdict, Exhausted, Wrong, Moment, IsPrefix, IsExhausted, NeverWrong}
+use Rattle.run_laws.specs.Runs.{Ending, Verdict, Exhausted, Wrong, Moment, IsPrefix, IsExhausted, NeverWrong, StaysEnded, OutputGrows}
 use Rattle.run_laws.specs.Machines.{Next, Go, Stop, Machine, moment, after, run, landing, OnlyAddsOutput}
 use Rattle.run_laws.proofs.Following.{prefix_trans, prefix_refl}
 
@@ -24,10 +24,13 @@ module _ {S A V : Type 0} (M : Machine S A V) where
   stays_on n m e ih (Go s) h = ih s h
   stays_on n m e ih (Stop o s) h = refl
 
-  pub stays_ended : (n m : ℕ) (s : S) (e : Ending V) → n ≤ m → (run M s n).ending ≡ Some e → run M s m ≡ run M s n
-  stays_ended zero m s e le h = absurd (not_at_once s e h)
-  stays_ended (suc n) zero s e le h = absurd (omega arith)
-  stays_ended (suc n) (suc m) s e le h = stays_on n m e (λ s1 h1. stays_ended n m s1 e (omega arith) h1) (M.step s) h
+  ended_from : (n m : ℕ) (s : S) (e : Ending V) → n ≤ m → (run M s n).ending ≡ Some e → run M s m ≡ run M s n
+  ended_from zero m s e le h = absurd (not_at_once s e h)
+  ended_from (suc n) zero s e le h = absurd (omega arith)
+  ended_from (suc n) (suc m) s e le h = stays_on n m e (λ s1 h1. ended_from n m s1 e (omega arith) h1) (M.step s) h
+
+  pub stays_ended : (s : S) → StaysEnded (run M s)
+  stays_ended s n m e le h = ended_from n m s e le h
 
   -- where no step takes output back, the output only grows along the run
   start_on : (m : ℕ) (s : S) → ((s1 : S) → IsPrefix (M.output s1) (run M s1 m).output) → (x : Next S V) → IsPrefix (M.output s) (M.output (landing x)) → IsPrefix (M.output s) (after M x (λ s1. run M s1 m)).output
@@ -38,14 +41,17 @@ module _ {S A V : Type 0} (M : Machine S A V) where
   start_grows g zero s = prefix_refl (M.output s) (M.output s) refl
   start_grows g (suc m) s = start_on m s (λ s1. start_grows g m s1) (M.step s) (g s)
 
-  pub output_grows : OnlyAddsOutput M → (n m : ℕ) (s : S) → n ≤ m → IsPrefix (run M s n).output (run M s m).output
-  output_grows g zero m s le = start_grows g m s
-  output_grows g (suc n) zero s le = absurd (omega arith)
-  output_grows g (suc n) (suc m) s le = grows_step n m (λ s1. output_grows g n m s1 (omega arith)) (M.step s)
+  grows_from : OnlyAddsOutput M → (n m : ℕ) (s : S) → n ≤ m → IsPrefix (run M s n).output (run M s m).output
+  grows_from g zero m s le = start_grows g m s
+  grows_from g (suc n) zero s le = absurd (omega arith)
+  grows_from g (suc n) (suc m) s le = grows_step n m (λ s1. grows_from g n m s1 (omega arith)) (M.step s)
     where
       grows_step : (n m : ℕ) → ((s1 : S) → IsPrefix (run M s1 n).output (run M s1 m).output) → (x : Next S V) → IsPrefix (after M x (λ s1. run M s1 n)).output (after M x (λ s1. run M s1 m)).output
       grows_step n m ih (Go s1) = ih s1
       grows_step n m ih (Stop o s1) = prefix_refl (M.output s1) (M.output s1) refl
+
+  pub output_grows : OnlyAddsOutput M → (s : S) → OutputGrows (run M s)
+  output_grows g s n m le = grows_from g n m s le
 
   -- the step leads to where the invariant holds, or ends other than wrong
   abbrev pub Safely : (S → Type 0) → Next S V → Type 0

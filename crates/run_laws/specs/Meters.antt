@@ -1,6 +1,6 @@
 -- Machines and reductions that count what their steps cost.
 use Rattle.std.specs.Prelude.{◌≡◌, ◌⊎◌, ℕ, ◌+◌, ◌*◌, ◌<◌, ◌≤◌, Option, Some, None}
-use Rattle.run_laws.specs.Runs.{Ending}
+use Rattle.run_laws.specs.Runs.{Ending, Moment, Run, IsPrefix, IsExhausted}
 use Rattle.run_laws.specs.Machines.{Next, Go, Stop, Machine, Alike, Reaches, UnlessWrong}
 use Rattle.run_laws.specs.Reductions.{Reduction}
 
@@ -44,6 +44,10 @@ none_once_ended (Some e) n = 0
 abbrev pub machine_work : {S A V : Type 0} → Reduction S A V → (S → ℕ) → S → ℕ
 machine_work M work s = none_once_ended (M.ending s) (work s)
 
+-- two moments are the same but for the meter
+abbrev pub SameButMeter : {A V : Type 0} → Moment (Metered A) V → Moment A V → Type 0
+SameButMeter x y = (x.output ≡ y.output) × (x.ending ≡ y.ending) × (x.shown.rest ≡ y.shown)
+
 -- each step costs one
 abbrev pub each_one : {S : Type 0} → S → ℕ
 each_one s = 1
@@ -51,6 +55,14 @@ each_one s = 1
 -- at most c times as much was spent
 abbrev pub Spends : {A B : Type 0} → ℕ → Metered A → Metered B → Type 0
 Spends c a b = a.spent ≤ c * b.spent
+
+-- where Y has ended, X has ended so or is exhausted within c turns for each unit that Y has spent
+abbrev pub EndsInTime : {A B V : Type 0} → ℕ → Run B V → Run (Metered A) V → Type 0
+EndsInTime {V = V} c X Y = (n k : ℕ) (e : Ending V) → (Y n).ending ≡ Some e → c * (Y n).shown.spent ≤ k → IsExhausted (X k) ⊎ ((X k).ending ≡ Some e)
+
+-- whatever Y has printed, X has printed or is exhausted within c turns for each unit that Y has spent
+abbrev pub PrintsInTime : {A B V : Type 0} → ℕ → Run B V → Run (Metered A) V → Type 0
+PrintsInTime c X Y = (n k : ℕ) → c * (Y n).shown.spent ≤ k → IsExhausted (X k) ⊎ IsPrefix (Y n).output (X k).output
 
 -- a relation of the rest, whatever was spent
 abbrev pub OfRest : {A B : Type 0} → (A → B → Type 0) → Metered A → Metered B → Type 0

@@ -1,6 +1,6 @@
 -- Reductions, whose states say themselves whether they have ended: so a run may have ended after no step.
-use Rattle.std.specs.Prelude.{ℕ, zero, suc, List, Option, Some, None}
-use Rattle.run_laws.specs.Runs.{Ending, Moment, Run}
+use Rattle.std.specs.Prelude.{◌≡◌, ℕ, zero, suc, List, Option, Some, None}
+use Rattle.run_laws.specs.Runs.{Ending, Moment, Run, IsPrefix}
 use Rattle.run_laws.specs.Machines.{Next, Go, Stop, Machine}
 
 -- a reduction: its step, and of each state the ending, if it has ended, the output so far and what is shown
@@ -27,6 +27,10 @@ moment_at M s = record { shown = M.shown s; output = M.output s; ending = M.endi
 -- the run from a state: what is seen after at most n steps
 abbrev pub reduction_run : {S A V : Type 0} → Reduction S A V → S → Run A V
 reduction_run M s n = moment_at M (state_after M s n)
+
+-- no step takes output back
+abbrev pub ReductionOnlyAddsOutput : {S A V : Type 0} → Reduction S A V → Type 0
+ReductionOnlyAddsOutput {S = S} M = (s : S) → M.ending s ≡ None → IsPrefix (M.output s) (M.output (M.step s))
 
 -- stops where there is an ending, and else goes on
 abbrev pub go_or_stop : {S V : Type 0} → Option (Ending V) → (S → S) → S → Next S V

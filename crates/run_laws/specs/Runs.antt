@@ -1,5 +1,5 @@
 -- Runs, and what it is for one run to follow another.
-use Rattle.std.specs.Prelude.{◌≡◌, ◌≢◌, ◌⊎◌, ℕ, List, ◌++◌, Option, Some, None}
+use Rattle.std.specs.Prelude.{◌≡◌, ◌≢◌, ◌⊎◌, ℕ, ◌≤◌, List, ◌++◌, Option, Some, None}
 
 -- how a run ends: with a verdict, out of some resource, or where its language gives no meaning
 pub data Ending (V : Type 0) : Type 0 where
@@ -41,12 +41,24 @@ HasEndOf o (Some e) = o ≡ Some e
 abbrev pub NeverWrong : {A V : Type 0} → Run A V → Type 0
 NeverWrong X = (n : ℕ) → (X n).ending ≢ Some Wrong
 
+-- what has ended stays as it is
+abbrev pub StaysEnded : {A V : Type 0} → Run A V → Type 0
+StaysEnded {V = V} X = (n m : ℕ) (e : Ending V) → n ≤ m → (X n).ending ≡ Some e → X m ≡ X n
+
+-- the output only grows
+abbrev pub OutputGrows : {A V : Type 0} → Run A V → Type 0
+OutputGrows X = (n m : ℕ) → n ≤ m → IsPrefix (X n).output (X m).output
+
 -- X follows Y
 pub record Follows {A B V : Type 0} (X : Run A V) (Y : Run B V) : Type 0 where
   -- at each of X's moments its output is that of some moment of Y, and if X has ended there other than exhausted, Y has ended there with the same
   pub back : (m : ℕ) → (n : ℕ) × ((X m).output ≡ (Y n).output) × EndsAs (X m).ending (Y n).ending
   -- for each of Y's moments X comes to be exhausted, or to output that begins with Y's, ended with the same if Y has ended
   pub forth : (n : ℕ) → (m : ℕ) × (IsExhausted (X m) ⊎ (IsPrefix (Y n).output (X m).output × HasEndOf (X m).ending (Y n).ending))
+
+-- where both have ended, and X other than exhausted, they have the same ending and the same output
+abbrev pub SameAnswer : {A B V : Type 0} → Run A V → Run B V → Type 0
+SameAnswer {V = V} X Y = (m n : ℕ) (e e' : Ending V) → (X m).ending ≡ Some e → e ≢ Exhausted → (Y n).ending ≡ Some e' → (e ≡ e') × ((X m).output ≡ (Y n).output)
 
 -- two moments agree: they have the same output, and K relates what they show
 pub record Agrees {A B V : Type 0} (K : A → B → Type 0) (x : Moment A V) (y : Moment B V) : Type 0 where
