@@ -1,10 +1,9 @@
 -- The definitions at work on small runs.
-use Rattle.std.proofs.Common.{◌≡◌, ◌⊎◌, inl, inr, ℕ, suc, ◌+◌, List, [], ◌∷◌, ◌++◌, Option, Some, None, refl}
-use Rattle.run_laws.specs.Runs.{Ending, Verdict, Exhausted, Moment, Run, IsPrefix, IsExhausted, HasEndOf, Follows}
+use Rattle.std.proofs.Common.{◌≡◌, ◌⊎◌, inl, inr, ℕ, List, [], ◌∷◌, ◌++◌, Option, Some, None, refl}
+use Rattle.run_laws.specs.Runs.{Ending, Verdict, Exhausted, Run, IsPrefix, IsExhausted, HasEndOf, Follows}
 use Rattle.run_laws.specs.Machines.{Next, Go, Stop, Machine, run}
 use Rattle.run_laws.specs.Reductions.{Reduction, reduction_run, machine_of}
 use Rattle.run_laws.specs.Meters.{unspent, metered, each_one}
-use Rattle.run_laws.proofs.Following.{prefix_refl}
 
 -- what is left to print, and what is printed
 record Page : Type 0 where

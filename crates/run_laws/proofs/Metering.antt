@@ -1,7 +1,7 @@
 -- Machines with meters: what the target spends is bounded by what the source spends.
-use Rattle.std.proofs.Common.{◌≡◌, ◌⊎◌, inl, inr, ⊎_elim, ℕ, zero, suc, ◌+◌, ◌*◌, ◌≤◌, Option, Some, None, refl, sym, ap, ◌∙◌, subst, arith, mul-add, mul_assoc, le_trans, mul-le-mul_left}
-use Rattle.run_laws.specs.Runs.{Ending, Verdict, Exhausted, Wrong, Moment, Run, NeverWrong, Follows, FollowsBy, Through, Same}
-use Rattle.run_laws.specs.Machines.{Next, Go, Stop, Machine, moment, after, run, landing, Onward, Reaches, Alike, OnTheWay, StopsAt, UnlessWrong, Does, Simulation}
+use Rattle.std.proofs.Common.{◌≡◌, inl, inr, ⊎_elim, ℕ, zero, suc, ◌+◌, ◌*◌, ◌≤◌, Option, Some, None, refl, sym, ap, ◌∙◌, subst, arith, mul-add, mul_assoc, le_trans, mul-le-mul_left}
+use Rattle.run_laws.specs.Runs.{Ending, Verdict, Exhausted, Wrong, NeverWrong, Follows, FollowsBy, Through, Same}
+use Rattle.run_laws.specs.Machines.{Next, Go, Stop, Machine, moment, after, run, landing, Onward, Reaches, Alike, OnTheWay, StopsAt, Does, Simulation}
 use Rattle.run_laws.specs.Reductions.{Reduction, unless_ended, state_after, go_or_stop, reduction_run, machine_of}
 use Rattle.run_laws.specs.Meters.{Metered, unspent, charge, metered, metered_reduction, none_once_ended, machine_work, SameButMeter, Spends, OfRest, OnBudget, StopsOnBudget, DoesOnBudget, CostSimulation}
 use Rattle.run_laws.proofs.Following.{ends_as_equal, has_end_of_equal, prefix_refl, follows_equal, follows_by_before, follows_by_behind}

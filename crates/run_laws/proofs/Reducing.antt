@@ -1,6 +1,6 @@
 -- What the run of a reduction does, and how it joins the run of its machine.
-use Rattle.std.proofs.Common.{◌≡◌, ◌≢◌, inr, ℕ, zero, suc, ◌+◌, ◌≤◌, Option, Some, None, refl, sym, ap, ◌∙◌, subst, arith}
-use Rattle.run_laws.specs.Runs.{Ending, Wrong, Moment, Run, IsPrefix, EndsAs, HasEndOf, NeverWrong, StaysEnded, OutputGrows, Agrees, FollowsBy, Same}
+use Rattle.std.proofs.Common.{◌≡◌, ◌≢◌, inr, ℕ, zero, suc, ◌+◌, ◌≤◌, Option, Some, None, refl, sym, ap, ◌∙◌, arith}
+use Rattle.run_laws.specs.Runs.{Ending, Wrong, IsPrefix, EndsAs, HasEndOf, NeverWrong, StaysEnded, OutputGrows, Agrees, FollowsBy, Same}
 use Rattle.run_laws.specs.Machines.{Machine, moment, after, run, landing, OnlyAddsOutput}
 use Rattle.run_laws.specs.Reductions.{Reduction, unless_ended, state_after, moment_at, reduction_run, ReductionOnlyAddsOutput, go_or_stop, machine_of}
 use Rattle.run_laws.proofs.Following.{ends_as_equal, backed_equal, reached_equal, prefix_trans, prefix_refl}
@@ -116,7 +116,7 @@ module _ {S A V : Type 0} (M : Reduction S A V) where
   -- where the machine has ended after n steps, the reduction is at the same moment
   pub machine_end_back : (n : ℕ) (s : S) (e : Ending V) → (run (machine_of M) s n).ending ≡ Some e → run (machine_of M) s n ≡ reduction_run M s n
   machine_end_back zero s e h = absurd (none_is_not_some None e refl h)
-  machine_end_back (suc n) s e h = 
+  machine_end_back (suc n) s e h =
       let over : M.ending (state_after M s n) ≡ Some e = sym (ap (λ x. x.ending) (machine_run n s)) ∙ h in
       let same = state_after_stays n (suc n) s e (omega arith) over in
       machine_run n s ∙ ap (moment machine (state_after M s (suc n))) (sym (ap M.ending same))

@@ -1,6 +1,6 @@
 -- What the run of a machine does.
-use Rattle.std.proofs.Common.{◌≡◌, ◌≢◌, ℕ, zero, suc, ◌≤◌, Option, Some, None, refl, ap, arith}
-use Rattle.run_laws.specs.Runs.{Ending, Verdict, Exhausted, Wrong, Moment, IsPrefix, IsExhausted, NeverWrong, StaysEnded, OutputGrows}
+use Rattle.std.proofs.Common.{◌≡◌, ◌≢◌, ℕ, zero, suc, ◌≤◌, Some, None, refl, ap, arith}
+use Rattle.run_laws.specs.Runs.{Ending, Verdict, Exhausted, Wrong, IsPrefix, IsExhausted, NeverWrong, StaysEnded, OutputGrows}
 use Rattle.run_laws.specs.Machines.{Next, Go, Stop, Machine, moment, after, run, landing, OnlyAddsOutput}
 use Rattle.run_laws.proofs.Following.{prefix_trans, prefix_refl}
 

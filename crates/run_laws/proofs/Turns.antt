@@ -1,6 +1,6 @@
 -- How many turns a machine needs: a bound on its spending, at one for each step, is a bound on its steps.
 use Rattle.std.proofs.Common.{◌≡◌, ◌⊎◌, inl, inr, ℕ, zero, suc, ◌+◌, ◌*◌, ◌≤◌, Some, refl, sym, ap, ◌∙◌, subst, arith}
-use Rattle.run_laws.specs.Runs.{Ending, Exhausted, Run, Moment, IsPrefix, IsExhausted, HasEndOf, Reached, FollowsBy}
+use Rattle.run_laws.specs.Runs.{Ending, Exhausted, Run, IsPrefix, IsExhausted, HasEndOf, Reached, FollowsBy}
 use Rattle.run_laws.specs.Machines.{Next, Go, Stop, Machine, run, landing, OnlyAddsOutput}
 use Rattle.run_laws.specs.Meters.{Metered, unspent, charge, metered, SameButMeter, each_one, Spends, EndsInTime, PrintsInTime}
 use Rattle.run_laws.proofs.Metering.{metered_same}

@@ -1,16 +1,77 @@
 //! What a run is, what it means that one run follows another, and the laws of following.
+//!
+//! A run gives a moment for each bound: what is shown, the output so far, and the ending if it has
+//! ended. The definitions stand in `specs`. Each function here has an empty body: its contract is a
+//! law, proved for all runs and machines. The laws that speak of relations between states, such as
+//! the simulation theorem, are lemmas of `proofs`.
 #![tactic(auto)]
 
-ghost use Rattle.run_laws.specs.Runs.{Run, Follows, FollowsBy, Same, NeverWrong};
+ghost use Rattle.std.specs.Prelude.{ℕ};
+ghost use Rattle.run_laws.specs.Runs.{Run, NeverWrong, StaysEnded, OutputGrows, Follows, SameAnswer, FollowsBy, Same, Any};
+ghost use Rattle.run_laws.specs.Machines.{Machine, run, OnlyAddsOutput};
+ghost use Rattle.run_laws.specs.Reductions.{Reduction, reduction_run, ReductionOnlyAddsOutput, machine_of};
+ghost use Rattle.run_laws.specs.Meters.{Metered, unspent, metered, each_one, Spends, EndsInTime, PrintsInTime};
+
+#[cfg(test)]
+mod tests;
 
 /// Each run follows itself, and shows the same.
 pub fn each_run_follows_itself<A, V>()
     ensures { (x : Run A V) → FollowsBy Same Same x x }
-{
-}
+{}
 
-/// Where a run follows a second one that follows a third, it follows the third.
+/// A run that follows a second, which follows a third, follows the third.
 pub fn follows_is_transitive<A, B, C, V>()
     ensures { (x : Run A V) (y : Run B V) (z : Run C V) → Follows x y → Follows y z → Follows x z }
-{
-}
+{}
+
+/// A run that follows one that never goes wrong never goes wrong.
+pub fn follower_never_goes_wrong<A, B, V>()
+    ensures { (x : Run A V) (y : Run B V) → Follows x y → NeverWrong y → NeverWrong x }
+{}
+
+/// A run that follows another gives no answer but the other's: where both have ended, and it has
+/// not run out of a resource, they have the same ending and the same output.
+pub fn follower_gives_same_answer<A, B, V>()
+    ensures { (x : Run A V) (y : Run B V) → Follows x y → StaysEnded y → SameAnswer x y }
+{}
+
+/// What has ended stays as it is, with its output, its ending and what it shows.
+pub fn what_has_ended_stays<S, A, V>()
+    ensures machines { (m : Machine S A V) (s : S) → StaysEnded (run m s) }
+    ensures reductions { (m : Reduction S A V) (s : S) → StaysEnded (reduction_run m s) }
+{}
+
+/// Where no step takes output back, a later moment's output begins with an earlier one's.
+pub fn output_only_grows<S, A, V>()
+    ensures machines { (m : Machine S A V) (s : S) → OnlyAddsOutput m → OutputGrows (run m s) }
+    ensures reductions { (m : Reduction S A V) (s : S)
+        → ReductionOnlyAddsOutput m → OutputGrows (reduction_run m s) }
+{}
+
+/// The run of a reduction, which may have ended after no step, and the run of its machine, which
+/// makes one more step to stop, follow each other and show the same.
+pub fn reduction_and_machine_follow_each_other<S, A, V>()
+    ensures reduction { (m : Reduction S A V) (s : S)
+        → FollowsBy Same Same (reduction_run m s) (run (machine_of m) s) }
+    ensures machine { (m : Reduction S A V) (s : S)
+        → FollowsBy Same Same (run (machine_of m) s) (reduction_run m s) }
+{}
+
+/// A machine with a meter and the machine without it follow each other, whatever a step costs.
+pub fn meter_changes_nothing_else<S, A, V>()
+    ensures with_meter { (m : Machine S A V) (work : S → ℕ) (s : Metered S)
+        → Follows (run (metered work m) s) (run m s.rest) }
+    ensures without_meter { (m : Machine S A V) (work : S → ℕ) (s : Metered S)
+        → Follows (run m s.rest) (run (metered work m) s) }
+{}
+
+/// A machine whose steps cost one each, and that spends at most `c` times what a run that it follows
+/// spends, ends and prints as that run does, or runs out of a resource, within `c` turns for each
+/// unit that the run has spent.
+pub fn bounded_spending_bounds_turns<T, A, B, V>()
+    ensures ends { (m : Machine T B V) (t : T) (c : ℕ) (y : Run (Metered A) V)
+        → FollowsBy Any (Spends c) (run (metered each_one m) (unspent t)) y → EndsInTime c (run m t) y }
+    ensures prints { (m : Machine T B V) (t : T) (c : ℕ) (y : Run (Metered A) V) → OnlyAddsOutput m
+        → FollowsBy Any (Spends c) (run (metered each_one m) (unspent t)) y → PrintsInTime c (run m t) y }
+{}
