@@ -1,6 +1,6 @@
 -- The definitions at work on small runs.
 use Rattle.std.proofs.Common.{◌≡◌, ◌⊎◌, inl, inr, ℕ, List, [], ◌∷◌, ◌++◌, Option, Some, None, refl}
-use Rattle.run_laws.specs.Runs.{Ending, Verdict, Exhausted, Run, IsPrefix, IsExhausted, HasEndOf, Follows}
+use Rattle.run_laws.specs.Runs.{Ending, Verdict, Exhausted, Wrong, Run, IsPrefix, IsExhausted, HasVerdictOf, Follows}
 use Rattle.run_laws.specs.Machines.{Next, Go, Stop, Machine, run}
 use Rattle.run_laws.specs.Reductions.{Reduction, reduction_run, machine_of}
 use Rattle.run_laws.specs.Meters.{unspent, metered, each_one}
@@ -73,7 +73,7 @@ out_follows Y = record { back = λ m. (0, refl, tt); forth = λ n. (0, inl refl)
 
 -- a run that goes on for ever does not follow one that ends
 abbrev Comes : ℕ → Type 0
-Comes m = IsExhausted (still None m) ⊎ (IsPrefix [] [] × HasEndOf (still None m).ending (Some (Verdict 4)))
+Comes m = IsExhausted (still None m) ⊎ (IsPrefix [] [] × HasVerdictOf (still None m).ending (Some (Verdict 4)))
 
 never_comes : (m : ℕ) → Comes m → ⊥
 never_comes m (inl e) = cc
@@ -85,3 +85,7 @@ for_ever f = let a = f.forth 0 in never_comes a.0 a.1
 -- nor does one with another verdict
 other_verdict : Follows (still (Some (Verdict 3))) (still (Some (Verdict 4))) → ⊥
 other_verdict f = let e = (f.back 0).2 in cc
+
+-- nor does a run that goes wrong, be it the same
+gone_wrong : Follows (still (Some Wrong)) (still (Some Wrong)) → ⊥
+gone_wrong f = (f.back 0).2

@@ -1,34 +1,37 @@
 -- The laws of following.
 use Rattle.std.proofs.Common.{◌≡◌, ◌≢◌, ◌⊎◌, inl, inr, ℕ, ◌<◌, ◌≤◌, List, [], ◌++◌, Option, Some, None, refl, sym, ap, ◌∙◌, subst, arith, append_assoc, append-nil}
 use Rattle.std.proofs.lemmas.Bool.{cases_lt}
-use Rattle.run_laws.specs.Runs.{Ending, Verdict, Exhausted, Wrong, Moment, Run, IsPrefix, IsExhausted, EndsAs, HasEndOf, NeverWrong, StaysEnded, Follows, SameAnswer, Agrees, Backed, Reached, FollowsBy, Through, Same}
+use Rattle.run_laws.specs.Runs.{Ending, Verdict, Exhausted, Wrong, Moment, Run, IsPrefix, IsExhausted, EndsAs, HasVerdictOf, NeverWrong, StaysEnded, Follows, SameAnswer, Agrees, Backed, Reached, FollowsBy, Through, Same}
 
 -- endings and output
 ends_as_trans : {V : Type 0} (a b c : Option (Ending V)) → EndsAs a b → EndsAs b c → EndsAs a c
 ends_as_trans None b c h k = tt
 ends_as_trans (Some (Verdict v)) b c h k = subst (λ o. EndsAs o c) h k
 ends_as_trans (Some Exhausted) b c h k = tt
-ends_as_trans (Some Wrong) b c h k = subst (λ o. EndsAs o c) h k
+ends_as_trans (Some Wrong) b c h k = absurd h
 
-pub ends_as_refl : {V : Type 0} (a : Option (Ending V)) → EndsAs a a
-ends_as_refl None = tt
-ends_as_refl (Some (Verdict v)) = refl
-ends_as_refl (Some Exhausted) = tt
-ends_as_refl (Some Wrong) = refl
+has_verdict_of_trans : {V : Type 0} (a b c : Option (Ending V)) → HasVerdictOf a b → HasVerdictOf b c → HasVerdictOf a c
+has_verdict_of_trans a b None h k = tt
+has_verdict_of_trans a b (Some (Verdict v)) h k = subst (λ o. HasVerdictOf a o) k h
+has_verdict_of_trans a b (Some Exhausted) h k = absurd k
+has_verdict_of_trans a b (Some Wrong) h k = absurd k
 
-has_end_of_trans : {V : Type 0} (a b c : Option (Ending V)) → HasEndOf a b → HasEndOf b c → HasEndOf a c
-has_end_of_trans a b None h k = tt
-has_end_of_trans a b (Some e) h k = subst (λ o. HasEndOf a o) k h
+pub ends_as_equal : {V : Type 0} (a b : Option (Ending V)) → a ≢ Some Wrong → a ≡ b → EndsAs a b
+ends_as_equal None b nw e = tt
+ends_as_equal (Some (Verdict v)) b nw e = sym e
+ends_as_equal (Some Exhausted) b nw e = tt
+ends_as_equal (Some Wrong) b nw e = absurd (nw refl)
 
-has_end_of_refl : {V : Type 0} (a : Option (Ending V)) → HasEndOf a a
-has_end_of_refl None = tt
-has_end_of_refl (Some e) = refl
+pub exhausted_or_equal : {V : Type 0} (a b : Option (Ending V)) → a ≢ Some Wrong → a ≡ b → (a ≡ Some Exhausted) ⊎ HasVerdictOf a b
+exhausted_or_equal a None nw e = inr tt
+exhausted_or_equal a (Some (Verdict v)) nw e = inr e
+exhausted_or_equal a (Some Exhausted) nw e = inl e
+exhausted_or_equal a (Some Wrong) nw e = absurd (nw e)
 
-pub ends_as_equal : {V : Type 0} (a b : Option (Ending V)) → a ≡ b → EndsAs a b
-ends_as_equal a b e = subst (EndsAs a) e (ends_as_refl a)
-
-pub has_end_of_equal : {V : Type 0} (a b : Option (Ending V)) → a ≡ b → HasEndOf a b
-has_end_of_equal a b e = subst (HasEndOf a) e (has_end_of_refl a)
+pub has_verdict_of_some : {V : Type 0} (a : Option (Ending V)) (e : Ending V) → HasVerdictOf a (Some e) → a ≡ Some e
+has_verdict_of_some a (Verdict v) h = h
+has_verdict_of_some a Exhausted h = absurd h
+has_verdict_of_some a Wrong h = absurd h
 
 some_injective : {V : Type 0} {a b : V} → Some a ≡ Some b → a ≡ b
 some_injective h = cc
@@ -40,10 +43,10 @@ pub prefix_refl : (xs ys : List ℕ) → ys ≡ xs → IsPrefix xs ys
 prefix_refl xs ys e = ([], e ∙ sym (append-nil xs))
 
 module _ {A B C V : Type 0} (X : Run A V) (Y : Run B V) (Z : Run C V) where
-  forth_trans : (m k n : ℕ) → IsExhausted (X m) ⊎ (IsPrefix (Y k).output (X m).output × HasEndOf (X m).ending (Y k).ending) → IsExhausted (Y k) ⊎ (IsPrefix (Z n).output (Y k).output × HasEndOf (Y k).ending (Z n).ending) → IsExhausted (X m) ⊎ (IsPrefix (Z n).output (X m).output × HasEndOf (X m).ending (Z n).ending)
+  forth_trans : (m k n : ℕ) → IsExhausted (X m) ⊎ (IsPrefix (Y k).output (X m).output × HasVerdictOf (X m).ending (Y k).ending) → IsExhausted (Y k) ⊎ (IsPrefix (Z n).output (Y k).output × HasVerdictOf (Y k).ending (Z n).ending) → IsExhausted (X m) ⊎ (IsPrefix (Z n).output (X m).output × HasVerdictOf (X m).ending (Z n).ending)
   forth_trans m k n (inl e) g = inl e
-  forth_trans m k n (inr f) (inl e) = inl (subst (λ o. HasEndOf (X m).ending o) e f.1)
-  forth_trans m k n (inr f) (inr g) = inr (prefix_trans (Z n).output (Y k).output (X m).output g.0 f.0, has_end_of_trans (X m).ending (Y k).ending (Z n).ending f.1 g.1)
+  forth_trans m k n (inr f) (inl e) = absurd (subst (λ o. HasVerdictOf (X m).ending o) e f.1)
+  forth_trans m k n (inr f) (inr g) = inr (prefix_trans (Z n).output (Y k).output (X m).output g.0 f.0, has_verdict_of_trans (X m).ending (Y k).ending (Z n).ending f.1 g.1)
 
   plain_trans : Follows X Y → Follows Y Z → Follows X Z
   plain_trans f g = record {
@@ -59,8 +62,8 @@ module _ {A B C V : Type 0} (X : Run A V) (Y : Run B V) (Z : Run C V) where
 
   reached_trans : (K : A → B → Type 0) (L : B → C → Type 0) (x : Moment A V) (y : Moment B V) (z : Moment C V) → Reached K x y → Reached L y z → Reached (Through K L) x z
   reached_trans K L x y z (inl e) g = inl e
-  reached_trans K L x y z (inr f) (inl e) = inl (subst (λ o. HasEndOf x.ending o) e f.1)
-  reached_trans K L x y z (inr f) (inr g) = inr (agrees_trans K L x y z f.0 g.0, has_end_of_trans x.ending y.ending z.ending f.1 g.1)
+  reached_trans K L x y z (inr f) (inl e) = absurd (subst (λ o. HasVerdictOf x.ending o) e f.1)
+  reached_trans K L x y z (inr f) (inr g) = inr (agrees_trans K L x y z f.0 g.0, has_verdict_of_trans x.ending y.ending z.ending f.1 g.1)
 
   by_trans : (K L : A → B → Type 0) (K' L' : B → C → Type 0) → FollowsBy K L X Y → FollowsBy K' L' Y Z → FollowsBy (Through K K') (Through L L') X Z
   by_trans K L K' L' f g = record {
@@ -69,7 +72,7 @@ module _ {A B C V : Type 0} (X : Run A V) (Y : Run B V) (Z : Run C V) where
   }
 
 module _ {A B V : Type 0} (X : Run A V) (Y : Run B V) where
-  reached_plain : (K : A → B → Type 0) (x : Moment A V) (y : Moment B V) → Reached K x y → IsExhausted x ⊎ (IsPrefix y.output x.output × HasEndOf x.ending y.ending)
+  reached_plain : (K : A → B → Type 0) (x : Moment A V) (y : Moment B V) → Reached K x y → IsExhausted x ⊎ (IsPrefix y.output x.output × HasVerdictOf x.ending y.ending)
   reached_plain K x y (inl e) = inl e
   reached_plain K x y (inr a) = inr (prefix_refl y.output x.output a.0.output, a.1)
 
@@ -79,8 +82,8 @@ module _ {A B V : Type 0} (X : Run A V) (Y : Run B V) where
     forth = λ n. let a = f.forth n in (a.0, reached_plain K (X a.0) (Y n) a.2);
   }
 
-  wrong_back : Follows X Y → NeverWrong Y → NeverWrong X
-  wrong_back f nw m e = let a = f.back m in nw a.0 (subst (λ o. EndsAs o (Y a.0).ending) e a.2)
+  not_wrong : Follows X Y → NeverWrong X
+  not_wrong f m e = let a = f.back m in subst (λ o. EndsAs o (Y a.0).ending) e a.2
 
   agrees_weaken : (K K' : A → B → Type 0) → ((a : A) (b : B) → K a b → K' a b) → (x : Moment A V) (y : Moment B V) → Agrees K x y → Agrees K' x y
   agrees_weaken K K' w x y a = record { output = a.output; shown = w x.shown y.shown a.shown }
@@ -109,50 +112,52 @@ follows_by_trans {X = X} {Y = Y} {Z = Z} {K = K} {L = L} {K' = K'} {L' = L'} f g
 pub follows_of : {A B V : Type 0} {X : Run A V} {Y : Run B V} {K L : A → B → Type 0} → FollowsBy K L X Y → Follows X Y
 follows_of {X = X} {Y = Y} {K = K} {L = L} f = plain_of X Y K L f
 
--- a run that follows one that never goes wrong never does
-pub never_wrong_back : {A B V : Type 0} {X : Run A V} {Y : Run B V} → Follows X Y → NeverWrong Y → NeverWrong X
-never_wrong_back {X = X} {Y = Y} f nw = wrong_back X Y f nw
+-- a run that follows another never goes wrong
+pub follower_never_wrong : {A B V : Type 0} {X : Run A V} {Y : Run B V} → Follows X Y → NeverWrong X
+follower_never_wrong {X = X} {Y = Y} f = not_wrong X Y f
 
 -- a run that follows one that stays ended gives no answer but its answer
 pub same_answer : {A B V : Type 0} {X : Run A V} {Y : Run B V} → Follows X Y → StaysEnded Y → SameAnswer X Y
-same_answer {V = V} {X = X} {Y = Y} f stays m n e e' ex ne ey = together (f.back m)
+same_answer {X = X} {Y = Y} f stays m n v e ex ey = together (f.back m)
   where
-    ends_so : (e : Ending V) (o : Option (Ending V)) → e ≢ Exhausted → EndsAs (Some e) o → o ≡ Some e
-    ends_so (Verdict v) o ne h = h
-    ends_so Exhausted o ne h = absurd (ne refl)
-    ends_so Wrong o ne h = h
+    same_moment : (k : ℕ) → (Y k).ending ≡ Some (Verdict v) → (k < n ⊎ n ≤ k) → Y n ≡ Y k
+    same_moment k h (inl le) = stays k n (Verdict v) (omega arith) h
+    same_moment k h (inr le) = sym (stays n k e le ey)
 
-    same_moment : (k : ℕ) → (Y k).ending ≡ Some e → (k < n ⊎ n ≤ k) → Y k ≡ Y n
-    same_moment k h (inl le) = sym (stays k n e (omega arith) h)
-    same_moment k h (inr le) = stays n k e' le ey
-
-    together : (k : ℕ) × ((X m).output ≡ (Y k).output) × EndsAs (X m).ending (Y k).ending → (e ≡ e') × ((X m).output ≡ (Y n).output)
+    together : (k : ℕ) × ((X m).output ≡ (Y k).output) × EndsAs (X m).ending (Y k).ending → (e ≡ Verdict v) × ((X m).output ≡ (Y n).output)
     together (k, out, end) =
-        let so = ends_so e (Y k).ending ne (subst (λ o. EndsAs o (Y k).ending) ex end) in
+        let so : (Y k).ending ≡ Some (Verdict v) = subst (λ o. EndsAs o (Y k).ending) ex end in
         let same = same_moment k so (cases_lt k n) in
-        (some_injective (sym so ∙ ap (λ y. y.ending) same ∙ ey), out ∙ ap (λ y. y.output) same)
+        (some_injective (sym ey ∙ ap (λ y. y.ending) same ∙ so), out ∙ sym (ap (λ y. y.output) same))
 
 -- the relations may be weakened
 pub follows_by_weaken : {A B V : Type 0} {X : Run A V} {Y : Run B V} {K L : A → B → Type 0} (K' L' : A → B → Type 0) → ((a : A) (b : B) → K a b → K' a b) → ((a : A) (b : B) → L a b → L' a b) → FollowsBy K L X Y → FollowsBy K' L' X Y
 follows_by_weaken {X = X} {Y = Y} {K = K} {L = L} K' L' w v f = by_weaken X Y K K' L L' w v f
 
--- a moment is backed by an equal one, and has come to it
-pub backed_equal : {A V : Type 0} (x y : Moment A V) → x ≡ y → Backed Same x y
-backed_equal x y e = (record { output = ap (λ z. z.output) e; shown = ap (λ z. z.shown) e }, ends_as_equal x.ending y.ending (ap (λ z. z.ending) e))
+-- a moment that has not gone wrong is backed by an equal one, and has come to it
+agrees_equal : {A V : Type 0} (x y : Moment A V) → x ≡ y → Agrees Same x y
+agrees_equal x y e = record { output = ap (λ z. z.output) e; shown = ap (λ z. z.shown) e }
 
-pub reached_equal : {A V : Type 0} (x y : Moment A V) → x ≡ y → Reached Same x y
-reached_equal x y e = inr (record { output = ap (λ z. z.output) e; shown = ap (λ z. z.shown) e }, has_end_of_equal x.ending y.ending (ap (λ z. z.ending) e))
+pub backed_equal : {A V : Type 0} (x y : Moment A V) → x.ending ≢ Some Wrong → x ≡ y → Backed Same x y
+backed_equal x y nw e = (agrees_equal x y e, ends_as_equal x.ending y.ending nw (ap (λ z. z.ending) e))
 
--- runs with equal moments follow each other
-pub follows_equal : {A V : Type 0} (X Y : Run A V) → ((n : ℕ) → X n ≡ Y n) → FollowsBy Same Same X Y
-follows_equal X Y same = record {
-  back = λ m. (m, backed_equal (X m) (Y m) (same m));
-  forth = λ n. (n, ap (λ x. x.shown) (same n), reached_equal (X n) (Y n) (same n));
+pub reached_by : {A B V : Type 0} (K : A → B → Type 0) (x : Moment A V) (y : Moment B V) → Agrees K x y → IsExhausted x ⊎ HasVerdictOf x.ending y.ending → Reached K x y
+reached_by K x y a (inl e) = inl e
+reached_by K x y a (inr h) = inr (a, h)
+
+pub reached_equal : {A V : Type 0} (x y : Moment A V) → x.ending ≢ Some Wrong → x ≡ y → Reached Same x y
+reached_equal x y nw e = reached_by Same x y (agrees_equal x y e) (exhausted_or_equal x.ending y.ending nw (ap (λ z. z.ending) e))
+
+-- runs with equal moments follow each other, where they never go wrong
+pub follows_equal : {A V : Type 0} (X Y : Run A V) → NeverWrong X → ((n : ℕ) → X n ≡ Y n) → FollowsBy Same Same X Y
+follows_equal X Y nw same = record {
+  back = λ m. (m, backed_equal (X m) (Y m) (nw m) (same m));
+  forth = λ n. (n, ap (λ x. x.shown) (same n), reached_equal (X n) (Y n) (nw n) (same n));
 }
 
--- each run follows itself
-pub follows_self : {A V : Type 0} (X : Run A V) → FollowsBy Same Same X X
-follows_self X = follows_equal X X (λ n. refl)
+-- each run that never goes wrong follows itself
+pub follows_self : {A V : Type 0} (X : Run A V) → NeverWrong X → FollowsBy Same Same X X
+follows_self X nw = follows_equal X X nw (λ n. refl)
 
 -- a run that follows with the same shown may take the place of the one that it follows, on either side
 pub follows_by_before : {A B V : Type 0} {X Y : Run A V} {Z : Run B V} {K L : A → B → Type 0} → FollowsBy Same Same X Y → FollowsBy K L Y Z → FollowsBy K L X Z

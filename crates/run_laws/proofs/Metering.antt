@@ -4,9 +4,9 @@ use Rattle.run_laws.specs.Runs.{Ending, Verdict, Exhausted, Wrong, NeverWrong, F
 use Rattle.run_laws.specs.Machines.{Next, Go, Stop, Machine, moment, after, run, landing, Onward, Reaches, Alike, OnTheWay, StopsAt, Does, Simulation}
 use Rattle.run_laws.specs.Reductions.{Reduction, unless_ended, state_after, go_or_stop, reduction_run, machine_of}
 use Rattle.run_laws.specs.Meters.{Metered, unspent, charge, metered, metered_reduction, none_once_ended, machine_work, SameButMeter, Spends, OfRest, OnBudget, StopsOnBudget, DoesOnBudget, CostSimulation}
-use Rattle.run_laws.proofs.Following.{ends_as_equal, has_end_of_equal, prefix_refl, follows_equal, follows_by_before, follows_by_behind}
+use Rattle.run_laws.proofs.Following.{ends_as_equal, exhausted_or_equal, reached_by, follows_equal, follows_by_before, follows_by_behind}
 use Rattle.run_laws.proofs.Simulation.{unless_wrong_map, reaches_weaken, follows_from_start}
-use Rattle.run_laws.proofs.Reducing.{machine_follows, follows_machine}
+use Rattle.run_laws.proofs.Reducing.{machine_never_wrong, machine_follows, follows_machine}
 
 -- a meter changes nothing else
 module _ {S A V : Type 0} (M : Machine S A V) (work : S → ℕ) where
@@ -24,16 +24,17 @@ module _ {S A V : Type 0} (M : Machine S A V) (work : S → ℕ) where
   pub unmetered_never_wrong : (m : Metered S) → NeverWrong (run (metered work M) m) → NeverWrong (run M m.rest)
   unmetered_never_wrong m nw n e = nw n ((metered_same n m).1 ∙ e)
 
-  pub follows_metered : (m : Metered S) → Follows (run M m.rest) (run (metered work M) m)
-  follows_metered m = record {
-    back = λ n. let a = metered_same n m in (n, sym a.0, ends_as_equal _ _ (sym a.1));
-    forth = λ n. let a = metered_same n m in (n, inr (prefix_refl _ _ (sym a.0), has_end_of_equal _ _ (sym a.1)));
+  -- so each follows the other, where they never go wrong, and shows the same but for the meter
+  pub follows_metered : (m : Metered S) → NeverWrong (run M m.rest) → FollowsBy (λ a b. a ≡ b.rest) (λ a b. a ≡ b.rest) (run M m.rest) (run (metered work M) m)
+  follows_metered m nw = record {
+    back = λ n. let a = metered_same n m in (n, (record { output = sym a.0; shown = sym a.2 }, ends_as_equal _ _ (nw n) (sym a.1)));
+    forth = λ n. let a = metered_same n m in (n, sym a.2, reached_by (λ a b. a ≡ b.rest) (run M m.rest n) (run (metered work M) m n) (record { output = sym a.0; shown = sym a.2 }) (exhausted_or_equal _ _ (nw n) (sym a.1)));
   }
 
-  pub metered_follows : (m : Metered S) → Follows (run (metered work M) m) (run M m.rest)
-  metered_follows m = record {
-    back = λ n. let a = metered_same n m in (n, a.0, ends_as_equal _ _ a.1);
-    forth = λ n. let a = metered_same n m in (n, inr (prefix_refl _ _ a.0, has_end_of_equal _ _ a.1));
+  pub metered_follows : (m : Metered S) → NeverWrong (run M m.rest) → FollowsBy (λ a b. a.rest ≡ b) (λ a b. a.rest ≡ b) (run (metered work M) m) (run M m.rest)
+  metered_follows m nw = record {
+    back = λ n. let a = metered_same n m in (n, (record { output = a.0; shown = a.2 }, ends_as_equal _ _ (metered_never_wrong m nw n) a.1));
+    forth = λ n. let a = metered_same n m in (n, a.2, reached_by (λ a b. a.rest ≡ b) (run (metered work M) m n) (run M m.rest n) (record { output = a.0; shown = a.2 }) (exhausted_or_equal _ _ (metered_never_wrong m nw n) a.1));
   }
 
 -- a meter changes nothing else of a reduction
@@ -63,14 +64,28 @@ module _ {S A V : Type 0} (M : Reduction S A V) (work : S → ℕ) where
   metered_machine_run zero m = refl
   metered_machine_run (suc n) m = next_metered n m (λ x. metered_machine_run n x) (M.ending m.rest)
 
-  -- so the machine's run with a meter and the reduction's follow each other, and show the same
-  pub metered_machine_follows : (m : Metered S) → FollowsBy Same Same (run (metered (machine_work M work) (machine_of M)) m) (reduction_run (metered_reduction work M) m)
-  metered_machine_follows m =
-      follows_by_before (follows_equal (run outer m) (run inner m) (λ n. metered_machine_run n m)) (machine_follows (metered_reduction work M) m)
+  pub metered_reduction_same : (n : ℕ) (m : Metered S) → SameButMeter (reduction_run (metered_reduction work M) m n) (reduction_run M m.rest n)
+  metered_reduction_same n m = let e = metered_state_after n m in (ap M.output e, ap M.ending e, ap M.shown e)
 
-  pub follows_metered_machine : (m : Metered S) → FollowsBy Same Same (reduction_run (metered_reduction work M) m) (run (metered (machine_work M work) (machine_of M)) m)
-  follows_metered_machine m =
-      follows_by_behind (follows_machine (metered_reduction work M) m) (follows_equal (run inner m) (run outer m) (λ n. sym (metered_machine_run n m)))
+  pub metered_reduction_never_wrong : (m : Metered S) → NeverWrong (reduction_run M m.rest) → NeverWrong (reduction_run (metered_reduction work M) m)
+  metered_reduction_never_wrong m nw n e = nw n (sym (metered_reduction_same n m).1 ∙ e)
+
+  -- so the machine's run with a meter and the reduction's follow each other, where they never go wrong, and show the same
+  module _ (m : Metered S) (nw : NeverWrong (reduction_run M m.rest)) where
+    outer_never_wrong : NeverWrong (run outer m)
+    outer_never_wrong = metered_never_wrong (machine_of M) (machine_work M work) m (machine_never_wrong M m.rest nw)
+
+    inner_never_wrong : NeverWrong (run inner m)
+    inner_never_wrong =
+        machine_never_wrong (metered_reduction work M) m (metered_reduction_never_wrong m nw)
+
+    pub metered_machine_follows : FollowsBy Same Same (run (metered (machine_work M work) (machine_of M)) m) (reduction_run (metered_reduction work M) m)
+    metered_machine_follows =
+        follows_by_before (follows_equal (run outer m) (run inner m) outer_never_wrong (λ n. metered_machine_run n m)) (machine_follows (metered_reduction work M) m (metered_reduction_never_wrong m nw))
+
+    pub follows_metered_machine : FollowsBy Same Same (reduction_run (metered_reduction work M) m) (run (metered (machine_work M work) (machine_of M)) m)
+    follows_metered_machine =
+        follows_by_behind (follows_machine (metered_reduction work M) m (metered_reduction_never_wrong m nw)) (follows_equal (run inner m) (run outer m) inner_never_wrong (λ n. sym (metered_machine_run n m)))
 
 -- one step on the way, known by an equation of the machine without the meter
 pub by_step_at_cost : {T B V : Type 0} (N : Machine T B V) (cost : T → ℕ) (P Q : Metered T → Type 0) (k : ℕ) (t : Metered T) (x : Next T V) → N.step t.rest ≡ x → P t → Onward (charge (t.spent + cost t.rest) x) P (Reaches (metered cost N) P Q k) → Reaches (metered cost N) P Q (suc k) t

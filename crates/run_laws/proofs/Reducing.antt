@@ -1,9 +1,9 @@
 -- What the run of a reduction does, and how it joins the run of its machine.
-use Rattle.std.proofs.Common.{◌≡◌, ◌≢◌, inr, ℕ, zero, suc, ◌+◌, ◌≤◌, Option, Some, None, refl, sym, ap, ◌∙◌, arith}
-use Rattle.run_laws.specs.Runs.{Ending, Wrong, IsPrefix, EndsAs, HasEndOf, NeverWrong, StaysEnded, OutputGrows, Agrees, FollowsBy, Same}
+use Rattle.std.proofs.Common.{◌≡◌, ◌≢◌, ◌⊎◌, inr, ℕ, zero, suc, ◌+◌, ◌≤◌, Option, Some, None, refl, sym, ap, ◌∙◌, arith}
+use Rattle.run_laws.specs.Runs.{Ending, Wrong, IsPrefix, EndsAs, IsExhausted, HasVerdictOf, NeverWrong, StaysEnded, OutputGrows, Agrees, FollowsBy, Same}
 use Rattle.run_laws.specs.Machines.{Machine, moment, after, run, landing, OnlyAddsOutput}
 use Rattle.run_laws.specs.Reductions.{Reduction, unless_ended, state_after, moment_at, reduction_run, ReductionOnlyAddsOutput, go_or_stop, machine_of}
-use Rattle.run_laws.proofs.Following.{ends_as_equal, backed_equal, reached_equal, prefix_trans, prefix_refl}
+use Rattle.run_laws.proofs.Following.{ends_as_equal, exhausted_or_equal, backed_equal, reached_by, reached_equal, prefix_trans, prefix_refl}
 
 none_is_not_some : {V : Type 0} (o : Option (Ending V)) (e : Ending V) → o ≡ None → o ≡ Some e → ⊥
 none_is_not_some o e none some = absurd (apart (sym none ∙ some))
@@ -129,24 +129,34 @@ module _ {S A V : Type 0} (M : Reduction S A V) where
   pub machine_comes : (n : ℕ) (s : S) → (m : ℕ) × (run (machine_of M) s m ≡ reduction_run M s n)
   machine_comes n s = comes n s (either (M.ending (state_after M s n)))
 
-  ends_as : (n : ℕ) (s : S) (o : Option (Ending V)) → (run machine s n).ending ≡ o → EndsAs o (reduction_run M s n).ending
-  ends_as n s None h = tt
-  ends_as n s (Some e) h =
-      ends_as_equal (Some e) (reduction_run M s n).ending (sym h ∙ ap (λ x. x.ending) (machine_end_back n s e h))
+  -- the machine goes wrong just where the reduction does
+  pub machine_never_wrong : (s : S) → NeverWrong (reduction_run M s) → NeverWrong (run (machine_of M) s)
+  machine_never_wrong s nw n e = nw n (sym (ap (λ x. x.ending) (machine_end_back n s Wrong e)) ∙ e)
 
-  has_end_of : (n : ℕ) (s : S) (o : Option (Ending V)) → (run machine s n).ending ≡ o → HasEndOf (reduction_run M s n).ending o
-  has_end_of n s None h = tt
-  has_end_of n s (Some e) h = sym (ap (λ x. x.ending) (machine_end_back n s e h)) ∙ h
+  pub machine_never_wrong_back : (s : S) → NeverWrong (run (machine_of M) s) → NeverWrong (reduction_run M s)
+  machine_never_wrong_back s nw n e = let a = machine_comes n s in nw a.0 (ap (λ x. x.ending) a.1 ∙ e)
 
-  -- each follows the other, and shows the same
-  pub machine_follows : (s : S) → FollowsBy Same Same (run (machine_of M) s) (reduction_run M s)
-  machine_follows s = record {
-    back = λ m. (m, (machine_agrees m s, ends_as m s (run machine s m).ending refl));
-    forth = λ n. let a = machine_comes n s in (a.0, ap (λ x. x.shown) a.1, reached_equal (run machine s a.0) (reduction_run M s n) a.1);
-  }
+  -- and else each follows the other, and shows the same
+  module _ (s : S) (nw : NeverWrong (reduction_run M s)) where
+    ends_as : (n : ℕ) (o : Option (Ending V)) → (run machine s n).ending ≡ o → EndsAs o (reduction_run M s n).ending
+    ends_as n None h = tt
+    ends_as n (Some e) h =
+        let same = ap (λ x. x.ending) (machine_end_back n s e h) in
+        ends_as_equal (Some e) (reduction_run M s n).ending (λ w. machine_never_wrong s nw n (h ∙ w)) (sym h ∙ same)
 
-  pub follows_machine : (s : S) → FollowsBy Same Same (reduction_run M s) (run (machine_of M) s)
-  follows_machine s = record {
-    back = λ m. let a = machine_comes m s in (a.0, backed_equal (reduction_run M s m) (run machine s a.0) (sym a.1));
-    forth = λ n. let a = machine_agrees n s in (n, sym a.shown, inr (record { output = sym a.output; shown = sym a.shown }, has_end_of n s (run machine s n).ending refl));
-  }
+    has_verdict_of : (n : ℕ) (o : Option (Ending V)) → (run machine s n).ending ≡ o → IsExhausted (reduction_run M s n) ⊎ HasVerdictOf (reduction_run M s n).ending o
+    has_verdict_of n None h = inr tt
+    has_verdict_of n (Some e) h =
+        exhausted_or_equal (reduction_run M s n).ending (Some e) (nw n) (sym (ap (λ x. x.ending) (machine_end_back n s e h)) ∙ h)
+
+    pub machine_follows : FollowsBy Same Same (run (machine_of M) s) (reduction_run M s)
+    machine_follows = record {
+      back = λ m. (m, (machine_agrees m s, ends_as m (run machine s m).ending refl));
+      forth = λ n. let a = machine_comes n s in (a.0, ap (λ x. x.shown) a.1, reached_equal (run machine s a.0) (reduction_run M s n) (machine_never_wrong s nw a.0) a.1);
+    }
+
+    pub follows_machine : FollowsBy Same Same (reduction_run M s) (run (machine_of M) s)
+    follows_machine = record {
+      back = λ m. let a = machine_comes m s in (a.0, backed_equal (reduction_run M s m) (run machine s a.0) (nw m) (sym a.1));
+      forth = λ n. let a = machine_agrees n s in (n, sym a.shown, reached_by Same (reduction_run M s n) (run machine s n) (record { output = sym a.output; shown = sym a.shown }) (has_verdict_of n (run machine s n).ending refl));
+    }

@@ -2,7 +2,7 @@
 use Rattle.std.proofs.Common.{◌≡◌, ◌≢◌, ◌⊎◌, inl, inr, ⊎_elim, ℕ, zero, suc, ◌+◌, ◌<◌, ◌≤◌, Option, Some, None, refl, sym, ap, ◌∙◌, subst, arith}
 use Rattle.run_laws.specs.Runs.{Ending, Verdict, Exhausted, Wrong, Moment, NeverWrong, Agrees, Backed, Reached, FollowsBy}
 use Rattle.run_laws.specs.Machines.{Next, Go, Stop, Machine, moment, after, run, landing, Onward, Reaches, Alike, OnTheWay, StopsAt, UnlessWrong, Does, Simulation}
-use Rattle.run_laws.proofs.Following.{ends_as_refl}
+use Rattle.run_laws.proofs.Following.{ends_as_equal, exhausted_or_equal, reached_by}
 use Rattle.run_laws.proofs.Running.{run_go, run_stop}
 
 -- one step on the way, known by an equation
@@ -111,10 +111,13 @@ module _ {S T A B V : Type 0} (K L : B → A → Type 0) (M : Machine S A V) (N 
   end_out : (s s' : S) (t : T) (e : Ending V) → M.step s ≡ Stop e s' → OnTheWay K L M N s s' t → Seen s (moment N t (Some Exhausted))
   end_out s s' t e h p = ⊎_elim (λ a. seen_out s t a) (λ a. (1, subst (λ y. Backed K (moment N t (Some Exhausted)) y) (sym (run_stop M s s' e 0 h)) (as_agrees (Some Exhausted) (Some e) s' t a, tt))) p.0
 
-  end_there : (s s' : S) (t : T) (e : Ending V) (j : ℕ) → M.step s ≡ Stop e s' → StopsAt K L M N s s' e t → Seen s (run N t j)
-  end_there s s' t e zero h q = end_here s s' t e h q.0
-  end_there s s' t e (suc j) h q =
-      let both : Backed K (moment N q.1.0 (Some e)) (moment M s' (Some e)) = (as_agrees (Some e) (Some e) s' q.1.0 q.1.2, ends_as_refl (Some e)) in
+  some_not_wrong : (e : Ending V) → e ≢ Wrong → Some e ≢ Some Wrong
+  some_not_wrong e ne h = ne cc
+
+  end_there : (s s' : S) (t : T) (e : Ending V) (j : ℕ) → e ≢ Wrong → M.step s ≡ Stop e s' → StopsAt K L M N s s' e t → Seen s (run N t j)
+  end_there s s' t e zero ne h q = end_here s s' t e h q.0
+  end_there s s' t e (suc j) ne h q =
+      let both : Backed K (moment N q.1.0 (Some e)) (moment M s' (Some e)) = (as_agrees (Some e) (Some e) s' q.1.0 q.1.2, ends_as_equal (Some e) (Some e) (some_not_wrong e ne) refl) in
       let one = subst (λ x. Backed K x (moment M s' (Some e))) (sym (run_stop N t q.1.0 e j q.1.1)) both in
       (1, subst (λ y. Backed K (run N t (suc j)) y) (sym (run_stop M s s' e 0 h)) one)
 
@@ -138,8 +141,9 @@ module _ {S T A B V : Type 0} (K L : B → A → Type 0) (M : Machine S A V) (N 
   back_step f ih s t m le r nw again (Go s') e =
       let g = goes s s' t r e in back_go f ih s s' t m g.0 le nw e g.1 g.2 (again s' e)
   back_step f ih s t m le r nw again (Stop o s') e =
-      let g = stops s s' t o r e (not_wrong s s' o nw e) in
-      walk N (OnTheWay K L M N s s') _ (Seen s) (λ t1 q. end_here s s' t1 o e q) (λ t1 q. end_out s s' t1 o e q) g.0 t m g.1 (λ t1 j q h. end_there s s' t1 o j e q)
+      let ne = not_wrong s s' o nw e in
+      let g = stops s s' t o r e ne in
+      walk N (OnTheWay K L M N s s') _ (Seen s) (λ t1 q. end_here s s' t1 o e q) (λ t1 q. end_out s s' t1 o e q) g.0 t m g.1 (λ t1 j q h. end_there s s' t1 o j ne e q)
 
   back_size : (f : ℕ) → Backs f → (z : ℕ) (s : S) (t : T) (m : ℕ) → size s < z → m ≤ f → R s t → NeverWrong (run M s) → Seen s (run N t m)
   back_size f ih zero s t m lt le r nw = absurd (omega arith)
@@ -172,9 +176,9 @@ module _ {S T A B V : Type 0} (K L : B → A → Type 0) (M : Machine S A V) (N 
   comes_end : (s s' : S) (n : ℕ) (x : Moment B V) (e : Ending V) → M.step s ≡ Stop e s' → L x.shown (M.shown s') × Reached K x (moment M s' (Some e)) → Comes s (suc n) x
   comes_end s s' n x e h c = subst (λ y. L x.shown y.shown × Reached K x y) (sym (run_stop M s s' e n h)) c
 
-  comes_stop : (s s' : S) (n : ℕ) (t : T) (e : Ending V) → M.step s ≡ Stop e s' → StopsAt K L M N s s' e t → (m : ℕ) × Comes s (suc n) (run N t m)
-  comes_stop s s' n t e h q =
-      (1, subst (Comes s (suc n)) (sym (run_stop N t q.1.0 e 0 q.1.1)) (comes_end s s' n (moment N q.1.0 (Some e)) e h (q.1.3, inr (as_agrees (Some e) (Some e) s' q.1.0 q.1.2, refl))))
+  comes_stop : (s s' : S) (n : ℕ) (t : T) (e : Ending V) → e ≢ Wrong → M.step s ≡ Stop e s' → StopsAt K L M N s s' e t → (m : ℕ) × Comes s (suc n) (run N t m)
+  comes_stop s s' n t e ne h q =
+      (1, subst (Comes s (suc n)) (sym (run_stop N t q.1.0 e 0 q.1.1)) (comes_end s s' n (moment N q.1.0 (Some e)) e h (q.1.3, reached_by K (moment N q.1.0 (Some e)) (moment M s' (Some e)) (as_agrees (Some e) (Some e) s' q.1.0 q.1.2) (exhausted_or_equal (Some e) (Some e) (some_not_wrong e ne) refl))))
 
   forth_step : (n : ℕ) → ((s : S) (t : T) → R s t → NeverWrong (run M s) → (m : ℕ) × Comes s n (run N t m)) → (s : S) (t : T) → R s t → NeverWrong (run M s) → (x : Next S V) → M.step s ≡ x → (m : ℕ) × Comes s (suc n) (run N t m)
   forth_step n ih s t r nw (Go s') e =
@@ -182,9 +186,10 @@ module _ {S T A B V : Type 0} (K L : B → A → Type 0) (M : Machine S A V) (N 
       arrive N (OnTheWay K L M N s s') (R s') (Comes s (suc n)) (λ t1 q. comes_out s s' n t1 e q) g.0 t g.2
       (λ t1 q. let a = ih s' t1 q (never_next s s' e nw) in (a.0, comes_shift s s' n (run N t1 a.0) e a.1))
   forth_step n ih s t r nw (Stop o s') e =
-      let g = stops s s' t o r e (not_wrong s s' o nw e) in
+      let ne = not_wrong s s' o nw e in
+      let g = stops s s' t o r e ne in
       arrive N (OnTheWay K L M N s s') _ (Comes s (suc n)) (λ t1 q. comes_end s s' n (moment N t1 (Some Exhausted)) o e (q.1, inl refl)) g.0 t g.1
-      (λ t1 q. comes_stop s s' n t1 o e q)
+      (λ t1 q. comes_stop s s' n t1 o ne e q)
 
   forths : (n : ℕ) (s : S) (t : T) → R s t → NeverWrong (run M s) → (m : ℕ) × Comes s n (run N t m)
   forths zero s t r nw =

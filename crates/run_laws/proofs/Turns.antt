@@ -1,8 +1,9 @@
 -- How many turns a machine needs: a bound on its spending, at one for each step, is a bound on its steps.
 use Rattle.std.proofs.Common.{◌≡◌, ◌⊎◌, inl, inr, ℕ, zero, suc, ◌+◌, ◌*◌, ◌≤◌, Some, refl, sym, ap, ◌∙◌, subst, arith}
-use Rattle.run_laws.specs.Runs.{Ending, Exhausted, Run, IsPrefix, IsExhausted, HasEndOf, Reached, FollowsBy}
+use Rattle.run_laws.specs.Runs.{Ending, Exhausted, Run, IsPrefix, IsExhausted, HasVerdictOf, Reached, FollowsBy}
 use Rattle.run_laws.specs.Machines.{Next, Go, Stop, Machine, run, landing, OnlyAddsOutput}
 use Rattle.run_laws.specs.Meters.{Metered, unspent, charge, metered, SameButMeter, each_one, Spends, EndsInTime, PrintsInTime}
+use Rattle.run_laws.proofs.Following.{has_verdict_of_some}
 use Rattle.run_laws.proofs.Metering.{metered_same}
 use Rattle.run_laws.proofs.Running.{run_go, run_stop, stays_ended, output_grows}
 
@@ -59,7 +60,7 @@ module _ {T B V : Type 0} (N : Machine T B V) where
     ended_in : (n k m : ℕ) (e : Ending V) → c * (Y n).shown.spent ≤ k → (Y n).ending ≡ Some e → Spends c (turns m).shown (Y n).shown → Reached K (turns m) (Y n) → IsExhausted (run N t k) ⊎ ((run N t k).ending ≡ Some e)
     ended_in n k m e le h s (inl x) = inl (exhausted_by m k (omega arith) x)
     ended_in n k m e le h s (inr a) =
-        inr (sym (as_run k).1 ∙ ended_by m k e (omega arith) (subst (λ o. HasEndOf (turns m).ending o) h a.1))
+        inr (sym (as_run k).1 ∙ ended_by m k e (omega arith) (has_verdict_of_some (turns m).ending e (subst (λ o. HasVerdictOf (turns m).ending o) h a.1)))
 
     printed_in : OnlyAddsOutput N → (n k m : ℕ) → c * (Y n).shown.spent ≤ k → Spends c (turns m).shown (Y n).shown → Reached K (turns m) (Y n) → IsExhausted (run N t k) ⊎ IsPrefix (Y n).output (run N t k).output
     printed_in adds n k m le s (inl x) = inl (exhausted_by m k (omega arith) x)

@@ -6,18 +6,18 @@
 //! the simulation theorem, are lemmas of `proofs`.
 #![tactic(auto)]
 
-ghost use Rattle.std.specs.Prelude.{ℕ};
-ghost use Rattle.run_laws.specs.Runs.{Run, NeverWrong, StaysEnded, OutputGrows, Follows, SameAnswer, FollowsBy, Same, Any};
+ghost use Rattle.std.specs.Prelude.{◌≡◌, ℕ, ◌+◌};
+ghost use Rattle.run_laws.specs.Runs.{Ending, Run, NeverWrong, StaysEnded, OutputGrows, Follows, SameAnswer, FollowsBy, Same, Any};
 ghost use Rattle.run_laws.specs.Machines.{Machine, run, OnlyAddsOutput};
 ghost use Rattle.run_laws.specs.Reductions.{Reduction, reduction_run, ReductionOnlyAddsOutput, machine_of};
-ghost use Rattle.run_laws.specs.Meters.{Metered, unspent, metered, each_one, Spends, EndsInTime, PrintsInTime};
+ghost use Rattle.run_laws.specs.Meters.{Metered, unspent, metered, metered_reduction, SameButMeter, each_one, Spends, EndsInTime, PrintsInTime};
 
 #[cfg(test)]
 mod tests;
 
-/// Each run follows itself, and shows the same.
+/// Each run that never goes wrong follows itself, and shows the same.
 pub fn each_run_follows_itself<A, V>()
-    ensures { (x : Run A V) → FollowsBy Same Same x x }
+    ensures { (x : Run A V) → NeverWrong x → FollowsBy Same Same x x }
 {}
 
 /// A run that follows a second, which follows a third, follows the third.
@@ -25,13 +25,13 @@ pub fn follows_is_transitive<A, B, C, V>()
     ensures { (x : Run A V) (y : Run B V) (z : Run C V) → Follows x y → Follows y z → Follows x z }
 {}
 
-/// A run that follows one that never goes wrong never goes wrong.
+/// A run that follows another never goes wrong.
 pub fn follower_never_goes_wrong<A, B, V>()
-    ensures { (x : Run A V) (y : Run B V) → Follows x y → NeverWrong y → NeverWrong x }
+    ensures { (x : Run A V) (y : Run B V) → Follows x y → NeverWrong x }
 {}
 
-/// A run that follows another gives no answer but the other's: where both have ended, and it has
-/// not run out of a resource, they have the same ending and the same output.
+/// A run that follows another gives no answer but the other's: where it has a verdict and the other
+/// has ended, both have the same verdict and the same output.
 pub fn follower_gives_same_answer<A, B, V>()
     ensures { (x : Run A V) (y : Run B V) → Follows x y → StaysEnded y → SameAnswer x y }
 {}
@@ -50,20 +50,25 @@ pub fn output_only_grows<S, A, V>()
 {}
 
 /// The run of a reduction, which may have ended after no step, and the run of its machine, which
-/// makes one more step to stop, follow each other and show the same.
+/// makes one more step to stop, are at the same moment until the reduction ends, and then the machine
+/// comes there one step later. So they follow each other and show the same, unless they go wrong.
 pub fn reduction_and_machine_follow_each_other<S, A, V>()
-    ensures reduction { (m : Reduction S A V) (s : S)
+    ensures before_end { (m : Reduction S A V) (s : S) (n : ℕ)
+        → (reduction_run m s n).ending ≡ None → run (machine_of m) s n ≡ reduction_run m s n }
+    ensures after_end { (m : Reduction S A V) (s : S) (n : ℕ) (e : Ending V)
+        → (reduction_run m s n).ending ≡ Some e → run (machine_of m) s (n + 1) ≡ reduction_run m s n }
+    ensures reduction { (m : Reduction S A V) (s : S) → NeverWrong (reduction_run m s)
         → FollowsBy Same Same (reduction_run m s) (run (machine_of m) s) }
-    ensures machine { (m : Reduction S A V) (s : S)
+    ensures machine { (m : Reduction S A V) (s : S) → NeverWrong (reduction_run m s)
         → FollowsBy Same Same (run (machine_of m) s) (reduction_run m s) }
 {}
 
-/// A machine with a meter and the machine without it follow each other, whatever a step costs.
+/// A run with a meter is at each bound the same but for the meter, whatever a step costs.
 pub fn meter_changes_nothing_else<S, A, V>()
-    ensures with_meter { (m : Machine S A V) (work : S → ℕ) (s : Metered S)
-        → Follows (run (metered work m) s) (run m s.rest) }
-    ensures without_meter { (m : Machine S A V) (work : S → ℕ) (s : Metered S)
-        → Follows (run m s.rest) (run (metered work m) s) }
+    ensures machines { (m : Machine S A V) (work : S → ℕ) (s : Metered S) (n : ℕ)
+        → SameButMeter (run (metered work m) s n) (run m s.rest n) }
+    ensures reductions { (m : Reduction S A V) (work : S → ℕ) (s : Metered S) (n : ℕ)
+        → SameButMeter (reduction_run (metered_reduction work m) s n) (reduction_run m s.rest n) }
 {}
 
 /// A machine whose steps cost one each, and that spends at most `c` times what a run that it follows
