@@ -1,8 +1,8 @@
 -- How many turns a machine needs: a bound on its spending, at one for each step, is a bound on its steps.
-use Rattle.std.proofs.Common.{◌≡◌, ◌⊎◌, inl, inr, ℕ, zero, suc, ◌+◌, ◌*◌, ◌≤◌, Some, refl, sym, ap, ◌∙◌, subst, arith}
-use Rattle.run_laws.specs.Runs.{Ending, Exhausted, Run, IsPrefix, IsExhausted, HasVerdictOf, Reached, FollowsBy}
+use Rattle.std.proofs.Common.{◌≡◌, ◌⊎◌, inl, inr, ℕ, zero, suc, ◌+◌, ◌*◌, ◌≤◌, Option, Some, None, refl, sym, ap, ◌∙◌, subst, arith}
+use Rattle.run_laws.specs.Runs.{Ending, Verdict, Exhausted, Wrong, Run, IsPrefix, IsExhausted, HasVerdictOf, Reached, FollowsBy}
 use Rattle.run_laws.specs.Machines.{Next, Go, Stop, Machine, run, landing, OnlyAddsOutput}
-use Rattle.run_laws.specs.Meters.{Metered, unspent, charge, metered, SameButMeter, each_one, Spends, EndsInTime, PrintsInTime}
+use Rattle.run_laws.specs.Meters.{Metered, unspent, charge, metered, SameButMeter, each_one, Spends, EndsInTime, ComesInTime}
 use Rattle.run_laws.proofs.Following.{has_verdict_of_some}
 use Rattle.run_laws.proofs.Metering.{metered_same}
 use Rattle.run_laws.proofs.Running.{run_go, run_stop, stays_ended, output_grows}
@@ -62,19 +62,26 @@ module _ {T B V : Type 0} (N : Machine T B V) where
     ended_in n k m e le h s (inr a) =
         inr (sym (as_run k).1 ∙ ended_by m k e (omega arith) (has_verdict_of_some (turns m).ending e (subst (λ o. HasVerdictOf (turns m).ending o) h a.1)))
 
-    printed_in : OnlyAddsOutput N → (n k m : ℕ) → c * (Y n).shown.spent ≤ k → Spends c (turns m).shown (Y n).shown → Reached K (turns m) (Y n) → IsExhausted (run N t k) ⊎ IsPrefix (Y n).output (run N t k).output
-    printed_in adds n k m le s (inl x) = inl (exhausted_by m k (omega arith) x)
-    printed_in adds n k m le s (inr q) =
+    verdict_later : (m k : ℕ) (o : Option (Ending V)) → (turns m).shown.spent ≤ k → HasVerdictOf (turns m).ending o → HasVerdictOf (run N t k).ending o
+    verdict_later m k None le h = tt
+    verdict_later m k (Some (Verdict v)) le h = sym (as_run k).1 ∙ ended_by m k (Verdict v) le h
+    verdict_later m k (Some Exhausted) le h = absurd h
+    verdict_later m k (Some Wrong) le h = absurd h
+
+    comes_in : OnlyAddsOutput N → (n k m : ℕ) → c * (Y n).shown.spent ≤ k → Spends c (turns m).shown (Y n).shown → Reached K (turns m) (Y n) → IsExhausted (run N t k) ⊎ (IsPrefix (Y n).output (run N t k).output × HasVerdictOf (run N t k).ending (Y n).ending)
+    comes_in adds n k m le s (inl x) = inl (exhausted_by m k (omega arith) x)
+    comes_in adds n k m le s (inr q) =
         let a = enough m k (omega arith) in
         let more = output_grows (metered each_one N) (metered_adds each_one adds) (unspent t) a.0 k a.1 in
-        inr (subst (λ o. IsPrefix o (run N t k).output) (ap (λ z. z.output) a.2 ∙ q.0.output) (subst (λ o. IsPrefix (turns a.0).output o) (as_run k).0 more))
+        let printed = subst (λ o. IsPrefix (turns a.0).output o) (as_run k).0 more in
+        inr (subst (λ o. IsPrefix o (run N t k).output) (ap (λ z. z.output) a.2 ∙ q.0.output) printed, verdict_later m k (Y n).ending (omega arith) q.1)
 
 -- a machine that spends at most c times what the source spends, at one for each step, ends in time
 pub ends_in_time : {T A B V : Type 0} {K : Metered B → Metered A → Type 0} {Y : Run (Metered A) V} (N : Machine T B V) (t : T) (c : ℕ) → FollowsBy K (Spends c) (run (metered each_one N) (unspent t)) Y → EndsInTime c (run N t) Y
 ends_in_time {K = K} {Y = Y} N t c f n k e h le =
     let a = f.forth n in ended_in N K c t Y f n k a.0 e le h a.1 a.2
 
--- and prints in time
-pub prints_in_time : {T A B V : Type 0} {K : Metered B → Metered A → Type 0} {Y : Run (Metered A) V} (N : Machine T B V) (t : T) (c : ℕ) → OnlyAddsOutput N → FollowsBy K (Spends c) (run (metered each_one N) (unspent t)) Y → PrintsInTime c (run N t) Y
-prints_in_time {K = K} {Y = Y} N t c adds f n k le =
-    let a = f.forth n in printed_in N K c t Y f adds n k a.0 le a.1 a.2
+-- and comes in time to whatever the source comes to, if it takes no output back
+pub comes_in_time : {T A B V : Type 0} {K : Metered B → Metered A → Type 0} {Y : Run (Metered A) V} (N : Machine T B V) (t : T) (c : ℕ) → OnlyAddsOutput N → FollowsBy K (Spends c) (run (metered each_one N) (unspent t)) Y → ComesInTime c (run N t) Y
+comes_in_time {K = K} {Y = Y} N t c adds f n k le =
+    let a = f.forth n in comes_in N K c t Y f adds n k a.0 le a.1 a.2

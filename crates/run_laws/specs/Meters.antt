@@ -1,6 +1,6 @@
 -- Machines and reductions that count what their steps cost.
 use Rattle.std.specs.Prelude.{◌≡◌, ◌⊎◌, ℕ, ◌+◌, ◌*◌, ◌<◌, ◌≤◌, Option, Some, None}
-use Rattle.run_laws.specs.Runs.{Ending, Moment, Run, IsPrefix, IsExhausted}
+use Rattle.run_laws.specs.Runs.{Ending, Moment, Run, IsPrefix, IsExhausted, HasVerdictOf}
 use Rattle.run_laws.specs.Machines.{Next, Go, Stop, Machine, Alike, Reaches, UnlessWrong}
 use Rattle.run_laws.specs.Reductions.{Reduction}
 
@@ -60,9 +60,9 @@ Spends c a b = a.spent ≤ c * b.spent
 abbrev pub EndsInTime : {A B V : Type 0} → ℕ → Run B V → Run (Metered A) V → Type 0
 EndsInTime {V = V} c X Y = (n k : ℕ) (e : Ending V) → (Y n).ending ≡ Some e → c * (Y n).shown.spent ≤ k → IsExhausted (X k) ⊎ ((X k).ending ≡ Some e)
 
--- whatever Y has printed, X has printed or is exhausted within c turns for each unit that Y has spent
-abbrev pub PrintsInTime : {A B V : Type 0} → ℕ → Run B V → Run (Metered A) V → Type 0
-PrintsInTime c X Y = (n k : ℕ) → c * (Y n).shown.spent ≤ k → IsExhausted (X k) ⊎ IsPrefix (Y n).output (X k).output
+-- whatever Y has come to, X is exhausted or has come to within c turns for each unit that Y has spent: to output that begins with Y's, with the same verdict where Y has ended
+abbrev pub ComesInTime : {A B V : Type 0} → ℕ → Run B V → Run (Metered A) V → Type 0
+ComesInTime c X Y = (n k : ℕ) → c * (Y n).shown.spent ≤ k → IsExhausted (X k) ⊎ (IsPrefix (Y n).output (X k).output × HasVerdictOf (X k).ending (Y n).ending)
 
 -- a relation of the rest, whatever was spent
 abbrev pub OfRest : {A B : Type 0} → (A → B → Type 0) → Metered A → Metered B → Type 0

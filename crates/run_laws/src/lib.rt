@@ -10,7 +10,7 @@ ghost use Rattle.std.specs.Prelude.{◌≡◌, ℕ, ◌+◌};
 ghost use Rattle.run_laws.specs.Runs.{Ending, Run, NeverWrong, StaysEnded, OutputGrows, Follows, SameAnswer, FollowsBy, Same, Any};
 ghost use Rattle.run_laws.specs.Machines.{Machine, run, OnlyAddsOutput};
 ghost use Rattle.run_laws.specs.Reductions.{Reduction, reduction_run, ReductionOnlyAddsOutput, machine_of};
-ghost use Rattle.run_laws.specs.Meters.{Metered, unspent, metered, metered_reduction, SameButMeter, each_one, Spends, EndsInTime, PrintsInTime};
+ghost use Rattle.run_laws.specs.Meters.{Metered, unspent, metered, metered_reduction, SameButMeter, each_one, Spends, EndsInTime, ComesInTime};
 
 #[cfg(test)]
 mod tests;
@@ -71,12 +71,12 @@ pub fn meter_changes_nothing_else<S, A, V>()
         → SameButMeter (reduction_run (metered_reduction work m) s n) (reduction_run m s.rest n) }
 {}
 
-/// A machine whose steps cost one each, and that spends at most `c` times what a run that it follows
-/// spends, ends and prints as that run does, or runs out of a resource, within `c` turns for each
-/// unit that the run has spent.
+/// A machine that spends at most `c` times what a run that it follows spends, at one for each of its
+/// steps, ends as that run does, or runs out of a resource, within `c` turns for each unit that the
+/// run has spent. If no step takes output back, it comes so to whatever the run comes to.
 pub fn bounded_spending_bounds_turns<T, A, B, V>()
     ensures ends { (m : Machine T B V) (t : T) (c : ℕ) (y : Run (Metered A) V)
         → FollowsBy Any (Spends c) (run (metered each_one m) (unspent t)) y → EndsInTime c (run m t) y }
-    ensures prints { (m : Machine T B V) (t : T) (c : ℕ) (y : Run (Metered A) V) → OnlyAddsOutput m
-        → FollowsBy Any (Spends c) (run (metered each_one m) (unspent t)) y → PrintsInTime c (run m t) y }
+    ensures comes { (m : Machine T B V) (t : T) (c : ℕ) (y : Run (Metered A) V) → OnlyAddsOutput m
+        → FollowsBy Any (Spends c) (run (metered each_one m) (unspent t)) y → ComesInTime c (run m t) y }
 {}
