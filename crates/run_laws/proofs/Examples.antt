@@ -1,7 +1,7 @@
 -- The definitions at work on small runs.
 use Rattle.std.proofs.Common.{◌≡◌, ◌⊎◌, inl, inr, ℕ, List, [], ◌∷◌, ◌++◌, Option, Some, None, refl}
 use Rattle.run_laws.specs.Runs.{Ending, Verdict, Exhausted, Wrong, Run, IsPrefix, IsExhausted, HasVerdictOf, Follows}
-use Rattle.run_laws.specs.Machines.{Next, Go, Stop, Machine, run}
+use Rattle.run_laws.specs.Machines.{Next, Go, Stop, Machine, steps, run}
 use Rattle.run_laws.specs.Reductions.{Reduction, reduction_run, machine_of}
 use Rattle.run_laws.specs.Meters.{unspent, metered, each_one}
 
@@ -26,6 +26,9 @@ two_printed = refl
 
 then_ended : run printer (page (7 ∷ 8 ∷ []) []) 3 ≡ record { shown = []; output = 7 ∷ 8 ∷ []; ending = Some (Verdict 0) }
 then_ended = refl
+
+state_then : steps printer (page (7 ∷ 8 ∷ []) []) 1 ≡ Go (page (8 ∷ []) (7 ∷ []))
+state_then = refl
 
 stays_so : run printer (page (7 ∷ 8 ∷ []) []) 9 ≡ run printer (page (7 ∷ 8 ∷ []) []) 3
 stays_so = refl

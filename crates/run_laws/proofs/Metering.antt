@@ -1,7 +1,7 @@
 -- Machines with meters: what the target spends is bounded by what the source spends.
 use Rattle.std.proofs.Common.{◌≡◌, inl, inr, ⊎_elim, ℕ, zero, suc, ◌+◌, ◌*◌, ◌≤◌, Option, Some, None, refl, sym, ap, ◌∙◌, subst, arith, mul-add, mul_assoc, le_trans, mul-le-mul_left}
-use Rattle.run_laws.specs.Runs.{Ending, Verdict, Exhausted, Wrong, NeverWrong, Follows, FollowsBy, Through, Same}
-use Rattle.run_laws.specs.Machines.{Next, Go, Stop, Machine, moment, after, run, landing, Onward, Reaches, Alike, OnTheWay, StopsAt, Does, Simulation}
+use Rattle.run_laws.specs.Runs.{Ending, Verdict, Exhausted, Wrong, NeverWrong, FollowsBy, Through, Same}
+use Rattle.run_laws.specs.Machines.{Next, Go, Stop, Machine, moment, and_then, steps, seen, run, landing, Onward, Reaches, Alike, OnTheWay, StopsAt, Does, Simulation}
 use Rattle.run_laws.specs.Reductions.{Reduction, unless_ended, state_after, go_or_stop, reduction_run, machine_of}
 use Rattle.run_laws.specs.Meters.{Metered, unspent, charge, metered, metered_reduction, none_once_ended, machine_work, SameButMeter, Spends, OfRest, OnBudget, StopsOnBudget, DoesOnBudget, CostSimulation}
 use Rattle.run_laws.proofs.Following.{ends_as_equal, exhausted_or_equal, reached_by, follows_equal, follows_by_before, follows_by_behind}
@@ -10,7 +10,7 @@ use Rattle.run_laws.proofs.Reducing.{machine_never_wrong, machine_follows, follo
 
 -- a meter changes nothing else
 module _ {S A V : Type 0} (M : Machine S A V) (work : S → ℕ) where
-  same_on : (n d : ℕ) → ((m : Metered S) → SameButMeter (run (metered work M) m n) (run M m.rest n)) → (x : Next S V) → SameButMeter (after (metered work M) (charge d x) (λ m. run (metered work M) m n)) (after M x (λ s. run M s n))
+  same_on : (n d : ℕ) → ((m : Metered S) → SameButMeter (run (metered work M) m n) (run M m.rest n)) → (x : Next S V) → SameButMeter (seen (metered work M) (and_then (charge d x) (λ m. steps (metered work M) m n))) (seen M (and_then x (λ s. steps M s n)))
   same_on n d ih (Go s) = ih (record { spent = d; rest = s })
   same_on n d ih (Stop o s) = (refl, refl, refl)
 
@@ -55,7 +55,7 @@ module _ {S A V : Type 0} (M : Reduction S A V) (work : S → ℕ) where
   abbrev inner : Machine (Metered S) (Metered A) V
   inner = machine_of (metered_reduction work M)
 
-  next_metered : (n : ℕ) (m : Metered S) → ((x : Metered S) → run outer x n ≡ run inner x n) → (o : Option (Ending V)) → after outer (charge (m.spent + none_once_ended o (work m.rest)) (go_or_stop o M.step m.rest)) (λ x. run outer x n) ≡ after inner (go_or_stop o (metered_reduction work M).step m) (λ x. run inner x n)
+  next_metered : (n : ℕ) (m : Metered S) → ((x : Metered S) → run outer x n ≡ run inner x n) → (o : Option (Ending V)) → seen outer (and_then (charge (m.spent + none_once_ended o (work m.rest)) (go_or_stop o M.step m.rest)) (λ x. steps outer x n)) ≡ seen inner (and_then (go_or_stop o (metered_reduction work M).step m) (λ x. steps inner x n))
   next_metered n m ih None = ih (record { spent = m.spent + work m.rest; rest = M.step m.rest })
   next_metered n m ih (Some e) =
       let same : m.spent + 0 ≡ m.spent = omega arith in ap (λ k. moment outer (record { spent = k; rest = m.rest }) (Some e)) same

@@ -1,7 +1,7 @@
 -- What the run of a reduction does, and how it joins the run of its machine.
 use Rattle.std.proofs.Common.{◌≡◌, ◌≢◌, ◌⊎◌, inr, ℕ, zero, suc, ◌+◌, ◌≤◌, Option, Some, None, refl, sym, ap, ◌∙◌, arith}
 use Rattle.run_laws.specs.Runs.{Ending, Wrong, IsPrefix, EndsAs, IsExhausted, HasVerdictOf, NeverWrong, StaysEnded, OutputGrows, Agrees, FollowsBy, Same}
-use Rattle.run_laws.specs.Machines.{Machine, moment, after, run, landing, OnlyAddsOutput}
+use Rattle.run_laws.specs.Machines.{Go, Machine, moment, and_then, steps, seen, run, landing, OnlyAddsOutput}
 use Rattle.run_laws.specs.Reductions.{Reduction, unless_ended, state_after, moment_at, reduction_run, ReductionOnlyAddsOutput, go_or_stop, machine_of}
 use Rattle.run_laws.proofs.Following.{ends_as_equal, exhausted_or_equal, backed_equal, reached_by, reached_equal, prefix_trans, prefix_refl}
 
@@ -80,11 +80,11 @@ module _ {S A V : Type 0} (M : Reduction S A V) where
   pub machine_adds_output : ReductionOnlyAddsOutput M → OnlyAddsOutput (machine_of M)
   machine_adds_output adds s = adds_at s (M.ending s) (adds s)
 
-  first_step : (s : S) (o : Option (Ending V)) → after machine (go_or_stop o M.step s) (λ x. moment machine x None) ≡ moment machine (unless_ended o M.step s) o
+  first_step : (s : S) (o : Option (Ending V)) → seen machine (and_then (go_or_stop o M.step s) (λ x. Go x)) ≡ moment machine (unless_ended o M.step s) o
   first_step s None = refl
   first_step s (Some e) = refl
 
-  later_step : (s : S) (n : ℕ) → ((x : S) → run machine x (suc n) ≡ moment machine (state_after M x (suc n)) (M.ending (state_after M x n))) → (o : Option (Ending V)) → M.ending s ≡ o → after machine (go_or_stop o M.step s) (λ x. run machine x (suc n)) ≡ moment machine (state_after M (unless_ended o M.step s) (suc n)) (M.ending (state_after M (unless_ended o M.step s) n))
+  later_step : (s : S) (n : ℕ) → ((x : S) → run machine x (suc n) ≡ moment machine (state_after M x (suc n)) (M.ending (state_after M x n))) → (o : Option (Ending V)) → M.ending s ≡ o → seen machine (and_then (go_or_stop o M.step s) (λ x. steps machine x (suc n))) ≡ moment machine (state_after M (unless_ended o M.step s) (suc n)) (M.ending (state_after M (unless_ended o M.step s) n))
   later_step s n ih None h = ih (M.step s)
   later_step s n ih (Some e) h =
       sym (ap (λ x. moment machine x (M.ending (state_after M s n))) (state_stays s e h (suc n)) ∙ ap (moment machine s) (ap M.ending (state_stays s e h n) ∙ h))

@@ -1,16 +1,27 @@
 -- What the run of a machine does.
-use Rattle.std.proofs.Common.{◌≡◌, ◌≢◌, ℕ, zero, suc, ◌≤◌, Some, None, refl, ap, arith}
+use Rattle.std.proofs.Common.{◌≡◌, ◌≢◌, ℕ, zero, suc, ◌+◌, ◌≤◌, Some, None, refl, ap, ◌∙◌, arith}
 use Rattle.run_laws.specs.Runs.{Ending, Verdict, Exhausted, Wrong, IsPrefix, IsExhausted, NeverWrong, StaysEnded, OutputGrows}
-use Rattle.run_laws.specs.Machines.{Next, Go, Stop, Machine, moment, after, run, landing, OnlyAddsOutput}
+use Rattle.run_laws.specs.Machines.{Next, Go, Stop, Machine, moment, and_then, steps, seen, run, landing, OnlyAddsOutput}
 use Rattle.run_laws.proofs.Following.{prefix_trans, prefix_refl}
 
 module _ {S A V : Type 0} (M : Machine S A V) where
   -- one step of a run
   pub run_go : (s s' : S) (n : ℕ) → M.step s ≡ Go s' → run M s (suc n) ≡ run M s' n
-  run_go s s' n e = ap (λ x. after M x (λ s1. run M s1 n)) e
+  run_go s s' n e = ap (λ x. seen M (and_then x (λ s1. steps M s1 n))) e
 
   pub run_stop : (s s' : S) (e : Ending V) (n : ℕ) → M.step s ≡ Stop e s' → run M s (suc n) ≡ moment M s' (Some e)
-  run_stop s s' e n h = ap (λ x. after M x (λ s1. run M s1 n)) h
+  run_stop s s' e n h = ap (λ x. seen M (and_then x (λ s1. steps M s1 n))) h
+
+  -- some steps and then some more
+  sum_on : (n m : ℕ) → ((s : S) → steps M s (n + m) ≡ and_then (steps M s n) (λ s1. steps M s1 m)) → (x : Next S V) → and_then x (λ s. steps M s (n + m)) ≡ and_then (and_then x (λ s. steps M s n)) (λ s. steps M s m)
+  sum_on n m ih (Go s) = ih s
+  sum_on n m ih (Stop e s) = refl
+
+  pub steps_sum : (n m : ℕ) (s : S) → steps M s (n + m) ≡ and_then (steps M s n) (λ s1. steps M s1 m)
+  steps_sum zero m s = let e : 0 + m ≡ m = omega arith in ap (steps M s) e
+  steps_sum (suc n) m s =
+      let e : suc n + m ≡ suc (n + m) = omega arith in
+      ap (steps M s) e ∙ sum_on n m (λ s1. steps_sum n m s1) (M.step s)
 
   -- a run has not ended at bound 0
   not_at_once : (s : S) (e : Ending V) → (run M s 0).ending ≡ Some e → ⊥
@@ -20,7 +31,7 @@ module _ {S A V : Type 0} (M : Machine S A V) where
       none_is_not_some h = cc
 
   -- what has ended stays as it is
-  stays_on : (n m : ℕ) (e : Ending V) → ((s : S) → (run M s n).ending ≡ Some e → run M s m ≡ run M s n) → (x : Next S V) → (after M x (λ s. run M s n)).ending ≡ Some e → after M x (λ s. run M s m) ≡ after M x (λ s. run M s n)
+  stays_on : (n m : ℕ) (e : Ending V) → ((s : S) → (run M s n).ending ≡ Some e → run M s m ≡ run M s n) → (x : Next S V) → (seen M (and_then x (λ s. steps M s n))).ending ≡ Some e → seen M (and_then x (λ s. steps M s m)) ≡ seen M (and_then x (λ s. steps M s n))
   stays_on n m e ih (Go s) h = ih s h
   stays_on n m e ih (Stop o s) h = refl
 
@@ -33,7 +44,7 @@ module _ {S A V : Type 0} (M : Machine S A V) where
   stays_ended s n m e le h = ended_from n m s e le h
 
   -- where no step takes output back, the output only grows along the run
-  start_on : (m : ℕ) (s : S) → ((s1 : S) → IsPrefix (M.output s1) (run M s1 m).output) → (x : Next S V) → IsPrefix (M.output s) (M.output (landing x)) → IsPrefix (M.output s) (after M x (λ s1. run M s1 m)).output
+  start_on : (m : ℕ) (s : S) → ((s1 : S) → IsPrefix (M.output s1) (run M s1 m).output) → (x : Next S V) → IsPrefix (M.output s) (M.output (landing x)) → IsPrefix (M.output s) (seen M (and_then x (λ s1. steps M s1 m))).output
   start_on m s ih (Go s1) g = prefix_trans (M.output s) (M.output s1) (run M s1 m).output g (ih s1)
   start_on m s ih (Stop o s1) g = g
 
@@ -46,7 +57,7 @@ module _ {S A V : Type 0} (M : Machine S A V) where
   grows_from g (suc n) zero s le = absurd (omega arith)
   grows_from g (suc n) (suc m) s le = grows_step n m (λ s1. grows_from g n m s1 (omega arith)) (M.step s)
     where
-      grows_step : (n m : ℕ) → ((s1 : S) → IsPrefix (run M s1 n).output (run M s1 m).output) → (x : Next S V) → IsPrefix (after M x (λ s1. run M s1 n)).output (after M x (λ s1. run M s1 m)).output
+      grows_step : (n m : ℕ) → ((s1 : S) → IsPrefix (run M s1 n).output (run M s1 m).output) → (x : Next S V) → IsPrefix (seen M (and_then x (λ s1. steps M s1 n))).output (seen M (and_then x (λ s1. steps M s1 m))).output
       grows_step n m ih (Go s1) = ih s1
       grows_step n m ih (Stop o s1) = prefix_refl (M.output s1) (M.output s1) refl
 
@@ -60,7 +71,7 @@ module _ {S A V : Type 0} (M : Machine S A V) where
   Safely I (Stop Exhausted s) = Unit {0}
   Safely I (Stop Wrong s) = ⊥
 
-  safe_on : (I : S → Type 0) (n : ℕ) → ((s : S) → I s → (run M s n).ending ≢ Some Wrong) → (x : Next S V) → Safely I x → (after M x (λ s. run M s n)).ending ≢ Some Wrong
+  safe_on : (I : S → Type 0) (n : ℕ) → ((s : S) → I s → (run M s n).ending ≢ Some Wrong) → (x : Next S V) → Safely I x → (seen M (and_then x (λ s. steps M s n))).ending ≢ Some Wrong
   safe_on I n ih (Go s) i = ih s i
   safe_on I n ih (Stop (Verdict v) s) i = λ e. cc
   safe_on I n ih (Stop Exhausted s) i = λ e. cc
@@ -81,7 +92,7 @@ module _ {S A V : Type 0} (M : Machine S A V) where
   RunsOut E (Stop Exhausted s) = E (M.shown s)
   RunsOut E (Stop Wrong s) = Unit {0}
 
-  out_on : (E : A → Type 0) (n : ℕ) → ((s : S) → IsExhausted (run M s n) → E (run M s n).shown) → (x : Next S V) → RunsOut E x → IsExhausted (after M x (λ s. run M s n)) → E (after M x (λ s. run M s n)).shown
+  out_on : (E : A → Type 0) (n : ℕ) → ((s : S) → IsExhausted (run M s n) → E (run M s n).shown) → (x : Next S V) → RunsOut E x → IsExhausted (seen M (and_then x (λ s. steps M s n))) → E (seen M (and_then x (λ s. steps M s n))).shown
   out_on E n ih (Go s) o h = ih s h
   out_on E n ih (Stop (Verdict v) s) o h = cc
   out_on E n ih (Stop Exhausted s) o h = o

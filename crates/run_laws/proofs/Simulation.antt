@@ -1,7 +1,7 @@
 -- A machine that simulates another follows it.
 use Rattle.std.proofs.Common.{◌≡◌, ◌≢◌, ◌⊎◌, inl, inr, ⊎_elim, ℕ, zero, suc, ◌+◌, ◌<◌, ◌≤◌, Option, Some, None, refl, sym, ap, ◌∙◌, subst, arith}
 use Rattle.run_laws.specs.Runs.{Ending, Verdict, Exhausted, Wrong, Moment, NeverWrong, Agrees, Backed, Reached, FollowsBy}
-use Rattle.run_laws.specs.Machines.{Next, Go, Stop, Machine, moment, after, run, landing, Onward, Reaches, Alike, OnTheWay, StopsAt, UnlessWrong, Does, Simulation}
+use Rattle.run_laws.specs.Machines.{Next, Go, Stop, Machine, moment, and_then, steps, seen, run, landing, Onward, Reaches, Alike, OnTheWay, StopsAt, UnlessWrong, Does, Simulation}
 use Rattle.run_laws.proofs.Following.{ends_as_equal, exhausted_or_equal, reached_by}
 use Rattle.run_laws.proofs.Running.{run_go, run_stop}
 
@@ -37,7 +37,7 @@ reaches_weaken N P Q P' Q' p q (suc k) t r = (p t r.0, weaken_on N P Q P' Q' p k
 module _ {T B V : Type 0} (N : Machine T B V) (P Q : T → Type 0) where
   -- what holds of each moment
   module _ (G : Moment B V → Type 0) (here : (t : T) → P t → G (moment N t None)) (out : (t : T) → P t → G (moment N t (Some Exhausted))) where
-    walk_on : (m k : ℕ) → ((t1 : T) → Reaches N P Q k t1 → G (run N t1 m)) → (x : Next T V) → Onward x P (Reaches N P Q k) → G (after N x (λ t1. run N t1 m))
+    walk_on : (m k : ℕ) → ((t1 : T) → Reaches N P Q k t1 → G (run N t1 m)) → (x : Next T V) → Onward x P (Reaches N P Q k) → G (seen N (and_then x (λ t1. steps N t1 m)))
     walk_on m k ih (Go t1) r = ih t1 r
     walk_on m k ih (Stop (Verdict v) t1) r = absurd r
     walk_on m k ih (Stop Exhausted t1) r = out t1 r
@@ -159,7 +159,7 @@ module _ {S T A B V : Type 0} (K L : B → A → Type 0) (M : Machine S A V) (N 
   allowed_along zero x s l = l
   allowed_along (suc n) x s l = allowed_step (λ s' l'. allowed_along n x s' l') (M.step s) refl
     where
-      allowed_step : ((s' : S) → L x (M.shown s') → L x (run M s' n).shown) → (y : Next S V) → M.step s ≡ y → L x (after M y (λ s'. run M s' n)).shown
+      allowed_step : ((s' : S) → L x (M.shown s') → L x (run M s' n).shown) → (y : Next S V) → M.step s ≡ y → L x (seen M (and_then y (λ s'. steps M s' n))).shown
       allowed_step ih (Go s') e = ih s' (subst (λ z. L x (M.shown (landing z))) e (b.still_allowed x s l))
       allowed_step ih (Stop o s') e = subst (λ z. L x (M.shown (landing z))) e (b.still_allowed x s l)
 

@@ -2,7 +2,7 @@
 use Rattle.std.specs.Prelude.{◌≡◌, ◌⊎◌, ℕ, zero, suc, ◌<◌, List, Option, Some, None}
 use Rattle.run_laws.specs.Runs.{Ending, Verdict, Exhausted, Wrong, Moment, Run, IsPrefix}
 
--- what a step comes to: a state to go on from, or an ending and the state at the end
+-- where a step leads: to a state to go on from, or to an ending and the state at the end
 pub data Next (S V : Type 0) : Type 0 where
   Go : S → Next S V
   Stop : Ending V → S → Next S V
@@ -17,17 +17,26 @@ pub record Machine (S A V : Type 0) : Type 0 where
 abbrev pub moment : {S A V : Type 0} → Machine S A V → S → Option (Ending V) → Moment A V
 moment M s e = record { shown = M.shown s; output = M.output s; ending = e }
 
--- goes on where the step does
-abbrev pub after : {S A V : Type 0} → Machine S A V → Next S V → (S → Moment A V) → Moment A V
-after M (Go s) go = go s
-after M (Stop e s) go = moment M s (Some e)
+-- goes on from where a step leads, unless it stops
+abbrev pub and_then : {S V : Type 0} → Next S V → (S → Next S V) → Next S V
+and_then (Go s) go = go s
+and_then (Stop e s) go = Stop e s
 
--- the run from a state: what has come of it after at most n steps
+-- what at most n steps come to
+abbrev pub steps : {S A V : Type 0} → Machine S A V → S → ℕ → Next S V
+steps M s zero = Go s
+steps M s (suc n) = and_then (M.step s) (λ s'. steps M s' n)
+
+-- what is seen of where steps lead
+abbrev pub seen : {S A V : Type 0} → Machine S A V → Next S V → Moment A V
+seen M (Go s) = moment M s None
+seen M (Stop e s) = moment M s (Some e)
+
+-- the run from a state: what is seen after at most n steps
 abbrev pub run : {S A V : Type 0} → Machine S A V → S → Run A V
-run M s zero = moment M s None
-run M s (suc n) = after M (M.step s) (λ s'. run M s' n)
+run M s n = seen M (steps M s n)
 
--- where a step leads
+-- the state that a step leads to
 abbrev pub landing : {S V : Type 0} → Next S V → S
 landing (Go s) = s
 landing (Stop e s) = s

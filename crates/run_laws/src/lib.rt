@@ -8,8 +8,8 @@
 
 ghost use Rattle.std.specs.Prelude.{◌≡◌, ℕ, ◌+◌};
 ghost use Rattle.run_laws.specs.Runs.{Ending, Run, NeverWrong, StaysEnded, OutputGrows, Follows, SameAnswer, FollowsBy, Same, Any};
-ghost use Rattle.run_laws.specs.Machines.{Machine, run, OnlyAddsOutput};
-ghost use Rattle.run_laws.specs.Reductions.{Reduction, reduction_run, ReductionOnlyAddsOutput, machine_of};
+ghost use Rattle.run_laws.specs.Machines.{Machine, and_then, steps, run, OnlyAddsOutput};
+ghost use Rattle.run_laws.specs.Reductions.{Reduction, state_after, reduction_run, ReductionOnlyAddsOutput, machine_of};
 ghost use Rattle.run_laws.specs.Meters.{Metered, unspent, metered, metered_reduction, SameButMeter, each_one, Spends, EndsInTime, ComesInTime};
 
 #[cfg(test)]
@@ -47,6 +47,14 @@ pub fn output_only_grows<S, A, V>()
     ensures machines { (m : Machine S A V) (s : S) → OnlyAddsOutput m → OutputGrows (run m s) }
     ensures reductions { (m : Reduction S A V) (s : S)
         → ReductionOnlyAddsOutput m → OutputGrows (reduction_run m s) }
+{}
+
+/// A run goes on from where it has come to: more steps lead where they lead from there.
+pub fn later_steps_go_on_from_earlier_ones<S, A, V>()
+    ensures machines { (m : Machine S A V) (s : S) (n k : ℕ)
+        → steps m s (n + k) ≡ and_then (steps m s n) (λ s'. steps m s' k) }
+    ensures reductions { (m : Reduction S A V) (s : S) (n k : ℕ)
+        → state_after m s (n + k) ≡ state_after m (state_after m s n) k }
 {}
 
 /// The run of a reduction, which may have ended after no step, and the run of its machine, which
