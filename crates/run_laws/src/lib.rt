@@ -58,13 +58,15 @@ pub fn later_steps_go_on_from_earlier_ones<S, A, V>()
 {}
 
 /// The run of a reduction, which may have ended after no step, and the run of its machine, which
-/// makes one more step to stop, are at the same moment until the reduction ends, and then the machine
-/// comes there one step later. So they follow each other and show the same, unless they go wrong.
+/// makes one more step to stop, are at the same moment until the reduction ends, and then the
+/// machine comes there one step later. So they follow each other and show the same, unless they go
+/// wrong.
 pub fn reduction_and_machine_follow_each_other<S, A, V>()
     ensures before_end { (m : Reduction S A V) (s : S) (n : ℕ)
         → (reduction_run m s n).ending ≡ None → run (machine_of m) s n ≡ reduction_run m s n }
     ensures after_end { (m : Reduction S A V) (s : S) (n : ℕ) (e : Ending V)
-        → (reduction_run m s n).ending ≡ Some e → run (machine_of m) s (n + 1) ≡ reduction_run m s n }
+        → (reduction_run m s n).ending ≡ Some e
+        → run (machine_of m) s (n + 1) ≡ reduction_run m s n }
     ensures reduction { (m : Reduction S A V) (s : S) → NeverWrong (reduction_run m s)
         → FollowsBy Same Same (reduction_run m s) (run (machine_of m) s) }
     ensures machine { (m : Reduction S A V) (s : S) → NeverWrong (reduction_run m s)
@@ -79,12 +81,14 @@ pub fn meter_changes_nothing_else<S, A, V>()
         → SameButMeter (reduction_run (metered_reduction work m) s n) (reduction_run m s.rest n) }
 {}
 
-/// A machine that spends at most `c` times what a run that it follows spends, at one for each of its
-/// steps, ends as that run does, or runs out of a resource, within `c` turns for each unit that the
-/// run has spent. If no step takes output back, it comes so to whatever the run comes to.
+/// A machine that spends at most `c` times what a run that it follows spends, at one for each of
+/// its steps, ends as that run does, or runs out of a resource, within `c` turns for each unit that
+/// the run has spent. If no step takes output back, it comes so to whatever the run comes to.
 pub fn bounded_spending_bounds_turns<T, A, B, V>()
     ensures ends { (m : Machine T B V) (t : T) (c : ℕ) (y : Run (Metered A) V)
-        → FollowsBy Any (Spends c) (run (metered each_one m) (unspent t)) y → EndsInTime c (run m t) y }
+        → FollowsBy Any (Spends c) (run (metered each_one m) (unspent t)) y
+        → EndsInTime c (run m t) y }
     ensures comes { (m : Machine T B V) (t : T) (c : ℕ) (y : Run (Metered A) V) → OnlyAddsOutput m
-        → FollowsBy Any (Spends c) (run (metered each_one m) (unspent t)) y → ComesInTime c (run m t) y }
+        → FollowsBy Any (Spends c) (run (metered each_one m) (unspent t)) y
+        → ComesInTime c (run m t) y }
 {}
