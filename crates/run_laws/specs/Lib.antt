@@ -1,0 +1,4 @@
+pub mod Runs
+pub mod Machines
+pub mod Reductions
+pub mod Meters
