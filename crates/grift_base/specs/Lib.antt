@@ -1,2 +1,6 @@
 pub mod World
 pub mod EnvironmentCall
+pub mod Refusals
+pub mod Trap
+pub mod AnswerKind
+pub mod VerdictLine
