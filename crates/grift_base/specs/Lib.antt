@@ -4,3 +4,4 @@ pub mod Refusals
 pub mod Trap
 pub mod AnswerKind
 pub mod VerdictLine
+pub mod Tables

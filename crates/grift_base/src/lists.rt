@@ -11,6 +11,18 @@ use std::marker::Model;
 #[derive(Clone, Copy, PartialEq, Eq, Debug)]
 pub struct OutOfMemory;
 
+impl From<AllocError> for OutOfMemory {
+    fn from(_error: AllocError) -> OutOfMemory {
+        OutOfMemory
+    }
+}
+
+impl<T: Drop> From<AllocFailed<T>> for OutOfMemory {
+    fn from(_error: AllocFailed<T>) -> OutOfMemory {
+        OutOfMemory
+    }
+}
+
 /// A list in a vector.
 #[derive(Drop, Debug)]
 pub struct Items<T> {
@@ -88,10 +100,8 @@ impl<T> Items<T> {
         ensures ok { OnOk result (self.new ≡ self.old ++ x ∷ []) }
         ensures err { OnErr result (self.new ≡ self.old) }
     {
-        match self.items.push(x) {
-            Ok(()) => Ok(()),
-            Err(_) => Err(OutOfMemory),
-        }
+        self.items.push(x)?;
+        Ok(())
     }
 }
 
@@ -100,10 +110,8 @@ impl<T: Copy> Items<T> {
     pub fn from_slice(alloc: Global, items: &[T]) -> Result<Items<T>, OutOfMemory>
         ensures { IfOk result (λ list. list ≡ items.now) }
     {
-        match Vec::from_slice(alloc, items) {
-            Ok(items) => Ok(Items { items }),
-            Err(_) => Err(OutOfMemory),
-        }
+        let items = Vec::from_slice(alloc, items)?;
+        Ok(Items { items })
     }
 
     /// Adds these elements at the end, all of them or none.
@@ -111,10 +119,8 @@ impl<T: Copy> Items<T> {
         ensures ok { OnOk result (self.new ≡ self.old ++ items.now) }
         ensures err { OnErr result (self.new ≡ self.old) }
     {
-        match self.items.extend_from_slice(items) {
-            Ok(()) => Ok(()),
-            Err(_) => Err(OutOfMemory),
-        }
+        self.items.extend_from_slice(items)?;
+        Ok(())
     }
 }
 
