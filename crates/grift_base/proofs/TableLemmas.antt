@@ -21,8 +21,9 @@ module _ {T : Type 0} {eq : T → T → Bool} (same : (x y : T) → Decides (eq 
   pub HasNoRepeats-from_IsDistinct : (xs : List T) → IsDistinct eq xs → HasNoRepeats xs
   HasNoRepeats-from_IsDistinct xs distinct i j within e =
       elim (slice_get_cases xs i).1 [
-        inl found ↦ at_one_place xs (AllPairs-from_IsDistinct same xs distinct) i j found.0 found.2 (sym e ∙ found.2)
-        | inr past ↦ omega arith ]
+        | inl found ↦ at_one_place xs (AllPairs-from_IsDistinct same xs distinct) i j found.0 found.2 (sym e ∙ found.2)
+        | inr past ↦ omega arith
+      ]
 
   -- an insert into a set is an intern into the table of its keys
   pub Interns-insert_key : (old : List T) (x : T) → Interns old x (insert_key eq old x)

@@ -25,7 +25,7 @@ pub struct TypeId(pub u32);
 pub const MOST_ENTRIES: u64 = 4294967294;
 
 /// The distinct places that are blamed, in order of first use.
-#[derive(Drop)]
+#[derive(Drop, Debug)]
 pub struct LabelTable {
     labels: IndexSet<Pos>,
 }
@@ -33,12 +33,13 @@ pub struct LabelTable {
 impl Model for LabelTable {
     ghost use Rattle.std.specs.Prelude.{List, length, ◌≤◌};
     ghost use Rattle.grift_base.specs.declared.places.Pos.{Pos};
+    ghost use Rattle.grift_base.specs.declared.places.TheConstants.{MOST_ENTRIES};
 
     ghost Value = { List Pos };
 
     ghost view = { λ a. a.labels.keys };
 
-    ghost invariant = { λ a. length a.labels.keys ≤ 4294967294 };
+    ghost invariant = { λ a. length a.labels.keys ≤ MOST_ENTRIES };
 }
 
 impl LabelTable {
@@ -97,5 +98,27 @@ impl LabelTable {
         }
         let (place, _) = self.labels.insert_full(pos)?;
         Ok(LabelId(place as u32))
+    }
+}
+
+#[cfg(test)]
+mod tests {
+    use super::*;
+    use std::test::Fail;
+
+    #[test]
+    fn labels_stand_once_in_order_of_first_use(rt: HostRuntime) -> Result<(), Fail> {
+        let first = Pos { line: 3, col: 14 };
+        let second = Pos { line: 3, col: 1 };
+        let mut labels = LabelTable::new(rt.alloc());
+        assert!(rt; labels.is_empty());
+        assert_eq!(rt; labels.intern(first)?, LabelId(0));
+        assert_eq!(rt; labels.intern(second)?, LabelId(1));
+        assert_eq!(rt; labels.intern(first)?, LabelId(0));
+        assert_eq!(rt; labels.len(), 2);
+        assert_eq!(rt; labels.get(1), Some(&second));
+        assert_eq!(rt; labels.get(2), None);
+        assert_eq!(rt; labels.as_slice(), [first, second].as_slice());
+        Ok(())
     }
 }

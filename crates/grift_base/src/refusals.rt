@@ -13,43 +13,43 @@ pub enum RefusalKind {
     BadByte,
     /// A bracket that is never closed.
     Unclosed,
-    /// A closing bracket without its opening one.
+    /// A closing bracket that matches no open one.
     Unopened,
-    /// An integer outside the signed numbers of 64 bits.
+    /// An integer that 64 bits with a sign do not hold.
     NumberRange,
-    /// Brackets nested too deeply.
+    /// Too many brackets are open at once.
     TooDeep,
-    /// A source without a form.
+    /// A source without any form.
     Empty,
-    /// A token or a form of the language that the profile leaves out.
+    /// A token of the full language that this profile leaves out.
     NotInProfile,
-    /// A form of the wrong shape.
+    /// A form with the wrong shape or number of elements.
     BadForm,
-    /// A name that is bound twice in one place.
+    /// A name that its scope binds a second time.
     RepeatedName,
-    /// Too many parameters, arguments, parts or operands.
+    /// One parameter, argument, part or operand too many.
     TooWide,
-    /// Too many forms at top level.
+    /// One form too many at top level.
     TooManyForms,
-    /// A reserved name where a name of the program is wanted.
+    /// A reserved word where a name is bound.
     ReservedName,
     /// A name that nothing binds.
     Unbound,
-    /// Two types that are not consistent.
+    /// An expression whose type is not consistent with the one that is wanted.
     NotConsistent,
-    /// A call of what is no function.
+    /// A call of what can be no function.
     NotFunction,
     /// A call with the wrong number of arguments.
     WrongCount,
-    /// A part of what is no tuple.
+    /// A projection from what can be no tuple.
     NotTuple,
-    /// A part that the tuple does not have.
+    /// A projection of a part that the tuple lacks.
     NoSuchPart,
-    /// A box operation on what is no box.
+    /// An operation on a box of what can be none.
     NotRef,
-    /// A vector operation on what is no vector.
+    /// An operation on a vector of what can be none.
     NotVector,
-    /// A type of too many nodes.
+    /// A type with too many nodes.
     TypeTooLarge,
 }
 
@@ -137,5 +137,47 @@ impl From<lists::OutOfMemory> for FrontFault {
 
     fn from(_want: lists::OutOfMemory) -> FrontFault {
         FrontFault::OutOfMemory
+    }
+}
+
+#[cfg(test)]
+mod tests {
+    use super::*;
+    use crate::lists::OutOfMemory;
+
+    #[test]
+    fn kinds_have_numbers_and_texts(rt: HostRuntime) {
+        let table = [
+            (RefusalKind::BadByte, 1, "bad-byte"),
+            (RefusalKind::Unclosed, 2, "unclosed"),
+            (RefusalKind::Unopened, 3, "unopened"),
+            (RefusalKind::NumberRange, 4, "number-range"),
+            (RefusalKind::TooDeep, 5, "too-deep"),
+            (RefusalKind::Empty, 6, "empty"),
+            (RefusalKind::NotInProfile, 7, "not-in-profile"),
+            (RefusalKind::BadForm, 8, "bad-form"),
+            (RefusalKind::RepeatedName, 9, "repeated-name"),
+            (RefusalKind::TooWide, 10, "too-wide"),
+            (RefusalKind::TooManyForms, 11, "too-many-forms"),
+            (RefusalKind::ReservedName, 12, "reserved-name"),
+            (RefusalKind::Unbound, 13, "unbound"),
+            (RefusalKind::NotConsistent, 14, "not-consistent"),
+            (RefusalKind::NotFunction, 15, "not-function"),
+            (RefusalKind::WrongCount, 16, "wrong-count"),
+            (RefusalKind::NotTuple, 17, "not-tuple"),
+            (RefusalKind::NoSuchPart, 18, "no-such-part"),
+            (RefusalKind::NotRef, 19, "not-ref"),
+            (RefusalKind::NotVector, 20, "not-vector"),
+            (RefusalKind::TypeTooLarge, 21, "type-too-large"),
+        ];
+        for (kind, number, text) in table {
+            assert_eq!(rt; kind.number(), number);
+            assert_eq!(rt; kind.text(), text);
+        }
+    }
+
+    #[test]
+    fn want_of_memory_is_a_fault(rt: HostRuntime) {
+        assert_eq!(rt; FrontFault::from(OutOfMemory), FrontFault::OutOfMemory);
     }
 }
