@@ -1,5 +1,5 @@
 -- What a set that keeps its order says of its keys as a table, where its test tells whether two entries are the same.
-use Rattle.std.proofs.Common.{◌≡◌, ◌≢◌, ℕ, ◌<◌, ◌++◌, ◌∷◌, [], List, Bool, true, false, Some, refl, sym, ap, ◌∙◌, true≢false, inl, inr, slice_get, if◌then◌else◌, arith, Decides}
+use Rattle.std.proofs.Common.{◌≡◌, ◌≢◌, ℕ, ◌<◌, ◌++◌, ◌∷◌, [], List, Bool, true, false, Some, refl, sym, ap, ◌∙◌, true≢false, inl, inr, slice_get, Contains, if◌then◌else◌, arith, Decides}
 use Rattle.std.proofs.lemmas.Option.{slice_get_cases, slice_get_within, get_or_from_slice_get}
 use Rattle.std.proofs.lemmas.Map.Made.{AllPairs-from_IsDistinct}
 use Rattle.std.proofs.lemmas.Map.Views.{Contains-from_any, list_any-from_Contains}
@@ -25,10 +25,14 @@ module _ {T : Type 0} {eq : T → T → Bool} (same : (x y : T) → Decides (eq 
         | inr past ↦ omega arith
       ]
 
+  -- what a set's test does not find is not among its keys
+  pub absent-from_list_any : (xs : List T) (x : T) → list_any (eq x) xs ≡ false → ¬ Contains xs x
+  absent-from_list_any xs x e there = true≢false (sym (list_any-from_Contains (decided eq same) x xs there) ∙ e)
+
   -- an insert into a set is an intern into the table of its keys
   pub Interns-insert_key : (old : List T) (x : T) → Interns old x (insert_key eq old x)
   Interns-insert_key old x = by (list_any (eq x) old) refl
     where
       by : (b : Bool) → list_any (eq x) old ≡ b → Interns old x (insert_key eq old x)
       by true e = inl (Contains-from_any (λ a b. (same a b).0) x old e, ap (λ c. if c then old else old ++ x ∷ []) e)
-      by false e = inr (λ there. true≢false (sym (list_any-from_Contains (decided eq same) x old there) ∙ e), ap (λ c. if c then old else old ++ x ∷ []) e)
+      by false e = inr (absent-from_list_any old x e, ap (λ c. if c then old else old ++ x ∷ []) e)

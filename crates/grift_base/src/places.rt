@@ -43,7 +43,7 @@ impl Model for LabelTable {
 }
 
 impl LabelTable {
-    ghost use Rattle.std.specs.Prelude.{◌≡◌, ◌==◌, ◌≤◌, [], length, OnOk, OnErr, IfOk, slice_get};
+    ghost use Rattle.std.specs.Prelude.{◌≡◌, ◌==◌, ◌≤◌, [], length, Contains, OnOk, OnErr, IfOk, slice_get};
     ghost use Rattle.std.specs.Option.{option_copied};
     ghost use Rattle.grift_base.specs.Tables.{HasNoRepeats, Interns};
 
@@ -87,11 +87,12 @@ impl LabelTable {
     }
 
     /// The place of this label, which is added at the end where it is not there yet. `OutOfMemory` comes
-    /// where there is no memory for another label, or `MOST_ENTRIES` are there.
+    /// only where it would be added: no memory is left for it, or `MOST_ENTRIES` labels are there.
     pub fn intern(&mut self, pos: Pos) -> Result<LabelId, OutOfMemory>
         ensures interned { OnOk result (Interns self.old pos self.new) }
         ensures place { IfOk result (λ id. slice_get self.new id.0 ≡ Some pos) }
         ensures err { OnErr result (self.new ≡ self.old) }
+        ensures absent { OnErr result (¬ Contains self.old pos) }
     {
         if self.len() >= MOST_ENTRIES && !self.labels.contains(&pos) {
             return Err(OutOfMemory);
