@@ -1,2 +1,7 @@
 pub mod World
 pub mod EnvironmentCall
+pub mod Refusals
+pub mod Trap
+pub mod AnswerKind
+pub mod VerdictLine
+pub mod Tables

@@ -4,5 +4,6 @@
 pub mod lists;
 pub mod operators;
 pub mod places;
+pub mod refusals;
 pub mod verdicts;
 pub mod worlds;

@@ -4,11 +4,24 @@ ghost use Rattle.std.specs.Prelude.{◌≡◌, ◌==◌, ◌++◌, ◌∷◌, []
 ghost use Rattle.std.specs.Option.{option_copied};
 
 use std::alloc::{AllocError, AllocFailed, Global};
+use std::hash::{Hash, Hasher};
 use std::marker::Model;
 
 /// No memory was left. What was passed by `&mut` is as before.
 #[derive(Clone, Copy, PartialEq, Eq, Debug)]
 pub struct OutOfMemory;
+
+impl From<AllocError> for OutOfMemory {
+    fn from(_error: AllocError) -> OutOfMemory {
+        OutOfMemory
+    }
+}
+
+impl<T: Drop> From<AllocFailed<T>> for OutOfMemory {
+    fn from(_error: AllocFailed<T>) -> OutOfMemory {
+        OutOfMemory
+    }
+}
 
 /// A list in a vector.
 #[derive(Drop, Debug)]
@@ -87,10 +100,8 @@ impl<T> Items<T> {
         ensures ok { OnOk result (self.new ≡ self.old ++ x ∷ []) }
         ensures err { OnErr result (self.new ≡ self.old) }
     {
-        match self.items.push(x) {
-            Ok(()) => Ok(()),
-            Err(_) => Err(OutOfMemory),
-        }
+        self.items.push(x)?;
+        Ok(())
     }
 }
 
@@ -99,10 +110,8 @@ impl<T: Copy> Items<T> {
     pub fn from_slice(alloc: Global, items: &[T]) -> Result<Items<T>, OutOfMemory>
         ensures { IfOk result (λ list. list ≡ items.now) }
     {
-        match Vec::from_slice(alloc, items) {
-            Ok(items) => Ok(Items { items }),
-            Err(_) => Err(OutOfMemory),
-        }
+        let items = Vec::from_slice(alloc, items)?;
+        Ok(Items { items })
     }
 
     /// Adds these elements at the end, all of them or none.
@@ -110,9 +119,68 @@ impl<T: Copy> Items<T> {
         ensures ok { OnOk result (self.new ≡ self.old ++ items.now) }
         ensures err { OnErr result (self.new ≡ self.old) }
     {
-        match self.items.extend_from_slice(items) {
-            Ok(()) => Ok(()),
-            Err(_) => Err(OutOfMemory),
-        }
+        self.items.extend_from_slice(items)?;
+        Ok(())
+    }
+}
+
+impl<T: PartialEq> PartialEq for Items<T> {
+    ghost use Rattle.std.specs.Prelude.{◌≡◌};
+    ghost use Rattle.std.specs.Cmp.Lexicographic.{pointwise, lists_per};
+
+    ghost eq = { pointwise T.eq };
+
+    ghost laws = { lists_per T.laws };
+
+    fn eq(&self, other: &Items<T>) -> bool {
+        self.items == other.items
+    }
+}
+
+impl<T: Eq> Eq for Items<T> {
+    ghost use Rattle.std.specs.Cmp.Lexicographic.{lists_equiv};
+
+    ghost laws = { lists_equiv T.Eq.laws };
+}
+
+impl<T: Hash> Hash for Items<T> {
+    ghost use Rattle.std.specs.Hash as fed;
+
+    ghost hash_input = { fed.slice T.hash_input };
+
+    ghost respects_eq = { (fed.items_Alike (record { fed = T.respects_eq })).fed };
+
+    fn hash<H: Hasher>(&self, state: &mut H) {
+        self.items.hash(state);
+    }
+}
+
+#[cfg(test)]
+mod tests {
+    use super::*;
+    use indexmap::IndexSet;
+    use std::test::Fail;
+
+    #[test]
+    fn lists_grow_at_the_end(rt: HostRuntime) -> Result<(), Fail> {
+        let mut calls = CallList::new(rt.alloc());
+        assert!(rt; calls.is_empty());
+        calls.push(7)?;
+        calls.extend(&[9, 7])?;
+        assert_eq!(rt; calls.len(), 3);
+        assert_eq!(rt; calls.get(1), Some(&9));
+        assert_eq!(rt; calls.get(3), None);
+        assert_eq!(rt; calls.as_slice(), [7, 9, 7].as_slice());
+        Ok(())
+    }
+
+    #[test]
+    fn names_compare_and_hash(rt: HostRuntime) -> Result<(), Fail> {
+        let mut names = IndexSet::new(rt.alloc());
+        names.insert(Name::from_slice(rt.alloc(), b"even")?)?;
+        names.insert(Name::from_slice(rt.alloc(), b"odd")?)?;
+        names.insert(Name::from_slice(rt.alloc(), b"even")?)?;
+        assert_eq!(rt; names.len(), 2);
+        Ok(())
     }
 }

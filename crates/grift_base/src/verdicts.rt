@@ -1,6 +1,15 @@
 // How a program ends.
 
+ghost use Rattle.std.specs.Prelude.{◌≡◌, ◌++◌, codes, IfOk};
+ghost use Rattle.std.specs.Fmt.{decimal};
+ghost use Rattle.grift_base.specs.AnswerKind.{answer_kind_number};
+ghost use Rattle.grift_base.specs.Trap.{trap_number, trap_text};
+ghost use Rattle.grift_base.specs.VerdictLine.{answer_text, verdict_text};
+
+use crate::lists::{OutOfMemory, Text};
 use crate::places::Pos;
+use itoa::Buffer;
+use std::alloc::Global;
 
 /// An operation that has no answer.
 #[derive(Clone, Copy, PartialEq, Eq, Hash, Debug)]
@@ -15,16 +24,66 @@ pub enum Trap {
     Input,
 }
 
+impl Trap {
+    /// The number by which a program tells this trap to its environment.
+    pub fn number(self) -> u8
+        ensures { result ≡ trap_number self }
+    {
+        match self {
+            Trap::ZeroDivisor => 1,
+            Trap::Index => 2,
+            Trap::Length => 3,
+            Trap::Input => 4,
+        }
+    }
+
+    /// The name of this trap, as the line for the user has it.
+    pub fn text(self) -> &'static str
+        ensures { result.now ≡ trap_text self }
+    {
+        match self {
+            Trap::ZeroDivisor => "zero-divisor",
+            Trap::Index => "index",
+            Trap::Length => "length",
+            Trap::Input => "input",
+        }
+    }
+}
+
 /// What an answer is, looking through every wrapper.
 #[derive(Clone, Copy, PartialEq, Eq, Hash, Debug)]
 pub enum AnswerKind {
+    /// An integer.
     Int,
+    /// A truth value.
     Bool,
+    /// The one value of the unit type.
     Unit,
+    /// A function.
     Function,
+    /// A tuple.
     Tuple,
+    /// A box.
     Boxed,
+    /// A vector.
     Vector,
+}
+
+impl AnswerKind {
+    /// The number by which a program tells this kind of answer to its environment.
+    pub fn number(self) -> u8
+        ensures { result ≡ answer_kind_number self }
+    {
+        match self {
+            AnswerKind::Int => 0,
+            AnswerKind::Bool => 1,
+            AnswerKind::Unit => 2,
+            AnswerKind::Function => 3,
+            AnswerKind::Tuple => 4,
+            AnswerKind::Boxed => 5,
+            AnswerKind::Vector => 6,
+        }
+    }
 }
 
 /// An answer: its word is the integer, 0 or 1 for a truth value, and else 0.
@@ -49,4 +108,139 @@ pub enum Verdict {
     StackOut,
     /// The budget of steps was spent.
     StepsSpent,
+}
+
+/// The line that tells the user of this verdict, with its line feed.
+pub fn verdict_line(alloc: Global, verdict: &Verdict) -> Result<Text, OutOfMemory>
+    ensures { IfOk result (λ line. line ≡ verdict_text verdict.now ++ codes "\n") }
+{
+    match verdict {
+        Verdict::Answer(answer) => answer_line(alloc, *answer),
+        Verdict::Blame(pos) => blame_line(alloc, *pos),
+        Verdict::Trap(trap) => line_of(alloc, "trap ", trap.text()),
+        Verdict::RegionOut => line_of(alloc, "exhausted ", "region"),
+        Verdict::StackOut => line_of(alloc, "exhausted ", "stack"),
+        Verdict::StepsSpent => line_of(alloc, "spent ", "steps"),
+    }
+}
+
+fn answer_line(alloc: Global, answer: Answer) -> Result<Text, OutOfMemory>
+    ensures { IfOk result (λ line.
+        line ≡ codes "answer " ++ answer_text answer.kind answer.word ++ codes "\n") }
+{
+    let mut digits = Buffer::new();
+    let text = match answer.kind {
+        AnswerKind::Int => digits.format(answer.word),
+        AnswerKind::Bool => truth_text(answer.word),
+        AnswerKind::Unit => "()",
+        AnswerKind::Function => "#<function>",
+        AnswerKind::Tuple => "#<tuple>",
+        AnswerKind::Boxed => "#<box>",
+        AnswerKind::Vector => "#<vector>",
+    };
+    line_of(alloc, "answer ", text)
+}
+
+fn truth_text(word: i64) -> &'static str
+    ensures { result.now ≡ answer_text AnswerKind.Bool word }
+{
+    if word == 0 { "#f" } else { "#t" }
+}
+
+fn blame_line(alloc: Global, pos: Pos) -> Result<Text, OutOfMemory>
+    ensures { IfOk result (λ line.
+        line ≡ codes "blame " ++ decimal pos.line ++ codes ":" ++ decimal pos.col ++ codes "\n") }
+{
+    let mut digits = Buffer::new();
+    let mut line = Text::from_slice(alloc, b"blame ")?;
+    line.extend(digits.format(pos.line).as_bytes())?;
+    line.extend(b":")?;
+    line.extend(digits.format(pos.col).as_bytes())?;
+    line.extend(b"\n")?;
+    Ok(line)
+}
+
+// The word, the text and a line feed.
+fn line_of(alloc: Global, word: &str, text: &str) -> Result<Text, OutOfMemory>
+    ensures { IfOk result (λ line. line ≡ word.now ++ text.now ++ codes "\n") }
+{
+    let mut line = Text::from_slice(alloc, word.as_bytes())?;
+    line.extend(text.as_bytes())?;
+    line.extend(b"\n")?;
+    Ok(line)
+}
+
+#[cfg(test)]
+mod tests {
+    use super::*;
+    use std::test::Fail;
+
+    #[test]
+    fn traps_have_numbers_and_texts(rt: HostRuntime) {
+        let table = [
+            (Trap::ZeroDivisor, 1, "zero-divisor"),
+            (Trap::Index, 2, "index"),
+            (Trap::Length, 3, "length"),
+            (Trap::Input, 4, "input"),
+        ];
+        for (trap, number, text) in table {
+            assert_eq!(rt; trap.number(), number);
+            assert_eq!(rt; trap.text(), text);
+        }
+    }
+
+    #[test]
+    fn answer_kinds_have_numbers(rt: HostRuntime) {
+        let kinds = [
+            AnswerKind::Int,
+            AnswerKind::Bool,
+            AnswerKind::Unit,
+            AnswerKind::Function,
+            AnswerKind::Tuple,
+            AnswerKind::Boxed,
+            AnswerKind::Vector,
+        ];
+        for (number, kind) in kinds.iter().enumerate() {
+            assert_eq!(rt; usize::from(kind.number()), number);
+        }
+    }
+
+    #[test]
+    fn answers_have_lines(rt: HostRuntime) -> Result<(), Fail> {
+        let table = [
+            (AnswerKind::Int, 42, "answer 42\n"),
+            (AnswerKind::Int, i64::MIN, "answer -9223372036854775808\n"),
+            (AnswerKind::Bool, 0, "answer #f\n"),
+            (AnswerKind::Bool, 1, "answer #t\n"),
+            (AnswerKind::Unit, 0, "answer ()\n"),
+            (AnswerKind::Function, 0, "answer #<function>\n"),
+            (AnswerKind::Tuple, 0, "answer #<tuple>\n"),
+            (AnswerKind::Boxed, 0, "answer #<box>\n"),
+            (AnswerKind::Vector, 0, "answer #<vector>\n"),
+        ];
+        for (kind, word, text) in table {
+            let line = verdict_line(rt.alloc(), &Verdict::Answer(Answer { kind, word }))?;
+            assert_eq!(rt; line.as_slice(), text.as_bytes());
+        }
+        Ok(())
+    }
+
+    #[test]
+    fn other_verdicts_have_lines(rt: HostRuntime) -> Result<(), Fail> {
+        let table = [
+            (Verdict::Blame(Pos { line: 3, col: 14 }), "blame 3:14\n"),
+            (Verdict::Trap(Trap::ZeroDivisor), "trap zero-divisor\n"),
+            (Verdict::Trap(Trap::Index), "trap index\n"),
+            (Verdict::Trap(Trap::Length), "trap length\n"),
+            (Verdict::Trap(Trap::Input), "trap input\n"),
+            (Verdict::RegionOut, "exhausted region\n"),
+            (Verdict::StackOut, "exhausted stack\n"),
+            (Verdict::StepsSpent, "spent steps\n"),
+        ];
+        for (verdict, text) in table {
+            let line = verdict_line(rt.alloc(), &verdict)?;
+            assert_eq!(rt; line.as_slice(), text.as_bytes());
+        }
+        Ok(())
+    }
 }
