@@ -1,2 +1,5 @@
 pub mod World
 pub mod EnvironmentCall
+pub mod Outside
+pub mod Shelf
+pub mod Sink

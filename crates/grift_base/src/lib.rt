@@ -4,5 +4,7 @@
 pub mod lists;
 pub mod operators;
 pub mod places;
+pub mod shelves;
+pub mod sinks;
 pub mod verdicts;
 pub mod worlds;

@@ -12,6 +12,9 @@ use itoa::Buffer;
 use std::alloc::Global;
 use std::marker::Model;
 
+#[cfg(test)]
+mod tests;
+
 /// What a program sees of the outside: the bytes that it printed, and its input, of which the bytes below
 /// `place` are read.
 #[derive(Drop)]
@@ -102,8 +105,7 @@ impl World {
 
     // Call 1.
     fn int_printed(&mut self, a0: u64, a1: u64) -> EnvEffect
-        ensures {
-            let printed = printing (signed_decimal (cast_signed w64 a0)) self.old in
+        ensures { let printed = printing (signed_decimal (cast_signed w64 a0)) self.old in
             MakesCall (record { effect = EnvEffect.Next a0 a1; world = printed }) 1 self.old result self.new }
     {
         match self.print_int(a0.cast_signed()) {
@@ -114,8 +116,7 @@ impl World {
 
     // Call 2.
     fn byte_printed(&mut self, a0: u64, a1: u64) -> EnvEffect
-        ensures {
-            let printed = printing (a0 % 256 ∷ []) self.old in
+        ensures { let printed = printing (a0 % 256 ∷ []) self.old in
             MakesCall (record { effect = EnvEffect.Next a0 a1; world = printed }) 2 self.old result self.new }
     {
         match self.print_byte((a0 % 256) as u8) {
