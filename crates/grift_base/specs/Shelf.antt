@@ -1,5 +1,5 @@
 -- What a load from a shelf comes to, and a shelf in memory as data.
-use Rattle.std.specs.Prelude.{ℕ, ◌≡◌, ◌==◌, ◌||◌, Bool, true, false, List, [], ◌∷◌, ◌++◌, length, find, Option, option_map, is_none, Result, Ok, Err, bytes_eq, if◌then◌else◌}
+use Rattle.std.specs.Prelude.{ℕ, ◌≡◌, ◌<◌, ◌≤◌, ◌==◌, ◌||◌, Bool, true, false, List, [], ◌∷◌, ◌++◌, length, find, Option, IfSome, option_map, is_none, Vec, Result, Ok, Err, bytes_eq, if◌then◌else◌}
 use Rattle.std.specs.List.{list_any}
 use Rattle.grift_base.specs.Outside.{next_count}
 use Rattle.grift_base.specs.declared.shelves.LoadFault.{LoadFault}
@@ -11,6 +11,14 @@ load_failed (Ok loaded) = false
 load_failed (Err Failed) = true
 load_failed (Err TooLong) = false
 load_failed (Err OutOfMemory) = false
+
+-- what a load answers within this limit, where the bytes that the name holds are told: these bytes, or that there are
+-- too many of them
+abbrev pub Loads : {Z : Type 0} → Option (List ℕ) → ℕ → Result (Vec ℕ Z) LoadFault → Type 0
+Loads told max (Ok loaded) = (length loaded.items ≤ max) × IfSome told (λ bytes. loaded.items ≡ bytes)
+Loads told max (Err TooLong) = IfSome told (λ bytes. max < length bytes)
+Loads told max (Err Failed) = Unit {0}
+Loads told max (Err OutOfMemory) = Unit {0}
 
 -- the names asked for, after a load of this name with this answer
 abbrev pub asked_after : {A : Type 0} → Result A LoadFault → List ℕ → List (List ℕ) → List (List ℕ)

@@ -1,5 +1,5 @@
 -- What a put into a sink comes to, and a sink in memory as data.
-use Rattle.std.specs.Prelude.{ℕ, ◌≡◌, ◌==◌, ◌-◌, Bool, true, false, List, ◌++◌, length, take, Option, Some, None, IsSomeAnd, Result, Ok, Err}
+use Rattle.std.specs.Prelude.{ℕ, ◌≡◌, ◌==◌, ◌-◌, Bool, true, false, List, ◌++◌, length, take, Option, Some, None, option_map, IsSomeAnd, Result, Ok, Err}
 use Rattle.std.specs.List.{list_any}
 use Rattle.grift_base.specs.Outside.{next_count}
 use Rattle.grift_base.specs.declared.sinks.SinkFault.{SinkFault}
@@ -11,7 +11,7 @@ put_failed (Ok done) = false
 put_failed (Err Failed) = true
 put_failed (Err OutOfMemory) = false
 
--- a beginning of these bytes was added, as long as what is written has grown
+-- what is written is the old bytes and then a beginning of these, with as many of them as were added
 abbrev pub AddsBeginning : List ℕ → List ℕ → List ℕ → Type 0
 AddsBeginning bytes old new = new ≡ old ++ take (length new - length old) bytes
 
@@ -19,6 +19,13 @@ AddsBeginning bytes old new = new ≡ old ++ take (length new - length old) byte
 abbrev pub TellsBeginning : List ℕ → Option (List ℕ) → Option (List ℕ) → Type 0
 TellsBeginning bytes None new = new ≡ None
 TellsBeginning bytes (Some old) new = IsSomeAnd new (AddsBeginning bytes old)
+
+-- what was written where it is told, after a put of these bytes with this answer: all of them are added, or where it
+-- failed a beginning of them, and nothing where no memory was left
+abbrev pub Puts : {A : Type 0} → List ℕ → Result A SinkFault → Option (List ℕ) → Option (List ℕ) → Type 0
+Puts bytes (Ok done) old new = new ≡ option_map (λ before. before ++ bytes) old
+Puts bytes (Err Failed) old new = TellsBeginning bytes old new
+Puts bytes (Err OutOfMemory) old new = new ≡ old
 
 -- a sink in memory: what is written, the numbers of the puts that are to fail, the number of the next put, from 0
 -- up to the greatest count, and the count of its faults

@@ -1,8 +1,8 @@
 // Where the files come from.
 
-ghost use Rattle.std.specs.Prelude.{ℕ, ◌≡◌, ◌≤◌, ◌<◌, List, [], length, Option, option_map, option_copied, IfOk, IfSome, Some, false};
+ghost use Rattle.std.specs.Prelude.{ℕ, ◌≡◌, List, [], Option, Some, option_map, option_copied, false};
 ghost use Rattle.grift_base.specs.Outside.{Counts};
-ghost use Rattle.grift_base.specs.Shelf.{load_failed, asked_after, held, fails_to_load, FailsWhere, shelf_after};
+ghost use Rattle.grift_base.specs.Shelf.{Loads, load_failed, asked_after, held, fails_to_load, FailsWhere, shelf_after};
 
 use crate::lists::{Bytes, CallList, Name, NamedFiles, Names, OutOfMemory};
 use std::alloc::Global;
@@ -22,6 +22,17 @@ pub enum LoadFault {
     OutOfMemory,
 }
 
+impl From<OutOfMemory> for LoadFault {
+    ghost use Rattle.std.specs.Prelude.{◌≡◌};
+    ghost use Rattle.grift_base.specs.declared.shelves.LoadFault.TheVariants.{OutOfMemory};
+
+    ghost from_gives = { λ _ fault. fault ≡ OutOfMemory };
+
+    fn from(_error: OutOfMemory) -> LoadFault {
+        LoadFault::OutOfMemory
+    }
+}
+
 /// A source of files, each with a name.
 pub trait Shelf {
     // The bytes that a name holds, where they are told.
@@ -36,9 +47,7 @@ pub trait Shelf {
     /// The bytes that the name holds. `TooLong` comes exactly where the load doesn't fail and these are more than
     /// `max`, and `Failed` only where the count of faults rises. After `OutOfMemory` the shelf is as before.
     fn load(&mut self, alloc: Global, name: &str, max: usize) -> Result<Vec<u8>, LoadFault>
-        ensures within { IfOk result (λ loaded. length loaded.items ≤ max) }
-        ensures told { IfOk result (λ loaded. IfSome (holds self.old name.now) (λ bytes. loaded.items ≡ bytes)) }
-        ensures too_long { result ≡ Err LoadFault.TooLong → IfSome (holds self.old name.now) (λ bytes. max < length bytes) }
+        ensures loads { Loads (holds self.old name.now) max result }
 
         ensures kept { (other : List ℕ) → holds self.new other ≡ holds self.old other }
         ensures names { asked self.new ≡ option_map (asked_after result name.now) (asked self.old) }
@@ -90,9 +99,7 @@ impl MemShelf {
     // The answer to a load, which isn't recorded yet.
     fn answer(&self, alloc: Global, name: &str, max: usize) -> Result<Vec<u8>, LoadFault>
         ensures fails { FailsWhere (fails_to_load self.now name.now) result }
-        ensures within { IfOk result (λ loaded. length loaded.items ≤ max) }
-        ensures told { IfOk result (λ loaded. IfSome (held self.now.files name.now) (λ bytes. loaded.items ≡ bytes)) }
-        ensures too_long { result ≡ Err LoadFault.TooLong → IfSome (held self.now.files name.now) (λ bytes. max < length bytes) }
+        ensures loads { Loads (held self.now.files name.now) max result }
     {
         if self.failing.as_slice().contains(&self.asked.len()) {
             return Err(LoadFault::Failed);
@@ -117,17 +124,13 @@ fn bytes_of<'a>(files: &'a NamedFiles, name: &str) -> Option<&'a Bytes>
 
 // These bytes, if they are no more than so many.
 fn copy_within(alloc: Global, bytes: &[u8], max: usize) -> Result<Vec<u8>, LoadFault>
-    ensures ok { IfOk result (λ loaded. (loaded.items ≡ bytes.now) × (length bytes.now ≤ max)) }
-    ensures no_fail { load_failed result ≡ false }
-    ensures too_long { result ≡ Err LoadFault.TooLong → max < length bytes.now }
+    ensures no_fault { load_failed result ≡ false }
+    ensures loads { Loads (Some bytes.now) max result }
 {
     if bytes.len() > max {
         return Err(LoadFault::TooLong);
     }
-    match Vec::from_slice(alloc, bytes) {
-        Ok(loaded) => Ok(loaded),
-        Err(_) => Err(LoadFault::OutOfMemory),
-    }
+    Vec::from_slice(alloc, bytes).map_err(|_| LoadFault::OutOfMemory)
 }
 
 impl Shelf for MemShelf {
@@ -140,22 +143,15 @@ impl Shelf for MemShelf {
     fn load(&mut self, alloc: Global, name: &str, max: usize) -> Result<Vec<u8>, LoadFault>
         ensures fails { FailsWhere (fails_to_load self.old name.now) result }
         ensures shelf { self.new ≡ shelf_after result name.now self.old }
-        ensures within { IfOk result (λ loaded. length loaded.items ≤ max) }
-        ensures told { IfOk result (λ loaded. IfSome (held self.old.files name.now) (λ bytes. loaded.items ≡ bytes)) }
-        ensures too_long { result ≡ Err LoadFault.TooLong → IfSome (held self.old.files name.now) (λ bytes. max < length bytes) }
+        ensures loads { Loads (held self.old.files name.now) max result }
         ensures count { Counts (load_failed result) self.old.faults self.new.faults }
     {
         let answer = self.answer(alloc, name, max);
         if answer == Err(LoadFault::OutOfMemory) {
             return answer;
         }
-        let name = match Name::from_slice(alloc, name.as_bytes()) {
-            Ok(name) => name,
-            Err(OutOfMemory) => return Err(LoadFault::OutOfMemory),
-        };
-        if self.asked.push(name).is_err() {
-            return Err(LoadFault::OutOfMemory);
-        }
+        let name = Name::from_slice(alloc, name.as_bytes())?;
+        self.asked.push(name)?;
         if answer == Err(LoadFault::Failed) {
             self.faults = self.faults.saturating_add(1);
         }

@@ -1,8 +1,8 @@
 // Where output goes.
 
-ghost use Rattle.std.specs.Prelude.{ℕ, ◌≡◌, ◌++◌, List, [], Option, Some, None, option_map, IsOk, OnOk, IfOk};
+ghost use Rattle.std.specs.Prelude.{ℕ, ◌≡◌, List, [], Option, Some, None, IsOk, IfOk};
 ghost use Rattle.grift_base.specs.Outside.{Counts};
-ghost use Rattle.grift_base.specs.Sink.{put_failed, TellsBeginning, fails_to_put, sink_after};
+ghost use Rattle.grift_base.specs.Sink.{Puts, put_failed, fails_to_put, sink_after};
 
 use crate::lists::{Bytes, CallList, OutOfMemory};
 use std::alloc::Global;
@@ -20,6 +20,17 @@ pub enum SinkFault {
     OutOfMemory,
 }
 
+impl From<OutOfMemory> for SinkFault {
+    ghost use Rattle.std.specs.Prelude.{◌≡◌};
+    ghost use Rattle.grift_base.specs.declared.sinks.SinkFault.TheVariants.{OutOfMemory};
+
+    ghost from_gives = { λ _ fault. fault ≡ OutOfMemory };
+
+    fn from(_error: OutOfMemory) -> SinkFault {
+        SinkFault::OutOfMemory
+    }
+}
+
 /// A taker of bytes.
 pub trait Sink {
     // The bytes written so far, where they are told.
@@ -31,9 +42,7 @@ pub trait Sink {
     /// Writes these bytes. `Failed` comes only where the count of faults rises, and then a beginning of the bytes is
     /// written. After `OutOfMemory` the sink is as before.
     fn put(&mut self, bytes: &[u8]) -> Result<(), SinkFault>
-        ensures ok { OnOk result (written self.new ≡ option_map (λ before. before ++ bytes.now) (written self.old)) }
-        ensures failed { result ≡ Err SinkFault.Failed → TellsBeginning bytes.now (written self.old) (written self.new) }
-        ensures no_memory { result ≡ Err SinkFault.OutOfMemory → written self.new ≡ written self.old }
+        ensures puts { Puts bytes.now result (written self.old) (written self.new) }
         ensures count { Counts (put_failed result) (fault_count self.old) (fault_count self.new) };
 
     /// How many puts failed, up to the last value of u64.
@@ -95,13 +104,9 @@ impl Sink for MemSink {
             self.faults = self.faults.saturating_add(1);
             return Err(SinkFault::Failed);
         }
-        match self.written.extend(bytes) {
-            Ok(()) => {
-                self.calls = self.calls.saturating_add(1);
-                Ok(())
-            }
-            Err(OutOfMemory) => Err(SinkFault::OutOfMemory),
-        }
+        self.written.extend(bytes)?;
+        self.calls = self.calls.saturating_add(1);
+        Ok(())
     }
 
     fn faults(&self) -> u64 {
@@ -110,7 +115,7 @@ impl Sink for MemSink {
 }
 
 /// A sink that takes everything and keeps nothing.
-#[derive(Clone, Copy, PartialEq, Eq, Debug)]
+#[derive(Clone, Copy, PartialEq, Eq, Default, Debug)]
 pub struct DropSink;
 
 impl DropSink {

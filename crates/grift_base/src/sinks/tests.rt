@@ -1,4 +1,4 @@
-ghost use Rattle.std.specs.Prelude.{◌≡◌, ◌++◌, option_map, Err, OnOk};
+ghost use Rattle.std.specs.Prelude.{◌≡◌, ◌++◌, option_map, IsErrOf, OnOk};
 ghost use Rattle.grift_base.specs.Outside.{HasRisen};
 
 use super::*;
@@ -7,7 +7,7 @@ use std::test::Fail;
 // Puts the bytes twice, into any sink.
 fn put_twice<O: Sink>(sink: &mut O, bytes: &[u8]) -> Result<(), SinkFault>
     ensures ok { OnOk result (O.written sink.new ≡ option_map (λ before. before ++ bytes.now ++ bytes.now) (O.written sink.old)) }
-    ensures failed { result ≡ Err SinkFault.Failed → HasRisen (O.fault_count sink.old) (O.fault_count sink.new) }
+    ensures failed { IsErrOf result SinkFault.Failed → HasRisen (O.fault_count sink.old) (O.fault_count sink.new) }
 {
     sink.put(bytes)?;
     sink.put(bytes)
