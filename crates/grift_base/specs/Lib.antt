@@ -5,3 +5,6 @@ pub mod Trap
 pub mod AnswerKind
 pub mod VerdictLine
 pub mod Tables
+pub mod Outside
+pub mod Shelf
+pub mod Sink

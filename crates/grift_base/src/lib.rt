@@ -5,5 +5,7 @@ pub mod lists;
 pub mod operators;
 pub mod places;
 pub mod refusals;
+pub mod shelves;
+pub mod sinks;
 pub mod verdicts;
 pub mod worlds;

@@ -1,13 +1,19 @@
 // What a program sees of the outside.
 
-ghost use Rattle.std.specs.Prelude.{◌≡◌, [], IfOk, OnOk, OnErr, ◌≤◌, length};
+ghost use Rattle.std.specs.Prelude.{◌≡◌, ◌≤◌, ◌<◌, ◌%◌, nat_lt, if◌then◌else◌, [], ◌∷◌, OnOk, OnErr};
+ghost use Rattle.std.specs.Fmt.{signed_decimal};
+ghost use Rattle.std.specs.Int.{cast_signed, w64};
 ghost use Rattle.grift_base.specs.World.{WorldState, printing};
-ghost use Rattle.grift_base.specs.EnvironmentCall.{environment_call, Called, Prints, MakesCall};
+ghost use Rattle.grift_base.specs.EnvironmentCall.{environment_call, ends, traps, Called, MakesCall};
 
 use crate::lists::{Bytes, OutOfMemory};
 use crate::verdicts::{Answer, AnswerKind, Trap};
+use itoa::Buffer;
 use std::alloc::Global;
 use std::marker::Model;
+
+#[cfg(test)]
+mod tests;
 
 /// What a program sees of the outside: the bytes that it printed, and its input, of which the bytes below
 /// `place` are read.
@@ -57,5 +63,120 @@ impl World {
             input,
             place: 0,
         }
+    }
+
+    /// Prints a number in signed decimal, all of it or nothing.
+    pub fn print_int(&mut self, n: i64) -> Result<(), OutOfMemory>
+        ensures ok { OnOk result (self.new ≡ printing (signed_decimal n) self.old) }
+        ensures err { OnErr result (self.new ≡ self.old) }
+    {
+        let mut buffer = Buffer::new();
+        self.output.extend(buffer.format(n).as_bytes())
+    }
+
+    /// Prints a byte.
+    pub fn print_byte(&mut self, b: u8) -> Result<(), OutOfMemory>
+        ensures ok { OnOk result (self.new ≡ printing (b ∷ []) self.old) }
+        ensures err { OnErr result (self.new ≡ self.old) }
+    {
+        self.output.push(b)
+    }
+
+    /// Makes the environment call of this number with these two words, in a program with so many labels. Where
+    /// the call goes on, the answer has its first two argument registers; `Refused` comes exactly where there is no
+    /// such call or an operand is outside its range, `OutOfMemory` only at a call that prints, and after both the
+    /// outside is as before.
+    #[tactic(auto, unfolding(crate::specs::EnvironmentCall::environment_call))]
+    pub fn env(&mut self, number: u64, a0: u64, a1: u64, labels: u32) -> EnvEffect
+        ensures call { MakesCall (environment_call number a0 a1 labels self.old) number self.old result self.new }
+        ensures refused { result ≡ EnvEffect.Refused → self.new ≡ self.old }
+    {
+        match number {
+            0 => ended(a0, a1),
+            1 => self.int_printed(a0, a1),
+            2 => self.byte_printed(a0, a1),
+            3 => blamed(a0, labels),
+            4 => trapped(a0),
+            5 => EnvEffect::RegionOut,
+            6 => EnvEffect::StackOut,
+            _ => EnvEffect::Refused,
+        }
+    }
+
+    // Call 1.
+    fn int_printed(&mut self, a0: u64, a1: u64) -> EnvEffect
+        ensures { let printed = printing (signed_decimal (cast_signed w64 a0)) self.old in
+            MakesCall (record { effect = EnvEffect.Next a0 a1; world = printed }) 1 self.old result self.new }
+    {
+        match self.print_int(a0.cast_signed()) {
+            Ok(()) => EnvEffect::Next(a0, a1),
+            Err(OutOfMemory) => EnvEffect::OutOfMemory,
+        }
+    }
+
+    // Call 2.
+    fn byte_printed(&mut self, a0: u64, a1: u64) -> EnvEffect
+        ensures { let printed = printing (a0 % 256 ∷ []) self.old in
+            MakesCall (record { effect = EnvEffect.Next a0 a1; world = printed }) 2 self.old result self.new }
+    {
+        match self.print_byte((a0 % 256) as u8) {
+            Ok(()) => EnvEffect::Next(a0, a1),
+            Err(OutOfMemory) => EnvEffect::OutOfMemory,
+        }
+    }
+}
+
+// Call 0.
+fn ended(kind: u64, word: u64) -> EnvEffect
+    ensures { result ≡ ends kind word }
+{
+    match kind {
+        0 => ended_up_to(u64::MAX, AnswerKind::Int, word),
+        1 => ended_up_to(1, AnswerKind::Bool, word),
+        2 => ended_up_to(0, AnswerKind::Unit, word),
+        3 => ended_up_to(0, AnswerKind::Function, word),
+        4 => ended_up_to(0, AnswerKind::Tuple, word),
+        5 => ended_up_to(0, AnswerKind::Boxed, word),
+        6 => ended_up_to(0, AnswerKind::Vector, word),
+        _ => EnvEffect::Refused,
+    }
+}
+
+// An answer of this kind, whose word is no greater than the first number.
+fn ended_up_to(greatest: u64, kind: AnswerKind, word: u64) -> EnvEffect
+    ensures fits { word ≤ greatest → result ≡ EnvEffect.Ended (record { kind = kind; word = cast_signed w64 word }) }
+    ensures past { greatest < word → result ≡ EnvEffect.Refused }
+{
+    if word <= greatest {
+        EnvEffect::Ended(Answer {
+            kind,
+            word: word.cast_signed(),
+        })
+    } else {
+        EnvEffect::Refused
+    }
+}
+
+// Call 3.
+fn blamed(label: u64, labels: u32) -> EnvEffect
+    ensures { result ≡ (if nat_lt label labels then EnvEffect.Blamed label else EnvEffect.Refused) }
+{
+    if label < labels as u64 {
+        EnvEffect::Blamed(label as u32)
+    } else {
+        EnvEffect::Refused
+    }
+}
+
+// Call 4.
+fn trapped(kind: u64) -> EnvEffect
+    ensures { result ≡ traps kind }
+{
+    match kind {
+        1 => EnvEffect::Trapped(Trap::ZeroDivisor),
+        2 => EnvEffect::Trapped(Trap::Index),
+        3 => EnvEffect::Trapped(Trap::Length),
+        4 => EnvEffect::Trapped(Trap::Input),
+        _ => EnvEffect::Refused,
     }
 }
