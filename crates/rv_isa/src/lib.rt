@@ -6,3 +6,5 @@ mod encoder;
 pub mod fields;
 pub mod inst;
 pub mod number;
+#[cfg(test)]
+mod tests;
