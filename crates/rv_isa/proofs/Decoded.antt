@@ -1,13 +1,12 @@
 -- What is decoded stands in the table.
-use Rattle.std.proofs.Common.{eqb-true, Bool, true, false, cond, eqb, ℕ, ◌+◌, ◌*◌, ◌/◌, ◌%◌, ◌^◌, ◌<◌, ◌≡◌, Some, None, Option, refl, ap, arith}
-use Rattle.std.specs.Prelude.{ℤ, ◌==◌, ◌&&◌, if◌then◌else◌}
+use Rattle.std.proofs.Common.{eqb-true, Bool, true, false, ℕ, ◌+◌, ◌*◌, ◌/◌, ◌%◌, ◌^◌, ◌≡◌, Some, None, Option, refl, ap, arith}
+use Rattle.std.specs.Prelude.{◌==◌, ◌&&◌, if◌then◌else◌}
 use Rattle.rv_isa.specs.declared.fields.Fields.{Fields}
 use Rattle.rv_isa.specs.declared.inst.Inst.{Inst}
-use Rattle.rv_isa.specs.declared.inst.Inst.TheVariants.{Lui, Auipc, Jal, Jalr, Beq, Bne, Blt, Bge, Bltu, Bgeu, Lb, Lh, Lw, Ld, Lbu, Lhu, Lwu, Sb, Sh, Sw, Sd, Addi, Slti, Sltiu, Xori, Ori, Andi, Slli, Srli, Srai, Add, Sub, Sll, Slt, Sltu, Xor, Srl, Sra, Or, And, Addiw, Slliw, Srliw, Sraiw, Addw, Subw, Sllw, Srlw, Sraw, Fence, Ecall, Ebreak}
 use Rattle.rv_isa.specs.Bits.{bits, signed}
 use Rattle.rv_isa.specs.Fields.{word_of, Fit}
-use Rattle.rv_isa.specs.Table.{IsWordOf, IsRegisterForm, IsImmediateForm, IsShiftForm, IsWordShiftForm, IsStoreForm, IsBranchForm, IsUpperForm, IsJumpForm, opcode_of, rd_of, funct3_of, rs1_of, rs2_of, funct7_of, immediate_of, store_offset_of, branch_offset_of, upper_of, jump_offset_of}
-use Rattle.rv_isa.specs.Decoding.{decode_of, inst_of, branch_inst, load_inst, store_inst, immediate_inst, register_inst, word_immediate_inst, word_register_inst, jump_register_inst, fence_inst, system_inst, immediate_in, store_offset_in, branch_offset_in, upper_in, jump_offset_in, shift_amount_in}
+use Rattle.rv_isa.specs.Table.{IsWordOf, IsRegisterForm, IsImmediateForm, IsShiftForm, IsStoreForm, IsBranchForm, IsUpperForm, IsJumpForm}
+use Rattle.rv_isa.specs.Decoding.{inst_of, branch_inst, load_inst, store_inst, immediate_inst, register_inst, word_immediate_inst, word_register_inst, jump_register_inst, fence_inst, system_inst, immediate_in, store_offset_in, branch_offset_in, upper_in, jump_offset_in, shift_amount_in}
 
 -- the instruction, if there is one, has the word with these fields
 pub record IsRow (f : Fields) (decoded : Option Inst) : Type 0 where
@@ -53,10 +52,6 @@ immediate_form_is f opcode funct3 h d e =
 shift_form_is : (f : Fields) (funct3 kind : ℕ) → Fit f → f.opcode ≡ 0x13 → f.funct3 ≡ funct3 → f.funct7 / 2 ≡ kind → IsShiftForm (word_of f) 0x13 funct3 kind f.rd f.rs1 (shift_amount_in f)
 shift_form_is f funct3 kind h d e g =
     record { same_opcode = omega arith; same_funct3 = omega arith; same_kind = omega arith; same_rd = omega arith; same_rs1 = omega arith; same_amount = omega arith }
-
-word_shift_form_is : (f : Fields) (funct3 funct7 : ℕ) → Fit f → f.opcode ≡ 0x1B → f.funct3 ≡ funct3 → f.funct7 ≡ funct7 → IsWordShiftForm (word_of f) 0x1B funct3 funct7 f.rd f.rs1 f.rs2
-word_shift_form_is f funct3 funct7 h d e g =
-    record { same_opcode = omega arith; same_funct3 = omega arith; same_funct7 = omega arith; same_rd = omega arith; same_rs1 = omega arith; same_amount = omega arith }
 
 store_form_is : (f : Fields) (funct3 : ℕ) → Fit f → f.opcode ≡ 0x23 → f.funct3 ≡ funct3 → IsStoreForm (word_of f) 0x23 funct3 f.rs2 f.rs1 (store_offset_in f)
 store_form_is f funct3 h d e =
@@ -143,9 +138,9 @@ register_inst_row f h d =
 
 word_immediate_inst_row : (f : Fields) → Fit f → f.opcode ≡ 0x1B → IsRow f (word_immediate_inst f)
 word_immediate_inst_row f h d =
-    at_both f _ _ _ _ _ _ (word_shift_form_is f 1 0 h d)
-    (at_both f _ _ _ _ _ _ (word_shift_form_is f 5 0 h d)
-    (at_both f _ _ _ _ _ _ (word_shift_form_is f 5 0x20 h d)
+    at_both f _ _ _ _ _ _ (register_form_is f 0x1B 1 0 h d)
+    (at_both f _ _ _ _ _ _ (register_form_is f 0x1B 5 0 h d)
+    (at_both f _ _ _ _ _ _ (register_form_is f 0x1B 5 0x20 h d)
     (at f _ _ _ _ (immediate_form_is f 0x1B 0 h d)
     (row_none f))))
 

@@ -1,5 +1,5 @@
 -- Instructions and words, there and back.
-use Rattle.std.proofs.Common.{cond, eqb, ℕ, ◌+◌, ◌*◌, ◌/◌, ◌%◌, ◌^◌, ◌<◌, ◌≡◌, Some, None, Option, refl, sym, ◌∙◌, ap, subst, arith}
+use Rattle.std.proofs.Common.{ℕ, ◌+◌, ◌*◌, ◌/◌, ◌%◌, ◌^◌, ◌<◌, ◌≡◌, Some, None, Option, refl, sym, ◌∙◌, ap, subst, arith}
 use Rattle.std.specs.Prelude.{ℤ, IfSome}
 use Rattle.rv_isa.specs.declared.fields.Fields.{Fields}
 use Rattle.rv_isa.specs.declared.inst.Inst.{Inst}
@@ -7,7 +7,7 @@ use Rattle.rv_isa.specs.declared.inst.Inst.TheVariants.{Lui, Auipc, Jal, Jalr, B
 use Rattle.rv_isa.specs.Bits.{signed, low_bits, IsIn, IsEven}
 use Rattle.rv_isa.specs.Fields.{fields_of, word_of, Fit}
 use Rattle.rv_isa.specs.Table.{IsWordOf}
-use Rattle.rv_isa.specs.Encoding.{inst_fields, encode_of, register_form, immediate_form, shift_form, word_shift_form, store_form, branch_form, upper_form, jump_form}
+use Rattle.rv_isa.specs.Encoding.{inst_fields, encode_of, immediate_form, shift_form, store_form, branch_form, upper_form, jump_form}
 use Rattle.rv_isa.specs.Decoding.{decode_of, inst_of, immediate_in, store_offset_in, branch_offset_in, upper_in, jump_offset_in, shift_amount_in}
 use Rattle.rv_isa.specs.Valid.{IsValid}
 use Rattle.rv_isa.proofs.SignedBits.{signed-low_bits, low_bits_below, low_bits_even}

@@ -1,13 +1,13 @@
 -- A word in the table has the instruction's fields, and the instruction is valid.
-use Rattle.std.proofs.Common.{ℕ, ◌+◌, ◌*◌, ◌/◌, ◌%◌, ◌^◌, ◌<◌, ◌≡◌, refl, sym, ◌∙◌, ap, subst, arith}
+use Rattle.std.proofs.Common.{ℕ, ◌+◌, ◌*◌, ◌%◌, ◌^◌, ◌<◌, ◌≡◌, sym, ap, subst, arith}
 use Rattle.std.specs.Prelude.{ℤ}
 use Rattle.rv_isa.specs.declared.fields.Fields.{Fields}
 use Rattle.rv_isa.specs.declared.inst.Inst.{Inst}
 use Rattle.rv_isa.specs.declared.inst.Inst.TheVariants.{Lui, Auipc, Jal, Jalr, Beq, Bne, Blt, Bge, Bltu, Bgeu, Lb, Lh, Lw, Ld, Lbu, Lhu, Lwu, Sb, Sh, Sw, Sd, Addi, Slti, Sltiu, Xori, Ori, Andi, Slli, Srli, Srai, Add, Sub, Sll, Slt, Sltu, Xor, Srl, Sra, Or, And, Addiw, Slliw, Srliw, Sraiw, Addw, Subw, Sllw, Srlw, Sraw, Fence, Ecall, Ebreak}
 use Rattle.rv_isa.specs.Bits.{bits, signed, low_bits, IsIn, IsEven}
-use Rattle.rv_isa.specs.Fields.{fields_of, word_of}
-use Rattle.rv_isa.specs.Table.{IsWordOf, IsRegisterForm, IsImmediateForm, IsShiftForm, IsWordShiftForm, IsStoreForm, IsBranchForm, IsUpperForm, IsJumpForm, opcode_of, rd_of, funct3_of, rs1_of, rs2_of, funct7_of, immediate_of, store_offset_of, branch_offset_of, upper_of, jump_offset_of}
-use Rattle.rv_isa.specs.Encoding.{inst_fields, encode_of, register_form, immediate_form, shift_form, word_shift_form, store_form, branch_form, upper_form, jump_form}
+use Rattle.rv_isa.specs.Fields.{fields_of}
+use Rattle.rv_isa.specs.Table.{IsWordOf, IsRegisterForm, IsImmediateForm, IsShiftForm, IsStoreForm, IsBranchForm, IsUpperForm, IsJumpForm}
+use Rattle.rv_isa.specs.Encoding.{inst_fields, register_form, immediate_form, shift_form, store_form, branch_form, upper_form, jump_form}
 use Rattle.rv_isa.specs.Valid.{IsValid}
 use Rattle.rv_isa.proofs.SignedBits.{low_bits-signed, signed_in, signed_even}
 
@@ -41,10 +41,6 @@ immediate_cut word opcode funct3 rd rs1 immediate b h =
 
 shift_cut : (word funct3 kind rd rs1 amount : ℕ) → word < 2 ^ 32 → IsShiftForm word 0x13 funct3 kind rd rs1 amount → ((rd < 32) × (rs1 < 32) × (amount < 64)) × (shift_form funct3 kind rd rs1 amount ≡ fields_of word)
 shift_cut word funct3 kind rd rs1 amount b h =
-    ((omega arith, omega arith, omega arith), same_fields _ _ (omega arith) (omega arith) (omega arith) (omega arith) (omega arith) (omega arith))
-
-word_shift_cut : (word funct3 funct7 rd rs1 amount : ℕ) → word < 2 ^ 32 → IsWordShiftForm word 0x1B funct3 funct7 rd rs1 amount → ((rd < 32) × (rs1 < 32) × (amount < 32)) × (word_shift_form funct3 funct7 rd rs1 amount ≡ fields_of word)
-word_shift_cut word funct3 funct7 rd rs1 amount b h =
     ((omega arith, omega arith, omega arith), same_fields _ _ (omega arith) (omega arith) (omega arith) (omega arith) (omega arith) (omega arith))
 
 store_cut : (word funct3 rs2 rs1 : ℕ) (offset : ℤ) → word < 2 ^ 32 → IsStoreForm word 0x23 funct3 rs2 rs1 offset → ((rs2 < 32) × (rs1 < 32) × IsIn 2048 offset) × (store_form funct3 rs2 rs1 offset ≡ fields_of word)
@@ -112,9 +108,9 @@ row_cut word b (Sra rd rs1 rs2) h = register_cut word 0x33 5 0x20 rd rs1 rs2 b h
 row_cut word b (Or rd rs1 rs2) h = register_cut word 0x33 6 0 rd rs1 rs2 b h
 row_cut word b (And rd rs1 rs2) h = register_cut word 0x33 7 0 rd rs1 rs2 b h
 row_cut word b (Addiw rd rs1 immediate) h = immediate_cut word 0x1B 0 rd rs1 immediate b h
-row_cut word b (Slliw rd rs1 amount) h = word_shift_cut word 1 0 rd rs1 amount b h
-row_cut word b (Srliw rd rs1 amount) h = word_shift_cut word 5 0 rd rs1 amount b h
-row_cut word b (Sraiw rd rs1 amount) h = word_shift_cut word 5 0x20 rd rs1 amount b h
+row_cut word b (Slliw rd rs1 amount) h = register_cut word 0x1B 1 0 rd rs1 amount b h
+row_cut word b (Srliw rd rs1 amount) h = register_cut word 0x1B 5 0 rd rs1 amount b h
+row_cut word b (Sraiw rd rs1 amount) h = register_cut word 0x1B 5 0x20 rd rs1 amount b h
 row_cut word b (Addw rd rs1 rs2) h = register_cut word 0x3B 0 0 rd rs1 rs2 b h
 row_cut word b (Subw rd rs1 rs2) h = register_cut word 0x3B 0 0x20 rd rs1 rs2 b h
 row_cut word b (Sllw rd rs1 rs2) h = register_cut word 0x3B 1 0 rd rs1 rs2 b h

@@ -1,5 +1,5 @@
 -- Signed numbers and their bits, there and back.
-use Rattle.std.proofs.Common.{cond, ℕ, suc, ◌-◌, ◌*◌, ◌/◌, ◌%◌, ◌<◌, ◌≡◌, arith}
+use Rattle.std.proofs.Common.{ℕ, ◌*◌, ◌%◌, ◌<◌, ◌≡◌, arith}
 use Rattle.std.specs.Prelude.{ℤ, pos, negsuc}
 use Rattle.rv_isa.specs.Bits.{signed, low_bits, IsIn, IsEven}
 

@@ -6,6 +6,7 @@ use Rattle.rv_isa.specs.declared.inst.Inst.TheVariants.{Lui, Auipc, Jal, Jalr, B
 use Rattle.rv_isa.specs.Bits.{low_bits}
 use Rattle.rv_isa.specs.Fields.{word_of}
 
+-- the amount of a shift of 32 bits stands in the place of rs2
 abbrev pub register_form : ℕ → ℕ → ℕ → ℕ → ℕ → ℕ → Fields
 register_form opcode funct3 funct7 rd rs1 rs2 =
     record { opcode = opcode; rd = rd; funct3 = funct3; rs1 = rs1; rs2 = rs2; funct7 = funct7 }
@@ -19,10 +20,6 @@ immediate_form opcode funct3 rd rs1 immediate =
 abbrev pub shift_form : ℕ → ℕ → ℕ → ℕ → ℕ → Fields
 shift_form funct3 kind rd rs1 amount =
     record { opcode = 0x13; rd = rd; funct3 = funct3; rs1 = rs1; rs2 = amount % 32; funct7 = amount / 32 + 2 * kind }
-
-abbrev pub word_shift_form : ℕ → ℕ → ℕ → ℕ → ℕ → Fields
-word_shift_form funct3 funct7 rd rs1 amount =
-    record { opcode = 0x1B; rd = rd; funct3 = funct3; rs1 = rs1; rs2 = amount; funct7 = funct7 }
 
 abbrev pub store_form : ℕ → ℕ → ℕ → ℤ → Fields
 store_form funct3 rs2 rs1 offset =
@@ -99,9 +96,9 @@ inst_fields (Sra rd rs1 rs2) = register_form 0x33 5 0x20 rd rs1 rs2
 inst_fields (Or rd rs1 rs2) = register_form 0x33 6 0 rd rs1 rs2
 inst_fields (And rd rs1 rs2) = register_form 0x33 7 0 rd rs1 rs2
 inst_fields (Addiw rd rs1 immediate) = immediate_form 0x1B 0 rd rs1 immediate
-inst_fields (Slliw rd rs1 amount) = word_shift_form 1 0 rd rs1 amount
-inst_fields (Srliw rd rs1 amount) = word_shift_form 5 0 rd rs1 amount
-inst_fields (Sraiw rd rs1 amount) = word_shift_form 5 0x20 rd rs1 amount
+inst_fields (Slliw rd rs1 amount) = register_form 0x1B 1 0 rd rs1 amount
+inst_fields (Srliw rd rs1 amount) = register_form 0x1B 5 0 rd rs1 amount
+inst_fields (Sraiw rd rs1 amount) = register_form 0x1B 5 0x20 rd rs1 amount
 inst_fields (Addw rd rs1 rs2) = register_form 0x3B 0 0 rd rs1 rs2
 inst_fields (Subw rd rs1 rs2) = register_form 0x3B 0 0x20 rd rs1 rs2
 inst_fields (Sllw rd rs1 rs2) = register_form 0x3B 1 0 rd rs1 rs2

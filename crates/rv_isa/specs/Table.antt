@@ -71,15 +71,6 @@ pub record IsShiftForm (word opcode funct3 kind rd rs1 amount : ℕ) : Type 0 wh
   pub same_rs1 : rs1_of word ≡ rs1
   pub same_amount : bits word 20 6 ≡ amount
 
--- a shift of 32 bits: its amount is bits 20 to 24
-pub record IsWordShiftForm (word opcode funct3 funct7 rd rs1 amount : ℕ) : Type 0 where
-  pub same_opcode : opcode_of word ≡ opcode
-  pub same_funct3 : funct3_of word ≡ funct3
-  pub same_funct7 : funct7_of word ≡ funct7
-  pub same_rd : rd_of word ≡ rd
-  pub same_rs1 : rs1_of word ≡ rs1
-  pub same_amount : bits word 20 5 ≡ amount
-
 pub record IsStoreForm (word opcode funct3 rs2 rs1 : ℕ) (offset : ℤ) : Type 0 where
   pub same_opcode : opcode_of word ≡ opcode
   pub same_funct3 : funct3_of word ≡ funct3
@@ -104,7 +95,9 @@ pub record IsJumpForm (word opcode rd : ℕ) (offset : ℤ) : Type 0 where
   pub same_rd : rd_of word ≡ rd
   pub same_offset : jump_offset_of word ≡ offset
 
--- the word is one of the instruction
+-- The word is one of the instruction. Each line has the opcode, then funct3 where the form has one, then what
+-- tells instructions of one funct3 apart, then the parts. The amount of a shift of 32 bits, bits 20 to 24, stands
+-- in the place of rs2.
 abbrev pub IsWordOf : Inst → ℕ → Type 0
 IsWordOf (Lui rd upper) word = IsUpperForm word 0x37 rd upper
 IsWordOf (Auipc rd upper) word = IsUpperForm word 0x17 rd upper
@@ -147,9 +140,9 @@ IsWordOf (Sra rd rs1 rs2) word = IsRegisterForm word 0x33 5 0x20 rd rs1 rs2
 IsWordOf (Or rd rs1 rs2) word = IsRegisterForm word 0x33 6 0 rd rs1 rs2
 IsWordOf (And rd rs1 rs2) word = IsRegisterForm word 0x33 7 0 rd rs1 rs2
 IsWordOf (Addiw rd rs1 immediate) word = IsImmediateForm word 0x1B 0 rd rs1 immediate
-IsWordOf (Slliw rd rs1 amount) word = IsWordShiftForm word 0x1B 1 0 rd rs1 amount
-IsWordOf (Srliw rd rs1 amount) word = IsWordShiftForm word 0x1B 5 0 rd rs1 amount
-IsWordOf (Sraiw rd rs1 amount) word = IsWordShiftForm word 0x1B 5 0x20 rd rs1 amount
+IsWordOf (Slliw rd rs1 amount) word = IsRegisterForm word 0x1B 1 0 rd rs1 amount
+IsWordOf (Srliw rd rs1 amount) word = IsRegisterForm word 0x1B 5 0 rd rs1 amount
+IsWordOf (Sraiw rd rs1 amount) word = IsRegisterForm word 0x1B 5 0x20 rd rs1 amount
 IsWordOf (Addw rd rs1 rs2) word = IsRegisterForm word 0x3B 0 0 rd rs1 rs2
 IsWordOf (Subw rd rs1 rs2) word = IsRegisterForm word 0x3B 0 0x20 rd rs1 rs2
 IsWordOf (Sllw rd rs1 rs2) word = IsRegisterForm word 0x3B 1 0 rd rs1 rs2

@@ -3,7 +3,7 @@
 ghost use Rattle.std.specs.Prelude.{◌≡◌, ◌<◌};
 ghost use Rattle.rv_isa.specs.Bits.{IsIn, IsEven};
 ghost use Rattle.rv_isa.specs.Fields.{Fit};
-ghost use Rattle.rv_isa.specs.Encoding.{inst_fields, register_form, immediate_form, shift_form, word_shift_form, store_form, branch_form, upper_form, jump_form};
+ghost use Rattle.rv_isa.specs.Encoding.{inst_fields, register_form, immediate_form, shift_form, store_form, branch_form, upper_form, jump_form};
 ghost use Rattle.rv_isa.specs.Valid.{IsValid};
 
 use crate::fields::Fields;
@@ -143,7 +143,7 @@ fn shift_form(funct3: u32, kind: u32, rd: Reg, rs1: Reg, amount: Shift6) -> Fiel
 fn word_shift_form(funct3: u32, funct7: u32, rd: Reg, rs1: Reg, amount: Shift5) -> Fields
     requires funct3 { funct3 < 8 }
     requires funct7 { funct7 < 128 }
-    ensures value { result ≡ word_shift_form funct3 funct7 rd rs1 amount }
+    ensures value { result ≡ register_form 0x1B funct3 funct7 rd rs1 amount }
     ensures fit { Fit result }
     ensures valid { (rd < 32) × (rs1 < 32) × (amount < 32) }
 {

@@ -1,4 +1,4 @@
-use Rattle.std.proofs.Common.{◌≡◌, ap, sym, ◌∙◌}
+use Rattle.std.proofs.Common.{◌≡◌, ap, ◌∙◌}
 use Rattle.rv_isa.specs.Decoding.{decode_of, inst_of}
 use Rattle.rv_isa.specs.Encoding.{encode_of}
 use Rattle.rv_isa.specs.Table.{IsWordOf}

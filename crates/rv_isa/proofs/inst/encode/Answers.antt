@@ -1,6 +1,6 @@
-use Rattle.std.proofs.Common.{ℕ, ◌≡◌, Some, ap, sym, ◌∙◌}
-use Rattle.rv_isa.specs.Fields.{word_of, Fit}
-use Rattle.rv_isa.specs.Encoding.{encode_of, inst_fields}
+use Rattle.std.proofs.Common.{◌≡◌, Some, ap, sym, ◌∙◌}
+use Rattle.rv_isa.specs.Fields.{word_of}
+use Rattle.rv_isa.specs.Encoding.{encode_of}
 use Rattle.rv_isa.specs.Decoding.{decode_of}
 use Rattle.rv_isa.proofs.RoundTrip.{fit_inst_fields, decoded_is_row, row_is_encoded, decode_of-encode_of}
 use Rattle.rv_isa.proofs.inst.encode.Goals as goal
