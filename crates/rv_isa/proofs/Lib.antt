@@ -1,0 +1,4 @@
+pub mod SignedBits
+pub mod Decoded
+pub mod Rows
+pub mod RoundTrip
