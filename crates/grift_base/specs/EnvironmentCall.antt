@@ -60,3 +60,14 @@ Prints number = IsTrue ((number == 1) || (number == 2))
 abbrev pub MakesCall : Called → ℕ → WorldState → EnvEffect → WorldState → Type 0
 MakesCall c number old OutOfMemory new = Prints number × (new ≡ old)
 MakesCall c number old effect new = (effect ≡ c.effect) × (new ≡ c.world)
+
+-- only a call that goes on changes the outside
+abbrev pub StaysUnlessNext : EnvEffect → WorldState → WorldState → Type 0
+StaysUnlessNext (Next a0 a1) old new = Unit {0}
+StaysUnlessNext (Ended answer) old new = new ≡ old
+StaysUnlessNext (Blamed label) old new = new ≡ old
+StaysUnlessNext (Trapped trap) old new = new ≡ old
+StaysUnlessNext RegionOut old new = new ≡ old
+StaysUnlessNext StackOut old new = new ≡ old
+StaysUnlessNext Refused old new = new ≡ old
+StaysUnlessNext OutOfMemory old new = new ≡ old

@@ -4,7 +4,7 @@ ghost use Rattle.std.specs.Prelude.{◌≡◌, ◌≤◌, ◌<◌, ◌%◌, nat_
 ghost use Rattle.std.specs.Fmt.{signed_decimal};
 ghost use Rattle.std.specs.Int.{cast_signed, w64};
 ghost use Rattle.grift_base.specs.World.{WorldState, printing};
-ghost use Rattle.grift_base.specs.EnvironmentCall.{environment_call, ends, traps, Called, MakesCall};
+ghost use Rattle.grift_base.specs.EnvironmentCall.{environment_call, ends, traps, Called, MakesCall, StaysUnlessNext};
 
 use crate::lists::{Bytes, OutOfMemory};
 use crate::verdicts::{Answer, AnswerKind, Trap};
@@ -89,7 +89,7 @@ impl World {
     #[tactic(auto, unfolding(crate::specs::EnvironmentCall::environment_call))]
     pub fn env(&mut self, number: u64, a0: u64, a1: u64, labels: u32) -> EnvEffect
         ensures call { MakesCall (environment_call number a0 a1 labels self.old) number self.old result self.new }
-        ensures refused { result ≡ EnvEffect.Refused → self.new ≡ self.old }
+        ensures stays { StaysUnlessNext result self.old self.new }
     {
         match number {
             0 => ended(a0, a1),
