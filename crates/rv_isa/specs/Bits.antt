@@ -1,11 +1,11 @@
--- Bits of a word, and signed numbers as bits.
+-- Bits of a word, and signed numbers as bits. The width of a signed number is told by half the count of its
+-- values: 2048 for 12 bits.
 use Rattle.std.specs.Prelude.{ℕ, suc, ◌-◌, ◌*◌, ◌/◌, ◌%◌, ◌^◌, ◌<◌, ◌≡◌, unsigned_abs, ℤ, pos, negsuc, nat_lt, if◌then◌else◌}
 
 -- the number that `count` bits of the word make, from the bit `low` up
 abbrev pub bits : ℕ → ℕ → ℕ → ℕ
 bits word low count = word / 2 ^ low % 2 ^ count
 
--- The width of a signed number is told by half the count of its values: 2048 for 12 bits.
 -- the signed number that has these bits
 abbrev pub signed : ℕ → ℕ → ℤ
 signed half n = if nat_lt n half then pos n else negsuc (2 * half - suc n)

@@ -22,7 +22,10 @@ upper_in f = f.funct3 + 8 * f.rs1 + 256 * f.rs2 + 8192 * f.funct7
 
 abbrev pub jump_offset_in : Fields → ℤ
 jump_offset_in f =
-    signed 1048576 (2 * (f.rs2 / 2) + 32 * (f.funct7 % 64) + 2048 * (f.rs2 % 2) + 4096 * f.funct3 + 32768 * f.rs1 + 1048576 * (f.funct7 / 64))
+    signed 1048576 (
+    2 * (f.rs2 / 2) + 32 * (f.funct7 % 64) + 2048 * (f.rs2 % 2) + 4096 * f.funct3 + 32768 * f.rs1
+    + 1048576 * (f.funct7 / 64)
+    )
 
 abbrev pub shift_amount_in : Fields → ℕ
 shift_amount_in f = f.rs2 + 32 * (f.funct7 % 2)
