@@ -1,0 +1,6 @@
+pub mod Based
+pub mod Calls
+pub mod Sound
+pub mod Runs
+pub mod Start
+pub mod LittleEndian

@@ -1,0 +1,28 @@
+-- What an action of the program is as a turn.
+use Rattle.grift_base.specs.EnvironmentCall.{Prints}
+use Rattle.rv_machine.specs.State.{State, Turn, Next, reg}
+use Rattle.rv_machine.specs.Turn.{put, load_into, store_from, branch_if, jump_and_link, next_pc, call_environment, is_undefined}
+use Rattle.rv_emulator.specs.declared.processor.Action.{Action}
+use Rattle.rv_emulator.specs.declared.processor.Action.TheVariants.{Put, Load, Store, Branch, Jump, Skip, Call, Refuse}
+use Rattle.rv_emulator.specs.Widths.{width_of}
+
+abbrev pub performed : Action → State → Turn
+performed (Put rd word) s = put rd word s
+performed (Load rd at width signed) s = load_into signed (width_of width) rd at s
+performed (Store word at width) s = store_from (width_of width) word at s
+performed (Branch taken offset) s = branch_if taken offset s
+performed (Jump rd target) s = jump_and_link rd target s
+performed Skip s = Next (record s { pc = next_pc s })
+performed Call s = call_environment s
+performed Refuse s = is_undefined s
+
+-- the action prints
+abbrev pub PrintsBy : Action → State → Type 0
+PrintsBy (Put rd word) s = ⊥
+PrintsBy (Load rd at width signed) s = ⊥
+PrintsBy (Store word at width) s = ⊥
+PrintsBy (Branch taken offset) s = ⊥
+PrintsBy (Jump rd target) s = ⊥
+PrintsBy Skip s = ⊥
+PrintsBy Call s = Prints (reg s 17)
+PrintsBy Refuse s = ⊥

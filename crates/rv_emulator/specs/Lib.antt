@@ -1,0 +1,5 @@
+pub mod Widths
+pub mod Registers
+pub mod Processor
+pub mod Made
+pub mod Actions

@@ -1,0 +1,28 @@
+-- What the emulator keeps, as a state of the machine.
+use Rattle.std.specs.Prelude.{ℕ, ◌+◌, ◌*◌, ◌%◌, ◌<◌, ◌≤◌, ◌≡◌, length}
+use Rattle.rv_machine.specs.Memory.{Memory, from_base}
+use Rattle.rv_machine.specs.State.{State}
+use Rattle.rv_emulator.specs.declared.processor.Processor.{Processor}
+use Rattle.rv_emulator.specs.declared.processor.Places.{Places}
+use Rattle.rv_emulator.specs.Registers.{regs_of}
+
+-- told what bytes the memory has
+abbrev pub state_of : {R : Type 0} → (R → Memory) → Processor R → State
+state_of memory p = record {
+  layout = record { code = p.places.code; region = p.places.region; end = p.places.end; labels = p.labels };
+  pc = p.pc;
+  regs = regs_of p.regs;
+  memory = from_base (memory p.ram);
+  world = p.world;
+}
+
+-- the parts of memory lie in order and fill it, and the pc is that of an instruction
+pub record IsSound (bytes : ℕ) (places : Places) (label_count pc : ℕ) : Type 0 where
+  pub start : 65536 ≤ places.code
+  pub code : places.code % 4 ≡ 0
+  pub region : places.region % 4 ≡ 0
+  pub order : places.code ≤ places.region
+  pub room : places.region ≤ places.end
+  pub size : places.end ≡ 65536 + bytes
+  pub labels : label_count < 4294967295
+  pub aligned : pc % 4 ≡ 0

@@ -1,0 +1,187 @@
+// Images, as bytes.
+
+ghost use Rattle.std.specs.Prelude.{◌≡◌, ◌+◌, ◌*◌, ◌^◌, ◌≤◌, ◌<◌, ◌↔◌, IsSome, IsTrue, SomeIff, IfOk, length, codes, slice_get, slice_range};
+ghost use Rattle.rv_machine.specs.Image.{IsImage, image_len, statics_len, code_len, label_count, entry, loaded_part, label_at, labels_of};
+
+use crate::bytes::read;
+use grift_base::lists::{Bytes, Items, OutOfMemory};
+use grift_base::places::Pos;
+use std::alloc::Global;
+use std::marker::Model;
+
+#[cfg(test)]
+mod tests;
+
+// How many bytes the header has.
+const HEADER_LEN: usize = 64;
+
+/// An image: a header of 64 bytes, then statics, code and labels without gaps. It is the list of its bytes, whose
+/// header keeps what it promises.
+#[derive(Drop, Debug)]
+pub struct Image {
+    bytes: Bytes,
+}
+
+impl Model for Image {
+    ghost use Rattle.std.specs.Prelude.{List, ℕ};
+    ghost use Rattle.rv_machine.specs.Image.{IsImage};
+
+    ghost Value = { List ℕ };
+
+    ghost view = { λ image. image.bytes };
+
+    ghost invariant = { λ image. IsImage image.bytes };
+}
+
+impl Image {
+    /// The image with these bytes.
+    pub fn new(bytes: Bytes) -> Image
+        requires { IsImage bytes }
+        ensures { result ≡ bytes }
+    {
+        Image { bytes }
+    }
+
+    /// All bytes, the header's first.
+    pub fn bytes(&self) -> &[u8]
+        ensures value { result.now ≡ self.now }
+        ensures sound { IsImage self.now }
+    {
+        self.bytes.as_slice()
+    }
+
+    /// How many bytes the statics have, a multiple of 8.
+    pub fn statics_len(&self) -> u64
+        ensures { result ≡ statics_len self.now }
+    {
+        read::<8>(self.bytes(), 16)
+    }
+
+    /// How many bytes the code has, a multiple of 8 and at least 8.
+    pub fn code_len(&self) -> u64
+        ensures { result ≡ code_len self.now }
+    {
+        read::<8>(self.bytes(), 24)
+    }
+
+    /// How many labels there are.
+    pub fn label_count(&self) -> u32
+        ensures value { result ≡ label_count self.now }
+        ensures small { result < 4294967295 }
+    {
+        read::<8>(self.bytes(), 32) as u32
+    }
+
+    /// The offset in code at which it starts, a multiple of 4 below the length of the code.
+    pub fn entry(&self) -> u64
+        ensures { result ≡ entry self.now }
+    {
+        read::<8>(self.bytes(), 40)
+    }
+
+    /// Statics and code, which lie in memory from its first address on.
+    pub fn loaded(&self) -> &[u8]
+        ensures value { result.now ≡ loaded_part self.now }
+        ensures len { length result.now ≡ statics_len self.now + code_len self.now }
+        ensures sound { IsImage self.now }
+    {
+        let end = self.labels_start();
+        &self.bytes()[HEADER_LEN..end]
+    }
+
+    /// The label with this number, from 0; none exactly where there are no more than `i` labels.
+    pub fn label(&self, i: u32) -> Option<Pos>
+        ensures value { result ≡ slice_get (labels_of self.now) i }
+        ensures some { IsSome result ↔ (i < label_count self.now) }
+    {
+        if self.label_count() <= i {
+            return None;
+        }
+        let bytes = self.bytes();
+        Some(label_at(bytes, self.labels_start() + 8 * i as usize))
+    }
+
+    /// All labels in order.
+    pub fn labels(&self, alloc: Global) -> Result<Items<Pos>, OutOfMemory>
+        ensures { IfOk result (λ labels. labels ≡ labels_of self.now) }
+    {
+        let bytes = self.bytes();
+        let start = self.labels_start();
+        let mut labels = Items::new(alloc);
+        for i in 0..self.label_count() {
+            labels.push(label_at(bytes, start + 8 * i as usize))?;
+        }
+        Ok(labels)
+    }
+
+    // Where the labels begin.
+    fn labels_start(&self) -> usize
+        ensures value { result ≡ 64 + statics_len self.now + code_len self.now }
+        ensures sections { result + 8 * label_count self.now ≡ length self.now }
+    {
+        self.bytes().len() - 8 * self.label_count() as usize
+    }
+}
+
+/// Whether these bytes are an image.
+pub fn is_image(bytes: &[u8]) -> bool
+    ensures { IsTrue result ↔ IsImage bytes.now }
+{
+    has_magic(bytes) && has_whole_len(bytes) && has_sections(bytes)
+}
+
+// Whether they begin as every image does.
+fn has_magic(bytes: &[u8]) -> bool
+    ensures { IsTrue result ↔ (slice_range bytes.now 0 8 ≡ codes "GRIFTRV1") }
+{
+    bytes.starts_with(b"GRIFTRV1")
+}
+
+// Whether there is a header, and it tells their number.
+fn has_whole_len(bytes: &[u8]) -> bool
+    ensures { IsTrue result ↔ ((64 ≤ length bytes.now) × (image_len bytes.now ≡ length bytes.now)) }
+{
+    HEADER_LEN <= bytes.len() && read::<8>(bytes, 8) == bytes.len() as u64
+}
+
+// Whether the rest of the header is that of an image.
+fn has_sections(bytes: &[u8]) -> bool
+    requires magic { slice_range bytes.now 0 8 ≡ codes "GRIFTRV1" }
+    requires whole { (64 ≤ length bytes.now) × (image_len bytes.now ≡ length bytes.now) }
+    ensures { IsTrue result ↔ IsImage bytes.now }
+{
+    let statics = read::<8>(bytes, 16);
+    let code = read::<8>(bytes, 24);
+    let labels = read::<8>(bytes, 32);
+    let entry = read::<8>(bytes, 40);
+    statics % 8 == 0
+        && code % 8 == 0
+        && 8 <= code
+        && labels < 4_294_967_295
+        && entry % 4 == 0
+        && entry < code
+        && read::<8>(bytes, 48) == 0
+        && read::<8>(bytes, 56) == 0
+        && sections_len(statics, code, labels) == Some(bytes.len() as u64)
+}
+
+// How many bytes an image with such sections has, where the number fits.
+fn sections_len(statics: u64, code: u64, labels: u64) -> Option<u64>
+    requires { labels < 4294967295 }
+    ensures { SomeIff result (64 + statics + code + 8 * labels < 2 ^ 64) (64 + statics + code + 8 * labels) }
+{
+    statics
+        .checked_add(code)?
+        .checked_add(HEADER_LEN as u64 + 8 * labels)
+}
+
+// The label whose line and column begin at this place.
+fn label_at(bytes: &[u8], at: usize) -> Pos
+    requires { at + 8 ≤ length bytes.now }
+    ensures { result ≡ label_at bytes.now at }
+{
+    Pos {
+        line: read::<4>(bytes, at) as u32,
+        col: read::<4>(bytes, at + 4) as u32,
+    }
+}

@@ -1,0 +1,163 @@
+// The machine, whose parts fit together.
+
+ghost use Rattle.std.specs.Prelude.{◌≡◌, ◌≤◌, ◌<◌, ◌+◌, ◌%◌, ◌*◌, ◌^◌, ℕ, length, true, IfOk, OnOk};
+ghost use Rattle.rv_machine.specs.Memory.{memory_of};
+ghost use Rattle.rv_machine.specs.Image.{IsImage, statics_len, code_len};
+ghost use Rattle.rv_machine.specs.Start.{IsRegionSize, IsStackSize, start_regs, start_of};
+ghost use Rattle.rv_machine.specs.State.{reg};
+ghost use Rattle.rv_emulator.specs.Registers.{regs_of};
+ghost use Rattle.rv_emulator.specs.Processor.{state_of};
+ghost use Rattle.rv_emulator.specs.Made.{Ran};
+
+use crate::image::Image;
+use crate::processor::{BASE, Places, Processor};
+use crate::ram::{Ram, Width};
+use crate::registers::Registers;
+use crate::stops::Stop;
+use grift_base::lists::OutOfMemory;
+use grift_base::worlds::World;
+use rv_isa::number::Reg;
+use std::alloc::Global;
+use std::marker::Model;
+
+#[cfg(test)]
+mod tests;
+
+/// A machine with an image loaded, over any memory.
+#[derive(Drop)]
+pub struct Machine<R: Ram> {
+    processor: Processor<R>,
+}
+
+impl<R: Ram> Model for Machine<R> {
+    ghost use Rattle.std.specs.Prelude.{length};
+    ghost use Rattle.rv_emulator.specs.declared.processor.Processor.{Processor};
+
+    ghost Value = { Processor R };
+
+    ghost use Rattle.rv_emulator.specs.Processor.{IsSound};
+
+    ghost view = { λ m. m.processor };
+
+    ghost invariant = { λ m. IsSound (R.bytes_len m.processor.ram) m.processor.places (length m.processor.labels) m.processor.pc };
+}
+
+impl<R: Ram + Drop> Machine<R> {
+    /// The machine in the start state of an image, over a memory that is all zero, with a region and a
+    /// stack of these many bytes.
+    pub fn load(
+        alloc: Global,
+        image: &Image,
+        ram: R,
+        region: u64,
+        stack: u64,
+        world: World,
+    ) -> Result<Machine<R>, OutOfMemory>
+        requires zero { (i : ℕ) → R.memory ram i ≡ 0 }
+        requires region { IsRegionSize region }
+        requires stack { IsStackSize stack }
+        requires size { R.bytes_len ram ≡ statics_len image.now + code_len image.now + region + stack }
+        ensures { IfOk result (λ m. state_of R.memory m ≡ start_of image.now region stack world) }
+    {
+        let mut ram = ram;
+        fill(&mut ram, image.loaded())?;
+        let labels = image.labels(alloc)?;
+        let places = places_of(image, region, stack);
+        Ok(Machine {
+            processor: Processor {
+                places,
+                labels,
+                pc: places.code + image.entry(),
+                regs: start_registers(places.region, region, stack),
+                ram,
+                world,
+            },
+        })
+    }
+}
+
+// Where the parts of memory lie.
+fn places_of(image: &Image, region: u64, stack: u64) -> Places
+    requires region { IsRegionSize region }
+    requires stack { IsStackSize stack }
+    ensures code { result.code ≡ 65536 + statics_len image.now }
+    ensures region { result.region ≡ 65536 + statics_len image.now + code_len image.now }
+    ensures end { result.end ≡ result.region + region + stack }
+    ensures sound { IsImage image.now }
+    ensures small { result.end < 2 ^ 64 }
+{
+    let code_end = BASE + image.loaded().len() as u64;
+    Places {
+        code: code_end - image.code_len(),
+        region: code_end,
+        end: code_end + region + stack,
+    }
+}
+
+// The registers at the start: x2 is the end of memory, x25 the stack's low end, x26 the region's start and
+// x27 its end.
+fn start_registers(start: u64, region: u64, stack: u64) -> Registers
+    requires { start + region + stack < 2 ^ 64 }
+    ensures { regs_of result ≡ start_regs start region stack }
+{
+    let top = start + region;
+    let mut regs = Registers::new();
+    regs.write(2, top + stack);
+    regs.write(25, top);
+    regs.write(26, start);
+    regs.write(27, top);
+    regs
+}
+
+impl<R: Ram> Machine<R> {
+    /// Runs at most this many instructions; one that stops counts. Every stop leaves registers, memory,
+    /// world and pc as before the instruction that stopped, and a later run goes on from there. Want of
+    /// memory comes only at an instruction that prints, or where the ram isn't whole.
+    pub fn run(&mut self, steps: u64) -> Stop
+        ensures ran { Ran (R.whole self.new.ram) steps (state_of R.memory self.old) result (state_of R.memory self.new) }
+        ensures stays_whole { R.whole self.old.ram ≡ true → R.whole self.new.ram ≡ true }
+    {
+        self.processor.run(steps)
+    }
+
+    /// What a register reads as.
+    pub fn reg(&self, register: Reg) -> u64
+        ensures { result ≡ reg (state_of R.memory self.now) register }
+    {
+        self.processor.get(register)
+    }
+
+    /// The address of the next instruction.
+    pub fn pc(&self) -> u64
+        ensures { result ≡ (state_of R.memory self.now).pc }
+    {
+        self.processor.pc
+    }
+
+    /// What the program printed, and its input.
+    pub fn world(&self) -> &World
+        ensures { result.now ≡ (state_of R.memory self.now).world }
+    {
+        &self.processor.world
+    }
+
+    /// The memory, whose address 0 is the machine's first address.
+    pub fn ram(&self) -> &R
+        ensures { result.now ≡ self.now.ram }
+    {
+        &self.processor.ram
+    }
+}
+
+// Writes these bytes at the front of a memory that is all zero.
+fn fill<R: Ram>(ram: &mut R, bytes: &[u8]) -> Result<(), OutOfMemory>
+    requires zero { (i : ℕ) → R.memory ram.old i ≡ 0 }
+    requires size { length bytes.now ≤ R.bytes_len ram.old }
+    ensures memory { OnOk result (R.memory ram.new ≡ memory_of bytes.now) }
+    ensures len { R.bytes_len ram.new ≡ R.bytes_len ram.old }
+{
+    for i in 0..bytes.len() {
+        ram.store(i as u64, Width::B1, bytes[i] as u64)?;
+    }
+    Ok(())
+}

@@ -1,0 +1,412 @@
+// One turn after another.
+
+ghost use Rattle.std.specs.Prelude.{◌≡◌, ◌<◌, ◌-◌, ◌*◌, ◌%◌, ◌^◌, ℕ, length, true};
+ghost use Rattle.std.specs.Int.{byte_len};
+ghost use Rattle.rv_machine.specs.Turn.{half, word_of, plus, next_pc, put, load_into, store_from, branch_if, jump_and_link, call_environment, act, turn_of};
+ghost use Rattle.rv_machine.specs.State.{Next, reg};
+ghost use Rattle.grift_base.specs.EnvironmentCall.{Prints};
+ghost use Rattle.rv_emulator.specs.Widths.{width_of};
+ghost use Rattle.rv_emulator.specs.Processor.{state_of, IsSound};
+ghost use Rattle.rv_emulator.specs.Made.{Made, Ran, PrintsAt, PrintsNext};
+ghost use Rattle.rv_emulator.specs.Actions.{performed, PrintsBy};
+
+use crate::ram::{Ram, Width};
+use crate::registers::Registers;
+use crate::stops::Stop;
+use crate::words::{
+    extend, extend_half, flag_of, half_shifted_left, half_shifted_right, half_shifted_right_signed,
+    is_less_signed, lower, shifted_left, shifted_right, shifted_right_signed,
+};
+use grift_base::lists::Items;
+use grift_base::places::Pos;
+use grift_base::worlds::{EnvEffect, World};
+use rv_isa::inst::{Inst, decode};
+use rv_isa::number::{Imm12, Imm13, Reg, Upper};
+
+/// The first address of memory.
+pub const BASE: u64 = 65536;
+
+/// Where code begins, where it ends and the region begins, and where memory ends.
+#[derive(Clone, Copy, PartialEq, Eq, Debug)]
+pub struct Places {
+    pub code: u64,
+    pub region: u64,
+    pub end: u64,
+}
+
+/// What an instruction does, with its operands read.
+#[derive(Clone, Copy, PartialEq, Eq, Debug)]
+pub enum Action {
+    /// A register takes a word.
+    Put(Reg, u64),
+    /// A register takes the number of this width at an address, sign-extended where it is signed.
+    Load(Reg, u64, Width, bool),
+    /// The lowest bytes of a word go to an address.
+    Store(u64, u64, Width),
+    /// The pc moves by the offset, where the branch is taken.
+    Branch(bool, Imm13),
+    /// The pc goes to the target, and a register takes the address of the next instruction.
+    Jump(Reg, u64),
+    /// Nothing but the pc changes.
+    Skip,
+    /// The environment is called.
+    Call,
+    /// It stops as undefined.
+    Refuse,
+}
+
+/// What the machine keeps.
+#[derive(Drop)]
+pub struct Processor<R> {
+    pub places: Places,
+    pub labels: Items<Pos>,
+    pub pc: u64,
+    pub regs: Registers,
+    pub ram: R,
+    pub world: World,
+}
+
+impl<R: Ram> Processor<R> {
+    // Goes on at the next instruction, with a register changed.
+    fn put(&mut self, rd: Reg, word: u64) -> Option<Stop>
+        ensures made { Made (R.whole self.new.ram) ⊥ (put rd word (state_of R.memory self.old)) (state_of R.memory self.old) result (state_of R.memory self.new) }
+        ensures ram { self.new.ram ≡ self.old.ram }
+    {
+        self.regs.set(rd, word);
+        self.pc = self.pc.wrapping_add(4);
+        None
+    }
+
+    // Reads a number into a register.
+    fn load_into(&mut self, rd: Reg, at: u64, width: Width, signed: bool) -> Option<Stop>
+        requires { IsSound (R.bytes_len self.old.ram) self.old.places (length self.old.labels) self.old.pc }
+        ensures made { Made (R.whole self.new.ram) ⊥ (load_into signed (width_of width) rd at (state_of R.memory self.old)) (state_of R.memory self.old) result (state_of R.memory self.new) }
+        ensures ram { self.new.ram ≡ self.old.ram }
+    {
+        let bytes = width.bytes();
+        if at % bytes != 0 {
+            return Some(Stop::Misaligned(self.pc));
+        }
+        if at < BASE || self.places.end - bytes < at {
+            return Some(Stop::BadAddress(self.pc));
+        }
+        let word = extend(self.ram.load(at - BASE, width), width, signed);
+        self.put(rd, word)
+    }
+
+    // Writes the lowest bytes of a word.
+    fn store_from(&mut self, word: u64, to: u64, width: Width) -> Option<Stop>
+        requires { IsSound (R.bytes_len self.old.ram) self.old.places (length self.old.labels) self.old.pc }
+        ensures made { Made (R.whole self.new.ram) ⊥ (store_from (width_of width) word to (state_of R.memory self.old)) (state_of R.memory self.old) result (state_of R.memory self.new) }
+        ensures len { R.bytes_len self.new.ram ≡ R.bytes_len self.old.ram }
+        ensures stays_whole { R.whole self.old.ram ≡ true → R.whole self.new.ram ≡ true }
+    {
+        let bytes = width.bytes();
+        if to % bytes != 0 {
+            return Some(Stop::Misaligned(self.pc));
+        }
+        if to < self.places.region || self.places.end - bytes < to {
+            return Some(Stop::BadAddress(self.pc));
+        }
+        match self.ram.store(to - BASE, width, word) {
+            Ok(()) => {
+                self.pc = self.pc.wrapping_add(4);
+                None
+            }
+            Err(_) => Some(Stop::OutOfMemory),
+        }
+    }
+
+    fn branch_if(&mut self, taken: bool, offset: Imm13) -> Option<Stop>
+        ensures made { Made (R.whole self.new.ram) ⊥ (branch_if taken offset (state_of R.memory self.old)) (state_of R.memory self.old) result (state_of R.memory self.new) }
+        ensures ram { self.new.ram ≡ self.old.ram }
+    {
+        if !taken {
+            self.pc = self.pc.wrapping_add(4);
+            return None;
+        }
+        let target = self.pc.wrapping_add_signed(offset.get());
+        if target % 4 != 0 {
+            return Some(Stop::Misaligned(self.pc));
+        }
+        self.pc = target;
+        None
+    }
+
+    // Jumps, and keeps the address of the next instruction in a register.
+    fn jump_and_link(&mut self, rd: Reg, target: u64) -> Option<Stop>
+        ensures made { Made (R.whole self.new.ram) ⊥ (jump_and_link rd target (state_of R.memory self.old)) (state_of R.memory self.old) result (state_of R.memory self.new) }
+        ensures ram { self.new.ram ≡ self.old.ram }
+    {
+        if target % 4 != 0 {
+            return Some(Stop::Misaligned(self.pc));
+        }
+        self.regs.set(rd, self.pc.wrapping_add(4));
+        self.pc = target;
+        None
+    }
+
+    // Makes an environment call.
+    fn call_environment(&mut self) -> Option<Stop>
+        requires { IsSound (R.bytes_len self.old.ram) self.old.places (length self.old.labels) self.old.pc }
+        ensures made { Made (R.whole self.new.ram) (Prints (reg (state_of R.memory self.old) 17)) (call_environment (state_of R.memory self.old)) (state_of R.memory self.old) result (state_of R.memory self.new) }
+        ensures ram { self.new.ram ≡ self.old.ram }
+    {
+        let number = self.regs.read(17);
+        let first = self.regs.read(10);
+        let second = self.regs.read(11);
+        match self
+            .world
+            .env(number, first, second, self.labels.len() as u32)
+        {
+            EnvEffect::Next(a0, a1) => {
+                self.regs.write(10, a0);
+                self.regs.write(11, a1);
+                self.pc = self.pc.wrapping_add(4);
+                None
+            }
+            EnvEffect::Ended(answer) => Some(Stop::Ended(answer)),
+            EnvEffect::Blamed(label) => match self.labels.get(u64::from(label)) {
+                Some(place) => Some(Stop::Blamed(*place)),
+                None => Some(Stop::Undefined(self.pc)),
+            },
+            EnvEffect::Trapped(trap) => Some(Stop::Trapped(trap)),
+            EnvEffect::RegionOut => Some(Stop::RegionOut),
+            EnvEffect::StackOut => Some(Stop::StackOut),
+            EnvEffect::Refused => Some(Stop::Undefined(self.pc)),
+            EnvEffect::OutOfMemory => Some(Stop::OutOfMemory),
+        }
+    }
+
+    /// Makes at most these many turns.
+    pub fn run(&mut self, steps: u64) -> Stop
+        requires { IsSound (R.bytes_len self.old.ram) self.old.places (length self.old.labels) self.old.pc }
+        ensures ran { Ran (R.whole self.new.ram) steps (state_of R.memory self.old) result (state_of R.memory self.new) }
+        ensures sound { IsSound (R.bytes_len self.new.ram) self.new.places (length self.new.labels) self.new.pc }
+        ensures stays_whole { R.whole self.old.ram ≡ true → R.whole self.new.ram ≡ true }
+    {
+        for _ in 0..steps {
+            if let Some(stop) = self.turn() {
+                return stop;
+            }
+        }
+        Stop::StepsSpent
+    }
+
+    // One turn.
+    fn turn(&mut self) -> Option<Stop>
+        requires { IsSound (R.bytes_len self.old.ram) self.old.places (length self.old.labels) self.old.pc }
+        ensures made { Made (R.whole self.new.ram) (PrintsNext (state_of R.memory self.old)) (turn_of (state_of R.memory self.old)) (state_of R.memory self.old) result (state_of R.memory self.new) }
+        ensures sound { IsSound (R.bytes_len self.new.ram) self.new.places (length self.new.labels) self.new.pc }
+        ensures stays_whole { R.whole self.old.ram ≡ true → R.whole self.new.ram ≡ true }
+    {
+        if self.pc < self.places.code || self.places.region <= self.pc {
+            return Some(Stop::BadAddress(self.pc));
+        }
+        let word = self.ram.load(self.pc - BASE, Width::B4);
+        match decode(word as u32) {
+            Some(i) => {
+                let action = self.action(i);
+                self.perform(action)
+            }
+            None => Some(Stop::Undefined(self.pc)),
+        }
+    }
+
+    // What a register reads as.
+    pub fn get(&self, register: Reg) -> u64
+        ensures { result ≡ reg (state_of R.memory self.now) register }
+    {
+        self.regs.get(register)
+    }
+
+    // The sum of a register and an immediate, which wraps.
+    fn at(&self, register: Reg, offset: Imm12) -> u64
+        ensures { result ≡ plus (reg (state_of R.memory self.now) register) offset }
+    {
+        self.regs.get(register).wrapping_add_signed(offset.get())
+    }
+
+    // The amount of a shift by a register, below this width.
+    fn amount(&self, register: Reg, width: u32) -> u32
+        requires { 0 < width }
+        ensures value { result ≡ reg (state_of R.memory self.now) register % width }
+        ensures below { result < width }
+    {
+        (self.regs.get(register) % u64::from(width)) as u32
+    }
+
+    // Goes on at the next instruction.
+    fn skip(&mut self) -> Option<Stop>
+        ensures made { Made (R.whole self.new.ram) ⊥ (Next (record (state_of R.memory self.old) { pc = next_pc (state_of R.memory self.old) })) (state_of R.memory self.old) result (state_of R.memory self.new) }
+        ensures ram { self.new.ram ≡ self.old.ram }
+    {
+        self.pc = self.pc.wrapping_add(4);
+        None
+    }
+
+    // What an instruction does, with its operands read.
+    fn action(&self, i: Inst) -> Action
+        ensures value { performed result (state_of R.memory self.now) ≡ act i (state_of R.memory self.now) }
+        ensures prints { PrintsBy result (state_of R.memory self.now) → PrintsAt i (state_of R.memory self.now) }
+    {
+        match i {
+            Inst::Lui(rd, upper) => Action::Put(rd, upper_word(upper)),
+            Inst::Auipc(rd, upper) => Action::Put(rd, self.pc.wrapping_add(upper_word(upper))),
+            Inst::Jal(rd, offset) => Action::Jump(rd, self.pc.wrapping_add_signed(offset.get())),
+            Inst::Jalr(rd, rs1, offset) => Action::Jump(rd, even(self.at(rs1, offset))),
+            Inst::Beq(rs1, rs2, offset) => Action::Branch(self.get(rs1) == self.get(rs2), offset),
+            Inst::Bne(rs1, rs2, offset) => Action::Branch(self.get(rs1) != self.get(rs2), offset),
+            Inst::Blt(rs1, rs2, offset) => Action::Branch(
+                is_less_signed(self.get(rs1), self.get(rs2)),
+                offset,
+            ),
+            Inst::Bge(rs1, rs2, offset) => Action::Branch(
+                !is_less_signed(self.get(rs1), self.get(rs2)),
+                offset,
+            ),
+            Inst::Bltu(rs1, rs2, offset) => Action::Branch(self.get(rs1) < self.get(rs2), offset),
+            Inst::Bgeu(rs1, rs2, offset) => Action::Branch(self.get(rs1) >= self.get(rs2), offset),
+            Inst::Lb(rd, rs1, offset) => Action::Load(rd, self.at(rs1, offset), Width::B1, true),
+            Inst::Lh(rd, rs1, offset) => Action::Load(rd, self.at(rs1, offset), Width::B2, true),
+            Inst::Lw(rd, rs1, offset) => Action::Load(rd, self.at(rs1, offset), Width::B4, true),
+            Inst::Ld(rd, rs1, offset) => Action::Load(rd, self.at(rs1, offset), Width::B8, false),
+            Inst::Lbu(rd, rs1, offset) => Action::Load(rd, self.at(rs1, offset), Width::B1, false),
+            Inst::Lhu(rd, rs1, offset) => Action::Load(rd, self.at(rs1, offset), Width::B2, false),
+            Inst::Lwu(rd, rs1, offset) => Action::Load(rd, self.at(rs1, offset), Width::B4, false),
+            Inst::Sb(rs2, rs1, offset) => Action::Store(
+                self.get(rs2),
+                self.at(rs1, offset),
+                Width::B1,
+            ),
+            Inst::Sh(rs2, rs1, offset) => Action::Store(
+                self.get(rs2),
+                self.at(rs1, offset),
+                Width::B2,
+            ),
+            Inst::Sw(rs2, rs1, offset) => Action::Store(
+                self.get(rs2),
+                self.at(rs1, offset),
+                Width::B4,
+            ),
+            Inst::Sd(rs2, rs1, offset) => Action::Store(
+                self.get(rs2),
+                self.at(rs1, offset),
+                Width::B8,
+            ),
+            Inst::Addi(rd, rs1, imm) => Action::Put(rd, self.at(rs1, imm)),
+            Inst::Slti(rd, rs1, imm) => Action::Put(
+                rd,
+                flag_of(self.get(rs1).cast_signed() < imm.get()),
+            ),
+            Inst::Sltiu(rd, rs1, imm) => Action::Put(rd, flag_of(self.get(rs1) < word_of(imm))),
+            Inst::Xori(rd, rs1, imm) => Action::Put(rd, self.get(rs1) ^ word_of(imm)),
+            Inst::Ori(rd, rs1, imm) => Action::Put(rd, self.get(rs1) | word_of(imm)),
+            Inst::Andi(rd, rs1, imm) => Action::Put(rd, self.get(rs1) & word_of(imm)),
+            Inst::Slli(rd, rs1, by) => Action::Put(rd, shifted_left(self.get(rs1), by.bits())),
+            Inst::Srli(rd, rs1, by) => Action::Put(rd, shifted_right(self.get(rs1), by.bits())),
+            Inst::Srai(rd, rs1, by) => Action::Put(
+                rd,
+                shifted_right_signed(self.get(rs1), by.bits()),
+            ),
+            Inst::Add(rd, rs1, rs2) => Action::Put(rd, self.get(rs1).wrapping_add(self.get(rs2))),
+            Inst::Sub(rd, rs1, rs2) => Action::Put(rd, self.get(rs1).wrapping_sub(self.get(rs2))),
+            Inst::Sll(rd, rs1, rs2) => Action::Put(
+                rd,
+                shifted_left(self.get(rs1), self.amount(rs2, 64)),
+            ),
+            Inst::Slt(rd, rs1, rs2) => Action::Put(
+                rd,
+                flag_of(is_less_signed(self.get(rs1), self.get(rs2))),
+            ),
+            Inst::Sltu(rd, rs1, rs2) => Action::Put(rd, flag_of(self.get(rs1) < self.get(rs2))),
+            Inst::Xor(rd, rs1, rs2) => Action::Put(rd, self.get(rs1) ^ self.get(rs2)),
+            Inst::Srl(rd, rs1, rs2) => Action::Put(
+                rd,
+                shifted_right(self.get(rs1), self.amount(rs2, 64)),
+            ),
+            Inst::Sra(rd, rs1, rs2) => Action::Put(
+                rd,
+                shifted_right_signed(self.get(rs1), self.amount(rs2, 64)),
+            ),
+            Inst::Or(rd, rs1, rs2) => Action::Put(rd, self.get(rs1) | self.get(rs2)),
+            Inst::And(rd, rs1, rs2) => Action::Put(rd, self.get(rs1) & self.get(rs2)),
+            Inst::Addiw(rd, rs1, imm) => Action::Put(rd, extend_half(lower(self.at(rs1, imm)))),
+            Inst::Slliw(rd, rs1, by) => Action::Put(
+                rd,
+                half_shifted_left(self.get(rs1), by.bits()),
+            ),
+            Inst::Srliw(rd, rs1, by) => Action::Put(
+                rd,
+                half_shifted_right(self.get(rs1), by.bits()),
+            ),
+            Inst::Sraiw(rd, rs1, by) => Action::Put(
+                rd,
+                half_shifted_right_signed(self.get(rs1), by.bits()),
+            ),
+            Inst::Addw(rd, rs1, rs2) => Action::Put(
+                rd,
+                extend_half(lower(self.get(rs1).wrapping_add(self.get(rs2)))),
+            ),
+            Inst::Subw(rd, rs1, rs2) => Action::Put(
+                rd,
+                extend_half(lower(self.get(rs1).wrapping_sub(self.get(rs2)))),
+            ),
+            Inst::Sllw(rd, rs1, rs2) => Action::Put(
+                rd,
+                half_shifted_left(self.get(rs1), self.amount(rs2, 32)),
+            ),
+            Inst::Srlw(rd, rs1, rs2) => Action::Put(
+                rd,
+                half_shifted_right(self.get(rs1), self.amount(rs2, 32)),
+            ),
+            Inst::Sraw(rd, rs1, rs2) => Action::Put(
+                rd,
+                half_shifted_right_signed(self.get(rs1), self.amount(rs2, 32)),
+            ),
+            Inst::Fence(_, _, _) => Action::Skip,
+            Inst::Ecall => Action::Call,
+            Inst::Ebreak => Action::Refuse,
+        }
+    }
+
+    // Does it.
+    fn perform(&mut self, action: Action) -> Option<Stop>
+        requires { IsSound (R.bytes_len self.old.ram) self.old.places (length self.old.labels) self.old.pc }
+        ensures made { Made (R.whole self.new.ram) (PrintsBy action (state_of R.memory self.old)) (performed action (state_of R.memory self.old)) (state_of R.memory self.old) result (state_of R.memory self.new) }
+        ensures len { R.bytes_len self.new.ram ≡ R.bytes_len self.old.ram }
+        ensures stays_whole { R.whole self.old.ram ≡ true → R.whole self.new.ram ≡ true }
+    {
+        match action {
+            Action::Put(rd, word) => self.put(rd, word),
+            Action::Load(rd, at, width, signed) => self.load_into(rd, at, width, signed),
+            Action::Store(word, at, width) => self.store_from(word, at, width),
+            Action::Branch(taken, offset) => self.branch_if(taken, offset),
+            Action::Jump(rd, target) => self.jump_and_link(rd, target),
+            Action::Skip => self.skip(),
+            Action::Call => self.call_environment(),
+            Action::Refuse => Some(Stop::Undefined(self.pc)),
+        }
+    }
+}
+
+// The upper 20 bits of 32, sign-extended.
+fn upper_word(upper: Upper) -> u64
+    ensures { result ≡ half (upper * 2 ^ 12) }
+{
+    extend_half(upper.bits() << 12)
+}
+
+// An immediate, sign-extended to a word.
+fn word_of(immediate: Imm12) -> u64
+    ensures { result ≡ word_of immediate }
+{
+    immediate.get().cast_unsigned()
+}
+
+// The number without its lowest bit.
+fn even(target: u64) -> u64
+    ensures { result ≡ target - target % 2 }
+{
+    target & !1
+}

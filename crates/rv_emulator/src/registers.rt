@@ -1,0 +1,52 @@
+// The registers.
+
+ghost use Rattle.std.specs.Prelude.{◌≡◌, ◌<◌};
+ghost use Rattle.rv_machine.specs.Registers.{get_reg, set_reg, zero_regs};
+ghost use Rattle.rv_emulator.specs.Registers.{regs_of};
+
+use rv_isa::number::Reg;
+
+/// 32 words, of which the first reads as 0.
+#[derive(Clone, Copy, PartialEq, Eq, Debug)]
+pub struct Registers {
+    words: [u64; 32],
+}
+
+impl Registers {
+    /// All zero.
+    pub fn new() -> Registers
+        ensures { regs_of result ≡ zero_regs }
+    {
+        Registers { words: [0; 32] }
+    }
+
+    /// What a register reads as.
+    pub fn get(&self, register: Reg) -> u64
+        ensures { result ≡ get_reg (regs_of self.now) register }
+    {
+        self.read(register.index())
+    }
+
+    /// Writes a register.
+    pub fn set(&mut self, register: Reg, word: u64)
+        ensures { regs_of self.new ≡ set_reg register word (regs_of self.old) }
+    {
+        self.write(register.index(), word);
+    }
+
+    /// What the register with this number reads as.
+    pub fn read(&self, number: usize) -> u64
+        requires { number < 32 }
+        ensures { result ≡ get_reg (regs_of self.now) number }
+    {
+        if number == 0 { 0 } else { self.words[number] }
+    }
+
+    /// Writes the register with this number.
+    pub fn write(&mut self, number: usize, word: u64)
+        requires { number < 32 }
+        ensures { regs_of self.new ≡ set_reg number word (regs_of self.old) }
+    {
+        self.words[number] = word;
+    }
+}

@@ -1,0 +1,7 @@
+pub mod Memory
+pub mod Registers
+pub mod Image
+pub mod State
+pub mod Turn
+pub mod Start
+pub mod Mach

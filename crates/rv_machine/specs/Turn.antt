@@ -1,0 +1,206 @@
+-- One turn of the machine.
+use Rattle.std.specs.Prelude.{ℕ, zero, suc, ◌+◌, ◌-◌, ◌*◌, ◌/◌, ◌%◌, ◌^◌, Bool, true, false, not, ◌&&◌, ◌==◌, nat_lt, nat_le, if◌then◌else◌, ℤ, int_lt, bit_and, bit_or, bit_xor, Option, Some, None, slice_get, length}
+use Rattle.std.specs.Int.{Width, w8, w16, w32, w64, byte_len, cast_unsigned, cast_signed, int_shr}
+use Rattle.grift_base.specs.World.{WorldState}
+use Rattle.grift_base.specs.EnvironmentCall.{Called, environment_call}
+use Rattle.grift_base.specs.declared.places.Pos.{Pos}
+use Rattle.grift_base.specs.declared.worlds.EnvEffect.{EnvEffect}
+use Rattle.grift_base.specs.declared.worlds.EnvEffect.TheVariants.{Next as GoesOn, Ended as Answers, Blamed as Blames, Trapped as Traps, RegionOut as RegionEnds, StackOut as StackEnds, Refused, OutOfMemory}
+use Rattle.rv_isa.specs.declared.inst.Inst.{Inst}
+use Rattle.rv_isa.specs.declared.inst.Inst.TheVariants.{Lui, Auipc, Jal, Jalr, Beq, Bne, Blt, Bge, Bltu, Bgeu, Lb, Lh, Lw, Ld, Lbu, Lhu, Lwu, Sb, Sh, Sw, Sd, Addi, Slti, Sltiu, Xori, Ori, Andi, Slli, Srli, Srai, Add, Sub, Sll, Slt, Sltu, Xor, Srl, Sra, Or, And, Addiw, Slliw, Srliw, Sraiw, Addw, Subw, Sllw, Srlw, Sraw, Fence, Ecall, Ebreak}
+use Rattle.rv_isa.specs.Decoding.{decode_of}
+use Rattle.rv_machine.specs.Memory.{load_bytes, store_bytes}
+use Rattle.rv_machine.specs.Registers.{set_reg}
+use Rattle.rv_machine.specs.State.{State, Halt, Ended, Blamed, Trapped, RegionOut, StackOut, Undefined, BadAddress, Misaligned, Turn, Next, Stops, reg}
+
+-- ---- words of 64 bits
+
+-- the word of a signed number
+abbrev pub word_of : ℤ → ℕ
+word_of z = cast_unsigned w64 z
+
+-- a word as a signed number
+abbrev pub signed_of : ℕ → ℤ
+signed_of a = cast_signed w64 a
+
+-- the word of a number of this width that is taken as signed
+abbrev pub sign_extend : Width → ℕ → ℕ
+sign_extend w n = cast_unsigned w64 (cast_signed w n)
+
+-- sums, which wrap
+abbrev pub add : ℕ → ℕ → ℕ
+add a b = (a + b) % 2 ^ 64
+
+abbrev pub plus : ℕ → ℤ → ℕ
+plus a z = (a + word_of z) % 2 ^ 64
+
+abbrev pub subtract : ℕ → ℕ → ℕ
+subtract a b = (a + (2 ^ 64 - b)) % 2 ^ 64
+
+-- 1 for what holds, and else 0
+abbrev pub flag : Bool → ℕ
+flag b = if b then 1 else 0
+
+abbrev pub signed_less : ℕ → ℕ → Bool
+signed_less a b = int_lt (signed_of a) (signed_of b)
+
+-- shifts; a shift by a register takes the low six bits of the amount
+abbrev pub shift_left : ℕ → ℕ → ℕ
+shift_left a n = a * 2 ^ n % 2 ^ 64
+
+abbrev pub shift_right : ℕ → ℕ → ℕ
+shift_right a n = a / 2 ^ n
+
+abbrev pub shift_right_signed : ℕ → ℕ → ℕ
+shift_right_signed a n = word_of (int_shr (signed_of a) n)
+
+-- ---- the low 32 bits, whose result is sign-extended; a shift by a register takes the low five bits of the amount
+
+abbrev pub low_half : ℕ → ℕ
+low_half a = a % 2 ^ 32
+
+abbrev pub half : ℕ → ℕ
+half n = sign_extend w32 (n % 2 ^ 32)
+
+abbrev pub half_right_signed : ℕ → ℕ → ℕ
+half_right_signed a n = word_of (int_shr (cast_signed w32 (low_half a)) n)
+
+-- ---- what a turn may do
+
+-- goes on at the next instruction
+abbrev pub next_pc : State → ℕ
+next_pc s = add s.pc 4
+
+-- with a register changed
+abbrev pub put : ℕ → ℕ → State → Turn
+put rd word s = Next (record s { regs = set_reg rd word s.regs; pc = next_pc s })
+
+-- reads a number of this width into a register
+abbrev pub load_into : Bool → Width → ℕ → ℕ → State → Turn
+load_into signed w rd at s =
+    if at % byte_len w == 0 then
+    (if nat_le 65536 at && nat_le (at + byte_len w) s.layout.end then
+    (let n = load_bytes (byte_len w) s.memory at in put rd (if signed then sign_extend w n else n) s)
+    else Stops (BadAddress s.pc))
+    else Stops (Misaligned s.pc)
+
+abbrev pub load_signed : Width → ℕ → ℕ → State → Turn
+load_signed w rd at s = load_into true w rd at s
+
+abbrev pub load_unsigned : Width → ℕ → ℕ → State → Turn
+load_unsigned w rd at s = load_into false w rd at s
+
+-- writes the low bytes of a word into region or stack
+abbrev pub store_from : Width → ℕ → ℕ → State → Turn
+store_from w word at s =
+    if at % byte_len w == 0 then
+    (if nat_le s.layout.region at && nat_le (at + byte_len w) s.layout.end then
+    Next (record s { memory = store_bytes (byte_len w) s.memory at word; pc = next_pc s })
+    else Stops (BadAddress s.pc))
+    else Stops (Misaligned s.pc)
+
+abbrev pub branch_if : Bool → ℤ → State → Turn
+branch_if taken imm s =
+    if taken then (if plus s.pc imm % 4 == 0 then Next (record s { pc = plus s.pc imm }) else Stops (Misaligned s.pc))
+    else Next (record s { pc = next_pc s })
+
+-- jumps, and keeps the address of the next instruction in a register
+abbrev pub jump_and_link : ℕ → ℕ → State → Turn
+jump_and_link rd target s =
+    if target % 4 == 0 then Next (record s { regs = set_reg rd (next_pc s) s.regs; pc = target }) else Stops (Misaligned s.pc)
+
+abbrev pub is_undefined : State → Turn
+is_undefined s = Stops (Undefined s.pc)
+
+-- ---- environment calls
+
+abbrev pub blames : Option Pos → State → Turn
+blames None s = is_undefined s
+blames (Some label) s = Stops (Blamed label)
+
+-- what a call comes to; the definition of the calls never gives want of memory
+abbrev pub comes_to : EnvEffect → WorldState → State → Turn
+comes_to (GoesOn a0 a1) w s = Next (record s { regs = set_reg 11 a1 (set_reg 10 a0 s.regs); world = w; pc = next_pc s })
+comes_to (Answers answer) w s = Stops (Ended answer)
+comes_to (Blames label) w s = blames (slice_get s.layout.labels label) s
+comes_to (Traps trap) w s = Stops (Trapped trap)
+comes_to RegionEnds w s = Stops RegionOut
+comes_to StackEnds w s = Stops StackOut
+comes_to Refused w s = is_undefined s
+comes_to OutOfMemory w s = is_undefined s
+
+-- the call whose number is in x17, with its words in x10 and x11
+abbrev pub called : State → Called
+called s = environment_call (reg s 17) (reg s 10) (reg s 11) (length s.layout.labels) s.world
+
+abbrev pub call_environment : State → Turn
+call_environment s = comes_to (called s).effect (called s).world s
+
+-- ---- what each instruction does, told what ECALL and EBREAK do
+
+abbrev pub act_with : (State → Turn) → (State → Turn) → Inst → State → Turn
+act_with ecall ebreak (Lui rd n) s = put rd (half (n * 2 ^ 12)) s
+act_with ecall ebreak (Auipc rd n) s = put rd (add s.pc (half (n * 2 ^ 12))) s
+act_with ecall ebreak (Jal rd imm) s = jump_and_link rd (plus s.pc imm) s
+act_with ecall ebreak (Jalr rd a imm) s = let target = plus (reg s a) imm in jump_and_link rd (target - target % 2) s
+act_with ecall ebreak (Beq a b imm) s = branch_if (reg s a == reg s b) imm s
+act_with ecall ebreak (Bne a b imm) s = branch_if (not (reg s a == reg s b)) imm s
+act_with ecall ebreak (Blt a b imm) s = branch_if (signed_less (reg s a) (reg s b)) imm s
+act_with ecall ebreak (Bge a b imm) s = branch_if (not (signed_less (reg s a) (reg s b))) imm s
+act_with ecall ebreak (Bltu a b imm) s = branch_if (nat_lt (reg s a) (reg s b)) imm s
+act_with ecall ebreak (Bgeu a b imm) s = branch_if (not (nat_lt (reg s a) (reg s b))) imm s
+act_with ecall ebreak (Lb rd a imm) s = load_signed w8 rd (plus (reg s a) imm) s
+act_with ecall ebreak (Lh rd a imm) s = load_signed w16 rd (plus (reg s a) imm) s
+act_with ecall ebreak (Lw rd a imm) s = load_signed w32 rd (plus (reg s a) imm) s
+act_with ecall ebreak (Ld rd a imm) s = load_unsigned w64 rd (plus (reg s a) imm) s
+act_with ecall ebreak (Lbu rd a imm) s = load_unsigned w8 rd (plus (reg s a) imm) s
+act_with ecall ebreak (Lhu rd a imm) s = load_unsigned w16 rd (plus (reg s a) imm) s
+act_with ecall ebreak (Lwu rd a imm) s = load_unsigned w32 rd (plus (reg s a) imm) s
+act_with ecall ebreak (Sb b a imm) s = store_from w8 (reg s b) (plus (reg s a) imm) s
+act_with ecall ebreak (Sh b a imm) s = store_from w16 (reg s b) (plus (reg s a) imm) s
+act_with ecall ebreak (Sw b a imm) s = store_from w32 (reg s b) (plus (reg s a) imm) s
+act_with ecall ebreak (Sd b a imm) s = store_from w64 (reg s b) (plus (reg s a) imm) s
+act_with ecall ebreak (Addi rd a imm) s = put rd (plus (reg s a) imm) s
+act_with ecall ebreak (Slti rd a imm) s = put rd (flag (int_lt (signed_of (reg s a)) imm)) s
+act_with ecall ebreak (Sltiu rd a imm) s = put rd (flag (nat_lt (reg s a) (word_of imm))) s
+act_with ecall ebreak (Xori rd a imm) s = put rd (bit_xor (reg s a) (word_of imm)) s
+act_with ecall ebreak (Ori rd a imm) s = put rd (bit_or (reg s a) (word_of imm)) s
+act_with ecall ebreak (Andi rd a imm) s = put rd (bit_and (reg s a) (word_of imm)) s
+act_with ecall ebreak (Slli rd a n) s = put rd (shift_left (reg s a) n) s
+act_with ecall ebreak (Srli rd a n) s = put rd (shift_right (reg s a) n) s
+act_with ecall ebreak (Srai rd a n) s = put rd (shift_right_signed (reg s a) n) s
+act_with ecall ebreak (Add rd a b) s = put rd (add (reg s a) (reg s b)) s
+act_with ecall ebreak (Sub rd a b) s = put rd (subtract (reg s a) (reg s b)) s
+act_with ecall ebreak (Sll rd a b) s = put rd (shift_left (reg s a) (reg s b % 64)) s
+act_with ecall ebreak (Slt rd a b) s = put rd (flag (signed_less (reg s a) (reg s b))) s
+act_with ecall ebreak (Sltu rd a b) s = put rd (flag (nat_lt (reg s a) (reg s b))) s
+act_with ecall ebreak (Xor rd a b) s = put rd (bit_xor (reg s a) (reg s b)) s
+act_with ecall ebreak (Srl rd a b) s = put rd (shift_right (reg s a) (reg s b % 64)) s
+act_with ecall ebreak (Sra rd a b) s = put rd (shift_right_signed (reg s a) (reg s b % 64)) s
+act_with ecall ebreak (Or rd a b) s = put rd (bit_or (reg s a) (reg s b)) s
+act_with ecall ebreak (And rd a b) s = put rd (bit_and (reg s a) (reg s b)) s
+act_with ecall ebreak (Addiw rd a imm) s = put rd (half (plus (reg s a) imm)) s
+act_with ecall ebreak (Slliw rd a n) s = put rd (half (low_half (reg s a) * 2 ^ n)) s
+act_with ecall ebreak (Srliw rd a n) s = put rd (half (low_half (reg s a) / 2 ^ n)) s
+act_with ecall ebreak (Sraiw rd a n) s = put rd (half_right_signed (reg s a) n) s
+act_with ecall ebreak (Addw rd a b) s = put rd (half (add (reg s a) (reg s b))) s
+act_with ecall ebreak (Subw rd a b) s = put rd (half (subtract (reg s a) (reg s b))) s
+act_with ecall ebreak (Sllw rd a b) s = put rd (half (low_half (reg s a) * 2 ^ (reg s b % 32))) s
+act_with ecall ebreak (Srlw rd a b) s = put rd (half (low_half (reg s a) / 2 ^ (reg s b % 32))) s
+act_with ecall ebreak (Sraw rd a b) s = put rd (half_right_signed (reg s a) (reg s b % 32)) s
+act_with ecall ebreak (Fence rd a imm) s = Next (record s { pc = next_pc s })
+act_with ecall ebreak Ecall s = ecall s
+act_with ecall ebreak Ebreak s = ebreak s
+
+abbrev pub act : Inst → State → Turn
+act i s = act_with call_environment is_undefined i s
+
+abbrev pub act_if : Option Inst → State → Turn
+act_if None s = is_undefined s
+act_if (Some i) s = act i s
+
+-- the pc has to be in code; then the word that stands there decides
+unfoldable pub turn_of : State → Turn
+turn_of s =
+    if nat_le s.layout.code s.pc && nat_lt s.pc s.layout.region then act_if (decode_of (load_bytes 4 s.memory s.pc)) s
+    else Stops (BadAddress s.pc)

@@ -1,0 +1,35 @@
+//! The machine as definitions: its memory, registers and state, what a turn does, the state in which an
+//! image starts, and its run.
+//!
+//! The definitions stand in `specs`. Each function here has an empty body: its contract is a law of the
+//! definitions, proved for all states.
+#![tactic(auto)]
+
+ghost use Rattle.std.specs.Prelude.{◌≡◌, ℕ, ◌+◌, ◌≤◌, List, Some, None};
+ghost use Rattle.run_laws.specs.Machines.{run};
+ghost use Rattle.rv_machine.specs.State.{State, Halt, Stops};
+ghost use Rattle.rv_machine.specs.Turn.{turn_of};
+ghost use Rattle.rv_machine.specs.Start.{start_of, fresh_world};
+ghost use Rattle.rv_machine.specs.Mach.{run_of, machine, mach, come_to};
+
+/// The run of a state is what its turns come to, one after another: it shows the state after them and
+/// what was printed, and where a turn has stopped, it has that stop's ending.
+pub fn run_is_its_turns()
+    ensures states { (s : State) (n : ℕ) → run machine s n ≡ come_to (run_of n s) }
+    ensures images { (bytes : List ℕ) (region stack : ℕ) (input : List ℕ) (n : ℕ)
+        → mach bytes region stack input n
+        ≡ come_to (run_of n (start_of bytes region stack (fresh_world input))) }
+{}
+
+/// Turns add up: where some turns have all gone on, more turns go on from there.
+pub fn later_turns_go_on_from_earlier_ones()
+    ensures { (n m : ℕ) (s t : State) → run_of n s ≡ (t, None) → run_of (n + m) s ≡ run_of m t }
+{}
+
+/// A turn that stops changes nothing, and every later turn stops in the same way.
+pub fn what_has_stopped_stays()
+    ensures stays { (n m : ℕ) (s t : State) (halt : Halt) → n ≤ m
+        → run_of n s ≡ (t, Some halt) → run_of m s ≡ (t, Some halt) }
+    ensures stops_again { (n : ℕ) (s t : State) (halt : Halt)
+        → run_of n s ≡ (t, Some halt) → turn_of t ≡ Stops halt }
+{}
