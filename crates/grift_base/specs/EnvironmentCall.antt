@@ -1,11 +1,10 @@
 -- What an environment call does, by its number and its first two words.
-use Rattle.std.specs.Prelude.{ℕ, ◌%◌, ◌≡◌, ◌==◌, nat_lt, nat_le, if◌then◌else◌, List, [], ◌∷◌, IsTrue, ◌||◌}
+use Rattle.std.specs.Prelude.{ℕ, ◌%◌, ◌≡◌, ◌==◌, nat_lt, nat_le, if◌then◌else◌, [], ◌∷◌, IsTrue, ◌||◌}
 use Rattle.std.specs.Fmt.{signed_decimal}
 use Rattle.std.specs.Int.{cast_signed, w64}
 use Rattle.grift_base.specs.World.{WorldState, printing}
 use Rattle.grift_base.specs.declared.verdicts.AnswerKind.{AnswerKind}
 use Rattle.grift_base.specs.declared.verdicts.AnswerKind.TheVariants.{Int, Bool, Unit as UnitKind, Function, Tuple, Boxed, Vector}
-use Rattle.grift_base.specs.declared.verdicts.Trap.{Trap}
 use Rattle.grift_base.specs.declared.verdicts.Trap.TheVariants.{ZeroDivisor, Index, Length, Input}
 use Rattle.grift_base.specs.declared.worlds.EnvEffect.{EnvEffect}
 use Rattle.grift_base.specs.declared.worlds.EnvEffect.TheVariants.{Next, Ended, Blamed, Trapped, RegionOut, StackOut, Refused, OutOfMemory}

@@ -1,5 +1,5 @@
 -- Environment calls, as the program makes them.
-use Rattle.std.proofs.Common.{ℕ, ◌≡◌, length, refl, sym, ◌∙◌, ap, List}
+use Rattle.std.proofs.Common.{ℕ, ◌≡◌, length}
 use Rattle.grift_base.specs.World.{WorldState}
 use Rattle.grift_base.specs.EnvironmentCall.{environment_call}
 use Rattle.grift_base.specs.declared.worlds.EnvEffect.{EnvEffect}

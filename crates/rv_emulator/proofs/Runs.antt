@@ -1,5 +1,5 @@
 -- Turns and runs, as the program makes them.
-use Rattle.std.proofs.Common.{ℕ, ◌+◌, ◌<◌, ◌≡◌, Bool, false, inl, inr, Option, Some, None, refl, sym, ◌∙◌, ap, arith}
+use Rattle.std.proofs.Common.{ℕ, ◌<◌, ◌≡◌, Bool, inl, inr, Option, Some, None}
 use Rattle.rv_isa.specs.declared.inst.Inst.{Inst}
 use Rattle.rv_isa.specs.declared.inst.Inst.TheVariants.{Ecall}
 use Rattle.rv_isa.specs.Decoding.{decode_of}
@@ -7,7 +7,7 @@ use Rattle.rv_machine.specs.Memory.{load_bytes}
 use Rattle.rv_machine.specs.State.{State, Turn}
 use Rattle.rv_machine.specs.Turn.{turn_of}
 use Rattle.rv_machine.specs.Mach.{run_of}
-use Rattle.rv_machine.proofs.Runs.{run_none, run_more, run_stops}
+use Rattle.rv_machine.proofs.Runs.{run_stops}
 use Rattle.rv_emulator.specs.declared.stops.Stop.{Stop}
 use Rattle.rv_emulator.specs.declared.stops.Stop.TheVariants.{Ended, Blamed, Trapped, RegionOut, StackOut, StepsSpent, Undefined, BadAddress, Misaligned, OutOfMemory}
 use Rattle.rv_emulator.specs.Made.{MayLack, Made, PrintsAt, PrintsNext, Ran}

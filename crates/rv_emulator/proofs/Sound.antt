@@ -1,12 +1,12 @@
 -- The parts of memory stay where they are, and the pc stays that of an instruction.
-use Rattle.std.proofs.Common.{ℕ, ◌+◌, ◌%◌, ◌^◌, ◌≡◌, Bool, true, false, Option, Some, None, length, refl, arith}
+use Rattle.std.proofs.Common.{ℕ, ◌+◌, ◌%◌, ◌^◌, ◌≡◌, Bool, Option, Some, None, refl, arith}
 use Rattle.std.specs.Prelude.{ℤ}
 use Rattle.std.specs.Int.{Width}
 use Rattle.grift_base.specs.World.{WorldState}
 use Rattle.grift_base.specs.declared.worlds.EnvEffect.{EnvEffect}
 use Rattle.grift_base.specs.declared.worlds.EnvEffect.TheVariants.{Next as GoesOn, Ended as Answers, Blamed as Blames, Trapped as Traps, RegionOut as RegionEnds, StackOut as StackEnds, Refused, OutOfMemory as NoMemory}
 use Rattle.rv_machine.specs.State.{State, Turn, Next, Stops}
-use Rattle.rv_machine.specs.Turn.{put, load_into, store_from, branch_if, jump_and_link, next_pc, comes_to, called, call_environment, blames}
+use Rattle.rv_machine.specs.Turn.{load_into, store_from, branch_if, jump_and_link, comes_to, called, blames}
 use Rattle.rv_emulator.specs.declared.processor.Action.{Action}
 use Rattle.rv_emulator.specs.declared.processor.Action.TheVariants.{Put, Load, Store, Branch, Jump, Skip, Call, Refuse}
 use Rattle.rv_emulator.specs.declared.processor.Places.{Places}

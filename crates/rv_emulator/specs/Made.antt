@@ -5,7 +5,7 @@ use Rattle.rv_isa.specs.declared.inst.Inst.{Inst}
 use Rattle.rv_isa.specs.declared.inst.Inst.TheVariants.{Ecall}
 use Rattle.rv_isa.specs.Decoding.{decode_of}
 use Rattle.rv_machine.specs.Memory.{load_bytes}
-use Rattle.rv_machine.specs.State.{State, Halt, Ended as Ends, Blamed as Blames, Trapped as Traps, RegionOut as NoRegion, StackOut as NoStack, Undefined as IsUndefined, BadAddress as IsBadAddress, Misaligned as IsMisaligned, Turn, Next, Stops, reg}
+use Rattle.rv_machine.specs.State.{State, Ended as Ends, Blamed as Blames, Trapped as Traps, RegionOut as NoRegion, StackOut as NoStack, Undefined as IsUndefined, BadAddress as IsBadAddress, Misaligned as IsMisaligned, Turn, Next, Stops, reg}
 use Rattle.rv_machine.specs.Mach.{run_of}
 use Rattle.rv_emulator.specs.declared.stops.Stop.{Stop}
 use Rattle.rv_emulator.specs.declared.stops.Stop.TheVariants.{Ended, Blamed, Trapped, RegionOut, StackOut, StepsSpent, Undefined, BadAddress, Misaligned, OutOfMemory}

@@ -1,5 +1,5 @@
 -- What the emulator keeps, as a state of the machine.
-use Rattle.std.specs.Prelude.{ℕ, ◌+◌, ◌*◌, ◌%◌, ◌<◌, ◌≤◌, ◌≡◌, length}
+use Rattle.std.specs.Prelude.{ℕ, ◌+◌, ◌%◌, ◌<◌, ◌≤◌, ◌≡◌}
 use Rattle.rv_machine.specs.Memory.{Memory, from_base}
 use Rattle.rv_machine.specs.State.{State}
 use Rattle.rv_emulator.specs.declared.processor.Processor.{Processor}

@@ -1,5 +1,5 @@
 -- One turn of the machine.
-use Rattle.std.specs.Prelude.{ℕ, zero, suc, ◌+◌, ◌-◌, ◌*◌, ◌/◌, ◌%◌, ◌^◌, Bool, true, false, not, ◌&&◌, ◌==◌, nat_lt, nat_le, if◌then◌else◌, ℤ, int_lt, bit_and, bit_or, bit_xor, Option, Some, None, slice_get, length}
+use Rattle.std.specs.Prelude.{ℕ, ◌+◌, ◌-◌, ◌*◌, ◌/◌, ◌%◌, ◌^◌, Bool, true, false, not, ◌&&◌, ◌==◌, nat_lt, nat_le, if◌then◌else◌, ℤ, int_lt, bit_and, bit_or, bit_xor, Option, Some, None, slice_get, length}
 use Rattle.std.specs.Int.{Width, w8, w16, w32, w64, byte_len, cast_unsigned, cast_signed, int_shr}
 use Rattle.grift_base.specs.World.{WorldState}
 use Rattle.grift_base.specs.EnvironmentCall.{Called, environment_call}
@@ -11,7 +11,7 @@ use Rattle.rv_isa.specs.declared.inst.Inst.TheVariants.{Lui, Auipc, Jal, Jalr, B
 use Rattle.rv_isa.specs.Decoding.{decode_of}
 use Rattle.rv_machine.specs.Memory.{load_bytes, store_bytes}
 use Rattle.rv_machine.specs.Registers.{set_reg}
-use Rattle.rv_machine.specs.State.{State, Halt, Ended, Blamed, Trapped, RegionOut, StackOut, Undefined, BadAddress, Misaligned, Turn, Next, Stops, reg}
+use Rattle.rv_machine.specs.State.{State, Ended, Blamed, Trapped, RegionOut, StackOut, Undefined, BadAddress, Misaligned, Turn, Next, Stops, reg}
 
 -- ---- words of 64 bits
 

@@ -1,4 +1,4 @@
-use Rattle.std.proofs.Common.{ℕ, ◌<◌, ◌∙◌, get_or}
+use Rattle.std.proofs.Common.{◌∙◌}
 use Rattle.rv_emulator.proofs.Start.{filled_more}
 use Rattle.rv_emulator.proofs.machine.fill.Goals as goal
 

@@ -1,4 +1,4 @@
-use Rattle.std.proofs.Common.{◌≡◌, ℕ, ◌<◌, get_or}
+use Rattle.std.proofs.Common.{◌≡◌, ℕ, get_or}
 use Rattle.std.specs.Prelude.{if◌then◌else◌, nat_lt}
 use Rattle.rv_emulator.proofs.machine.fill.Given as goal
 

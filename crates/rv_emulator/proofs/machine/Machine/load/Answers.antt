@@ -1,4 +1,4 @@
-use Rattle.std.proofs.Common.{◌≡◌, ◌∙◌, ◌+◌, length, ap, arith}
+use Rattle.std.proofs.Common.{◌≡◌, ◌∙◌, ◌+◌, length, ap}
 use Rattle.grift_base.specs.declared.places.Pos.{Pos}
 use Rattle.rv_machine.specs.Memory.{from_base, memory_of}
 use Rattle.rv_machine.specs.Image.{statics_len, code_len, label_count}

@@ -1,4 +1,3 @@
-use Rattle.std.proofs.Common.{◌≡◌, ◌∙◌, ap, refl, rules, arith}
 use Rattle.rv_emulator.specs.Processor.{state_of}
 use Rattle.rv_emulator.proofs.Calls.{call_is, as_before}
 use Rattle.rv_emulator.proofs.processor.Processor.call_environment.Goals as goal

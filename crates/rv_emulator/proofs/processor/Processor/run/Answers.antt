@@ -1,4 +1,4 @@
-use Rattle.std.proofs.Common.{rules, arith, refl}
+use Rattle.std.proofs.Common.{arith}
 use Rattle.rv_machine.proofs.Runs.{run_none, run_more}
 use Rattle.rv_emulator.specs.Processor.{state_of}
 use Rattle.rv_emulator.proofs.Runs.{ran_stop}

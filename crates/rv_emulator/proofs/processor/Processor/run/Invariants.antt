@@ -1,4 +1,4 @@
-use Rattle.std.proofs.Common.{◌≡◌, ℕ, ◌≤◌, length, None, true}
+use Rattle.std.proofs.Common.{◌≡◌, length, None, true}
 use Rattle.rv_machine.specs.Mach.{run_of}
 use Rattle.rv_emulator.specs.Processor.{state_of, IsSound}
 use Rattle.rv_emulator.proofs.processor.Processor.run.Given as goal

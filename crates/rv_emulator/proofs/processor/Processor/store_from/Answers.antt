@@ -1,4 +1,4 @@
-use Rattle.std.proofs.Common.{ℕ, ◌+◌, ◌%◌, ◌≤◌, ◌≡◌, rules, arith, refl}
+use Rattle.std.proofs.Common.{◌+◌, ◌%◌, ◌≤◌, ◌≡◌, arith, refl}
 use Rattle.std.specs.Int.{byte_len}
 use Rattle.rv_emulator.specs.Widths.{width_of}
 use Rattle.rv_emulator.specs.Processor.{state_of}

@@ -1,9 +1,8 @@
-use Rattle.std.proofs.Common.{rules, arith, refl, sym, ◌∙◌, ◌≡◌, length, Some, None, ap}
+use Rattle.std.proofs.Common.{arith, refl, sym, ◌∙◌, ◌≡◌, length, Some, None, ap}
 use Rattle.rv_isa.specs.Decoding.{decode_of}
-use Rattle.rv_machine.specs.Memory.{load_bytes}
 use Rattle.rv_machine.specs.State.{Layout}
 use Rattle.rv_machine.specs.Turn.{turn_of, act}
-use Rattle.rv_emulator.specs.Processor.{state_of, IsSound}
+use Rattle.rv_emulator.specs.Processor.{state_of}
 use Rattle.rv_emulator.specs.Actions.{performed}
 use Rattle.rv_emulator.proofs.Based.{turn_outside, turn_fetched, decoded}
 use Rattle.rv_emulator.proofs.Sound.{performed_keeps, made_kept, still_sound}
