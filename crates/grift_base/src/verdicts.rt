@@ -1,9 +1,11 @@
 // How a program ends.
 
-ghost use Rattle.std.specs.Prelude.{◌≡◌, ◌++◌, codes, IfOk};
+ghost use Rattle.std.specs.Prelude.{◌≡◌, ◌++◌, codes, pos, IfOk};
 ghost use Rattle.std.specs.Fmt.{decimal};
 ghost use Rattle.grift_base.specs.AnswerKind.{answer_kind_number};
 ghost use Rattle.grift_base.specs.Trap.{trap_number, trap_text};
+ghost use Rattle.grift_base.specs.EnvironmentCall.{ends, traps};
+ghost use Rattle.grift_base.specs.declared.worlds.EnvEffect.TheVariants.{Ended, Trapped};
 ghost use Rattle.grift_base.specs.VerdictLine.{answer_text, verdict_text};
 
 use crate::lists::{OutOfMemory, Text};
@@ -27,7 +29,8 @@ pub enum Trap {
 impl Trap {
     /// The number by which a program tells this trap to its environment.
     pub fn number(self) -> u8
-        ensures { result ≡ trap_number self }
+        ensures value { result ≡ trap_number self }
+        ensures call { traps result ≡ Trapped self }
     {
         match self {
             Trap::ZeroDivisor => 1,
@@ -72,7 +75,8 @@ pub enum AnswerKind {
 impl AnswerKind {
     /// The number by which a program tells this kind of answer to its environment.
     pub fn number(self) -> u8
-        ensures { result ≡ answer_kind_number self }
+        ensures value { result ≡ answer_kind_number self }
+        ensures call { ends result 0 ≡ Ended (record { kind = self; word = pos 0 }) }
     {
         match self {
             AnswerKind::Int => 0,
