@@ -67,18 +67,18 @@ Kept old new = (new.layout ≡ old.layout) × (new.pc % 4 ≡ 0)
 same_kept : (old new : State) → old.pc % 4 ≡ 0 → new ≡ old → Kept old new
 same_kept old new h e = rw e (refl, h)
 
-pub made_kept : (whole : Bool) (P : Type 0) (turn : Turn) (old : State) (r : Option Stop) (new : State) → old.pc % 4 ≡ 0 → Keeps old turn → Made whole P turn old r new → Kept old new
-made_kept whole P turn old None new h k m = let f = rw m at k in f
-made_kept whole P turn old (Some (Ended answer)) new h k m = same_kept old new h m.1
-made_kept whole P turn old (Some (Blamed label)) new h k m = same_kept old new h m.1
-made_kept whole P turn old (Some (Trapped trap)) new h k m = same_kept old new h m.1
-made_kept whole P turn old (Some RegionOut) new h k m = same_kept old new h m.1
-made_kept whole P turn old (Some StackOut) new h k m = same_kept old new h m.1
-made_kept whole P turn old (Some StepsSpent) new h k m = absurd m
-made_kept whole P turn old (Some (Undefined pc)) new h k m = same_kept old new h m.1
-made_kept whole P turn old (Some (BadAddress pc)) new h k m = same_kept old new h m.1
-made_kept whole P turn old (Some (Misaligned pc)) new h k m = same_kept old new h m.1
-made_kept whole P turn old (Some OutOfMemory) new h k m = same_kept old new h m.1
+pub made_kept : (lack : Type 0) (turn : Turn) (old : State) (r : Option Stop) (new : State) → old.pc % 4 ≡ 0 → Keeps old turn → Made lack turn old r new → Kept old new
+made_kept lack turn old None new h k m = let f = rw m at k in f
+made_kept lack turn old (Some (Ended answer)) new h k m = same_kept old new h m.1
+made_kept lack turn old (Some (Blamed label)) new h k m = same_kept old new h m.1
+made_kept lack turn old (Some (Trapped trap)) new h k m = same_kept old new h m.1
+made_kept lack turn old (Some RegionOut) new h k m = same_kept old new h m.1
+made_kept lack turn old (Some StackOut) new h k m = same_kept old new h m.1
+made_kept lack turn old (Some StepsSpent) new h k m = absurd m
+made_kept lack turn old (Some (Undefined pc)) new h k m = same_kept old new h m.1
+made_kept lack turn old (Some (BadAddress pc)) new h k m = same_kept old new h m.1
+made_kept lack turn old (Some (Misaligned pc)) new h k m = same_kept old new h m.1
+made_kept lack turn old (Some OutOfMemory) new h k m = same_kept old new h m.1
 
 -- parts at the same places are as sound
 pub still_sound : (m n : ℕ) (p q : Places) (a b x y : ℕ) → q.code ≡ p.code → q.region ≡ p.region → q.end ≡ p.end → b ≡ a → y % 4 ≡ 0 → n ≡ m → IsSound m p a x → IsSound n q b y

@@ -1,4 +1,5 @@
 -- What an action of the program is as a turn.
+use Rattle.std.specs.Prelude.{◌≡◌, Bool, false}
 use Rattle.grift_base.specs.EnvironmentCall.{Prints}
 use Rattle.rv_machine.specs.State.{State, Turn, Next, reg}
 use Rattle.rv_machine.specs.Turn.{put, load_into, store_from, branch_if, jump_and_link, next_pc, call_environment, is_undefined}
@@ -16,13 +17,13 @@ performed Skip s = Next (record s { pc = next_pc s })
 performed Call s = call_environment s
 performed Refuse s = is_undefined s
 
--- the action prints
-abbrev pub PrintsBy : Action → State → Type 0
-PrintsBy (Put rd word) s = ⊥
-PrintsBy (Load rd at width signed) s = ⊥
-PrintsBy (Store word at width) s = ⊥
-PrintsBy (Branch taken offset) s = ⊥
-PrintsBy (Jump rd target) s = ⊥
-PrintsBy Skip s = ⊥
-PrintsBy Call s = Prints (reg s 17)
-PrintsBy Refuse s = ⊥
+-- the action may need memory of the process
+abbrev pub LacksBy : Bool → Action → State → Type 0
+LacksBy whole (Put rd word) s = ⊥
+LacksBy whole (Load rd at width signed) s = ⊥
+LacksBy whole (Store word at width) s = whole ≡ false
+LacksBy whole (Branch taken offset) s = ⊥
+LacksBy whole (Jump rd target) s = ⊥
+LacksBy whole Skip s = ⊥
+LacksBy whole Call s = Prints (reg s 17)
+LacksBy whole Refuse s = ⊥

@@ -57,7 +57,8 @@ impl<R: Ram + Drop> Machine<R> {
         requires region { IsRegionSize region }
         requires stack { IsStackSize stack }
         requires size { R.bytes_len ram ≡ statics_len image.now + code_len image.now + region + stack }
-        ensures { IfOk result (λ m. state_of R.memory m ≡ start_of image.now region stack world) }
+        ensures start { IfOk result (λ m. state_of R.memory m ≡ start_of image.now region stack world) }
+        ensures whole { R.whole ram ≡ true → IfOk result (λ m. R.whole m.ram ≡ true) }
     {
         let mut ram = ram;
         fill(&mut ram, image.loaded())?;
@@ -112,7 +113,7 @@ fn start_registers(start: u64, region: u64, stack: u64) -> Registers
 impl<R: Ram> Machine<R> {
     /// Runs at most this many instructions; one that stops counts. Every stop leaves registers, memory,
     /// world and pc as before the instruction that stopped, and a later run goes on from there. Want of
-    /// memory comes only at an instruction that prints, or where the ram isn't whole.
+    /// memory comes only at an instruction that prints, or at one that stores into a ram that isn't whole.
     pub fn run(&mut self, steps: u64) -> Stop
         ensures ran { Ran (R.whole self.new.ram) steps (state_of R.memory self.old) result (state_of R.memory self.new) }
         ensures stays_whole { R.whole self.old.ram ≡ true → R.whole self.new.ram ≡ true }
@@ -155,6 +156,7 @@ fn fill<R: Ram>(ram: &mut R, bytes: &[u8]) -> Result<(), OutOfMemory>
     requires size { length bytes.now ≤ R.bytes_len ram.old }
     ensures memory { OnOk result (R.memory ram.new ≡ memory_of bytes.now) }
     ensures len { R.bytes_len ram.new ≡ R.bytes_len ram.old }
+    ensures whole { R.whole ram.old ≡ true → R.whole ram.new ≡ true }
 {
     for i in 0..bytes.len() {
         ram.store(i as u64, Width::B1, bytes[i] as u64)?;

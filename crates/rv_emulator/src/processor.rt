@@ -1,14 +1,14 @@
 // One turn after another.
 
-ghost use Rattle.std.specs.Prelude.{◌≡◌, ◌<◌, ◌-◌, ◌*◌, ◌%◌, ◌^◌, ℕ, length, true};
+ghost use Rattle.std.specs.Prelude.{◌≡◌, ◌<◌, ◌-◌, ◌*◌, ◌%◌, ◌^◌, ℕ, Bool, length, true, false};
 ghost use Rattle.std.specs.Int.{byte_len};
 ghost use Rattle.rv_machine.specs.Turn.{half, word_of, plus, next_pc, put, load_into, store_from, branch_if, jump_and_link, call_environment, act, turn_of};
 ghost use Rattle.rv_machine.specs.State.{Next, reg};
 ghost use Rattle.grift_base.specs.EnvironmentCall.{Prints};
 ghost use Rattle.rv_emulator.specs.Widths.{width_of};
 ghost use Rattle.rv_emulator.specs.Processor.{state_of, IsSound};
-ghost use Rattle.rv_emulator.specs.Made.{Made, Ran, PrintsAt, PrintsNext};
-ghost use Rattle.rv_emulator.specs.Actions.{performed, PrintsBy};
+ghost use Rattle.rv_emulator.specs.Made.{Made, Ran, LacksAt, LacksNext};
+ghost use Rattle.rv_emulator.specs.Actions.{performed, LacksBy};
 
 use crate::ram::{Ram, Width};
 use crate::registers::Registers;
@@ -69,7 +69,7 @@ pub struct Processor<R> {
 impl<R: Ram> Processor<R> {
     // Goes on at the next instruction, with a register changed.
     fn put(&mut self, rd: Reg, word: u64) -> Option<Stop>
-        ensures made { Made (R.whole self.new.ram) ⊥ (put rd word (state_of R.memory self.old)) (state_of R.memory self.old) result (state_of R.memory self.new) }
+        ensures made { Made ⊥ (put rd word (state_of R.memory self.old)) (state_of R.memory self.old) result (state_of R.memory self.new) }
         ensures ram { self.new.ram ≡ self.old.ram }
     {
         self.regs.set(rd, word);
@@ -80,7 +80,7 @@ impl<R: Ram> Processor<R> {
     // Reads a number into a register.
     fn load_into(&mut self, rd: Reg, at: u64, width: Width, signed: bool) -> Option<Stop>
         requires { IsSound (R.bytes_len self.old.ram) self.old.places (length self.old.labels) self.old.pc }
-        ensures made { Made (R.whole self.new.ram) ⊥ (load_into signed (width_of width) rd at (state_of R.memory self.old)) (state_of R.memory self.old) result (state_of R.memory self.new) }
+        ensures made { Made ⊥ (load_into signed (width_of width) rd at (state_of R.memory self.old)) (state_of R.memory self.old) result (state_of R.memory self.new) }
         ensures ram { self.new.ram ≡ self.old.ram }
     {
         let bytes = width.bytes();
@@ -97,7 +97,7 @@ impl<R: Ram> Processor<R> {
     // Writes the lowest bytes of a word.
     fn store_from(&mut self, word: u64, to: u64, width: Width) -> Option<Stop>
         requires { IsSound (R.bytes_len self.old.ram) self.old.places (length self.old.labels) self.old.pc }
-        ensures made { Made (R.whole self.new.ram) ⊥ (store_from (width_of width) word to (state_of R.memory self.old)) (state_of R.memory self.old) result (state_of R.memory self.new) }
+        ensures made { Made (R.whole self.new.ram ≡ false) (store_from (width_of width) word to (state_of R.memory self.old)) (state_of R.memory self.old) result (state_of R.memory self.new) }
         ensures len { R.bytes_len self.new.ram ≡ R.bytes_len self.old.ram }
         ensures stays_whole { R.whole self.old.ram ≡ true → R.whole self.new.ram ≡ true }
     {
@@ -118,7 +118,7 @@ impl<R: Ram> Processor<R> {
     }
 
     fn branch_if(&mut self, taken: bool, offset: Imm13) -> Option<Stop>
-        ensures made { Made (R.whole self.new.ram) ⊥ (branch_if taken offset (state_of R.memory self.old)) (state_of R.memory self.old) result (state_of R.memory self.new) }
+        ensures made { Made ⊥ (branch_if taken offset (state_of R.memory self.old)) (state_of R.memory self.old) result (state_of R.memory self.new) }
         ensures ram { self.new.ram ≡ self.old.ram }
     {
         if !taken {
@@ -135,7 +135,7 @@ impl<R: Ram> Processor<R> {
 
     // Jumps, and keeps the address of the next instruction in a register.
     fn jump_and_link(&mut self, rd: Reg, target: u64) -> Option<Stop>
-        ensures made { Made (R.whole self.new.ram) ⊥ (jump_and_link rd target (state_of R.memory self.old)) (state_of R.memory self.old) result (state_of R.memory self.new) }
+        ensures made { Made ⊥ (jump_and_link rd target (state_of R.memory self.old)) (state_of R.memory self.old) result (state_of R.memory self.new) }
         ensures ram { self.new.ram ≡ self.old.ram }
     {
         if target % 4 != 0 {
@@ -149,7 +149,7 @@ impl<R: Ram> Processor<R> {
     // Makes an environment call.
     fn call_environment(&mut self) -> Option<Stop>
         requires { IsSound (R.bytes_len self.old.ram) self.old.places (length self.old.labels) self.old.pc }
-        ensures made { Made (R.whole self.new.ram) (Prints (reg (state_of R.memory self.old) 17)) (call_environment (state_of R.memory self.old)) (state_of R.memory self.old) result (state_of R.memory self.new) }
+        ensures made { Made (Prints (reg (state_of R.memory self.old) 17)) (call_environment (state_of R.memory self.old)) (state_of R.memory self.old) result (state_of R.memory self.new) }
         ensures ram { self.new.ram ≡ self.old.ram }
     {
         let number = self.regs.read(17);
@@ -196,7 +196,7 @@ impl<R: Ram> Processor<R> {
     // One turn.
     fn turn(&mut self) -> Option<Stop>
         requires { IsSound (R.bytes_len self.old.ram) self.old.places (length self.old.labels) self.old.pc }
-        ensures made { Made (R.whole self.new.ram) (PrintsNext (state_of R.memory self.old)) (turn_of (state_of R.memory self.old)) (state_of R.memory self.old) result (state_of R.memory self.new) }
+        ensures made { Made (LacksNext (R.whole self.new.ram) (state_of R.memory self.old)) (turn_of (state_of R.memory self.old)) (state_of R.memory self.old) result (state_of R.memory self.new) }
         ensures sound { IsSound (R.bytes_len self.new.ram) self.new.places (length self.new.labels) self.new.pc }
         ensures stays_whole { R.whole self.old.ram ≡ true → R.whole self.new.ram ≡ true }
     {
@@ -238,7 +238,7 @@ impl<R: Ram> Processor<R> {
 
     // Goes on at the next instruction.
     fn skip(&mut self) -> Option<Stop>
-        ensures made { Made (R.whole self.new.ram) ⊥ (Next (record (state_of R.memory self.old) { pc = next_pc (state_of R.memory self.old) })) (state_of R.memory self.old) result (state_of R.memory self.new) }
+        ensures made { Made ⊥ (Next (record (state_of R.memory self.old) { pc = next_pc (state_of R.memory self.old) })) (state_of R.memory self.old) result (state_of R.memory self.new) }
         ensures ram { self.new.ram ≡ self.old.ram }
     {
         self.pc = self.pc.wrapping_add(4);
@@ -248,7 +248,7 @@ impl<R: Ram> Processor<R> {
     // What an instruction does, with its operands read.
     fn action(&self, i: Inst) -> Action
         ensures value { performed result (state_of R.memory self.now) ≡ act i (state_of R.memory self.now) }
-        ensures prints { PrintsBy result (state_of R.memory self.now) → PrintsAt i (state_of R.memory self.now) }
+        ensures lacks { (whole : Bool) → LacksBy whole result (state_of R.memory self.now) → LacksAt whole i (state_of R.memory self.now) }
     {
         match i {
             Inst::Lui(rd, upper) => Action::Put(rd, upper_word(upper)),
@@ -373,7 +373,7 @@ impl<R: Ram> Processor<R> {
     // Does it.
     fn perform(&mut self, action: Action) -> Option<Stop>
         requires { IsSound (R.bytes_len self.old.ram) self.old.places (length self.old.labels) self.old.pc }
-        ensures made { Made (R.whole self.new.ram) (PrintsBy action (state_of R.memory self.old)) (performed action (state_of R.memory self.old)) (state_of R.memory self.old) result (state_of R.memory self.new) }
+        ensures made { Made (LacksBy (R.whole self.new.ram) action (state_of R.memory self.old)) (performed action (state_of R.memory self.old)) (state_of R.memory self.old) result (state_of R.memory self.new) }
         ensures len { R.bytes_len self.new.ram ≡ R.bytes_len self.old.ram }
         ensures stays_whole { R.whole self.old.ram ≡ true → R.whole self.new.ram ≡ true }
     {

@@ -27,7 +27,7 @@ impl Registers {
         self.read(register.index())
     }
 
-    /// Writes a register.
+    /// Writes a register; what is written to the first is lost.
     pub fn set(&mut self, register: Reg, word: u64)
         ensures { regs_of self.new ≡ set_reg register word (regs_of self.old) }
     {
@@ -42,11 +42,13 @@ impl Registers {
         if number == 0 { 0 } else { self.words[number] }
     }
 
-    /// Writes the register with this number.
+    /// Writes the register with this number, unless it is 0.
     pub fn write(&mut self, number: usize, word: u64)
         requires { number < 32 }
         ensures { regs_of self.new ≡ set_reg number word (regs_of self.old) }
     {
-        self.words[number] = word;
+        if number != 0 {
+            self.words[number] = word;
+        }
     }
 }

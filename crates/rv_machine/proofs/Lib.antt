@@ -1,3 +1,4 @@
 pub mod Runs
 pub mod Memory
 pub mod Image
+pub mod Tabled

@@ -1,5 +1,5 @@
 -- One turn of the machine.
-use Rattle.std.specs.Prelude.{ℕ, ◌+◌, ◌-◌, ◌*◌, ◌/◌, ◌%◌, ◌^◌, Bool, true, false, not, ◌&&◌, ◌==◌, nat_lt, nat_le, if◌then◌else◌, ℤ, int_lt, bit_and, bit_or, bit_xor, Option, Some, None, slice_get, length}
+use Rattle.std.specs.Prelude.{ℕ, ◌+◌, ◌-◌, ◌*◌, ◌/◌, ◌%◌, ◌^◌, ◌<◌, ◌≤◌, Bool, true, false, not, ◌&&◌, ◌==◌, nat_lt, nat_le, if◌then◌else◌, ℤ, int_lt, bit_and, bit_or, bit_xor, Option, Some, None, slice_get, length}
 use Rattle.std.specs.Int.{Width, w8, w16, w32, w64, byte_len, cast_unsigned, cast_signed, int_shr}
 use Rattle.grift_base.specs.World.{WorldState}
 use Rattle.grift_base.specs.EnvironmentCall.{Called, environment_call}
@@ -204,3 +204,9 @@ unfoldable pub turn_of : State → Turn
 turn_of s =
     if nat_le s.layout.code s.pc && nat_lt s.pc s.layout.region then act_if (decode_of (load_bytes 4 s.memory s.pc)) s
     else Stops (BadAddress s.pc)
+
+-- the word is fetched: the pc is in code, and the word has 32 bits, as four bytes have
+pub record IsFetched (s : State) (word : ℕ) : Type 0 where
+  pub above : s.layout.code ≤ s.pc
+  pub below : s.pc < s.layout.region
+  pub fits : word < 2 ^ 32

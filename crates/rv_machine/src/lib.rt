@@ -7,10 +7,13 @@
 
 ghost use Rattle.std.specs.Prelude.{◌≡◌, ℕ, ◌+◌, ◌≤◌, List, Some, None};
 ghost use Rattle.run_laws.specs.Machines.{run};
-ghost use Rattle.rv_machine.specs.State.{State, Halt, Stops};
-ghost use Rattle.rv_machine.specs.Turn.{turn_of};
+ghost use Rattle.rv_machine.specs.State.{State, Halt, Stops, Undefined};
+ghost use Rattle.rv_machine.specs.Turn.{turn_of, act, IsFetched};
 ghost use Rattle.rv_machine.specs.Start.{start_of, fresh_world};
 ghost use Rattle.rv_machine.specs.Mach.{run_of, machine, mach, come_to};
+ghost use Rattle.rv_machine.specs.Memory.{load_bytes};
+ghost use Rattle.rv_isa.specs.declared.inst.Inst.{Inst};
+ghost use Rattle.rv_isa.specs.Table.{IsWordOf};
 
 /// The run of a state is what its turns come to, one after another: it shows the state after them and
 /// what was printed, and where a turn has stopped, it has that stop's ending.
@@ -32,4 +35,13 @@ pub fn what_has_stopped_stays()
         → run_of n s ≡ (t, Some halt) → run_of m s ≡ (t, Some halt) }
     ensures stops_again { (n : ℕ) (s t : State) (halt : Halt)
         → run_of n s ≡ (t, Some halt) → turn_of t ≡ Stops halt }
+{}
+
+/// A turn goes by the table of instructions: where the pc is in code, the instruction is the one whose
+/// word stands there, and where that is the word of none, the turn stops as undefined.
+pub fn turn_goes_by_the_table()
+    ensures instruction { (s : State) (i : Inst) → IsFetched s (load_bytes 4 s.memory s.pc)
+        → IsWordOf i (load_bytes 4 s.memory s.pc) → turn_of s ≡ act i s }
+    ensures undefined { (s : State) → IsFetched s (load_bytes 4 s.memory s.pc)
+        → ((i : Inst) → ¬ IsWordOf i (load_bytes 4 s.memory s.pc)) → turn_of s ≡ Stops (Undefined s.pc) }
 {}

@@ -8,4 +8,5 @@ loop-i-preserved g c =
     record {
       so_far = filled_more (mem c.loop-i.ram) (mem c.store.new.self) c.args.bytes.now c.loop-i.i (c.type_inv.bytes c.loop-i.i).fits c.loop-i.invariant.so_far c.in_ok-store.ensures.ok;
       len = c.store.ensures.len ∙ c.loop-i.invariant.len;
+      whole = λ h. c.store.ensures.stays_whole (c.loop-i.invariant.whole h);
     }
