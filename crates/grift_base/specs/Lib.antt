@@ -8,3 +8,4 @@ pub mod Tables
 pub mod Outside
 pub mod Shelf
 pub mod Sink
+pub mod Types
