@@ -1,0 +1,6 @@
+use Rattle.std.proofs.Common.{◌≤◌}
+use Rattle.sexpr_reader.specs.declared.sexps.SexpList.{size-SexpList}
+use Rattle.sexpr_reader.proofs.+sexp.Given as goal
+
+abbrev pub invariant-sexps::SexpList::drop-loop-self : goal.invariant-sexps::SexpList::drop-loop-self
+invariant-sexps::SexpList::drop-loop-self l = size-SexpList l.self ≤ size-SexpList l.fn.self

@@ -1,0 +1,12 @@
+pub mod Bytes
+pub mod Places
+pub mod Datum
+pub mod Token
+pub mod Meaning
+pub mod Refused
+pub mod Grammar
+pub mod View
+pub mod Reader
+pub mod Scanning
+pub mod Answers
+pub mod Parts
