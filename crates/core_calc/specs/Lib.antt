@@ -1,0 +1,10 @@
+pub mod Terms
+pub mod Substitution
+pub mod Outcome
+pub mod Casts
+pub mod Calls
+pub mod Operators
+pub mod Step
+pub mod Calculus
+pub mod Views
+pub mod Typing
