@@ -1,0 +1,10 @@
+pub mod Imaging
+pub mod Literal
+pub mod Program
+pub mod Source
+pub mod Words
+pub mod Answers
+pub mod Outcome
+pub mod Running
+pub mod Reporting
+pub mod Streams

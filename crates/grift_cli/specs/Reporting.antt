@@ -1,0 +1,83 @@
+-- Statuses and lines of reports.
+use Rattle.std.specs.Prelude.{ℕ, ◌≡◌, ◌⊎◌, List, ◌++◌, codes, Option}
+use Rattle.std.specs.Fmt.{decimal}
+use Rattle.grift_base.specs.Outside.{HasRisen}
+use Rattle.grift_base.specs.Refusals.{refusal_text}
+use Rattle.grift_base.specs.VerdictLine.{verdict_text}
+use Rattle.grift_base.specs.declared.refusals.Refusal.{Refusal}
+use Rattle.grift_base.specs.declared.verdicts.Verdict.TheVariants.{Answer, Blame, Trap, RegionOut, StackOut, StepsSpent}
+use Rattle.grift_base.specs.declared.refusals.FrontFault.{FrontFault}
+use Rattle.grift_base.specs.declared.refusals.FrontFault.TheVariants.{Refused as SourceRefused, OutOfMemory as SourceMemory}
+use Rattle.grift_base.specs.declared.shelves.LoadFault.{LoadFault}
+use Rattle.grift_base.specs.declared.shelves.LoadFault.TheVariants.{Failed as ShelfFailed, TooLong as ShelfTooLong, OutOfMemory as ShelfMemory}
+use Rattle.grift_base.specs.declared.sinks.SinkFault.{SinkFault}
+use Rattle.grift_base.specs.declared.sinks.SinkFault.TheVariants.{Failed as SinkFailed, OutOfMemory as SinkMemory}
+use Rattle.grift_cli.specs.Outcome.{Adds, AddsPrefix, Work, Means}
+use Rattle.grift_cli.specs.declared.reports.Report.{Report}
+use Rattle.grift_cli.specs.declared.reports.Report.TheVariants.{Ran, Refused, WordsRefused, LoadFailed, PutFailed, NoMemory, TooLong}
+
+abbrev pub report_status : Report → ℕ
+report_status (Ran (Answer answer)) = 0
+report_status (Ran (Blame place)) = 3
+report_status (Ran (Trap trap)) = 4
+report_status (Ran RegionOut) = 5
+report_status (Ran StackOut) = 6
+report_status (Ran StepsSpent) = 7
+report_status (Refused refusal) = 1
+report_status WordsRefused = 2
+report_status LoadFailed = 8
+report_status PutFailed = 9
+report_status NoMemory = 10
+report_status TooLong = 12
+
+abbrev pub refusal_text_line : Refusal → List ℕ
+refusal_text_line r = codes "refused " ++ refusal_text r.kind ++ codes " " ++ decimal r.pos.line ++ codes ":" ++ decimal r.pos.col ++ codes "\n"
+
+abbrev pub report_line : Report → List ℕ
+report_line (Ran verdict) = verdict_text verdict ++ codes "\n"
+report_line (Refused refusal) = refusal_text_line refusal
+report_line WordsRefused = codes "words refused\n"
+report_line LoadFailed = codes "load failed\n"
+report_line TooLong = codes "file too long\n"
+report_line PutFailed = codes "put failed\n"
+report_line NoMemory = codes "out of memory\n"
+
+-- what is seen of the sink for the line, before and after
+pub record Line : Type 0 where
+  pub err : Option (List ℕ)
+  pub err_after : Option (List ℕ)
+  pub err_faults : ℕ
+  pub err_faults_after : ℕ
+
+-- a line was put for this status; or the sink failed, with a beginning of the line; or no memory was left, and nothing was
+-- put
+pub data LinePut (line : List ℕ) (wanted : ℕ) (l : Line) (status : ℕ) : Type 0 where
+  Put : status ≡ wanted → Adds line l.err l.err_after → LinePut line wanted l status
+  Fails : status ≡ 9 → AddsPrefix line l.err l.err_after → HasRisen l.err_faults l.err_faults_after → LinePut line wanted l status
+  Lacks : status ≡ 10 → l.err_after ≡ l.err → LinePut line wanted l status
+
+-- the report's line was put, or that of want of memory
+abbrev pub Reported : Report → Line → ℕ → Type 0
+Reported report l status = LinePut (report_line report) (report_status report) l status ⊎ LinePut (report_line NoMemory) (report_status NoMemory) l status
+
+-- how a call went: what it means, and how it was reported
+pub record WentBy (w : Work) (l : Line) (status : ℕ) : Type 0 where
+  pub report : Report
+  pub means : Means w report
+  pub reported : Reported report l status
+
+-- what a fault of the sink for the line is reported as
+abbrev pub fault_status : SinkFault → ℕ
+fault_status SinkFailed = 9
+fault_status SinkMemory = 10
+
+-- what a fault of the shelf is reported as
+abbrev pub load_report : LoadFault → Report
+load_report ShelfFailed = LoadFailed
+load_report ShelfTooLong = TooLong
+load_report ShelfMemory = NoMemory
+
+-- what a fault of the source is reported as
+abbrev pub source_report : FrontFault → Report
+source_report (SourceRefused refusal) = Refused refusal
+source_report SourceMemory = NoMemory

@@ -1,0 +1,155 @@
+// The files of the system and its streams, as a shelf and as sinks. What the outside holds is not told.
+
+ghost use Rattle.std.specs.Prelude.{◌≡◌, ◌+◌, None};
+ghost use Rattle.grift_base.specs.Outside.{Counts};
+ghost use Rattle.grift_base.specs.Shelf.{Loads};
+ghost use Rattle.grift_base.specs.Sink.{put_failed};
+ghost use Rattle.grift_cli.specs.Streams.{PutsInto, TakesAtMost};
+
+use grift_base::shelves::{LoadFault, Shelf};
+use grift_base::sinks::{Sink, SinkFault};
+use std::alloc::Global;
+use std::fs;
+use std::io::{Read, Stderr, Stdout, Write};
+use std::rt::Files;
+
+#[cfg(test)]
+mod tests;
+
+// How many bytes one read asks for at most.
+const PIECE_LENGTH: usize = 4096;
+
+/// The files of the system, by their paths. A load fails where the file can't be opened or read to its end.
+#[derive(Drop)]
+pub struct FileShelf<F> {
+    files: F,
+    faults: u64,
+}
+
+impl<F> FileShelf<F> {
+    /// The files of this system, of which no load failed yet.
+    pub fn new(files: F) -> FileShelf<F>
+        ensures { result.faults ≡ 0 }
+    {
+        FileShelf { files, faults: 0 }
+    }
+}
+
+impl<F: Files> Shelf for FileShelf<F> {
+    ghost holds = { λ _ _. None };
+
+    ghost asked = { λ _. None };
+
+    ghost fault_count = { λ shelf. shelf.faults };
+
+    fn load(&mut self, alloc: Global, name: &str, max: usize) -> Result<Vec<u8>, LoadFault> {
+        let answer = load_file(alloc, &self.files, name, max);
+        if answer == Err(LoadFault::Failed) {
+            self.faults = self.faults.saturating_add(1);
+        }
+        answer
+    }
+
+    fn faults(&self) -> u64 {
+        self.faults
+    }
+}
+
+// What the file at this path holds, if that is no more than so many bytes.
+fn load_file<F: Files>(
+    alloc: Global,
+    files: &F,
+    path: &str,
+    max: usize,
+) -> Result<Vec<u8>, LoadFault>
+    ensures { Loads None max result }
+{
+    let mut file = fs::open(files, path).map_err(|_| LoadFault::Failed)?;
+    read_within(alloc, &mut file, max)
+}
+
+// What the reader has left, if that is no more than so many bytes. At most one byte more is read.
+fn read_within<R: Read>(alloc: Global, reader: &mut R, max: usize) -> Result<Vec<u8>, LoadFault>
+    ensures loads { Loads (R.remaining reader.old) max result }
+    ensures stops { TakesAtMost (max + 1) (R.remaining reader.old) (R.remaining reader.new) }
+{
+    let mut loaded = Vec::new(alloc);
+    let mut piece = [0; PIECE_LENGTH];
+    for _ in 0..u64::MAX {
+        let room = max - loaded.len();
+        let wanted = room.min(PIECE_LENGTH - 1) + 1;
+        let Ok(count) = reader.read(&mut piece[..wanted]) else {
+            return Err(LoadFault::Failed);
+        };
+        if count == 0 {
+            return Ok(loaded);
+        }
+        if count > room {
+            return Err(LoadFault::TooLong);
+        }
+        if loaded.extend_from_slice(&piece[..count]).is_err() {
+            return Err(LoadFault::OutOfMemory);
+        }
+    }
+    Err(LoadFault::Failed)
+}
+
+/// A sink that writes to a stream. A put fails where the stream fails, or takes none of the bytes that are left.
+#[derive(Drop)]
+pub struct StreamSink<W> {
+    stream: W,
+    faults: u64,
+}
+
+/// The standard output as a sink.
+pub type OutSink = StreamSink<Stdout>;
+
+/// The standard error as a sink.
+pub type ErrSink = StreamSink<Stderr>;
+
+impl<W> StreamSink<W> {
+    /// A sink into this stream, into which no put failed yet.
+    pub fn new(stream: W) -> StreamSink<W>
+        ensures { result.faults ≡ 0 }
+    {
+        StreamSink { stream, faults: 0 }
+    }
+}
+
+impl<W: Write> Sink for StreamSink<W> {
+    ghost written = { λ _. None };
+
+    ghost fault_count = { λ sink. sink.faults };
+
+    fn put(&mut self, bytes: &[u8]) -> Result<(), SinkFault>
+        ensures stream { PutsInto bytes.now result (W.contents self.old.stream) (W.contents self.new.stream) }
+        ensures count { Counts (put_failed result) self.old.faults self.new.faults }
+    {
+        let answer = write_whole(&mut self.stream, bytes);
+        if answer.is_err() {
+            self.faults = self.faults.saturating_add(1);
+        }
+        answer
+    }
+
+    fn faults(&self) -> u64 {
+        self.faults
+    }
+}
+
+// Writes these bytes to the end.
+fn write_whole<W: Write>(writer: &mut W, bytes: &[u8]) -> Result<(), SinkFault>
+    ensures { PutsInto bytes.now result (W.contents writer.old) (W.contents writer.new) }
+{
+    let mut done = 0;
+    for _ in 0..u64::MAX {
+        if done == bytes.len() {
+            return writer.flush().map_err(|_| SinkFault::Failed);
+        }
+        match writer.write(&bytes[done..]) {
+            Ok(0) | Err(_) => return Err(SinkFault::Failed),
+            Ok(count) => done += count,
+        }
+    }
+    Err(SinkFault::Failed)
+}
