@@ -1,7 +1,7 @@
 -- The laws of following.
 use Rattle.std.proofs.Common.{◌≡◌, ◌≢◌, ◌⊎◌, inl, inr, ℕ, ◌<◌, ◌≤◌, List, [], ◌++◌, Option, Some, None, refl, sym, ap, ◌∙◌, subst, arith, append_assoc, append-nil}
 use Rattle.std.proofs.lemmas.Bool.{cases_lt}
-use Rattle.run_laws.specs.Runs.{Ending, Verdict, Exhausted, Wrong, Moment, Run, IsPrefix, IsExhausted, EndsAs, HasVerdictOf, NeverWrong, StaysEnded, Follows, SameAnswer, Agrees, Backed, Reached, FollowsBy, Through, Same}
+use Rattle.run_laws.specs.Runs.{Ending, Verdict, Exhausted, Wrong, Moment, Run, IsPrefix, IsExhausted, EndsAs, HasVerdictOf, NeverWrong, NeverExhausted, StaysEnded, Follows, SameAnswer, Agrees, Backed, Reached, FollowsBy, Through, Same}
 
 -- endings and output
 ends_as_trans : {V : Type 0} (a b c : Option (Ending V)) → EndsAs a b → EndsAs b c → EndsAs a c
@@ -129,6 +129,35 @@ same_answer {X = X} {Y = Y} f stays m n v e ex ey = together (f.back m)
         let so : (Y k).ending ≡ Some (Verdict v) = subst (λ o. EndsAs o (Y k).ending) ex end in
         let same = same_moment k so (cases_lt k n) in
         (some_injective (sym ey ∙ ap (λ y. y.ending) same ∙ so), out ∙ sym (ap (λ y. y.output) same))
+
+-- ---- a run that never runs out is followed back
+
+swapped_back : {V : Type 0} (a b : Option (Ending V)) → a ≢ Some Exhausted → HasVerdictOf a b → EndsAs b a
+swapped_back a None ne h = tt
+swapped_back a (Some (Verdict v)) ne h = h
+swapped_back a (Some Exhausted) ne h = tt
+swapped_back a (Some Wrong) ne h = absurd h
+
+swapped_forth : {V : Type 0} (a b : Option (Ending V)) → a ≢ Some Exhausted → EndsAs a b → HasVerdictOf b a
+swapped_forth None b ne h = tt
+swapped_forth (Some (Verdict v)) b ne h = h
+swapped_forth (Some Exhausted) b ne h = absurd (ne refl)
+swapped_forth (Some Wrong) b ne h = absurd h
+
+module _ {A B V : Type 0} (X : Run A V) (Y : Run B V) (K L : A → B → Type 0) (never : NeverExhausted X) where
+  back_from : (m n : ℕ) → Reached K (X n) (Y m) → ((Y m).output ≡ (X n).output) × EndsAs (Y m).ending (X n).ending
+  back_from m n (inl e) = absurd (never n e)
+  back_from m n (inr r) = (sym r.0.output, swapped_back (X n).ending (Y m).ending (never n) r.1)
+
+  swapped : FollowsBy K L X Y → Follows Y X
+  swapped f = record {
+    back = λ m. let a = f.forth m in let b = back_from m a.0 a.2 in (a.0, b.0, b.1);
+    forth = λ n. let a = f.back n in (a.0, inr (prefix_refl (X n).output (Y a.0).output (sym a.1.0.output), swapped_forth (X n).ending (Y a.0).ending (never n) a.1.1));
+  }
+
+-- a run that follows another by relations and never runs out is followed by it
+pub followed_back : {A B V : Type 0} {X : Run A V} {Y : Run B V} {K L : A → B → Type 0} → NeverExhausted X → FollowsBy K L X Y → Follows Y X
+followed_back {X = X} {Y = Y} {K = K} {L = L} never f = swapped X Y K L never f
 
 -- the relations may be weakened
 pub follows_by_weaken : {A B V : Type 0} {X : Run A V} {Y : Run B V} {K L : A → B → Type 0} (K' L' : A → B → Type 0) → ((a : A) (b : B) → K a b → K' a b) → ((a : A) (b : B) → L a b → L' a b) → FollowsBy K L X Y → FollowsBy K' L' X Y

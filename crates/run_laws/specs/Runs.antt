@@ -43,6 +43,10 @@ HasVerdictOf o (Some Wrong) = ⊥
 abbrev pub NeverWrong : {A V : Type 0} → Run A V → Type 0
 NeverWrong X = (n : ℕ) → (X n).ending ≢ Some Wrong
 
+-- the run never runs out of any resource
+abbrev pub NeverExhausted : {A V : Type 0} → Run A V → Type 0
+NeverExhausted X = (n : ℕ) → (X n).ending ≢ Some Exhausted
+
 -- what has ended stays as it is
 abbrev pub StaysEnded : {A V : Type 0} → Run A V → Type 0
 StaysEnded {V = V} X = (n m : ℕ) (e : Ending V) → n ≤ m → (X n).ending ≡ Some e → X m ≡ X n

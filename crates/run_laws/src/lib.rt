@@ -7,7 +7,7 @@
 #![tactic(auto)]
 
 ghost use Rattle.std.specs.Prelude.{◌≡◌, ℕ, ◌+◌};
-ghost use Rattle.run_laws.specs.Runs.{Ending, Run, NeverWrong, StaysEnded, OutputGrows, Follows, SameAnswer, FollowsBy, Same, Any};
+ghost use Rattle.run_laws.specs.Runs.{Ending, Run, NeverWrong, NeverExhausted, StaysEnded, OutputGrows, Follows, SameAnswer, FollowsBy, Same, Any};
 ghost use Rattle.run_laws.specs.Machines.{Machine, and_then, steps, run, OnlyAddsOutput};
 ghost use Rattle.run_laws.specs.Reductions.{Reduction, state_after, reduction_run, ReductionOnlyAddsOutput, machine_of};
 ghost use Rattle.run_laws.specs.Meters.{Metered, unspent, metered, metered_reduction, SameButMeter, each_one, Spends, EndsInTime, ComesInTime};
@@ -34,6 +34,12 @@ pub fn follower_never_goes_wrong<A, B, V>()
 /// has ended, both have the same verdict and the same output.
 pub fn follower_gives_same_answer<A, B, V>()
     ensures { (x : Run A V) (y : Run B V) → Follows x y → StaysEnded y → SameAnswer x y }
+{}
+
+/// A run that follows another, at moments of the same output, and never runs out of a resource is
+/// followed by the other.
+pub fn what_never_runs_out_is_followed_back<A, B, V>()
+    ensures { (x : Run A V) (y : Run B V) → NeverExhausted x → FollowsBy Any Any x y → Follows y x }
 {}
 
 /// What has ended stays as it is, with its output, its ending and what it shows.

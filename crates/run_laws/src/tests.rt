@@ -7,6 +7,7 @@ fn each_law_can_be_called() {
     follows_is_transitive::<u8, u16, u32, u8>();
     follower_never_goes_wrong::<u8, u16, u8>();
     follower_gives_same_answer::<u8, u16, u8>();
+    what_never_runs_out_is_followed_back::<u8, u16, u8>();
     what_has_ended_stays::<u8, u16, u8>();
     output_only_grows::<u8, u16, u8>();
     later_steps_go_on_from_earlier_ones::<u8, u16, u8>();
