@@ -14,7 +14,7 @@ use Rattle.grift_base.specs.declared.verdicts.Trap.TheVariants.{ZeroDivisor, Ind
 use Rattle.grift_base.specs.declared.verdicts.Verdict.{Verdict}
 use Rattle.grift_base.specs.declared.verdicts.Verdict.TheVariants.{Answer as AnswerVerdict, Blame, Trap as TrapVerdict}
 use Rattle.std.specs.Prelude.{ℤ}
-use Rattle.core_calc.specs.Terms.{Term, Terms, Members, IntLit, BoolLit, Var, Lambda, Group, Let, Call, If, Seq, Cast, Proj, ProjDyn, Tuple, Prim, NoTerms, TermThen, NoMembers, MemberThen, NoBindings, BindingThen, terms_from}
+use Rattle.core_calc.specs.Terms.{Term, Terms, Members, IntLit, BoolLit, Var, Lambda, Group, Let, Call, Enter, If, Seq, Cast, Proj, ProjDyn, Tuple, Prim, NoTerms, TermThen, NoMembers, MemberThen, NoBindings, BindingThen, terms_from}
 use Rattle.core_calc.specs.Calculus.{answer, CalcState, calc}
 
 -- ---- how the examples are written
@@ -155,6 +155,20 @@ function_shown = refl
 call_of_integer : (after [] [] 2 (Call (int 1) (one (int 2)))).ending ≡ Some Wrong
 call_of_integer = refl
 
+-- an integer entered with an argument that is no value yet, as in (5 (print-int 1)): the argument takes its step first
+abbrev integer_entered : Term
+integer_entered = Enter (int 5) (one (Prim PrintInt (one (int 1))))
+
+argument_comes_first : (after [] [] 1 integer_entered).output ≡ codes "1"
+unfolding digits
+argument_comes_first = refl
+
+runs_on_after_argument : (after [] [] 1 integer_entered).ending ≡ None
+runs_on_after_argument = refl
+
+then_no_step : (after [] [] 2 integer_entered).ending ≡ Some Wrong
+then_no_step = refl
+
 -- ---- casts
 
 abbrev base_types : TypeRows
@@ -199,6 +213,10 @@ argument_blamed = refl
 -- ((: (lambda () 1) Dyn) 5): the function has another number of parameters
 wrong_count : (after (IntRow ∷ DynRow ∷ FunRow [] 0 ∷ FunRow (0 ∷ []) 1 ∷ []) (at_column 2 ∷ []) 9 (Call (Cast (Cast (Lambda [] (int 1) 2) 2 1 0) 1 3 0) (one (int 5)))).ending ≡ blames (at_column 2)
 wrong_count = refl
+
+-- ((: (lambda ([x : T]) : Bool #t) (Bool -> Bool)) #t), where the table does not have the type T
+parameter_type_missing : (after (IntRow ∷ BoolRow ∷ UnitRow ∷ DynRow ∷ FunRow (9 ∷ []) 1 ∷ FunRow (1 ∷ []) 1 ∷ []) (at_column 2 ∷ []) 9 (Call (Cast (Lambda (0 ∷ []) (BoolLit true) 4) 4 5 0) (one (BoolLit true)))).ending ≡ Some Wrong
+parameter_type_missing = refl
 
 -- four lines:
 -- (let ([f (lambda ([a : Int] [b : Int]) : Int a)])

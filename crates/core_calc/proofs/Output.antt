@@ -101,7 +101,7 @@ module _ (types : TypeRows) (store : Store) (world : WorldState) where
       keeps_if_some world.output (all_values arguments) (enter_body types store world parameters body []) arguments_step (keeps_enter_body parameters body []) keeps
   keeps_enter_step (MemberValue members place) arguments arguments_step keeps =
       keeps_if_some world.output (all_values arguments) (enter_member types store world members place (group_values members)) arguments_step (keeps_enter_member members place (group_values members)) keeps
-  keeps_enter_step _ arguments arguments_step keeps = tt
+  keeps_enter_step _ arguments arguments_step keeps = keeps_if_some world.output (all_values arguments) (λ values. Stuck) arguments_step (λ values. tt) keeps
 
   keeps_proj_step : (v : Value) (k : ℤ) → Keeps world.output (proj_step types store world v k)
   keeps_proj_step (TupleValue values) k = keeps_with_some world.output (value_at types store world (value_list values) k) (λ v. Goes (ValueTerm v) store world) (λ v. same)

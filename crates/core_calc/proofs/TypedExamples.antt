@@ -1,16 +1,101 @@
--- Types of small programs.
-use Rattle.std.proofs.Common.{◌≡◌, ℕ, [], ◌∷◌, Some, refl, true, false, sym, subst}
-use Rattle.grift_base.specs.Types.{TypeRows, BoolRow, DynRow, FunRow, row_at}
-use Rattle.core_calc.specs.Terms.{BoolLit, Var, Lambda, Call, If, Cast, NoTerms, TermThen}
-use Rattle.core_calc.specs.Typing.{HasType}
+-- Types of small programs, and tables of types.
+use Rattle.std.proofs.Common.{◌≡◌, ℕ, zero, suc, ◌<◌, List, [], ◌∷◌, Option, Some, refl, true, false, sym, ap, subst, arith, length, slice_get}
+use Rattle.std.specs.Prelude.{All}
+use Rattle.std.proofs.lemmas.List.Elements.{All-nil, All-cons}
+use Rattle.grift_base.specs.Tables.{HasNoRepeats}
+use Rattle.grift_base.specs.Types.{TypeRow, TypeRows, IntRow, BoolRow, UnitRow, DynRow, FunRow, row_at, parts_of}
+use Rattle.core_calc.specs.Terms.{Term, BoolLit, Var, Lambda, Call, If, Cast, NoTerms, TermThen}
+use Rattle.core_calc.specs.Typing.{HasType, IsTypeTable, ProgramTermHasType}
+
+-- ---- tables of types
+
+-- what stands nowhere in a list may stand in front of it
+no_repeats_in_front : {T : Type 0} (x : T) (xs : List T) → ((j : ℕ) → Some x ≡ slice_get xs j → ⊥) → HasNoRepeats xs → HasNoRepeats (x ∷ xs)
+no_repeats_in_front x xs absent apart zero zero within e = refl
+no_repeats_in_front x xs absent apart zero (suc j) within e = absurd (absent j e)
+no_repeats_in_front x xs absent apart (suc i) zero within e = absurd (absent i (sym e))
+no_repeats_in_front x xs absent apart (suc i) (suc j) within e = ap suc (apart i j (omega arith) e)
+
+nothing_repeats : {T : Type 0} → HasNoRepeats {T = T} []
+nothing_repeats i j within e = absurd (omega arith)
+
+abbrev last_row : TypeRows
+last_row = FunRow (0 ∷ []) 0 ∷ []
+
+abbrev last_rows : TypeRows
+last_rows = DynRow ∷ last_row
 
 abbrev rows : TypeRows
-rows = BoolRow ∷ DynRow ∷ FunRow (0 ∷ []) 0 ∷ []
+rows = BoolRow ∷ last_rows
+
+bool_once : (j : ℕ) → Some BoolRow ≡ slice_get last_rows j → ⊥
+bool_once zero e = cc
+bool_once (suc zero) e = cc
+bool_once (suc (suc j)) e = cc
+
+dyn_once : (j : ℕ) → Some DynRow ≡ slice_get last_row j → ⊥
+dyn_once zero e = cc
+dyn_once (suc j) e = cc
+
+function_once : (j : ℕ) → Some (FunRow (0 ∷ []) 0) ≡ slice_get [] j → ⊥
+function_once j e = cc
+
+rows_are_distinct : HasNoRepeats rows
+rows_are_distinct =
+    no_repeats_in_front BoolRow last_rows bool_once (no_repeats_in_front DynRow last_row dyn_once (no_repeats_in_front (FunRow (0 ∷ []) 0) [] function_once nothing_repeats))
+
+abbrev IsRow : ℕ → Type 0
+IsRow part = part < length rows
+
+abbrev HasRows : TypeRow → Type 0
+HasRows row = All IsRow (parts_of row)
+
+-- both parts of the third row are the first row
+third_row_has_rows : HasRows (FunRow (0 ∷ []) 0)
+third_row_has_rows = All-cons IsRow 0 (0 ∷ []) (omega arith) (All-cons IsRow 0 [] (omega arith) (All-nil IsRow))
+
+rows_are_closed : All HasRows rows
+rows_are_closed =
+    All-cons HasRows BoolRow last_rows (All-nil IsRow) (All-cons HasRows DynRow last_row (All-nil IsRow) (All-cons HasRows (FunRow (0 ∷ []) 0) [] third_row_has_rows (All-nil HasRows)))
+
+rows_are_a_table : IsTypeTable rows
+rows_are_a_table = record { distinct = rows_are_distinct; closed = rows_are_closed }
+
+-- the type of the parameter of the fifth row is no row
+abbrev with_a_part_missing : TypeRows
+with_a_part_missing = IntRow ∷ BoolRow ∷ UnitRow ∷ DynRow ∷ FunRow (9 ∷ []) 1 ∷ FunRow (1 ∷ []) 1 ∷ []
+
+part_missing_refused : IsTypeTable with_a_part_missing → ⊥
+part_missing_refused table =
+    let below : 9 < 6 = table.closed 4 IntRow (omega arith) 0 0 (omega arith) in
+    omega arith
+
+-- ((: (lambda ([x : T]) : Bool #t) (Bool -> Bool)) #t), where T is the type that is missing: all else is as it should be, and its run goes wrong
+typed_but_for_the_table : HasType with_a_part_missing [] [] (Call (Cast (Lambda (0 ∷ []) (BoolLit true) 4) 4 5 0) (TermThen (BoolLit true) NoTerms)) 1
+typed_but_for_the_table =
+    (5, 1 ∷ [], (refl, (refl, (9 ∷ [], 1, (0, 9) ∷ [], refl, refl, refl)), (FunRow (1 ∷ []) 1, refl)), refl, (1, [], refl, refl, refl))
+
+-- Dyn at two places
+dyn_twice_refused : IsTypeTable (DynRow ∷ BoolRow ∷ DynRow ∷ []) → ⊥
+dyn_twice_refused table =
+    let same : ◌≡◌ {A = ℕ} 0 2 = table.distinct 0 2 (omega arith) refl in
+    omega arith
+
+-- ---- types of programs
 
 -- ((lambda ([x : Bool]) : Bool x) #t)
-identity_called : HasType rows [] [] (Call (Lambda (0 ∷ []) (Var 0) 2) (TermThen (BoolLit true) NoTerms)) 0
+abbrev identity_call : Term
+identity_call = Call (Lambda (0 ∷ []) (Var 0) 2) (TermThen (BoolLit true) NoTerms)
+
+identity_called : HasType rows [] [] identity_call 0
 identity_called =
     (2, 0 ∷ [], (refl, (0 ∷ [], 0, (0, 0) ∷ [], refl, refl, refl)), refl, (0, [], refl, refl, refl))
+
+no_binder_else : (j : ℕ) → ◌≡◌ {A = Option ℕ} (Some 0) (slice_get [] j) → ⊥
+no_binder_else j e = cc
+
+identity_call_is_program : ProgramTermHasType rows identity_call 0
+identity_call_is_program = (rows_are_a_table, (tt, (tt, tt)), no_repeats_in_front 0 [] no_binder_else nothing_repeats, identity_called)
 
 -- (: #t Dyn)
 cast_to_dyn : HasType rows [] [] (Cast (BoolLit true) 0 1 0) 1

@@ -32,7 +32,8 @@ module _ (types : TypeRows) (store : Store) (world : WorldState) where
   enter_member (MemberThen name parameters body type rest) zero group values = enter_body parameters body group values
   enter_member (MemberThen name parameters body type rest) (suc place) group values = enter_member rest place group values
 
-  -- the step of Enter where its function is this value; the last is the outcome of a step of the arguments
+  -- the step of Enter where its function is this value; the last is the outcome of a step of the arguments.
+  -- The arguments of a function seen through a cast go on into casts as they are; all others are evaluated first, also those of a value that is no function
   abbrev pub enter_step : Value → Terms → Outcome Term → Outcome Term
   enter_step (WrapValue v from label to) arguments arguments_step =
       with_rows types from to (λ row other. enter_wrapped row other v arguments label)
@@ -40,7 +41,7 @@ module _ (types : TypeRows) (store : Store) (world : WorldState) where
       if_some (all_values arguments) (enter_body parameters body []) arguments_step
   enter_step (MemberValue members place) arguments arguments_step =
       if_some (all_values arguments) (enter_member members place (group_values members)) arguments_step
-  enter_step _ arguments arguments_step = Stuck
+  enter_step _ arguments arguments_step = if_some (all_values arguments) (λ values. Stuck) arguments_step
 
   -- the value at a place
   abbrev pub value_at : List Value → ℤ → Option Value

@@ -1,15 +1,20 @@
 -- The types of terms, values and states.
-use Rattle.std.specs.Prelude.{◌≡◌, ℕ, zero, suc, true, false, List, [], ◌∷◌, ◌++◌, length, ◌≤◌, Some, slice_get}
+use Rattle.std.specs.Prelude.{◌≡◌, ℕ, zero, suc, true, false, List, [], ◌∷◌, ◌++◌, length, ◌≤◌, ◌<◌, Some, slice_get, All}
 use Rattle.std.specs.Int.{w64}
 use Rattle.std.specs.Int.RustNames.{FitsSigned}
 use Rattle.grift_base.specs.Tables.{HasNoRepeats}
-use Rattle.grift_base.specs.Types.{TypeRow, IntRow, BoolRow, UnitRow, DynRow, FunRow, TupleRow, RefRow, VectRow, TypeRows, row_at, is_dyn, is_base, same_head, tuple_part}
+use Rattle.grift_base.specs.Types.{TypeRow, IntRow, BoolRow, UnitRow, DynRow, FunRow, TupleRow, RefRow, VectRow, TypeRows, row_at, parts_of, is_dyn, is_base, same_head, tuple_part}
 use Rattle.grift_base.specs.declared.operators.PrimOp.{PrimOp}
 use Rattle.grift_base.specs.declared.operators.PrimOp.TheVariants.{Add, Sub, Mul, Quot, Rem, Lt, Le, Eq, Ge, Gt, Not, PrintInt, Newline, ReadInt, MakeBox, Unbox, BoxSet, MakeVector, VectorRef, VectorSet, VectorLength}
 use Rattle.core_calc.specs.Terms.{Term, Terms, Members, Bindings, Value, Values, IntLit, BoolLit, UnitLit, Var, Lambda, Group, Let, Call, Enter, If, Seq, Cast, Proj, ProjDyn, Tuple, Prim, ValueTerm, NoTerms, TermThen, NoMembers, MemberThen, NoBindings, BindingThen, IntValue, BoolValue, UnitValue, FunValue, MemberValue, TupleValue, LocValue, WrapValue, InjectValue, NoValues, ValueThen, as_value}
 use Rattle.core_calc.specs.Substitution.{entry_of, bind}
 use Rattle.core_calc.specs.Outcome.{Store}
 use Rattle.core_calc.specs.Calculus.{CalcState}
+
+-- a table of types: no row stands in it twice, and each part of a row is the place of a row
+pub record IsTypeTable (types : TypeRows) : Type 0 where
+  pub distinct : HasNoRepeats types
+  pub closed : All (λ row. All (λ part. part < length types) (parts_of row)) types
 
 -- names with their types; the first entry of a name counts
 abbrev pub Context : Type 0
@@ -163,9 +168,9 @@ module _ (types : TypeRows) where
   StoreHasTypes store cells =
       (length store ≡ length cells) × ((place : ℕ) (cell : List Value) (cell_type : CellType) → slice_get store place ≡ Some cell → slice_get cells place ≡ Some cell_type → (length cell ≡ cell_type.size) × ((index : ℕ) (v : Value) → slice_get cell index ≡ Some v → ValueHasType cells v cell_type.content))
 
-  -- there is a type for each cell with which the term and all stored values have their types
+  -- the types are a table, and there is a type for each cell with which the term and all stored values have their types
   abbrev pub StateHasType : CalcState → ℕ → Type 0
-  StateHasType state type = (cells : List CellType) × StoreHasTypes state.store cells × HasType cells [] state.term type
+  StateHasType state type = IsTypeTable types × (cells : List CellType) × StoreHasTypes state.store cells × HasType cells [] state.term type
 
 -- ---- program terms
 
@@ -235,6 +240,6 @@ abbrev mutual
   binding_binders NoBindings = []
   binding_binders (BindingThen name bound rest) = (name ∷ binders bound) ++ binding_binders rest
 
--- a program term: written, with a binder of its own for each name, and of this type without cells and names
+-- a program term over a table of types: written, with a binder of its own for each name, and of this type without cells and names
 abbrev pub ProgramTermHasType : TypeRows → Term → ℕ → Type 0
-ProgramTermHasType types term type = IsWritten term × HasNoRepeats (binders term) × HasType types [] [] term type
+ProgramTermHasType types term type = IsTypeTable types × IsWritten term × HasNoRepeats (binders term) × HasType types [] [] term type
