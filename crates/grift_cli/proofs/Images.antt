@@ -16,19 +16,19 @@ len_field : (statics code : List ℕ) → AreSections statics code → image_len
 unfolding load_bytes
 len_field statics code s = let b = s.small in word_sum (64 + length statics + length code) (omega arith)
 
-statics_field : (statics code : List ℕ) → AreSections statics code → statics_len (image_bytes statics code) ≡ length statics
+pub statics_field : (statics code : List ℕ) → AreSections statics code → statics_len (image_bytes statics code) ≡ length statics
 unfolding load_bytes
 statics_field statics code s = let b = s.small in word_sum (length statics) (omega arith)
 
-code_field : (statics code : List ℕ) → AreSections statics code → code_len (image_bytes statics code) ≡ length code
+pub code_field : (statics code : List ℕ) → AreSections statics code → code_len (image_bytes statics code) ≡ length code
 unfolding load_bytes
 code_field statics code s = let b = s.small in word_sum (length code) (omega arith)
 
-label_field : (statics code : List ℕ) → label_count (image_bytes statics code) ≡ 0
+pub label_field : (statics code : List ℕ) → label_count (image_bytes statics code) ≡ 0
 unfolding load_bytes
 label_field statics code = refl
 
-entry_field : (statics code : List ℕ) → entry (image_bytes statics code) ≡ 0
+pub entry_field : (statics code : List ℕ) → entry (image_bytes statics code) ≡ 0
 unfolding load_bytes
 entry_field statics code = refl
 

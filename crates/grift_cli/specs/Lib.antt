@@ -1,5 +1,8 @@
 pub mod Imaging
-pub mod Literal
+pub mod Forms
+pub mod Elaboration
+pub mod Code
+pub mod Limits
 pub mod Program
 pub mod Source
 pub mod Words

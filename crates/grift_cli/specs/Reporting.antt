@@ -1,7 +1,6 @@
 -- Statuses and lines of reports.
-use Rattle.std.specs.Prelude.{ℕ, ◌≡◌, ◌⊎◌, List, ◌++◌, codes, Option}
+use Rattle.std.specs.Prelude.{ℕ, ◌≡◌, ◌⊎◌, List, ◌++◌, codes}
 use Rattle.std.specs.Fmt.{decimal}
-use Rattle.grift_base.specs.Outside.{HasRisen}
 use Rattle.grift_base.specs.Refusals.{refusal_text}
 use Rattle.grift_base.specs.VerdictLine.{verdict_text}
 use Rattle.grift_base.specs.declared.refusals.Refusal.{Refusal}
@@ -12,7 +11,7 @@ use Rattle.grift_base.specs.declared.shelves.LoadFault.{LoadFault}
 use Rattle.grift_base.specs.declared.shelves.LoadFault.TheVariants.{Failed as ShelfFailed, TooLong as ShelfTooLong, OutOfMemory as ShelfMemory}
 use Rattle.grift_base.specs.declared.sinks.SinkFault.{SinkFault}
 use Rattle.grift_base.specs.declared.sinks.SinkFault.TheVariants.{Failed as SinkFailed, OutOfMemory as SinkMemory}
-use Rattle.grift_cli.specs.Outcome.{Adds, AddsPrefix, Work, Means}
+use Rattle.grift_cli.specs.Outcome.{SinkSeen, Untouched, Takes, Breaks, Work, Means}
 use Rattle.grift_cli.specs.declared.reports.Report.{Report}
 use Rattle.grift_cli.specs.declared.reports.Report.TheVariants.{Ran, Refused, WordsRefused, LoadFailed, PutFailed, NoMemory, TooLong}
 
@@ -42,29 +41,22 @@ report_line TooLong = codes "file too long\n"
 report_line PutFailed = codes "put failed\n"
 report_line NoMemory = codes "out of memory\n"
 
--- what is seen of the sink for the line, before and after
-pub record Line : Type 0 where
-  pub err : Option (List ℕ)
-  pub err_after : Option (List ℕ)
-  pub err_faults : ℕ
-  pub err_faults_after : ℕ
-
 -- a line was put for this status; or the sink failed, with a beginning of the line; or no memory was left, and nothing was
 -- put
-pub data LinePut (line : List ℕ) (wanted : ℕ) (l : Line) (status : ℕ) : Type 0 where
-  Put : status ≡ wanted → Adds line l.err l.err_after → LinePut line wanted l status
-  Fails : status ≡ 9 → AddsPrefix line l.err l.err_after → HasRisen l.err_faults l.err_faults_after → LinePut line wanted l status
-  Lacks : status ≡ 10 → l.err_after ≡ l.err → LinePut line wanted l status
+pub data LinePut (line : List ℕ) (wanted : ℕ) (err : SinkSeen) (status : ℕ) : Type 0 where
+  Put : status ≡ wanted → Takes line err → LinePut line wanted err status
+  Fails : status ≡ 9 → Breaks line err → LinePut line wanted err status
+  Lacks : status ≡ 10 → Untouched err → LinePut line wanted err status
 
 -- the report's line was put, or that of want of memory
-abbrev pub Reported : Report → Line → ℕ → Type 0
-Reported report l status = LinePut (report_line report) (report_status report) l status ⊎ LinePut (report_line NoMemory) (report_status NoMemory) l status
+abbrev pub Reported : Report → SinkSeen → ℕ → Type 0
+Reported report err status = LinePut (report_line report) (report_status report) err status ⊎ LinePut (report_line NoMemory) (report_status NoMemory) err status
 
 -- how a call went: what it means, and how it was reported
-pub record WentBy (w : Work) (l : Line) (status : ℕ) : Type 0 where
+pub record WentBy (w : Work) (err : SinkSeen) (status : ℕ) : Type 0 where
   pub report : Report
   pub means : Means w report
-  pub reported : Reported report l status
+  pub reported : Reported report err status
 
 -- what a fault of the sink for the line is reported as
 abbrev pub fault_status : SinkFault → ℕ

@@ -1,75 +1,151 @@
 // Programs from s-expressions.
 
-ghost use Rattle.std.specs.Prelude.{◌≡◌, ◌≤◌, ℤ, IfOk, IfErr, MatchOption, IfSome, FitsSigned, length};
-ghost use Rattle.std.specs.Int.{w64};
+ghost use Rattle.std.specs.Prelude.{◌≡◌, IfOk, IfErr, MatchOption, None, Some};
 ghost use Rattle.sexpr_reader.specs.View.{datums_of, datum_of, datum_at};
-ghost use Rattle.sexpr_reader.specs.Datum.{datum_then};
-ghost use Rattle.core_calc.specs.Terms.{Term, IntLit};
-ghost use Rattle.grift_cli.specs.Source.{IsForm, IsProgram, IsSource};
-ghost use Rattle.grift_cli.specs.Answers.{IsFault};
+ghost use Rattle.sexpr_reader.specs.Datum.{list_datum, leaf_datum, symbol};
+ghost use Rattle.core_calc.specs.Terms.{Terms, Seq};
+ghost use Rattle.core_calc.specs.Views.{term_of, terms_of};
+ghost use Rattle.grift_cli.specs.Forms.{head_word, made, IsForm, AreForms, IsProgram};
+ghost use Rattle.grift_cli.specs.Answers.{bad_form, IsFaultOf};
 
+use core_calc::terms::{Core, CoreList};
+use grift_base::operators::PrimOp;
 use grift_base::places::Pos;
 use grift_base::refusals::{FrontFault, Refusal, RefusalKind};
 use sexpr_reader::sexps::{Sexp, SexpList, SexpNode};
-use sexpr_reader::{a_text_has_one_reading, read, what_reads_is_not_refused};
 use std::alloc::Global;
 
-/// A program: for now a number.
+/// What a list is by the word at its head.
 #[derive(Clone, Copy, PartialEq, Eq, Debug)]
-pub struct Program {
-    pub number: i64,
+pub enum Head {
+    /// `+`, of two operands.
+    Sum,
+    /// `begin`, of one operand or more.
+    Begin,
+    /// `print-int`, of one operand.
+    PrintInt,
+    /// `newline`, of no operand.
+    Newline,
 }
 
-/// The program that a source is. What is none is refused as a bad form at its first byte.
-pub fn read_program(alloc: Global, text: &[u8]) -> Result<Program, FrontFault>
-    requires { length text.now ≤ 262144 }
-    ensures ok { IfOk result (λ program. IsSource text.now (IntLit program.number)) }
-    ensures fits { IfOk result (λ program. FitsSigned w64 program.number) }
-    ensures err { IfErr result (IsFault text.now) }
-{
-    a_text_has_one_reading();
-    what_reads_is_not_refused();
-    let forms = read(alloc, text)?;
-    match number_of(&forms) {
-        Some(number) => Ok(Program { number }),
-        None => Err(FrontFault::Refused(Refusal {
-            kind: RefusalKind::BadForm,
-            pos: Pos { line: 1, col: 1 },
-        })),
-    }
-}
-
-// The number that these s-expressions are, if they are one.
-fn number_of(forms: &SexpList) -> Option<i64>
-    ensures number { MatchOption result ((term : Term) → IsProgram (datums_of forms.now) term → ⊥) (λ n. IsProgram (datums_of forms.now) (IntLit n)) }
-    ensures fits { IfSome result (λ n. FitsSigned w64 n) }
+/// The term that s-expressions are as a program.
+pub fn read_program(alloc: Global, forms: &SexpList) -> Result<Core, FrontFault>
+    ensures ok { IfOk result (λ core. IsProgram (datums_of forms.now) (term_of core)) }
+    ensures err { IfErr result (IsFaultOf (IsProgram (datums_of forms.now))) }
 {
     match forms {
-        SexpList::Nil => None,
-        SexpList::Cons(form, rest) => alone(form, rest),
+        SexpList::Cons(form, rest) if matches!(**rest, SexpList::Nil) => read_form(alloc, form),
+        _ => Err(bad_form()),
     }
 }
 
-// The number that the first of these s-expressions is, if it is one and stands alone.
-fn alone(form: &Sexp, rest: &SexpList) -> Option<i64>
-    ensures number { MatchOption result ((term : Term) → IsProgram (datum_then (datum_of form.now) (datums_of rest.now)) term → ⊥) (λ n. IsProgram (datum_then (datum_of form.now) (datums_of rest.now)) (IntLit n)) }
-    ensures fits { IfSome result (λ n. FitsSigned w64 n) }
+// The term that an s-expression is as a form.
+#[cycle(reading)]
+fn read_form(alloc: Global, form: &Sexp) -> Result<Core, FrontFault>
+    ensures ok { IfOk result (λ core. IsForm (datum_of form.now) (term_of core)) }
+    ensures err { IfErr result (IsFaultOf (IsForm (datum_of form.now))) }
 {
-    match rest {
-        SexpList::Nil => number(&form.node),
-        SexpList::Cons(_, _) => None,
+    match &form.node {
+        SexpNode::Int(n) => Ok(Core::Int(*n)),
+        SexpNode::Bool(_) => Err(bad_form()),
+        SexpNode::Symbol(_) => Err(bad_form()),
+        SexpNode::List(parts) => read_list(alloc, parts),
     }
 }
 
-// The number that a node is, if it is one.
-fn number(node: &SexpNode) -> Option<i64>
-    ensures number { (place : Pos) → MatchOption result ((term : Term) → IsForm (datum_at place node.now) term → ⊥) (λ n. IsForm (datum_at place node.now) (IntLit n)) }
-    ensures fits { IfSome result (λ n. FitsSigned w64 n) }
+// The term that a list with these elements is.
+#[cycle(reading)]
+fn read_list(alloc: Global, parts: &SexpList) -> Result<Core, FrontFault>
+    ensures ok { (place : Pos) → IfOk result (λ core. IsForm (list_datum place (datums_of parts.now)) (term_of core)) }
+    ensures err { (place : Pos) → IfErr result (IsFaultOf (IsForm (list_datum place (datums_of parts.now)))) }
+{
+    match parts {
+        SexpList::Nil => Err(bad_form()),
+        SexpList::Cons(first, operands) => {
+            let Some(head) = head_of(&first.node) else {
+                return Err(bad_form());
+            };
+            let terms = read_forms(alloc, operands)?;
+            match make(head, terms) {
+                Some(core) => Ok(core),
+                None => Err(bad_form()),
+            }
+        }
+    }
+}
+
+// The terms that s-expressions are as forms, in order.
+#[cycle(reading)]
+fn read_forms(alloc: Global, forms: &SexpList) -> Result<CoreList, FrontFault>
+    ensures ok { IfOk result (λ terms. AreForms (datums_of forms.now) (terms_of terms)) }
+    ensures err { IfErr result
+        (IsFaultOf (λ sequence. (terms : Terms) × (sequence ≡ Seq terms) × AreForms (datums_of forms.now) terms)) }
+{
+    let mut terms = CoreList::new();
+    let mut left = forms;
+    loop {
+        match left {
+            SexpList::Nil => return Ok(terms.reversed()),
+            SexpList::Cons(form, rest) => {
+                let term = read_form(alloc, form)?;
+                terms.push_front(alloc, term)?;
+                left = rest;
+            }
+        }
+    }
+}
+
+// What a node is as a head.
+fn head_of(node: &SexpNode) -> Option<Head>
+    ensures { (place : Pos) → MatchOption result
+        ((head : Head) → datum_at place node.now ≡ leaf_datum place (symbol (head_word head)) → ⊥)
+        (λ head. datum_at place node.now ≡ leaf_datum place (symbol (head_word head))) }
 {
     match node {
-        SexpNode::Int(n) => Some(*n),
+        SexpNode::Int(_) => None,
         SexpNode::Bool(_) => None,
-        SexpNode::Symbol(_) => None,
+        SexpNode::Symbol(name) => head_of_word(name.as_slice()),
         SexpNode::List(_) => None,
     }
+}
+
+// The head that is written so.
+fn head_of_word(word: &[u8]) -> Option<Head>
+    ensures { MatchOption result ((head : Head) → word.now ≡ head_word head → ⊥) (λ head. word.now ≡ head_word head) }
+{
+    if word == b"+".as_slice() {
+        Some(Head::Sum)
+    } else if word == b"begin".as_slice() {
+        Some(Head::Begin)
+    } else if word == b"print-int".as_slice() {
+        Some(Head::PrintInt)
+    } else if word == b"newline".as_slice() {
+        Some(Head::Newline)
+    } else {
+        None
+    }
+}
+
+// What a head makes of its operands.
+fn make(head: Head, operands: CoreList) -> Option<Core>
+    ensures { MatchOption result (made head (terms_of operands) ≡ None) (λ core. made head (terms_of operands) ≡ Some (term_of core)) }
+{
+    let count = operands.len();
+    match head {
+        Head::Sum if count == 2 => Some(Core::Prim(PrimOp::Add, operands)),
+        Head::Begin if count > 0 => Some(Core::Seq(operands)),
+        Head::PrintInt if count == 1 => Some(Core::Prim(PrimOp::PrintInt, operands)),
+        Head::Newline if count == 0 => Some(Core::Prim(PrimOp::Newline, operands)),
+        _ => None,
+    }
+}
+
+/// The fault of what is no program: for now a bad form at the first byte.
+pub fn bad_form() -> FrontFault
+    ensures { result ≡ FrontFault.Refused bad_form }
+{
+    FrontFault::Refused(Refusal {
+        kind: RefusalKind::BadForm,
+        pos: Pos { line: 1, col: 1 },
+    })
 }

@@ -3,10 +3,14 @@
 
 mod adapters;
 mod compile;
+mod elaboration;
+mod encoding;
 mod forms;
 mod imaging;
+mod instructions;
 mod reports;
 mod runner;
+mod source;
 mod top;
 mod words;
 

@@ -3,8 +3,8 @@
 ghost use Rattle.std.specs.Prelude.{◌≡◌, ℕ, List, [], Option, IfOk, IfSome, MatchOption};
 ghost use Rattle.rv_machine.specs.Start.{fresh_world, start_of};
 ghost use Rattle.rv_emulator.specs.Processor.{state_of};
-ghost use Rattle.grift_cli.specs.Outcome.{region_size, stack_size, final, printed, IsTold};
-ghost use Rattle.grift_cli.specs.Running.{RunsWell, IsNoFault, PutsAll, Sinks, Runs, told_of, TellsStop};
+ghost use Rattle.grift_cli.specs.Outcome.{region_size, stack_size, sink_seen, final, printed, IsTold};
+ghost use Rattle.grift_cli.specs.Running.{RunsWell, IsNoFault, PutsAll, Runs, told_of, TellsStop};
 
 use crate::reports::Report;
 use grift_base::lists::{Bytes, OutOfMemory};
@@ -27,16 +27,7 @@ const MOST_STEPS: u64 = 100000000;
 /// Puts an image, runs it, and puts what it prints.
 pub fn run_image<O: Sink, I: Sink>(alloc: Global, image: &Image, out: &mut O, img: &mut I) -> Report
     requires { RunsWell image.now }
-    ensures { Runs image.now (record {
-      out = O.written out.old;
-      out_after = O.written out.new;
-      out_faults = O.fault_count out.old;
-      out_faults_after = O.fault_count out.new;
-      img = I.written img.old;
-      img_after = I.written img.new;
-      img_faults = I.fault_count img.old;
-      img_faults_after = I.fault_count img.new;
-    }) result }
+    ensures { Runs image.now (sink_seen O.written O.fault_count out.old out.new) (sink_seen I.written I.fault_count img.old img.new) result }
 {
     if let Err(fault) = put_all(img, image.bytes()) {
         return report_of(fault);
@@ -52,7 +43,7 @@ pub fn run_image<O: Sink, I: Sink>(alloc: Global, image: &Image, out: &mut O, im
 
 // Puts these bytes, if there are any.
 fn put_all<S: Sink>(sink: &mut S, bytes: &[u8]) -> Result<(), SinkFault>
-    ensures { PutsAll bytes.now (S.written sink.old) (S.written sink.new) (S.fault_count sink.old) (S.fault_count sink.new) result }
+    ensures { PutsAll bytes.now (sink_seen S.written S.fault_count sink.old sink.new) result }
 {
     if bytes.is_empty() {
         return Ok(());

@@ -1,15 +1,15 @@
 // The top call: all that the program does.
 
 ghost use Rattle.std.specs.Prelude.{◌≡◌, map, string_bytes};
-ghost use Rattle.grift_cli.specs.Outcome.{Means, Work};
+ghost use Rattle.grift_cli.specs.Outcome.{Means, Work, sink_seen};
 ghost use Rattle.grift_cli.specs.Reporting.{LinePut, Reported, WentBy, report_line, report_status};
 
 use crate::compile::compile;
-use crate::forms::read_program;
 use crate::reports::{
     Report, line_of, report_of_load, report_of_source, status_of, status_of_fault,
 };
 use crate::runner::run_image;
+use crate::source::program_of;
 use crate::words::read_words;
 use grift_base::shelves::Shelf;
 use grift_base::sinks::Sink;
@@ -37,15 +37,9 @@ pub fn grift<S: Shelf, O: Sink, E: Sink, I: Sink>(
       asked_after = S.asked shelf.new;
       shelf_faults = S.fault_count shelf.old;
       shelf_faults_after = S.fault_count shelf.new;
-      out = O.written out.old;
-      out_after = O.written out.new;
-      out_faults = O.fault_count out.old;
-      out_faults_after = O.fault_count out.new;
-      img = I.written img.old;
-      img_after = I.written img.new;
-      img_faults = I.fault_count img.old;
-      img_faults_after = I.fault_count img.new;
-    }) (record { err = E.written err.old; err_after = E.written err.new; err_faults = E.fault_count err.old; err_faults_after = E.fault_count err.new }) result }
+      out = sink_seen O.written O.fault_count out.old out.new;
+      img = sink_seen I.written I.fault_count img.old img.new;
+    }) (sink_seen E.written E.fault_count err.old err.new) result }
 {
     let report = work(alloc, words, shelf, out, img);
     put_report(alloc, err, report)
@@ -66,14 +60,8 @@ fn work<S: Shelf, O: Sink, I: Sink>(
       asked_after = S.asked shelf.new;
       shelf_faults = S.fault_count shelf.old;
       shelf_faults_after = S.fault_count shelf.new;
-      out = O.written out.old;
-      out_after = O.written out.new;
-      out_faults = O.fault_count out.old;
-      out_faults_after = O.fault_count out.new;
-      img = I.written img.old;
-      img_after = I.written img.new;
-      img_faults = I.fault_count img.old;
-      img_faults_after = I.fault_count img.new;
+      out = sink_seen O.written O.fault_count out.old out.new;
+      img = sink_seen I.written I.fault_count img.old img.new;
     }) result }
 {
     let Some(file) = read_words(words) else {
@@ -83,9 +71,9 @@ fn work<S: Shelf, O: Sink, I: Sink>(
         Ok(text) => text,
         Err(fault) => return report_of_load(fault),
     };
-    match read_program(alloc, text.as_slice()) {
+    match program_of(alloc, text.as_slice()) {
         Err(fault) => report_of_source(fault),
-        Ok(program) => match compile(alloc, program.number) {
+        Ok(program) => match compile(alloc, &program.term, program.answer) {
             Err(_) => Report::NoMemory,
             Ok(image) => run_image(alloc, &image, out, img),
         },
@@ -94,7 +82,7 @@ fn work<S: Shelf, O: Sink, I: Sink>(
 
 // Puts the line of a report, and answers the status.
 fn put_report<E: Sink>(alloc: Global, err: &mut E, report: Report) -> u8
-    ensures { Reported report (record { err = E.written err.old; err_after = E.written err.new; err_faults = E.fault_count err.old; err_faults_after = E.fault_count err.new }) result }
+    ensures { Reported report (sink_seen E.written E.fault_count err.old err.new) result }
 {
     match line_of(alloc, report) {
         Ok(line) => put_line(err, line.as_slice(), status_of(report)),
@@ -104,14 +92,14 @@ fn put_report<E: Sink>(alloc: Global, err: &mut E, report: Report) -> u8
 
 /// Puts the line of want of memory, and answers the status.
 pub fn put_want_of_memory<E: Sink>(err: &mut E) -> u8
-    ensures { LinePut (report_line Report.NoMemory) (report_status Report.NoMemory) (record { err = E.written err.old; err_after = E.written err.new; err_faults = E.fault_count err.old; err_faults_after = E.fault_count err.new }) result }
+    ensures { LinePut (report_line Report.NoMemory) (report_status Report.NoMemory) (sink_seen E.written E.fault_count err.old err.new) result }
 {
     put_line(err, b"out of memory\n", 10)
 }
 
 // Puts a line, and answers this status, or that of a sink that failed or found no memory.
 fn put_line<E: Sink>(err: &mut E, line: &[u8], status: u8) -> u8
-    ensures { LinePut line.now status (record { err = E.written err.old; err_after = E.written err.new; err_faults = E.fault_count err.old; err_faults_after = E.fault_count err.new }) result }
+    ensures { LinePut line.now status (sink_seen E.written E.fault_count err.old err.new) result }
 {
     match err.put(line) {
         Ok(()) => status,

@@ -3,7 +3,7 @@
 use super::grift;
 use grift_base::lists::{Bytes, CallList, Name, NamedFiles, OutOfMemory};
 use grift_base::shelves::MemShelf;
-use grift_base::sinks::{DropSink, MemSink};
+use grift_base::sinks::MemSink;
 use std::alloc::{AllocError, Global};
 
 // No memory was left for a test.
@@ -22,26 +22,45 @@ impl From<AllocError> for NoMemory {
     }
 }
 
-// A call: its words, what the file `a` holds, and whether the first call of the shelf or of `err` fails.
+// A call: its words, what the file `a` holds, and the numbers of the calls at which the shelf and the sinks fail.
 #[derive(Clone, Copy)]
 struct Case<'a> {
     words: &'a [&'a str],
     file: &'a [u8],
-    shelf_fails: bool,
-    err_fails: bool,
+    shelf_fails: &'a [u64],
+    out_fails: &'a [u64],
+    err_fails: &'a [u64],
+    img_fails: &'a [u64],
 }
 
-// The numbers of the calls that fail: the first, or none.
-fn failing(alloc: Global, fails: bool) -> Result<CallList, NoMemory> {
-    let mut calls = CallList::new(alloc);
-    if fails {
-        calls.push(0)?;
+const RUN: &[&str] = &["run", "a"];
+
+// A run of a file where nothing fails.
+fn run_of(file: &[u8]) -> Case {
+    Case {
+        words: RUN,
+        file,
+        shelf_fails: &[],
+        out_fails: &[],
+        err_fails: &[],
+        img_fails: &[],
     }
-    Ok(calls)
 }
 
-// Whether a call comes to this status, with this line and nothing on the output.
-fn comes_to(alloc: Global, case: &Case, status: u8, line: &[u8]) -> Result<bool, NoMemory> {
+// A sink in memory that fails at the calls with these numbers.
+fn sink_failing(alloc: Global, calls: &[u64]) -> Result<MemSink, NoMemory> {
+    let sink = MemSink::new(alloc, CallList::from_slice(alloc, calls)?)?;
+    Ok(sink)
+}
+
+// Whether a call comes to this status, with this output and this line.
+fn comes_to(
+    alloc: Global,
+    case: &Case,
+    status: u8,
+    output: &[u8],
+    line: &[u8],
+) -> Result<bool, NoMemory> {
     let mut files = NamedFiles::new(alloc);
     let name = Name::from_slice(alloc, b"a")?;
     files.push((name, Bytes::from_slice(alloc, case.file)?))?;
@@ -50,10 +69,11 @@ fn comes_to(alloc: Global, case: &Case, status: u8, line: &[u8]) -> Result<bool,
         let word = String::from_str(alloc, word)?;
         words.push(word).map_err(|_| NoMemory)?;
     }
-    let mut shelf = MemShelf::new(alloc, files, failing(alloc, case.shelf_fails)?);
-    let mut out = MemSink::new(alloc, failing(alloc, false)?)?;
-    let mut err = MemSink::new(alloc, failing(alloc, case.err_fails)?)?;
-    let mut img = DropSink::new();
+    let failing = CallList::from_slice(alloc, case.shelf_fails)?;
+    let mut shelf = MemShelf::new(alloc, files, failing);
+    let mut out = sink_failing(alloc, case.out_fails)?;
+    let mut err = sink_failing(alloc, case.err_fails)?;
+    let mut img = sink_failing(alloc, case.img_fails)?;
     let answer = grift(
         alloc,
         words.as_slice(),
@@ -62,10 +82,8 @@ fn comes_to(alloc: Global, case: &Case, status: u8, line: &[u8]) -> Result<bool,
         &mut err,
         &mut img,
     );
-    Ok(answer == status && err.bytes() == line && out.bytes().is_empty())
+    Ok(answer == status && out.bytes() == output && err.bytes() == line)
 }
-
-const RUN: &[&str] = &["run", "a"];
 
 #[test]
 fn sources(rt: HostRuntime) -> Result<(), NoMemory> {
@@ -85,37 +103,224 @@ fn sources(rt: HostRuntime) -> Result<(), NoMemory> {
         (b"((", 1, b"refused bad-form 1:1\n"),
     ];
     for (file, status, line) in rows {
-        let case = Case {
-            words: RUN,
-            file,
-            shelf_fails: false,
-            err_fails: false,
-        };
-        assert!(rt; comes_to(rt.alloc(), &case, status, line)?, "{file:?}");
+        let case = run_of(file);
+        assert!(rt; comes_to(rt.alloc(), &case, status, b"", line)?, "{file:?}");
     }
     Ok(())
 }
 
 #[test]
-fn words_and_devices(rt: HostRuntime) -> Result<(), NoMemory> {
-    let rows: [(&[&str], bool, bool, u8, &[u8]); 8] = [
-        (&["run"], false, false, 2, b"words refused\n"),
-        (&[], false, false, 2, b"words refused\n"),
-        (&["run", "a", "a"], false, false, 2, b"words refused\n"),
-        (&["run", ""], false, false, 2, b"words refused\n"),
-        (&["check", "a"], false, false, 2, b"words refused\n"),
-        (&["run", "b"], false, false, 8, b"load failed\n"),
-        (RUN, true, false, 8, b"load failed\n"),
-        (RUN, false, true, 9, b""),
+fn programs(rt: HostRuntime) -> Result<(), NoMemory> {
+    let rows: [(&[u8], &[u8], &[u8]); 9] = [
+        (
+            b"(begin (print-int (+ 40 2)) (newline) 7)",
+            b"42\n",
+            b"answer 7\n",
+        ),
+        (
+            b"(+ 9223372036854775807 1)",
+            b"",
+            b"answer -9223372036854775808\n",
+        ),
+        (b"(newline)", b"\n", b"answer ()\n"),
+        (b"[+ 1 (+ 2 3)]", b"", b"answer 6\n"),
+        (b"(begin 1 2 3)", b"", b"answer 3\n"),
+        (b"(begin 5)", b"", b"answer 5\n"),
+        (
+            b"(print-int -9223372036854775808)",
+            b"-9223372036854775808",
+            b"answer ()\n",
+        ),
+        (
+            b"(+ (begin (print-int 1) 2) (begin (print-int 3) 4))",
+            b"13",
+            b"answer 6\n",
+        ),
+        (b"(+ -2048 (+ 2047 (+ 2048 -2049)))", b"", b"answer -2\n"),
     ];
-    for (words, shelf_fails, err_fails, status, line) in rows {
+    for (file, output, line) in rows {
+        let case = run_of(file);
+        assert!(rt; comes_to(rt.alloc(), &case, 0, output, line)?, "{file:?}");
+    }
+    Ok(())
+}
+
+#[test]
+fn refused_programs(rt: HostRuntime) -> Result<(), NoMemory> {
+    let rows: [&[u8]; 7] = [
+        b"(+ 1 (newline))",
+        b"(+ 1)",
+        b"(begin)",
+        b"(foo)",
+        b"(newline) 1",
+        b"(+ 1 2",
+        b"(print-int (newline))",
+    ];
+    for file in rows {
+        let case = run_of(file);
+        assert!(rt;
+            comes_to(rt.alloc(), &case, 1, b"", b"refused bad-form 1:1\n")?,
+            "{file:?}"
+        );
+    }
+    Ok(())
+}
+
+// A sum of 1 and of a sum of 1 and so on, nested so deep, on the side that comes first or last.
+fn nested(alloc: Global, depth: u64, first: bool) -> Result<Vec<u8>, NoMemory> {
+    let (opening, closing): (&[u8], &[u8]) = if first {
+        (b"(+ ", b" 1)")
+    } else {
+        (b"(+ 1 ", b")")
+    };
+    let mut source = Vec::new(alloc);
+    for _ in 0..depth {
+        source.extend_from_slice(opening)?;
+    }
+    source.extend_from_slice(b"1")?;
+    for _ in 0..depth {
+        source.extend_from_slice(closing)?;
+    }
+    Ok(source)
+}
+
+#[test]
+fn deep_programs(rt: HostRuntime) -> Result<(), NoMemory> {
+    for first in [true, false] {
+        let source = nested(rt.alloc(), 199, first)?;
+        let case = run_of(source.as_slice());
+        assert!(rt; comes_to(rt.alloc(), &case, 0, b"", b"answer 200\n")?);
+    }
+    Ok(())
+}
+
+#[test]
+fn words(rt: HostRuntime) -> Result<(), NoMemory> {
+    let rows: [(&[&str], u8, &[u8]); 6] = [
+        (&["run"], 2, b"words refused\n"),
+        (&[], 2, b"words refused\n"),
+        (&["run", "a", "a"], 2, b"words refused\n"),
+        (&["run", ""], 2, b"words refused\n"),
+        (&["check", "a"], 2, b"words refused\n"),
+        (&["run", "b"], 8, b"load failed\n"),
+    ];
+    for (words, status, line) in rows {
         let case = Case {
             words,
-            file: b"42",
-            shelf_fails,
-            err_fails,
+            ..run_of(b"42")
         };
-        assert!(rt; comes_to(rt.alloc(), &case, status, line)?, "{words:?}");
+        assert!(rt;
+            comes_to(rt.alloc(), &case, status, b"", line)?,
+            "{words:?}"
+        );
+    }
+    Ok(())
+}
+
+// What is put on a sink is one put: the first call is met exactly where there is something to put, and the second never.
+#[test]
+fn devices_that_fail(rt: HostRuntime) -> Result<(), NoMemory> {
+    let silent = run_of(b"42");
+    let number = run_of(b"(print-int 7)");
+    let prints = run_of(b"(begin (print-int (+ 40 2)) (newline) 7)");
+    let rows: [(Case, u8, &[u8], &[u8]); 10] = [
+        (
+            Case {
+                shelf_fails: &[0],
+                ..prints
+            },
+            8,
+            b"",
+            b"load failed\n",
+        ),
+        (
+            Case {
+                img_fails: &[0],
+                ..prints
+            },
+            9,
+            b"",
+            b"put failed\n",
+        ),
+        (
+            Case {
+                img_fails: &[1],
+                ..prints
+            },
+            0,
+            b"42\n",
+            b"answer 7\n",
+        ),
+        (
+            Case {
+                out_fails: &[0],
+                ..prints
+            },
+            9,
+            b"",
+            b"put failed\n",
+        ),
+        (
+            Case {
+                out_fails: &[1],
+                ..prints
+            },
+            0,
+            b"42\n",
+            b"answer 7\n",
+        ),
+        (
+            Case {
+                err_fails: &[0],
+                ..prints
+            },
+            9,
+            b"42\n",
+            b"",
+        ),
+        (
+            Case {
+                err_fails: &[0],
+                ..number
+            },
+            9,
+            b"7",
+            b"",
+        ),
+        (
+            Case {
+                out_fails: &[0],
+                ..silent
+            },
+            0,
+            b"",
+            b"answer 42\n",
+        ),
+        (
+            Case {
+                err_fails: &[1],
+                ..silent
+            },
+            0,
+            b"",
+            b"answer 42\n",
+        ),
+        (
+            Case {
+                img_fails: &[0],
+                err_fails: &[0],
+                ..silent
+            },
+            9,
+            b"",
+            b"",
+        ),
+    ];
+    for (case, status, output, line) in rows {
+        assert!(rt;
+            comes_to(rt.alloc(), &case, status, output, line)?,
+            "{line:?}"
+        );
     }
     Ok(())
 }
@@ -125,20 +330,10 @@ fn longest_source(rt: HostRuntime) -> Result<(), NoMemory> {
     let alloc = rt.alloc();
     let mut source = vec![in alloc; b' '; 262142]?;
     source.extend_from_slice(b"42")?;
-    let case = Case {
-        words: RUN,
-        file: source.as_slice(),
-        shelf_fails: false,
-        err_fails: false,
-    };
-    assert!(rt; comes_to(alloc, &case, 0, b"answer 42\n")?);
+    let case = run_of(source.as_slice());
+    assert!(rt; comes_to(alloc, &case, 0, b"", b"answer 42\n")?);
     source.push(b' ').map_err(|_| NoMemory)?;
-    let case = Case {
-        words: RUN,
-        file: source.as_slice(),
-        shelf_fails: false,
-        err_fails: false,
-    };
-    assert!(rt; comes_to(alloc, &case, 12, b"file too long\n")?);
+    let case = run_of(source.as_slice());
+    assert!(rt; comes_to(alloc, &case, 12, b"", b"file too long\n")?);
     Ok(())
 }
