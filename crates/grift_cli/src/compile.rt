@@ -11,9 +11,9 @@ use crate::elaboration::ExprType;
 use crate::encoding::code_of;
 use crate::imaging::image_of;
 use crate::instructions::program_insts;
+use assembler::image::Image;
 use core_calc::terms::Core;
 use grift_base::lists::OutOfMemory;
-use rv_emulator::image::Image;
 use std::alloc::Global;
 
 /// An image that follows the program that is this term, which has this type, within the limits of its size.

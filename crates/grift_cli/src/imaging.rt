@@ -3,8 +3,8 @@
 ghost use Rattle.std.specs.Prelude.{◌≡◌, ◌++◌, IfOk, OnOk, OnErr};
 ghost use Rattle.grift_cli.specs.Imaging.{word_bytes, image_bytes, AreSections};
 
+use assembler::image::Image;
 use grift_base::lists::{Bytes, OutOfMemory};
-use rv_emulator::image::Image;
 use std::alloc::Global;
 
 /// The image with these statics and this code, which it enters at its start, and without labels.

@@ -7,12 +7,12 @@ ghost use Rattle.grift_cli.specs.Outcome.{region_size, stack_size, sink_seen, fi
 ghost use Rattle.grift_cli.specs.Running.{RunsWell, IsNoFault, PutsAll, Runs, told_of, TellsStop};
 
 use crate::reports::Report;
+use assembler::image::Image;
 use grift_base::lists::{Bytes, OutOfMemory};
 use grift_base::sinks::{Sink, SinkFault};
 use grift_base::verdicts::Verdict;
 use grift_base::worlds::World;
 use rv_emulator::flat::FlatRam;
-use rv_emulator::image::Image;
 use rv_emulator::machine::Machine;
 use rv_emulator::ram::Ram;
 use rv_emulator::stops::Stop;

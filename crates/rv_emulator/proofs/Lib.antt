@@ -3,4 +3,4 @@ pub mod Calls
 pub mod Sound
 pub mod Runs
 pub mod Start
-pub mod LittleEndian
+pub mod Written

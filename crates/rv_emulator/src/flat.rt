@@ -3,8 +3,9 @@
 ghost use Rattle.std.specs.Prelude.{◌≡◌, ℕ, IfOk, length, true};
 ghost use Rattle.rv_machine.specs.Memory.{memory_of};
 
-use crate::bytes::{read, write};
+use crate::bytes::write;
 use crate::ram::{Ram, Width};
+use assembler::bytes::read;
 use grift_base::lists::OutOfMemory;
 use std::alloc::{AllocError, Global};
 

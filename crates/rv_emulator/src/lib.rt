@@ -3,7 +3,6 @@
 
 mod bytes;
 pub mod flat;
-pub mod image;
 pub mod machine;
 pub mod processor;
 pub mod ram;

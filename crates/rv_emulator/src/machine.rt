@@ -9,11 +9,11 @@ ghost use Rattle.rv_emulator.specs.Registers.{regs_of};
 ghost use Rattle.rv_emulator.specs.Processor.{state_of};
 ghost use Rattle.rv_emulator.specs.Made.{Ran};
 
-use crate::image::Image;
 use crate::processor::{BASE, Places, Processor};
 use crate::ram::{Ram, Width};
 use crate::registers::Registers;
 use crate::stops::Stop;
+use assembler::image::Image;
 use grift_base::lists::OutOfMemory;
 use grift_base::worlds::World;
 use rv_isa::number::Reg;

@@ -5,8 +5,8 @@ ghost use Rattle.rv_machine.specs.Start.{IsRegionSize, IsStackSize};
 
 use super::Machine;
 use crate::flat::FlatRam;
-use crate::image::{Image, is_image};
 use crate::stops::Stop;
+use assembler::image::{Image, is_image};
 use grift_base::lists::{Bytes, OutOfMemory};
 use grift_base::places::Pos;
 use grift_base::verdicts::{Answer, AnswerKind, Trap};

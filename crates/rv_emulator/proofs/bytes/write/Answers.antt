@@ -1,4 +1,4 @@
-use Rattle.rv_emulator.proofs.LittleEndian.{write_is_store}
+use Rattle.rv_emulator.proofs.Written.{write_is_store}
 use Rattle.rv_emulator.proofs.bytes.write.Goals as goal
 
 pub returns : goal.returns

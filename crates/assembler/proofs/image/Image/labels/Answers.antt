@@ -1,7 +1,7 @@
 use Rattle.std.proofs.Common.{◌∷◌, ◌++◌, [], ap, sym, ◌∙◌}
 use Rattle.rv_machine.specs.Image.{labels_from}
 use Rattle.rv_machine.proofs.Image.{labels_none, labels_more}
-use Rattle.rv_emulator.proofs.image.Image.labels.Goals as goal
+use Rattle.assembler.proofs.image.Image.labels.Goals as goal
 
 pub loop-i-init : goal.loop-i-init
 loop-i-init c = c.new-labels.ensures ∙ sym (labels_none c.labels_start-start.result c.bytes-bytes.result.now)

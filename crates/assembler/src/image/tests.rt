@@ -1,6 +1,7 @@
 ghost use Rattle.std.specs.Prelude.{◌<◌};
 
 use super::*;
+use grift_base::lists::OutOfMemory;
 use std::test::Fail;
 
 // An image in groups of eight bytes, the first byte of a group the highest.
@@ -41,13 +42,17 @@ fn bytes_of(alloc: Global, groups: &[u64]) -> Result<Bytes, OutOfMemory> {
     Ok(bytes)
 }
 
-// Whether the smallest image with one group changed is an image.
-fn is_image_with(alloc: Global, place: usize, group: u64) -> Result<bool, OutOfMemory>
+// The smallest image with one group changed.
+fn changed(alloc: Global, place: usize, group: u64) -> Result<Bytes, OutOfMemory>
     requires { place < 9 }
 {
     let mut groups = SMALLEST;
     groups[place] = group;
-    Ok(is_image(bytes_of(alloc, &groups)?.as_slice()))
+    bytes_of(alloc, &groups)
+}
+
+fn fault_of(alloc: Global, bytes: &[u8]) -> Option<ImageFault> {
+    read_image(alloc, bytes).err()
 }
 
 fn labelled(alloc: Global) -> Result<Image, Fail> {
@@ -87,7 +92,7 @@ fn refuses_each_field(rt: HostRuntime) -> Result<(), Fail> {
     ] {
         assert!(rt; place < 9);
         assert!(rt;
-            !is_image_with(rt.alloc(), place, group)?,
+            !is_image(changed(rt.alloc(), place, group)?.as_slice()),
             "{group:x} at {place}"
         );
     }
@@ -126,5 +131,42 @@ fn tells_the_labels(rt: HostRuntime) -> Result<(), Fail> {
     assert_eq!(rt; image.label(2), None);
     let labels = image.labels(rt.alloc())?;
     assert_eq!(rt; labels.as_slice(), [first, second].as_slice());
+    Ok(())
+}
+
+#[test]
+fn reads_an_image(rt: HostRuntime) -> Result<(), Fail> {
+    let bytes = bytes_of(rt.alloc(), &SMALLEST)?;
+    let image = read_image(rt.alloc(), bytes.as_slice())?;
+    assert_eq!(rt; image.bytes(), bytes.as_slice());
+    Ok(())
+}
+
+#[test]
+fn tells_the_first_fault(rt: HostRuntime) -> Result<(), Fail> {
+    let whole = bytes_of(rt.alloc(), &SMALLEST)?;
+    for (len, fault) in [
+        (71, ImageFault::BadLength),
+        (63, ImageFault::BadLength),
+        (7, ImageFault::BadMagic),
+        (0, ImageFault::BadMagic),
+    ] {
+        assert!(rt; len <= whole.as_slice().len());
+        let bytes = &whole.as_slice()[..len];
+        assert_eq!(rt; fault_of(rt.alloc(), bytes), Some(fault), "{len} bytes");
+    }
+    for (place, group, fault) in [
+        (0, 0x0052_4946_5452_5631, ImageFault::BadMagic),
+        (1, 0x4900_0000_0000_0000, ImageFault::BadLength),
+        (5, 0x0200_0000_0000_0000, ImageFault::BadSection),
+    ] {
+        assert!(rt; place < 9);
+        let bytes = changed(rt.alloc(), place, group)?;
+        assert_eq!(rt;
+            fault_of(rt.alloc(), bytes.as_slice()),
+            Some(fault),
+            "{group:x} at {place}"
+        );
+    }
     Ok(())
 }

@@ -1,5 +1,5 @@
-use Rattle.rv_emulator.proofs.LittleEndian.{read_is_load, read_fits}
-use Rattle.rv_emulator.proofs.bytes.read.Goals as goal
+use Rattle.assembler.proofs.LittleEndian.{read_is_load, read_fits}
+use Rattle.assembler.proofs.bytes.read.Goals as goal
 
 pub returns-clause-value : goal.returns-clause-value
 returns-clause-value g c =

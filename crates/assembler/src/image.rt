@@ -1,10 +1,13 @@
 // Images, as bytes.
 
-ghost use Rattle.std.specs.Prelude.{◌≡◌, ◌+◌, ◌*◌, ◌^◌, ◌≤◌, ◌<◌, ◌↔◌, IsSome, IsTrue, SomeIff, IfOk, length, codes, slice_get, slice_range};
+ghost use Rattle.std.specs.Prelude.{◌≡◌, ◌≢◌, ◌+◌, ◌*◌, ◌^◌, ◌≤◌, ◌<◌, ◌↔◌, ◌⊎◌, ℕ, List, IsSome, IsTrue, SomeIff, IfOk, IfErr, OnOk, length, codes, slice_get, slice_range};
 ghost use Rattle.rv_machine.specs.Image.{IsImage, image_len, statics_len, code_len, label_count, entry, loaded_part, label_at, labels_of};
+ghost use Rattle.assembler.specs.declared.image.ImageFault.{ImageFault};
+ghost use Rattle.assembler.specs.Faults.{IsFirstFault};
 
 use crate::bytes::read;
-use grift_base::lists::{Bytes, Items, OutOfMemory};
+use grift_base::lists;
+use grift_base::lists::{Bytes, Items};
 use grift_base::places::Pos;
 use std::alloc::Global;
 use std::marker::Model;
@@ -102,7 +105,7 @@ impl Image {
     }
 
     /// All labels in order.
-    pub fn labels(&self, alloc: Global) -> Result<Items<Pos>, OutOfMemory>
+    pub fn labels(&self, alloc: Global) -> Result<Items<Pos>, lists::OutOfMemory>
         ensures { IfOk result (λ labels. labels ≡ labels_of self.now) }
     {
         let bytes = self.bytes();
@@ -122,6 +125,57 @@ impl Image {
         self.bytes().len() - 8 * self.label_count() as usize
     }
 }
+
+/// Why bytes were not read as an image.
+#[derive(Clone, Copy, PartialEq, Eq, Debug)]
+pub enum ImageFault {
+    /// The first eight bytes are not those of an image, or are not there.
+    BadMagic,
+    /// The header is not whole, or doesn't tell how many bytes there are.
+    BadLength,
+    /// Another line of the header fails, or the sections don't make up the length.
+    BadSection,
+    /// No memory was left.
+    OutOfMemory,
+}
+
+impl From<lists::OutOfMemory> for ImageFault {
+    ghost use Rattle.std.specs.Prelude.{◌≡◌};
+    ghost use Rattle.assembler.specs.declared.image.ImageFault.TheVariants.{OutOfMemory};
+
+    ghost from_gives = { λ _ fault. fault ≡ OutOfMemory };
+
+    fn from(_want: lists::OutOfMemory) -> ImageFault {
+        ImageFault::OutOfMemory
+    }
+}
+
+/// The image that these bytes are, or the fault of the first test that they fail. Want of memory may come of any
+/// bytes.
+pub fn read_image(alloc: Global, bytes: &[u8]) -> Result<Image, ImageFault>
+    ensures image { IfOk result (λ image. image ≡ bytes.now) }
+    ensures sound { OnOk result (IsImage bytes.now) }
+    ensures fault { IfErr result (λ fault. fault ≢ ImageFault.OutOfMemory → IsFirstFault bytes.now fault) }
+{
+    if !has_magic(bytes) {
+        return Err(ImageFault::BadMagic);
+    }
+    if !has_whole_len(bytes) {
+        return Err(ImageFault::BadLength);
+    }
+    if !has_sections(bytes) {
+        return Err(ImageFault::BadSection);
+    }
+    let bytes = Bytes::from_slice(alloc, bytes)?;
+    Ok(Image::new(bytes))
+}
+
+/// Bytes are an image or have one fault, and never two of these together.
+pub fn bytes_are_an_image_or_have_one_fault()
+    ensures some { (bytes : List ℕ) → IsImage bytes ⊎ ((fault : ImageFault) × IsFirstFault bytes fault) }
+    ensures no_fault_of_an_image { (bytes : List ℕ) (fault : ImageFault) → IsImage bytes → ¬ IsFirstFault bytes fault }
+    ensures no_two_faults { (bytes : List ℕ) (first second : ImageFault) → IsFirstFault bytes first → IsFirstFault bytes second → first ≡ second }
+{}
 
 /// Whether these bytes are an image.
 pub fn is_image(bytes: &[u8]) -> bool

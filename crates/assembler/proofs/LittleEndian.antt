@@ -1,14 +1,11 @@
 -- Numbers as lists of bytes, the lowest first.
-use Rattle.std.proofs.Common.{ℕ, zero, suc, ◌+◌, ◌-◌, ◌*◌, ◌/◌, ◌%◌, ◌^◌, ◌<◌, ◌≤◌, ◌≡◌, inl, inr, refl, sym, ◌∙◌, ap, arith, List, length, get_or, take, drop, ◌++◌, replicate}
+use Rattle.std.proofs.Common.{ℕ, zero, suc, ◌+◌, ◌-◌, ◌*◌, ◌/◌, ◌%◌, ◌^◌, ◌<◌, ◌≤◌, ◌≡◌, refl, sym, ◌∙◌, ap, arith, List, length, get_or, take, drop, ◌++◌, replicate}
 use Rattle.std.proofs.lemmas.Nat.{pow-add}
 use Rattle.std.proofs.Math.Nat.{pow-suc}
-use Rattle.std.proofs.lemmas.Bool.{cases_lt}
 use Rattle.std.proofs.lemmas.List.{get_or-append_right, get_or_append_left, get_or-take, get_or-drop, get_or-replicate, length-take-le, length-drop}
-use borrow.Rule.Slice.PartMut.{put_mid}
-use Rattle.std.proofs.Math.Path.{fun_ext}
-use Rattle.std.specs.Int.{w64, byte_at, byte_worth, bytes_low_first, sum_through, to_le_bytes, from_le_bytes}
-use Rattle.rv_machine.specs.Memory.{load_bytes, store_bytes, byte_of, memory_of}
-use Rattle.rv_machine.proofs.Memory.{load_same, load_short, load_below, stored_inside, stored_outside}
+use Rattle.std.specs.Int.{w64, byte_at, byte_worth, bytes_low_first, sum_through, from_le_bytes}
+use Rattle.rv_machine.specs.Memory.{load_bytes, byte_of, memory_of}
+use Rattle.rv_machine.proofs.Memory.{load_same, load_short, load_below}
 
 power_256 : (i : ℕ) → 256 ^ i ≡ 2 ^ (8 * i)
 power_256 zero = refl
@@ -37,7 +34,7 @@ sum_is_load (suc k) bytes =
     rw (a, b, z)
 
 -- the bytes of a word
-byte_in : (k i n j : ℕ) → j < k → get_or (bytes_low_first i k n) j 0 ≡ byte_of n (i + j)
+pub byte_in : (k i n j : ℕ) → j < k → get_or (bytes_low_first i k n) j 0 ≡ byte_of n (i + j)
 byte_in zero i n j h = absurd (omega arith)
 byte_in (suc k) i n zero h = let z : i + 0 ≡ i = omega arith in rw z (byte i n)
 byte_in (suc k) i n (suc j) h = let z : i + suc j ≡ suc i + j = omega arith in rw z (byte_in k (suc i) n j (omega arith))
@@ -71,24 +68,3 @@ read_is_load n at result bytes part s h e f =
 
 pub read_fits : (n at result : ℕ) (bytes : List ℕ) → ((i : ℕ) → get_or bytes i 0 < 256) → result ≡ load_bytes n (memory_of bytes) at → result < 2 ^ (8 * n)
 read_fits n at result bytes h e = rw e (load_below n (memory_of bytes) at h)
-
--- ---- a number that is written
-
-written_at : (n at word i : ℕ) (bytes part : List ℕ) → at + n ≤ length bytes → length part ≡ n → ((j : ℕ) → j < n → get_or part j 0 ≡ byte_of word j) → get_or (take at bytes ++ (part ++ drop n (drop at bytes))) i 0 ≡ store_bytes n (memory_of bytes) at word i
-written_at n at word i bytes part h l p =
-    let f : length (take at bytes) ≡ at = length-take-le at bytes (omega arith) in
-    elim (cases_lt i at) [
-      | inl b ↦ get_or_append_left (take at bytes) _ 0 i (omega arith) ∙ get_or-take at bytes i 0 b ∙ sym (stored_outside n (memory_of bytes) at word i (inl b))
-      | inr b ↦ get_or-append_right (take at bytes) _ at i 0 f b ∙ elim (cases_lt (i - at) n) [
-        | inl c ↦ get_or_append_left part _ 0 (i - at) (omega arith) ∙ p (i - at) c ∙ sym (stored_inside n (memory_of bytes) at word i b (omega arith))
-        | inr c ↦ get_or-append_right part _ n (i - at) 0 l c ∙ get_or-drop n (drop at bytes) (i - at - n) 0 ∙ get_or-drop at bytes (n + (i - at - n)) 0 ∙ (let z : at + (n + (i - at - n)) ≡ i = omega arith in ap (λ k. get_or bytes k 0) z) ∙ sym (stored_outside n (memory_of bytes) at word i (inr (omega arith)))
-      ]
-    ]
-
-pub write_is_store : (n at word : ℕ) (bytes part little : List ℕ) → n ≤ 8 → at + n ≤ length bytes → little ≡ to_le_bytes w64 word → part ≡ take n little → memory_of (put_mid at (at + n - at) bytes part) ≡ store_bytes n (memory_of bytes) at word
-write_is_store n at word bytes part little s h e f =
-    let z : at + n - at ≡ n = omega arith in
-    let q : length little ≡ 8 = ap length e in
-    let l : length part ≡ n = ap length f ∙ length-take-le n little (omega arith) in
-    let p : (j : ℕ) → j < n → get_or part j 0 ≡ byte_of word j = λ j r. ap (λ xs. get_or xs j 0) f ∙ get_or-take n little j 0 r ∙ ap (λ xs. get_or xs j 0) e ∙ byte_in 8 0 word j (omega arith) ∙ (let t : 0 + j ≡ j = omega arith in ap (byte_of word) t) in
-    rw z (fun_ext (λ i. written_at n at word i bytes part h l p))

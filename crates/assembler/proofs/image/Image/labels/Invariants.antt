@@ -1,6 +1,6 @@
 use Rattle.std.proofs.Common.{◌≡◌}
 use Rattle.rv_machine.specs.Image.{labels_from}
-use Rattle.rv_emulator.proofs.image.Image.labels.Given as goal
+use Rattle.assembler.proofs.image.Image.labels.Given as goal
 
 abbrev pub invariant-loop-i : goal.invariant-loop-i
 invariant-loop-i l = l.labels ≡ labels_from l.bytes l.start l.i

@@ -1,0 +1,5 @@
+// Images of programs.
+#![tactic(auto)]
+
+pub mod bytes;
+pub mod image;
