@@ -28,7 +28,7 @@ use Rattle.grift_cli.proofs.Beginning.{code_stands, begins_layout, begins, start
 
 -- ---- instructions that only go on, to what stands behind them
 
-abbrev IsForward : Inst → Type 0
+abbrev pub IsForward : Inst → Type 0
 IsForward (Ld rd a imm) = Unit {0}
 IsForward (Sd b a imm) = Unit {0}
 IsForward (Addi rd a imm) = Unit {0}
@@ -39,7 +39,7 @@ IsForward (Bgeu a b imm) = imm ≡ pos 12
 IsForward Ecall = Unit {0}
 IsForward _ = ⊥
 
-abbrev AllForward : List Inst → Type 0
+abbrev pub AllForward : List Inst → Type 0
 AllForward [] = Unit {0}
 AllForward (i ∷ is) = IsForward i × AllForward is
 
@@ -50,9 +50,9 @@ forward_append (x ∷ xs) ys a b = (a.0, forward_append xs ys a.1 b)
 -- ---- the instructions of a program, and how many they are
 
 -- they are forward, and at most so many
-record Fits (insts : List Inst) (room : ℕ) : Type 0 where
-  forward : AllForward insts
-  few : length insts ≤ room
+pub record Fits (insts : List Inst) (room : ℕ) : Type 0 where
+  pub forward : AllForward insts
+  pub few : length insts ≤ room
 
 fits_both : (xs ys : List Inst) (n m room : ℕ) → Fits xs n → Fits ys m → n + m ≤ room → Fits (xs ++ ys) room
 fits_both xs ys n m room f g h =
@@ -124,7 +124,7 @@ room_fits : (slots : ℕ) → Fits (room_insts slots) 15
 room_fits slots =
     fits_both (number_insts (pos (8 * slots))) (Sub 5 2 25 ∷ Bgeu 5 10 (pos 12) ∷ Addi 17 0 (pos 6) ∷ Ecall ∷ []) 11 4 15 (number_fits (pos (8 * slots))) (record { forward = (tt, (refl, (tt, (tt, tt)))); few = omega arith }) (omega arith)
 
-program_fits : (term : Term) (type : ExprType) → Fits (program_insts term type) (16 * node_count term + 19)
+pub program_fits : (term : Term) (type : ExprType) → Fits (program_insts term type) (16 * node_count term + 19)
 program_fits term type =
     fits_both (room_insts (slots_of term) ++ term_insts term) (answer_insts type) (15 + room_of term) 4 (16 * node_count term + 19) (fits_both (room_insts (slots_of term)) (term_insts term) 15 (room_of term) (15 + room_of term) (room_fits (slots_of term)) (term_fits term) (omega arith)) (answer_fits type) (omega arith)
 

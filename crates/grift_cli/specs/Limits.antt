@@ -11,8 +11,12 @@ use Rattle.core_calc.specs.Terms.{Term, node_count}
 abbrev pub turn_limit : Term → ℕ
 turn_limit term = 64 * (node_count term + 16)
 
+-- the instructions of a program: 16 for each node, and 19 more
+abbrev pub insts_limit : Term → ℕ
+insts_limit term = 16 * node_count term + 19
+
 abbrev pub stack_limit : Term → ℕ
-stack_limit term = 64 * (node_count term + 16) + 4096
+stack_limit term = turn_limit term + 4096
 
 -- the region never lacks room, and a stack of so many bytes lacks it only where it is below the limit
 abbrev pub MayStop : Term → ℕ → Halt → Type 0

@@ -8,6 +8,7 @@ ghost use Rattle.grift_base.specs.declared.operators.PrimOp.TheVariants.{Add, Pr
 ghost use Rattle.core_calc.specs.Terms.{term_list};
 ghost use Rattle.core_calc.specs.Views.{term_of, terms_of};
 ghost use Rattle.grift_cli.specs.Code.{chunk_of, chunks_insts, is_short, number_insts, wait_insts, operator_insts, term_insts, operands_insts, terms_insts, slots_of, operand_slots, most_slots, room_insts, answer_kind, answer_insts, program_insts};
+ghost use Rattle.grift_cli.specs.Limits.{insts_limit};
 
 use crate::elaboration::ExprType;
 use core_calc::terms::{Core, CoreList};
@@ -25,7 +26,8 @@ const MOST_SLOTS: u64 = 1 << 40;
 
 /// The instructions of the program that is this term, which has this type.
 pub fn program_insts(alloc: Global, term: &Core, answer: ExprType) -> Result<Insts, OutOfMemory>
-    ensures { IfOk result (λ insts. insts ≡ program_insts (term_of term.now) answer) }
+    ensures insts { IfOk result (λ insts. insts ≡ program_insts (term_of term.now) answer) }
+    ensures few { IfOk result (λ insts. length insts ≤ insts_limit (term_of term.now)) }
 {
     let mut insts = Insts::new(alloc);
     put_room_test(&mut insts, slots_of(term))?;

@@ -213,6 +213,11 @@ fn words(rt: HostRuntime) -> Result<(), NoMemory> {
             comes_to(rt.alloc(), &case, status, b"", line)?,
             "{words:?}"
         );
+        let case = Case {
+            err_fails: &[1],
+            ..case
+        };
+        assert!(rt; comes_to(rt.alloc(), &case, status, b"", line)?);
     }
     Ok(())
 }

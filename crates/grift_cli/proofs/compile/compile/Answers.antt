@@ -20,23 +20,23 @@ image_is insts image bytes e f = e ∙ ap (λ y. image_bytes [] y) f
 pub image_of-requires : goal.image_of-requires
 image_of-requires c =
     let insts : List Inst = program_insts (term_of c.args.term.now) c.args.answer in
-    let same : c.as_slice.result.now ≡ insts = c.as_slice.ensures ∙ c.in_ok-insts.ensures in
+    let same : c.as_slice.result.now ≡ insts = c.as_slice.ensures ∙ c.in_ok-insts.ensures.insts in
     rw (bytes_are insts _ _ _ same c.in_ok-code.ensures.bytes c.as_slice-2.ensures) (code_sections insts (some_insts (term_of c.args.term.now) c.args.answer) (few_are insts _ same c.in_ok-code.ensures.few))
 
 pub returns-clause-image : goal.returns-clause-image
 returns-clause-image c =
     let insts : List Inst = program_insts (term_of c.args.term.now) c.args.answer in
-    let same : c.as_slice.result.now ≡ insts = c.as_slice.ensures ∙ c.in_ok-insts.ensures in
+    let same : c.as_slice.result.now ≡ insts = c.as_slice.ensures ∙ c.in_ok-insts.ensures.insts in
     image_is insts _ _ c.in_ok-image.ensures (bytes_are insts _ _ _ same c.in_ok-code.ensures.bytes c.as_slice-2.ensures)
 
 pub returns-clause-follows : goal.returns-clause-follows
 returns-clause-follows c =
     let insts : List Inst = program_insts (term_of c.args.term.now) c.args.answer in
-    let same : c.as_slice.result.now ≡ insts = c.as_slice.ensures ∙ c.in_ok-insts.ensures in
+    let same : c.as_slice.result.now ≡ insts = c.as_slice.ensures ∙ c.in_ok-insts.ensures.insts in
     rw (image_is insts _ _ c.in_ok-image.ensures (bytes_are insts _ _ _ same c.in_ok-code.ensures.bytes c.as_slice-2.ensures)) (program_follows (term_of c.args.term.now) c.args.answer c.requires (few_are insts _ same c.in_ok-code.ensures.few))
 
 pub returns-clause-limits : goal.returns-clause-limits
 returns-clause-limits c =
     let insts : List Inst = program_insts (term_of c.args.term.now) c.args.answer in
-    let same : c.as_slice.result.now ≡ insts = c.as_slice.ensures ∙ c.in_ok-insts.ensures in
+    let same : c.as_slice.result.now ≡ insts = c.as_slice.ensures ∙ c.in_ok-insts.ensures.insts in
     rw (image_is insts _ _ c.in_ok-image.ensures (bytes_are insts _ _ _ same c.in_ok-code.ensures.bytes c.as_slice-2.ensures)) (program_keeps_limits (term_of c.args.term.now) c.args.answer c.requires (few_are insts _ same c.in_ok-code.ensures.few))
