@@ -1,8 +1,8 @@
 // The files of the system and its streams, as a shelf and as sinks. What the outside holds is not told.
 
-ghost use Rattle.std.specs.Prelude.{◌≡◌, ◌+◌, None};
-ghost use Rattle.grift_base.specs.Outside.{Counts};
-ghost use Rattle.grift_base.specs.Shelf.{Loads};
+ghost use Rattle.std.specs.Prelude.{◌≡◌, ◌+◌, None, if◌then◌else◌};
+ghost use Rattle.grift_base.specs.Outside.{Counts, next_count};
+ghost use Rattle.grift_base.specs.Shelf.{Loads, load_failed};
 ghost use Rattle.grift_base.specs.Sink.{put_failed};
 ghost use Rattle.grift_cli.specs.Streams.{PutsInto, TakesAtMost};
 
@@ -42,7 +42,11 @@ impl<F: Files> Shelf for FileShelf<F> {
 
     ghost fault_count = { λ shelf. shelf.faults };
 
-    fn load(&mut self, alloc: Global, name: &str, max: usize) -> Result<Vec<u8>, LoadFault> {
+    fn load(&mut self, alloc: Global, name: &str, max: usize) -> Result<Vec<u8>, LoadFault>
+        ensures loads { Loads None max result }
+        ensures count { Counts (load_failed result) self.old.faults self.new.faults }
+        ensures exact { self.new.faults ≡ (if load_failed result then next_count self.old.faults else self.old.faults) }
+    {
         let answer = load_file(alloc, &self.files, name, max);
         if answer == Err(LoadFault::Failed) {
             self.faults = self.faults.saturating_add(1);
@@ -124,6 +128,7 @@ impl<W: Write> Sink for StreamSink<W> {
     fn put(&mut self, bytes: &[u8]) -> Result<(), SinkFault>
         ensures stream { PutsInto bytes.now result (W.contents self.old.stream) (W.contents self.new.stream) }
         ensures count { Counts (put_failed result) self.old.faults self.new.faults }
+        ensures exact { self.new.faults ≡ (if put_failed result then next_count self.old.faults else self.old.faults) }
     {
         let answer = write_whole(&mut self.stream, bytes);
         if answer.is_err() {
