@@ -14,6 +14,7 @@ pub mod ZipperCode
 pub mod Decoding
 pub mod Beginning
 pub mod Limits
+mod LimitExamples
 pub mod Forward
 pub mod WordLists
 pub mod Putting
