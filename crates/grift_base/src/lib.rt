@@ -8,4 +8,5 @@ pub mod refusals;
 pub mod shelves;
 pub mod sinks;
 pub mod verdicts;
+pub mod words;
 pub mod worlds;

@@ -6,5 +6,6 @@ mod encoder;
 pub mod fields;
 pub mod inst;
 pub mod number;
+pub mod real;
 #[cfg(test)]
 mod tests;
