@@ -2,3 +2,4 @@ pub mod Runs
 pub mod Memory
 pub mod Image
 pub mod Tabled
+pub mod Conditions

@@ -5,3 +5,4 @@ pub mod State
 pub mod Turn
 pub mod Start
 pub mod Mach
+pub mod Real

@@ -29,13 +29,31 @@ ending_of (Undefined pc) = Wrong
 ending_of (BadAddress pc) = Wrong
 ending_of (Misaligned pc) = Wrong
 
+-- the same where each stop but a wrong one is told as it is
+abbrev pub stop_of : Halt → Ending Halt
+stop_of (Ended answer) = Verdict (Ended answer)
+stop_of (Blamed label) = Verdict (Blamed label)
+stop_of (Trapped trap) = Verdict (Trapped trap)
+stop_of RegionOut = Verdict RegionOut
+stop_of StackOut = Verdict StackOut
+stop_of (Undefined pc) = Wrong
+stop_of (BadAddress pc) = Wrong
+stop_of (Misaligned pc) = Wrong
+
+-- a turn as a step, told what a stop is
+abbrev pub step_by : {V : Type 0} → (Halt → Ending V) → State → Turn → Step State V
+step_by ending s (Next t) = Go t
+step_by ending s (Stops halt) = Stop (ending halt) s
+
 abbrev pub step_of : State → Turn → Step State Outcome
-step_of s (Next t) = Go t
-step_of s (Stops halt) = Stop (ending_of halt) s
+step_of s turn = step_by ending_of s turn
 
 -- the machine whose steps are turns; it shows its whole state
+abbrev pub machine_by : {V : Type 0} → (Halt → Ending V) → Machine State State V
+machine_by ending = record { step = λ s. step_by ending s (turn_of s); output = λ s. s.world.output; shown = λ s. s }
+
 abbrev pub machine : Machine State State Outcome
-machine = record { step = λ s. step_of s (turn_of s); output = λ s. s.world.output; shown = λ s. s }
+machine = machine_by ending_of
 
 -- a state, and a stop if there was one, as a moment of a run
 abbrev pub come_to : State × Option Halt → Moment State Outcome

@@ -5,13 +5,16 @@
 //! definitions, proved for all states.
 #![tactic(auto)]
 
-ghost use Rattle.std.specs.Prelude.{◌≡◌, ℕ, ◌+◌, ◌≤◌, List, Some, None};
+ghost use Rattle.std.specs.Prelude.{◌≡◌, ℕ, ℤ, ◌+◌, ◌≤◌, List, Some, None};
 ghost use Rattle.run_laws.specs.Machines.{run};
-ghost use Rattle.rv_machine.specs.State.{State, Halt, Stops, Undefined};
-ghost use Rattle.rv_machine.specs.Turn.{turn_of, act, IsFetched};
+ghost use Rattle.rv_machine.specs.State.{State, Halt, Stops, Undefined, reg};
+ghost use Rattle.rv_machine.specs.Turn.{turn_of, act, branch_if, IsFetched};
 ghost use Rattle.rv_machine.specs.Start.{start_of, fresh_world};
 ghost use Rattle.rv_machine.specs.Mach.{run_of, machine, mach, come_to};
 ghost use Rattle.rv_machine.specs.Memory.{load_bytes};
+ghost use Rattle.rv_machine.specs.Real.{holds};
+ghost use Rattle.rv_isa.specs.declared.inst.Cond.{Cond};
+ghost use Rattle.rv_isa.specs.Conditions.{branch_when};
 ghost use Rattle.rv_isa.specs.declared.inst.Inst.{Inst};
 ghost use Rattle.rv_isa.specs.Table.{IsWordOf};
 
@@ -44,4 +47,10 @@ pub fn turn_goes_by_the_table()
         → IsWordOf i (load_bytes 4 s.memory s.pc) → turn_of s ≡ act i s }
     ensures undefined { (s : State) → IsFetched s (load_bytes 4 s.memory s.pc)
         → ((i : Inst) → ¬ IsWordOf i (load_bytes 4 s.memory s.pc)) → turn_of s ≡ Stops (Undefined s.pc) }
+{}
+
+/// A condition holds of the words of two registers exactly where the branch that tests it is taken.
+pub fn a_condition_is_that_of_its_branch()
+    ensures { (cond : Cond) (a b : ℕ) (offset : ℤ) (s : State)
+        → act (branch_when cond a b offset) s ≡ branch_if (holds cond (reg s a) (reg s b)) offset s }
 {}
