@@ -1,2 +1,19 @@
 pub mod LittleEndian
 mod Faults
+pub mod Images
+pub mod Turns
+pub mod Finding
+pub mod Scratch
+pub mod Standing
+pub mod Counting
+pub mod Doing
+pub mod Placing
+pub mod Starting
+pub mod Claims
+pub mod Sums
+pub mod Distances
+pub mod Places
+pub mod Words
+pub mod Usual
+pub mod Holding
+pub mod Samples

@@ -1,0 +1,100 @@
+-- What the image of a code does, against the code's own run.
+use Rattle.std.specs.Prelude.{ℕ, ◌+◌, ◌%◌, ◌<◌, ◌≤◌, ◌≡◌, ◌≢◌, ◌⊎◌, List, Some, slice_get}
+use Rattle.grift_base.specs.World.{WorldState}
+use Rattle.run_laws.specs.Runs.{Ending, NeverWrong, FollowsBy, Any}
+use Rattle.run_laws.specs.Machines.{Machine, run}
+use Rattle.run_laws.specs.Meters.{unspent, metered, each_one, Spends, OfRest}
+use Rattle.rv_isa.specs.declared.inst.Inst.TheVariants.{Ecall, Ebreak}
+use Rattle.rv_isa.specs.declared.real.RealItem.{RealItem}
+use Rattle.rv_isa.specs.declared.real.RealItem.TheVariants.{Op}
+use Rattle.rv_machine.specs.State.{State, Halt, Turn, Next, Stops}
+use Rattle.rv_machine.specs.Start.{start_of, IsRegionSize, IsStackSize}
+use Rattle.rv_machine.specs.Mach.{machine_by}
+use Rattle.rv_machine.specs.Memory.{Memory, load_bytes, memory_of, from_base}
+use Rattle.rv_machine.specs.Image.{statics_len, code_len, loaded_part}
+use Rattle.rv_isa.specs.declared.inst.Inst.{Inst}
+use Rattle.rv_isa.specs.Encoding.{encode_of}
+use Rattle.rv_isa.specs.Decoding.{decode_of}
+use Rattle.rv_machine.specs.Real.{Told, usual, real_machine, told_machine}
+
+-- the same but for x31, and for how far the run has come
+pub record IsLike (s t : State) : Type 0 where
+  pub layout : s.layout ≡ t.layout
+  pub regs : (r : ℕ) → r ≢ 31 → s.regs r ≡ t.regs r
+  pub memory : s.memory ≡ t.memory
+  pub world : s.world ≡ t.world
+
+-- ---- what ECALL and EBREAK may be told to do
+
+-- two turns come to the same but for x31
+abbrev pub ComeToLike : Turn → Turn → Type 0
+ComeToLike (Next s) (Next t) = IsLike s t × (s.pc ≡ t.pc)
+ComeToLike (Next s) (Stops halt) = ⊥
+ComeToLike (Stops halt) (Next t) = ⊥
+ComeToLike (Stops halt) (Stops other) = halt ≡ other
+
+-- the code is as before
+abbrev pub LeavesCode : State → Turn → Type 0
+LeavesCode s (Next t) =
+    (t.layout ≡ s.layout) × ((at : ℕ) → s.layout.code ≤ at → at < s.layout.region → t.memory at ≡ s.memory at)
+LeavesCode s (Stops halt) = Unit {0}
+
+-- neither x31 nor the code matters to it
+pub record CanBeTold (does : State → Turn) : Type 0 where
+  pub spares : (s t : State) → IsLike s t → s.pc ≡ t.pc → ComeToLike (does s) (does t)
+  pub leaves : (s : State) → LeavesCode s (does s)
+
+pub record AllCanBeTold (told : Told) : Type 0 where
+  pub ecall : (place : ℕ) → CanBeTold (told.ecall place)
+  pub ebreak : (place : ℕ) → CanBeTold (told.ebreak place)
+
+-- ---- where a run begins
+
+-- an ECALL or an EBREAK stands at this place
+abbrev pub CallsAt : List RealItem → ℕ → Type 0
+CallsAt items place = (slice_get items place ≡ Some (Op Ecall)) ⊎ (slice_get items place ≡ Some (Op Ebreak))
+
+-- the address is in the word of none of them
+abbrev pub IsNoCall : List RealItem → (ℕ → ℕ) → ℕ → Type 0
+IsNoCall items address at =
+    (place : ℕ) → CallsAt items place → ¬ ((address place ≤ at) × (at < address place + 4))
+
+-- the start state of an image, but loads may find other words in place of each ECALL and EBREAK
+pub record Starts (bytes : List ℕ) (items : List RealItem) (address : ℕ → ℕ) (region stack : ℕ) (world : WorldState) (s : State) : Type 0 where
+  pub region_size : IsRegionSize region
+  pub stack_size : IsStackSize stack
+  pub same : s ≡ record (start_of bytes region stack world) { memory = s.memory }
+  pub memory : (at : ℕ) → IsNoCall items address at → s.memory at ≡ (start_of bytes region stack world).memory at
+
+-- ---- the claims
+
+-- from this state on, where the second machine never goes wrong, the first follows it, and shows the same but for x31 at
+-- moments that correspond; it takes at most twelve turns for each of its steps
+pub record Simulates {V : Type 0} (X Y : Machine State State V) (s : State) : Type 0 where
+  pub follows : FollowsBy IsLike Any (run X s) (run Y s)
+  pub turns : FollowsBy (OfRest IsLike) (Spends 12) (run (metered each_one X) (unspent s)) (run (metered each_one Y) (unspent s))
+
+-- the image does what the code does, told where the items lie, for whatever ECALL and EBREAK may be told to do
+abbrev pub DoesAsCode : {V : Type 0} → (Halt → Ending V) → List ℕ → List RealItem → (ℕ → ℕ) → Type 0
+DoesAsCode ending bytes items address =
+    (told : Told) (region stack : ℕ) (world : WorldState) (s : State) → told.address ≡ address → AllCanBeTold told →
+    Starts bytes items address region stack world s → NeverWrong (run (real_machine ending items told) s) →
+    Simulates (told_machine ending items told) (real_machine ending items told) s
+
+-- and so does the machine that runs the image, where nothing is told
+abbrev pub DoesAsUsual : {V : Type 0} → (Halt → Ending V) → List ℕ → List RealItem → (ℕ → ℕ) → Type 0
+DoesAsUsual ending bytes items address =
+    (region stack : ℕ) (world : WorldState) → IsRegionSize region → IsStackSize stack →
+    NeverWrong (run (real_machine ending items (usual address)) (start_of bytes region stack world)) →
+    Simulates (machine_by ending) (real_machine ending items (usual address)) (start_of bytes region stack world)
+
+-- the image as it lies in memory
+abbrev pub image_memory : List ℕ → Memory
+image_memory bytes = from_base (memory_of (loaded_part bytes))
+
+-- what stands where in the code
+pub record HasItsWords (bytes : List ℕ) (items : List RealItem) (address : ℕ → ℕ) : Type 0 where
+  -- each instruction's word at the address of its item
+  pub op : (place : ℕ) (i : Inst) → slice_get items place ≡ Some (Op i) → load_bytes 4 (image_memory bytes) (address place) ≡ encode_of i
+  -- no ECALL and no EBREAK but those
+  pub no_call : (at : ℕ) (i : Inst) → 65536 + statics_len bytes ≤ at → at < 65536 + statics_len bytes + code_len bytes → at % 4 ≡ 0 → IsNoCall items address at → decode_of (load_bytes 4 (image_memory bytes) at) ≡ Some i → (i ≢ Ecall) × (i ≢ Ebreak)
