@@ -4,3 +4,4 @@ pub mod Sound
 pub mod Runs
 pub mod Start
 pub mod Written
+pub mod Across

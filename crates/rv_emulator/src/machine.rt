@@ -15,11 +15,14 @@ use crate::registers::Registers;
 use crate::stops::Stop;
 use assembler::image::Image;
 use grift_base::lists::OutOfMemory;
+use grift_base::words::Words;
 use grift_base::worlds::World;
 use rv_isa::number::Reg;
 use std::alloc::Global;
 use std::marker::Model;
 
+#[cfg(test)]
+mod assembled;
 #[cfg(test)]
 mod tests;
 
@@ -147,6 +150,25 @@ impl<R: Ram> Machine<R> {
         ensures { result.now ≡ self.now.ram }
     {
         &self.processor.ram
+    }
+}
+
+impl<R: Ram> Words for Machine<R> {
+    ghost use Rattle.rv_machine.specs.Memory.{load_bytes};
+    ghost use Rattle.rv_emulator.specs.Processor.{state_of};
+
+    ghost first = { λ _. 65536 };
+
+    ghost end = { λ m. m.places.end };
+
+    ghost word_at = { λ m at. load_bytes 8 (state_of R.memory m).memory at };
+
+    fn word(&self, at: u64) -> Option<u64> {
+        let end = self.processor.places.end;
+        if at % 8 != 0 || at < BASE || end < 8 || end - 8 < at {
+            return None;
+        }
+        Some(self.processor.ram.load(at - BASE, Width::B8))
     }
 }
 

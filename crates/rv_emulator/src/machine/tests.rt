@@ -10,6 +10,7 @@ use assembler::image::{Image, is_image};
 use grift_base::lists::{Bytes, OutOfMemory};
 use grift_base::places::Pos;
 use grift_base::verdicts::{Answer, AnswerKind, Trap};
+use grift_base::words::Words;
 use grift_base::worlds::World;
 use rv_isa::number::Reg;
 use std::alloc::Global;
@@ -41,7 +42,7 @@ fn image_of(alloc: Global, code: &[u32]) -> Result<Option<Image>, OutOfMemory> {
 }
 
 // A machine with this image, a region and a stack of these sizes and no input.
-fn machine_of(
+pub(crate) fn machine_of(
     alloc: Global,
     image: &Image,
     region: u64,
@@ -56,7 +57,7 @@ fn machine_of(
     Machine::load(alloc, image, ram, region, stack, world)
 }
 
-fn ended(kind: AnswerKind, word: i64) -> Stop {
+pub(crate) fn ended(kind: AnswerKind, word: i64) -> Stop {
     Stop::Ended(Answer { kind, word })
 }
 
@@ -294,4 +295,24 @@ fn goes_on(rt: HostRuntime) -> Result<(), OutOfMemory> {
         assert_eq!(rt; machine.run(7), ended(AnswerKind::Int, 42));
     }
     Ok(())
+}
+
+// The word that a machine with this code tells at an address. None where there is no such image, or no memory.
+fn word_at(alloc: Global, code: &[u32], at: u64) -> Option<Option<u64>> {
+    let image = image_of(alloc, code).ok()??;
+    let machine = machine_of(alloc, &image, 16, 16).ok()?;
+    Some(machine.word(at))
+}
+
+#[test]
+fn tells_words(rt: HostRuntime) {
+    let code = [0x02a00593, 0x00000073];
+    assert_eq!(rt;
+        word_at(rt.alloc(), &code, 65536),
+        Some(Some(0x0000_0073_02a0_0593))
+    );
+    assert_eq!(rt; word_at(rt.alloc(), &code, 65568), Some(Some(0)));
+    for at in [65576, 65540, 65528] {
+        assert_eq!(rt; word_at(rt.alloc(), &code, at), Some(None));
+    }
 }
