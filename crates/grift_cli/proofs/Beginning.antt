@@ -1,8 +1,8 @@
 -- The image of a program starts with the program's code before it, and its run follows the program.
-use Rattle.std.proofs.Common.{ℕ, suc, ◌+◌, ◌-◌, ◌*◌, ◌/◌, ◌%◌, ◌^◌, ◌<◌, ◌≤◌, ◌≡◌, Bool, true, false, List, [], ◌∷◌, ◌++◌, length, take, drop, Option, Some, None, refl, sym, ◌∙◌, ap, subst, arith, append_assoc, length-append}
-use Rattle.std.specs.Prelude.{pos, FitsSigned, nat_lt, not, ◌==◌, if◌then◌else◌, flat_map, slice_index, slice_range}
-use Rattle.std.specs.Int.{w32, w64, to_le_bytes}
-use Rattle.std.proofs.lemmas.List.{take_all}
+use Rattle.std.proofs.Common.{ℕ, suc, ◌+◌, ◌-◌, ◌*◌, ◌/◌, ◌%◌, ◌^◌, ◌<◌, ◌≤◌, ◌≡◌, Bool, true, false, List, [], ◌∷◌, ◌++◌, length, Option, Some, None, refl, sym, ◌∙◌, ap, subst, arith, append_assoc, length-append}
+use Rattle.std.specs.Prelude.{pos, FitsSigned, nat_lt, not, ◌==◌, if◌then◌else◌, flat_map, slice_index}
+use Rattle.std.specs.Int.{w64}
+use Rattle.std.proofs.lemmas.List.{length-map}
 use Rattle.run_laws.specs.Runs.{Exhausted, Follows, Any}
 use Rattle.run_laws.specs.Machines.{Stop, Reaches, Alike, run}
 use Rattle.run_laws.proofs.Following.{follows_trans, follows_of}
@@ -23,11 +23,12 @@ use Rattle.rv_machine.specs.Mach.{machine, mach, step_of, run_of}
 use Rattle.core_calc.specs.Terms.{Term}
 use Rattle.core_calc.specs.Calculus.{calc}
 use Rattle.grift_cli.specs.Program.{FollowsProgram, program_of}
-use Rattle.grift_cli.specs.Imaging.{image_bytes, AreSections}
-use Rattle.grift_cli.specs.Code.{inst_bytes, code_bytes, number_insts, room_insts, term_insts, slots_of, answer_insts, program_insts, program_image}
+use Rattle.assembler.specs.Imaging.{half_bytes, image_bytes, AreSections, code_bytes, inst_words}
+use Rattle.assembler.proofs.Images.{statics_field, code_field, label_field, entry_field, loaded_is}
+use Rattle.grift_cli.specs.Code.{number_insts, term_insts, slots_of, answer_insts, program_image}
 use Rattle.grift_cli.specs.Elaboration.{HasExprType}
 use Rattle.grift_cli.specs.declared.elaboration.ExprType.{ExprType}
-use Rattle.grift_cli.proofs.Images.{statics_field, code_field, label_field, entry_field}
+use Rattle.grift_cli.proofs.Placing.{test_insts, room_insts, program_insts, image_is}
 use Rattle.grift_cli.proofs.Zipper.{Zipper, zipping}
 use Rattle.grift_cli.proofs.ZipperCalc.{beginning, begins_typed, zipper_follows, zipper_never_wrong}
 use Rattle.grift_cli.proofs.Standing.{Lies, Stands, turn_here, stands_next, turns, puts}
@@ -51,12 +52,12 @@ bytes_of_word : (word : ℕ) → word < 2 ^ 32 → word % 256 + word / 256 % 256
 bytes_of_word word h = omega arith
 
 module _ (l : Layout) where
-  pub code_stands : (m : Memory) (insts : List Inst) (tail : List ℕ) (from : ℕ) → AllDecode insts → l.code ≤ from → from % 4 ≡ 0 → from + 4 * length insts ≤ l.region → ((i : ℕ) → m (from + i) ≡ slice_index (flat_map inst_bytes insts ++ tail) i) → Stands l m from insts
+  pub code_stands : (m : Memory) (insts : List Inst) (tail : List ℕ) (from : ℕ) → AllDecode insts → l.code ≤ from → from % 4 ≡ 0 → from + 4 * length insts ≤ l.region → ((i : ℕ) → m (from + i) ≡ slice_index (flat_map half_bytes (inst_words insts) ++ tail) i) → Stands l m from insts
   code_stands m [] tail from all above whole below h = tt
   code_stands m (i ∷ is) tail from all above whole below h =
       let w : ℕ = encode_of i in
       let word : load_bytes 4 m from ≡ w = word_back _ _ _ _ w m from (h 0) (h 1) (h 2) (h 3) (bytes_of_word w all.0.below) in
-      (ap decode_of word ∙ all.0.back, above, omega arith, whole, code_stands m is tail (from + 4) all.1 (omega arith) (omega arith) (omega arith) (λ k. let e : from + 4 + k ≡ from + (4 + k) = omega arith in ap m e ∙ h (4 + k) ∙ later_index _ _ _ _ (flat_map inst_bytes is ++ tail) k))
+      (ap decode_of word ∙ all.0.back, above, omega arith, whole, code_stands m is tail (from + 4) all.1 (omega arith) (omega arith) (omega arith) (λ k. let e : from + 4 + k ≡ from + (4 + k) = omega arith in ap m e ∙ h (4 + k) ∙ later_index _ _ _ _ (flat_map half_bytes (inst_words is) ++ tail) k))
 
 -- ---- the start state
 
@@ -86,19 +87,14 @@ no_labels : (bytes : List ℕ) (from n : ℕ) → n ≡ 0 → labels_from bytes 
 unfolding labels_from
 no_labels bytes from n e = rw e refl
 
-code_part : (code : List ℕ) → slice_range (image_bytes [] code) 64 (64 + 0 + length code) ≡ code
-code_part code =
-    let e : 64 + 0 + length code - 64 ≡ length code = omega arith in
-    ap (λ n. take n (drop 64 (image_bytes [] code))) e ∙ take_all (length code) code (omega arith)
-
-pub start_is : (code : List ℕ) (region stack : ℕ) (world : WorldState) → AreSections [] code → start_of (image_bytes [] code) region stack world ≡ begins code region stack world
-start_is code region stack world s =
-    let bytes : List ℕ = image_bytes [] code in
-    let a : statics_len bytes ≡ 0 = statics_field [] code s in
-    let b : code_len bytes ≡ length code = code_field [] code s in
-    let c : entry bytes ≡ 0 = entry_field [] code in
-    let d : labels_of bytes ≡ [] = no_labels bytes (64 + statics_len bytes + code_len bytes) (label_count bytes) (label_field [] code) in
-    let part : loaded_part bytes ≡ code = ap (λ n. slice_range bytes 64 (64 + n + code_len bytes)) a ∙ (ap (λ n. slice_range bytes 64 (64 + 0 + n)) b ∙ code_part code) in
+start_fields : (code : List ℕ) (region stack : ℕ) (world : WorldState) → AreSections [] code [] → start_of (image_bytes [] code []) region stack world ≡ begins code region stack world
+start_fields code region stack world s =
+    let bytes : List ℕ = image_bytes [] code [] in
+    let a : statics_len bytes ≡ 0 = statics_field [] code [] s in
+    let b : code_len bytes ≡ length code = code_field [] code [] s in
+    let c : entry bytes ≡ 0 = entry_field [] code [] in
+    let d : labels_of bytes ≡ [] = no_labels bytes (64 + statics_len bytes + code_len bytes) (label_count bytes) (label_field [] code [] s) in
+    let part : loaded_part bytes ≡ code = loaded_is [] code [] s in
     ap (λ n. starting n (code_len bytes) (entry bytes) (labels_of bytes) (loaded_part bytes) region stack world) a
     ∙ (ap (λ n. starting 0 n (entry bytes) (labels_of bytes) (loaded_part bytes) region stack world) b
     ∙ (ap (λ n. starting 0 (length code) n (labels_of bytes) (loaded_part bytes) region stack world) c
@@ -107,33 +103,53 @@ start_is code region stack world s =
 
 -- ---- the length of code
 
-pub bytes_long : (insts : List Inst) → length (flat_map inst_bytes insts) ≡ 4 * length insts
+pub bytes_long : (words : List ℕ) → length (flat_map half_bytes words) ≡ 4 * length words
 bytes_long [] = refl
-bytes_long (i ∷ is) =
-    let a = length-append (inst_bytes i) (flat_map inst_bytes is) in
-    let b = bytes_long is in
-    let c : length (inst_bytes i) ≡ 4 = refl in omega arith
+bytes_long (word ∷ rest) =
+    let a = length-append (half_bytes word) (flat_map half_bytes rest) in
+    let b = bytes_long rest in
+    let c : length (half_bytes word) ≡ 4 = refl in omega arith
 
-pub pad_at : (b : Bool) (n : ℕ) → (n % 2 == 0) ≡ b → ((4 * n + length (if b then [] else to_le_bytes w32 0)) % 8 ≡ 0) × (length (if b then [] else to_le_bytes w32 0) ≤ 4)
+pub pad_at : (b : Bool) (n : ℕ) → (n % 2 == 0) ≡ b → ((4 * n + length (if b then [] else half_bytes 0)) % 8 ≡ 0) × (length (if b then [] else half_bytes 0) ≤ 4)
 pad_at true n h = (grind arith, omega arith)
 pad_at false n h = (grind arith, omega arith)
 
 abbrev pub padding : ℕ → List ℕ
-padding n = if n % 2 == 0 then [] else to_le_bytes w32 0
+padding n = if n % 2 == 0 then [] else half_bytes 0
 
-pub code_long : (insts : List Inst) → length (code_bytes insts) ≡ 4 * length insts + length (padding (length insts))
-code_long insts = length-append (flat_map inst_bytes insts) (padding (length insts)) ∙ ap (λ n. n + length (padding (length insts))) (bytes_long insts)
+-- the bytes of these instructions
+abbrev pub bytes_of : List Inst → List ℕ
+bytes_of insts = flat_map half_bytes (inst_words insts) ++ padding (length insts)
 
-pub code_sections : (insts : List Inst) → 2 ≤ length insts → length insts ≤ 2 ^ 40 → AreSections [] (code_bytes insts)
+pub bytes_are : (insts : List Inst) → code_bytes (inst_words insts) ≡ bytes_of insts
+bytes_are insts = ap (λ n. flat_map half_bytes (inst_words insts) ++ padding n) (length-map insts encode_of)
+
+pub code_long : (insts : List Inst) → length (bytes_of insts) ≡ 4 * length insts + length (padding (length insts))
+code_long insts =
+    let a = length-append (flat_map half_bytes (inst_words insts)) (padding (length insts)) in
+    let b = bytes_long (inst_words insts) in
+    let c = length-map insts encode_of in omega arith
+
+pub code_sections : (insts : List Inst) → 2 ≤ length insts → length insts ≤ 2 ^ 40 → AreSections [] (bytes_of insts) []
 code_sections insts some few =
     let long = code_long insts in
     let pad = pad_at (length insts % 2 == 0) (length insts) refl in
     let whole = pad.0 in
     let short = pad.1 in
-    record { statics_whole = refl; code_whole = ap (λ n. n % 8) long ∙ whole; some_code = omega arith; small = omega arith }
+    record { statics_whole = refl; code_whole = ap (λ n. n % 8) long ∙ whole; some_code = omega arith; few_labels = omega arith; small = omega arith }
 
 pub some_insts : (term : Term) (type : ExprType) → 2 ≤ length (program_insts term type)
 some_insts term type = let a = length-append (room_insts (slots_of term) ++ term_insts term) (answer_insts type) in omega arith
+
+pub program_sections : (term : Term) (type : ExprType) → length (program_insts term type) ≤ 2 ^ 40 → AreSections [] (bytes_of (program_insts term type)) []
+program_sections term type few = code_sections (program_insts term type) (some_insts term type) few
+
+-- the start state of a program's image
+pub start_is : (term : Term) (type : ExprType) → length (program_insts term type) ≤ 2 ^ 40 → (region stack : ℕ) (world : WorldState) → start_of (program_image term type) region stack world ≡ begins (bytes_of (program_insts term type)) region stack world
+start_is term type few region stack world =
+    ap (λ bytes. start_of bytes region stack world) (image_is term type)
+    ∙ ap (λ code. start_of (image_bytes [] code []) region stack world) (bytes_are (program_insts term type))
+    ∙ start_fields (bytes_of (program_insts term type)) region stack world (program_sections term type few)
 
 -- ---- the test of the stack's room
 
@@ -165,7 +181,7 @@ module _ (term : Term) (type : ExprType) (typed : HasExprType term type) (few : 
   insts = program_insts term type
 
   abbrev code : List ℕ
-  code = code_bytes insts
+  code = bytes_of insts
 
   abbrev l : Layout
   l = begins_layout (length code) region stack
@@ -176,8 +192,8 @@ module _ (term : Term) (type : ExprType) (typed : HasExprType term type) (few : 
   abbrev slots : ℕ
   slots = slots_of term
 
-  sections : AreSections [] code
-  sections = code_sections insts (some_insts term type) few
+  sections : AreSections [] code []
+  sections = program_sections term type few
 
   lies : Lies l low
   lies =
@@ -231,7 +247,7 @@ module _ (term : Term) (type : ExprType) (typed : HasExprType term type) (few : 
 
   first_code : Stands l t0.memory 65536 (number_insts (pos (8 * slots)) ++ test)
   first_code =
-      subst (λ is. Stands l t0.memory 65536 is) (room_code (number_insts (pos (8 * slots))) (term_insts term) (answer_insts type) (Sub 5 2 25 ∷ Bgeu 5 10 (pos 12) ∷ Addi 17 0 (pos 6) ∷ Ecall ∷ [])) stands
+      subst (λ is. Stands l t0.memory 65536 is) (room_code (number_insts (pos (8 * slots))) (term_insts term) (answer_insts type) test_insts) stands
 
   -- the branch to the term's code, and what stands there
   enters : (t : State) → t.layout ≡ l → t.world ≡ fresh_world input → Stands l t.memory t.pc (Bgeu 5 10 (pos 12) ∷ Addi 17 0 (pos 6) ∷ Ecall ∷ body) → get_reg t.regs 5 ≡ stack → get_reg t.regs 10 ≡ 8 * slots → get_reg t.regs 2 ≡ low + stack → nat_lt stack (8 * slots) ≡ false → Reaches machine P (On l low lies type z0) 1 t
@@ -317,7 +333,7 @@ module _ (term : Term) (type : ExprType) (typed : HasExprType term type) (few : 
       follows_trans (follows_of (follows_from_start (code_simulates l low lies type) z0 a.0 t0 r (λ n. zipper_never_wrong type n z0 (begins_typed term type input typed)))) (zipper_follows term type input typed)
 
   follows : Follows (mach (program_image term type) region stack input) (calc (program_of term) input)
-  follows = subst (λ t. Follows (run machine t) (calc (program_of term) input)) (sym (start_is code region stack (fresh_world input) sections)) from_start
+  follows = subst (λ t. Follows (run machine t) (calc (program_of term) input)) (sym (start_is term type few region stack (fresh_world input))) from_start
 
   -- a stop for want of room is one of the stack, where it is full
   no_lack : (halt : Halt) → HasRoom halt → MayLack full halt
@@ -340,7 +356,7 @@ module _ (term : Term) (type : ExprType) (typed : HasExprType term type) (few : 
       walk_halts (MayLack full) P (On l low lies type z0) (λ t p. p.1) a.0 t0 m a.1 (λ t j q e. no_lack_come (run_of j t).1 (has_room l low lies type (suc j) z0 t j (omega arith) q))
 
   lacks_from_start : (m : ℕ) → Come (MayLack full) (run_of m (start_of (program_image term type) region stack (fresh_world input))).1
-  lacks_from_start m = subst (λ t. Come (MayLack full) (run_of m t).1) (sym (start_is code region stack (fresh_world input) sections)) (lacks m)
+  lacks_from_start m = subst (λ t. Come (MayLack full) (run_of m t).1) (sym (start_is term type few region stack (fresh_world input))) (lacks m)
 
 -- a run of the image never stops for want of room but in a stack that has none for the words that wait
 pub program_lacks : (term : Term) (type : ExprType) → HasExprType term type → length (program_insts term type) ≤ 2 ^ 40 → (region stack : ℕ) → IsRegionSize region → IsStackSize stack → (input : List ℕ) (m : ℕ) → Come (MayLack (nat_lt stack (8 * slots_of term))) (run_of m (start_of (program_image term type) region stack (fresh_world input))).1

@@ -1,6 +1,6 @@
 -- What short stretches of code do.
-use Rattle.std.proofs.Common.{ℕ, zero, suc, ◌+◌, ◌-◌, ◌*◌, ◌/◌, ◌%◌, ◌^◌, ◌<◌, ◌≤◌, ◌≡◌, true, false, Bool, List, [], ◌∷◌, ◌++◌, refl, sym, ◌∙◌, ap, arith}
-use Rattle.std.specs.Prelude.{ℤ, pos, negsuc, FitsSigned, ◌+ℤ◌, ◌==◌, if◌then◌else◌}
+use Rattle.std.proofs.Common.{ℕ, zero, suc, ◌+◌, ◌-◌, ◌*◌, ◌/◌, ◌%◌, ◌^◌, ◌<◌, ◌≤◌, ◌≡◌, true, false, Bool, List, ◌∷◌, ◌++◌, refl, sym, ◌∙◌, ap, arith}
+use Rattle.std.specs.Prelude.{ℤ, pos, negsuc, FitsSigned, ◌+ℤ◌, ◌==◌}
 use Rattle.std.specs.Int.{w64, cast_unsigned, int_wrap}
 use Rattle.std.proofs.lemmas.Int.{to_z-of_z, of_z-to_z, wrapping_add_onto}
 use Rattle.std.proofs.Math.Facts.{Fits-of_z}
@@ -15,7 +15,9 @@ use Rattle.rv_machine.specs.Registers.{set_reg, get_reg}
 use Rattle.rv_machine.specs.State.{Layout, State, Next}
 use Rattle.rv_machine.specs.Turn.{turn_of, put, plus, shift_left}
 use Rattle.rv_machine.specs.Mach.{machine}
-use Rattle.grift_cli.specs.Code.{chunk_of, chunks_insts, is_short, number_insts}
+use Rattle.assembler.specs.Forms.{chunk_of}
+use Rattle.grift_cli.specs.Code.{chunks_insts, is_short, number_insts}
+use Rattle.grift_cli.proofs.Placing.{number_form}
 use Rattle.grift_cli.proofs.Standing.{Lies, Stands, After, puts}
 
 -- ---- words
@@ -112,7 +114,7 @@ module _ (l : Layout) (low : ℕ) (lies : Lies l low) (P : State → Type 0) (w 
       puts l low lies P (Loaded l word is t) (chunk_turns k) t1 (Addi 10 10 (pos (y % 2048))) (chunks_insts k word ++ is) 10 y a.layout a.code (ap (λ x. put 10 (plus x (pos (y % 2048))) t1) v2 ∙ ap (λ x. put 10 x t1) (plus_small (shift_left (y / 2048) 11) (y % 2048) (omega (arith, m, below)) ∙ m)) (ok t1 (a.world ∙ o)) (λ t2 b.
       reaches_weaken machine P (Loaded l word is t2) P (Loaded l word is t) (λ t3 p. p) (λ t3 q. loaded_later l y word is (chunks_insts k word ++ is) t t2 t3 (loaded_later l (shift_left (y / 2048) 11) y (chunks_insts k word ++ is) (Addi 10 10 (pos (y % 2048)) ∷ chunks_insts k word ++ is) t t1 t2 (loaded_by l (shift_left (y / 2048) 11) _ t t1 a) (loaded_by l y _ t1 t2 b)) q) (chunk_turns k) t2 (chunks k word is t2 h b.layout (b.world ∙ a.world ∙ o) b.code (ap (λ regs. get_reg regs 10) b.regs))))
 
-  number_at : (b : Bool) (n : ℤ) (is : List Inst) (t : State) → FitsSigned w64 n → t.layout ≡ l → t.world ≡ w → Stands l t.memory t.pc ((if b then Addi 10 0 n ∷ [] else Addi 10 0 (pos (chunk_of (cast_unsigned w64 n) 5)) ∷ chunks_insts 5 (cast_unsigned w64 n)) ++ is) → (k : ℕ) × (0 < k) × Reaches machine P (Loaded l (cast_unsigned w64 n) is t) k t
+  number_at : (b : Bool) (n : ℤ) (is : List Inst) (t : State) → FitsSigned w64 n → t.layout ≡ l → t.world ≡ w → Stands l t.memory t.pc (number_form b n ++ is) → (k : ℕ) × (0 < k) × Reaches machine P (Loaded l (cast_unsigned w64 n) is t) k t
   number_at true n is t f e o s =
       (1, omega arith, puts l low lies P _ 0 t (Addi 10 0 n) is 10 (cast_unsigned w64 n) e s (ap (λ x. put 10 x t) (zero_plus n f)) (ok t o) (λ t1 a. loaded_by l (cast_unsigned w64 n) is t t1 a))
   number_at false n is t f e o s =

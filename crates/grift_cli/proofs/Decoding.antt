@@ -1,6 +1,6 @@
 -- The instructions of compiled code are decoded as they were encoded.
 use Rattle.std.proofs.Common.{ℕ, zero, suc, ◌+◌, ◌*◌, ◌^◌, ◌<◌, ◌≤◌, ◌≡◌, Bool, true, false, List, [], ◌∷◌, ◌++◌, length, Some, refl, arith, length-append}
-use Rattle.std.specs.Prelude.{ℤ, pos, negsuc, max, if◌then◌else◌}
+use Rattle.std.specs.Prelude.{ℤ, pos, negsuc, max}
 use Rattle.std.specs.Int.{w64, cast_unsigned}
 use Rattle.rv_isa.specs.declared.inst.Inst.{Inst}
 use Rattle.rv_isa.specs.declared.inst.Inst.TheVariants.{Ld, Sd, Addi, Slli, Add as AddInst, Sub, Bgeu, Ecall}
@@ -13,9 +13,11 @@ use Rattle.rv_isa.proofs.SignedBits.{low_bits_below}
 use Rattle.grift_base.specs.declared.operators.PrimOp.{PrimOp}
 use Rattle.grift_base.specs.declared.operators.PrimOp.TheVariants.{Add, Sub as SubOp, Mul, Quot, Rem, Lt, Le, Eq, Ge, Gt, Not, PrintInt, Newline, ReadInt, MakeBox, Unbox, BoxSet, MakeVector, VectorRef, VectorSet, VectorLength}
 use Rattle.core_calc.specs.Terms.{Term, Terms, IntLit, BoolLit, UnitLit, Var, Lambda, Group, Let, Call, Enter, If, Seq, Cast, Proj, ProjDyn, Tuple, Prim, ValueTerm, NoTerms, TermThen}
-use Rattle.grift_cli.specs.Code.{chunk_of, chunks_insts, is_short, number_insts, wait_insts, operator_insts, term_insts, operands_insts, terms_insts, slots_of, operand_slots, most_slots, room_insts, answer_kind, answer_insts, program_insts}
+use Rattle.assembler.specs.Forms.{chunk_of}
+use Rattle.grift_cli.specs.Code.{chunks_insts, is_short, number_insts, wait_insts, operator_insts, term_insts, operands_insts, terms_insts, slots_of, operand_slots, most_slots, answer_kind, answer_insts}
 use Rattle.grift_cli.specs.declared.elaboration.ExprType.{ExprType}
 use Rattle.grift_cli.specs.declared.elaboration.ExprType.TheVariants.{Int, Unit as UnitType}
+use Rattle.grift_cli.proofs.Placing.{number_form, test_insts, room_insts, program_insts}
 
 -- the word of an instruction has 32 bits, and is decoded as the instruction
 pub record Decodes (i : Inst) : Type 0 where
@@ -97,7 +99,7 @@ short_in : (n : ℤ) → is_short n ≡ true → IsIn 2048 n
 short_in (pos m) h = grind arith
 short_in (negsuc m) h = grind arith
 
-number_at : (b : Bool) (n : ℤ) → is_short n ≡ b → AllDecode (if b then Addi 10 0 n ∷ [] else Addi 10 0 (pos (chunk_of (cast_unsigned w64 n) 5)) ∷ chunks_insts 5 (cast_unsigned w64 n))
+number_at : (b : Bool) (n : ℤ) → is_short n ≡ b → AllDecode (number_form b n)
 number_at true n h = (decodes_addi 10 0 n (omega arith) (omega arith) (short_in n h), tt)
 number_at false n h =
     (decodes_set 10 0 (chunk_of (cast_unsigned w64 n) 5) (omega arith) (omega arith) (omega arith), chunks_decode 5 (cast_unsigned w64 n))
@@ -201,7 +203,7 @@ answer_decodes type =
 
 room_decodes : (slots : ℕ) → AllDecode (room_insts slots)
 room_decodes slots =
-    all_append (number_insts (pos (8 * slots))) (Sub 5 2 25 ∷ Bgeu 5 10 (pos 12) ∷ Addi 17 0 (pos 6) ∷ Ecall ∷ []) (number_decodes (pos (8 * slots))) (decodes_sub, (decodes_bgeu, (decodes_set 17 0 6 (omega arith) (omega arith) (omega arith), (decodes_ecall, tt))))
+    all_append (number_insts (pos (8 * slots))) test_insts (number_decodes (pos (8 * slots))) (decodes_sub, (decodes_bgeu, (decodes_set 17 0 6 (omega arith) (omega arith) (omega arith), (decodes_ecall, tt))))
 
 pub program_decodes : (term : Term) (type : ExprType) → AllDecode (program_insts term type)
 program_decodes term type =

@@ -1,7 +1,10 @@
 -- The steps of what emits instructions: how many words wait at once, and the instructions of operands.
-use Rattle.std.proofs.Common.{ℕ, suc, false, ◌+◌, ◌≤◌, ◌≡◌, ◌==◌, min, max, List, [], ◌++◌, length, if◌then◌else◌, refl, sym, ◌∙◌, arith, append-nil, append_assoc}
+use Rattle.std.proofs.Common.{ℕ, suc, false, ◌+◌, ◌≤◌, ◌≡◌, ◌==◌, min, max, List, [], ◌++◌, length, map, if◌then◌else◌, refl, sym, ◌∙◌, arith, append-nil, append_assoc}
 use Rattle.std.proofs.lemmas.Bool.{ne_eqb}
+use Rattle.std.proofs.lemmas.List.{map-append}
 use Rattle.rv_isa.specs.declared.inst.Inst.{Inst}
+use Rattle.rv_isa.specs.declared.real.RealItem.{RealItem}
+use Rattle.rv_isa.specs.declared.real.RealItem.TheVariants.{Op}
 use Rattle.core_calc.specs.Terms.{Term, Terms, NoTerms, TermThen, term_list}
 use Rattle.grift_cli.specs.Code.{slots_of, operand_slots, wait_insts, term_insts, operands_insts}
 
@@ -36,5 +39,7 @@ operands_insts_first : (a : Term) (rest : Terms) → operands_insts (TermThen a 
 operands_insts_first a NoTerms = sym (append-nil (term_insts a)) ∙ sym (append-nil (term_insts a ++ []))
 operands_insts_first a (TermThen b rest) = rw (not_none (length (term_list rest))) refl
 
-pub operands_insts_more : (a : Term) (rest : Terms) (done behind waits : List Inst) → behind ≡ done ++ term_insts a → waits ≡ behind ++ (if length (term_list rest) == 0 then [] else wait_insts) → waits ++ operands_insts rest ≡ done ++ operands_insts (TermThen a rest)
-operands_insts_more a rest done behind waits e f = rw (f, e, operands_insts_first a rest) (simp append_assoc)
+pub operands_insts_more : (a : Term) (rest : Terms) (done behind waits : List RealItem) → behind ≡ done ++ map Op (term_insts a) → waits ≡ behind ++ map Op (if length (term_list rest) == 0 then [] else wait_insts) → waits ++ map Op (operands_insts rest) ≡ done ++ map Op (operands_insts (TermThen a rest))
+operands_insts_more a rest done behind waits e f =
+    let w : List Inst = if length (term_list rest) == 0 then [] else wait_insts in
+    rw (f, e, operands_insts_first a rest, map-append Op (term_insts a ++ w) (operands_insts rest), map-append Op (term_insts a) w) (simp append_assoc)

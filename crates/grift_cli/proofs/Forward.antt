@@ -1,8 +1,8 @@
 -- Compiled code has no backward jump, so its run stops within as many turns as it has words, and these are bounded by the program's nodes.
 use Rattle.std.proofs.Common.{ℕ, zero, suc, ◌+◌, ◌-◌, ◌*◌, ◌/◌, ◌%◌, ◌^◌, ◌<◌, ◌≤◌, ◌≡◌, Bool, true, false, inl, List, [], ◌∷◌, ◌++◌, length, get_or, Option, Some, None, refl, sym, ◌∙◌, ap, subst, arith, length-append}
 use Rattle.std.specs.Prelude.{ℤ, pos, nat_lt, nat_le, not, ◌&&◌, ◌==◌, if◌then◌else◌, flat_map, slice_get, slice_index}
-use Rattle.std.specs.Int.{w32, w64, to_le_bytes, cast_unsigned}
-use Rattle.std.proofs.lemmas.List.{get_or-append-add}
+use Rattle.std.specs.Int.{w64, cast_unsigned}
+use Rattle.std.proofs.lemmas.List.{get_or-append-add, length-map}
 use Rattle.grift_base.specs.World.{WorldState}
 use Rattle.grift_base.specs.declared.places.Pos.{Pos}
 use Rattle.grift_base.specs.declared.worlds.EnvEffect.{EnvEffect}
@@ -12,6 +12,7 @@ use Rattle.grift_base.specs.declared.operators.PrimOp.TheVariants.{Add, PrintInt
 use Rattle.rv_isa.specs.declared.inst.Inst.{Inst}
 use Rattle.rv_isa.specs.declared.inst.Inst.TheVariants.{Ld, Sd, Addi, Slli, Add as AddInst, Sub, Bgeu, Ecall}
 use Rattle.rv_isa.specs.Decoding.{decode_of}
+use Rattle.rv_isa.specs.Encoding.{encode_of}
 use Rattle.rv_machine.specs.Memory.{Memory, load_bytes, store_bytes, memory_of, from_base}
 use Rattle.rv_machine.specs.State.{Layout, State, Turn, Next, Stops, reg}
 use Rattle.rv_machine.specs.Turn.{turn_of, act, act_if, put, plus, load_into, store_from, branch_if, blames, comes_to, called, next_pc}
@@ -19,12 +20,14 @@ use Rattle.rv_machine.specs.Start.{start_of, fresh_world, IsRegionSize, IsStackS
 use Rattle.rv_machine.specs.Mach.{run_of, onward}
 use Rattle.rv_machine.proofs.Memory.{load_other}
 use Rattle.core_calc.specs.Terms.{Term, Terms, IntLit, Seq, Prim, NoTerms, TermThen, node_count, node_count_of_all}
+use Rattle.assembler.specs.Imaging.{half_bytes, inst_words}
 use Rattle.grift_cli.specs.Limits.{turn_limit}
-use Rattle.grift_cli.specs.Code.{inst_bytes, code_bytes, chunks_insts, chunk_of, is_short, number_insts, wait_insts, operator_insts, term_insts, operands_insts, terms_insts, slots_of, room_insts, answer_insts, program_insts, program_image}
+use Rattle.grift_cli.specs.Code.{chunks_insts, is_short, number_insts, wait_insts, operator_insts, term_insts, operands_insts, terms_insts, slots_of, answer_insts, program_image}
 use Rattle.grift_cli.specs.declared.elaboration.ExprType.{ExprType}
+use Rattle.grift_cli.proofs.Placing.{number_form, test_insts, room_insts, program_insts}
 use Rattle.grift_cli.proofs.Standing.{Stands}
 use Rattle.grift_cli.proofs.Decoding.{program_decodes}
-use Rattle.grift_cli.proofs.Beginning.{code_stands, begins_layout, begins, start_is, pad_at, padding, bytes_long, code_long, code_sections, some_insts}
+use Rattle.grift_cli.proofs.Beginning.{code_stands, begins_layout, begins, start_is, pad_at, padding, bytes_of, bytes_long, code_long, program_sections}
 
 -- ---- instructions that only go on, to what stands behind them
 
@@ -71,7 +74,7 @@ chunks_forward : (k word : ℕ) → AllForward (chunks_insts k word)
 chunks_forward zero word = tt
 chunks_forward (suc k) word = (tt, (tt, chunks_forward k word))
 
-number_at : (b : Bool) (n : ℤ) → Fits (if b then Addi 10 0 n ∷ [] else Addi 10 0 (pos (chunk_of (cast_unsigned w64 n) 5)) ∷ chunks_insts 5 (cast_unsigned w64 n)) 11
+number_at : (b : Bool) (n : ℤ) → Fits (number_form b n) 11
 number_at true n = record { forward = (tt, tt); few = omega arith }
 number_at false n = record { forward = (tt, chunks_forward 5 (cast_unsigned w64 n)); few = omega arith }
 
@@ -122,7 +125,7 @@ answer_fits type = record { forward = (tt, (tt, (tt, (tt, tt)))); few = omega ar
 
 room_fits : (slots : ℕ) → Fits (room_insts slots) 15
 room_fits slots =
-    fits_both (number_insts (pos (8 * slots))) (Sub 5 2 25 ∷ Bgeu 5 10 (pos 12) ∷ Addi 17 0 (pos 6) ∷ Ecall ∷ []) 11 4 15 (number_fits (pos (8 * slots))) (record { forward = (tt, (refl, (tt, (tt, tt)))); few = omega arith }) (omega arith)
+    fits_both (number_insts (pos (8 * slots))) test_insts 11 4 15 (number_fits (pos (8 * slots))) (record { forward = (tt, (refl, (tt, (tt, tt)))); few = omega arith }) (omega arith)
 
 pub program_fits : (term : Term) (type : ExprType) → Fits (program_insts term type) (16 * node_count term + 19)
 program_fits term type =
@@ -143,7 +146,7 @@ zero_is_code : IsCode (decode_of 0)
 unfolding decode_of
 zero_is_code = tt
 
-pad_zero : (b : Bool) (i : ℕ) → get_or (if b then [] else to_le_bytes w32 0) i 0 ≡ 0
+pad_zero : (b : Bool) (i : ℕ) → get_or (if b then [] else half_bytes 0) i 0 ≡ 0
 pad_zero true i = refl
 pad_zero false zero = refl
 pad_zero false (suc zero) = refl
@@ -281,7 +284,7 @@ module _ (term : Term) (type : ExprType) (few : length (program_insts term type)
   insts = program_insts term type
 
   abbrev code : List ℕ
-  code = code_bytes insts
+  code = bytes_of insts
 
   abbrev l : Layout
   l = begins_layout (length code) region stack
@@ -295,11 +298,16 @@ module _ (term : Term) (type : ExprType) (few : length (program_insts term type)
   byte_at : (i : ℕ) → from_base (memory_of code) (65536 + i) ≡ slice_index code i
   byte_at i = grind arith
 
+  -- the bytes before the padding
+  abbrev front : List ℕ
+  front = flat_map half_bytes (inst_words insts)
+
   behind : (i : ℕ) → m (65536 + 4 * length insts + i) ≡ 0
   behind i =
-      let long = bytes_long insts in
-      let e : 65536 + 4 * length insts + i ≡ 65536 + (length (flat_map inst_bytes insts) + i) = omega arith in
-      ap m e ∙ (byte_at (length (flat_map inst_bytes insts) + i) ∙ (get_or-append-add (flat_map inst_bytes insts) (padding (length insts)) i 0 ∙ pad_zero (length insts % 2 == 0) i))
+      let long = bytes_long (inst_words insts) in
+      let same = length-map insts encode_of in
+      let e : 65536 + 4 * length insts + i ≡ 65536 + (length front + i) = omega arith in
+      ap m e ∙ (byte_at (length front + i) ∙ (get_or-append-add front (padding (length insts)) i 0 ∙ pad_zero (length insts % 2 == 0) i))
 
   stands : Stands l m 65536 insts
   stands =
@@ -316,12 +324,12 @@ module _ (term : Term) (type : ExprType) (few : length (program_insts term type)
 
   bounded : (turns : ℕ) → (run_of turns (start_of (program_image term type) region stack (fresh_world input))).1 ≡ None → turns < turn_limit term
   bounded turns e =
-      let sections = code_sections insts (some_insts term type) few in
+      let sections = program_sections term type few in
       let long = code_long insts in
       let pad = (pad_at (length insts % 2 == 0) (length insts) refl).1 in
       let eight = sections.code_whole in
       let nodes = (program_fits term type).few in
-      let start = start_is code region stack (fresh_world input) sections in
+      let start = start_is term type few region stack (fresh_world input) in
       let went = run_forth l (omega arith) (omega arith) turns t0 starts (subst (λ t. (run_of turns t).1 ≡ None) start e) in
       omega arith
 

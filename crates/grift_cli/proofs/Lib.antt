@@ -1,4 +1,5 @@
-pub mod Images
+pub mod Placing
+pub mod Assembling
 pub mod FormsRead
 pub mod FormsTyped
 pub mod Emitting

@@ -1,25 +1,24 @@
 -- Images that spend too much don't keep the limits: each kind, at its least program.
-use Rattle.std.proofs.Common.{ℕ, ◌<◌, ◌≡◌, List, [], ◌∷◌, ◌++◌, Option, Some, None, refl, subst, arith}
-use Rattle.std.specs.Prelude.{ℤ, pos}
-use Rattle.rv_isa.specs.declared.inst.Inst.{Inst}
+use Rattle.std.proofs.Common.{ℕ, ◌<◌, ◌≡◌, List, [], ◌∷◌, ◌++◌, Some, None, refl, subst, arith}
+use Rattle.std.specs.Prelude.{pos}
 use Rattle.rv_isa.specs.declared.inst.Inst.TheVariants.{Addi, Sub, Bgeu, Ecall, Jal}
 use Rattle.rv_isa.specs.Decoding.{decode_of}
 use Rattle.rv_isa.specs.Encoding.{encode_of}
 use Rattle.grift_base.specs.EnvironmentCall.{environment_call}
 use Rattle.rv_machine.specs.Memory.{load_bytes}
 use Rattle.rv_machine.specs.Image.{labels_from}
-use Rattle.rv_machine.specs.State.{Halt, RegionOut, StackOut}
+use Rattle.rv_machine.specs.State.{RegionOut, StackOut}
 use Rattle.rv_machine.specs.Turn.{turn_of}
 use Rattle.rv_machine.specs.Start.{start_of, fresh_world}
 use Rattle.rv_machine.specs.Mach.{run_of}
 use Rattle.core_calc.specs.Terms.{Term, IntLit, Prim, NoTerms, TermThen}
 use Rattle.grift_base.specs.declared.operators.PrimOp.TheVariants.{Add}
-use Rattle.grift_cli.specs.Imaging.{image_bytes}
-use Rattle.grift_cli.specs.Code.{code_bytes, number_insts}
+use Rattle.assembler.specs.Imaging.{image_bytes, code_bytes, inst_words}
+use Rattle.grift_cli.specs.Code.{number_insts}
 use Rattle.grift_cli.specs.Limits.{MayCome, KeepsLimits}
 
 abbrev greedy : List ℕ
-greedy = image_bytes [] (code_bytes (Addi 17 0 (pos 5) ∷ Ecall ∷ []))
+greedy = image_bytes [] (code_bytes (inst_words (Addi 17 0 (pos 5) ∷ Ecall ∷ []))) []
 
 asks : (run_of 2 (start_of greedy 0 0 (fresh_world []))).1 ≡ Some RegionOut
 unfolding run_of turn_of decode_of encode_of load_bytes labels_from environment_call
@@ -31,7 +30,7 @@ region_refused k = subst (MayCome (IntLit (pos 42)) 0 2) asks (k 0 0 2 [] (refl,
 
 -- 4,096 bytes for each of two words that wait
 abbrev wide : List ℕ
-wide = image_bytes [] (code_bytes (number_insts (pos 8192) ++ Sub 5 2 25 ∷ Bgeu 5 10 (pos 12) ∷ Addi 17 0 (pos 6) ∷ Ecall ∷ []))
+wide = image_bytes [] (code_bytes (inst_words (number_insts (pos 8192) ++ Sub 5 2 25 ∷ Bgeu 5 10 (pos 12) ∷ Addi 17 0 (pos 6) ∷ Ecall ∷ []))) []
 
 abbrev three_ones : Term
 three_ones = Prim Add (TermThen (IntLit (pos 1)) (TermThen (Prim Add (TermThen (IntLit (pos 1)) (TermThen (IntLit (pos 1)) NoTerms))) NoTerms))
@@ -45,7 +44,7 @@ stack_refused k = let h : 8184 < 5440 = subst (MayCome three_ones 8184 15) lacks
 
 -- a jump to itself, for as many turns as one node allows
 abbrev endless : List ℕ
-endless = image_bytes [] (code_bytes (Jal 0 (pos 0) ∷ []))
+endless = image_bytes [] (code_bytes (inst_words (Jal 0 (pos 0) ∷ []))) []
 
 goes_on : (run_of 1088 (start_of endless 0 0 (fresh_world []))).1 ≡ None
 unfolding run_of turn_of decode_of encode_of load_bytes labels_from environment_call

@@ -5,12 +5,13 @@ use Rattle.rv_machine.specs.State.{Halt, Ended, Blamed, Trapped, RegionOut, Stac
 use Rattle.rv_machine.specs.Start.{start_of, fresh_world}
 use Rattle.rv_machine.specs.Mach.{run_of}
 use Rattle.core_calc.specs.Terms.{Term, Terms, Seq, Prim, NoTerms, TermThen, node_count, node_count_of_all}
-use Rattle.grift_cli.specs.Code.{slots_of, operand_slots, most_slots, program_insts, program_image}
+use Rattle.grift_cli.specs.Code.{slots_of, operand_slots, most_slots, program_image}
 use Rattle.grift_cli.specs.Limits.{turn_limit, MayStop, MayCome, MayTell, KeepsLimits}
 use Rattle.grift_cli.specs.Outcome.{IsTold}
 use Rattle.grift_base.specs.declared.verdicts.Verdict.{Verdict}
 use Rattle.grift_cli.specs.Elaboration.{HasExprType}
 use Rattle.grift_cli.specs.declared.elaboration.ExprType.{ExprType}
+use Rattle.grift_cli.proofs.Placing.{program_insts}
 use Rattle.grift_cli.proofs.Halting.{Come}
 use Rattle.grift_cli.proofs.Beginning.{MayLack, program_lacks}
 use Rattle.grift_cli.proofs.Forward.{turns_bounded}

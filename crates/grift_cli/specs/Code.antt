@@ -1,21 +1,20 @@
 -- The code of a program. A term leaves its word in x10. Words of operands that wait for a later one stand on the stack, and x2 is the place of the last.
-use Rattle.std.specs.Prelude.{ℕ, zero, suc, ◌+◌, ◌*◌, ◌/◌, ◌%◌, ◌^◌, ◌==◌, ◌&&◌, max, if◌then◌else◌, Bool, ℤ, pos, negsuc, int_le, int_lt, List, [], ◌∷◌, ◌++◌, length, flat_map}
-use Rattle.std.specs.Int.{w32, w64, to_le_bytes, cast_unsigned}
+use Rattle.std.specs.Prelude.{ℕ, zero, suc, ◌+◌, ◌*◌, ◌&&◌, max, if◌then◌else◌, Bool, ℤ, pos, negsuc, int_le, int_lt, List, [], ◌∷◌, ◌++◌, map}
+use Rattle.std.specs.Int.{w64, cast_unsigned}
 use Rattle.rv_isa.specs.declared.inst.Inst.{Inst}
-use Rattle.rv_isa.specs.declared.inst.Inst.TheVariants.{Ld, Sd, Addi, Slli, Add as AddInst, Sub, Bgeu, Ecall}
-use Rattle.rv_isa.specs.Encoding.{encode_of}
+use Rattle.rv_isa.specs.declared.inst.Inst.TheVariants.{Ld, Sd, Addi, Slli, Add as AddInst, Sub, Ecall}
+use Rattle.rv_isa.specs.declared.inst.Cond.TheVariants.{Geu}
+use Rattle.rv_isa.specs.declared.real.RealItem.{RealItem}
+use Rattle.rv_isa.specs.declared.real.RealItem.TheVariants.{Op, Mark, Branch}
+use Rattle.assembler.specs.Forms.{chunk_of}
+use Rattle.assembler.specs.Imaging.{assembled}
 use Rattle.grift_base.specs.declared.operators.PrimOp.{PrimOp}
 use Rattle.grift_base.specs.declared.operators.PrimOp.TheVariants.{Add, PrintInt, Newline}
 use Rattle.core_calc.specs.Terms.{Term, Terms, IntLit, Seq, Prim, NoTerms, TermThen}
 use Rattle.grift_cli.specs.declared.elaboration.ExprType.{ExprType}
 use Rattle.grift_cli.specs.declared.elaboration.ExprType.TheVariants.{Int, Unit as UnitType}
-use Rattle.grift_cli.specs.Imaging.{image_bytes}
 
 -- ---- numbers
-
--- eleven bits of a word, those from place 11 * k on
-abbrev pub chunk_of : ℕ → ℕ → ℕ
-chunk_of word k = word / 2 ^ (11 * k) % 2048
 
 -- what is in x10 is moved up by eleven bits, and a chunk is added
 abbrev pub chunk_insts : ℕ → List Inst
@@ -84,9 +83,13 @@ abbrev mutual
 
 -- ---- programs
 
--- the stack has no room for so many words: call 6; else past that
-abbrev pub room_insts : ℕ → List Inst
-room_insts slots = number_insts (pos (8 * slots)) ++ Sub 5 2 25 ∷ Bgeu 5 10 (pos 12) ∷ Addi 17 0 (pos 6) ∷ Ecall ∷ []
+-- the stack has less room than the number of bytes in x10: call 6; else past that, to the mark
+abbrev pub test_items : List RealItem
+test_items = Op (Sub 5 2 25) ∷ Branch Geu 5 10 0 ∷ Op (Addi 17 0 (pos 6)) ∷ Op Ecall ∷ Mark 0 ∷ []
+
+-- the test for so many words
+abbrev pub room_items : ℕ → List RealItem
+room_items slots = map Op (number_insts (pos (8 * slots))) ++ test_items
 
 -- the kind of an answer of this type
 abbrev pub answer_kind : ExprType → ℕ
@@ -97,18 +100,9 @@ answer_kind UnitType = 2
 abbrev pub answer_insts : ExprType → List Inst
 answer_insts type = Addi 11 10 (pos 0) ∷ Addi 10 0 (pos (answer_kind type)) ∷ Addi 17 0 (pos 0) ∷ Ecall ∷ []
 
-abbrev pub program_insts : Term → ExprType → List Inst
-program_insts term type = room_insts (slots_of term) ++ term_insts term ++ answer_insts type
+abbrev pub program_items : Term → ExprType → List RealItem
+program_items term type = room_items (slots_of term) ++ map Op (term_insts term) ++ map Op (answer_insts type)
 
--- ---- words and images
-
--- the bytes of an instruction
-abbrev pub inst_bytes : Inst → List ℕ
-inst_bytes i = to_le_bytes w32 (encode_of i)
-
--- the bytes of instructions, with a word 0 behind them where their number is odd
-abbrev pub code_bytes : List Inst → List ℕ
-code_bytes insts = flat_map inst_bytes insts ++ (if length insts % 2 == 0 then [] else to_le_bytes w32 0)
-
+-- without statics and labels
 abbrev pub program_image : Term → ExprType → List ℕ
-program_image term type = image_bytes [] (code_bytes (program_insts term type))
+program_image term type = assembled (program_items term type) [] []

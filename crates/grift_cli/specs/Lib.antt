@@ -1,4 +1,3 @@
-pub mod Imaging
 pub mod Forms
 pub mod Elaboration
 pub mod Code

@@ -8,12 +8,13 @@ ghost use Rattle.grift_cli.specs.Limits.{KeepsLimits};
 ghost use Rattle.grift_cli.specs.Program.{FollowsProgram, program_of};
 
 use crate::elaboration::ExprType;
-use crate::encoding::code_of;
-use crate::imaging::image_of;
-use crate::instructions::program_insts;
+use crate::instructions::program_items;
+use assembler::assembly::assemble;
 use assembler::image::Image;
 use core_calc::terms::Core;
 use grift_base::lists::OutOfMemory;
+use grift_base::places::LabelTable;
+use grift_base::words::Statics;
 use std::alloc::Global;
 
 /// An image that follows the program that is this term, which has this type, within the limits of its size.
@@ -23,8 +24,7 @@ pub fn compile(alloc: Global, term: &Core, answer: ExprType) -> Result<Image, Ou
     ensures follows { IfOk result (λ image. FollowsProgram image (program_of (term_of term.now))) }
     ensures limits { IfOk result (λ image. KeepsLimits image (term_of term.now)) }
 {
-    let insts = program_insts(alloc, term, answer)?;
-    let code = code_of(alloc, insts.as_slice())?;
-    let image = image_of(alloc, &[], code.as_slice())?;
+    let code = program_items(alloc, term, answer)?;
+    let image = assemble(alloc, &code, &Statics::new(alloc), &LabelTable::new(alloc))?;
     Ok(image)
 }

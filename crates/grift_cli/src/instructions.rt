@@ -1,39 +1,50 @@
-// Instructions from terms.
+// Code from terms.
 
-ghost use Rattle.std.specs.Prelude.{◌≡◌, ◌++◌, ◌∷◌, [], ◌≤◌, ◌*◌, ◌^◌, pos, min, length, if◌then◌else◌, ◌==◌, IfOk, OnOk};
+ghost use Rattle.std.specs.Prelude.{◌≡◌, ◌++◌, ◌∷◌, [], ◌≤◌, ◌*◌, ◌^◌, pos, min, length, map, not, count_by, if◌then◌else◌, ◌==◌, IfOk, OnOk};
 ghost use Rattle.std.specs.Bool.{OnTrue};
 ghost use Rattle.rv_isa.specs.Bits.{IsIn, IsBelow};
-ghost use Rattle.rv_isa.specs.declared.inst.Inst.TheVariants.{Addi, Slli, Sub, Bgeu, Ecall};
+ghost use Rattle.rv_isa.specs.declared.inst.Inst.TheVariants.{Addi, Slli};
+ghost use Rattle.rv_isa.specs.declared.real.RealItem.TheVariants.{Op};
+ghost use Rattle.assembler.specs.Conditions.{is_mark};
 ghost use Rattle.grift_base.specs.declared.operators.PrimOp.TheVariants.{Add, PrintInt, Newline};
 ghost use Rattle.core_calc.specs.Terms.{term_list};
 ghost use Rattle.core_calc.specs.Views.{term_of, terms_of};
-ghost use Rattle.grift_cli.specs.Code.{chunk_of, chunks_insts, is_short, number_insts, wait_insts, operator_insts, term_insts, operands_insts, terms_insts, slots_of, operand_slots, most_slots, room_insts, answer_kind, answer_insts, program_insts};
+ghost use Rattle.assembler.specs.Forms.{chunk_of};
+ghost use Rattle.grift_cli.specs.Code.{chunks_insts, is_short, number_insts, wait_insts, operator_insts, term_insts, operands_insts, terms_insts, slots_of, operand_slots, most_slots, test_items, room_items, answer_kind, answer_insts, program_items};
 ghost use Rattle.grift_cli.specs.Limits.{insts_limit};
 
 use crate::elaboration::ExprType;
 use core_calc::terms::{Core, CoreList};
-use grift_base::lists::{Items, OutOfMemory};
+use grift_base::lists::OutOfMemory;
 use grift_base::operators::PrimOp;
-use rv_isa::inst::Inst;
-use rv_isa::number::{Imm12, Imm13, Reg, Shift6};
+use rv_isa::inst::{Cond, Inst};
+use rv_isa::number::{Imm12, Reg, Shift6};
+use rv_isa::real::{RealCode, RealItem, RealItems};
 use std::alloc::Global;
-
-/// Instructions in order.
-pub type Insts = Items<Inst>;
 
 // How many words may wait at once: the stack has no room for more, whatever its size.
 const MOST_SLOTS: u64 = 1 << 40;
 
-/// The instructions of the program that is this term, which has this type.
-pub fn program_insts(alloc: Global, term: &Core, answer: ExprType) -> Result<Insts, OutOfMemory>
-    ensures insts { IfOk result (λ insts. insts ≡ program_insts (term_of term.now) answer) }
-    ensures few { IfOk result (λ insts. length insts ≤ insts_limit (term_of term.now)) }
+// The mark behind the test of the stack's room.
+const TESTED: u32 = 0;
+
+/// The code of the program that is this term, which has this type.
+pub fn program_items(alloc: Global, term: &Core, answer: ExprType) -> Result<RealCode, OutOfMemory>
+    ensures items { IfOk result (λ code. code.items ≡ program_items (term_of term.now) answer) }
+    ensures few { IfOk result (λ code. count_by (λ item. not (is_mark item)) code.items ≤ insts_limit (term_of term.now)) }
 {
-    let mut insts = Insts::new(alloc);
-    put_room_test(&mut insts, slots_of(term))?;
-    put_term(&mut insts, term)?;
-    put_answer(&mut insts, answer)?;
-    Ok(insts)
+    let mut items = RealItems::new(alloc);
+    put_room_test(&mut items, slots_of(term))?;
+    put_term(&mut items, term)?;
+    put_answer(&mut items, answer)?;
+    Ok(RealCode { items })
+}
+
+// Adds an instruction.
+fn put(items: &mut RealItems, i: Inst) -> Result<(), OutOfMemory>
+    ensures { OnOk result (items.new ≡ items.old ++ Op i ∷ []) }
+{
+    items.push(RealItem::Op(i))
 }
 
 // ---- how many words wait
@@ -86,16 +97,16 @@ fn operand_slots(operands: &CoreList) -> u64
 
 // Adds the instructions of a term.
 #[cycle(emitting)]
-fn put_term(insts: &mut Insts, term: &Core) -> Result<(), OutOfMemory>
-    ensures { OnOk result (insts.new ≡ insts.old ++ term_insts (term_of term.now)) }
+fn put_term(items: &mut RealItems, term: &Core) -> Result<(), OutOfMemory>
+    ensures { OnOk result (items.new ≡ items.old ++ map Op (term_insts (term_of term.now))) }
 {
     match term {
-        Core::Int(n) => put_number(insts, *n),
+        Core::Int(n) => put_number(items, *n),
         Core::Unit => Ok(()),
-        Core::Seq(terms) => put_terms(insts, terms),
+        Core::Seq(terms) => put_terms(items, terms),
         Core::Prim(operator, operands) => {
-            put_operands(insts, operands)?;
-            put_operator(insts, *operator)
+            put_operands(items, operands)?;
+            put_operator(items, *operator)
         }
         Core::Value(_) => Ok(()),
     }
@@ -103,12 +114,12 @@ fn put_term(insts: &mut Insts, term: &Core) -> Result<(), OutOfMemory>
 
 // Adds the instructions of terms one after another.
 #[cycle(emitting)]
-fn put_terms(insts: &mut Insts, terms: &CoreList) -> Result<(), OutOfMemory>
-    ensures { OnOk result (insts.new ≡ insts.old ++ terms_insts (terms_of terms.now)) }
+fn put_terms(items: &mut RealItems, terms: &CoreList) -> Result<(), OutOfMemory>
+    ensures { OnOk result (items.new ≡ items.old ++ map Op (terms_insts (terms_of terms.now))) }
 {
     let mut left = terms;
     while let CoreList::Cons(first, rest) = left {
-        put_term(insts, first)?;
+        put_term(items, first)?;
         left = rest;
     }
     Ok(())
@@ -116,25 +127,25 @@ fn put_terms(insts: &mut Insts, terms: &CoreList) -> Result<(), OutOfMemory>
 
 // Adds the instructions of operands, of which each but the last waits.
 #[cycle(emitting)]
-fn put_operands(insts: &mut Insts, operands: &CoreList) -> Result<(), OutOfMemory>
-    ensures { OnOk result (insts.new ≡ insts.old ++ operands_insts (terms_of operands.now)) }
+fn put_operands(items: &mut RealItems, operands: &CoreList) -> Result<(), OutOfMemory>
+    ensures { OnOk result (items.new ≡ items.old ++ map Op (operands_insts (terms_of operands.now))) }
 {
     let mut left = operands;
     while let CoreList::Cons(first, rest) = left {
-        put_term(insts, first)?;
-        put_waiting_before(insts, rest)?;
+        put_term(items, first)?;
+        put_waiting_before(items, rest)?;
         left = rest;
     }
     Ok(())
 }
 
 // Adds the instructions by which the word in x10 waits for these operands, if there are any.
-fn put_waiting_before(insts: &mut Insts, operands: &CoreList) -> Result<(), OutOfMemory>
-    ensures { OnOk result (insts.new ≡ insts.old ++ (if length (term_list (terms_of operands.now)) == 0 then [] else wait_insts)) }
+fn put_waiting_before(items: &mut RealItems, operands: &CoreList) -> Result<(), OutOfMemory>
+    ensures { OnOk result (items.new ≡ items.old ++ map Op (if length (term_list (terms_of operands.now)) == 0 then [] else wait_insts)) }
 {
     match operands {
         CoreList::Nil => Ok(()),
-        CoreList::Cons(_, _) => put_waiting(insts),
+        CoreList::Cons(_, _) => put_waiting(items),
     }
 }
 
@@ -178,36 +189,36 @@ fn is_short(n: i64) -> bool
 }
 
 // Adds the instructions that put a number into x10.
-fn put_number(insts: &mut Insts, n: i64) -> Result<(), OutOfMemory>
-    ensures { OnOk result (insts.new ≡ insts.old ++ number_insts n) }
+fn put_number(items: &mut RealItems, n: i64) -> Result<(), OutOfMemory>
+    ensures { OnOk result (items.new ≡ items.old ++ map Op (number_insts n)) }
 {
     if is_short(n) {
-        insts.push(set(value(), n))
+        put(items, set(value(), n))
     } else {
-        put_word(insts, n.cast_unsigned())
+        put_word(items, n.cast_unsigned())
     }
 }
 
 // Adds the instructions that put a word into x10, eleven bits at a time.
-fn put_word(insts: &mut Insts, word: u64) -> Result<(), OutOfMemory>
-    ensures { OnOk result (insts.new ≡ insts.old ++ Addi 10 0 (pos (chunk_of word 5)) ∷ chunks_insts 5 word) }
+fn put_word(items: &mut RealItems, word: u64) -> Result<(), OutOfMemory>
+    ensures { OnOk result (items.new ≡ items.old ++ map Op (Addi 10 0 (pos (chunk_of word 5)) ∷ chunks_insts 5 word)) }
 {
-    insts.push(set(value(), chunk(word, 5)))?;
+    put(items, set(value(), chunk(word, 5)))?;
     let mut k = 5;
     while k > 0 {
         k -= 1;
-        put_chunk(insts, chunk(word, k))?;
+        put_chunk(items, chunk(word, k))?;
     }
     Ok(())
 }
 
 // Adds the instructions that move what is in x10 up by eleven bits, and add these.
-fn put_chunk(insts: &mut Insts, chunk: i64) -> Result<(), OutOfMemory>
+fn put_chunk(items: &mut RealItems, chunk: i64) -> Result<(), OutOfMemory>
     requires { IsBelow 2048 chunk }
-    ensures { OnOk result (insts.new ≡ insts.old ++ Slli 10 10 11 ∷ Addi 10 10 chunk ∷ []) }
+    ensures { OnOk result (items.new ≡ items.old ++ map Op (Slli 10 10 11 ∷ Addi 10 10 chunk ∷ [])) }
 {
-    insts.push(Inst::Slli(value(), value(), Shift6::new(11)))?;
-    insts.push(Inst::Addi(value(), value(), Imm12::new(chunk)))
+    put(items, Inst::Slli(value(), value(), Shift6::new(11)))?;
+    put(items, Inst::Addi(value(), value(), Imm12::new(chunk)))
 }
 
 // The eleven bits of a word from place 11 * k on.
@@ -220,52 +231,52 @@ fn chunk(word: u64, k: u32) -> i64
 }
 
 // Adds the instructions by which the word in x10 waits.
-fn put_waiting(insts: &mut Insts) -> Result<(), OutOfMemory>
-    ensures { OnOk result (insts.new ≡ insts.old ++ wait_insts) }
+fn put_waiting(items: &mut RealItems) -> Result<(), OutOfMemory>
+    ensures { OnOk result (items.new ≡ items.old ++ map Op wait_insts) }
 {
-    insts.push(Inst::Addi(stack(), stack(), Imm12::new(-8)))?;
-    insts.push(Inst::Sd(value(), stack(), Imm12::new(0)))
+    put(items, Inst::Addi(stack(), stack(), Imm12::new(-8)))?;
+    put(items, Inst::Sd(value(), stack(), Imm12::new(0)))
 }
 
 // Adds the instructions of an operator.
-fn put_operator(insts: &mut Insts, operator: PrimOp) -> Result<(), OutOfMemory>
-    ensures { OnOk result (insts.new ≡ insts.old ++ operator_insts operator) }
+fn put_operator(items: &mut RealItems, operator: PrimOp) -> Result<(), OutOfMemory>
+    ensures { OnOk result (items.new ≡ items.old ++ map Op (operator_insts operator)) }
 {
     match operator {
-        PrimOp::Add => put_sum(insts),
-        PrimOp::PrintInt => put_print(insts),
-        PrimOp::Newline => put_newline(insts),
+        PrimOp::Add => put_sum(items),
+        PrimOp::PrintInt => put_print(items),
+        PrimOp::Newline => put_newline(items),
         _ => Ok(()),
     }
 }
 
 // Adds the instructions that add the word that waits to that in x10.
-fn put_sum(insts: &mut Insts) -> Result<(), OutOfMemory>
-    ensures { OnOk result (insts.new ≡ insts.old ++ operator_insts Add) }
+fn put_sum(items: &mut RealItems) -> Result<(), OutOfMemory>
+    ensures { OnOk result (items.new ≡ items.old ++ map Op (operator_insts Add)) }
 {
     let waiting = Reg::new(5);
-    insts.push(Inst::Ld(waiting, stack(), Imm12::new(0)))?;
-    insts.push(Inst::Addi(stack(), stack(), Imm12::new(8)))?;
-    insts.push(Inst::Add(value(), waiting, value()))
+    put(items, Inst::Ld(waiting, stack(), Imm12::new(0)))?;
+    put(items, Inst::Addi(stack(), stack(), Imm12::new(8)))?;
+    put(items, Inst::Add(value(), waiting, value()))
 }
 
 // Adds the instructions that print the number in x10.
-fn put_print(insts: &mut Insts) -> Result<(), OutOfMemory>
-    ensures { OnOk result (insts.new ≡ insts.old ++ operator_insts PrintInt) }
+fn put_print(items: &mut RealItems) -> Result<(), OutOfMemory>
+    ensures { OnOk result (items.new ≡ items.old ++ map Op (operator_insts PrintInt)) }
 {
-    insts.push(set(call_kind(), 1))?;
-    insts.push(Inst::Ecall)?;
-    insts.push(set(value(), 0))
+    put(items, set(call_kind(), 1))?;
+    put(items, Inst::Ecall)?;
+    put(items, set(value(), 0))
 }
 
 // Adds the instructions that print a line feed.
-fn put_newline(insts: &mut Insts) -> Result<(), OutOfMemory>
-    ensures { OnOk result (insts.new ≡ insts.old ++ operator_insts Newline) }
+fn put_newline(items: &mut RealItems) -> Result<(), OutOfMemory>
+    ensures { OnOk result (items.new ≡ items.old ++ map Op (operator_insts Newline)) }
 {
-    insts.push(set(value(), 10))?;
-    insts.push(set(call_kind(), 2))?;
-    insts.push(Inst::Ecall)?;
-    insts.push(set(value(), 0))
+    put(items, set(value(), 10))?;
+    put(items, set(call_kind(), 2))?;
+    put(items, Inst::Ecall)?;
+    put(items, set(value(), 0))
 }
 
 // How many bytes so many words take.
@@ -277,25 +288,26 @@ fn room_of(slots: u64) -> i64
 }
 
 // Adds the test that the stack has room for so many words.
-fn put_room_test(insts: &mut Insts, slots: u64) -> Result<(), OutOfMemory>
-    ensures value { OnOk result (insts.new ≡ insts.old ++ room_insts slots) }
+fn put_room_test(items: &mut RealItems, slots: u64) -> Result<(), OutOfMemory>
+    ensures value { OnOk result (items.new ≡ items.old ++ room_items slots) }
     ensures few { OnOk result (slots ≤ 2 ^ 40) }
 {
     if slots > MOST_SLOTS {
         return Err(OutOfMemory);
     }
-    put_number(insts, room_of(slots))?;
-    put_room_branch(insts)
+    put_number(items, room_of(slots))?;
+    put_room_branch(items)
 }
 
 // Adds the instructions that end where the stack has less room than the number in x10 says.
-fn put_room_branch(insts: &mut Insts) -> Result<(), OutOfMemory>
-    ensures { OnOk result (insts.new ≡ insts.old ++ Sub 5 2 25 ∷ Bgeu 5 10 (pos 12) ∷ Addi 17 0 (pos 6) ∷ Ecall ∷ []) }
+fn put_room_branch(items: &mut RealItems) -> Result<(), OutOfMemory>
+    ensures { OnOk result (items.new ≡ items.old ++ test_items) }
 {
-    insts.push(Inst::Sub(Reg::new(5), stack(), Reg::new(25)))?;
-    insts.push(Inst::Bgeu(Reg::new(5), value(), Imm13::new(12)))?;
-    insts.push(set(call_kind(), 6))?;
-    insts.push(Inst::Ecall)
+    put(items, Inst::Sub(Reg::new(5), stack(), Reg::new(25)))?;
+    items.push(RealItem::Branch(Cond::Geu, Reg::new(5), value(), TESTED))?;
+    put(items, set(call_kind(), 6))?;
+    put(items, Inst::Ecall)?;
+    items.push(RealItem::Mark(TESTED))
 }
 
 // The kind of an answer of this type.
@@ -309,11 +321,11 @@ fn kind_of(answer: ExprType) -> i64
 }
 
 // Adds the instructions that end with the word in x10 as the answer.
-fn put_answer(insts: &mut Insts, answer: ExprType) -> Result<(), OutOfMemory>
-    ensures { OnOk result (insts.new ≡ insts.old ++ answer_insts answer) }
+fn put_answer(items: &mut RealItems, answer: ExprType) -> Result<(), OutOfMemory>
+    ensures { OnOk result (items.new ≡ items.old ++ map Op (answer_insts answer)) }
 {
-    insts.push(Inst::Addi(Reg::new(11), value(), Imm12::new(0)))?;
-    insts.push(set(value(), kind_of(answer)))?;
-    insts.push(set(call_kind(), 0))?;
-    insts.push(Inst::Ecall)
+    put(items, Inst::Addi(Reg::new(11), value(), Imm12::new(0)))?;
+    put(items, set(value(), kind_of(answer)))?;
+    put(items, set(call_kind(), 0))?;
+    put(items, Inst::Ecall)
 }

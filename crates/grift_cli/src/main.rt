@@ -4,9 +4,7 @@
 mod adapters;
 mod compile;
 mod elaboration;
-mod encoding;
 mod forms;
-mod imaging;
 mod instructions;
 mod reports;
 mod runner;

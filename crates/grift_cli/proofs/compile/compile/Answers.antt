@@ -1,42 +1,42 @@
-use Rattle.std.proofs.Common.{ℕ, ◌≡◌, ◌∙◌, ◌≤◌, ◌^◌, List, [], length, ap, subst}
+use Rattle.std.proofs.Common.{ℕ, ◌≡◌, ◌∙◌, ◌≤◌, ◌^◌, List, [], length, arith, ap}
+use Rattle.grift_base.specs.declared.places.Pos.{Pos}
+use Rattle.grift_base.specs.declared.words.Statics.{Statics}
+use Rattle.rv_isa.specs.declared.real.RealItem.{RealItem}
+use Rattle.assembler.specs.Imaging.{assembled}
+use Rattle.core_calc.specs.Terms.{Term}
 use Rattle.core_calc.specs.Views.{term_of}
-use Rattle.rv_isa.specs.declared.inst.Inst.{Inst}
-use Rattle.grift_cli.specs.Imaging.{image_bytes}
-use Rattle.grift_cli.specs.Code.{code_bytes, program_insts}
-use Rattle.grift_cli.proofs.Beginning.{program_follows, code_sections, some_insts}
+use Rattle.grift_cli.specs.Code.{program_items, program_image}
+use Rattle.grift_cli.specs.declared.elaboration.ExprType.{ExprType}
+use Rattle.grift_cli.proofs.Placing.{program_insts, items_long}
+use Rattle.grift_cli.proofs.Assembling.{program_can_be}
+use Rattle.grift_cli.proofs.Beginning.{program_follows}
 use Rattle.grift_cli.proofs.Limits.{program_keeps_limits}
 use Rattle.grift_cli.proofs.compile.compile.Goals as goal
 
 -- what was made is told as what is to be made
-bytes_are : (insts now : List Inst) (code bytes : List ℕ) → now ≡ insts → code ≡ code_bytes now → bytes ≡ code → bytes ≡ code_bytes insts
-bytes_are insts now code bytes e f g = g ∙ f ∙ ap code_bytes e
+image_is : (term : Term) (type : ExprType) (items : List RealItem) (words : List ℕ) (labels : List Pos) (image : List ℕ) → items ≡ program_items term type → words ≡ [] → labels ≡ [] → image ≡ assembled items words labels → image ≡ program_image term type
+image_is term type items words labels image e f g h =
+    h ∙ ap (λ xs. assembled xs words labels) e ∙ ap (λ xs. assembled (program_items term type) xs labels) f
+    ∙ ap (λ xs. assembled (program_items term type) [] xs) g
 
-few_are : (insts now : List Inst) → now ≡ insts → length now ≤ 2 ^ 40 → length insts ≤ 2 ^ 40
-few_are insts now e h = subst (λ (is : List Inst). length is ≤ 2 ^ 40) e h
+few_are : (term : Term) (type : ExprType) (items : List RealItem) → items ≡ program_items term type → length items ≤ 2 ^ 40 → length (program_insts term type) ≤ 2 ^ 40
+few_are term type items e h =
+    let same = ap length e in
+    let long = items_long term type in omega arith
 
-image_is : (insts : List Inst) (image bytes : List ℕ) → image ≡ image_bytes [] bytes → bytes ≡ code_bytes insts → image ≡ image_bytes [] (code_bytes insts)
-image_is insts image bytes e f = e ∙ ap (λ y. image_bytes [] y) f
-
-pub image_of-requires : goal.image_of-requires
-image_of-requires c =
-    let insts : List Inst = program_insts (term_of c.args.term.now) c.args.answer in
-    let same : c.as_slice.result.now ≡ insts = c.as_slice.ensures ∙ c.in_ok-insts.ensures.insts in
-    rw (bytes_are insts _ _ _ same c.in_ok-code.ensures.bytes c.as_slice-2.ensures) (code_sections insts (some_insts (term_of c.args.term.now) c.args.answer) (few_are insts _ same c.in_ok-code.ensures.few))
+pub assemble-requires : goal.assemble-requires
+assemble-requires c = rw c.in_ok-code.ensures.items (program_can_be (term_of c.args.term.now) c.args.answer)
 
 pub returns-clause-image : goal.returns-clause-image
 returns-clause-image c =
-    let insts : List Inst = program_insts (term_of c.args.term.now) c.args.answer in
-    let same : c.as_slice.result.now ≡ insts = c.as_slice.ensures ∙ c.in_ok-insts.ensures.insts in
-    image_is insts _ _ c.in_ok-image.ensures (bytes_are insts _ _ _ same c.in_ok-code.ensures.bytes c.as_slice-2.ensures)
+    image_is (term_of c.args.term.now) c.args.answer _ _ _ _ c.in_ok-code.ensures.items (ap (λ (s : Statics). s.words) c.new.ensures) c.new-2.ensures c.in_ok-image.ensures.bytes
 
 pub returns-clause-follows : goal.returns-clause-follows
 returns-clause-follows c =
-    let insts : List Inst = program_insts (term_of c.args.term.now) c.args.answer in
-    let same : c.as_slice.result.now ≡ insts = c.as_slice.ensures ∙ c.in_ok-insts.ensures.insts in
-    rw (image_is insts _ _ c.in_ok-image.ensures (bytes_are insts _ _ _ same c.in_ok-code.ensures.bytes c.as_slice-2.ensures)) (program_follows (term_of c.args.term.now) c.args.answer c.requires (few_are insts _ same c.in_ok-code.ensures.few))
+    let few = few_are (term_of c.args.term.now) c.args.answer _ c.in_ok-code.ensures.items c.in_ok-image.ensures.few in
+    rw (returns-clause-image c) (program_follows (term_of c.args.term.now) c.args.answer c.requires few)
 
 pub returns-clause-limits : goal.returns-clause-limits
 returns-clause-limits c =
-    let insts : List Inst = program_insts (term_of c.args.term.now) c.args.answer in
-    let same : c.as_slice.result.now ≡ insts = c.as_slice.ensures ∙ c.in_ok-insts.ensures.insts in
-    rw (image_is insts _ _ c.in_ok-image.ensures (bytes_are insts _ _ _ same c.in_ok-code.ensures.bytes c.as_slice-2.ensures)) (program_keeps_limits (term_of c.args.term.now) c.args.answer c.requires (few_are insts _ same c.in_ok-code.ensures.few))
+    let few = few_are (term_of c.args.term.now) c.args.answer _ c.in_ok-code.ensures.items c.in_ok-image.ensures.few in
+    rw (returns-clause-image c) (program_keeps_limits (term_of c.args.term.now) c.args.answer c.requires few)
