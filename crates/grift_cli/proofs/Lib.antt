@@ -17,7 +17,11 @@ pub mod Beginning
 pub mod Limits
 mod LimitExamples
 pub mod Forward
-pub mod WordLists
+pub mod WordsNumbers
+pub mod WordsOptions
+pub mod WordsLimits
+pub mod WordsCommands
+pub mod Addresses
 pub mod Putting
 pub mod Telling
 pub mod Working

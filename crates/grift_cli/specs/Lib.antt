@@ -5,8 +5,8 @@ pub mod Limits
 pub mod Program
 pub mod Source
 pub mod Words
+pub mod CommandWords
 pub mod Answers
 pub mod Outcome
 pub mod Running
 pub mod Reporting
-pub mod Streams

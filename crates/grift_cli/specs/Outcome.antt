@@ -13,20 +13,22 @@ use Rattle.core_calc.specs.Calculus.{Program, calc}
 use Rattle.grift_cli.specs.Limits.{MayTell, KeepsLimits}
 use Rattle.grift_cli.specs.Program.{FollowsProgram, program_of}
 use Rattle.grift_cli.specs.Source.{source_limit, IsSource, IsNoSource}
-use Rattle.grift_cli.specs.Words.{IsRun, AreNoCommand}
+use Rattle.grift_cli.specs.Words.{RunLimits, Command, Run, Exec, file_of, IsCommand, AreNoCommand}
 use Rattle.grift_cli.specs.Answers.{bad_form}
 use Rattle.grift_cli.specs.declared.reports.Report.{Report}
-use Rattle.grift_cli.specs.declared.reports.Report.TheVariants.{Ran, Refused, WordsRefused, LoadFailed, PutFailed, NoMemory, TooLong}
+use Rattle.grift_cli.specs.declared.reports.Report.TheVariants.{Ran, WentWrong, Refused, ImageRefused, WordsRefused, LoadFailed, PutFailed, NoMemory, TooLong}
+use Rattle.grift_cli.specs.declared.reports.MachineFault.{MachineFault}
+use Rattle.grift_cli.specs.declared.reports.MachineFault.TheVariants.{Undefined as IsUndefined, BadAddress as IsBadAddress, Misaligned as IsMisaligned}
+use Rattle.assembler.specs.declared.image.ImageFault.{ImageFault}
+use Rattle.assembler.specs.Faults.{IsFirstFault}
 
--- the limits of a run: bytes of the region, bytes of the stack and steps
-abbrev pub region_size : ℕ
-region_size = 16777216
+-- how many bytes the file of a command may have: a source 262,144, an image 268,435,456
+abbrev pub image_limit : ℕ
+image_limit = 268435456
 
-abbrev pub stack_size : ℕ
-stack_size = 1048576
-
-abbrev pub most_steps : ℕ
-most_steps = 100000000
+abbrev pub most_of : Command → ℕ
+most_of (Run file limits image) = source_limit
+most_of (Exec file limits) = image_limit
 
 -- ---- a sink over a call
 
@@ -91,11 +93,10 @@ Asks names w = w.asked_after ≡ option_map (λ before. before ++ names) w.asked
 abbrev pub NoLoadFailed : Work → Type 0
 NoLoadFailed w = w.shelf_faults_after ≡ w.shelf_faults
 
--- the words are `run` and a name, and the shelf was asked for it
-pub record AsksFile (w : Work) : Type 0 where
-  pub file : List ℕ
-  pub run : IsRun w.words file
-  pub asked : Asks (file ∷ []) w
+-- the words are this command, and the shelf was asked for its file
+pub record AsksFor (w : Work) (command : Command) : Type 0 where
+  pub words : IsCommand w.words command
+  pub asked : Asks (file_of command ∷ []) w
 
 -- the words are no command, and the shelf was asked for nothing
 pub record HasNoCommand (w : Work) : Type 0 where
@@ -106,51 +107,37 @@ pub record HasNoCommand (w : Work) : Type 0 where
 
 -- the file could not be read: the shelf's count of faults rose
 pub record HasNoFile (w : Work) : Type 0 where
-  pub asks : AsksFile w
+  pub command : Command
+  pub asks : AsksFor w command
   pub not_fallen : w.shelf_faults ≤ w.shelf_faults_after
   pub risen : HasRisen w.shelf_faults w.shelf_faults_after
   pub nothing : PutNothing w
 
--- the file has more bytes than a source may have, where that is told
+-- the file has more bytes than the command's file may have, where that is told
 pub record HasLongFile (w : Work) : Type 0 where
-  pub asks : AsksFile w
+  pub command : Command
+  pub asks : AsksFor w command
   pub shelf : NoLoadFailed w
-  pub long : IfSome (w.holds asks.file) (λ bytes. source_limit < length bytes)
+  pub long : IfSome (w.holds (file_of command)) (λ bytes. most_of command < length bytes)
   pub nothing : PutNothing w
 
--- this text was loaded: it is no longer than a source may be, and it is what the name holds, where that is told
-pub record Loaded (w : Work) (text : List ℕ) : Type 0 where
-  pub asks : AsksFile w
+-- these bytes were loaded: they are no more than the command's file may have, and they are what the name holds, where that is
+-- told
+pub record Loaded (w : Work) (command : Command) (bytes : List ℕ) : Type 0 where
+  pub asks : AsksFor w command
   pub shelf : NoLoadFailed w
-  pub short : length text ≤ source_limit
-  pub held : IfSome (w.holds asks.file) (λ bytes. text ≡ bytes)
+  pub short : length bytes ≤ most_of command
+  pub held : IfSome (w.holds (file_of command)) (λ held. bytes ≡ held)
 
--- the text is no source of a program
-pub record IsRefused (w : Work) : Type 0 where
-  pub text : List ℕ
-  pub loaded : Loaded w text
-  pub none : IsNoSource text
-  pub nothing : PutNothing w
+-- ---- the run of an image
 
--- the text is the source of a program, which this image follows within its limits
-pub record IsCompiled (w : Work) (image : List ℕ) : Type 0 where
-  pub text : List ℕ
-  pub loaded : Loaded w text
-  pub term : Term
-  pub source : IsSource text term
-  pub whole : IsImage image
-  pub follows : FollowsProgram image (program_of term)
-  pub limits : KeepsLimits image term
-
--- ---- the run of the image
-
--- the run within the steps: the state, and the stop if there was one
-abbrev pub final : List ℕ → State × Option Halt
-final image = run_of most_steps (start_of image region_size stack_size (fresh_world []))
+-- the run within the limits: the state, and the stop if there was one
+abbrev pub final : RunLimits → List ℕ → State × Option Halt
+final limits image = run_of limits.steps (start_of image limits.region limits.stack (fresh_world []))
 
 -- what the image prints
-abbrev pub printed : List ℕ → List ℕ
-printed image = (final image).0.world.output
+abbrev pub printed : RunLimits → List ℕ → List ℕ
+printed limits image = (final limits image).0.world.output
 
 -- a stop is told as this verdict; none as spent steps
 abbrev pub IsTold : Option Halt → Verdict → Type 0
@@ -163,6 +150,51 @@ IsTold (Some NoStack) verdict = verdict ≡ StackOut
 IsTold (Some (Undefined pc)) verdict = ⊥
 IsTold (Some (BadAddress pc)) verdict = ⊥
 IsTold (Some (Misaligned pc)) verdict = ⊥
+
+-- a stop of a run gone wrong is told as this fault
+abbrev pub IsToldWrong : Option Halt → MachineFault → Type 0
+IsToldWrong None fault = ⊥
+IsToldWrong (Some (Ended answer)) fault = ⊥
+IsToldWrong (Some (Blamed label)) fault = ⊥
+IsToldWrong (Some (Trapped trap)) fault = ⊥
+IsToldWrong (Some NoRegion) fault = ⊥
+IsToldWrong (Some NoStack) fault = ⊥
+IsToldWrong (Some (Undefined pc)) fault = fault ≡ IsUndefined pc
+IsToldWrong (Some (BadAddress pc)) fault = fault ≡ IsBadAddress pc
+IsToldWrong (Some (Misaligned pc)) fault = fault ≡ IsMisaligned pc
+
+-- the put of the image failed, and so nothing was put on the output
+abbrev pub ImageFails : List ℕ → SinkSeen → SinkSeen → Type 0
+ImageFails image out img = Breaks image img × Untouched out
+
+-- something was to be printed, and the put of that failed
+abbrev pub OutputFails : List ℕ → SinkSeen → Type 0
+OutputFails output out = (output ≢ []) × Breaks output out
+
+-- ---- a source that is compiled and run
+
+-- the text is no source of a program
+pub record IsRefused (w : Work) : Type 0 where
+  pub file : List ℕ
+  pub limits : RunLimits
+  pub name : Option (List ℕ)
+  pub text : List ℕ
+  pub loaded : Loaded w (Run file limits name) text
+  pub none : IsNoSource text
+  pub nothing : PutNothing w
+
+-- the text is the source of a program, which this image follows within the limits of its size; it is to be run within these
+-- limits
+pub record IsCompiled (w : Work) (limits : RunLimits) (image : List ℕ) : Type 0 where
+  pub file : List ℕ
+  pub name : Option (List ℕ)
+  pub text : List ℕ
+  pub loaded : Loaded w (Run file limits name) text
+  pub term : Term
+  pub source : IsSource text term
+  pub whole : IsImage image
+  pub follows : FollowsProgram image (program_of term)
+  pub keeps : KeepsLimits image term
 
 -- a run that has come to this has ended with the verdict, where that is an answer, a blame or a trap
 abbrev pub HasEndedBy : Verdict → Option (Ending Verdict) → Type 0
@@ -183,59 +215,97 @@ pub record ComesTo (program : Program) (output : List ℕ) (verdict : Verdict) :
 -- the image was put whole, its run is told as this verdict, which is what the program comes to, and what it prints was put
 -- whole
 pub record HasRun (w : Work) (verdict : Verdict) : Type 0 where
+  pub limits : RunLimits
   pub image : List ℕ
-  pub compiled : IsCompiled w image
+  pub compiled : IsCompiled w limits image
   pub image_put : Takes image w.img
-  pub told : IsTold (final image).1 verdict
-  pub within : MayTell compiled.term stack_size most_steps verdict
-  pub meant : ComesTo (program_of compiled.term) (printed image) verdict
-  pub output_put : Takes (printed image) w.out
-
--- the put of the image failed, and so nothing was put on the output
-abbrev pub ImageFails : List ℕ → SinkSeen → SinkSeen → Type 0
-ImageFails image out img = Breaks image img × Untouched out
-
--- the image was put whole, something was to be printed, and the put of that failed
-abbrev pub OutputFails : List ℕ → SinkSeen → SinkSeen → Type 0
-OutputFails image out img = Takes image img × (printed image ≢ []) × Breaks (printed image) out
-
--- no memory was left, for the put of the image, its run or the put of the output: nothing was put on the output, and the
--- image whole or not at all
-abbrev pub LacksMemory : List ℕ → SinkSeen → SinkSeen → Type 0
-LacksMemory image out img = (Untouched img ⊎ Takes image img) × Untouched out
+  pub told : IsTold (final limits image).1 verdict
+  pub within : MayTell compiled.term limits.stack limits.steps verdict
+  pub meant : ComesTo (program_of compiled.term) (printed limits image) verdict
+  pub output_put : Takes (printed limits image) w.out
 
 -- a sink failed when there was an image
 pub record HasFailed (w : Work) : Type 0 where
+  pub limits : RunLimits
   pub image : List ℕ
-  pub compiled : IsCompiled w image
-  pub failed : ImageFails image w.out w.img ⊎ OutputFails image w.out w.img
+  pub compiled : IsCompiled w limits image
+  pub failed : ImageFails image w.out w.img ⊎ (Takes image w.img × OutputFails (printed limits image) w.out)
 
--- no memory was left when there was an image
+-- no memory was left when there was an image, for its put, its run or the put of the output: nothing was put on the output,
+-- and the image whole or not at all
 pub record HasBegun (w : Work) : Type 0 where
+  pub limits : RunLimits
   pub image : List ℕ
-  pub compiled : IsCompiled w image
-  pub lacked : LacksMemory image w.out w.img
+  pub compiled : IsCompiled w limits image
+  pub image_put : Untouched w.img ⊎ Takes image w.img
+  pub no_output : Untouched w.out
+
+-- ---- an image from a file that is run
+
+-- the file holds an image, which is to be run within these limits; none is put
+pub record IsImageFile (w : Work) (limits : RunLimits) (image : List ℕ) : Type 0 where
+  pub file : List ℕ
+  pub loaded : Loaded w (Exec file limits) image
+  pub whole : IsImage image
+  pub no_image : Untouched w.img
+
+-- the file holds no image: this is the first test that its bytes fail
+pub record IsNoImageFile (w : Work) (fault : ImageFault) : Type 0 where
+  pub file : List ℕ
+  pub limits : RunLimits
+  pub bytes : List ℕ
+  pub loaded : Loaded w (Exec file limits) bytes
+  pub first : IsFirstFault bytes fault
+  pub nothing : PutNothing w
+
+-- its run is told as this verdict, and what it prints was put whole
+pub record HasExecuted (w : Work) (verdict : Verdict) : Type 0 where
+  pub limits : RunLimits
+  pub image : List ℕ
+  pub image_file : IsImageFile w limits image
+  pub told : IsTold (final limits image).1 verdict
+  pub output_put : Takes (printed limits image) w.out
+
+-- its run has gone wrong by this fault, and what it prints was put whole
+pub record HasGoneWrong (w : Work) (fault : MachineFault) : Type 0 where
+  pub limits : RunLimits
+  pub image : List ℕ
+  pub image_file : IsImageFile w limits image
+  pub told : IsToldWrong (final limits image).1 fault
+  pub output_put : Takes (printed limits image) w.out
+
+-- the put of what it prints failed
+pub record HasFailedToTell (w : Work) : Type 0 where
+  pub limits : RunLimits
+  pub image : List ℕ
+  pub image_file : IsImageFile w limits image
+  pub failed : OutputFails (printed limits image) w.out
+
+-- ---- want of memory
 
 -- no memory was left for the file
 pub record LacksFile (w : Work) : Type 0 where
-  pub file : List ℕ
-  pub run : IsRun w.words file
+  pub command : Command
+  pub words : IsCommand w.words command
   pub asked : Asks [] w
   pub shelf : NoLoadFailed w
   pub nothing : PutNothing w
 
--- no memory was left for the program that is in the file, or for its image
+-- no memory was left for what is made of the file, or for the run of the image that it holds: nothing was put
 pub record LacksImage (w : Work) : Type 0 where
-  pub text : List ℕ
-  pub loaded : Loaded w text
+  pub command : Command
+  pub bytes : List ℕ
+  pub loaded : Loaded w command bytes
   pub nothing : PutNothing w
 
 -- what the work up to the report was
 abbrev pub Means : Work → Report → Type 0
-Means w (Ran verdict) = HasRun w verdict
+Means w (Ran verdict) = HasRun w verdict ⊎ HasExecuted w verdict
+Means w (WentWrong fault) = HasGoneWrong w fault
 Means w (Refused refusal) = (refusal ≡ bad_form) × IsRefused w
+Means w (ImageRefused fault) = IsNoImageFile w fault
 Means w WordsRefused = HasNoCommand w
 Means w LoadFailed = HasNoFile w
 Means w TooLong = HasLongFile w
-Means w PutFailed = HasFailed w
+Means w PutFailed = HasFailed w ⊎ HasFailedToTell w
 Means w NoMemory = LacksFile w ⊎ (LacksImage w ⊎ HasBegun w)

@@ -1,12 +1,14 @@
 // The run of an image.
 
-ghost use Rattle.std.specs.Prelude.{◌≡◌, ℕ, List, [], Option, IfOk, IfSome, MatchOption};
-ghost use Rattle.rv_machine.specs.Start.{fresh_world, start_of};
+ghost use Rattle.std.specs.Prelude.{◌≡◌, ℕ, List, [], Option, IfOk, IfSome};
+ghost use Rattle.rv_machine.specs.Start.{IsRegionSize, IsStackSize, fresh_world, start_of};
 ghost use Rattle.rv_emulator.specs.Processor.{state_of};
-ghost use Rattle.grift_cli.specs.Outcome.{region_size, stack_size, sink_seen, final, printed, IsTold};
-ghost use Rattle.grift_cli.specs.Running.{RunsWell, IsNoFault, PutsAll, Runs, told_of, TellsStop};
+ghost use Rattle.grift_cli.specs.Outcome.{sink_seen, final, printed};
+ghost use Rattle.grift_cli.specs.CommandWords.{limits_of_words};
+ghost use Rattle.grift_cli.specs.Running.{RunsWell, IsReported, stop_report, PutsAll, told_of, Executes, Runs};
 
-use crate::reports::Report;
+use crate::reports::{MachineFault, Report};
+use crate::words::Limits;
 use assembler::image::Image;
 use grift_base::lists::{Bytes, OutOfMemory};
 use grift_base::sinks::{Sink, SinkFault};
@@ -18,24 +20,35 @@ use rv_emulator::ram::Ram;
 use rv_emulator::stops::Stop;
 use std::alloc::Global;
 
-const REGION_SIZE: u64 = 16777216;
-
-const STACK_SIZE: u64 = 1048576;
-
-const MOST_STEPS: u64 = 100000000;
-
-/// Puts an image, runs it, and puts what it prints.
-pub fn run_image<O: Sink, I: Sink>(alloc: Global, image: &Image, out: &mut O, img: &mut I) -> Report
-    requires { RunsWell image.now }
-    ensures { Runs image.now (sink_seen O.written O.fault_count out.old out.new) (sink_seen I.written I.fault_count img.old img.new) result }
+/// Puts an image that never goes wrong, runs it within the limits, and puts what it prints.
+pub fn run_image<O: Sink, I: Sink>(
+    alloc: Global,
+    image: &Image,
+    limits: Limits,
+    out: &mut O,
+    img: &mut I,
+) -> Report
+    requires region { IsRegionSize limits.region }
+    requires stack { IsStackSize limits.stack }
+    requires well { RunsWell (limits_of_words limits) image.now }
+    ensures { Runs (limits_of_words limits) image.now (sink_seen O.written O.fault_count out.old out.new) (sink_seen I.written I.fault_count img.old img.new) result }
 {
-    if let Err(fault) = put_all(img, image.bytes()) {
-        return report_of(fault);
+    match put_all(img, image.bytes()) {
+        Ok(()) => exec_image(alloc, image, limits, out),
+        Err(fault) => report_of(fault),
     }
-    match finished(alloc, image) {
+}
+
+/// Runs an image within the limits, and puts what it prints.
+pub fn exec_image<O: Sink>(alloc: Global, image: &Image, limits: Limits, out: &mut O) -> Report
+    requires region { IsRegionSize limits.region }
+    requires stack { IsStackSize limits.stack }
+    ensures { Executes (limits_of_words limits) image.now (sink_seen O.written O.fault_count out.old out.new) result }
+{
+    match finished(alloc, image, limits) {
         None => Report::NoMemory,
-        Some((verdict, machine)) => match put_all(out, machine.world().output.as_slice()) {
-            Ok(()) => Report::Ran(verdict),
+        Some((report, machine)) => match put_all(out, machine.world().output.as_slice()) {
+            Ok(()) => report,
             Err(fault) => report_of(fault),
         },
     }
@@ -61,46 +74,48 @@ fn report_of(fault: SinkFault) -> Report
     }
 }
 
-// How the run of an image is told, and the machine as it stopped; none for want of memory.
-fn finished(alloc: Global, image: &Image) -> Option<(Verdict, Machine<FlatRam>)>
-    requires { RunsWell image.now }
-    ensures told { IfSome result (λ run. IsTold (final image.now).1 run.0) }
-    ensures printed { IfSome result (λ run. (state_of ⟦<FlatRam as Ram>⟧.memory run.1).world.output ≡ printed image.now) }
+// How the run of an image is reported, and the machine as it stopped; none for want of memory.
+fn finished(alloc: Global, image: &Image, limits: Limits) -> Option<(Report, Machine<FlatRam>)>
+    requires region { IsRegionSize limits.region }
+    requires stack { IsStackSize limits.stack }
+    ensures reported { IfSome result (λ run. IsReported (final (limits_of_words limits) image.now).1 run.0) }
+    ensures printed { IfSome result (λ run. (state_of ⟦<FlatRam as Ram>⟧.memory run.1).world.output ≡ printed (limits_of_words limits) image.now) }
 {
-    let Ok(mut machine) = machine_of(alloc, image) else {
+    let Ok(mut machine) = machine_of(alloc, image, limits) else {
         return None;
     };
-    let stop = machine.run(MOST_STEPS);
-    let verdict = verdict_of(stop)?;
-    Some((verdict, machine))
+    let stop = machine.run(limits.steps);
+    let report = report_of_stop(stop)?;
+    Some((report, machine))
 }
 
-// The machine in its start state, with the default region and stack and no input.
-fn machine_of(alloc: Global, image: &Image) -> Result<Machine<FlatRam>, OutOfMemory>
-    ensures { IfOk result (λ machine. state_of ⟦<FlatRam as Ram>⟧.memory machine ≡ start_of image.now region_size stack_size (fresh_world [])) }
+// The machine in its start state, with these limits and no input.
+fn machine_of(alloc: Global, image: &Image, limits: Limits) -> Result<Machine<FlatRam>, OutOfMemory>
+    requires region { IsRegionSize limits.region }
+    requires stack { IsStackSize limits.stack }
+    ensures { IfOk result (λ machine. state_of ⟦<FlatRam as Ram>⟧.memory machine ≡ start_of image.now limits.region limits.stack (fresh_world [])) }
 {
-    let size = image.loaded().len() as u64 + REGION_SIZE + STACK_SIZE;
+    let size = image.loaded().len() as u64 + limits.region + limits.stack;
     let ram = FlatRam::new(alloc, size)?;
     let world = World::new(alloc, Bytes::new(alloc));
-    let machine = Machine::load(alloc, image, ram, REGION_SIZE, STACK_SIZE, world)?;
+    let machine = Machine::load(alloc, image, ram, limits.region, limits.stack, world)?;
     Ok(machine)
 }
 
-// How a stop is told; none for want of memory.
-fn verdict_of(stop: Stop) -> Option<Verdict>
-    requires { IsNoFault stop }
-    ensures { TellsStop stop result }
+// The report of a stop; none for want of memory.
+fn report_of_stop(stop: Stop) -> Option<Report>
+    ensures { result ≡ stop_report stop }
 {
     match stop {
-        Stop::Ended(answer) => Some(Verdict::Answer(answer)),
-        Stop::Blamed(label) => Some(Verdict::Blame(label)),
-        Stop::Trapped(trap) => Some(Verdict::Trap(trap)),
-        Stop::RegionOut => Some(Verdict::RegionOut),
-        Stop::StackOut => Some(Verdict::StackOut),
-        Stop::StepsSpent => Some(Verdict::StepsSpent),
+        Stop::Ended(answer) => Some(Report::Ran(Verdict::Answer(answer))),
+        Stop::Blamed(label) => Some(Report::Ran(Verdict::Blame(label))),
+        Stop::Trapped(trap) => Some(Report::Ran(Verdict::Trap(trap))),
+        Stop::RegionOut => Some(Report::Ran(Verdict::RegionOut)),
+        Stop::StackOut => Some(Report::Ran(Verdict::StackOut)),
+        Stop::StepsSpent => Some(Report::Ran(Verdict::StepsSpent)),
+        Stop::Undefined(pc) => Some(Report::WentWrong(MachineFault::Undefined(pc))),
+        Stop::BadAddress(pc) => Some(Report::WentWrong(MachineFault::BadAddress(pc))),
+        Stop::Misaligned(pc) => Some(Report::WentWrong(MachineFault::Misaligned(pc))),
         Stop::OutOfMemory => None,
-        Stop::Undefined(_) => unreachable!(),
-        Stop::BadAddress(_) => unreachable!(),
-        Stop::Misaligned(_) => unreachable!(),
     }
 }

@@ -1,16 +1,21 @@
 // The top call: all that the program does.
 
-ghost use Rattle.std.specs.Prelude.{◌≡◌, map, string_bytes};
-ghost use Rattle.grift_cli.specs.Outcome.{Means, Work, sink_seen};
+ghost use Rattle.std.specs.Prelude.{◌≡◌, ℕ, List, Option, map, string_bytes};
+ghost use Rattle.rv_machine.specs.Start.{IsRegionSize, IsStackSize};
+ghost use Rattle.grift_cli.specs.Words.{IsRun, IsExec, limits_of};
+ghost use Rattle.grift_cli.specs.CommandWords.{command_of, limits_of_words};
+ghost use Rattle.grift_cli.specs.Outcome.{Means, Work, SinkSeen, Untouched, sink_seen};
+ghost use Rattle.grift_cli.specs.Running.{shelf_seen, work_of};
 ghost use Rattle.grift_cli.specs.Reporting.{LinePut, Reported, WentBy, report_line, report_status};
 
 use crate::compile::compile;
 use crate::reports::{
-    Report, line_of, report_of_load, report_of_source, status_of, status_of_fault,
+    Report, line_of, report_of_image, report_of_load, report_of_source, status_of, status_of_fault,
 };
-use crate::runner::run_image;
+use crate::runner::{exec_image, run_image};
 use crate::source::program_of;
-use crate::words::read_words;
+use crate::words::{Command, Limits, read_words};
+use assembler::image::read_image;
 use grift_base::shelves::Shelf;
 use grift_base::sinks::Sink;
 use std::alloc::Global;
@@ -20,6 +25,9 @@ mod tests;
 
 // How many bytes a source may have.
 const SOURCE_LIMIT: usize = 262144;
+
+// How many bytes an image may have.
+const IMAGE_LIMIT: usize = 268435456;
 
 /// Does all that the program does, and answers its status.
 pub fn grift<S: Shelf, O: Sink, E: Sink, I: Sink>(
@@ -41,32 +49,71 @@ pub fn grift<S: Shelf, O: Sink, E: Sink, I: Sink>(
       img = sink_seen I.written I.fault_count img.old img.new;
     }) (sink_seen E.written E.fault_count err.old err.new) result }
 {
-    let report = work(alloc, words, shelf, out, img);
+    let report = report_of_call(alloc, words, shelf, out, img);
     put_report(alloc, err, report)
 }
 
-// All but the line that is reported.
-fn work<S: Shelf, O: Sink, I: Sink>(
+// The report of a call, which is all but the put of its line.
+fn report_of_call<S: Shelf, O: Sink, I: Sink>(
     alloc: Global,
     words: &[String],
     shelf: &mut S,
     out: &mut O,
     img: &mut I,
 ) -> Report
-    ensures { Means (record {
-      words = map string_bytes words.now;
-      holds = S.holds shelf.old;
-      asked = S.asked shelf.old;
-      asked_after = S.asked shelf.new;
-      shelf_faults = S.fault_count shelf.old;
-      shelf_faults_after = S.fault_count shelf.new;
-      out = sink_seen O.written O.fault_count out.old out.new;
-      img = sink_seen I.written I.fault_count img.old img.new;
-    }) result }
+    ensures { Means (work_of (map string_bytes words.now) (shelf_seen S.holds S.asked S.fault_count shelf.old shelf.new) (sink_seen O.written O.fault_count out.old out.new) (sink_seen I.written I.fault_count img.old img.new)) result }
 {
-    let Some(file) = read_words(words) else {
+    let Some(command) = read_words(words) else {
         return Report::WordsRefused;
     };
+    let limits = limits_of(&command);
+    match command {
+        Command::Run { file, .. } => report_of_run(alloc, file, limits, shelf, out, img),
+        Command::Exec { file, .. } => report_of_exec(alloc, file, limits, shelf, out),
+    }
+}
+
+// The limits of a command.
+fn limits_of(command: &Command<'_>) -> Limits
+    ensures { limits_of_words result ≡ limits_of (command_of command.now) }
+{
+    match *command {
+        Command::Run {
+            region,
+            stack,
+            steps,
+            ..
+        } => Limits {
+            region,
+            stack,
+            steps,
+        },
+        Command::Exec {
+            region,
+            stack,
+            steps,
+            ..
+        } => Limits {
+            region,
+            stack,
+            steps,
+        },
+    }
+}
+
+// The report of a call that compiles the source in this file and runs its image.
+fn report_of_run<S: Shelf, O: Sink, I: Sink>(
+    alloc: Global,
+    file: &str,
+    limits: Limits,
+    shelf: &mut S,
+    out: &mut O,
+    img: &mut I,
+) -> Report
+    requires region { IsRegionSize limits.region }
+    requires stack { IsStackSize limits.stack }
+    ensures { (words : List (List ℕ)) (name : Option (List ℕ)) → IsRun words file.now (limits_of_words limits) name → Means (work_of words (shelf_seen S.holds S.asked S.fault_count shelf.old shelf.new) (sink_seen O.written O.fault_count out.old out.new) (sink_seen I.written I.fault_count img.old img.new)) result }
+{
     let text = match shelf.load(alloc, file, SOURCE_LIMIT) {
         Ok(text) => text,
         Err(fault) => return report_of_load(fault),
@@ -75,8 +122,30 @@ fn work<S: Shelf, O: Sink, I: Sink>(
         Err(fault) => report_of_source(fault),
         Ok(program) => match compile(alloc, &program.term, program.answer) {
             Err(_) => Report::NoMemory,
-            Ok(image) => run_image(alloc, &image, out, img),
+            Ok(image) => run_image(alloc, &image, limits, out, img),
         },
+    }
+}
+
+// The report of a call that runs the image in this file.
+fn report_of_exec<S: Shelf, O: Sink>(
+    alloc: Global,
+    file: &str,
+    limits: Limits,
+    shelf: &mut S,
+    out: &mut O,
+) -> Report
+    requires region { IsRegionSize limits.region }
+    requires stack { IsStackSize limits.stack }
+    ensures { (words : List (List ℕ)) (img : SinkSeen) → IsExec words file.now (limits_of_words limits) → Untouched img → Means (work_of words (shelf_seen S.holds S.asked S.fault_count shelf.old shelf.new) (sink_seen O.written O.fault_count out.old out.new) img) result }
+{
+    let bytes = match shelf.load(alloc, file, IMAGE_LIMIT) {
+        Ok(bytes) => bytes,
+        Err(fault) => return report_of_load(fault),
+    };
+    match read_image(alloc, bytes.as_slice()) {
+        Ok(image) => exec_image(alloc, &image, limits, out),
+        Err(fault) => report_of_image(fault),
     }
 }
 

@@ -2,7 +2,7 @@
 
 use super::grift;
 use grift_base::lists::{Bytes, CallList, Name, NamedFiles, OutOfMemory};
-use grift_base::shelves::MemShelf;
+use grift_base::shelves::{LoadFault, MemShelf, Shelf};
 use grift_base::sinks::MemSink;
 use std::alloc::{AllocError, Global};
 
@@ -35,10 +35,17 @@ struct Case<'a> {
 
 const RUN: &[&str] = &["run", "a"];
 
+const EXEC: &[&str] = &["exec", "a"];
+
 // A run of a file where nothing fails.
 fn run_of(file: &[u8]) -> Case {
+    call_of(RUN, file)
+}
+
+// A call with these words where nothing fails.
+fn call_of<'a>(words: &'a [&'a str], file: &'a [u8]) -> Case<'a> {
     Case {
-        words: RUN,
+        words,
         file,
         shelf_fails: &[],
         out_fails: &[],
@@ -53,6 +60,25 @@ fn sink_failing(alloc: Global, calls: &[u64]) -> Result<MemSink, NoMemory> {
     Ok(sink)
 }
 
+// A shelf in memory where only the name `a` holds something.
+fn shelf_of(alloc: Global, case: &Case) -> Result<MemShelf, NoMemory> {
+    let mut files = NamedFiles::new(alloc);
+    let name = Name::from_slice(alloc, b"a")?;
+    files.push((name, Bytes::from_slice(alloc, case.file)?))?;
+    let failing = CallList::from_slice(alloc, case.shelf_fails)?;
+    Ok(MemShelf::new(alloc, files, failing))
+}
+
+// Words of a command line.
+fn words_of(alloc: Global, texts: &[&str]) -> Result<Vec<String>, NoMemory> {
+    let mut words = Vec::new(alloc);
+    for text in texts {
+        let word = String::from_str(alloc, text)?;
+        words.push(word).map_err(|_| NoMemory)?;
+    }
+    Ok(words)
+}
+
 // Whether a call comes to this status, with this output and this line.
 fn comes_to(
     alloc: Global,
@@ -61,16 +87,8 @@ fn comes_to(
     output: &[u8],
     line: &[u8],
 ) -> Result<bool, NoMemory> {
-    let mut files = NamedFiles::new(alloc);
-    let name = Name::from_slice(alloc, b"a")?;
-    files.push((name, Bytes::from_slice(alloc, case.file)?))?;
-    let mut words = Vec::new(alloc);
-    for word in case.words {
-        let word = String::from_str(alloc, word)?;
-        words.push(word).map_err(|_| NoMemory)?;
-    }
-    let failing = CallList::from_slice(alloc, case.shelf_fails)?;
-    let mut shelf = MemShelf::new(alloc, files, failing);
+    let words = words_of(alloc, case.words)?;
+    let mut shelf = shelf_of(alloc, case)?;
     let mut out = sink_failing(alloc, case.out_fails)?;
     let mut err = sink_failing(alloc, case.err_fails)?;
     let mut img = sink_failing(alloc, case.img_fails)?;
@@ -83,6 +101,25 @@ fn comes_to(
         &mut img,
     );
     Ok(answer == status && out.bytes() == output && err.bytes() == line)
+}
+
+// What is put on `img` by a run of this file.
+fn image_put(alloc: Global, file: &[u8]) -> Result<Vec<u8>, NoMemory> {
+    let words = words_of(alloc, RUN)?;
+    let mut shelf = shelf_of(alloc, &run_of(file))?;
+    let mut out = sink_failing(alloc, &[])?;
+    let mut err = sink_failing(alloc, &[])?;
+    let mut img = sink_failing(alloc, &[])?;
+    grift(
+        alloc,
+        words.as_slice(),
+        &mut shelf,
+        &mut out,
+        &mut err,
+        &mut img,
+    );
+    let image = Vec::from_slice(alloc, img.bytes())?;
+    Ok(image)
 }
 
 #[test]
@@ -196,13 +233,21 @@ fn deep_programs(rt: HostRuntime) -> Result<(), NoMemory> {
 
 #[test]
 fn words(rt: HostRuntime) -> Result<(), NoMemory> {
-    let rows: [(&[&str], u8, &[u8]); 6] = [
+    let rows: [(&[&str], u8, &[u8]); 10] = [
         (&["run"], 2, b"words refused\n"),
         (&[], 2, b"words refused\n"),
         (&["run", "a", "a"], 2, b"words refused\n"),
         (&["run", ""], 2, b"words refused\n"),
         (&["check", "a"], 2, b"words refused\n"),
+        (
+            &["run", "a", "--steps", "5", "--region", "8"],
+            2,
+            b"words refused\n",
+        ),
+        (&["run", "a", "--region", "12"], 2, b"words refused\n"),
+        (&["exec", "a", "--image", "b"], 2, b"words refused\n"),
         (&["run", "b"], 8, b"load failed\n"),
+        (&["exec", "b"], 8, b"load failed\n"),
     ];
     for (words, status, line) in rows {
         let case = Case {
@@ -340,5 +385,174 @@ fn longest_source(rt: HostRuntime) -> Result<(), NoMemory> {
     source.push(b' ').map_err(|_| NoMemory)?;
     let case = run_of(source.as_slice());
     assert!(rt; comes_to(alloc, &case, 12, b"", b"file too long\n")?);
+    Ok(())
+}
+
+// An image whose code sets the answer to 42 and ends.
+const IMAGE: [u8; 72] = [
+    0x47, 0x52, 0x49, 0x46, 0x54, 0x52, 0x56, 0x31, // the magic
+    0x48, 0, 0, 0, 0, 0, 0, 0, // bytes of the image
+    0, 0, 0, 0, 0, 0, 0, 0, // bytes of the statics
+    8, 0, 0, 0, 0, 0, 0, 0, // bytes of the code
+    0, 0, 0, 0, 0, 0, 0, 0, // labels
+    0, 0, 0, 0, 0, 0, 0, 0, // the entry
+    0, 0, 0, 0, 0, 0, 0, 0, // spare
+    0, 0, 0, 0, 0, 0, 0, 0, // spare
+    0x93, 0x05, 0xa0, 0x02, 0x73, 0, 0, 0,
+];
+
+// The image whose code is this instruction, and then a word that is none.
+fn image_of(word: [u8; 4]) -> [u8; 72] {
+    let mut image = IMAGE;
+    image[64] = word[0];
+    image[65] = word[1];
+    image[66] = word[2];
+    image[67] = word[3];
+    image[68] = 0;
+    image
+}
+
+#[test]
+fn images(rt: HostRuntime) -> Result<(), NoMemory> {
+    let mut magic = IMAGE;
+    magic[0] = 0;
+    let mut entry = IMAGE;
+    entry[40] = 2;
+    let spent: &[&str] = &["exec", "a", "--steps", "1"];
+    let enough: &[&str] = &["exec", "a", "--steps", "2"];
+    let bounded: &[&str] = &["exec", "a", "--steps", "100"];
+    let rows: [(&[&str], &[u8], u8, &[u8]); 11] = [
+        (EXEC, &IMAGE, 0, b"answer 42\n"),
+        (spent, &IMAGE, 7, b"spent steps\n"),
+        (enough, &IMAGE, 0, b"answer 42\n"),
+        (EXEC, &IMAGE[..71], 13, b"bad image length\n"),
+        (EXEC, &magic, 13, b"bad image magic\n"),
+        (EXEC, &entry, 13, b"bad image section\n"),
+        (
+            EXEC,
+            &image_of([0, 0, 0, 0]),
+            11,
+            b"machine undefined 00010000\n",
+        ),
+        (
+            EXEC,
+            &image_of([0x23, 0x30, 0, 0]),
+            11,
+            b"machine address 00010000\n",
+        ),
+        (
+            EXEC,
+            &image_of([0x67, 0, 0x20, 0]),
+            11,
+            b"machine misaligned 00010000\n",
+        ),
+        (
+            EXEC,
+            &image_of([0x73, 0, 0x10, 0]),
+            11,
+            b"machine undefined 00010000\n",
+        ),
+        (bounded, &image_of([0x6f, 0, 0, 0]), 7, b"spent steps\n"),
+    ];
+    for (words, file, status, line) in rows {
+        let case = call_of(words, file);
+        assert!(rt; comes_to(rt.alloc(), &case, status, b"", line)?, "{line:?}");
+    }
+    Ok(())
+}
+
+// The image that a run puts is what exec runs; nothing is put for an image from a file.
+#[test]
+fn images_put(rt: HostRuntime) -> Result<(), NoMemory> {
+    let alloc = rt.alloc();
+    let source = b"(begin (print-int (+ 40 2)) (newline) 7)";
+    let image = image_put(alloc, source)?;
+    let case = call_of(EXEC, image.as_slice());
+    let rows: [(Case, u8, &[u8], &[u8]); 4] = [
+        (case, 0, b"42\n", b"answer 7\n"),
+        (
+            Case {
+                img_fails: &[0],
+                ..case
+            },
+            0,
+            b"42\n",
+            b"answer 7\n",
+        ),
+        (
+            Case {
+                out_fails: &[0],
+                ..case
+            },
+            9,
+            b"",
+            b"put failed\n",
+        ),
+        (
+            Case {
+                shelf_fails: &[0],
+                ..case
+            },
+            8,
+            b"",
+            b"load failed\n",
+        ),
+    ];
+    for (case, status, output, line) in rows {
+        assert!(rt; comes_to(alloc, &case, status, output, line)?, "{line:?}");
+    }
+    Ok(())
+}
+
+// A shelf where each name holds so many zeros.
+#[derive(Drop)]
+struct ZeroShelf {
+    length: usize,
+}
+
+impl Shelf for ZeroShelf {
+    ghost use Rattle.std.specs.Prelude.{Some, None, replicate};
+
+    ghost holds = { λ shelf _. Some (replicate shelf.length 0) };
+
+    ghost asked = { λ _. None };
+
+    ghost fault_count = { λ _. 0 };
+
+    fn load(&mut self, alloc: Global, _name: &str, max: usize) -> Result<Vec<u8>, LoadFault> {
+        if self.length > max {
+            return Err(LoadFault::TooLong);
+        }
+        vec![in alloc; 0u8; self.length].map_err(|_| LoadFault::OutOfMemory)
+    }
+
+    fn faults(&self) -> u64 {
+        0
+    }
+}
+
+#[test]
+fn longest_image(rt: HostRuntime) -> Result<(), NoMemory> {
+    let alloc = rt.alloc();
+    let rows: [(usize, u8, &[u8]); 2] = [
+        (262145, 13, b"bad image magic\n"),
+        (268435457, 12, b"file too long\n"),
+    ];
+    for (length, status, line) in rows {
+        let words = words_of(alloc, EXEC)?;
+        let mut shelf = ZeroShelf { length };
+        let mut out = sink_failing(alloc, &[])?;
+        let mut err = sink_failing(alloc, &[])?;
+        let mut img = sink_failing(alloc, &[])?;
+        let answer = grift(
+            alloc,
+            words.as_slice(),
+            &mut shelf,
+            &mut out,
+            &mut err,
+            &mut img,
+        );
+        assert!(rt; answer == status && err.bytes() == line, "{line:?}");
+    }
     Ok(())
 }

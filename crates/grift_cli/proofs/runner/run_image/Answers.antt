@@ -1,7 +1,7 @@
-use Rattle.std.proofs.Common.{refl}
-use Rattle.grift_cli.proofs.Putting.{image_fault}
+use Rattle.grift_cli.specs.CommandWords.{limits_of_words}
+use Rattle.grift_cli.proofs.Putting.{runs_by}
 use Rattle.grift_cli.proofs.runner.run_image.Goals as goal
 
-pub returns-in-Err : goal.returns-in-Err
-returns-in-Err g c =
-    rw c.report_of.ensures (image_fault c.args.image.now c.bytes.result.now _ _ c.in-Err.fault c.bytes.ensures.value c.in-Err.ensures (record { written = refl; faults = refl }))
+pub returns-in-Ok : goal.returns-in-Ok
+returns-in-Ok g c =
+    runs_by (limits_of_words c.args.limits) c.args.image.now c.bytes.result.now _ _ c.exec_image.result c.requires.well c.bytes.ensures.value c.in-Ok.ensures c.exec_image.ensures

@@ -1,6 +1,6 @@
 use Rattle.std.proofs.Common.{◌≤◌, length, take}
 use Rattle.std.specs.Io.KnownBytes.{Appends}
-use Rattle.grift_cli.proofs.adapters.write_whole.Given as goal
+use Rattle.grift.proofs.adapters.write_whole.Given as goal
 
 -- the bytes before this place are written
 abbrev pub invariant-loop : goal.invariant-loop

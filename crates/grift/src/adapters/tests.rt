@@ -60,3 +60,32 @@ fn puts_to_the_streams(rt: HostRuntime) {
     assert_eq!(rt; out.faults(), 0);
     assert_eq!(rt; err.faults(), 0);
 }
+
+#[test]
+fn writes_a_file(rt: HostRuntime) -> Result<(), Fail> {
+    let path = "written_by_a_test";
+    fs::write(&rt, path, b"longer than what comes".as_slice())?;
+    let mut sink = FileSink::new(rt, path);
+    assert_eq!(rt;
+        fs::read(&rt, path)?.len(),
+        22,
+        "no file is made before a put"
+    );
+    assert_eq!(rt; sink.put(b"ab"), Ok(()));
+    assert_eq!(rt; sink.put(b"c"), Ok(()));
+    let loaded = FileShelf::new(rt).load(rt.alloc(), path, 9)?;
+    assert_eq!(rt; loaded.as_slice(), b"abc".as_slice());
+    assert_eq!(rt; sink.faults(), 0);
+    fs::remove_file(&rt, path)?;
+    Ok(())
+}
+
+#[test]
+fn counts_files_that_fail(rt: HostRuntime) {
+    for path in ["no/such/folder", ".", "", "/dev/full"] {
+        let mut sink = FileSink::new(rt, path);
+        assert_eq!(rt; sink.put(b"abc"), Err(SinkFault::Failed), "{path}");
+        assert_eq!(rt; sink.put(b"abc"), Err(SinkFault::Failed), "{path}");
+        assert_eq!(rt; sink.faults(), 2, "{path}");
+    }
+}

@@ -3,7 +3,7 @@ use Rattle.std.proofs.lemmas.List.{take_rest}
 use Rattle.std.proofs.Math.Seq.{take-add}
 use Rattle.std.specs.Io.KnownBytes.{Appends}
 use Rattle.std.proofs.KnownBytes.{Appends-trans}
-use Rattle.grift_cli.proofs.adapters.write_whole.Goals as goal
+use Rattle.grift.proofs.adapters.write_whole.Goals as goal
 
 -- some of the rest, after the bytes that are done, makes more bytes that are done
 takes_more : (bytes : List ℕ) (done count : ℕ) → take done bytes ++ take count (take (length bytes - done) (drop done bytes)) ≡ take (done + count) bytes

@@ -1,6 +1,6 @@
 use Rattle.std.proofs.Common.{◌≤◌, length}
 use Rattle.std.specs.Io.KnownBytes.{Consumes}
-use Rattle.grift_cli.proofs.adapters.read_within.Given as goal
+use Rattle.grift.proofs.adapters.read_within.Given as goal
 
 -- what is loaded is what the reader has given, and within the limit
 abbrev pub invariant-loop : goal.invariant-loop
