@@ -3,11 +3,11 @@
 ghost use Rattle.std.specs.Prelude.{◌≡◌, ◌≤◌, ◌+◌, length};
 ghost use Rattle.rv_machine.specs.Memory.{store_bytes, memory_of};
 
-/// Writes the lowest `N` bytes of a word from place `at` on.
-pub fn write<const N: usize>(bytes: &mut [u8], at: usize, word: u64)
-    requires small { N ≤ 8 }
-    requires inside { at + N ≤ length bytes.old }
-    ensures { memory_of bytes.new ≡ store_bytes N (memory_of bytes.old) at word }
+/// Writes the lowest `WIDTH` bytes of a word from place `at` on.
+pub fn write<const WIDTH: usize>(bytes: &mut [u8], at: usize, word: u64)
+    requires small { WIDTH ≤ 8 }
+    requires inside { at + WIDTH ≤ length bytes.old }
+    ensures { memory_of bytes.new ≡ store_bytes WIDTH (memory_of bytes.old) at word }
 {
-    bytes[at..at + N].copy_from_slice(&word.to_le_bytes()[..N]);
+    bytes[at..at + WIDTH].copy_from_slice(&word.to_le_bytes()[..WIDTH]);
 }

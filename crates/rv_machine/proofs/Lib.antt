@@ -3,3 +3,4 @@ pub mod Memory
 pub mod Image
 pub mod Tabled
 pub mod Conditions
+pub mod Wrongs

@@ -10,9 +10,11 @@ ghost use Rattle.run_laws.specs.Machines.{run};
 ghost use Rattle.rv_machine.specs.State.{State, Halt, Stops, Undefined, reg};
 ghost use Rattle.rv_machine.specs.Turn.{turn_of, act, branch_if, IsFetched};
 ghost use Rattle.rv_machine.specs.Start.{start_of, fresh_world};
-ghost use Rattle.rv_machine.specs.Mach.{run_of, machine, mach, come_to};
+ghost use Rattle.rv_machine.specs.Mach.{run_of, machine, mach, come_to, ending_of, stop_of};
 ghost use Rattle.rv_machine.specs.Memory.{load_bytes};
-ghost use Rattle.rv_machine.specs.Real.{holds};
+ghost use Rattle.rv_machine.specs.Real.{Told, holds, real_machine};
+ghost use Rattle.run_laws.specs.Runs.{NeverWrong};
+ghost use Rattle.rv_isa.specs.declared.real.RealItem.{RealItem};
 ghost use Rattle.rv_isa.specs.declared.inst.Cond.{Cond};
 ghost use Rattle.rv_isa.specs.Conditions.{branch_when};
 ghost use Rattle.rv_isa.specs.declared.inst.Inst.{Inst};
@@ -53,4 +55,13 @@ pub fn turn_goes_by_the_table()
 pub fn a_condition_is_that_of_its_branch()
     ensures { (cond : Cond) (a b : ℕ) (offset : ℤ) (s : State)
         → act (branch_when cond a b offset) s ≡ branch_if (holds cond (reg s a) (reg s b)) offset s }
+{}
+
+/// A code's run never goes wrong where its stops are told as the endings of a program exactly where it never does where
+/// each stop is told as it is.
+pub fn a_run_goes_wrong_however_its_stops_are_told()
+    ensures stops { (code : List RealItem) (told : Told) (s : State)
+        → NeverWrong (run (real_machine ending_of code told) s) → NeverWrong (run (real_machine stop_of code told) s) }
+    ensures endings { (code : List RealItem) (told : Told) (s : State)
+        → NeverWrong (run (real_machine stop_of code told) s) → NeverWrong (run (real_machine ending_of code told) s) }
 {}
