@@ -1,0 +1,14 @@
+use Rattle.std.proofs.Common.{◌≤◌}
+use Rattle.surface_syntax.specs.declared.exprs.ExprList.{size-ExprList}
+use Rattle.surface_syntax.specs.declared.exprs.Bindings.{size-Bindings}
+use Rattle.surface_syntax.specs.declared.exprs.Members.{size-Members}
+use Rattle.surface_syntax.proofs.+expr.Given as goal
+
+abbrev pub invariant-exprs::ExprList::drop-loop-self : goal.invariant-exprs::ExprList::drop-loop-self
+invariant-exprs::ExprList::drop-loop-self l = size-ExprList l.self ≤ size-ExprList l.fn.self
+
+abbrev pub invariant-exprs::Bindings::drop-loop-self : goal.invariant-exprs::Bindings::drop-loop-self
+invariant-exprs::Bindings::drop-loop-self l = size-Bindings l.self ≤ size-Bindings l.fn.self
+
+abbrev pub invariant-exprs::Members::drop-loop-self : goal.invariant-exprs::Members::drop-loop-self
+invariant-exprs::Members::drop-loop-self l = size-Members l.self ≤ size-Members l.fn.self

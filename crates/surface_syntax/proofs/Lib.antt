@@ -1,0 +1,3 @@
+pub mod TextTables
+pub mod Steps
+pub mod ParamRows

@@ -1,0 +1,118 @@
+-- The rows of the walk over parameters, by what is known of their elements.
+use Rattle.std.proofs.Common.{
+  ◌≡◌,
+  ◌≢◌,
+  ◌-◌,
+  ◌++◌,
+  ℕ,
+  zero,
+  suc,
+  Bool,
+  true,
+  false,
+  List,
+  [],
+  ◌∷◌,
+  map,
+  Option,
+  Some,
+  None,
+  refl,
+  ap,
+  ◌∙◌,
+  sym,
+  arith,
+  append_assoc,
+  append-nil,
+}
+use Rattle.grift_base.specs.declared.places.Pos.{Pos}
+use Rattle.grift_base.specs.declared.refusals.RefusalKind.{RefusalKind}
+use Rattle.grift_base.specs.declared.refusals.RefusalKind.TheVariants.{BadForm, TooWide}
+use Rattle.surface_syntax.specs.declared.words.Mark.{Mark}
+use Rattle.surface_syntax.specs.declared.words.Mark.TheVariants.{Reserved, Free}
+use Rattle.surface_syntax.specs.declared.types.Param.{Param as RustParam}
+use Rattle.surface_syntax.specs.Marked.{Sexpr, Sexprs, end, ◌▹◌, place, marked_symbol}
+use Rattle.surface_syntax.specs.Trees.{Param}
+use Rattle.surface_syntax.specs.Walking.{Walked, Reads, Refuses, followed_by}
+use Rattle.surface_syntax.specs.Walk.{plain_param, walk_param, walk_params, walk_param_list}
+use Rattle.surface_syntax.specs.Views.{source_of, param_of, params_of, named_param_of}
+use Rattle.surface_syntax.proofs.Steps.{
+  place_symbol,
+  place_marked,
+  reads_then,
+  refuses_then,
+  colon_stands,
+  colon_lacks,
+}
+
+pub symbol_param : (seen : List (List ℕ)) (p : Pos) (x : List ℕ) (m : Mark)
+    → walk_param seen (marked_symbol p x m) ≡ plain_param seen (marked_symbol p x m)
+symbol_param seen p x (Reserved w) = refl
+symbol_param seen p x (Free t) = refl
+
+pub no_param_list : (p : Pos) (x : List ℕ) (m : Mark) → walk_param_list (marked_symbol p x m) ≡ Refuses BadForm p
+no_param_list p x (Reserved w) = refl
+no_param_list p x (Free t) = refl
+
+-- these parameters, and those that are read behind them
+abbrev pub behind_params : List Param → Walked (List Param) → Walked (List Param)
+behind_params before (Reads others) = Reads (before ++ others)
+behind_params before (Refuses kind p) = Refuses kind p
+
+pub params_full : (before : List Param) (room : ℕ) (seen : List (List ℕ)) (s : Sexpr) (rest : Sexprs) (w : Walked (List Param))
+    → room ≡ 0 → behind_params before (walk_params room seen (s ▹ rest)) ≡ w → w ≡ Refuses TooWide (place s)
+params_full before zero seen s rest w e same = sym same
+params_full before (suc room) seen s rest w e same = absurd (omega arith)
+
+pub params_refused : (before : List Param) (room : ℕ) (seen : List (List ℕ)) (s : Sexpr) (rest : Sexprs)
+    (w : Walked (List Param)) (kind : RefusalKind) (p : Pos)
+    → room ≢ 0 → walk_param seen s ≡ Refuses kind p → behind_params before (walk_params room seen (s ▹ rest)) ≡ w
+    → w ≡ Refuses kind p
+unfolding followed_by
+params_refused before zero seen s rest w kind p some e same = absurd (some refl)
+params_refused before (suc room) seen s rest w kind p some e same =
+    sym same ∙ ap (λ one. behind_params before (followed_by one (λ one. followed_by (walk_params room (seen ++ one.0 ∷ []) rest)
+    (λ others. Reads (one.1 ∷ others))))) e
+
+behind_one : (before : List Param) (param : Param) (others : Walked (List Param))
+    → behind_params before (followed_by others (λ others. Reads (param ∷ others)))
+    ≡ behind_params (before ++ param ∷ []) others
+unfolding followed_by
+behind_one before param (Reads others) = ap Reads (sym (append_assoc before (param ∷ []) others))
+behind_one before param (Refuses kind p) = refl
+
+pub params_more : (before : List RustParam) (param : RustParam) (room : ℕ) (seen next : List (List ℕ)) (s : Sexpr)
+    (rest : Sexprs) (w : Walked (List Param))
+    → room ≢ 0 → walk_param seen s ≡ Reads (named_param_of param) → next ≡ seen ++ source_of param.name ∷ []
+    → behind_params (params_of before) (walk_params room seen (s ▹ rest)) ≡ w
+    → behind_params (params_of (before ++ param ∷ [])) (walk_params (room - 1) next rest) ≡ w
+unfolding followed_by
+params_more before param zero seen next s rest w some e bound same = absurd (some refl)
+params_more before param (suc room) seen next s rest w some e bound same =
+    let less : suc room - 1 ≡ room = omega arith in
+    rw (less, bound) (ap (λ b. behind_params b (walk_params room (seen ++ source_of param.name ∷ []) rest)) (params_last before param)
+    ∙ sym (behind_one (params_of before) (param_of param) (walk_params room (seen ++ source_of param.name ∷ []) rest))
+    ∙ sym (ap (λ one. behind_params (params_of before) (followed_by one (λ one. followed_by
+    (walk_params room (seen ++ one.0 ∷ []) rest) (λ others. Reads (one.1 ∷ others))))) e)
+    ∙ same)
+  where
+    params_last : (before : List RustParam) (param : RustParam)
+        → params_of (before ++ param ∷ []) ≡ params_of before ++ param_of param ∷ []
+    params_last [] param = refl
+    params_last (b ∷ before) param = ap (λ ps. param_of b ∷ ps) (params_last before param)
+
+pub params_done : (before : List Param) (room : ℕ) (seen : List (List ℕ)) (w : Walked (List Param))
+    → behind_params before (walk_params room seen end) ≡ w → w ≡ Reads before
+params_done before zero seen w same = sym same ∙ ap Reads (append-nil before)
+params_done before (suc room) seen w same = sym same ∙ ap Reads (append-nil before)
+
+pub ruleset param_steps = (
+  reads_then,
+  refuses_then,
+  place_symbol,
+  place_marked,
+  colon_stands,
+  colon_lacks,
+  symbol_param,
+  no_param_list,
+)

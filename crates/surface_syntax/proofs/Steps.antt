@@ -1,0 +1,372 @@
+-- The rows of the walk over types, by what is known of their elements.
+use Rattle.std.proofs.Common.{
+  ◌≡◌,
+  ◌≢◌,
+  ◌-◌,
+  ℕ,
+  zero,
+  suc,
+  Bool,
+  true,
+  false,
+  cond,
+  List,
+  [],
+  Option,
+  Some,
+  None,
+  refl,
+  sym,
+  ap,
+  ◌∙◌,
+  arith,
+}
+use Rattle.grift_base.specs.declared.places.Pos.{Pos}
+use Rattle.grift_base.specs.declared.refusals.RefusalKind.{RefusalKind}
+use Rattle.grift_base.specs.declared.refusals.RefusalKind.TheVariants.{BadForm, TooWide}
+use Rattle.surface_syntax.specs.declared.words.Word.{Word}
+use Rattle.surface_syntax.specs.declared.words.Word.TheVariants.{
+  Lambda,
+  Let,
+  Letrec,
+  If,
+  Begin,
+  And,
+  Or,
+  Repeat,
+  Tuple,
+  TupleProj,
+  Define,
+  Colon,
+  Arrow,
+  ReadInt,
+  Operator,
+}
+use Rattle.surface_syntax.specs.declared.words.TypeWord.{TypeWord}
+use Rattle.surface_syntax.specs.declared.words.TypeWord.TheVariants.{
+  Int,
+  Bool as BoolWord,
+  Unit as UnitWord,
+  Dyn,
+  Tuple as TupleWord,
+  Ref,
+  Vect,
+  Rec,
+}
+use Rattle.surface_syntax.specs.declared.type_forms.TypeHead.TheVariants.{
+  Tuple as TupleHead,
+  Ref as RefHead,
+  Vect as VectHead,
+  Rec as RecHead,
+  Other,
+}
+use Rattle.sexpr_reader.specs.declared.sexps.SexpNode.{SexpNode}
+use Rattle.sexpr_reader.specs.declared.sexps.SexpNode.TheVariants.{
+  Int as IntCase,
+  Bool as BoolCase,
+  Symbol as SymbolCase,
+  List as ListCase,
+}
+use Rattle.sexpr_reader.specs.declared.sexps.SexpList.{SexpList}
+use Rattle.sexpr_reader.specs.declared.sexps.SexpList.TheVariants.{Nil, Cons'}
+use Rattle.sexpr_reader.specs.View.{datum_at, datums_of}
+use Rattle.surface_syntax.specs.declared.type_forms.TypeHead.{TypeHead}
+use Rattle.surface_syntax.specs.declared.words.Mark.{Mark}
+use Rattle.surface_syntax.specs.declared.words.Mark.TheVariants.{Reserved, Free}
+use Rattle.surface_syntax.specs.Words.{is_colon_word, is_arrow_word, is_lambda_word, is_define_word, mark_of}
+use Rattle.surface_syntax.specs.Marked.{
+  Sexpr,
+  Sexprs,
+  number,
+  truth_value,
+  word,
+  name,
+  list,
+  end,
+  ◌▹◌,
+  place,
+  reserved_at,
+  marked,
+  all_marked,
+  marked_symbol,
+}
+use Rattle.surface_syntax.specs.Trees.{TypeExpr, TypeAt, FunType, TupleType, RefType, VectType, TypeThen, NoTypes}
+use Rattle.surface_syntax.specs.Walking.{
+  Walked,
+  Reads,
+  Refuses,
+  followed_by,
+  give,
+  test,
+  some,
+  colon,
+  is_colon,
+  is_arrow_at,
+  is_lambda_at,
+  is_define_at,
+  is_arrow,
+  is_result,
+}
+use Rattle.surface_syntax.specs.Walk.{Signature, walk_type, walk_only, walk_types, walk_signature}
+use Rattle.surface_syntax.specs.Parts.{type_head, headed_type}
+
+pub colon_at : (s : Sexpr) (w : Word) → reserved_at s ≡ Some w → is_colon s ≡ is_colon_word w
+colon_at (word p v) w e = let same : v ≡ w = cc in ap is_colon_word same
+colon_at (number p n) w e = absurd (let z : ⊥ = cc in z)
+colon_at (truth_value p b) w e = absurd (let z : ⊥ = cc in z)
+colon_at (name p x t) w e = absurd (let z : ⊥ = cc in z)
+colon_at (list p elements) w e = absurd (let z : ⊥ = cc in z)
+
+pub arrow_at : (s : Sexpr) (w : Word) → reserved_at s ≡ Some w → is_arrow_at s ≡ is_arrow_word w
+arrow_at (word p v) w e = let same : v ≡ w = cc in ap is_arrow_word same
+arrow_at (number p n) w e = absurd (let z : ⊥ = cc in z)
+arrow_at (truth_value p b) w e = absurd (let z : ⊥ = cc in z)
+arrow_at (name p x t) w e = absurd (let z : ⊥ = cc in z)
+arrow_at (list p elements) w e = absurd (let z : ⊥ = cc in z)
+
+-- where a reserved word stands, nothing else does
+pub reserved_is : (s : Sexpr) (w : Word) → reserved_at s ≡ Some w → s ≡ word (place s) w
+reserved_is (word p v) w e = let same : v ≡ w = cc in ap (word p) same
+reserved_is (number p n) w e = absurd (let z : ⊥ = cc in z)
+reserved_is (truth_value p b) w e = absurd (let z : ⊥ = cc in z)
+reserved_is (name p x t) w e = absurd (let z : ⊥ = cc in z)
+reserved_is (list p elements) w e = absurd (let z : ⊥ = cc in z)
+
+pub lambda_at : (s : Sexpr) (w : Word) → reserved_at s ≡ Some w → is_lambda_at s ≡ is_lambda_word w
+lambda_at (word p v) w e = let same : v ≡ w = cc in ap is_lambda_word same
+lambda_at (number p n) w e = absurd (let z : ⊥ = cc in z)
+lambda_at (truth_value p b) w e = absurd (let z : ⊥ = cc in z)
+lambda_at (name p x t) w e = absurd (let z : ⊥ = cc in z)
+lambda_at (list p elements) w e = absurd (let z : ⊥ = cc in z)
+
+pub define_at : (s : Sexpr) (w : Word) → reserved_at s ≡ Some w → is_define_at s ≡ is_define_word w
+define_at (word p v) w e = let same : v ≡ w = cc in ap is_define_word same
+define_at (number p n) w e = absurd (let z : ⊥ = cc in z)
+define_at (truth_value p b) w e = absurd (let z : ⊥ = cc in z)
+define_at (name p x t) w e = absurd (let z : ⊥ = cc in z)
+define_at (list p elements) w e = absurd (let z : ⊥ = cc in z)
+
+-- ---- places
+
+pub place_symbol : (p : Pos) (x : List ℕ) (m : Mark) → place (marked_symbol p x m) ≡ p
+place_symbol p x (Reserved w) = refl
+place_symbol p x (Free t) = refl
+
+pub place_marked : (p : Pos) (node : SexpNode) → place (marked (datum_at p node)) ≡ p
+place_marked p (IntCase n) = refl
+place_marked p (BoolCase b) = refl
+place_marked p (SymbolCase x) = place_symbol p x (mark_of x)
+place_marked p (ListCase l) = refl
+
+-- ---- the arrow and the colon
+
+pub arrow_found : (s : Sexpr) (rest : Sexprs) → is_arrow_at s ≡ true → is_arrow (s ▹ rest) ≡ is_result rest
+arrow_found s rest e = ap (λ b. cond b (is_result rest) (is_arrow rest)) e
+
+pub arrow_behind : (s : Sexpr) (rest : Sexprs) → is_arrow_at s ≡ false → is_arrow (s ▹ rest) ≡ is_arrow rest
+arrow_behind s rest e = ap (λ b. cond b (is_result rest) (is_arrow rest)) e
+
+pub colon_stands : (s : Sexpr) → is_colon s ≡ true → colon s ≡ Reads true
+colon_stands s e = ap (λ b. test b BadForm (place s)) e
+
+pub colon_lacks : (s : Sexpr) → is_colon s ≡ false → colon s ≡ Refuses BadForm (place s)
+colon_lacks s e = ap (λ b. test b BadForm (place s)) e
+
+pub ruleset list_steps = (
+  colon_at,
+  arrow_at,
+  lambda_at,
+  define_at,
+  place_symbol,
+  place_marked,
+  arrow_found,
+  arrow_behind,
+  colon_stands,
+  colon_lacks,
+)
+
+-- ---- one line of a walk after another
+
+pub reads_then : {A B : Type 0} (a : A) (next : A → Walked B) → followed_by (Reads a) next ≡ next a
+unfolding followed_by
+reads_then a next = refl
+
+pub refuses_then : {A B : Type 0} (kind : RefusalKind) (p : Pos) (next : A → Walked B)
+    → followed_by (Refuses kind p) next ≡ Refuses kind p
+unfolding followed_by
+refuses_then kind p next = refl
+
+-- ---- rows of types
+
+pub headed_is : (p : Pos) (s : Sexpr) (rest : Sexprs) → walk_type (list p (s ▹ rest)) ≡ headed_type (type_head s) p (s ▹ rest)
+headed_is p (name q x (Some Int)) rest = refl
+headed_is p (name q x (Some BoolWord)) rest = refl
+headed_is p (name q x (Some UnitWord)) rest = refl
+headed_is p (name q x (Some Dyn)) rest = refl
+headed_is p (name q x (Some TupleWord)) rest = refl
+headed_is p (name q x (Some Ref)) rest = refl
+headed_is p (name q x (Some Vect)) rest = refl
+headed_is p (name q x (Some Rec)) rest = refl
+headed_is p (name q x None) rest = refl
+headed_is p (word q w) rest = refl
+headed_is p (number q n) rest = refl
+headed_is p (truth_value q b) rest = refl
+headed_is p (list q l) rest = refl
+
+-- which type a list writes by its first element
+abbrev pub HeadIs : TypeHead → SexpList → Type 0
+HeadIs head Nil = ⊥
+HeadIs head (Cons' a p node b rest) = head ≡ type_head (marked (datum_at p node))
+
+pub headed_here : (p : Pos) (elements : SexpList) (head : TypeHead) → HeadIs head elements
+    → walk_type (list p (all_marked (datums_of elements))) ≡ headed_type head p (all_marked (datums_of elements))
+headed_here p Nil head h = absurd h
+headed_here p (Cons' a q node b rest) head h =
+    headed_is p (marked (datum_at q node)) (all_marked (datums_of rest))
+    ∙ ap (λ t. headed_type t p (marked (datum_at q node) ▹ all_marked (datums_of rest))) (sym h)
+
+-- one type and no more
+pub only_one : {a : _} {b : _} (p : Pos) {q : Pos} {node : SexpNode} (elements : SexpList) {rest : SexpList}
+    → elements ≡ Cons' a q node b rest → rest ≡ Nil
+    → walk_only p (all_marked (datums_of elements)) ≡ walk_type (marked (datum_at q node))
+only_one p {q = q} {node = node} elements e f =
+    ap (λ l. walk_only p (all_marked (datums_of l))) e
+    ∙ ap (λ r. walk_only p (marked (datum_at q node) ▹ all_marked (datums_of r))) f
+
+pub types_full : (room : ℕ) (t : Sexpr) (rest : Sexprs) → room ≡ 0 → walk_types room (t ▹ rest) ≡ Refuses TooWide (place t)
+types_full zero t rest e = refl
+types_full (suc room) t rest e = absurd (omega arith)
+
+pub types_more : (room : ℕ) (t : Sexpr) (rest : Sexprs) → room ≢ 0 → walk_types room (t ▹ rest)
+    ≡ followed_by (walk_type t) (λ type. followed_by (walk_types (room - 1) rest) (λ types. Reads (TypeThen type types)))
+types_more zero t rest e = absurd (e refl)
+types_more (suc room) t rest e =
+    let same : room ≡ suc room - 1 = omega arith in
+    ap (λ n. followed_by (walk_type t) (λ type. followed_by (walk_types n rest) (λ types. Reads (TypeThen type types)))) same
+
+pub signature_end : (room : ℕ) (s : Sexpr) (rest : Sexprs) → is_arrow_at s ≡ true → walk_signature room (s ▹ rest)
+    ≡ followed_by (walk_only (place s) rest) (λ result. Reads (record { parameters = NoTypes; result = result }))
+signature_end zero (word q Lambda) rest e = absurd (let z : ⊥ = cc in z)
+signature_end zero (word q Let) rest e = absurd (let z : ⊥ = cc in z)
+signature_end zero (word q Letrec) rest e = absurd (let z : ⊥ = cc in z)
+signature_end zero (word q If) rest e = absurd (let z : ⊥ = cc in z)
+signature_end zero (word q Begin) rest e = absurd (let z : ⊥ = cc in z)
+signature_end zero (word q And) rest e = absurd (let z : ⊥ = cc in z)
+signature_end zero (word q Or) rest e = absurd (let z : ⊥ = cc in z)
+signature_end zero (word q Repeat) rest e = absurd (let z : ⊥ = cc in z)
+signature_end zero (word q Tuple) rest e = absurd (let z : ⊥ = cc in z)
+signature_end zero (word q TupleProj) rest e = absurd (let z : ⊥ = cc in z)
+signature_end zero (word q Define) rest e = absurd (let z : ⊥ = cc in z)
+signature_end zero (word q Colon) rest e = absurd (let z : ⊥ = cc in z)
+signature_end zero (word q Arrow) rest e = refl
+signature_end zero (word q ReadInt) rest e = absurd (let z : ⊥ = cc in z)
+signature_end zero (word q (Operator o)) rest e = absurd (let z : ⊥ = cc in z)
+signature_end zero (name q x t) rest e = absurd (let z : ⊥ = cc in z)
+signature_end zero (number q n) rest e = absurd (let z : ⊥ = cc in z)
+signature_end zero (truth_value q b) rest e = absurd (let z : ⊥ = cc in z)
+signature_end zero (list q l) rest e = absurd (let z : ⊥ = cc in z)
+signature_end (suc room) (word q Lambda) rest e = absurd (let z : ⊥ = cc in z)
+signature_end (suc room) (word q Let) rest e = absurd (let z : ⊥ = cc in z)
+signature_end (suc room) (word q Letrec) rest e = absurd (let z : ⊥ = cc in z)
+signature_end (suc room) (word q If) rest e = absurd (let z : ⊥ = cc in z)
+signature_end (suc room) (word q Begin) rest e = absurd (let z : ⊥ = cc in z)
+signature_end (suc room) (word q And) rest e = absurd (let z : ⊥ = cc in z)
+signature_end (suc room) (word q Or) rest e = absurd (let z : ⊥ = cc in z)
+signature_end (suc room) (word q Repeat) rest e = absurd (let z : ⊥ = cc in z)
+signature_end (suc room) (word q Tuple) rest e = absurd (let z : ⊥ = cc in z)
+signature_end (suc room) (word q TupleProj) rest e = absurd (let z : ⊥ = cc in z)
+signature_end (suc room) (word q Define) rest e = absurd (let z : ⊥ = cc in z)
+signature_end (suc room) (word q Colon) rest e = absurd (let z : ⊥ = cc in z)
+signature_end (suc room) (word q Arrow) rest e = refl
+signature_end (suc room) (word q ReadInt) rest e = absurd (let z : ⊥ = cc in z)
+signature_end (suc room) (word q (Operator o)) rest e = absurd (let z : ⊥ = cc in z)
+signature_end (suc room) (name q x t) rest e = absurd (let z : ⊥ = cc in z)
+signature_end (suc room) (number q n) rest e = absurd (let z : ⊥ = cc in z)
+signature_end (suc room) (truth_value q b) rest e = absurd (let z : ⊥ = cc in z)
+signature_end (suc room) (list q l) rest e = absurd (let z : ⊥ = cc in z)
+
+pub signature_full : (room : ℕ) (s : Sexpr) (rest : Sexprs) → is_arrow_at s ≡ false → room ≡ 0
+    → walk_signature room (s ▹ rest) ≡ Refuses TooWide (place s)
+signature_full zero (word q Lambda) rest e m = refl
+signature_full zero (word q Let) rest e m = refl
+signature_full zero (word q Letrec) rest e m = refl
+signature_full zero (word q If) rest e m = refl
+signature_full zero (word q Begin) rest e m = refl
+signature_full zero (word q And) rest e m = refl
+signature_full zero (word q Or) rest e m = refl
+signature_full zero (word q Repeat) rest e m = refl
+signature_full zero (word q Tuple) rest e m = refl
+signature_full zero (word q TupleProj) rest e m = refl
+signature_full zero (word q Define) rest e m = refl
+signature_full zero (word q Colon) rest e m = refl
+signature_full zero (word q Arrow) rest e m = absurd (let z : ⊥ = cc in z)
+signature_full zero (word q ReadInt) rest e m = refl
+signature_full zero (word q (Operator o)) rest e m = refl
+signature_full zero (name q x t) rest e m = refl
+signature_full zero (number q n) rest e m = refl
+signature_full zero (truth_value q b) rest e m = refl
+signature_full zero (list q l) rest e m = refl
+signature_full (suc room) (word q Lambda) rest e m = absurd (omega arith)
+signature_full (suc room) (word q Let) rest e m = absurd (omega arith)
+signature_full (suc room) (word q Letrec) rest e m = absurd (omega arith)
+signature_full (suc room) (word q If) rest e m = absurd (omega arith)
+signature_full (suc room) (word q Begin) rest e m = absurd (omega arith)
+signature_full (suc room) (word q And) rest e m = absurd (omega arith)
+signature_full (suc room) (word q Or) rest e m = absurd (omega arith)
+signature_full (suc room) (word q Repeat) rest e m = absurd (omega arith)
+signature_full (suc room) (word q Tuple) rest e m = absurd (omega arith)
+signature_full (suc room) (word q TupleProj) rest e m = absurd (omega arith)
+signature_full (suc room) (word q Define) rest e m = absurd (omega arith)
+signature_full (suc room) (word q Colon) rest e m = absurd (omega arith)
+signature_full (suc room) (word q Arrow) rest e m = absurd (let z : ⊥ = cc in z)
+signature_full (suc room) (word q ReadInt) rest e m = absurd (omega arith)
+signature_full (suc room) (word q (Operator o)) rest e m = absurd (omega arith)
+signature_full (suc room) (name q x t) rest e m = absurd (omega arith)
+signature_full (suc room) (number q n) rest e m = absurd (omega arith)
+signature_full (suc room) (truth_value q b) rest e m = absurd (omega arith)
+signature_full (suc room) (list q l) rest e m = absurd (omega arith)
+
+signature_next : (room : ℕ) (s : Sexpr) (rest : Sexprs) → is_arrow_at s ≡ false → walk_signature (suc room) (s ▹ rest)
+    ≡ followed_by (walk_type s) (λ type. followed_by (walk_signature room rest) (λ others.
+    Reads (record { parameters = TypeThen type others.parameters; result = others.result })))
+signature_next room (word q Lambda) rest e = refl
+signature_next room (word q Let) rest e = refl
+signature_next room (word q Letrec) rest e = refl
+signature_next room (word q If) rest e = refl
+signature_next room (word q Begin) rest e = refl
+signature_next room (word q And) rest e = refl
+signature_next room (word q Or) rest e = refl
+signature_next room (word q Repeat) rest e = refl
+signature_next room (word q Tuple) rest e = refl
+signature_next room (word q TupleProj) rest e = refl
+signature_next room (word q Define) rest e = refl
+signature_next room (word q Colon) rest e = refl
+signature_next room (word q Arrow) rest e = absurd (let z : ⊥ = cc in z)
+signature_next room (word q ReadInt) rest e = refl
+signature_next room (word q (Operator o)) rest e = refl
+signature_next room (name q x t) rest e = refl
+signature_next room (number q n) rest e = refl
+signature_next room (truth_value q b) rest e = refl
+signature_next room (list q l) rest e = refl
+
+pub signature_more : (room : ℕ) (s : Sexpr) (rest : Sexprs) → is_arrow_at s ≡ false → room ≢ 0
+    → walk_signature room (s ▹ rest)
+    ≡ followed_by (walk_type s) (λ type. followed_by (walk_signature (room - 1) rest) (λ others.
+    Reads (record { parameters = TypeThen type others.parameters; result = others.result })))
+signature_more zero s rest e m = absurd (m refl)
+signature_more (suc room) s rest e n =
+    let same : room ≡ suc room - 1 = omega arith in
+    signature_next room s rest e ∙ ap (λ n. followed_by (walk_type s) (λ type. followed_by (walk_signature n rest) (λ others.
+    Reads (record { parameters = TypeThen type others.parameters; result = others.result })))) same
+
+pub ruleset walk_steps = (
+  reads_then,
+  refuses_then,
+  place_symbol,
+  place_marked,
+  types_full,
+  types_more,
+  signature_end,
+  signature_full,
+  signature_more,
+)

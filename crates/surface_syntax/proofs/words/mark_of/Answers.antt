@@ -1,0 +1,13 @@
+use Rattle.std.proofs.Common.{ap, ap₂, sym, ◌∙◌, refl}
+use Rattle.surface_syntax.specs.declared.words.Mark.TheVariants.{Free}
+use Rattle.surface_syntax.specs.Words.{mark_of, marked_as, first_with, type_word_text}
+use Rattle.surface_syntax.specs.declared.words.TheConstants.{TYPE_WORDS}
+use Rattle.surface_syntax.proofs.words.mark_of.Goals as goal
+
+pub returns-in-Some : goal.returns-in-Some
+unfolding mark_of
+returns-in-Some c = ap (λ w. marked_as w (first_with type_word_text c.args.name.now TYPE_WORDS)) c.in-Some.ensures
+
+pub returns-in-None : goal.returns-in-None
+unfolding mark_of
+returns-in-None c = ap₂ marked_as c.in-None.ensures c.first_with-in-None.ensures

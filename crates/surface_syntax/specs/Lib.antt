@@ -1,0 +1,14 @@
+pub mod Words
+pub mod Marked
+pub mod Trees
+pub mod Written
+pub mod Table
+pub mod TopTable
+pub mod Walking
+pub mod Walk
+pub mod TopWalk
+pub mod Expansion
+pub mod Pass
+pub mod Views
+pub mod Claims
+pub mod Parts

@@ -1,0 +1,138 @@
+-- The reader's own types as plain data, for the contracts of its private functions.
+use Rattle.surface_syntax.specs.declared.type_forms.Signature.{Signature as RustSignature}
+use Rattle.std.specs.Prelude.{ℕ, List, [], ◌∷◌, Option, Some, None}
+use Rattle.grift_base.specs.declared.places.Pos.{Pos}
+use Rattle.grift_base.specs.declared.refusals.RefusalKind.TheVariants.{BadForm}
+use Rattle.surface_syntax.specs.declared.type_forms.TypeHead.{TypeHead}
+use Rattle.surface_syntax.specs.declared.type_forms.TypeHead.TheVariants.{
+  Tuple as TupleHead,
+  Ref as RefHead,
+  Vect as VectHead,
+  Rec as RecHead,
+  Other,
+}
+use Rattle.surface_syntax.specs.declared.words.TypeWord.{TypeWord}
+use Rattle.surface_syntax.specs.declared.words.TypeWord.TheVariants.{Tuple, Ref, Vect, Rec}
+use Rattle.surface_syntax.specs.declared.derived.Range.{Range as RustRange}
+use Rattle.surface_syntax.specs.declared.exprs.Expr.{Expr as RustExpr}
+use Rattle.surface_syntax.specs.declared.exprs.Binding.{Binding as RustBinding, out-Binding}
+use Rattle.surface_syntax.specs.declared.exprs.Member.{Member as RustMember, out-Member}
+use Rattle.surface_syntax.specs.declared.names.Ident.{Ident}
+use Rattle.surface_syntax.specs.Marked.{Sexpr, Sexprs, name, end, ◌▹◌}
+use Rattle.surface_syntax.specs.Trees.{
+  TypeExpr,
+  TypeAt,
+  FunType,
+  TupleType,
+  RefType,
+  VectType,
+  Expr,
+  ExprAt,
+  CallNode,
+  LambdaExpr,
+  Exprs,
+  ExprThen,
+  LetBindings,
+  LetThen,
+  LetrecMembers,
+  LetrecThen,
+}
+use Rattle.surface_syntax.specs.Walk.{Signature, Bound, walk_only, walk_types, walk_signature}
+use Rattle.surface_syntax.specs.Walking.{Walked, Reads, Refuses, followed_by, test, some, is_arrow}
+use Rattle.surface_syntax.specs.Pass.{
+  Parsing,
+  ParsedRange,
+  ◌>>=◌,
+  give,
+  refuse,
+  parse,
+  parse_within,
+}
+use Rattle.surface_syntax.specs.Views.{type_of, types_of, written_of, source_of, expr_of, lambda_of}
+
+abbrev pub signature_of : RustSignature → Signature
+signature_of s = record { parameters = types_of s.parameters; result = type_of s.result }
+
+abbrev pub head_of_word : TypeWord → TypeHead
+head_of_word Tuple = TupleHead
+head_of_word Ref = RefHead
+head_of_word Vect = VectHead
+head_of_word Rec = RecHead
+head_of_word _ = Other
+
+-- which type a list with this first element writes
+abbrev pub type_head : Sexpr → TypeHead
+type_head (name p x (Some w)) = head_of_word w
+type_head _ = Other
+
+-- the type of a list with this head
+abbrev pub headed_type : TypeHead → Pos → Sexprs → Walked TypeExpr
+headed_type head p end = Refuses BadForm p
+headed_type TupleHead p (s ▹ parts) =
+    followed_by (some p parts) (λ done. followed_by (walk_types 8 parts) (λ types. Reads (TypeAt p (TupleType types))))
+headed_type RefHead p (s ▹ rest) = followed_by (walk_only p rest) (λ content. Reads (TypeAt p (RefType content)))
+headed_type VectHead p (s ▹ rest) = followed_by (walk_only p rest) (λ content. Reads (TypeAt p (VectType content)))
+headed_type RecHead p (s ▹ rest) = Refuses BadForm p
+headed_type Other p (s ▹ rest) =
+    followed_by (test (is_arrow (s ▹ rest)) BadForm p) (λ done. followed_by (walk_signature 6 (s ▹ rest)) (λ signature.
+    Reads (TypeAt p (FunType signature.parameters signature.result))))
+
+-- ---- expressions
+
+-- a call whose function is no reserved word
+abbrev pub parse_call : Pos → Sexprs → Parsing Expr
+parse_call p end = refuse BadForm p
+parse_call p (f ▹ arguments) = do
+  function ← parse f
+  exprs ← parse_within 6 arguments
+  give (ExprAt p (CallNode function exprs))
+
+abbrev pub range_of : RustRange → ParsedRange
+range_of r = record { counter = r.counter; first = expr_of r.first; bound = expr_of r.bound }
+
+abbrev pub name_of_binding : RustBinding → Ident
+name_of_binding b = (out-Binding b).name
+
+abbrev pub type_of_binding : RustBinding → Option TypeExpr
+type_of_binding b = written_of (out-Binding b).ty
+
+abbrev pub value_of_binding : RustBinding → Expr
+value_of_binding b = expr_of (out-Binding b).value
+
+abbrev pub bound_of : RustBinding → Bound Expr
+bound_of b = record {
+  name = source_of (name_of_binding b);
+  written = type_of_binding b;
+  value = value_of_binding b;
+}
+
+abbrev pub name_of_member : RustMember → Ident
+name_of_member m = (out-Member m).name
+
+abbrev pub type_of_member : RustMember → Option TypeExpr
+type_of_member m = written_of (out-Member m).ty
+
+abbrev pub fun_of_member : RustMember → LambdaExpr
+fun_of_member m = lambda_of (out-Member m).fun
+
+abbrev pub member_of : RustMember → Bound LambdaExpr
+member_of m = record {
+  name = source_of (name_of_member m);
+  written = type_of_member m;
+  value = fun_of_member m;
+}
+
+-- ---- lists from vectors
+
+abbrev pub exprs_before : List RustExpr → Exprs → Exprs
+exprs_before [] rest = rest
+exprs_before (e ∷ es) rest = ExprThen (expr_of e) (exprs_before es rest)
+
+abbrev pub lets_before : List RustBinding → LetBindings → LetBindings
+lets_before [] rest = rest
+lets_before (b ∷ bs) rest = LetThen (name_of_binding b) (type_of_binding b) (value_of_binding b) (lets_before bs rest)
+
+abbrev pub letrecs_before : List RustMember → LetrecMembers → LetrecMembers
+letrecs_before [] rest = rest
+letrecs_before (m ∷ ms) rest =
+    LetrecThen (name_of_member m) (type_of_member m) (fun_of_member m) (letrecs_before ms rest)

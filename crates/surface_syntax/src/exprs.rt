@@ -1,0 +1,226 @@
+// Expressions and programs, with every derived form expanded.
+
+use crate::derived::linked;
+use crate::names::Ident;
+use crate::types::{Params, TypeExpr};
+use grift_base::lists::OutOfMemory;
+use grift_base::operators::PrimOp;
+use grift_base::places::Pos;
+use std::alloc::Global;
+use std::fmt::{self, Debug, Formatter, Write};
+
+/// An expression and its place. What a derived form expands to has the place of that form.
+#[cycle(expr)]
+#[derive(Drop, Debug)]
+pub struct Expr {
+    pub pos: Pos,
+    pub node: ExprNode,
+}
+
+/// What an expression is.
+#[cycle(expr)]
+#[derive(Drop, Debug)]
+pub enum ExprNode {
+    /// An integer.
+    Int(i64),
+    /// A truth value.
+    Bool(bool),
+    /// The one value `()`.
+    Unit,
+    /// The use of a name.
+    Name(Ident),
+    /// A function.
+    Lambda(LambdaExpr),
+    /// A call: the function and the arguments.
+    Call(Box<Expr>, ExprList),
+    /// Names for values, and the body.
+    Let(Bindings, ExprList),
+    /// Functions that may call one another, and the body.
+    Letrec(Members, ExprList),
+    /// The condition, and what is evaluated where it holds and where not.
+    If(Box<Expr>, Box<Expr>, Box<Expr>),
+    /// Expressions one after another.
+    Begin(ExprList),
+    /// An expression at a written type.
+    Ascribe(Box<Expr>, TypeExpr),
+    /// A tuple, by its parts.
+    Tuple(ExprList),
+    /// A part of a tuple: the tuple, the number of the part from 0, and the place of that number.
+    Proj(Box<Expr>, i64, Pos),
+    /// An operator and its operands.
+    Prim(PrimOp, ExprList),
+}
+
+/// A function: its parameters, its result's type where one is written, and its body.
+#[cycle(expr)]
+#[derive(Drop, Debug)]
+pub struct LambdaExpr {
+    pub pos: Pos,
+    pub params: Params,
+    pub result: Option<TypeExpr>,
+    pub body: ExprList,
+}
+
+/// A name for a value: the name, its type where one is written, and the value.
+#[cycle(expr)]
+#[derive(Drop, Debug)]
+pub struct Binding {
+    pub name: Ident,
+    pub ty: Option<TypeExpr>,
+    pub value: Expr,
+}
+
+/// A name for a function: the name, its type where one is written, and the function.
+#[cycle(expr)]
+#[derive(Drop, Debug)]
+pub struct Member {
+    pub name: Ident,
+    pub ty: Option<TypeExpr>,
+    pub fun: LambdaExpr,
+}
+
+/// Expressions in order.
+#[cycle(expr)]
+pub enum ExprList {
+    /// No expression.
+    Nil,
+    /// The first one, and those behind it.
+    Cons(Box<Expr>, Box<ExprList>),
+}
+
+/// Names for values in order.
+#[cycle(expr)]
+pub enum Bindings {
+    /// No name.
+    Nil,
+    /// The first one, and those behind it.
+    Cons(Box<Binding>, Box<Bindings>),
+}
+
+/// Names for functions in order.
+#[cycle(expr)]
+pub enum Members {
+    /// No name.
+    Nil,
+    /// The first one, and those behind it.
+    Cons(Box<Member>, Box<Members>),
+}
+
+// Loops, since a list may be longer than the process's stack is deep.
+impl Drop for ExprList {
+    #[cycle(expr)]
+    fn drop(mut self) {
+        loop {
+            match self {
+                ExprList::Nil => return,
+                ExprList::Cons(_, rest) => self = Box::into_inner(rest),
+            }
+        }
+    }
+}
+
+impl Drop for Bindings {
+    #[cycle(expr)]
+    fn drop(mut self) {
+        loop {
+            match self {
+                Bindings::Nil => return,
+                Bindings::Cons(_, rest) => self = Box::into_inner(rest),
+            }
+        }
+    }
+}
+
+impl Drop for Members {
+    #[cycle(expr)]
+    fn drop(mut self) {
+        loop {
+            match self {
+                Members::Nil => return,
+                Members::Cons(_, rest) => self = Box::into_inner(rest),
+            }
+        }
+    }
+}
+
+impl Debug for ExprList {
+    #[cycle(expr)]
+    fn fmt<W: Write>(&self, f: &mut Formatter<W>) -> fmt::Result {
+        let mut list = self;
+        f.write_str("[")?;
+        while let ExprList::Cons(first, rest) = list {
+            first.fmt(f)?;
+            list = rest;
+            if let ExprList::Cons(..) = list {
+                f.write_str(", ")?;
+            }
+        }
+        f.write_str("]")
+    }
+}
+
+impl Debug for Bindings {
+    #[cycle(expr)]
+    fn fmt<W: Write>(&self, f: &mut Formatter<W>) -> fmt::Result {
+        let mut list = self;
+        f.write_str("[")?;
+        while let Bindings::Cons(first, rest) = list {
+            first.fmt(f)?;
+            list = rest;
+            if let Bindings::Cons(..) = list {
+                f.write_str(", ")?;
+            }
+        }
+        f.write_str("]")
+    }
+}
+
+impl Debug for Members {
+    #[cycle(expr)]
+    fn fmt<W: Write>(&self, f: &mut Formatter<W>) -> fmt::Result {
+        let mut list = self;
+        f.write_str("[")?;
+        while let Members::Cons(first, rest) = list {
+            first.fmt(f)?;
+            list = rest;
+            if let Members::Cons(..) = list {
+                f.write_str(", ")?;
+            }
+        }
+        f.write_str("]")
+    }
+}
+
+impl ExprList {
+    ghost use Rattle.std.specs.Prelude.{◌≡◌, IfOk};
+    ghost use Rattle.surface_syntax.specs.Views.{expr_of, exprs_of};
+    ghost use Rattle.surface_syntax.specs.Expansion.{chain_of};
+
+    // These operands of an `and`, where all are to hold, or of an `or`. A recursion along the list: there are eight at most.
+    pub(crate) fn chain(self, alloc: Global, all: bool, pos: Pos) -> Result<Expr, OutOfMemory>
+        ensures { IfOk result (λ e. expr_of e ≡ chain_of all pos (exprs_of self)) }
+    {
+        match self {
+            ExprList::Nil => Ok(Expr {
+                pos,
+                node: ExprNode::Bool(all),
+            }),
+            ExprList::Cons(first, rest) => {
+                let first = Box::into_inner(first);
+                let rest = Box::into_inner(rest);
+                if let ExprList::Nil = &rest {
+                    return Ok(first);
+                }
+                let others = rest.chain(alloc, all, pos)?;
+                linked(alloc, all, pos, first, others)
+            }
+        }
+    }
+}
+
+/// A program: its one expression, and how many forms its source has at top level.
+#[derive(Drop, Debug)]
+pub struct Program {
+    pub body: Expr,
+    pub forms: u32,
+}

@@ -1,0 +1,109 @@
+// Parameters from s-expressions.
+#![tactic(auto, using(crate::proofs::ParamRows::param_steps), unfolding(crate::specs::Walking::followed_by))]
+
+ghost use Rattle.std.specs.Prelude.{◌≡◌, ◌++◌, ◌∷◌, [], IfOk};
+ghost use Rattle.sexpr_reader.specs.View.{datum_of, datums_of};
+ghost use Rattle.surface_syntax.specs.Marked.{marked, all_marked, list as list_at};
+ghost use Rattle.surface_syntax.specs.Walk.{plain_param, walk_param, walk_params, walk_param_list};
+ghost use Rattle.surface_syntax.specs.Views.{source_of, named_param_of, params_of};
+ghost use Rattle.surface_syntax.specs.Claims.{Answers};
+
+use crate::lists::{bad_form, binder, colon, refused};
+use crate::names::Ident;
+use crate::scopes::Scope;
+use crate::type_forms::type_expr;
+use crate::types::{Param, Params};
+use grift_base::places::Pos;
+use grift_base::refusals::{FrontFault, RefusalKind};
+use sexpr_reader::sexps::{Sexp, SexpList, SexpNode};
+use std::alloc::Global;
+
+/// The most parameters of a function.
+const MOST_PARAMETERS: u64 = 6;
+
+// A parameter without a type: a name.
+fn plain_param(alloc: Global, scope: &mut Scope, sexp: &Sexp) -> Result<Param, FrontFault>
+    ensures param { Answers result named_param_of (plain_param scope.old (marked (datum_of sexp.now))) }
+    ensures bound { IfOk result (λ param. scope.new ≡ scope.old ++ source_of param.name ∷ []) }
+{
+    let name = binder(alloc, scope, sexp)?;
+    Ok(Param {
+        pos: sexp.pos,
+        name: Ident::Source(name),
+        ty: None,
+    })
+}
+
+// A parameter between brackets: a name, `:` and a type.
+fn typed_param(
+    alloc: Global,
+    scope: &mut Scope,
+    pos: Pos,
+    elements: &SexpList,
+) -> Result<Param, FrontFault>
+    ensures param { Answers result named_param_of (walk_param scope.old (list_at pos (all_marked (datums_of elements.now)))) }
+    ensures bound { IfOk result (λ param. scope.new ≡ scope.old ++ source_of param.name ∷ []) }
+{
+    let SexpList::Cons(name, rest) = elements else {
+        return bad_form(pos);
+    };
+    let SexpList::Cons(mark, rest) = &**rest else {
+        return bad_form(pos);
+    };
+    let SexpList::Cons(written, rest) = &**rest else {
+        return bad_form(pos);
+    };
+    let SexpList::Nil = &**rest else {
+        return bad_form(pos);
+    };
+    let name = binder(alloc, scope, name)?;
+    colon(mark)?;
+    let ty = type_expr(alloc, written)?;
+    Ok(Param {
+        pos,
+        name: Ident::Source(name),
+        ty: Some(ty),
+    })
+}
+
+// A parameter that a scope binds.
+fn param(alloc: Global, scope: &mut Scope, sexp: &Sexp) -> Result<Param, FrontFault>
+    ensures param { Answers result named_param_of (walk_param scope.old (marked (datum_of sexp.now))) }
+    ensures bound { IfOk result (λ param. scope.new ≡ scope.old ++ source_of param.name ∷ []) }
+{
+    match &sexp.node {
+        SexpNode::List(elements) => typed_param(alloc, scope, sexp.pos, elements),
+        SexpNode::Int(_) | SexpNode::Bool(_) | SexpNode::Symbol(_) => plain_param(
+            alloc, scope, sexp,
+        ),
+    }
+}
+
+// At most six parameters, no name twice.
+fn params(alloc: Global, elements: &SexpList) -> Result<Params, FrontFault>
+    ensures { Answers result params_of (walk_params 6 [] (all_marked (datums_of elements.now))) }
+{
+    let mut scope = Scope::new(alloc);
+    let mut params = Params::new(alloc);
+    let mut room = MOST_PARAMETERS;
+    let mut list = elements;
+    while let SexpList::Cons(first, rest) = list {
+        if room == 0 {
+            return refused(RefusalKind::TooWide, first.pos);
+        }
+        params.push(param(alloc, &mut scope, first)?)?;
+        room -= 1;
+        list = rest;
+    }
+    Ok(params)
+}
+
+/// The parameters between two brackets.
+pub fn param_list(alloc: Global, sexp: &Sexp) -> Result<Params, FrontFault>
+    ensures { Answers result params_of (walk_param_list (marked (datum_of sexp.now))) }
+{
+    let SexpNode::List(elements) = &sexp.node else {
+        return bad_form(sexp.pos);
+    };
+    params(alloc, elements)
+}

@@ -1,0 +1,167 @@
+// Types as a source writes them.
+
+ghost use Rattle.std.specs.Prelude.{◌≡◌, IfOk};
+
+use crate::names::Ident;
+use grift_base::lists::{Items, OutOfMemory};
+use grift_base::places::Pos;
+use std::alloc::Global;
+use std::fmt::{self, Debug, Formatter, Write};
+use type_graph::rows::{Row, TypeIds};
+
+/// A type and its place: that of its word, or of its opening bracket.
+#[cycle(written_type)]
+#[derive(Drop, Debug)]
+pub struct TypeExpr {
+    pub pos: Pos,
+    pub node: TypeNode,
+}
+
+/// What a written type is.
+#[cycle(written_type)]
+#[derive(Drop, Debug)]
+pub enum TypeNode {
+    /// A type without parts.
+    Base(Row),
+    /// Functions: the types of the parameters, and that of the result.
+    Fun(TypeExprs, Box<TypeExpr>),
+    /// Tuples, by the types of their parts.
+    Tuple(TypeExprs),
+    /// Boxes, by the type of what they hold.
+    Ref(Box<TypeExpr>),
+    /// Vectors, by the type of their elements.
+    Vect(Box<TypeExpr>),
+}
+
+/// Written types in order.
+#[cycle(written_type)]
+pub enum TypeExprs {
+    /// No type.
+    Nil,
+    /// The first one, and those behind it.
+    Cons(Box<TypeExpr>, Box<TypeExprs>),
+}
+
+// A loop, since a list may be longer than the process's stack is deep.
+impl Drop for TypeExprs {
+    #[cycle(written_type)]
+    fn drop(mut self) {
+        loop {
+            match self {
+                TypeExprs::Nil => return,
+                TypeExprs::Cons(_, rest) => self = Box::into_inner(rest),
+            }
+        }
+    }
+}
+
+impl Debug for TypeExprs {
+    #[cycle(written_type)]
+    fn fmt<W: Write>(&self, f: &mut Formatter<W>) -> fmt::Result {
+        let mut list = self;
+        f.write_str("[")?;
+        while let TypeExprs::Cons(first, rest) = list {
+            first.fmt(f)?;
+            list = rest;
+            if let TypeExprs::Cons(..) = list {
+                f.write_str(", ")?;
+            }
+        }
+        f.write_str("]")
+    }
+}
+
+// The same row again.
+fn duplicate_row(alloc: Global, row: &Row) -> Result<Row, OutOfMemory>
+    ensures { IfOk result (λ same. same ≡ row.now) }
+{
+    match row {
+        Row::Int => Ok(Row::Int),
+        Row::Bool => Ok(Row::Bool),
+        Row::Unit => Ok(Row::Unit),
+        Row::Dyn => Ok(Row::Dyn),
+        Row::Fun(parameters, result) => Ok(Row::Fun(
+            TypeIds::from_slice(alloc, parameters.as_slice())?,
+            *result,
+        )),
+        Row::Tuple(parts) => Ok(Row::Tuple(TypeIds::from_slice(alloc, parts.as_slice())?)),
+        Row::Ref(content) => Ok(Row::Ref(*content)),
+        Row::Vect(content) => Ok(Row::Vect(*content)),
+    }
+}
+
+impl TypeExpr {
+    ghost use Rattle.std.specs.Prelude.{◌≡◌, IfOk};
+    ghost use Rattle.surface_syntax.specs.Views.{type_of};
+
+    /// The same type again.
+    #[cycle(duplicate)]
+    pub fn duplicate(&self, alloc: Global) -> Result<TypeExpr, OutOfMemory>
+        ensures { IfOk result (λ same. type_of same ≡ type_of self.now) }
+    {
+        let node = self.node.duplicate(alloc)?;
+        Ok(TypeExpr {
+            pos: self.pos,
+            node,
+        })
+    }
+}
+
+impl TypeNode {
+    ghost use Rattle.std.specs.Prelude.{◌≡◌, IfOk};
+    ghost use Rattle.surface_syntax.specs.Views.{type_node_of};
+
+    #[cycle(duplicate)]
+    fn duplicate(&self, alloc: Global) -> Result<TypeNode, OutOfMemory>
+        ensures { IfOk result (λ same. type_node_of same ≡ type_node_of self.now) }
+    {
+        match self {
+            TypeNode::Base(row) => Ok(TypeNode::Base(duplicate_row(alloc, row)?)),
+            TypeNode::Fun(parameters, result) => {
+                let parameters = parameters.duplicate(alloc)?;
+                let result = Box::new(alloc, result.duplicate(alloc)?)?;
+                Ok(TypeNode::Fun(parameters, result))
+            }
+            TypeNode::Tuple(parts) => Ok(TypeNode::Tuple(parts.duplicate(alloc)?)),
+            TypeNode::Ref(content) => {
+                let content = Box::new(alloc, content.duplicate(alloc)?)?;
+                Ok(TypeNode::Ref(content))
+            }
+            TypeNode::Vect(content) => {
+                let content = Box::new(alloc, content.duplicate(alloc)?)?;
+                Ok(TypeNode::Vect(content))
+            }
+        }
+    }
+}
+
+impl TypeExprs {
+    ghost use Rattle.std.specs.Prelude.{◌≡◌, IfOk};
+    ghost use Rattle.surface_syntax.specs.Views.{types_of};
+
+    // A recursion along the list: a tuple has at most eight parts, a function at most six parameters.
+    #[cycle(duplicate)]
+    fn duplicate(&self, alloc: Global) -> Result<TypeExprs, OutOfMemory>
+        ensures { IfOk result (λ same. types_of same ≡ types_of self.now) }
+    {
+        match self {
+            TypeExprs::Nil => Ok(TypeExprs::Nil),
+            TypeExprs::Cons(first, rest) => {
+                let first = Box::new(alloc, first.duplicate(alloc)?)?;
+                let rest = Box::new(alloc, rest.duplicate(alloc)?)?;
+                Ok(TypeExprs::Cons(first, rest))
+            }
+        }
+    }
+}
+
+/// A parameter: its place, its name, and its type where one is written.
+#[derive(Drop, Debug)]
+pub struct Param {
+    pub pos: Pos,
+    pub name: Ident,
+    pub ty: Option<TypeExpr>,
+}
+
+/// Parameters in order.
+pub type Params = Items<Param>;
