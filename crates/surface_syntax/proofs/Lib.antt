@@ -1,3 +1,12 @@
 pub mod TextTables
 pub mod Steps
 pub mod ParamRows
+pub mod NewNames
+pub mod Runs
+pub mod Binds
+pub mod TypesFound
+pub mod TypesRead
+pub mod FormsFound
+pub mod FormsRead
+pub mod TopsFound
+pub mod TopsRead

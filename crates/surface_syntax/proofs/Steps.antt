@@ -326,7 +326,7 @@ signature_full (suc room) (number q n) rest e m = absurd (omega arith)
 signature_full (suc room) (truth_value q b) rest e m = absurd (omega arith)
 signature_full (suc room) (list q l) rest e m = absurd (omega arith)
 
-signature_next : (room : ℕ) (s : Sexpr) (rest : Sexprs) → is_arrow_at s ≡ false → walk_signature (suc room) (s ▹ rest)
+pub signature_next : (room : ℕ) (s : Sexpr) (rest : Sexprs) → is_arrow_at s ≡ false → walk_signature (suc room) (s ▹ rest)
     ≡ followed_by (walk_type s) (λ type. followed_by (walk_signature room rest) (λ others.
     Reads (record { parameters = TypeThen type others.parameters; result = others.result })))
 signature_next room (word q Lambda) rest e = refl

@@ -12,3 +12,4 @@ pub mod Pass
 pub mod Views
 pub mod Claims
 pub mod Parts
+pub mod Laws

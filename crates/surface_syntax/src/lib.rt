@@ -3,6 +3,7 @@
 
 mod derived;
 pub mod exprs;
+pub mod laws;
 mod lists;
 pub mod names;
 mod params;
