@@ -10,3 +10,6 @@ pub mod FormsFound
 pub mod FormsRead
 pub mod TopsFound
 pub mod TopsRead
+pub mod ExprRows
+pub mod Loops
+pub mod Bridge
