@@ -4,12 +4,14 @@ use Rattle.grift_base.specs.declared.places.Pos.{Pos}
 use Rattle.grift_base.specs.declared.refusals.RefusalKind.{RefusalKind}
 use Rattle.surface_syntax.specs.Walking.{Walked, Reads, Refuses, followed_by, test}
 
-pub bind_reads : {A B : Type 0} {first : Walked A} (next : A → Walked B) {a : A} {w : Walked B} → first ≡ Reads a → next a ≡ w → followed_by first next ≡ w
+pub bind_reads : {A B : Type 0} {first : Walked A} (next : A → Walked B) {a : A} {w : Walked B} → first ≡ Reads a
+    → next a ≡ w → followed_by first next ≡ w
 unfolding followed_by
 bind_reads next e f = ap (λ m. followed_by m next) e ∙ f
 
 -- what was read when both were done
-pub parts_of : {A B : Type 0} {first : Walked A} {next : A → Walked B} {b : B} → followed_by first next ≡ Reads b → (a : A) × (first ≡ Reads a) × (next a ≡ Reads b)
+pub parts_of : {A B : Type 0} {first : Walked A} {next : A → Walked B} {b : B} → followed_by first next ≡ Reads b
+    → (a : A) × (first ≡ Reads a) × (next a ≡ Reads b)
 unfolding followed_by
 parts_of {A} {B} {first} {next} {b} e = one first refl e
   where

@@ -1,33 +1,6 @@
 -- The rows of the pass over expressions, by what is known of their elements.
-use Rattle.std.proofs.Common.{
-  ◌≡◌,
-  ◌≢◌,
-  ◌-◌,
-  ◌+◌,
-  ℕ,
-  zero,
-  suc,
-  ℤ,
-  pos,
-  ◌≤ℤ◌,
-  ◌<ℤ◌,
-  Bool,
-  true,
-  false,
-  List,
-  [],
-  ◌∷◌,
-  ◌++◌,
-  Option,
-  Some,
-  None,
-  refl,
-  ap,
-  ◌∙◌,
-  sym,
-  subst,
-  arith,
-}
+use Rattle.std.proofs.Common.{◌≡◌, ◌≢◌, ◌-◌, ◌+◌, ℕ, zero, suc, ℤ, pos, ◌≤ℤ◌, ◌<ℤ◌, Bool, true, false, List, [], ◌∷◌}
+use Rattle.std.proofs.Common.{◌++◌, Option, Some, None, refl, ap, ◌∙◌, sym, subst, arith}
 use Rattle.std.specs.Prelude.{negsuc, Result}
 use Rattle.std.proofs.lemmas.Int.{ints}
 use Rattle.grift_base.specs.declared.places.Pos.{Pos}
@@ -35,58 +8,19 @@ use Rattle.grift_base.specs.declared.refusals.RefusalKind.{RefusalKind}
 use Rattle.grift_base.specs.declared.refusals.RefusalKind.TheVariants.{BadForm, TooWide}
 use Rattle.grift_base.specs.declared.refusals.FrontFault.{FrontFault}
 use Rattle.surface_syntax.specs.declared.words.Word.{Word}
-use Rattle.surface_syntax.specs.declared.words.Word.TheVariants.{
-  Lambda,
-  Let,
-  Letrec,
-  If,
-  Begin,
-  And,
-  Or,
-  Repeat,
-  Tuple,
-  TupleProj,
-  Define,
-  Colon,
-  Arrow,
-  ReadInt,
-  Operator,
-}
+use Rattle.surface_syntax.specs.declared.words.Word.TheVariants.{Lambda, Let, Letrec, If, Begin, And, Or, Repeat, Tuple}
+use Rattle.surface_syntax.specs.declared.words.Word.TheVariants.{TupleProj, Define, Colon, Arrow, ReadInt, Operator}
 use Rattle.surface_syntax.specs.declared.words.Mark.{Mark}
 use Rattle.surface_syntax.specs.declared.words.Mark.TheVariants.{Reserved, Free}
 use Rattle.surface_syntax.specs.Words.{is_lambda_word}
-use Rattle.surface_syntax.specs.Marked.{
-  Sexpr,
-  Sexprs,
-  number,
-  truth_value,
-  word,
-  name,
-  list,
-  end,
-  ◌▹◌,
-  place,
-  reserved_at,
-  marked_symbol,
-}
+use Rattle.surface_syntax.specs.Marked.{Sexpr, Sexprs, number, truth_value, word, name, list, end, ◌▹◌, place}
+use Rattle.surface_syntax.specs.Marked.{reserved_at, marked_symbol}
 use Rattle.surface_syntax.specs.Trees.{Expr, ExprAt, ProjNode, LambdaExpr, LambdaAt, Exprs, ExprThen}
 use Rattle.surface_syntax.specs.Walking.{Walked, Reads, Refuses, some, is_colon, is_lambda_at}
 use Rattle.surface_syntax.specs.Walk.{walk_type, walk_param_list}
-use Rattle.surface_syntax.specs.Pass.{
-  Parsing,
-  then_with,
-  with_names,
-  parse,
-  parse_list,
-  parse_part,
-  parse_each,
-  parse_within,
-  parse_lambda,
-  parse_binding,
-  parse_member,
-  parse_lambda_form,
-  parse_range,
-}
+use Rattle.surface_syntax.specs.Pass.{Parsing, then_with, with_names, parse, parse_list, parse_part, parse_each}
+use Rattle.surface_syntax.specs.Pass.{parse_within, parse_lambda, parse_binding, parse_member, parse_lambda_form}
+use Rattle.surface_syntax.specs.Pass.{parse_range}
 use Rattle.surface_syntax.specs.Parts.{parse_call}
 use Rattle.surface_syntax.specs.Claims.{Parses}
 use Rattle.surface_syntax.proofs.Steps.{reserved_is, place_symbol, place_marked, colon_stands, colon_lacks}
@@ -308,7 +242,8 @@ no_word p (truth_value q b) rest names e = refl
 no_word p (list q ds) rest names e = refl
 
 -- a list that begins with this word
-pub headed : {R : Type 0} (result : Result R FrontFault) (view : R → Expr) (new : ℕ) (p : Pos) (s : Sexpr) (rest : Sexprs)
+pub headed : {R : Type 0} (result : Result R FrontFault) (view : R → Expr) (new : ℕ) (p : Pos) (s : Sexpr)
+    (rest : Sexprs)
     (w : Word) (names : ℕ) → reserved_at s ≡ Some w
     → ((q : Pos) → Parses result view new (parse_list p (word q w ▹ rest) names))
     → Parses result view new (parse_list p (s ▹ rest) names)

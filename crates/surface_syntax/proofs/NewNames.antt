@@ -1,39 +1,7 @@
 -- Names that are new, one after another, and names that stand once.
-use Rattle.std.proofs.Common.{
-  ◌≡◌,
-  ◌<◌,
-  ◌≤◌,
-  ◌⊎◌,
-  inl,
-  inr,
-  ℕ,
-  zero,
-  suc,
-  ◌+◌,
-  Bool,
-  true,
-  false,
-  ◌||◌,
-  List,
-  [],
-  ◌∷◌,
-  ◌++◌,
-  length,
-  get_or,
-  slice_get,
-  Option,
-  Some,
-  None,
-  refl,
-  sym,
-  ap,
-  ◌∙◌,
-  subst,
-  arith,
-  append_assoc,
-  append-nil,
-  nat_eq,
-}
+use Rattle.std.proofs.Common.{◌≡◌, ◌<◌, ◌≤◌, ◌⊎◌, inl, inr, ℕ, zero, suc, ◌+◌, Bool, true, false, ◌||◌, List, [], ◌∷◌}
+use Rattle.std.proofs.Common.{◌++◌, length, get_or, slice_get, Option, Some, None, refl, sym, ap, ◌∙◌, subst, arith}
+use Rattle.std.proofs.Common.{append_assoc, append-nil, nat_eq}
 use Rattle.std.specs.Prelude.{bytes_eq}
 use Rattle.std.specs.List.{list_any}
 use Rattle.std.specs.Cmp.Lexicographic.{pointwise}
@@ -109,13 +77,15 @@ place_cases (z ∷ zs) x zero y e = inl e
 place_cases (z ∷ zs) x (suc j) y e =
     elim (place_cases zs x j y e) [ inl h ↦ inl h | inr h ↦ inr (ap suc h.0, h.1) ]
 
-not_both : (seen : List (List ℕ)) (x : List ℕ) (i : ℕ) (y : List ℕ) → is_among seen x ≡ false → slice_get seen i ≡ Some y
+not_both : (seen : List (List ℕ)) (x : List ℕ) (i : ℕ) (y : List ℕ) → is_among seen x ≡ false
+    → slice_get seen i ≡ Some y
     → y ≡ x → ⊥
 not_both seen x i y e at same =
     let there = at_among seen i x (at ∙ ap Some same) in
     let z : ⊥ = cc in z
 
-pub one_more : (seen : List (List ℕ)) (x : List ℕ) → HasNoRepeats seen → is_among seen x ≡ false → HasNoRepeats (seen ++ x ∷ [])
+pub one_more : (seen : List (List ℕ)) (x : List ℕ) → HasNoRepeats seen → is_among seen x ≡ false
+    → HasNoRepeats (seen ++ x ∷ [])
 one_more seen x h new i j within e =
     let all = seen ++ x ∷ [] in
     let a = get_or all i x in

@@ -1,30 +1,6 @@
 -- The rows of the walk over parameters, by what is known of their elements.
-use Rattle.std.proofs.Common.{
-  ◌≡◌,
-  ◌≢◌,
-  ◌-◌,
-  ◌++◌,
-  ℕ,
-  zero,
-  suc,
-  Bool,
-  true,
-  false,
-  List,
-  [],
-  ◌∷◌,
-  map,
-  Option,
-  Some,
-  None,
-  refl,
-  ap,
-  ◌∙◌,
-  sym,
-  arith,
-  append_assoc,
-  append-nil,
-}
+use Rattle.std.proofs.Common.{◌≡◌, ◌≢◌, ◌-◌, ◌++◌, ℕ, zero, suc, Bool, true, false, List, [], ◌∷◌, map, Option, Some}
+use Rattle.std.proofs.Common.{None, refl, ap, ◌∙◌, sym, arith, append_assoc, append-nil}
 use Rattle.grift_base.specs.declared.places.Pos.{Pos}
 use Rattle.grift_base.specs.declared.refusals.RefusalKind.{RefusalKind}
 use Rattle.grift_base.specs.declared.refusals.RefusalKind.TheVariants.{BadForm, TooWide}
@@ -36,14 +12,7 @@ use Rattle.surface_syntax.specs.Trees.{Param}
 use Rattle.surface_syntax.specs.Walking.{Walked, Reads, Refuses, followed_by}
 use Rattle.surface_syntax.specs.Walk.{plain_param, walk_param, walk_params, walk_param_list}
 use Rattle.surface_syntax.specs.Views.{source_of, param_of, params_of, named_param_of}
-use Rattle.surface_syntax.proofs.Steps.{
-  place_symbol,
-  place_marked,
-  reads_then,
-  refuses_then,
-  colon_stands,
-  colon_lacks,
-}
+use Rattle.surface_syntax.proofs.Steps.{place_symbol, place_marked, reads_then, refuses_then, colon_stands, colon_lacks}
 
 pub symbol_param : (seen : List (List ℕ)) (p : Pos) (x : List ℕ) (m : Mark)
     → walk_param seen (marked_symbol p x m) ≡ plain_param seen (marked_symbol p x m)
@@ -59,7 +28,8 @@ abbrev pub behind_params : List Param → Walked (List Param) → Walked (List P
 behind_params before (Reads others) = Reads (before ++ others)
 behind_params before (Refuses kind p) = Refuses kind p
 
-pub params_full : (before : List Param) (room : ℕ) (seen : List (List ℕ)) (s : Sexpr) (rest : Sexprs) (w : Walked (List Param))
+pub params_full : (before : List Param) (room : ℕ) (seen : List (List ℕ)) (s : Sexpr) (rest : Sexprs)
+    (w : Walked (List Param))
     → room ≡ 0 → behind_params before (walk_params room seen (s ▹ rest)) ≡ w → w ≡ Refuses TooWide (place s)
 params_full before zero seen s rest w e same = sym same
 params_full before (suc room) seen s rest w e same = absurd (omega arith)
@@ -71,7 +41,8 @@ pub params_refused : (before : List Param) (room : ℕ) (seen : List (List ℕ))
 unfolding followed_by
 params_refused before zero seen s rest w kind p some e same = absurd (some refl)
 params_refused before (suc room) seen s rest w kind p some e same =
-    sym same ∙ ap (λ one. behind_params before (followed_by one (λ one. followed_by (walk_params room (seen ++ one.0 ∷ []) rest)
+    sym same ∙ ap (λ one. behind_params before
+    (followed_by one (λ one. followed_by (walk_params room (seen ++ one.0 ∷ []) rest)
     (λ others. Reads (one.1 ∷ others))))) e
 
 behind_one : (before : List Param) (param : Param) (others : Walked (List Param))
@@ -90,7 +61,8 @@ unfolding followed_by
 params_more before param zero seen next s rest w some e bound same = absurd (some refl)
 params_more before param (suc room) seen next s rest w some e bound same =
     let less : suc room - 1 ≡ room = omega arith in
-    rw (less, bound) (ap (λ b. behind_params b (walk_params room (seen ++ source_of param.name ∷ []) rest)) (params_last before param)
+    rw (less, bound) (ap (λ b. behind_params b (walk_params room (seen ++ source_of param.name ∷ []) rest))
+    (params_last before param)
     ∙ sym (behind_one (params_of before) (param_of param) (walk_params room (seen ++ source_of param.name ∷ []) rest))
     ∙ sym (ap (λ one. behind_params (params_of before) (followed_by one (λ one. followed_by
     (walk_params room (seen ++ one.0 ∷ []) rest) (λ others. Reads (one.1 ∷ others))))) e)

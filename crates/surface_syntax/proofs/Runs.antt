@@ -1,23 +1,6 @@
 -- Runs of functions that define no name twice.
-use Rattle.std.proofs.Common.{
-  ◌≡◌,
-  ℕ,
-  zero,
-  suc,
-  Bool,
-  false,
-  List,
-  [],
-  ◌∷◌,
-  ◌++◌,
-  drop,
-  refl,
-  sym,
-  subst,
-  append_assoc,
-  append-nil,
-  arith,
-}
+use Rattle.std.proofs.Common.{◌≡◌, ℕ, zero, suc, Bool, false, List, [], ◌∷◌, ◌++◌, drop, refl, sym, subst, append_assoc}
+use Rattle.std.proofs.Common.{append-nil, arith}
 use Rattle.grift_base.specs.Tables.{HasNoRepeats}
 use Rattle.surface_syntax.specs.Written.{Top, ExprTop, ValueTop, FunctionTop}
 use Rattle.surface_syntax.specs.Walking.{is_among}
@@ -55,7 +38,8 @@ none_left : (k : ℕ) → HasNoRepeats (run_names (drop k []))
 none_left zero = none_repeat
 none_left (suc k) = none_repeat
 
-later : (top : Top) (rest : List Top) → HasNoRepeats (run_names (top ∷ rest)) → NoRunRepeats rest → NoRunRepeats (top ∷ rest)
+later : (top : Top) (rest : List Top) → HasNoRepeats (run_names (top ∷ rest)) → NoRunRepeats rest
+    → NoRunRepeats (top ∷ rest)
 later top rest first others zero = first
 later top rest first others (suc k) = others k
 
@@ -63,7 +47,8 @@ pub runs_kept : (run : List (List ℕ)) (tops : List Top) → HasNoRepeats run �
 runs_kept run [] h new = (subst HasNoRepeats (sym (append-nil run)) h, none_left)
 runs_kept run (FunctionTop p x t lambda ∷ rest) h new =
     let more = runs_kept (run ++ x ∷ []) rest (one_more run x h new.0) new.1 in
-    let here : HasNoRepeats (run ++ x ∷ run_names rest) = subst HasNoRepeats (append_assoc run (x ∷ []) (run_names rest)) more.0 in
+    let here : HasNoRepeats (run ++ x ∷ run_names rest) = subst HasNoRepeats
+    (append_assoc run (x ∷ []) (run_names rest)) more.0 in
     (here, later (FunctionTop p x t lambda) rest (suffix run (x ∷ run_names rest) here) more.1)
   where
     suffix : (run xs : List (List ℕ)) → HasNoRepeats (run ++ xs) → HasNoRepeats xs

@@ -1,72 +1,20 @@
 -- The rows of the walk over types, by what is known of their elements.
-use Rattle.std.proofs.Common.{
-  ◌≡◌,
-  ◌≢◌,
-  ◌-◌,
-  ℕ,
-  zero,
-  suc,
-  Bool,
-  true,
-  false,
-  cond,
-  List,
-  [],
-  Option,
-  Some,
-  None,
-  refl,
-  sym,
-  ap,
-  ◌∙◌,
-  arith,
-}
+use Rattle.std.proofs.Common.{◌≡◌, ◌≢◌, ◌-◌, ℕ, zero, suc, Bool, true, false, cond, List, [], Option, Some, None, refl}
+use Rattle.std.proofs.Common.{sym, ap, ◌∙◌, arith}
 use Rattle.grift_base.specs.declared.places.Pos.{Pos}
 use Rattle.grift_base.specs.declared.refusals.RefusalKind.{RefusalKind}
 use Rattle.grift_base.specs.declared.refusals.RefusalKind.TheVariants.{BadForm, TooWide}
 use Rattle.surface_syntax.specs.declared.words.Word.{Word}
-use Rattle.surface_syntax.specs.declared.words.Word.TheVariants.{
-  Lambda,
-  Let,
-  Letrec,
-  If,
-  Begin,
-  And,
-  Or,
-  Repeat,
-  Tuple,
-  TupleProj,
-  Define,
-  Colon,
-  Arrow,
-  ReadInt,
-  Operator,
-}
+use Rattle.surface_syntax.specs.declared.words.Word.TheVariants.{Lambda, Let, Letrec, If, Begin, And, Or, Repeat, Tuple}
+use Rattle.surface_syntax.specs.declared.words.Word.TheVariants.{TupleProj, Define, Colon, Arrow, ReadInt, Operator}
 use Rattle.surface_syntax.specs.declared.words.TypeWord.{TypeWord}
-use Rattle.surface_syntax.specs.declared.words.TypeWord.TheVariants.{
-  Int,
-  Bool as BoolWord,
-  Unit as UnitWord,
-  Dyn,
-  Tuple as TupleWord,
-  Ref,
-  Vect,
-  Rec,
-}
-use Rattle.surface_syntax.specs.declared.type_forms.TypeHead.TheVariants.{
-  Tuple as TupleHead,
-  Ref as RefHead,
-  Vect as VectHead,
-  Rec as RecHead,
-  Other,
-}
+use Rattle.surface_syntax.specs.declared.words.TypeWord.TheVariants.{Int, Bool as BoolWord, Unit as UnitWord, Dyn}
+use Rattle.surface_syntax.specs.declared.words.TypeWord.TheVariants.{Tuple as TupleWord, Ref, Vect, Rec}
+use Rattle.surface_syntax.specs.declared.type_forms.TypeHead.TheVariants.{Tuple as TupleHead, Ref as RefHead}
+use Rattle.surface_syntax.specs.declared.type_forms.TypeHead.TheVariants.{Vect as VectHead, Rec as RecHead, Other}
 use Rattle.sexpr_reader.specs.declared.sexps.SexpNode.{SexpNode}
-use Rattle.sexpr_reader.specs.declared.sexps.SexpNode.TheVariants.{
-  Int as IntCase,
-  Bool as BoolCase,
-  Symbol as SymbolCase,
-  List as ListCase,
-}
+use Rattle.sexpr_reader.specs.declared.sexps.SexpNode.TheVariants.{Int as IntCase, Bool as BoolCase}
+use Rattle.sexpr_reader.specs.declared.sexps.SexpNode.TheVariants.{Symbol as SymbolCase, List as ListCase}
 use Rattle.sexpr_reader.specs.declared.sexps.SexpList.{SexpList}
 use Rattle.sexpr_reader.specs.declared.sexps.SexpList.TheVariants.{Nil, Cons'}
 use Rattle.sexpr_reader.specs.View.{datum_at, datums_of}
@@ -74,39 +22,11 @@ use Rattle.surface_syntax.specs.declared.type_forms.TypeHead.{TypeHead}
 use Rattle.surface_syntax.specs.declared.words.Mark.{Mark}
 use Rattle.surface_syntax.specs.declared.words.Mark.TheVariants.{Reserved, Free}
 use Rattle.surface_syntax.specs.Words.{is_colon_word, is_arrow_word, is_lambda_word, is_define_word, mark_of}
-use Rattle.surface_syntax.specs.Marked.{
-  Sexpr,
-  Sexprs,
-  number,
-  truth_value,
-  word,
-  name,
-  list,
-  end,
-  ◌▹◌,
-  place,
-  reserved_at,
-  marked,
-  all_marked,
-  marked_symbol,
-}
+use Rattle.surface_syntax.specs.Marked.{Sexpr, Sexprs, number, truth_value, word, name, list, end, ◌▹◌, place}
+use Rattle.surface_syntax.specs.Marked.{reserved_at, marked, all_marked, marked_symbol}
 use Rattle.surface_syntax.specs.Trees.{TypeExpr, TypeAt, FunType, TupleType, RefType, VectType, TypeThen, NoTypes}
-use Rattle.surface_syntax.specs.Walking.{
-  Walked,
-  Reads,
-  Refuses,
-  followed_by,
-  give,
-  test,
-  some,
-  colon,
-  is_colon,
-  is_arrow_at,
-  is_lambda_at,
-  is_define_at,
-  is_arrow,
-  is_result,
-}
+use Rattle.surface_syntax.specs.Walking.{Walked, Reads, Refuses, followed_by, give, test, some, colon, is_colon}
+use Rattle.surface_syntax.specs.Walking.{is_arrow_at, is_lambda_at, is_define_at, is_arrow, is_result}
 use Rattle.surface_syntax.specs.Walk.{Signature, walk_type, walk_only, walk_types, walk_signature}
 use Rattle.surface_syntax.specs.Parts.{type_head, headed_type}
 
@@ -198,7 +118,8 @@ refuses_then kind p next = refl
 
 -- ---- rows of types
 
-pub headed_is : (p : Pos) (s : Sexpr) (rest : Sexprs) → walk_type (list p (s ▹ rest)) ≡ headed_type (type_head s) p (s ▹ rest)
+pub headed_is : (p : Pos) (s : Sexpr) (rest : Sexprs)
+    → walk_type (list p (s ▹ rest)) ≡ headed_type (type_head s) p (s ▹ rest)
 headed_is p (name q x (Some Int)) rest = refl
 headed_is p (name q x (Some BoolWord)) rest = refl
 headed_is p (name q x (Some UnitWord)) rest = refl
@@ -233,16 +154,19 @@ only_one p {q = q} {node = node} elements e f =
     ap (λ l. walk_only p (all_marked (datums_of l))) e
     ∙ ap (λ r. walk_only p (marked (datum_at q node) ▹ all_marked (datums_of r))) f
 
-pub types_full : (room : ℕ) (t : Sexpr) (rest : Sexprs) → room ≡ 0 → walk_types room (t ▹ rest) ≡ Refuses TooWide (place t)
+pub types_full : (room : ℕ) (t : Sexpr) (rest : Sexprs) → room ≡ 0
+    → walk_types room (t ▹ rest) ≡ Refuses TooWide (place t)
 types_full zero t rest e = refl
 types_full (suc room) t rest e = absurd (omega arith)
 
 pub types_more : (room : ℕ) (t : Sexpr) (rest : Sexprs) → room ≢ 0 → walk_types room (t ▹ rest)
-    ≡ followed_by (walk_type t) (λ type. followed_by (walk_types (room - 1) rest) (λ types. Reads (TypeThen type types)))
+    ≡ followed_by (walk_type t) (λ type. followed_by (walk_types (room - 1) rest)
+    (λ types. Reads (TypeThen type types)))
 types_more zero t rest e = absurd (e refl)
 types_more (suc room) t rest e =
     let same : room ≡ suc room - 1 = omega arith in
-    ap (λ n. followed_by (walk_type t) (λ type. followed_by (walk_types n rest) (λ types. Reads (TypeThen type types)))) same
+    ap (λ n. followed_by (walk_type t) (λ type. followed_by (walk_types n rest)
+    (λ types. Reads (TypeThen type types)))) same
 
 pub signature_end : (room : ℕ) (s : Sexpr) (rest : Sexprs) → is_arrow_at s ≡ true → walk_signature room (s ▹ rest)
     ≡ followed_by (walk_only (place s) rest) (λ result. Reads (record { parameters = NoTypes; result = result }))
@@ -326,7 +250,8 @@ signature_full (suc room) (number q n) rest e m = absurd (omega arith)
 signature_full (suc room) (truth_value q b) rest e m = absurd (omega arith)
 signature_full (suc room) (list q l) rest e m = absurd (omega arith)
 
-pub signature_next : (room : ℕ) (s : Sexpr) (rest : Sexprs) → is_arrow_at s ≡ false → walk_signature (suc room) (s ▹ rest)
+pub signature_next : (room : ℕ) (s : Sexpr) (rest : Sexprs) → is_arrow_at s ≡ false
+    → walk_signature (suc room) (s ▹ rest)
     ≡ followed_by (walk_type s) (λ type. followed_by (walk_signature room rest) (λ others.
     Reads (record { parameters = TypeThen type others.parameters; result = others.result })))
 signature_next room (word q Lambda) rest e = refl
@@ -356,7 +281,8 @@ pub signature_more : (room : ℕ) (s : Sexpr) (rest : Sexprs) → is_arrow_at s 
 signature_more zero s rest e m = absurd (m refl)
 signature_more (suc room) s rest e n =
     let same : room ≡ suc room - 1 = omega arith in
-    signature_next room s rest e ∙ ap (λ n. followed_by (walk_type s) (λ type. followed_by (walk_signature n rest) (λ others.
+    signature_next room s rest e ∙ ap (λ n. followed_by (walk_type s)
+    (λ type. followed_by (walk_signature n rest) (λ others.
     Reads (record { parameters = TypeThen type others.parameters; result = others.result })))) same
 
 pub ruleset walk_steps = (

@@ -1,39 +1,19 @@
 -- What the walk reads as a type is in the table.
-use Rattle.std.proofs.Common.{◌≡◌, ◌≤◌, ℕ, zero, suc, ◌+◌, Bool, true, false, List, Option, Some, None, refl, sym, ap, ◌∙◌, subst, arith}
+use Rattle.std.proofs.Common.{◌≡◌, ◌≤◌, ℕ, zero, suc, ◌+◌, Bool, true, false, List, Option, Some, None, refl, sym, ap}
+use Rattle.std.proofs.Common.{◌∙◌, subst, arith}
 use Rattle.grift_base.specs.declared.places.Pos.{Pos}
 use Rattle.grift_base.specs.declared.refusals.RefusalKind.TheVariants.{BadForm}
-use Rattle.surface_syntax.specs.Trees.{TypeExpr, TypeAt, FunType, TupleType, RefType, VectType, TypeExprs, TypeThen, NoTypes}
-use Rattle.surface_syntax.specs.declared.words.Word.TheVariants.{
-  Lambda,
-  Let,
-  Letrec,
-  If,
-  Begin,
-  And,
-  Or,
-  Repeat,
-  Tuple,
-  TupleProj,
-  Define,
-  Colon,
-  Arrow,
-  ReadInt,
-  Operator,
-}
-use Rattle.surface_syntax.specs.declared.words.TypeWord.TheVariants.{
-  Int,
-  Bool as BoolWord,
-  Unit as UnitWord,
-  Dyn,
-  Tuple as TupleWord,
-  Ref,
-  Vect,
-  Rec,
-}
+use Rattle.surface_syntax.specs.Trees.{TypeExpr, TypeAt, FunType, TupleType, RefType, VectType, TypeExprs, TypeThen}
+use Rattle.surface_syntax.specs.Trees.{NoTypes}
+use Rattle.surface_syntax.specs.declared.words.Word.TheVariants.{Lambda, Let, Letrec, If, Begin, And, Or, Repeat, Tuple}
+use Rattle.surface_syntax.specs.declared.words.Word.TheVariants.{TupleProj, Define, Colon, Arrow, ReadInt, Operator}
+use Rattle.surface_syntax.specs.declared.words.TypeWord.TheVariants.{Int, Bool as BoolWord, Unit as UnitWord, Dyn}
+use Rattle.surface_syntax.specs.declared.words.TypeWord.TheVariants.{Tuple as TupleWord, Ref, Vect, Rec}
 use Rattle.surface_syntax.specs.Marked.{Sexpr, Sexprs, number, truth_value, word, name, list, end, ◌▹◌, how_many}
 use Rattle.surface_syntax.specs.Walking.{Walked, Reads, Refuses, followed_by, give, test, is_arrow, is_some}
 use Rattle.surface_syntax.specs.Walk.{Signature, walk_type, walk_only, walk_types, walk_signature}
-use Rattle.surface_syntax.specs.Table.{IsType, is_int, is_bool, is_unit, is_dyn, is_empty, is_tuple, is_ref, is_vect, is_function, AreTypes, no_types, type_then, AreArrow, arrow_to, from_then}
+use Rattle.surface_syntax.specs.Table.{IsType, is_int, is_bool, is_unit, is_dyn, is_empty, is_tuple, is_ref, is_vect}
+use Rattle.surface_syntax.specs.Table.{is_function, AreTypes, no_types, type_then, AreArrow, arrow_to, from_then}
 use Rattle.surface_syntax.proofs.Binds.{parts_of, refused, read_is_one, test_holds}
 
 as_type : {s : Sexpr} {a b : TypeExpr} → IsType s a → Reads a ≡ Reads b → IsType s b
@@ -42,10 +22,12 @@ as_type {s = s} h e = subst (IsType s) (read_is_one e) h
 as_types : {ds : Sexprs} {a b : TypeExprs} → AreTypes ds a → Reads a ≡ Reads b → AreTypes ds b
 as_types {ds = ds} h e = subst (AreTypes ds) (read_is_one e) h
 
-as_arrow : {ds : Sexprs} {types : TypeExprs} {result : TypeExpr} {b : Signature} → AreArrow ds types result → Reads (record { parameters = types; result = result }) ≡ Reads b → AreArrow ds b.parameters b.result
+as_arrow : {ds : Sexprs} {types : TypeExprs} {result : TypeExpr} {b : Signature} → AreArrow ds types result
+    → Reads (record { parameters = types; result = result }) ≡ Reads b → AreArrow ds b.parameters b.result
 as_arrow {ds = ds} h e = subst (λ b. AreArrow ds b.parameters b.result) (read_is_one e) h
 
-tuple_of : (p q : Pos) (x : List ℕ) (parts : Sexprs) (types : TypeExprs) → is_some parts ≡ true → AreTypes parts types → how_many parts ≤ 8 → IsType (list p (name q x (Some TupleWord) ▹ parts)) (TypeAt p (TupleType types))
+tuple_of : (p q : Pos) (x : List ℕ) (parts : Sexprs) (types : TypeExprs) → is_some parts ≡ true → AreTypes parts types
+    → how_many parts ≤ 8 → IsType (list p (name q x (Some TupleWord) ▹ parts)) (TypeAt p (TupleType types))
 tuple_of p q x end types e h few = absurd cc
 tuple_of p q x (t ▹ rest) types e h few = is_tuple h few
 
@@ -98,7 +80,8 @@ mutual
       as_type (is_function h.0 h.1) two.2
   type_found s type e = absurd (refused e)
 
-  pub types_found : (ds : Sexprs) (room : ℕ) (types : TypeExprs) → walk_types room ds ≡ Reads types → AreTypes ds types × (how_many ds ≤ room)
+  pub types_found : (ds : Sexprs) (room : ℕ) (types : TypeExprs) → walk_types room ds ≡ Reads types
+      → AreTypes ds types × (how_many ds ≤ room)
   types_found end zero types e = (as_types no_types e, omega arith)
   types_found end (suc room) types e = (as_types no_types e, omega arith)
   types_found (t ▹ rest) zero types e = absurd (refused e)
@@ -114,7 +97,8 @@ mutual
   only_found p end type e = absurd (refused e)
   only_found p (t ▹ u ▹ rest) type e = absurd (refused e)
 
-  pub signature_found : (ds : Sexprs) (room : ℕ) (signature : Signature) → walk_signature room ds ≡ Reads signature → AreArrow ds signature.parameters signature.result × (how_many ds ≤ suc (suc room))
+  pub signature_found : (ds : Sexprs) (room : ℕ) (signature : Signature) → walk_signature room ds ≡ Reads signature
+      → AreArrow ds signature.parameters signature.result × (how_many ds ≤ suc (suc room))
   signature_found (word q Arrow ▹ rest) zero signature e =
       let one = parts_of e in
       let h = result_found q rest one.0 (only_found q rest one.0 one.1) in

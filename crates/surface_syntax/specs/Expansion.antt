@@ -6,77 +6,16 @@ use Rattle.grift_base.specs.Types.{IntRow, UnitRow, DynRow}
 use Rattle.surface_syntax.specs.declared.names.Ident.{Ident}
 use Rattle.surface_syntax.specs.declared.names.Ident.TheVariants.{Source, Fresh}
 use Rattle.surface_syntax.specs.declared.derived.LoopNames.{LoopNames}
-use Rattle.surface_syntax.specs.Trees.{
-  TypeExpr,
-  TypeAt,
-  BaseType,
-  Param,
-  Expr,
-  ExprAt,
-  IntNode,
-  BoolNode,
-  UnitNode,
-  NameNode,
-  LambdaNode,
-  CallNode,
-  LetNode,
-  LetrecNode,
-  IfNode,
-  BeginNode,
-  AscribeNode,
-  TupleNode,
-  ProjNode,
-  PrimNode,
-  LambdaExpr,
-  LambdaAt,
-  Exprs,
-  NoExprs,
-  ExprThen,
-  LetBindings,
-  NoLets,
-  LetThen,
-  LetrecMembers,
-  NoLetrecs,
-  LetrecThen,
-}
-use Rattle.surface_syntax.specs.Written.{
-  Form,
-  FormAt,
-  FormNode,
-  IntForm,
-  BoolForm,
-  UnitForm,
-  NameForm,
-  LambdaForm,
-  CallForm,
-  LetForm,
-  LetrecForm,
-  IfForm,
-  BeginForm,
-  AscribeForm,
-  AndForm,
-  OrForm,
-  RepeatForm,
-  RepeatIntoForm,
-  TupleForm,
-  ProjForm,
-  PrimForm,
-  LambdaWritten,
-  LambdaFrom,
-  Forms,
-  NoForms,
-  FormThen,
-  LetForms,
-  NoLetForms,
-  LetFormThen,
-  LetrecForms,
-  NoLetrecForms,
-  LetrecFormThen,
-  Top,
-  ExprTop,
-  ValueTop,
-  FunctionTop,
-}
+use Rattle.surface_syntax.specs.Trees.{TypeExpr, TypeAt, BaseType, Param, Expr, ExprAt, IntNode, BoolNode, UnitNode}
+use Rattle.surface_syntax.specs.Trees.{NameNode, LambdaNode, CallNode, LetNode, LetrecNode, IfNode, BeginNode}
+use Rattle.surface_syntax.specs.Trees.{AscribeNode, TupleNode, ProjNode, PrimNode, LambdaExpr, LambdaAt, Exprs, NoExprs}
+use Rattle.surface_syntax.specs.Trees.{ExprThen, LetBindings, NoLets, LetThen, LetrecMembers, NoLetrecs, LetrecThen}
+use Rattle.surface_syntax.specs.Written.{Form, FormAt, FormNode, IntForm, BoolForm, UnitForm, NameForm, LambdaForm}
+use Rattle.surface_syntax.specs.Written.{CallForm, LetForm, LetrecForm, IfForm, BeginForm, AscribeForm, AndForm, OrForm}
+use Rattle.surface_syntax.specs.Written.{RepeatForm, RepeatIntoForm, TupleForm, ProjForm, PrimForm, LambdaWritten}
+use Rattle.surface_syntax.specs.Written.{LambdaFrom, Forms, NoForms, FormThen, LetForms, NoLetForms, LetFormThen}
+use Rattle.surface_syntax.specs.Written.{LetrecForms, NoLetrecForms, LetrecFormThen, Top, ExprTop, ValueTop}
+use Rattle.surface_syntax.specs.Written.{FunctionTop}
 
 -- an answer that depends on how many fresh names there are, and how many there are then
 abbrev pub Naming : Type 0 → Type 0
@@ -136,14 +75,16 @@ loop_of p names a b others lambda arguments =
     (LetThen (Fresh names.start) (Some (int_at p)) a (LetThen (Fresh names.bound) (Some (int_at p)) b others))
     (one_expr (ExprAt p (LetrecNode
     (LetrecThen (Fresh names.function) None lambda NoLetrecs)
-    (one_expr (ExprAt p (CallNode (name_at p (Fresh names.function)) (ExprThen (name_at p (Fresh names.start)) arguments))))))))
+    (one_expr (ExprAt p (CallNode (name_at p (Fresh names.function))
+    (ExprThen (name_at p (Fresh names.start)) arguments))))))))
 
 -- `(lambda ([i : Int]) : Unit (if (< i E) (begin e (L (+ i 1))) ()))`
 abbrev pub counting : Pos → LoopNames → Ident → Expr → LambdaExpr
 counting p names i e =
     LambdaAt p (typed_param p i (int_at p) ∷ []) (Some (TypeAt p (BaseType UnitRow))) (one_expr
     (ExprAt p (IfNode (goes_on p i (Fresh names.bound))
-    (ExprAt p (BeginNode (two_exprs e (ExprAt p (CallNode (name_at p (Fresh names.function)) (one_expr (next_count p i)))))))
+    (ExprAt p (BeginNode (two_exprs e (ExprAt p
+    (CallNode (name_at p (Fresh names.function)) (one_expr (next_count p i)))))))
     (ExprAt p UnitNode))))
 
 -- `(lambda ([i : Int] [c : T]) : T (if (< i E) (L (+ i 1) e) c))`

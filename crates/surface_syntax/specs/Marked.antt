@@ -1,18 +1,8 @@
 -- S-expressions whose symbols are told apart, so that forms are known by pattern.
 use Rattle.std.specs.Prelude.{ℕ, suc, ℤ, Bool, List, Option, Some, None}
 use Rattle.grift_base.specs.declared.places.Pos.{Pos}
-use Rattle.sexpr_reader.specs.Datum.{
-  Datum,
-  Datums,
-  Leaf,
-  integer,
-  truth,
-  symbol,
-  leaf_datum,
-  list_datum,
-  no_datums,
-  datum_then,
-}
+use Rattle.sexpr_reader.specs.Datum.{Datum, Datums, Leaf, integer, truth, symbol, leaf_datum, list_datum, no_datums}
+use Rattle.sexpr_reader.specs.Datum.{datum_then}
 use Rattle.surface_syntax.specs.declared.words.Word.{Word}
 use Rattle.surface_syntax.specs.declared.words.TypeWord.{TypeWord}
 use Rattle.surface_syntax.specs.declared.words.Mark.{Mark}

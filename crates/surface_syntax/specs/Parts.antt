@@ -4,13 +4,8 @@ use Rattle.std.specs.Prelude.{ℕ, List, [], ◌∷◌, Option, Some, None}
 use Rattle.grift_base.specs.declared.places.Pos.{Pos}
 use Rattle.grift_base.specs.declared.refusals.RefusalKind.TheVariants.{BadForm}
 use Rattle.surface_syntax.specs.declared.type_forms.TypeHead.{TypeHead}
-use Rattle.surface_syntax.specs.declared.type_forms.TypeHead.TheVariants.{
-  Tuple as TupleHead,
-  Ref as RefHead,
-  Vect as VectHead,
-  Rec as RecHead,
-  Other,
-}
+use Rattle.surface_syntax.specs.declared.type_forms.TypeHead.TheVariants.{Tuple as TupleHead, Ref as RefHead}
+use Rattle.surface_syntax.specs.declared.type_forms.TypeHead.TheVariants.{Vect as VectHead, Rec as RecHead, Other}
 use Rattle.surface_syntax.specs.declared.words.TypeWord.{TypeWord}
 use Rattle.surface_syntax.specs.declared.words.TypeWord.TheVariants.{Tuple, Ref, Vect, Rec}
 use Rattle.surface_syntax.specs.declared.derived.Range.{Range as RustRange}
@@ -19,35 +14,11 @@ use Rattle.surface_syntax.specs.declared.exprs.Binding.{Binding as RustBinding, 
 use Rattle.surface_syntax.specs.declared.exprs.Member.{Member as RustMember, out-Member}
 use Rattle.surface_syntax.specs.declared.names.Ident.{Ident}
 use Rattle.surface_syntax.specs.Marked.{Sexpr, Sexprs, name, end, ◌▹◌}
-use Rattle.surface_syntax.specs.Trees.{
-  TypeExpr,
-  TypeAt,
-  FunType,
-  TupleType,
-  RefType,
-  VectType,
-  Expr,
-  ExprAt,
-  CallNode,
-  LambdaExpr,
-  Exprs,
-  ExprThen,
-  LetBindings,
-  LetThen,
-  LetrecMembers,
-  LetrecThen,
-}
+use Rattle.surface_syntax.specs.Trees.{TypeExpr, TypeAt, FunType, TupleType, RefType, VectType, Expr, ExprAt, CallNode}
+use Rattle.surface_syntax.specs.Trees.{LambdaExpr, Exprs, ExprThen, LetBindings, LetThen, LetrecMembers, LetrecThen}
 use Rattle.surface_syntax.specs.Walk.{Signature, Bound, walk_only, walk_types, walk_signature}
 use Rattle.surface_syntax.specs.Walking.{Walked, Reads, Refuses, followed_by, test, some, is_arrow}
-use Rattle.surface_syntax.specs.Pass.{
-  Parsing,
-  ParsedRange,
-  ◌>>=◌,
-  give,
-  refuse,
-  parse,
-  parse_within,
-}
+use Rattle.surface_syntax.specs.Pass.{Parsing, ParsedRange, ◌>>=◌, give, refuse, parse, parse_within}
 use Rattle.surface_syntax.specs.Views.{type_of, types_of, written_of, source_of, expr_of, lambda_of}
 
 abbrev pub signature_of : RustSignature → Signature

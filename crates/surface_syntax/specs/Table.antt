@@ -5,91 +5,20 @@ use Rattle.grift_base.specs.declared.operators.PrimOp.{PrimOp}
 use Rattle.grift_base.specs.Tables.{HasNoRepeats}
 use Rattle.grift_base.specs.Types.{IntRow, BoolRow, UnitRow, DynRow}
 use Rattle.surface_syntax.specs.declared.names.Ident.TheVariants.{Source}
-use Rattle.surface_syntax.specs.declared.words.Word.TheVariants.{
-  Lambda,
-  Let,
-  Letrec,
-  If,
-  Begin,
-  And,
-  Or,
-  Repeat,
-  Tuple,
-  TupleProj,
-  Colon,
-  Arrow,
-  Operator,
-}
+use Rattle.surface_syntax.specs.declared.words.Word.TheVariants.{Lambda, Let, Letrec, If, Begin, And, Or, Repeat, Tuple}
+use Rattle.surface_syntax.specs.declared.words.Word.TheVariants.{TupleProj, Colon, Arrow, Operator}
 use Rattle.surface_syntax.specs.declared.words.TypeWord.{TypeWord}
-use Rattle.surface_syntax.specs.declared.words.TypeWord.TheVariants.{
-  Int,
-  Bool as BoolWord,
-  Unit as UnitWord,
-  Dyn,
-  Tuple as TupleWord,
-  Ref,
-  Vect,
-}
+use Rattle.surface_syntax.specs.declared.words.TypeWord.TheVariants.{Int, Bool as BoolWord, Unit as UnitWord, Dyn}
+use Rattle.surface_syntax.specs.declared.words.TypeWord.TheVariants.{Tuple as TupleWord, Ref, Vect}
 use Rattle.surface_syntax.specs.Words.{operand_count}
-use Rattle.surface_syntax.specs.Marked.{
-  Sexpr,
-  Sexprs,
-  number,
-  truth_value,
-  word,
-  name,
-  list,
-  end,
-  ◌▹◌,
-  place,
-  how_many,
-}
-use Rattle.surface_syntax.specs.Trees.{
-  TypeExpr,
-  TypeAt,
-  BaseType,
-  FunType,
-  TupleType,
-  RefType,
-  VectType,
-  TypeExprs,
-  NoTypes,
-  TypeThen,
-  Param,
-}
-use Rattle.surface_syntax.specs.Written.{
-  Form,
-  FormAt,
-  IntForm,
-  BoolForm,
-  UnitForm,
-  NameForm,
-  LambdaForm,
-  CallForm,
-  LetForm,
-  LetrecForm,
-  IfForm,
-  BeginForm,
-  AscribeForm,
-  AndForm,
-  OrForm,
-  RepeatForm,
-  RepeatIntoForm,
-  TupleForm,
-  ProjForm,
-  PrimForm,
-  LambdaWritten,
-  LambdaFrom,
-  Forms,
-  NoForms,
-  FormThen,
-  LetForms,
-  NoLetForms,
-  LetFormThen,
-  LetrecForms,
-  NoLetrecForms,
-  LetrecFormThen,
-}
+use Rattle.surface_syntax.specs.Marked.{Sexpr, Sexprs, number, truth_value, word, name, list, end, ◌▹◌, place, how_many}
+use Rattle.surface_syntax.specs.Trees.{TypeExpr, TypeAt, BaseType, FunType, TupleType, RefType, VectType, TypeExprs}
+use Rattle.surface_syntax.specs.Trees.{NoTypes, TypeThen, Param}
+use Rattle.surface_syntax.specs.Written.{Form, FormAt, IntForm, BoolForm, UnitForm, NameForm, LambdaForm, CallForm}
+use Rattle.surface_syntax.specs.Written.{LetForm, LetrecForm, IfForm, BeginForm, AscribeForm, AndForm, OrForm}
+use Rattle.surface_syntax.specs.Written.{RepeatForm, RepeatIntoForm, TupleForm, ProjForm, PrimForm, LambdaWritten}
+use Rattle.surface_syntax.specs.Written.{LambdaFrom, Forms, NoForms, FormThen, LetForms, NoLetForms, LetFormThen}
+use Rattle.surface_syntax.specs.Written.{LetrecForms, NoLetrecForms, LetrecFormThen}
 
 -- ---- names
 
@@ -162,7 +91,8 @@ mutual
     call_row : {p : Pos} {f : Sexpr} {arguments : Sexprs} {function : Form} {forms : Forms}
         → IsForm f function → AreForms arguments forms → how_many arguments ≤ 6
         → IsForm (list p (f ▹ arguments)) (FormAt p (CallForm function forms))
-    let_row : {p q r : Pos} {bindings : Sexprs} {e : Sexpr} {rest : Sexprs} {xs : List (List ℕ)} {lets : LetForms} {body : Forms}
+    let_row : {p q r : Pos} {bindings : Sexprs} {e : Sexpr} {rest : Sexprs} {xs : List (List ℕ)} {lets : LetForms}
+        {body : Forms}
         → AreLets bindings xs lets → HasNoRepeats xs → AreForms (e ▹ rest) body
         → IsForm (list p (word q Let ▹ list r bindings ▹ e ▹ rest)) (FormAt p (LetForm lets body))
     letrec_row : {p q r : Pos} {bindings : Sexprs} {e : Sexpr} {rest : Sexprs} {xs : List (List ℕ)}
@@ -182,8 +112,10 @@ mutual
         → IsForm (list p (word q Or ▹ operands)) (FormAt p (OrForm forms))
     repeat_row : {p q r : Pos} {i a b e : Sexpr} {x : List ℕ} {first bound form : Form}
         → IsName i x → IsForm a first → IsForm b bound → IsForm e form
-        → IsForm (list p (word q Repeat ▹ list r (i ▹ a ▹ b ▹ end) ▹ e ▹ end)) (FormAt p (RepeatForm x first bound form))
-    repeat_into_row : {p q r : Pos} {i a b c e : Sexpr} {x y : List ℕ} {type : Option TypeExpr} {first bound start form : Form}
+        → IsForm (list p (word q Repeat ▹ list r (i ▹ a ▹ b ▹ end) ▹ e ▹ end))
+        (FormAt p (RepeatForm x first bound form))
+    repeat_into_row : {p q r : Pos} {i a b c e : Sexpr} {x y : List ℕ} {type : Option TypeExpr}
+        {first bound start form : Form}
         → IsName i x → IsForm a first → IsForm b bound → IsBinding c y type start → HasNoRepeats (x ∷ y ∷ [])
         → IsForm e form
         → IsForm (list p (word q Repeat ▹ list r (i ▹ a ▹ b ▹ end) ▹ c ▹ e ▹ end))

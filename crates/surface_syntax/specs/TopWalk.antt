@@ -6,19 +6,7 @@ use Rattle.surface_syntax.specs.declared.words.Word.TheVariants.{Lambda, Define,
 use Rattle.surface_syntax.specs.Trees.{TypeExpr}
 use Rattle.surface_syntax.specs.Marked.{Sexpr, Sexprs, word, list, end, ◌▹◌, place}
 use Rattle.surface_syntax.specs.Written.{Form, Top, ExprTop, ValueTop, FunctionTop}
-use Rattle.surface_syntax.specs.Walking.{
-  Walked,
-  Reads,
-  Refuses,
-  ◌>>=◌,
-  ◌>>◌,
-  give,
-  refuse,
-  test,
-  some,
-  colon,
-  binder,
-}
+use Rattle.surface_syntax.specs.Walking.{Walked, Reads, Refuses, ◌>>=◌, ◌>>◌, give, refuse, test, some, colon, binder}
 use Rattle.surface_syntax.specs.Walk.{walk, walk_type, walk_lambda}
 
 -- whether there is a body behind the parameters

@@ -6,34 +6,20 @@ use Rattle.surface_syntax.specs.declared.names.Ident.{Ident}
 use Rattle.surface_syntax.specs.declared.names.Ident.TheVariants.{Source, Fresh}
 use Rattle.surface_syntax.specs.declared.types.TypeExpr.{TypeExpr as RustType, out-TypeExpr}
 use Rattle.surface_syntax.specs.declared.types.TypeNode.{TypeNode as RustTypeNode}
-use Rattle.surface_syntax.specs.declared.types.TypeNode.TheVariants.{
-  Base,
-  Fun' as FunCase,
-  Tuple as TupleCase,
-  Ref' as RefCase,
-  Vect' as VectCase,
-}
+use Rattle.surface_syntax.specs.declared.types.TypeNode.TheVariants.{Base, Fun' as FunCase, Tuple as TupleCase}
+use Rattle.surface_syntax.specs.declared.types.TypeNode.TheVariants.{Ref' as RefCase, Vect' as VectCase}
 use Rattle.surface_syntax.specs.declared.types.TypeExprs.{TypeExprs as RustTypes}
 use Rattle.surface_syntax.specs.declared.types.TypeExprs.TheVariants.{Nil as NoRustTypes, Cons' as RustTypeThen}
 use Rattle.surface_syntax.specs.declared.types.Param.{Param as RustParam}
 use Rattle.surface_syntax.specs.declared.exprs.Expr.{Expr as RustExpr, out-Expr}
 use Rattle.surface_syntax.specs.declared.exprs.ExprNode.{ExprNode as RustNode}
-use Rattle.surface_syntax.specs.declared.exprs.ExprNode.TheVariants.{
-  Int as IntCase,
-  Bool as BoolCase,
-  Unit as UnitCase,
-  Name as NameCase,
-  Lambda' as LambdaCase,
-  Call' as CallCase,
-  Let as LetCase,
-  Letrec as LetrecCase,
-  If' as IfCase,
-  Begin as BeginCase,
-  Ascribe' as AscribeCase,
-  Tuple as TupleNodeCase,
-  Proj' as ProjCase,
-  Prim as PrimCase,
-}
+use Rattle.surface_syntax.specs.declared.exprs.ExprNode.TheVariants.{Int as IntCase, Bool as BoolCase, Unit as UnitCase}
+use Rattle.surface_syntax.specs.declared.exprs.ExprNode.TheVariants.{Name as NameCase, Lambda' as LambdaCase}
+use Rattle.surface_syntax.specs.declared.exprs.ExprNode.TheVariants.{Call' as CallCase, Let as LetCase}
+use Rattle.surface_syntax.specs.declared.exprs.ExprNode.TheVariants.{Letrec as LetrecCase, If' as IfCase}
+use Rattle.surface_syntax.specs.declared.exprs.ExprNode.TheVariants.{Begin as BeginCase, Ascribe' as AscribeCase}
+use Rattle.surface_syntax.specs.declared.exprs.ExprNode.TheVariants.{Tuple as TupleNodeCase, Proj' as ProjCase}
+use Rattle.surface_syntax.specs.declared.exprs.ExprNode.TheVariants.{Prim as PrimCase}
 use Rattle.surface_syntax.specs.declared.exprs.LambdaExpr.{LambdaExpr as RustLambda, out-LambdaExpr}
 use Rattle.surface_syntax.specs.declared.exprs.ExprList.{ExprList as RustExprs}
 use Rattle.surface_syntax.specs.declared.exprs.ExprList.TheVariants.{Nil as NoRustExprs, Cons' as RustExprThen}
@@ -41,48 +27,11 @@ use Rattle.surface_syntax.specs.declared.exprs.Bindings.{Bindings as RustBinding
 use Rattle.surface_syntax.specs.declared.exprs.Bindings.TheVariants.{Nil as NoRustBindings, Cons' as RustBindingThen}
 use Rattle.surface_syntax.specs.declared.exprs.Members.{Members as RustMembers}
 use Rattle.surface_syntax.specs.declared.exprs.Members.TheVariants.{Nil as NoRustMembers, Cons' as RustMemberThen}
-use Rattle.surface_syntax.specs.Trees.{
-  TypeExpr,
-  TypeNode,
-  TypeAt,
-  BaseType,
-  FunType,
-  TupleType,
-  RefType,
-  VectType,
-  TypeExprs,
-  NoTypes,
-  TypeThen,
-  Param,
-  Expr,
-  ExprAt,
-  ExprNode,
-  IntNode,
-  BoolNode,
-  UnitNode,
-  NameNode,
-  LambdaNode,
-  CallNode,
-  LetNode,
-  LetrecNode,
-  IfNode,
-  BeginNode,
-  AscribeNode,
-  TupleNode,
-  ProjNode,
-  PrimNode,
-  LambdaExpr,
-  LambdaAt,
-  Exprs,
-  NoExprs,
-  ExprThen,
-  LetBindings,
-  NoLets,
-  LetThen,
-  LetrecMembers,
-  NoLetrecs,
-  LetrecThen,
-}
+use Rattle.surface_syntax.specs.Trees.{TypeExpr, TypeNode, TypeAt, BaseType, FunType, TupleType, RefType, VectType}
+use Rattle.surface_syntax.specs.Trees.{TypeExprs, NoTypes, TypeThen, Param, Expr, ExprAt, ExprNode, IntNode, BoolNode}
+use Rattle.surface_syntax.specs.Trees.{UnitNode, NameNode, LambdaNode, CallNode, LetNode, LetrecNode, IfNode, BeginNode}
+use Rattle.surface_syntax.specs.Trees.{AscribeNode, TupleNode, ProjNode, PrimNode, LambdaExpr, LambdaAt, Exprs, NoExprs}
+use Rattle.surface_syntax.specs.Trees.{ExprThen, LetBindings, NoLets, LetThen, LetrecMembers, NoLetrecs, LetrecThen}
 
 abbrev mutual
   -- what a written type is
@@ -126,7 +75,8 @@ abbrev mutual
   node_of (BoolCase b) = BoolNode b
   node_of UnitCase = UnitNode
   node_of (NameCase x) = NameNode x
-  node_of (LambdaCase p params result body) = LambdaNode (LambdaAt p (params_of params) (written_of result) (exprs_of body))
+  node_of (LambdaCase p params result body) =
+      LambdaNode (LambdaAt p (params_of params) (written_of result) (exprs_of body))
   node_of (CallCase _ p function arguments) = CallNode (ExprAt p (node_of function)) (exprs_of arguments)
   node_of (LetCase bindings body) = LetNode (lets_of bindings) (exprs_of body)
   node_of (LetrecCase members body) = LetrecNode (letrecs_of members) (exprs_of body)
@@ -157,5 +107,6 @@ abbrev pub expr_of : RustExpr → Expr
 expr_of e = ExprAt (out-Expr e).pos (node_of (out-Expr e).node)
 
 abbrev pub lambda_of : RustLambda → LambdaExpr
-lambda_of l = LambdaAt (out-LambdaExpr l).pos (params_of (out-LambdaExpr l).params) (written_of (out-LambdaExpr l).result)
+lambda_of l =
+    LambdaAt (out-LambdaExpr l).pos (params_of (out-LambdaExpr l).params) (written_of (out-LambdaExpr l).result)
     (exprs_of (out-LambdaExpr l).body)

@@ -6,105 +6,21 @@ use Rattle.grift_base.specs.declared.operators.PrimOp.{PrimOp}
 use Rattle.grift_base.specs.Types.{IntRow, BoolRow, UnitRow, DynRow}
 use Rattle.surface_syntax.specs.declared.names.Ident.TheVariants.{Source}
 use Rattle.surface_syntax.specs.declared.words.Word.{Word}
-use Rattle.surface_syntax.specs.declared.words.Word.TheVariants.{
-  Lambda,
-  Let,
-  Letrec,
-  If,
-  Begin,
-  And,
-  Or,
-  Repeat,
-  Tuple,
-  TupleProj,
-  Colon,
-  Arrow,
-  Operator,
-}
-use Rattle.surface_syntax.specs.declared.words.TypeWord.TheVariants.{
-  Int,
-  Bool as BoolWord,
-  Unit as UnitWord,
-  Dyn,
-  Tuple as TupleWord,
-  Ref,
-  Vect,
-  Rec,
-}
+use Rattle.surface_syntax.specs.declared.words.Word.TheVariants.{Lambda, Let, Letrec, If, Begin, And, Or, Repeat, Tuple}
+use Rattle.surface_syntax.specs.declared.words.Word.TheVariants.{TupleProj, Colon, Arrow, Operator}
+use Rattle.surface_syntax.specs.declared.words.TypeWord.TheVariants.{Int, Bool as BoolWord, Unit as UnitWord, Dyn}
+use Rattle.surface_syntax.specs.declared.words.TypeWord.TheVariants.{Tuple as TupleWord, Ref, Vect, Rec}
 use Rattle.surface_syntax.specs.Words.{operand_count}
-use Rattle.surface_syntax.specs.Marked.{
-  Sexpr,
-  Sexprs,
-  number,
-  truth_value,
-  word,
-  name,
-  list,
-  end,
-  ◌▹◌,
-  place,
-  how_many,
-}
-use Rattle.surface_syntax.specs.Trees.{
-  TypeExpr,
-  TypeAt,
-  BaseType,
-  FunType,
-  TupleType,
-  RefType,
-  VectType,
-  TypeExprs,
-  NoTypes,
-  TypeThen,
-  Param,
-}
-use Rattle.surface_syntax.specs.Written.{
-  Form,
-  FormAt,
-  IntForm,
-  BoolForm,
-  UnitForm,
-  NameForm,
-  LambdaForm,
-  CallForm,
-  LetForm,
-  LetrecForm,
-  IfForm,
-  BeginForm,
-  AscribeForm,
-  AndForm,
-  OrForm,
-  RepeatForm,
-  RepeatIntoForm,
-  TupleForm,
-  ProjForm,
-  PrimForm,
-  LambdaWritten,
-  LambdaFrom,
-  Forms,
-  NoForms,
-  FormThen,
-  LetForms,
-  NoLetForms,
-  LetFormThen,
-  LetrecForms,
-  NoLetrecForms,
-  LetrecFormThen,
-}
-use Rattle.surface_syntax.specs.Walking.{
-  Walked,
-  Reads,
-  Refuses,
-  ◌>>=◌,
-  ◌>>◌,
-  give,
-  refuse,
-  test,
-  some,
-  colon,
-  binder,
-  is_arrow,
-}
+use Rattle.surface_syntax.specs.Marked.{Sexpr, Sexprs, number, truth_value, word, name, list, end, ◌▹◌, place, how_many}
+use Rattle.surface_syntax.specs.Trees.{TypeExpr, TypeAt, BaseType, FunType, TupleType, RefType, VectType, TypeExprs}
+use Rattle.surface_syntax.specs.Trees.{NoTypes, TypeThen, Param}
+use Rattle.surface_syntax.specs.Written.{Form, FormAt, IntForm, BoolForm, UnitForm, NameForm, LambdaForm, CallForm}
+use Rattle.surface_syntax.specs.Written.{LetForm, LetrecForm, IfForm, BeginForm, AscribeForm, AndForm, OrForm}
+use Rattle.surface_syntax.specs.Written.{RepeatForm, RepeatIntoForm, TupleForm, ProjForm, PrimForm, LambdaWritten}
+use Rattle.surface_syntax.specs.Written.{LambdaFrom, Forms, NoForms, FormThen, LetForms, NoLetForms, LetFormThen}
+use Rattle.surface_syntax.specs.Written.{LetrecForms, NoLetrecForms, LetrecFormThen}
+use Rattle.surface_syntax.specs.Walking.{Walked, Reads, Refuses, ◌>>=◌, ◌>>◌, give, refuse, test, some, colon, binder}
+use Rattle.surface_syntax.specs.Walking.{is_arrow}
 
 -- ---- types
 

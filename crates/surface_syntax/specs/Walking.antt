@@ -6,18 +6,7 @@ use Rattle.grift_base.specs.declared.places.Pos.{Pos}
 use Rattle.grift_base.specs.declared.refusals.RefusalKind.{RefusalKind}
 use Rattle.grift_base.specs.declared.refusals.RefusalKind.TheVariants.{BadForm, RepeatedName, TooWide, ReservedName}
 use Rattle.surface_syntax.specs.Words.{is_colon_word, is_arrow_word, is_lambda_word, is_define_word}
-use Rattle.surface_syntax.specs.Marked.{
-  Sexpr,
-  Sexprs,
-  number,
-  truth_value,
-  word,
-  name,
-  list,
-  end,
-  ◌▹◌,
-  place,
-}
+use Rattle.surface_syntax.specs.Marked.{Sexpr, Sexprs, number, truth_value, word, name, list, end, ◌▹◌, place}
 
 pub data Walked (A : Type 0) : Type 0 where
   Reads : A → Walked A

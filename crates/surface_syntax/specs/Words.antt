@@ -1,58 +1,16 @@
 -- The words that have a meaning in a source.
 use Rattle.std.specs.Prelude.{ℕ, Bool, true, false, cond, List, [], ◌∷◌, Option, Some, None, codes, bytes_eq}
 use Rattle.grift_base.specs.declared.operators.PrimOp.{PrimOp}
-use Rattle.grift_base.specs.declared.operators.PrimOp.TheVariants.{
-  Add,
-  Sub,
-  Mul,
-  Quot,
-  Rem,
-  Lt,
-  Le,
-  Eq,
-  Ge,
-  Gt,
-  Not,
-  PrintInt,
-  Newline,
-  ReadInt as ReadIntOperator,
-  MakeBox,
-  Unbox,
-  BoxSet,
-  MakeVector,
-  VectorRef,
-  VectorSet,
-  VectorLength,
-}
+use Rattle.grift_base.specs.declared.operators.PrimOp.TheVariants.{Add, Sub, Mul, Quot, Rem, Lt, Le, Eq, Ge, Gt, Not}
+use Rattle.grift_base.specs.declared.operators.PrimOp.TheVariants.{PrintInt, Newline, ReadInt as ReadIntOperator}
+use Rattle.grift_base.specs.declared.operators.PrimOp.TheVariants.{MakeBox, Unbox, BoxSet, MakeVector, VectorRef}
+use Rattle.grift_base.specs.declared.operators.PrimOp.TheVariants.{VectorSet, VectorLength}
 use Rattle.surface_syntax.specs.declared.words.Word.{Word}
-use Rattle.surface_syntax.specs.declared.words.Word.TheVariants.{
-  Lambda,
-  Let,
-  Letrec,
-  If,
-  Begin,
-  And,
-  Or,
-  Repeat,
-  Tuple,
-  TupleProj,
-  Define,
-  Colon,
-  Arrow,
-  ReadInt,
-  Operator,
-}
+use Rattle.surface_syntax.specs.declared.words.Word.TheVariants.{Lambda, Let, Letrec, If, Begin, And, Or, Repeat, Tuple}
+use Rattle.surface_syntax.specs.declared.words.Word.TheVariants.{TupleProj, Define, Colon, Arrow, ReadInt, Operator}
 use Rattle.surface_syntax.specs.declared.words.TypeWord.{TypeWord}
-use Rattle.surface_syntax.specs.declared.words.TypeWord.TheVariants.{
-  Int,
-  Bool as BoolWord,
-  Unit as UnitWord,
-  Dyn,
-  Tuple as TupleWord,
-  Ref,
-  Vect,
-  Rec,
-}
+use Rattle.surface_syntax.specs.declared.words.TypeWord.TheVariants.{Int, Bool as BoolWord, Unit as UnitWord, Dyn}
+use Rattle.surface_syntax.specs.declared.words.TypeWord.TheVariants.{Tuple as TupleWord, Ref, Vect, Rec}
 use Rattle.surface_syntax.specs.declared.words.Mark.{Mark}
 use Rattle.surface_syntax.specs.declared.words.Mark.TheVariants.{Reserved, Free}
 use Rattle.surface_syntax.specs.declared.words.TheConstants.{RESERVED_WORDS, TYPE_WORDS}

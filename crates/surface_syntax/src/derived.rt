@@ -4,8 +4,11 @@ ghost use Rattle.std.specs.Prelude.{◌≡◌, ◌∷◌, [], ℕ, List, IfOk, S
 ghost use Rattle.type_graph.specs.Rows.{row_of};
 ghost use Rattle.surface_syntax.specs.declared.names.Ident.TheVariants.{Source, Fresh};
 ghost use Rattle.surface_syntax.specs.Trees.{TypeAt, BaseType, ExprAt, PrimNode, IfNode, CallNode};
-ghost use Rattle.surface_syntax.specs.Expansion.{linked, one_expr, two_exprs, name_at, int_at, typed_param, goes_on, next_count, loop_of, counting, gathering, repeat_of, repeat_into_of, type_or_dyn};
-ghost use Rattle.surface_syntax.specs.Views.{type_of, written_of, param_of, expr_of, exprs_of, lets_of, lambda_of, source_of};
+ghost use Rattle.surface_syntax.specs.Expansion.{linked, one_expr, two_exprs, name_at, int_at, typed_param, goes_on};
+ghost use Rattle.surface_syntax.specs.Expansion.{next_count, loop_of, counting, gathering, repeat_of, repeat_into_of};
+ghost use Rattle.surface_syntax.specs.Expansion.{type_or_dyn};
+ghost use Rattle.surface_syntax.specs.Views.{type_of, written_of, param_of, expr_of, exprs_of, lets_of, lambda_of};
+ghost use Rattle.surface_syntax.specs.Views.{source_of};
 ghost use Rattle.surface_syntax.specs.Parts.{name_of_binding, type_of_binding, value_of_binding};
 
 use crate::exprs::{Binding, Bindings, Expr, ExprList, ExprNode, LambdaExpr, Member, Members};
@@ -125,7 +128,8 @@ fn operation(
     first: Expr,
     second: Expr,
 ) -> Result<Expr, OutOfMemory>
-    ensures { IfOk result (λ e. expr_of e ≡ ExprAt pos (PrimNode operator (two_exprs (expr_of first) (expr_of second)))) }
+    ensures { IfOk result (λ e. expr_of e ≡ ExprAt pos (PrimNode operator (two_exprs (expr_of first)
+        (expr_of second)))) }
 {
     let operands = two(alloc, first, second)?;
     Ok(Expr {
@@ -182,7 +186,8 @@ pub fn if_at(
     on_true: Expr,
     on_false: Expr,
 ) -> Result<Expr, OutOfMemory>
-    ensures { IfOk result (λ e. expr_of e ≡ ExprAt pos (IfNode (expr_of condition) (expr_of on_true) (expr_of on_false))) }
+    ensures { IfOk result (λ e. expr_of e ≡ ExprAt pos (IfNode (expr_of condition) (expr_of on_true)
+        (expr_of on_false))) }
 {
     let condition = boxed(alloc, condition)?;
     let on_true = boxed(alloc, on_true)?;
@@ -279,7 +284,8 @@ fn gathering(
     ty: &TypeExpr,
     body: Expr,
 ) -> Result<LambdaExpr, OutOfMemory>
-    ensures { IfOk result (λ l. lambda_of l ≡ gathering pos names (Source counter.now) (Source sum.now) (type_of ty.now) (expr_of body)) }
+    ensures { IfOk result (λ l. lambda_of l ≡ gathering pos names (Source counter.now) (Source sum.now)
+        (type_of ty.now) (expr_of body)) }
 {
     let next = two(alloc, next_count(alloc, pos, counter)?, body)?;
     let turn = call_at(alloc, pos, names.function, next)?;
@@ -306,7 +312,8 @@ fn loop_of(
     lambda: LambdaExpr,
     arguments: ExprList,
 ) -> Result<Expr, OutOfMemory>
-    ensures { IfOk result (λ e. expr_of e ≡ loop_of pos names (expr_of bounds.0) (expr_of bounds.1) (lets_of others) (lambda_of lambda) (exprs_of arguments)) }
+    ensures { IfOk result (λ e. expr_of e ≡ loop_of pos names (expr_of bounds.0) (expr_of bounds.1)
+        (lets_of others) (lambda_of lambda) (exprs_of arguments)) }
 {
     let start = boxed(alloc, fresh_at(pos, names.start))?;
     let call = call_at(
@@ -344,7 +351,8 @@ pub fn counted_loop(
     range: Range,
     body: Expr,
 ) -> Result<Expr, OutOfMemory>
-    ensures { IfOk result (λ e. expr_of e ≡ repeat_of pos names range.counter (expr_of range.first) (expr_of range.bound) (expr_of body)) }
+    ensures { IfOk result (λ e. expr_of e ≡ repeat_of pos names range.counter (expr_of range.first)
+        (expr_of range.bound) (expr_of body)) }
 {
     let lambda = counting(alloc, pos, names, &range.counter, body)?;
     loop_of(
@@ -378,7 +386,9 @@ pub fn gathering_loop(
     start: Binding,
     body: Expr,
 ) -> Result<Expr, OutOfMemory>
-    ensures { IfOk result (λ e. expr_of e ≡ repeat_into_of pos names (Fresh value) range.counter (expr_of range.first) (expr_of range.bound) (source_of (name_of_binding start)) (type_or_dyn pos (type_of_binding start)) (value_of_binding start) (expr_of body)) }
+    ensures { IfOk result (λ e. expr_of e ≡ repeat_into_of pos names (Fresh value) range.counter
+        (expr_of range.first) (expr_of range.bound) (source_of (name_of_binding start))
+        (type_or_dyn pos (type_of_binding start)) (value_of_binding start) (expr_of body)) }
 {
     let sum = bytes_of(alloc, &start.name)?;
     let ty = type_or_dyn(pos, start.ty);

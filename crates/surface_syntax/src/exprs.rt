@@ -196,7 +196,8 @@ impl ExprList {
     ghost use Rattle.surface_syntax.specs.Views.{expr_of, exprs_of};
     ghost use Rattle.surface_syntax.specs.Expansion.{chain_of};
 
-    // These operands of an `and`, where all are to hold, or of an `or`. A recursion along the list: there are eight at most.
+    // These operands of an `and`, where all are to hold, or of an `or`. A recursion along the list: there are
+    // eight at most.
     pub(crate) fn chain(self, alloc: Global, all: bool, pos: Pos) -> Result<Expr, OutOfMemory>
         ensures { IfOk result (λ e. expr_of e ≡ chain_of all pos (exprs_of self)) }
     {

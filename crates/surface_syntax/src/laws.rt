@@ -1,6 +1,7 @@
 // Laws about the definitions.
 
-ghost use Rattle.surface_syntax.specs.Laws.{ReadsEachForm, ReadsFormsAlone, FormsAreOne, ReadsEachProgram, ReadsProgramsAlone, ProgramsAreOne};
+ghost use Rattle.surface_syntax.specs.Laws.{ReadsEachForm, ReadsFormsAlone, FormsAreOne, ReadsEachProgram};
+ghost use Rattle.surface_syntax.specs.Laws.{ReadsProgramsAlone, ProgramsAreOne};
 
 /// The walk answers a form exactly where the table has one, and that one; no s-expression is two forms.
 pub fn the_walk_reads_the_table_of_forms()

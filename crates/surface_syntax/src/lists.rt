@@ -4,7 +4,8 @@
 ghost use Rattle.std.specs.Prelude.{◌≡◌, ◌==◌, ◌++◌, ◌∷◌, [], IfOk};
 ghost use Rattle.sexpr_reader.specs.View.{datum_of, datums_of};
 ghost use Rattle.surface_syntax.specs.Marked.{marked, all_marked, reserved_at, how_many};
-ghost use Rattle.surface_syntax.specs.Walking.{binder, colon, some, is_colon, is_arrow_at, is_lambda_at, is_define_at, is_arrow, is_result};
+ghost use Rattle.surface_syntax.specs.Walking.{binder, colon, some, is_colon, is_arrow_at, is_lambda_at};
+ghost use Rattle.surface_syntax.specs.Walking.{is_define_at, is_arrow, is_result};
 ghost use Rattle.surface_syntax.specs.Claims.{Answers};
 
 use crate::scopes::Scope;

@@ -41,7 +41,8 @@ fn typed_param(
     pos: Pos,
     elements: &SexpList,
 ) -> Result<Param, FrontFault>
-    ensures param { Answers result named_param_of (walk_param scope.old (list_at pos (all_marked (datums_of elements.now)))) }
+    ensures param { Answers result named_param_of (walk_param scope.old (list_at pos (all_marked (datums_of
+        elements.now)))) }
     ensures bound { IfOk result (λ param. scope.new ≡ scope.old ++ source_of param.name ∷ []) }
 {
     let SexpList::Cons(name, rest) = elements else {

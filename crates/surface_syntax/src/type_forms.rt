@@ -114,7 +114,8 @@ pub fn type_expr(alloc: Global, sexp: &Sexp) -> Result<TypeExpr, FrontFault>
 // What a list writes as a type.
 #[cycle(read_type)]
 fn type_list(alloc: Global, pos: Pos, elements: &SexpList) -> Result<TypeNode, FrontFault>
-    ensures { Answers result (λ node. TypeAt pos (type_node_of node)) (walk_type (list_at pos (all_marked (datums_of elements.now)))) }
+    ensures { Answers result (λ node. TypeAt pos (type_node_of node)) (walk_type (list_at pos (all_marked
+        (datums_of elements.now)))) }
 {
     let SexpList::Cons(head, _) = elements else {
         return Ok(TypeNode::Base(Row::Unit));
@@ -130,7 +131,8 @@ fn headed_type(
     head: TypeHead,
     elements: &SexpList,
 ) -> Result<TypeNode, FrontFault>
-    ensures { Answers result (λ node. TypeAt pos (type_node_of node)) (headed_type head pos (all_marked (datums_of elements.now))) }
+    ensures { Answers result (λ node. TypeAt pos (type_node_of node)) (headed_type head pos (all_marked
+        (datums_of elements.now))) }
 {
     let SexpList::Cons(_, rest) = elements else {
         return bad_form(pos);

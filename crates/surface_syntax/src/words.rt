@@ -1,7 +1,8 @@
 // The words that have a meaning in a source: one table of the reserved words, one of the operators, one of the types.
 
 ghost use Rattle.std.specs.Prelude.{◌≡◌};
-ghost use Rattle.surface_syntax.specs.Words.{operator_text, operand_count, first_with, mark_of, is_colon_word, is_arrow_word, is_lambda_word, is_define_word};
+ghost use Rattle.surface_syntax.specs.Words.{operator_text, operand_count, first_with, mark_of, is_colon_word};
+ghost use Rattle.surface_syntax.specs.Words.{is_arrow_word, is_lambda_word, is_define_word};
 
 use grift_base::operators::PrimOp;
 
