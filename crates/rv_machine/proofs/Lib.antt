@@ -4,3 +4,4 @@ pub mod Image
 pub mod Tabled
 pub mod Conditions
 pub mod Wrongs
+pub mod Public
