@@ -12,7 +12,8 @@ then_turn f g s t o (Next u) h e = h u e
 then_turn f g s t o (Stops halt) h e =
     let d : ◌≡◌ {A = Option Halt} (Some halt) None = ap (λ (p : State × Option Halt). p.1) e in cc
 
-pub later_turns_go_on_from_earlier_ones : (n m : ℕ) (s t : State) → run_of n s ≡ (t, None) → run_of (n + m) s ≡ run_of m t
+pub later_turns_go_on_from_earlier_ones : (n m : ℕ) (s t : State) → run_of n s ≡ (t, None) →
+    run_of (n + m) s ≡ run_of m t
 unfolding run_of
 later_turns_go_on_from_earlier_ones zero m s t e =
     let z : 0 + m ≡ m = omega arith in
@@ -53,15 +54,15 @@ stay_on : (n m : ℕ) (s t : State) (halt : Halt) (turn : Turn) →
 stay_on n m s t halt (Next u) ih e = ih u e
 stay_on n m s t halt (Stops h) ih e = e
 
-pub what_has_stopped_stays : (n m : ℕ) (s t : State) (halt : Halt) → n ≤ m → run_of n s ≡ (t, Some halt) →
+pub what_has_stopped_stays-stays : (n m : ℕ) (s t : State) (halt : Halt) → n ≤ m → run_of n s ≡ (t, Some halt) →
     run_of m s ≡ (t, Some halt)
 unfolding run_of
-what_has_stopped_stays zero m s t halt le e =
+what_has_stopped_stays-stays zero m s t halt le e =
     let d : ◌≡◌ {A = Option Halt} None (Some halt) = ap (λ (p : State × Option Halt). p.1) e in absurd
     (let f : ⊥ = cc in f)
-what_has_stopped_stays (suc n) zero s t halt le e = absurd (let f : ⊥ = omega arith in f)
-what_has_stopped_stays (suc n) (suc m) s t halt le e =
-    stay_on n m s t halt (turn_of s) (λ u h. what_has_stopped_stays n m u t halt (omega arith) h) e
+what_has_stopped_stays-stays (suc n) zero s t halt le e = absurd (let f : ⊥ = omega arith in f)
+what_has_stopped_stays-stays (suc n) (suc m) s t halt le e =
+    stay_on n m s t halt (turn_of s) (λ u h. what_has_stopped_stays-stays n m u t halt (omega arith) h) e
 
 some_inj : (a b : Halt) → ◌≡◌ {A = Option Halt} (Some a) (Some b) → a ≡ b
 some_inj a b e = cc
@@ -75,12 +76,14 @@ again_on n s t halt (Stops h) w ih e =
     let stop : h ≡ halt = some_inj h halt (ap (λ (p : State × Option Halt). p.1) e) in
     ap turn_of (sym same) ∙ w ∙ ap Stops stop
 
-pub stops_again : (n : ℕ) (s t : State) (halt : Halt) → run_of n s ≡ (t, Some halt) → turn_of t ≡ Stops halt
+pub what_has_stopped_stays-stops_again : (n : ℕ) (s t : State) (halt : Halt) → run_of n s ≡ (t, Some halt) →
+    turn_of t ≡ Stops halt
 unfolding run_of
-stops_again zero s t halt e =
+what_has_stopped_stays-stops_again zero s t halt e =
     let d : ◌≡◌ {A = Option Halt} None (Some halt) = ap (λ (p : State × Option Halt). p.1) e in absurd
     (let f : ⊥ = cc in f)
-stops_again (suc n) s t halt e = again_on n s t halt (turn_of s) refl (λ u h. stops_again n u t halt h) e
+what_has_stopped_stays-stops_again (suc n) s t halt e =
+    again_on n s t halt (turn_of s) refl (λ u h. what_has_stopped_stays-stops_again n u t halt h) e
 
 -- the run of the machine
 run_on : (n : ℕ) (s : State) (turn : Turn) → ((u : State) → run machine u n ≡ moment_of (run_of n u)) →
@@ -88,7 +91,7 @@ run_on : (n : ℕ) (s : State) (turn : Turn) → ((u : State) → run machine u 
 run_on n s (Next u) ih = ih u
 run_on n s (Stops halt) ih = refl
 
-pub run_is_its_turns : (n : ℕ) (s : State) → run machine s n ≡ moment_of (run_of n s)
+pub run_is_its_turns-states : (n : ℕ) (s : State) → run machine s n ≡ moment_of (run_of n s)
 unfolding run_of
-run_is_its_turns zero s = refl
-run_is_its_turns (suc n) s = run_on n s (turn_of s) (λ u. run_is_its_turns n u)
+run_is_its_turns-states zero s = refl
+run_is_its_turns-states (suc n) s = run_on n s (turn_of s) (λ u. run_is_its_turns-states n u)

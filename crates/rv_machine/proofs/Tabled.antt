@@ -17,17 +17,18 @@ fetched : (s : State) → IsFetched s (load_bytes 4 s.memory s.pc) →
 unfolding turn_of
 fetched s f = rw (in_code s.layout.code s.pc s.layout.region f.above f.below)
 
-pub turn_of_instruction : (s : State) (i : Inst) → IsFetched s (load_bytes 4 s.memory s.pc) →
+pub turn_goes_by_the_table-instruction : (s : State) (i : Inst) → IsFetched s (load_bytes 4 s.memory s.pc) →
     IsWordOf i (load_bytes 4 s.memory s.pc) → turn_of s ≡ act i s
-turn_of_instruction s i f w = fetched s f ∙ ap (λ o. act_if o s) (row_is_decoded (load_bytes 4 s.memory s.pc) f.fits i w)
+turn_goes_by_the_table-instruction s i f w =
+    fetched s f ∙ ap (λ o. act_if o s) (row_is_decoded (load_bytes 4 s.memory s.pc) f.fits i w)
 
 none_on : (word : ℕ) → word < 2 ^ 32 → ((i : Inst) → IsWordOf i word → ⊥) → (o : Option Inst) → decode_of word ≡ o →
     o ≡ None
 none_on word b h None e = refl
 none_on word b h (Some i) e = absurd (h i (decoded_is_row word b i e))
 
-pub turn_of_no_instruction : (s : State) → IsFetched s (load_bytes 4 s.memory s.pc) →
+pub turn_goes_by_the_table-undefined : (s : State) → IsFetched s (load_bytes 4 s.memory s.pc) →
     ((i : Inst) → IsWordOf i (load_bytes 4 s.memory s.pc) → ⊥) → turn_of s ≡ is_undefined s
-turn_of_no_instruction s f h =
+turn_goes_by_the_table-undefined s f h =
     fetched s f ∙ ap (λ o. act_if o s)
     (none_on (load_bytes 4 s.memory s.pc) f.fits h (decode_of (load_bytes 4 s.memory s.pc)) refl)

@@ -105,8 +105,8 @@ module _ {V W : Type 0} (first : Halt → Ending V) (second : Halt → Ending W)
     never_wrong_by s nw n w = nw n (wrong_both n s w)
 
 -- the readings that the project uses
-pub ending_reading : IsReading ending_of
-ending_reading = record {
+pub the_readings_take_faults_as_wrong-endings : IsReading ending_of
+the_readings_take_faults_as_wrong-endings = record {
   wrong = λ fault. refl;
   ended = λ verdict e. let f : ⊥ = cc in f;
   lacking = λ room e. let f : ⊥ = cc in f;
@@ -116,8 +116,9 @@ lack_is_verdict : (room : Room) → stop_of (Lacks room) ≡ Wrong → ⊥
 lack_is_verdict Region e = cc
 lack_is_verdict Stack e = cc
 
-pub stop_reading : IsReading stop_of
-stop_reading = record { wrong = λ fault. refl; ended = λ verdict e. let f : ⊥ = cc in f; lacking = lack_is_verdict }
+pub the_readings_take_faults_as_wrong-stops : IsReading stop_of
+the_readings_take_faults_as_wrong-stops =
+    record { wrong = λ fault. refl; ended = λ verdict e. let f : ⊥ = cc in f; lacking = lack_is_verdict }
 
 module _ {V W : Type 0} (first : Halt → Ending V) (second : Halt → Ending W)
     (f : IsReading first) (g : IsReading second) where

@@ -1,7 +1,7 @@
 -- The run of a code with marks, in a setting: where its items lie, and what an ECALL and an EBREAK do at each of them.
 -- Its state is that of the machine, with the pc at the address of an item.
-use Rattle.std.specs.Prelude.{ℕ, suc, ◌==◌, Bool, true, not, nat_lt, nat_le, ◌&&◌, if◌then◌else◌, List, [], ◌∷◌, Option}
-use Rattle.std.specs.Prelude.{Some, None}
+use Rattle.std.specs.Prelude.{ℕ, suc, ◌==◌, ◌%◌, ◌^◌, ◌<◌, ◌≡◌, Bool, true, false, not, nat_lt, nat_le, ◌&&◌}
+use Rattle.std.specs.Prelude.{if◌then◌else◌, List, [], ◌∷◌, Option, Some, None, slice_get}
 use Rattle.run_laws.specs.Runs.{Ending, Wrong}
 use Rattle.run_laws.specs.Machines.{Next as Step, Go, Stop, Machine}
 use Rattle.rv_isa.specs.declared.inst.Inst.{Inst}
@@ -29,7 +29,25 @@ pub record Setting : Type 0 where
 abbrev pub plain_setting : (ℕ → ℕ) → Setting
 plain_setting address = record { address = address; ecall = λ place. call_environment; ebreak = λ place. is_undefined }
 
+-- whether the item is a mark
+abbrev pub is_mark : RealItem → Bool
+is_mark (Mark mark) = true
+is_mark item = false
+
 -- ---- addresses
+
+-- what the addresses of a code's items have to be
+pub record AreAddresses (code : List RealItem) (address : ℕ → ℕ) : Type 0 where
+  pub aligned : (place : ℕ) → address place % 4 ≡ 0
+  pub small : (place : ℕ) → address place < 2 ^ 64
+  -- items that aren't marks have different ones
+  pub distinct : (i j : ℕ) (x y : RealItem) → slice_get code i ≡ Some x → slice_get code j ≡ Some y →
+      is_mark x ≡ false → is_mark y ≡ false → address i ≡ address j → i ≡ j
+
+-- no mark stands twice
+abbrev pub MarksStandOnce : List RealItem → Type 0
+MarksStandOnce code =
+    (i j mark : ℕ) → slice_get code i ≡ Some (Mark mark) → slice_get code j ≡ Some (Mark mark) → i ≡ j
 
 -- that of the first of these items, from a place on, that isn't a mark
 abbrev pub address_from : (ℕ → ℕ) → ℕ → List RealItem → Option ℕ
