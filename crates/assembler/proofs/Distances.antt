@@ -7,7 +7,7 @@ use Rattle.rv_isa.specs.Bits.{IsIn, IsEven}
 use Rattle.rv_isa.specs.declared.real.RealItem.{RealItem}
 use Rattle.rv_isa.specs.declared.real.RealItem.TheVariants.{Op, Mark, Jump, Branch, Address}
 use Rattle.assembler.specs.Layout.{longest, width, words_before, distance, is_near, widths_from, longest_widths, widths, mark_place, address_of}
-use Rattle.assembler.specs.Forms.{offset, target_of}
+use Rattle.assembler.specs.Expansion.{offset, target_of}
 use Rattle.assembler.specs.Tables.{Fits}
 use Rattle.assembler.proofs.Sums.{sum_cons}
 

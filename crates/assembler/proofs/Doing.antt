@@ -4,7 +4,7 @@ use Rattle.std.specs.Prelude.{ℤ, pos, negsuc, ◌==◌, ◌&&◌, not, nat_le,
 use Rattle.run_laws.specs.Runs.{Ending, Verdict, Exhausted, Wrong}
 use Rattle.run_laws.specs.Machines.{Next as Step, Go, Machine, Reaches, Alike, UnlessWrong}
 use Rattle.run_laws.specs.Meters.{metered, each_one, unspent, OnBudget, DoesOnBudget, CostSimulation}
-use Rattle.run_laws.proofs.Simulation.{by_step, reaches_weaken}
+use Rattle.run_laws.proofs.Public.{by_step, reaches_weaken}
 use Rattle.grift_base.specs.World.{WorldState}
 use Rattle.rv_isa.specs.declared.inst.Inst.{Inst}
 use Rattle.rv_isa.specs.declared.inst.Inst.TheVariants.{Jal, Jalr, Addi, Lui, Ecall, Ebreak}
@@ -18,17 +18,17 @@ use Rattle.rv_machine.specs.Registers.{set_reg}
 use Rattle.rv_machine.specs.State.{Layout, State, Halt, Turn, Next, Stops, reg}
 use Rattle.rv_machine.specs.Turn.{act, act_with, put, plus, subtract, half, branch_if, jump_and_link, next_pc}
 use Rattle.rv_machine.specs.Mach.{step_by}
-use Rattle.rv_machine.specs.Real.{Told, Here, mark_address, item_at, told_turn, told_machine, is_lost, needs_next, last_step, op_step, jump_step, holds, branch_step, address_step, item_step, step_here, real_machine}
-use Rattle.rv_machine.proofs.Conditions.{branch_tests}
+use Rattle.rv_machine.specs.Real.{Setting, Here, mark_address, item_at, turn_in, machine_in, is_lost, needs_next, last_step, op_step, jump_step, holds, branch_step, address_step, item_step, step_here, real_machine}
+use Rattle.rv_machine.proofs.Public.{a_condition_is_that_of_its_branch}
 use Rattle.assembler.specs.Layout.{longest_widths, is_near, mark_place, address_of, width}
-use Rattle.assembler.specs.Forms.{offset, opposite, far_insts, insts_of, target_of, item_insts}
+use Rattle.assembler.specs.Expansion.{offset, opposite, far_insts, insts_of, target_of, item_insts}
 use Rattle.assembler.specs.Conditions.{registers_named, IsPlaced, is_mark, CanBeAssembled}
-use Rattle.assembler.specs.Following.{IsLike, ComeToLike, LeavesCode, CanBeTold}
+use Rattle.assembler.specs.Following.{IsLike, ComeToLike, LeavesCode, CanBeCall}
 use Rattle.assembler.proofs.Distances.{lies_below}
 use Rattle.assembler.proofs.Finding.{drop_next, width_at, Found, found, address_next, next_address, mark_lies}
 use Rattle.assembler.proofs.Turns.{first, second, like_reg, like_set, like_act, leaves_act, plain_act}
 use Rattle.assembler.proofs.Scratch.{near_word_is}
-use Rattle.assembler.proofs.Standing.{calls, InCode, Stands, Intact, turn_told, turn_in, Within, pc_next, turn_within, puts, far}
+use Rattle.assembler.proofs.Standing.{calls, InCode, Stands, Intact, turn_of_call, turn_of_inst, Within, pc_next, turn_within, puts, far}
 use Rattle.assembler.proofs.Counting.{counted}
 
 -- ---- what the conditions say of the item at a place
@@ -83,18 +83,18 @@ unless (Verdict v) x = x
 unless Exhausted x = x
 unless Wrong x = tt
 
-module _ {V : Type 0} (ending : Halt → Ending V) (l : Layout) (m0 : Memory) (items : List RealItem) (ecall ebreak : ℕ → State → Turn) where
+module _ {V : Type 0} (reading : Halt → Ending V) (l : Layout) (m0 : Memory) (items : List RealItem) (ecall ebreak : ℕ → State → Turn) where
   abbrev address : ℕ → ℕ
   address = address_of items l.code
 
-  abbrev tell : Told
-  tell = record { address = address; ecall = ecall; ebreak = ebreak }
+  abbrev setting : Setting
+  setting = record { address = address; ecall = ecall; ebreak = ebreak }
 
   abbrev M : Machine State State V
-  M = real_machine ending items tell
+  M = real_machine reading items setting
 
   abbrev N : Machine State State V
-  N = told_machine ending items tell
+  N = machine_in reading items setting
 
   -- the code stands in m0
   pub record Prepared : Type 0 where
@@ -103,8 +103,8 @@ module _ {V : Type 0} (ending : Halt → Ending V) (l : Layout) (m0 : Memory) (i
     pub inside : (place : ℕ) → address place ≤ l.region
     pub words : (place : ℕ) (item : RealItem) (rest : List RealItem) → drop place items ≡ item ∷ rest → calls item ≡ false → Stands l m0 (address place) (item_insts items l.code place item)
     pub call : (place : ℕ) (item : RealItem) (rest : List RealItem) → drop place items ≡ item ∷ rest → calls item ≡ true → InCode l m0 (address place)
-    pub told_ecall : (place : ℕ) → CanBeTold (ecall place)
-    pub told_ebreak : (place : ℕ) → CanBeTold (ebreak place)
+    pub can_ecall : (place : ℕ) → CanBeCall (ecall place)
+    pub can_ebreak : (place : ℕ) → CanBeCall (ebreak place)
     pub can : CanBeAssembled items
 
   -- both have come to the same item
@@ -126,38 +126,38 @@ module _ {V : Type 0} (ending : Halt → Ending V) (l : Layout) (m0 : Memory) (i
       (k, inl h, reaches_weaken (metered each_one N) _ (λ u. Related s1 u.rest × (u.spent ≤ 12)) (OnBudget IsLike M N s s1 12) (λ u. Related s1 u.rest × (u.spent ≤ 12)) (λ u p. (inl (alike_of s u.rest p.0), p.1)) (λ u q. q) k (unspent t) (counted N (λ u. IsLike u s) (Related s1) 12 k 0 t (omega arith) r))
 
   -- one turn that comes to the same
-  does_turn : (x y : Turn) (s t : State) → ComeToLike x y → Related s t → told_turn items tell t ≡ x → LeavesCode t x → Sim s t (step_by ending s y)
+  does_turn : (x y : Turn) (s t : State) → ComeToLike x y → Related s t → turn_in items setting t ≡ x → LeavesCode t x → Sim s t (step_by reading s y)
   does_turn (Next t1) (Next s1) s t c r e k =
-      goes 1 s s1 t (omega arith) (omega arith) (by_step N (λ u. IsLike u s) (Related s1) 0 t (Go t1) (ap (step_by ending t) e) r.like (record {
+      goes 1 s s1 t (omega arith) (omega arith) (by_step N (λ u. IsLike u s) (Related s1) 0 t (Go t1) (ap (step_by reading t) e) r.like (record {
         like = c.0;
         pc = c.1;
         layout = k.0 ∙ r.layout;
         intact = λ at a b. k.1 at (rw r.layout a) (rw r.layout b) ∙ r.intact at a b;
       }))
   does_turn (Stops halt) (Stops other) s t c r e k =
-      unless (ending other) (0, ((inl (alike_of s t r.like), omega arith), (t, ap (step_by ending t) (e ∙ ap Stops c), alike_of s t r.like, omega arith)))
+      unless (reading other) (0, ((inl (alike_of s t r.like), omega arith), (t, ap (step_by reading t) (e ∙ ap Stops c), alike_of s t r.like, omega arith)))
   does_turn (Next t1) (Stops other) s t c r e k = absurd c
   does_turn (Stops halt) (Next s1) s t c r e k = absurd c
 
-  does_if : (lost : Bool) (x : Turn) (s s1 t : State) → ComeToLike x (Next s1) → Related s t → told_turn items tell t ≡ x → LeavesCode t x → Sim s t (if lost then is_lost s else Go s1)
+  does_if : (lost : Bool) (x : Turn) (s s1 t : State) → ComeToLike x (Next s1) → Related s t → turn_in items setting t ≡ x → LeavesCode t x → Sim s t (if lost then is_lost s else Go s1)
   does_if true x s s1 t c r e k = tt
   does_if false x s s1 t c r e k = does_turn x (Next s1) s t c r e k
 
-  does_last : (i : Inst) (x y : Turn) (s t : State) → ComeToLike x y → Related s t → told_turn items tell t ≡ x → LeavesCode t x → Sim s t (last_step ending i s y)
+  does_last : (i : Inst) (x y : Turn) (s t : State) → ComeToLike x y → Related s t → turn_in items setting t ≡ x → LeavesCode t x → Sim s t (last_step reading i s y)
   does_last i x (Next s1) s t c r e k = does_if (needs_next i s s1) x s s1 t c r e k
   does_last i x (Stops other) s t c r e k = does_turn x (Stops other) s t c r e k
 
   module _ (p : Prepared) where
     -- ---- instructions
 
-    op_turn : (place : ℕ) (i : Inst) (rest : List RealItem) (next : Option ℕ) → drop place items ≡ Op i ∷ rest → (t : State) → t.layout ≡ l → Intact l m0 t.memory → t.pc ≡ address place → item_at address items t.pc ≡ Some (record { place = place; item = Op i; next = next }) → told_turn items tell t ≡ act_with (ecall place) (ebreak place) i t
-    op_turn place Ecall rest next there t e h q k = turn_told l m0 items ecall ebreak t (record { place = place; item = Op Ecall; next = next }) (ecall place) e (subst (InCode l m0) (sym q) (p.call place (Op Ecall) rest there refl)) k refl
-    op_turn place Ebreak rest next there t e h q k = turn_told l m0 items ecall ebreak t (record { place = place; item = Op Ebreak; next = next }) (ebreak place) e (subst (InCode l m0) (sym q) (p.call place (Op Ebreak) rest there refl)) k refl
+    op_turn : (place : ℕ) (i : Inst) (rest : List RealItem) (next : Option ℕ) → drop place items ≡ Op i ∷ rest → (t : State) → t.layout ≡ l → Intact l m0 t.memory → t.pc ≡ address place → item_at address items t.pc ≡ Some (record { place = place; item = Op i; next = next }) → turn_in items setting t ≡ act_with (ecall place) (ebreak place) i t
+    op_turn place Ecall rest next there t e h q k = turn_of_call l m0 items ecall ebreak t (record { place = place; item = Op Ecall; next = next }) (ecall place) e (subst (InCode l m0) (sym q) (p.call place (Op Ecall) rest there refl)) k refl
+    op_turn place Ebreak rest next there t e h q k = turn_of_call l m0 items ecall ebreak t (record { place = place; item = Op Ebreak; next = next }) (ebreak place) e (subst (InCode l m0) (sym q) (p.call place (Op Ebreak) rest there refl)) k refl
     op_turn place i rest next there t e h q k =
-        turn_in l m0 items ecall ebreak place (Op i) rest there refl refl t i [] e h (omega (arith, q)) (omega (arith, q)) (subst (λ a. Stands l m0 a (i ∷ [])) (sym q) (p.words place (Op i) rest there refl)) ∙ plain_act (ecall place) (ebreak place) i refl t
+        turn_of_inst l m0 items ecall ebreak place (Op i) rest there refl refl t i [] e h (omega (arith, q)) (omega (arith, q)) (subst (λ a. Stands l m0 a (i ∷ [])) (sym q) (p.words place (Op i) rest there refl)) ∙ plain_act (ecall place) (ebreak place) i refl t
 
     leaves_op : (place : ℕ) (i : Inst) (t : State) → LeavesCode t (act_with (ecall place) (ebreak place) i t)
-    leaves_op place i t = leaves_act (ecall place) (ebreak place) (λ u. (p.told_ecall place).leaves u) (λ u. (p.told_ebreak place).leaves u) i t
+    leaves_op place i t = leaves_act (ecall place) (ebreak place) (λ u. (p.can_ecall place).leaves u) (λ u. (p.can_ebreak place).leaves u) i t
 
     abbrev at_pc : State → ℕ → State
     at_pc s n = record s { pc = n }
@@ -168,17 +168,17 @@ module _ {V : Type 0} (ending : Halt → Ending V) (l : Layout) (m0 : Memory) (i
     below : (place : ℕ) → address place < 2 ^ 62
     below place = let a = p.inside place in let b = p.small in omega arith
 
-    does_op : (place : ℕ) (i : Inst) (rest : List RealItem) (next : Option ℕ) → drop place items ≡ Op i ∷ rest → ((n : ℕ) → next ≡ Some n → n ≡ address (suc place)) → (s t : State) → Related s t → t.pc ≡ address place → item_at address items t.pc ≡ Some (record { place = place; item = Op i; next = next }) → Sim s t (op_step ending (ecall place) (ebreak place) i next s)
+    does_op : (place : ℕ) (i : Inst) (rest : List RealItem) (next : Option ℕ) → drop place items ≡ Op i ∷ rest → ((n : ℕ) → next ≡ Some n → n ≡ address (suc place)) → (s t : State) → Related s t → t.pc ≡ address place → item_at address items t.pc ≡ Some (record { place = place; item = Op i; next = next }) → Sim s t (op_step reading (ecall place) (ebreak place) i next s)
     does_op place i rest None there ok s t r q k =
         does_last i (act_with (ecall place) (ebreak place) i t) (act_with (ecall place) (ebreak place) i s) s t
-        (like_act (ecall place) (ebreak place) (p.told_ecall place) (p.told_ebreak place) i (all_at IsPlaced place items (Op i) rest p.can.placed there) (all_at (λ item. ¬ Contains (registers_named item) 31) place items (Op i) rest p.can.scratch there) t s r.like r.pc)
+        (like_act (ecall place) (ebreak place) (p.can_ecall place) (p.can_ebreak place) i (all_at IsPlaced place items (Op i) rest p.can.placed there) (all_at (λ item. ¬ Contains (registers_named item) 31) place items (Op i) rest p.can.scratch there) t s r.like r.pc)
         r (op_turn place i rest None there t r.layout r.intact q k) (leaves_op place i t)
     does_op place i rest (Some n) there ok s t r q k =
         let a : address (suc place) ≡ address place + 4 = address_next items l.code place (Op i) rest there in
         let m : subtract n 4 ≡ address place = four_less (address place) n (ok n refl ∙ a) (below place) in
         let s0 : State = at_pc s (subtract n 4) in
         does_turn (act_with (ecall place) (ebreak place) i t) (act_with (ecall place) (ebreak place) i s0) s t
-        (like_act (ecall place) (ebreak place) (p.told_ecall place) (p.told_ebreak place) i (all_at IsPlaced place items (Op i) rest p.can.placed there) (all_at (λ item. ¬ Contains (registers_named item) 31) place items (Op i) rest p.can.scratch there) t s0 (record { layout = r.like.layout; regs = r.like.regs; memory = r.like.memory; world = r.like.world }) (q ∙ sym m))
+        (like_act (ecall place) (ebreak place) (p.can_ecall place) (p.can_ebreak place) i (all_at IsPlaced place items (Op i) rest p.can.placed there) (all_at (λ item. ¬ Contains (registers_named item) 31) place items (Op i) rest p.can.scratch there) t s0 (record { layout = r.like.layout; regs = r.like.regs; memory = r.like.memory; world = r.like.world }) (q ∙ sym m))
         r (op_turn place i rest (Some n) there t r.layout r.intact q k) (leaves_op place i t)
 
     -- ---- the other items
@@ -221,7 +221,7 @@ module _ {V : Type 0} (ending : Halt → Ending V) (l : Layout) (m0 : Memory) (i
       -- the turn that ends the item: a register is set, and the run goes on at an address
       ends : (rd word to n : ℕ) (t : State) (i : Inst) (is : List Inst) → InItem n (i ∷ is) t → n < words_of → act i t ≡ Next (record t { regs = set_reg rd word t.regs; pc = to }) → Reaches N Way (Related (record s { regs = set_reg rd word s.regs; pc = to })) 1 t
       ends rd word to n t i is w h a =
-          by_step N Way (Related (record s { regs = set_reg rd word s.regs; pc = to })) 0 t (Go (record t { regs = set_reg rd word t.regs; pc = to })) (ap (step_by ending t) (turn_within l m0 items ecall ebreak place item rest there mark plain p.small s n t i is w h ∙ a)) w.like (record {
+          by_step N Way (Related (record s { regs = set_reg rd word s.regs; pc = to })) 0 t (Go (record t { regs = set_reg rd word t.regs; pc = to })) (ap (step_by reading t) (turn_within l m0 items ecall ebreak place item rest there mark plain p.small s n t i is w h ∙ a)) w.like (record {
             like = record { layout = w.like.layout; regs = like_set rd word t s w.like; memory = w.like.memory; world = w.like.world };
             pc = refl;
             layout = w.layout;
@@ -231,7 +231,7 @@ module _ {V : Type 0} (ending : Halt → Ending V) (l : Layout) (m0 : Memory) (i
       -- the turn that ends a branch
       passes : (to n : ℕ) (t : State) (i : Inst) (is : List Inst) → InItem n (i ∷ is) t → n < words_of → act i t ≡ Next (record t { pc = to }) → Reaches N Way (Related (record s { pc = to })) 1 t
       passes to n t i is w h a =
-          by_step N Way (Related (record s { pc = to })) 0 t (Go (record t { pc = to })) (ap (step_by ending t) (turn_within l m0 items ecall ebreak place item rest there mark plain p.small s n t i is w h ∙ a)) w.like (record {
+          by_step N Way (Related (record s { pc = to })) 0 t (Go (record t { pc = to })) (ap (step_by reading t) (turn_within l m0 items ecall ebreak place item rest there mark plain p.small s n t i is w h ∙ a)) w.like (record {
             like = record { layout = w.like.layout; regs = w.like.regs; memory = w.like.memory; world = w.like.world };
             pc = refl;
             layout = w.layout;
@@ -271,7 +271,7 @@ module _ {V : Type 0} (ending : Halt → Ending V) (l : Layout) (m0 : Memory) (i
             10,
             omega arith,
             omega arith,
-            far l m0 items ecall ebreak place jump rest there refl refl p.small s ending (Related jump_end) 1 0 (address (mark_place wanted items)) t (Jalr rd 31 (pos 0) ∷ []) small w (omega arith) (λ t1 w1 v.
+            far l m0 items ecall ebreak place jump rest there refl refl p.small s reading (Related jump_end) 1 0 (address (mark_place wanted items)) t (Jalr rd 31 (pos 0) ∷ []) small w (omega arith) (λ t1 w1 v.
                 let link : next_pc t1 ≡ address (suc place) = next_is place jump rest there refl refl s 9 t1 (Jalr rd 31 (pos 0)) [] w1 ∙ (let a = after_is place jump rest there refl refl s in omega arith) in
                 let to : plus (reg t1 31) (pos 0) - plus (reg t1 31) (pos 0) % 2 ≡ address (mark_place wanted items) = ap (λ x. plus x (pos 0) - plus x (pos 0) % 2) v ∙ (let d = divides (mark_place wanted items) in let c : plus (address (mark_place wanted items)) (pos 0) - plus (address (mark_place wanted items)) (pos 0) % 2 ≡ address (mark_place wanted items) = omega arith in c) in
                 ends place jump rest there refl refl s rd (address (suc place)) (address (mark_place wanted items)) 9 t1 (Jalr rd 31 (pos 0)) [] w1 (omega arith) (jump_to place jump rest there refl refl s rd _ (address (mark_place wanted items)) (address (suc place)) t1 to (divides (mark_place wanted items)) link)),
@@ -321,7 +321,7 @@ module _ {V : Type 0} (ending : Halt → Ending V) (l : Layout) (m0 : Memory) (i
 
       -- the turn of a branch instruction
       test_turn : (c : Cond) (off : ℤ) (t : State) (v : Bool) → IsLike t s → holds c (reg s a) (reg s b) ≡ v → act (branch_when c a b off) t ≡ branch_if v off t
-      test_turn c off t v k e = branch_tests c a b off t ∙ ap (λ x. branch_if x off t) (same_test c t k ∙ e)
+      test_turn c off t v k e = a_condition_is_that_of_its_branch c a b off t ∙ ap (λ x. branch_if x off t) (same_test c t k ∙ e)
 
       taken_turn : (off : ℤ) (to : ℕ) (t : State) → plus t.pc off ≡ to → to % 4 ≡ 0 → branch_if true off t ≡ Next (record t { pc = to })
       taken_turn off to t e z = rw (e, z) refl
@@ -376,8 +376,8 @@ module _ {V : Type 0} (ending : Halt → Ending V) (l : Layout) (m0 : Memory) (i
           let small : goal < 2 ^ 64 = let x = below (mark_place wanted items) in omega arith in
           let next : next_pc t ≡ address place + 4 * 0 + 4 = next_is place branch rest there refl refl s 0 t (branch_when (opposite cond) a b (pos 44)) jump_insts w in
           let t1 : State = record t { pc = next_pc t } in
-          by_step N (λ u. IsLike u s) (Related taken_end) 10 t (Go t1) (ap (step_by ending t) (turn_within l m0 items ecall ebreak place branch rest there refl refl p.small s 0 t (branch_when (opposite cond) a b (pos 44)) jump_insts w (omega arith) ∙ (test_turn (opposite cond) (pos 44) t false r.like (opposite_is true h) ∙ passed_turn (pos 44) (next_pc t) t refl))) r.like
-          (far l m0 items ecall ebreak place branch rest there refl refl p.small s ending (Related taken_end) 1 1 goal t1 (Jalr 0 31 (pos 0) ∷ []) small (record {
+          by_step N (λ u. IsLike u s) (Related taken_end) 10 t (Go t1) (ap (step_by reading t) (turn_within l m0 items ecall ebreak place branch rest there refl refl p.small s 0 t (branch_when (opposite cond) a b (pos 44)) jump_insts w (omega arith) ∙ (test_turn (opposite cond) (pos 44) t false r.like (opposite_is true h) ∙ passed_turn (pos 44) (next_pc t) t refl))) r.like
+          (far l m0 items ecall ebreak place branch rest there refl refl p.small s reading (Related taken_end) 1 1 goal t1 (Jalr 0 31 (pos 0) ∷ []) small (record {
             like = record { layout = r.like.layout; regs = r.like.regs; memory = r.like.memory; world = r.like.world };
             layout = r.layout;
             intact = r.intact;
@@ -434,8 +434,8 @@ module _ {V : Type 0} (ending : Halt → Ending V) (l : Layout) (m0 : Memory) (i
             3,
             omega arith,
             omega arith,
-            puts l m0 items ecall ebreak place item rest there refl refl p.small s ending (Related put_end) 2 0 v0 t (Lui 31 (word / 4096)) (Addi 31 31 (pos half_low) ∷ Addi rd 31 (pos half_low) ∷ []) w (omega arith) refl (λ t1 w1 e1.
-                puts l m0 items ecall ebreak place item rest there refl refl p.small s ending (Related put_end) 1 1 v1 t1 (Addi 31 31 (pos half_low)) (Addi rd 31 (pos half_low) ∷ []) w1 (omega arith) (ap (λ x. put 31 (plus x (pos half_low)) t1) e1) (λ t2 w2 e2.
+            puts l m0 items ecall ebreak place item rest there refl refl p.small s reading (Related put_end) 2 0 v0 t (Lui 31 (word / 4096)) (Addi 31 31 (pos half_low) ∷ Addi rd 31 (pos half_low) ∷ []) w (omega arith) refl (λ t1 w1 e1.
+                puts l m0 items ecall ebreak place item rest there refl refl p.small s reading (Related put_end) 1 1 v1 t1 (Addi 31 31 (pos half_low)) (Addi rd 31 (pos half_low) ∷ []) w1 (omega arith) (ap (λ x. put 31 (plus x (pos half_low)) t1) e1) (λ t2 w2 e2.
                 let link : next_pc t2 ≡ address (suc place) = next_is place item rest there refl refl s 2 t2 (Addi rd 31 (pos half_low)) [] w2 ∙ (let a = after_is place item rest there refl refl s in omega arith) in
                 let value : plus (reg t2 31) (pos half_low) ≡ word = ap (λ x. plus x (pos half_low)) e2 ∙ near_word_is word (near_target place rd wanted e) even in
                 ends place item rest there refl refl s rd word (address (suc place)) 2 t2 (Addi rd 31 (pos half_low)) [] w2 (omega arith) (put_turn _ (address (suc place)) t2 value link))),
@@ -447,7 +447,7 @@ module _ {V : Type 0} (ending : Halt → Ending V) (l : Layout) (m0 : Memory) (i
             10,
             omega arith,
             omega arith,
-            far l m0 items ecall ebreak place item rest there refl refl p.small s ending (Related put_end) 1 0 word t (Addi rd 31 (pos 0) ∷ []) small w (omega arith) (λ t1 w1 v.
+            far l m0 items ecall ebreak place item rest there refl refl p.small s reading (Related put_end) 1 0 word t (Addi rd 31 (pos 0) ∷ []) small w (omega arith) (λ t1 w1 v.
                 let link : next_pc t1 ≡ address (suc place) = next_is place item rest there refl refl s 9 t1 (Addi rd 31 (pos 0)) [] w1 ∙ (let a = after_is place item rest there refl refl s in omega arith) in
                 let value : plus (reg t1 31) (pos 0) ≡ word = ap (λ x. plus x (pos 0)) v ∙ (let c : plus word (pos 0) ≡ word = omega arith in c) in
                 ends place item rest there refl refl s rd word (address (suc place)) 9 t1 (Addi rd 31 (pos 0)) [] w1 (omega arith) (put_turn _ (address (suc place)) t1 value link)),
@@ -462,7 +462,7 @@ module _ {V : Type 0} (ending : Halt → Ending V) (l : Layout) (m0 : Memory) (i
 
     -- ---- all items
 
-    does_item : (place : ℕ) (item : RealItem) (rest : List RealItem) (next : Option ℕ) → drop place items ≡ item ∷ rest → ((n : ℕ) → next ≡ Some n → n ≡ address (suc place)) → (s t : State) → Related s t → t.pc ≡ address place → item_at address items t.pc ≡ Some (record { place = place; item = item; next = next }) → Sim s t (item_step ending items tell place next item s)
+    does_item : (place : ℕ) (item : RealItem) (rest : List RealItem) (next : Option ℕ) → drop place items ≡ item ∷ rest → ((n : ℕ) → next ≡ Some n → n ≡ address (suc place)) → (s t : State) → Related s t → t.pc ≡ address place → item_at address items t.pc ≡ Some (record { place = place; item = item; next = next }) → Sim s t (item_step reading items setting place next item s)
     does_item place (Op i) rest next there g s t r q k = does_op place i rest next there g s t r q k
     does_item place (Mark mark) rest next there g s t r q k = tt
     does_item place (Jump rd wanted) rest next there g s t r q k =
@@ -472,7 +472,7 @@ module _ {V : Type 0} (ending : Halt → Ending V) (l : Layout) (m0 : Memory) (i
     does_item place (Address rd wanted) rest next there g s t r q k =
         does_address place rd wanted rest there s (mark_address address items wanted) next (λ n e. mark_lies items l.code wanted n e) g t r q
 
-    does_here : (o : Option Here) (s t : State) → Related s t → item_at address items s.pc ≡ o → Sim s t (step_here ending items tell o s)
+    does_here : (o : Option Here) (s t : State) → Related s t → item_at address items s.pc ≡ o → Sim s t (step_here reading items setting o s)
     does_here None s t r k = tt
     does_here (Some here) s t r k =
         let f : Found items l.code s.pc here = found items l.code s.pc here k in

@@ -7,13 +7,13 @@ use Rattle.std.proofs.lemmas.Grind.{flat_map-append}
 use Rattle.std.proofs.Math.Seq.{take-append_seam}
 use Rattle.grift_base.specs.declared.places.Pos.{Pos}
 use Rattle.rv_machine.specs.Memory.{load_bytes, memory_of}
-use Rattle.rv_machine.proofs.Memory.{load_same}
+use Rattle.rv_machine.proofs.Public.{load_same}
 use Rattle.rv_machine.specs.Image.{IsImage, word_at, image_len, statics_len, code_len, label_count, entry, loaded_part, label_at, labels_from, labels_of}
 use Rattle.assembler.specs.Imaging.{word_bytes, half_bytes, label_bytes, header_bytes, code_bytes, image_bytes, AreSections}
 use Rattle.assembler.specs.Tables.{AreLabels}
 
 -- a word is the sum of its bytes
-word_sum : (n : ℕ) → n < 2 ^ 64 → load_bytes 8 (memory_of (word_bytes n)) 0 ≡ n
+pub word_sum : (n : ℕ) → n < 2 ^ 64 → load_bytes 8 (memory_of (word_bytes n)) 0 ≡ n
 unfolding load_bytes
 word_sum n h = omega arith
 
@@ -179,10 +179,10 @@ are_sections statics words labels few_statics few some labels_few =
     }
 
 -- the parts that are put together
-pub image_made : (statics code label_part : List ℕ) (labels : List Pos) (statics_size code_size label_count : ℕ) (header with_statics with_code bytes : List ℕ)
+pub bytes_put_together : (statics code label_part : List ℕ) (labels : List Pos) (statics_size code_size label_count : ℕ) (header with_statics with_code bytes : List ℕ)
     → header ≡ header_bytes statics_size code_size label_count → statics_size ≡ length statics → code_size ≡ length code → label_count ≡ length labels
     → with_statics ≡ header ++ statics → with_code ≡ with_statics ++ code → bytes ≡ with_code ++ label_part → label_part ≡ flat_map label_bytes labels → bytes ≡ image_bytes statics code labels
-image_made statics code label_part labels ls lc ll h a b d eh es ec el ea eb ed ep =
+bytes_put_together statics code label_part labels ls lc ll h a b d eh es ec el ea eb ed ep =
     let head : h ≡ header_bytes (length statics) (length code) (length labels) =
     eh ∙ ap (λ n. header_bytes n lc ll) es ∙ ap (λ n. header_bytes (length statics) n ll) ec ∙ ap (λ n. header_bytes (length statics) (length code) n) el in
     ed ∙ ap (λ xs. xs ++ label_part) (eb ∙ ap (λ xs. xs ++ code) (ea ∙ ap (λ xs. xs ++ statics) head))
@@ -191,9 +191,9 @@ image_made statics code label_part labels ls lc ll h a b d eh es ec el ea eb ed 
 -- one label more
 pub labels_more : (labels : List Pos) (k : ℕ) (d : Pos) (old new : List ℕ) → k < length labels → new ≡ old ++ label_bytes (get_or labels k d) → ((get_or labels k d).line < 2 ^ 32) × ((get_or labels k d).col < 2 ^ 32) → old ≡ flat_map label_bytes (take k labels) → AreLabels (take k labels)
     → (new ≡ flat_map label_bytes (take (k + 1) labels)) × AreLabels (take (k + 1) labels)
-labels_more labels k d old new h made small before all =
+labels_more labels k d old new h grown small before all =
     let label : Pos = get_or labels k d in
     let more : take (k + 1) labels ≡ take k labels ++ label ∷ [] = take_more labels k d h in (
-      made ∙ ap (λ xs. xs ++ label_bytes label) before ∙ sym (flat_map-append label_bytes (take k labels) (label ∷ [])) ∙ ap (flat_map label_bytes) (sym more),
+      grown ∙ ap (λ xs. xs ++ label_bytes label) before ∙ sym (flat_map-append label_bytes (take k labels) (label ∷ [])) ∙ ap (flat_map label_bytes) (sym more),
       subst AreLabels (sym more) (All-push (λ (x : Pos). (x.line < 2 ^ 32) × (x.col < 2 ^ 32)) (take k labels) label all small),
     )

@@ -9,10 +9,10 @@ use Rattle.rv_isa.specs.Encoding.{encode_of}
 use Rattle.rv_machine.specs.Memory.{Memory, load_bytes}
 use Rattle.rv_machine.specs.State.{Layout}
 use Rattle.assembler.specs.Layout.{words_before, widths_from, longest_widths}
-use Rattle.assembler.specs.Forms.{item_insts, insts_from}
+use Rattle.assembler.specs.Expansion.{item_insts, insts_from}
 use Rattle.assembler.specs.Imaging.{half_bytes, inst_words}
 use Rattle.assembler.specs.Encoded.{AllDecode}
-use Rattle.assembler.proofs.Words.{item_long_at}
+use Rattle.assembler.proofs.Insts.{item_long_at}
 use Rattle.assembler.proofs.Finding.{head_of, width_at}
 use Rattle.assembler.proofs.Standing.{Stands}
 

@@ -2,7 +2,7 @@
 use Rattle.std.proofs.Common.{ℕ, ◌+◌, ◌*◌, ◌/◌, ◌%◌, ◌^◌, ◌<◌, ◌≡◌, ◌⊎◌, inl, inr, ⊎_elim, ◌∙◌, ap, arith}
 use Rattle.std.specs.Prelude.{pos}
 use Rattle.rv_machine.specs.Turn.{half, plus, shift_left, shift_right}
-use Rattle.assembler.specs.Forms.{chunk_of}
+use Rattle.assembler.specs.Expansion.{chunk_of}
 
 -- what is in x31 after the first two instructions
 abbrev pub high_part : ℕ → ℕ

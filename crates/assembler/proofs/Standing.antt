@@ -2,7 +2,7 @@
 use Rattle.std.proofs.Common.{ℕ, suc, ◌+◌, ◌*◌, ◌/◌, ◌^◌, ◌<◌, ◌≤◌, ◌≡◌, ◌≢◌, Bool, true, false, List, [], ◌∷◌, ◌++◌, drop, Option, Some, None, refl, sym, ◌∙◌, ap, subst, arith}
 use Rattle.std.specs.Prelude.{pos, ◌==◌, ◌&&◌, nat_le, nat_lt}
 use Rattle.run_laws.specs.Machines.{Go, Reaches}
-use Rattle.run_laws.proofs.Simulation.{by_step}
+use Rattle.run_laws.proofs.Public.{by_step}
 use Rattle.rv_isa.specs.declared.inst.Inst.{Inst}
 use Rattle.rv_isa.specs.declared.inst.Inst.TheVariants.{Lui, Addi, Slli, Srli, Ecall, Ebreak}
 use Rattle.rv_isa.specs.declared.real.RealItem.{RealItem}
@@ -14,10 +14,10 @@ use Rattle.rv_machine.specs.State.{Layout, State, Halt, Turn, reg}
 use Rattle.rv_machine.specs.Turn.{act, act_if, put, plus, half, shift_left, shift_right, next_pc}
 use Rattle.rv_machine.specs.Mach.{step_by}
 use Rattle.run_laws.specs.Runs.{Ending}
-use Rattle.rv_machine.specs.Real.{Told, Here, item_at, told_item, told_here, told_or_fetched, told_turn, told_machine}
-use Rattle.rv_machine.proofs.Memory.{load_same}
+use Rattle.rv_machine.specs.Real.{Setting, Here, item_at, call_of_item, call_here, call_or_fetched, turn_in, machine_in}
+use Rattle.rv_machine.proofs.Public.{load_same}
 use Rattle.assembler.specs.Layout.{address_of}
-use Rattle.assembler.specs.Forms.{chunk_of, far_insts}
+use Rattle.assembler.specs.Expansion.{chunk_of, far_insts}
 use Rattle.assembler.specs.Conditions.{is_mark}
 use Rattle.assembler.specs.Following.{IsLike}
 use Rattle.assembler.proofs.Finding.{head_of, width_at, Found, found, same_place}
@@ -32,17 +32,17 @@ calls item = false
 true_is_not_false : true ≡ false → ⊥
 true_is_not_false e = cc
 
-not_told_op : (told : Told) (place : ℕ) (i : Inst) → is_call i ≡ false → told_item told place (Op i) ≡ None
-not_told_op told place Ecall c = absurd (true_is_not_false c)
-not_told_op told place Ebreak c = absurd (true_is_not_false c)
-not_told_op told place _ c = refl
+no_call_op : (setting : Setting) (place : ℕ) (i : Inst) → is_call i ≡ false → call_of_item setting place (Op i) ≡ None
+no_call_op setting place Ecall c = absurd (true_is_not_false c)
+no_call_op setting place Ebreak c = absurd (true_is_not_false c)
+no_call_op setting place _ c = refl
 
-pub not_told_item : (told : Told) (place : ℕ) (item : RealItem) → calls item ≡ false → told_item told place item ≡ None
-not_told_item told place (Mark mark) c = refl
-not_told_item told place (Jump rd mark) c = refl
-not_told_item told place (Branch cond a b mark) c = refl
-not_told_item told place (Address rd mark) c = refl
-not_told_item told place (Op i) c = not_told_op told place i c
+pub no_call_item : (setting : Setting) (place : ℕ) (item : RealItem) → calls item ≡ false → call_of_item setting place item ≡ None
+no_call_item setting place (Mark mark) c = refl
+no_call_item setting place (Jump rd mark) c = refl
+no_call_item setting place (Branch cond a b mark) c = refl
+no_call_item setting place (Address rd mark) c = refl
+no_call_item setting place (Op i) c = no_call_op setting place i c
 
 module _ (l : Layout) (m0 : Memory) where
   -- the word lies in code
@@ -68,34 +68,34 @@ module _ (l : Layout) (m0 : Memory) where
     abbrev pub address : ℕ → ℕ
     address = address_of items l.code
 
-    abbrev pub told : Told
-    told = record { address = address; ecall = ecall; ebreak = ebreak }
+    abbrev pub setting : Setting
+    setting = record { address = address; ecall = ecall; ebreak = ebreak }
 
-    turn_known : (t : State) (o : Option (State → Turn)) → t.layout ≡ l → InCode t.pc → told_here told (item_at address items t.pc) ≡ o → told_turn items told t ≡ told_or_fetched o t
-    unfolding told_turn
+    turn_known : (t : State) (o : Option (State → Turn)) → t.layout ≡ l → InCode t.pc → call_here setting (item_at address items t.pc) ≡ o → turn_in items setting t ≡ call_or_fetched o t
+    unfolding turn_in
     turn_known t o e h k =
         let above : t.layout.code ≤ t.pc = rw e h.0 in
         let below : t.pc < t.layout.region = let a = h.1 in rw e (omega arith) in
         rw (in_code t.layout.code t.pc t.layout.region above below, k) refl
 
     -- an item that begins here
-    pub turn_told : (t : State) (here : Here) (does : State → Turn) → t.layout ≡ l → InCode t.pc → item_at address items t.pc ≡ Some here → told_item told here.place here.item ≡ Some does → told_turn items told t ≡ does t
-    turn_told t here does e h k d = turn_known t (Some does) e h (ap (told_here told) k ∙ d)
+    pub turn_of_call : (t : State) (here : Here) (does : State → Turn) → t.layout ≡ l → InCode t.pc → item_at address items t.pc ≡ Some here → call_of_item setting here.place here.item ≡ Some does → turn_in items setting t ≡ does t
+    turn_of_call t here does e h k d = turn_known t (Some does) e h (ap (call_here setting) k ∙ d)
 
     module _ (place : ℕ) (item : RealItem) (rest : List RealItem) (there : drop place items ≡ item ∷ rest) (m : is_mark item ≡ false) (c : calls item ≡ false) where
-      not_told_at : (x : ℕ) (o : Option Here) → item_at address items x ≡ o → address place ≤ x → x < address place + 4 * width_at items l.code place item → told_here told o ≡ None
-      not_told_at x None k a b = refl
-      not_told_at x (Some here) k a b =
+      no_call_within : (x : ℕ) (o : Option Here) → item_at address items x ≡ o → address place ≤ x → x < address place + 4 * width_at items l.code place item → call_here setting o ≡ None
+      no_call_within x None k a b = refl
+      no_call_within x (Some here) k a b =
           let f : Found items l.code x here = found items l.code x here k in
           let at = f.address in
           let p : place ≡ here.place = same_place items l.code place here.place item here.item rest f.rest there f.stands m f.item (omega arith) (omega arith) in
           let same : drop place items ≡ here.item ∷ f.rest = ap (λ n. drop n items) p ∙ f.stands in
           let i : item ≡ here.item = head_of item here.item rest f.rest (sym there ∙ same) in
-          ap (λ x1. told_item told here.place x1) (sym i) ∙ not_told_item told here.place item c
+          ap (λ x1. call_of_item setting here.place x1) (sym i) ∙ no_call_item setting here.place item c
 
-      pub turn_in : (t : State) (i : Inst) (is : List Inst) → t.layout ≡ l → Intact t.memory → address place ≤ t.pc → t.pc < address place + 4 * width_at items l.code place item → Stands t.pc (i ∷ is) → told_turn items told t ≡ act i t
-      turn_in t i is e h a b s =
-          turn_known t None e s.1 (not_told_at t.pc (item_at address items t.pc) refl a b) ∙ ap (λ o. act_if o t) (ap decode_of (same_word t.memory t.pc h s.1) ∙ s.0)
+      pub turn_of_inst : (t : State) (i : Inst) (is : List Inst) → t.layout ≡ l → Intact t.memory → address place ≤ t.pc → t.pc < address place + 4 * width_at items l.code place item → Stands t.pc (i ∷ is) → turn_in items setting t ≡ act i t
+      turn_of_inst t i is e h a b s =
+          turn_known t None e s.1 (no_call_within t.pc (item_at address items t.pc) refl a b) ∙ ap (λ o. act_if o t) (ap decode_of (same_word t.memory t.pc h s.1) ∙ s.0)
 
       -- so many words of the item are done, and nothing but x31 has changed; these instructions are left
       pub record Within (s : State) (n : ℕ) (is : List Inst) (t : State) : Type 0 where
@@ -109,23 +109,23 @@ module _ (l : Layout) (m0 : Memory) where
         pub pc_next : (n : ℕ) (t : State) (i : Inst) (is : List Inst) → Within s n (i ∷ is) t → next_pc t ≡ t.pc + 4
         pc_next n t i is w = let a = w.code.1.1 in omega arith
 
-        pub turn_within : (n : ℕ) (t : State) (i : Inst) (is : List Inst) → Within s n (i ∷ is) t → n < width_at items l.code place item → told_turn items told t ≡ act i t
-        turn_within n t i is w h = let p = w.pc in turn_in t i is w.layout w.intact (omega arith) (omega arith) w.code
+        pub turn_within : (n : ℕ) (t : State) (i : Inst) (is : List Inst) → Within s n (i ∷ is) t → n < width_at items l.code place item → turn_in items setting t ≡ act i t
+        turn_within n t i is w h = let p = w.pc in turn_of_inst t i is w.layout w.intact (omega arith) (omega arith) w.code
 
         set_scratch : (v : ℕ) (t : State) (r : ℕ) → r ≢ 31 → set_reg 31 v t.regs r ≡ t.regs r
         set_scratch v t r h = let e : (r == 31) ≡ false = grind arith in rw e refl
 
-        module _ {V : Type 0} (ending : Halt → Ending V) (Q : State → Type 0) where
+        module _ {V : Type 0} (reading : Halt → Ending V) (Q : State → Type 0) where
           abbrev Way : State → Type 0
           Way t = IsLike t s
 
           -- one turn that changes x31
-          pub puts : (k n v : ℕ) (t : State) (i : Inst) (is : List Inst) → Within s n (i ∷ is) t → n < width_at items l.code place item → act i t ≡ put 31 v t → ((t1 : State) → Within s (suc n) is t1 → reg t1 31 ≡ v → Reaches (told_machine ending items told) Way Q k t1) → Reaches (told_machine ending items told) Way Q (suc k) t
+          pub puts : (k n v : ℕ) (t : State) (i : Inst) (is : List Inst) → Within s n (i ∷ is) t → n < width_at items l.code place item → act i t ≡ put 31 v t → ((t1 : State) → Within s (suc n) is t1 → reg t1 31 ≡ v → Reaches (machine_in reading items setting) Way Q k t1) → Reaches (machine_in reading items setting) Way Q (suc k) t
           puts k n v t i is w h a go =
               let t1 : State = record t { regs = set_reg 31 v t.regs; pc = next_pc t } in
               let p = w.pc in
               let q = pc_next n t i is w in
-              by_step (told_machine ending items told) Way Q k t (Go t1) (ap (step_by ending t) (turn_within n t i is w h ∙ a)) w.like
+              by_step (machine_in reading items setting) Way Q k t (Go t1) (ap (step_by reading t) (turn_within n t i is w h ∙ a)) w.like
               (go t1 (record {
                 like = record { layout = w.like.layout; regs = λ r z. set_scratch v t r z ∙ w.like.regs r z; memory = w.like.memory; world = w.like.world };
                 layout = w.layout;
@@ -138,7 +138,7 @@ module _ (l : Layout) (m0 : Memory) where
           nine n is t w = let e : suc (suc (suc (suc (suc (suc (suc (suc (suc n)))))))) ≡ n + 9 = omega arith in subst (λ x. Within s x is t) e w
 
           -- the nine instructions that put a word into x31
-          pub far : (k n word : ℕ) (t : State) (is : List Inst) → word < 2 ^ 64 → Within s n (far_insts word ++ is) t → n + 9 ≤ width_at items l.code place item → ((t1 : State) → Within s (n + 9) is t1 → reg t1 31 ≡ word → Reaches (told_machine ending items told) Way Q k t1) → Reaches (told_machine ending items told) Way Q (suc (suc (suc (suc (suc (suc (suc (suc (suc k))))))))) t
+          pub far : (k n word : ℕ) (t : State) (is : List Inst) → word < 2 ^ 64 → Within s n (far_insts word ++ is) t → n + 9 ≤ width_at items l.code place item → ((t1 : State) → Within s (n + 9) is t1 → reg t1 31 ≡ word → Reaches (machine_in reading items setting) Way Q k t1) → Reaches (machine_in reading items setting) Way Q (suc (suc (suc (suc (suc (suc (suc (suc (suc k))))))))) t
           far k n word t is h w room go =
               let v2 : ℕ = add_chunk (high_part word) word 3 in
               let v3 : ℕ = shift_left v2 11 in

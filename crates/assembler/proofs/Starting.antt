@@ -10,12 +10,12 @@ use Rattle.rv_isa.specs.declared.real.RealItem.TheVariants.{Op, Mark, Jump, Bran
 use Rattle.rv_machine.specs.Memory.{Memory}
 use Rattle.rv_machine.specs.State.{Layout}
 use Rattle.assembler.specs.Layout.{words_before, widths_from, longest_widths, widths, address_of}
-use Rattle.assembler.specs.Forms.{item_insts, insts_from, code_insts}
+use Rattle.assembler.specs.Expansion.{item_insts, insts_from, code_insts}
 use Rattle.assembler.specs.Encoded.{AllDecode}
 use Rattle.assembler.specs.Following.{CallsAt, IsNoCall}
 use Rattle.assembler.proofs.Finding.{head_of, width_at, apart, address_next, addresses_rise}
 use Rattle.assembler.proofs.Standing.{calls, Stands}
-use Rattle.assembler.proofs.Words.{item_long_at}
+use Rattle.assembler.proofs.Insts.{item_long_at}
 use Rattle.assembler.proofs.Placing.{Split, split, bytes_of, bytes_long, bytes_append, decode_middle, HasWords, words_stand, stands_of}
 
 -- ---- how many words there are

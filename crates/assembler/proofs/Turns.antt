@@ -8,14 +8,15 @@ use Rattle.grift_base.specs.declared.worlds.EnvEffect.{EnvEffect}
 use Rattle.grift_base.specs.declared.worlds.EnvEffect.TheVariants.{Next as GoesOn, Ended as Answers, Blamed as Blames, Trapped as Traps, RegionOut as RegionEnds, StackOut as StackEnds, Refused, OutOfMemory}
 use Rattle.rv_isa.specs.declared.inst.Inst.{Inst}
 use Rattle.rv_isa.specs.declared.inst.Inst.TheVariants.{Lui, Auipc, Jal, Jalr, Beq, Bne, Blt, Bge, Bltu, Bgeu, Lb, Lh, Lw, Ld, Lbu, Lhu, Lwu, Sb, Sh, Sw, Sd, Addi, Slti, Sltiu, Xori, Ori, Andi, Slli, Srli, Srai, Add, Sub, Sll, Slt, Sltu, Xor, Srl, Sra, Or, And, Addiw, Slliw, Srliw, Sraiw, Addw, Subw, Sllw, Srlw, Sraw, Fence, Ecall, Ebreak}
-use Rattle.rv_machine.specs.Memory.{load_bytes, store_bytes}
+use Rattle.rv_machine.specs.Memory.{load_bytes, store_bytes, first_address}
 use Rattle.rv_machine.specs.Registers.{set_reg}
 use Rattle.grift_base.specs.EnvironmentCall.{environment_call}
-use Rattle.rv_machine.specs.State.{Layout, State, Undefined, BadAddress, Misaligned, Turn, reg}
+use Rattle.rv_machine.specs.State.{Layout, State, GoesWrong, Turn, reg}
+use Rattle.rv_machine.specs.declared.faults.MachineFault.TheVariants.{Undefined, BadAddress, Misaligned}
 use Rattle.rv_machine.specs.Turn.{word_of, signed_of, sign_extend, add, plus, subtract, flag, signed_less, shift_left, shift_right, shift_right_signed, low_half, half, half_right_signed, next_pc, put, load_into, store_from, branch_if, jump_and_link, blames, comes_to, called, call_environment, act_with, act}
-use Rattle.rv_machine.proofs.Memory.{stored_outside}
+use Rattle.rv_machine.proofs.Public.{stored_outside}
 use Rattle.assembler.specs.Conditions.{registers_of, is_relative}
-use Rattle.assembler.specs.Following.{IsLike, ComeToLike, LeavesCode, CanBeTold}
+use Rattle.assembler.specs.Following.{IsLike, ComeToLike, LeavesCode, CanBeCall}
 
 true_is_not_false : true ≡ false → ⊥
 true_is_not_false e = cc
@@ -52,11 +53,11 @@ like_if false true x x1 y y1 e h k = absurd (true_is_not_false (sym e))
 like_load : (signed : Bool) (w : Width) (rd at to : ℕ) (s t : State) → IsLike s t → s.pc ≡ t.pc → at ≡ to → ComeToLike (load_into signed w rd at s) (load_into signed w rd to t)
 like_load signed w rd at to s t l e p =
     like_if (at % byte_len w == 0) (to % byte_len w == 0) _ _ _ _ (ap (λ x. x % byte_len w == 0) p)
-    (like_if (nat_le 65536 at && nat_le (at + byte_len w) s.layout.end) (nat_le 65536 to && nat_le (to + byte_len w) t.layout.end) _ _ _ _
-    (ap (λ x. nat_le 65536 x && nat_le (x + byte_len w) s.layout.end) p ∙ ap (λ x. nat_le 65536 to && nat_le (to + byte_len w) x.end) l.layout)
+    (like_if (nat_le first_address at && nat_le (at + byte_len w) s.layout.end) (nat_le first_address to && nat_le (to + byte_len w) t.layout.end) _ _ _ _
+    (ap (λ x. nat_le first_address x && nat_le (x + byte_len w) s.layout.end) p ∙ ap (λ x. nat_le first_address to && nat_le (to + byte_len w) x.end) l.layout)
     (like_put rd _ _ s t l e (ap (λ x. if signed then sign_extend w (load_bytes (byte_len w) s.memory x) else load_bytes (byte_len w) s.memory x) p ∙ ap (λ m. if signed then sign_extend w (load_bytes (byte_len w) m to) else load_bytes (byte_len w) m to) l.memory))
-    (ap BadAddress e))
-    (ap Misaligned e)
+    (ap (λ pc. GoesWrong (BadAddress pc)) e))
+    (ap (λ pc. GoesWrong (Misaligned pc)) e)
 
 like_store : (w : Width) (word other at to : ℕ) (s t : State) → IsLike s t → s.pc ≡ t.pc → word ≡ other → at ≡ to → ComeToLike (store_from w word at s) (store_from w other to t)
 like_store w word other at to s t l e v p =
@@ -64,17 +65,17 @@ like_store w word other at to s t l e v p =
     (like_if (nat_le s.layout.region at && nat_le (at + byte_len w) s.layout.end) (nat_le t.layout.region to && nat_le (to + byte_len w) t.layout.end) _ _ _ _
     (ap (λ x. nat_le s.layout.region x && nat_le (x + byte_len w) s.layout.end) p ∙ ap (λ x. nat_le x.region to && nat_le (to + byte_len w) x.end) l.layout)
     (record { layout = l.layout; regs = l.regs; memory = ap (λ m. store_bytes (byte_len w) m at word) l.memory ∙ (ap (λ x. store_bytes (byte_len w) t.memory x word) p ∙ ap (λ x. store_bytes (byte_len w) t.memory to x) v); world = l.world }, ap (λ x. add x 4) e)
-    (ap BadAddress e))
-    (ap Misaligned e)
+    (ap (λ pc. GoesWrong (BadAddress pc)) e))
+    (ap (λ pc. GoesWrong (Misaligned pc)) e)
 
 like_jump : (rd target other : ℕ) (s t : State) → IsLike s t → s.pc ≡ t.pc → target ≡ other → ComeToLike (jump_and_link rd target s) (jump_and_link rd other t)
 like_jump rd target other s t l e p =
     like_if (target % 4 == 0) (other % 4 == 0) _ _ _ _ (ap (λ x. x % 4 == 0) p)
     (record { layout = l.layout; regs = λ r n. ap (λ x. set_reg rd (add x 4) s.regs r) e ∙ like_set rd (next_pc t) s t l r n; memory = l.memory; world = l.world }, p)
-    (ap Misaligned e)
+    (ap (λ pc. GoesWrong (Misaligned pc)) e)
 
 module _ (ecall ebreak : State → Turn) where
-  module _ (ok_ecall : CanBeTold ecall) (ok_ebreak : CanBeTold ebreak) where
+  module _ (ok_ecall : CanBeCall ecall) (ok_ebreak : CanBeCall ebreak) where
     pub like_act : (i : Inst) → is_relative i ≡ false → ¬ Contains (registers_of i) 31 → (s t : State) → IsLike s t → s.pc ≡ t.pc → ComeToLike (act_with ecall ebreak i s) (act_with ecall ebreak i t)
     like_act (Lui rd n) r h s t l e = like_put rd _ _ s t l e refl
     like_act (Auipc rd n) r h s t l e = absurd (true_is_not_false r)
@@ -132,7 +133,7 @@ module _ (ecall ebreak : State → Turn) where
 -- ---- the calls of the environment look at x10, x11 and x17 alone
 
 like_blame : (label : Option Pos) (s t : State) → s.pc ≡ t.pc → ComeToLike (blames label s) (blames label t)
-like_blame None s t e = ap Undefined e
+like_blame None s t e = ap (λ pc. GoesWrong (Undefined pc)) e
 like_blame (Some label) s t e = refl
 
 like_effect : (effect : EnvEffect) (w : WorldState) (s t : State) → IsLike s t → s.pc ≡ t.pc → ComeToLike (comes_to effect w s) (comes_to effect w t)
@@ -144,8 +145,8 @@ like_effect (Answers answer) w s t l e = refl
 like_effect (Traps trap) w s t l e = refl
 like_effect RegionEnds w s t l e = refl
 like_effect StackEnds w s t l e = refl
-like_effect Refused w s t l e = ap Undefined e
-like_effect OutOfMemory w s t l e = ap Undefined e
+like_effect Refused w s t l e = ap (λ pc. GoesWrong (Undefined pc)) e
+like_effect OutOfMemory w s t l e = ap (λ pc. GoesWrong (Undefined pc)) e
 
 abbrev called_with : ℕ → ℕ → ℕ → ℕ → WorldState → State → Turn
 called_with number a0 a1 labels w s =
@@ -174,7 +175,7 @@ leaves_when s false x y h k = k
 
 leaves_load : (signed : Bool) (w : Width) (rd at : ℕ) (s : State) → LeavesCode s (load_into signed w rd at s)
 leaves_load signed w rd at s =
-    leaves_if s (at % byte_len w == 0) _ _ (leaves_if s (nat_le 65536 at && nat_le (at + byte_len w) s.layout.end) _ _ (leaves_put rd (if signed then sign_extend w (load_bytes (byte_len w) s.memory at) else load_bytes (byte_len w) s.memory at) s) tt) tt
+    leaves_if s (at % byte_len w == 0) _ _ (leaves_if s (nat_le first_address at && nat_le (at + byte_len w) s.layout.end) _ _ (leaves_put rd (if signed then sign_extend w (load_bytes (byte_len w) s.memory at) else load_bytes (byte_len w) s.memory at) s) tt) tt
 
 above_region : (region at to high : ℕ) (b : Bool) → (nat_le region at && b) ≡ true → to < region → to < at
 above_region region at to high b h k = grind arith

@@ -1,5 +1,5 @@
 use Rattle.std.proofs.Common.{arith}
-use Rattle.assembler.proofs.Words.{words_upto, decode_upto}
+use Rattle.assembler.proofs.Insts.{words_upto, decode_upto}
 use Rattle.assembler.proofs.assembly.code_words.Goals as goal
 
 pub loop-place-preserved : goal.loop-place-preserved

@@ -1,5 +1,5 @@
 use Rattle.std.proofs.Common.{arith}
-use Rattle.assembler.proofs.Words.{sums_upto}
+use Rattle.assembler.proofs.Insts.{sums_upto}
 use Rattle.assembler.proofs.layout.chosen_sums.Goals as goal
 
 pub loop-place-preserved : goal.loop-place-preserved

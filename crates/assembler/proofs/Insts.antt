@@ -9,7 +9,7 @@ use Rattle.rv_isa.specs.declared.real.RealItem.{RealItem}
 use Rattle.rv_isa.specs.declared.real.RealItem.TheVariants.{Op, Mark, Jump, Branch, Address}
 use Rattle.rv_isa.specs.Encoding.{encode_of}
 use Rattle.assembler.specs.Layout.{width, is_near, longest_widths, widths_from, address_of}
-use Rattle.assembler.specs.Forms.{insts_of, item_insts, insts_from, target_of, code_insts}
+use Rattle.assembler.specs.Expansion.{insts_of, item_insts, insts_from, target_of, code_insts}
 use Rattle.assembler.specs.Imaging.{inst_words}
 use Rattle.assembler.specs.Conditions.{is_mark}
 use Rattle.assembler.specs.Encoded.{AllDecode}
@@ -123,14 +123,14 @@ decode_more insts k i word h e all w back small =
     subst AllDecode (sym a) (decode_append (take k insts) (i ∷ []) all one)
 
 -- instructions behind others
-pub put_two : (xs ys xs_made ys_made : List Inst) (before mid after : List ℕ) → xs_made ≡ xs → ys_made ≡ ys → mid ≡ before ++ inst_words xs_made → after ≡ mid ++ inst_words ys_made → after ≡ before ++ inst_words (xs ++ ys)
-put_two xs ys xs_made ys_made before mid after e f m a =
+pub put_two : (xs ys xs_put ys_put : List Inst) (before mid after : List ℕ) → xs_put ≡ xs → ys_put ≡ ys → mid ≡ before ++ inst_words xs_put → after ≡ mid ++ inst_words ys_put → after ≡ before ++ inst_words (xs ++ ys)
+put_two xs ys xs_put ys_put before mid after e f m a =
     let p : mid ≡ before ++ inst_words xs = m ∙ ap (λ is. before ++ inst_words is) e in
     let q : after ≡ mid ++ inst_words ys = a ∙ ap (λ is. mid ++ inst_words is) f in
     q ∙ ap (λ bytes. bytes ++ inst_words ys) p ∙ append_assoc before (inst_words xs) (inst_words ys) ∙ ap (λ words. before ++ words) (sym (words_append xs ys))
 
-pub decode_two : (xs ys xs_made ys_made : List Inst) → xs_made ≡ xs → ys_made ≡ ys → AllDecode xs_made → AllDecode ys_made → AllDecode (xs ++ ys)
-decode_two xs ys xs_made ys_made e f a b = decode_append xs ys (subst AllDecode e a) (subst AllDecode f b)
+pub decode_two : (xs ys xs_put ys_put : List Inst) → xs_put ≡ xs → ys_put ≡ ys → AllDecode xs_put → AllDecode ys_put → AllDecode (xs ++ ys)
+decode_two xs ys xs_put ys_put e f a b = decode_append xs ys (subst AllDecode e a) (subst AllDecode f b)
 
 -- ---- the items of a code up to a place
 
@@ -145,12 +145,12 @@ pub sums_upto : (items : List RealItem) (start place : ℕ) (item : RealItem) (s
     → HoldsSums old_sums (widths_from (longest_widths items) items start 0 (take place items))
     → before ≡ sum (widths_from (longest_widths items) items start 0 (take place items)) → before ≤ 11 * place → w ≤ 11 → sums ≡ old_sums ++ (before + w) ∷ []
     → HoldsSums sums (widths_from (longest_widths items) items start 0 (take (place + 1) items)) × (before + w ≡ sum (widths_from (longest_widths items) items start 0 (take (place + 1) items))) × (before + w ≤ 11 * (place + 1))
-sums_upto items start place item sums old_sums before w h e ew s eb few small made =
+sums_upto items start place item sums old_sums before w h e ew s eb few small grown =
     let ws = widths_from (longest_widths items) items start 0 (take place items) in
     let more = widths_upto items start place item h e ∙ ap (λ n. ws ++ n ∷ []) (sym ew) in
     let long : length ws ≡ place = widths_long (longest_widths items) items start 0 (take place items) ∙ length-take-le place items (omega arith) in
     let total : before + w ≡ sum ws + w = ap (λ n. n + w) eb in (
-      subst (λ (xs : List ℕ). HoldsSums sums xs) (sym more) (subst (λ (xs : List ℕ). HoldsSums xs (ws ++ w ∷ [])) (sym made) (sums_more old_sums ws w (before + w) s total (omega arith))),
+      subst (λ (xs : List ℕ). HoldsSums sums xs) (sym more) (subst (λ (xs : List ℕ). HoldsSums xs (ws ++ w ∷ [])) (sym grown) (sums_more old_sums ws w (before + w) s total (omega arith))),
       total ∙ sym (sum_push ws w) ∙ ap sum (sym more),
       omega arith,
     )

@@ -40,25 +40,25 @@ near_address_insts rd word =
     Lui 31 (word / 4096) ∷ Addi 31 31 (pos (word % 4096 / 2)) ∷ Addi rd 31 (pos (word % 4096 / 2)) ∷ []
 
 -- told where the item lies and the address of the mark that it names, if it names one
-abbrev pub near_insts : ℕ → ℕ → RealItem → List Inst
-near_insts here target (Op i) = i ∷ []
-near_insts here target (Mark mark) = []
-near_insts here target (Jump rd mark) = Jal rd (offset here target) ∷ []
-near_insts here target (Branch cond a b mark) = branch_when cond a b (offset here target) ∷ []
-near_insts here target (Address rd mark) = near_address_insts rd target
+abbrev pub near_item_insts : ℕ → ℕ → RealItem → List Inst
+near_item_insts here target (Op i) = i ∷ []
+near_item_insts here target (Mark mark) = []
+near_item_insts here target (Jump rd mark) = Jal rd (offset here target) ∷ []
+near_item_insts here target (Branch cond a b mark) = branch_when cond a b (offset here target) ∷ []
+near_item_insts here target (Address rd mark) = near_address_insts rd target
 
 -- a branch with the opposite condition passes over the eleven words of a far branch
-abbrev pub far_forms : ℕ → RealItem → List Inst
-far_forms target (Op i) = i ∷ []
-far_forms target (Mark mark) = []
-far_forms target (Jump rd mark) = far_insts target ++ Jalr rd 31 (pos 0) ∷ []
-far_forms target (Branch cond a b mark) =
+abbrev pub far_item_insts : ℕ → RealItem → List Inst
+far_item_insts target (Op i) = i ∷ []
+far_item_insts target (Mark mark) = []
+far_item_insts target (Jump rd mark) = far_insts target ++ Jalr rd 31 (pos 0) ∷ []
+far_item_insts target (Branch cond a b mark) =
     branch_when (opposite cond) a b (pos 44) ∷ far_insts target ++ Jalr 0 31 (pos 0) ∷ []
-far_forms target (Address rd mark) = far_insts target ++ Addi rd 31 (pos 0) ∷ []
+far_item_insts target (Address rd mark) = far_insts target ++ Addi rd 31 (pos 0) ∷ []
 
 abbrev pub insts_of : Bool → ℕ → ℕ → RealItem → List Inst
-insts_of true here target item = near_insts here target item
-insts_of false here target item = far_forms target item
+insts_of true here target item = near_item_insts here target item
+insts_of false here target item = far_item_insts target item
 
 -- the address that an item names
 abbrev pub target_of : List RealItem → ℕ → RealItem → ℕ

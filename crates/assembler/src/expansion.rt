@@ -2,7 +2,7 @@
 
 ghost use Rattle.std.specs.Prelude.{◌≡◌, ◌++◌, ◌∷◌, [], ◌≤◌, ◌<◌, ◌^◌, true, pos, OnOk};
 ghost use Rattle.rv_isa.specs.declared.inst.Inst.TheVariants.{Jalr, Addi, Slli};
-ghost use Rattle.assembler.specs.Forms.{offset, opposite, chunk_of, far_insts, near_address_insts, near_insts, far_forms, insts_of};
+ghost use Rattle.assembler.specs.Expansion.{offset, opposite, chunk_of, far_insts, near_address_insts, near_item_insts, far_item_insts, insts_of};
 ghost use Rattle.assembler.specs.Imaging.{inst_words};
 ghost use Rattle.assembler.specs.Encoded.{AllDecode};
 ghost use Rattle.assembler.specs.Tables.{Fits};
@@ -44,8 +44,8 @@ fn put_near(
 ) -> Result<(), OutOfMemory>
     requires fits { Fits true here target item.now }
     requires below { (here < 2 ^ 62) × (target < 2 ^ 62) }
-    ensures words { OnOk result (words.new ≡ words.old ++ inst_words (near_insts here target item.now)) }
-    ensures decode { OnOk result (AllDecode (near_insts here target item.now)) }
+    ensures words { OnOk result (words.new ≡ words.old ++ inst_words (near_item_insts here target item.now)) }
+    ensures decode { OnOk result (AllDecode (near_item_insts here target item.now)) }
 {
     match item {
         RealItem::Op(i) => put_all(words, &[*i]),
@@ -64,8 +64,8 @@ fn put_near(
 
 // Adds the words of its far form.
 fn put_far(words: &mut CodeWords, target: u64, item: &RealItem) -> Result<(), OutOfMemory>
-    ensures words { OnOk result (words.new ≡ words.old ++ inst_words (far_forms target item.now)) }
-    ensures decode { OnOk result (AllDecode (far_forms target item.now)) }
+    ensures words { OnOk result (words.new ≡ words.old ++ inst_words (far_item_insts target item.now)) }
+    ensures decode { OnOk result (AllDecode (far_item_insts target item.now)) }
 {
     match item {
         RealItem::Op(i) => put_all(words, &[*i]),

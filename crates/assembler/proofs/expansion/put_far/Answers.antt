@@ -1,9 +1,9 @@
 use Rattle.std.proofs.Common.{◌∷◌, ◌++◌, [], ◌≡◌, pos, refl, ap}
 use Rattle.rv_isa.specs.declared.inst.Inst.TheVariants.{Jalr, Addi}
 use Rattle.rv_isa.specs.Conditions.{branch_when}
-use Rattle.assembler.specs.Forms.{far_insts, opposite}
-use Rattle.assembler.proofs.Words.{ok_more, put_two, decode_two}
-use Rattle.assembler.proofs.forms.put_far.Goals as goal
+use Rattle.assembler.specs.Expansion.{far_insts, opposite}
+use Rattle.assembler.proofs.Insts.{ok_more, put_two, decode_two}
+use Rattle.assembler.proofs.expansion.put_far.Goals as goal
 
 pub returns-in-Jump-clause-words : goal.returns-in-Jump-clause-words
 returns-in-Jump-clause-words c = rw c.in-Jump.is c.put_far_jump.ensures.words

@@ -1,8 +1,8 @@
 use Rattle.std.proofs.Common.{◌∷◌, [], pos, refl}
 use Rattle.rv_isa.specs.declared.inst.Inst.TheVariants.{Jalr}
-use Rattle.assembler.specs.Forms.{far_insts}
-use Rattle.assembler.proofs.Words.{ok_more, put_two, decode_two}
-use Rattle.assembler.proofs.forms.put_far_jump.Goals as goal
+use Rattle.assembler.specs.Expansion.{far_insts}
+use Rattle.assembler.proofs.Insts.{ok_more, put_two, decode_two}
+use Rattle.assembler.proofs.expansion.put_far_jump.Goals as goal
 
 pub returns-clause-words : goal.returns-clause-words
 returns-clause-words c =

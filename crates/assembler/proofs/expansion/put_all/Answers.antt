@@ -1,8 +1,8 @@
 use Rattle.std.proofs.Common.{arith}
 use Rattle.std.proofs.lemmas.List.{get_or_read}
 use Rattle.rv_isa.specs.declared.inst.Inst.TheVariants.{Ecall}
-use Rattle.assembler.proofs.Words.{put_more, decode_more}
-use Rattle.assembler.proofs.forms.put_all.Goals as goal
+use Rattle.assembler.proofs.Insts.{put_more, decode_more}
+use Rattle.assembler.proofs.expansion.put_all.Goals as goal
 
 pub loop-i-preserved : goal.loop-i-preserved
 loop-i-preserved c =
