@@ -15,13 +15,13 @@ pub is_image_of : (image : List ℕ) (items : List RealItem) (statics : List ℕ
     length items ≤ 2 ^ 40 → IsImageOf image items statics labels
 is_image_of image items statics labels e facts read_back few =
     subst (λ (bytes : List ℕ). labels_of bytes ≡ labels → IsImageOf bytes items statics labels) (sym e)
-      (λ same. record {
-        bytes = refl;
-        labels_are = same;
-        few = few;
-        few_statics = facts.few_statics;
-        addresses = has_addresses items statics labels facts;
-        words = has_its_words items statics labels facts;
-        follows = λ reading. does_as_code items statics labels facts reading;
-        runs = λ reading. runs_as_code items statics labels facts reading;
-      }) read_back
+    (λ same. record {
+      bytes = refl;
+      labels_are = same;
+      few = few;
+      few_statics = facts.few_statics;
+      addresses = has_addresses items statics labels facts;
+      words = has_its_words items statics labels facts;
+      follows = λ reading. does_as_code items statics labels facts reading;
+      runs = λ reading. runs_as_code items statics labels facts reading;
+    }) read_back

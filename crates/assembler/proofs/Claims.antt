@@ -1,5 +1,6 @@
 -- An assembled image does what its code does.
-use Rattle.std.proofs.Common.{ℕ, suc, ◌+◌, ◌-◌, ◌*◌, ◌%◌, ◌^◌, ◌≤◌, ◌≡◌, false, List, [], ◌∷◌, ◌++◌, length, drop, refl, sym, ◌∙◌, ap, subst, arith}
+use Rattle.std.proofs.Common.{ℕ, suc, ◌+◌, ◌-◌, ◌*◌, ◌%◌, ◌^◌, ◌≤◌, ◌≡◌, false, List, [], ◌∷◌, ◌++◌, length, drop, refl}
+use Rattle.std.proofs.Common.{sym, ◌∙◌, ap, subst, arith}
 use Rattle.std.specs.Prelude.{flat_map, slice_index, nat_lt, ◌==◌, if◌then◌else◌}
 use Rattle.std.proofs.lemmas.List.{get_or-append-add, length-map}
 use Rattle.run_laws.specs.Runs.{Ending, NeverWrong, FollowsBy, Any}
@@ -18,10 +19,12 @@ use Rattle.rv_machine.specs.Start.{layout_of, IsRegionSize, IsStackSize}
 use Rattle.rv_machine.specs.Real.{Setting, real_machine, machine_in}
 use Rattle.assembler.specs.Layout.{address_of}
 use Rattle.assembler.specs.Expansion.{code_insts, item_insts}
-use Rattle.assembler.specs.Imaging.{word_bytes, half_bytes, image_bytes, AreSections, code_bytes, inst_words, code_start, assembled}
+use Rattle.assembler.specs.Imaging.{word_bytes, half_bytes, image_bytes, AreSections, code_bytes, inst_words}
+use Rattle.assembler.specs.Imaging.{code_start, assembled}
 use Rattle.assembler.specs.Conditions.{CanBeAssembled}
 use Rattle.assembler.specs.Encoded.{AllDecode}
-use Rattle.assembler.specs.Following.{IsLike, CanBeCall, AllCanBeCall, IsNoCall, Starts, Simulates, DoesAsCode, image_memory}
+use Rattle.assembler.specs.Following.{IsLike, CanBeCall, AllCanBeCall, IsNoCall, Starts, Simulates, DoesAsCode}
+use Rattle.assembler.specs.Following.{image_memory}
 use Rattle.assembler.proofs.Images.{statics_field, code_field, loaded_is, statics_long, code_long}
 use Rattle.assembler.proofs.Insts.{words_few}
 use Rattle.assembler.proofs.Finding.{address_next}
@@ -34,13 +37,17 @@ use Rattle.assembler.proofs.Doing.{Prepared, Related, simulates}
 
 module _ {V : Type 0} (X Y : Machine State State V) (s : State) where
   -- the two follow each other when counted, so also when not
-  pub uncounted : FollowsBy (OfRest IsLike) (Spends 12) (run (metered each_one X) (unspent s)) (run (metered each_one Y) (unspent s)) → NeverWrong (run Y s) → Simulates X Y s
+  pub uncounted : FollowsBy (OfRest IsLike) (Spends 12) (run (metered each_one X) (unspent s))
+      (run (metered each_one Y) (unspent s)) → NeverWrong (run Y s) → Simulates X Y s
   uncounted f nw =
-      let nx : NeverWrong (run X s) = unmetered_never_wrong X each_one (unspent s) (follower_never_goes_wrong (follows_of f)) in
+      let nx : NeverWrong (run X s) = unmetered_never_wrong X each_one (unspent s)
+      (follower_never_goes_wrong (follows_of f)) in
       let a = follows_metered X each_one (unspent s) nx in
       let b = metered_follows Y each_one (unspent s) nw in
       record {
-        follows = follows_by_weaken IsLike Any (λ u v h. subst (λ x. IsLike x v) (sym h.1) (subst (λ x. IsLike h.0.rest x) h.2.2 h.2.1)) (λ u v h. tt) (follows_by_trans a (follows_by_trans f b));
+        follows =
+            follows_by_weaken IsLike Any (λ u v h. subst (λ x. IsLike x v) (sym h.1)
+            (subst (λ x. IsLike h.0.rest x) h.2.2 h.2.1)) (λ u v h. tt) (follows_by_trans a (follows_by_trans f b));
         turns = f;
       }
 
@@ -70,7 +77,12 @@ module _ (items : List RealItem) (statics : List ℕ) (labels : List Pos) where
 
   module _ (facts : CodeFacts) where
     pub code_at : first_address + statics_len bytes ≡ start
-    code_at = omega (arith, statics_field (flat_map word_bytes statics) (code_bytes words) labels facts.sections, statics_long statics)
+    code_at =
+        omega (
+          arith,
+          statics_field (flat_map word_bytes statics) (code_bytes words) labels facts.sections,
+          statics_long statics,
+        )
 
     pub code_size : code_len bytes ≡ length (code_bytes words)
     code_size = code_field (flat_map word_bytes statics) (code_bytes words) labels facts.sections
@@ -83,8 +95,11 @@ module _ (items : List RealItem) (statics : List ℕ) (labels : List Pos) where
     byte_at at h =
         let long = statics_long statics in
         let e : at - first_address ≡ length (flat_map word_bytes statics) + (at - start) = omega arith in
-        let a : image_memory bytes at ≡ memory_of (loaded_part bytes) (at - first_address) = in_memory (loaded_part bytes) at (omega arith) in
-        a ∙ (ap (λ bs. slice_index bs (at - first_address)) part ∙ (ap (slice_index (flat_map word_bytes statics ++ code_bytes words)) e ∙ get_or-append-add (flat_map word_bytes statics) (code_bytes words) (at - start) 0))
+        let a : image_memory bytes at ≡ memory_of (loaded_part bytes) (at - first_address) = in_memory
+        (loaded_part bytes) at (omega arith) in
+        a ∙ (ap (λ bs. slice_index bs (at - first_address)) part
+        ∙ (ap (slice_index (flat_map word_bytes statics ++ code_bytes words)) e
+        ∙ get_or-append-add (flat_map word_bytes statics) (code_bytes words) (at - start) 0))
 
     abbrev pub tail : List ℕ
     tail = if length words % 2 == 0 then [] else half_bytes 0
@@ -99,7 +114,8 @@ module _ (items : List RealItem) (statics : List ℕ) (labels : List Pos) where
       room : l.code + 4 * length (code_insts items l.code) ≤ l.region
       room =
           let a = code_long words in
-          let b : length (code_insts items l.code) ≡ length (code_insts items start) = ap (λ n. length (code_insts items n)) code_at in
+          let b : length (code_insts items l.code) ≡ length (code_insts items start) = ap
+          (λ n. length (code_insts items n)) code_at in
           let c = words_long in
           let d = code_size in omega arith
 
@@ -107,18 +123,31 @@ module _ (items : List RealItem) (statics : List ℕ) (labels : List Pos) where
       decode_here = subst (λ n. AllDecode (code_insts items n)) (sym code_at) facts.decode
 
       -- the byte of the code at an address
-      pub code_byte : (at : ℕ) → l.code ≤ at → image_memory bytes at ≡ slice_index (bytes_of (code_insts items l.code) ++ tail) (at - l.code)
+      pub code_byte : (at : ℕ) → l.code ≤ at → image_memory bytes at
+          ≡ slice_index (bytes_of (code_insts items l.code) ++ tail) (at - l.code)
       code_byte at h =
-          byte_at at (let e = code_at in omega arith) ∙ ap (λ n. slice_index (bytes_of (code_insts items n) ++ tail) (at - n)) (sym code_at)
+          byte_at at (let e = code_at in omega arith)
+          ∙ ap (λ n. slice_index (bytes_of (code_insts items n) ++ tail) (at - n)) (sym code_at)
 
       -- in a memory that agrees with the image, but for the words of calls
-      prepared : (m : Memory) (ecall ebreak : ℕ → State → Turn) → ((at : ℕ) → IsNoCall items (address_of items l.code) at → m at ≡ image_memory bytes at) → ((place : ℕ) → CanBeCall (ecall place)) → ((place : ℕ) → CanBeCall (ebreak place)) → {V : Type 0} (reading : Halt → Ending V) → Prepared reading l m items ecall ebreak
+      prepared : (m : Memory) (ecall ebreak : ℕ → State → Turn)
+          → ((at : ℕ) → IsNoCall items (address_of items l.code) at → m at ≡ image_memory bytes at)
+          → ((place : ℕ) → CanBeCall (ecall place)) → ((place : ℕ) → CanBeCall (ebreak place))
+          → {V : Type 0} (reading : Halt → Ending V) → Prepared reading l m items ecall ebreak
       prepared m ecall ebreak same can_ecall can_ebreak reading = record {
-        small = (let a = code_long words in let b = code_size in let c = code_at in let d = facts.few_words in let e = facts.few_statics in omega arith);
+        small = (let a = code_long words in let b = code_size in let c = code_at in let d = facts.few_words in
+            let e = facts.few_statics in omega arith);
         whole = (let c = code_at in omega arith);
         inside = λ place. (let a = reaches_to items l place in let b = room in omega arith);
-        words = λ place item rest there plain. item_stands items l m tail decode_here room place item rest there (λ at a b. same at (outside_calls items l place item rest there plain at a b) ∙ code_byte at (let c = code_below place in omega arith));
-        call = λ place item rest there c. (code_below place, (let a = reaches_to items l (suc place) in let b = room in let d = address_next items l.code place item rest there in let e = call_width items l.code place item c in omega arith));
+        words = λ place item rest there plain. item_stands items l m tail decode_here room place item rest there
+            (λ at a b. same at (outside_calls items l place item rest there plain at a b)
+            ∙ code_byte at (let c = code_below place in omega arith));
+        call = λ place item rest there c. (
+          code_below place,
+          (let a = reaches_to items l (suc place) in
+              let b = room in let d = address_next items l.code place item rest there in
+              let e = call_width items l.code place item c in omega arith),
+        );
         can_ecall = can_ecall;
         can_ebreak = can_ebreak;
         can = facts.can;
@@ -128,46 +157,86 @@ module _ (items : List RealItem) (statics : List ℕ) (labels : List Pos) where
           code_below place = omega arith
 
       -- each item stands in the image's own memory, calls too
-      pub full : (place : ℕ) (item : RealItem) (rest : List RealItem) → drop place items ≡ item ∷ rest → Stands l (image_memory bytes) (address_of items l.code place) (item_insts items l.code place item)
-      full place item rest there = item_stands items l (image_memory bytes) tail decode_here room place item rest there (λ at a b. code_byte at (omega arith))
+      pub full : (place : ℕ) (item : RealItem) (rest : List RealItem) → drop place items ≡ item ∷ rest
+          → Stands l (image_memory bytes) (address_of items l.code place) (item_insts items l.code place item)
+      full place item rest there =
+          item_stands items l (image_memory bytes) tail decode_here room place item rest there
+          (λ at a b. code_byte at (omega arith))
 
-      pub full_words : (place : ℕ) (item : RealItem) (rest : List RealItem) → drop place items ≡ item ∷ rest → HasWords (image_memory bytes) (address_of items l.code place) (item_insts items l.code place item)
-      full_words place item rest there = item_words items l (image_memory bytes) tail decode_here room place item rest there (λ at a b. code_byte at (omega arith))
+      pub full_words : (place : ℕ) (item : RealItem) (rest : List RealItem) → drop place items ≡ item ∷ rest
+          → HasWords (image_memory bytes) (address_of items l.code place) (item_insts items l.code place item)
+      full_words place item rest there =
+          item_words items l (image_memory bytes) tail decode_here room place item rest there
+          (λ at a b. code_byte at (omega arith))
 
       -- ---- the claim, where calls are told
 
-      module _ {V : Type 0} (reading : Halt → Ending V) (ecall ebreak : ℕ → State → Turn) (can_ecall : (place : ℕ) → CanBeCall (ecall place)) (can_ebreak : (place : ℕ) → CanBeCall (ebreak place)) (s : State) (here : s.layout ≡ l) (same : (at : ℕ) → IsNoCall items (address_of items l.code) at → s.memory at ≡ image_memory bytes at) where
+      module _ {V : Type 0} (reading : Halt → Ending V) (ecall ebreak : ℕ → State → Turn)
+          (can_ecall : (place : ℕ) → CanBeCall (ecall place)) (can_ebreak : (place : ℕ) → CanBeCall (ebreak place))
+          (s : State) (here : s.layout ≡ l) (same : (at : ℕ) → IsNoCall items (address_of items l.code) at
+          → s.memory at ≡ image_memory bytes at) where
         abbrev setting : Setting
         setting = record { address = address_of items l.code; ecall = ecall; ebreak = ebreak }
 
-        pub simulated : NeverWrong (run (real_machine reading items setting) s) → Simulates (machine_in reading items setting) (real_machine reading items setting) s
+        pub simulated : NeverWrong (run (real_machine reading items setting) s)
+            → Simulates (machine_in reading items setting) (real_machine reading items setting) s
         simulated nw =
             let p = prepared s.memory ecall ebreak same can_ecall can_ebreak reading in
-            let r : Related reading l s.memory items ecall ebreak s s = record { like = record { layout = refl; regs = λ n h. refl; memory = refl; world = refl }; pc = refl; layout = here; intact = λ at a b. refl } in
-            uncounted (machine_in reading items setting) (real_machine reading items setting) s (follows_at_cost (simulates reading l s.memory items ecall ebreak p) s s r nw) nw
+            let r : Related reading l s.memory items ecall ebreak s s = record {
+              like = record { layout = refl; regs = λ n h. refl; memory = refl; world = refl };
+              pc = refl;
+              layout = here;
+              intact = λ at a b. refl;
+            } in
+            uncounted (machine_in reading items setting) (real_machine reading items setting) s
+            (follows_at_cost (simulates reading l s.memory items ecall ebreak p) s s r nw) nw
 
     module _ {V : Type 0} (reading : Halt → Ending V) where
-      starts_here : (region stack : ℕ) (world : WorldState) (s : State) → Starts bytes items (address_of items start) region stack world s → (setting : Setting) → setting.address ≡ address_of items start → AllCanBeCall setting → NeverWrong (run (real_machine reading items setting) s) → Simulates (machine_in reading items setting) (real_machine reading items setting) s
+      starts_here : (region stack : ℕ) (world : WorldState) (s : State)
+          → Starts bytes items (address_of items start) region stack world s → (setting : Setting)
+          → setting.address ≡ address_of items start → AllCanBeCall setting
+          → NeverWrong (run (real_machine reading items setting) s)
+          → Simulates (machine_in reading items setting) (real_machine reading items setting) s
       starts_here region stack world s st setting e ok nw =
           let here : s.layout ≡ layout_of bytes region stack = ap (λ (t : State). t.layout) st.same in
-          let c : address_of items start ≡ address_of items (first_address + statics_len bytes) = ap (address_of items) (sym code_at) in
-          let eq : setting ≡ record { address = address_of items (first_address + statics_len bytes); ecall = setting.ecall; ebreak = setting.ebreak } = ap (λ (a : ℕ → ℕ). record { address = a; ecall = setting.ecall; ebreak = setting.ebreak }) (e ∙ c) in
+          let c : address_of items start ≡ address_of items (first_address + statics_len bytes) = ap
+          (address_of items) (sym code_at) in
+          let eq : setting ≡ record {
+            address = address_of items (first_address + statics_len bytes);
+            ecall = setting.ecall;
+            ebreak = setting.ebreak;
+          } = ap
+          (λ (a : ℕ → ℕ). record { address = a; ecall = setting.ecall; ebreak = setting.ebreak }) (e ∙ c) in
           subst (λ (x : Setting). Simulates (machine_in reading items x) (real_machine reading items x) s) (sym eq)
-          (simulated region stack st.region_size st.stack_size reading setting.ecall setting.ebreak ok.ecall ok.ebreak s here (λ at h. st.memory at (subst (λ (a : ℕ → ℕ). IsNoCall items a at) (sym c) h)) (subst (λ (x : Setting). NeverWrong (run (real_machine reading items x) s)) eq nw))
+          (simulated region stack st.region_size st.stack_size reading setting.ecall setting.ebreak ok.ecall ok.ebreak
+          s here (λ at h. st.memory at (subst (λ (a : ℕ → ℕ). IsNoCall items a at) (sym c) h))
+          (subst (λ (x : Setting). NeverWrong (run (real_machine reading items x) s)) eq nw))
 
       pub does_as_code : DoesAsCode reading bytes items (address_of items start)
       does_as_code setting region stack world s e ok st nw = starts_here region stack world s st setting e ok nw
 
 -- the facts of what was put together, of equal items and statics
-pub code_facts : (items items_used : List RealItem) (statics statics_used words_used : List ℕ) (labels : List Pos) → items_used ≡ items → statics_used ≡ statics → CanBeAssembled items → AllDecode (code_insts items_used (code_start statics_used)) → words_used ≡ inst_words (code_insts items_used (code_start statics_used)) → AreSections (flat_map word_bytes statics_used) (code_bytes words_used) labels → length statics_used ≤ 2 ^ 40 → length items_used ≤ 2 ^ 40 → CodeFacts items statics labels
+pub code_facts : (items items_used : List RealItem) (statics statics_used words_used : List ℕ) (labels : List Pos)
+    → items_used ≡ items → statics_used ≡ statics → CanBeAssembled items
+    → AllDecode (code_insts items_used (code_start statics_used))
+    → words_used ≡ inst_words (code_insts items_used (code_start statics_used))
+    → AreSections (flat_map word_bytes statics_used) (code_bytes words_used) labels → length statics_used ≤ 2 ^ 40
+    → length items_used ≤ 2 ^ 40 → CodeFacts items statics labels
 code_facts items items_used statics statics_used words_used labels e f can decode w sections few_statics few =
     rw (sym e, sym f) (record {
       can = subst CanBeAssembled (sym e) can;
       decode = decode;
       sections = subst (λ ws. AreSections (flat_map word_bytes statics_used) (code_bytes ws) labels) w sections;
       few_statics = few_statics;
-      few_words = words_few items_used (code_start statics_used) (inst_words (code_insts items_used (code_start statics_used))) few refl;
+      few_words =
+          words_few items_used (code_start statics_used)
+          (inst_words (code_insts items_used (code_start statics_used))) few refl;
     })
 
-pub image_is : (items items_used : List RealItem) (statics statics_used words_used image : List ℕ) (labels : List Pos) → items_used ≡ items → statics_used ≡ statics → words_used ≡ inst_words (code_insts items_used (code_start statics_used)) → image ≡ image_bytes (flat_map word_bytes statics_used) (code_bytes words_used) labels → image ≡ assembled items statics labels
-image_is items items_used statics statics_used words_used image labels e f w i = rw (sym e, sym f) (i ∙ ap (λ ws. image_bytes (flat_map word_bytes statics_used) (code_bytes ws) labels) w)
+pub image_is : (items items_used : List RealItem) (statics statics_used words_used image : List ℕ) (labels : List Pos)
+    → items_used ≡ items → statics_used ≡ statics
+    → words_used ≡ inst_words (code_insts items_used (code_start statics_used))
+    → image ≡ image_bytes (flat_map word_bytes statics_used) (code_bytes words_used) labels
+    → image ≡ assembled items statics labels
+image_is items items_used statics statics_used words_used image labels e f w i =
+    rw (sym e, sym f) (i ∙ ap (λ ws. image_bytes (flat_map word_bytes statics_used) (code_bytes ws) labels) w)

@@ -24,14 +24,14 @@ pub record HasAddresses (image : List ℕ) (items : List RealItem) (statics : Li
   pub sound : AreAddresses items address
   -- the statics begin at the first address, a word after the other, and the code begins behind them
   pub static : (i word : ℕ) → word < 2 ^ 64 → slice_get statics i ≡ Some word →
-    load_bytes 8 (image_memory image) (first_address + 8 * i) ≡ word
+      load_bytes 8 (image_memory image) (first_address + 8 * i) ≡ word
   pub statics_size : statics_len image ≡ 8 * length statics
   pub code : address 0 ≡ first_address + statics_len image
   -- no item lies past the code
   pub inside : (place : ℕ) → address place ≤ first_address + statics_len image + code_len image
   -- the image enters at its first item
   pub entry : (region stack : ℕ) (world : WorldState) →
-    address_from address 0 items ≡ Some (start_of image region stack world).pc
+      address_from address 0 items ≡ Some (start_of image region stack world).pc
 
 -- the image of a code with these words of statics and these labels
 pub record IsImageOf (image : List ℕ) (items : List RealItem) (statics : List ℕ) (labels : List Pos) : Type 0 where

@@ -1,6 +1,8 @@
--- The instructions of an item. Where there is more than one, they change x31 alone, and at the last the register that the
+-- The instructions of an item. Where there is more than one, they change x31 alone, and at the last the register that
+-- the
 -- item sets.
-use Rattle.std.specs.Prelude.{ℕ, suc, ◌-◌, ◌*◌, ◌/◌, ◌%◌, ◌^◌, nat_le, Bool, true, false, if◌then◌else◌, ℤ, pos, negsuc, List, [], ◌∷◌, ◌++◌}
+use Rattle.std.specs.Prelude.{ℕ, suc, ◌-◌, ◌*◌, ◌/◌, ◌%◌, ◌^◌, nat_le, Bool, true, false, if◌then◌else◌, ℤ, pos, negsuc}
+use Rattle.std.specs.Prelude.{List, [], ◌∷◌, ◌++◌}
 use Rattle.rv_isa.specs.declared.inst.Inst.{Inst}
 use Rattle.rv_isa.specs.declared.inst.Inst.TheVariants.{Lui, Jal, Jalr, Addi, Slli, Srli}
 use Rattle.rv_isa.specs.declared.inst.Cond.{Cond}
@@ -71,12 +73,14 @@ target_of items start (Address rd mark) = address_of items start (mark_place mar
 -- the instructions of the item at a place
 abbrev pub item_insts : List RealItem → ℕ → ℕ → RealItem → List Inst
 item_insts items start place item =
-    insts_of (is_near (longest_widths items) items start place item) (address_of items start place) (target_of items start item) item
+    insts_of (is_near (longest_widths items) items start place item) (address_of items start place)
+    (target_of items start item) item
 
 -- those of the items that are left, from a place on
 abbrev pub insts_from : List RealItem → ℕ → ℕ → List RealItem → List Inst
 insts_from items start place [] = []
-insts_from items start place (item ∷ rest) = item_insts items start place item ++ insts_from items start (suc place) rest
+insts_from items start place (item ∷ rest) =
+    item_insts items start place item ++ insts_from items start (suc place) rest
 
 -- the instructions of a code that begins at this address
 abbrev pub code_insts : List RealItem → ℕ → List Inst

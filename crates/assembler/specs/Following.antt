@@ -60,7 +60,8 @@ IsNoCall items address at =
     (place : ℕ) → CallsAt items place → ¬ ((address place ≤ at) × (at < address place + 4))
 
 -- the start state of an image, but loads may find other words in place of each ECALL and EBREAK
-pub record Starts (bytes : List ℕ) (items : List RealItem) (address : ℕ → ℕ) (region stack : ℕ) (world : WorldState) (s : State) : Type 0 where
+pub record Starts (bytes : List ℕ) (items : List RealItem) (address : ℕ → ℕ) (region stack : ℕ) (world : WorldState)
+    (s : State) : Type 0 where
   pub region_size : IsRegionSize region
   pub stack_size : IsStackSize stack
   pub same : s ≡ record (start_of bytes region stack world) { memory = s.memory }
@@ -68,16 +69,19 @@ pub record Starts (bytes : List ℕ) (items : List RealItem) (address : ℕ → 
 
 -- ---- the claims
 
--- from this state on, where the second machine never goes wrong, the first follows it, and shows the same but for x31 at
+-- from this state on, where the second machine never goes wrong, the first follows it, and shows the same but for x31
+-- at
 -- moments that correspond; it takes at most twelve turns for each of its steps
 pub record Simulates {V : Type 0} (X Y : Machine State State V) (s : State) : Type 0 where
   pub follows : FollowsBy IsLike Any (run X s) (run Y s)
-  pub turns : FollowsBy (OfRest IsLike) (Spends 12) (run (metered each_one X) (unspent s)) (run (metered each_one Y) (unspent s))
+  pub turns : FollowsBy (OfRest IsLike) (Spends 12) (run (metered each_one X) (unspent s))
+      (run (metered each_one Y) (unspent s))
 
 -- in every setting with these addresses the machine does what the code does
 abbrev pub DoesAsCode : {V : Type 0} → (Halt → Ending V) → List ℕ → List RealItem → (ℕ → ℕ) → Type 0
 DoesAsCode reading bytes items address =
-    (setting : Setting) (region stack : ℕ) (world : WorldState) (s : State) → setting.address ≡ address → AllCanBeCall setting →
+    (setting : Setting) (region stack : ℕ) (world : WorldState) (s : State) → setting.address ≡ address
+    → AllCanBeCall setting →
     Starts bytes items address region stack world s → NeverWrong (run (real_machine reading items setting) s) →
     Simulates (machine_in reading items setting) (real_machine reading items setting) s
 
@@ -86,7 +90,8 @@ abbrev pub RunsAsCode : {V : Type 0} → (Halt → Ending V) → List ℕ → Li
 RunsAsCode reading bytes items address =
     (region stack : ℕ) (world : WorldState) → IsRegionSize region → IsStackSize stack →
     NeverWrong (run (real_machine reading items (plain_setting address)) (start_of bytes region stack world)) →
-    Simulates (machine_by reading) (real_machine reading items (plain_setting address)) (start_of bytes region stack world)
+    Simulates (machine_by reading) (real_machine reading items (plain_setting address))
+    (start_of bytes region stack world)
 
 -- the image as it lies in memory
 abbrev pub image_memory : List ℕ → Memory
@@ -95,6 +100,9 @@ image_memory bytes = from_base (memory_of (loaded_part bytes))
 -- what stands where in the code
 pub record HasItsWords (bytes : List ℕ) (items : List RealItem) (address : ℕ → ℕ) : Type 0 where
   -- each instruction's word at the address of its item
-  pub op : (place : ℕ) (i : Inst) → slice_get items place ≡ Some (Op i) → load_bytes 4 (image_memory bytes) (address place) ≡ encode_of i
+  pub op : (place : ℕ) (i : Inst) → slice_get items place ≡ Some (Op i)
+      → load_bytes 4 (image_memory bytes) (address place) ≡ encode_of i
   -- no ECALL and no EBREAK but those
-  pub no_call : (at : ℕ) (i : Inst) → first_address + statics_len bytes ≤ at → at < first_address + statics_len bytes + code_len bytes → at % 4 ≡ 0 → IsNoCall items address at → decode_of (load_bytes 4 (image_memory bytes) at) ≡ Some i → (i ≢ Ecall) × (i ≢ Ebreak)
+  pub no_call : (at : ℕ) (i : Inst) → first_address + statics_len bytes ≤ at
+      → at < first_address + statics_len bytes + code_len bytes → at % 4 ≡ 0 → IsNoCall items address at
+      → decode_of (load_bytes 4 (image_memory bytes) at) ≡ Some i → (i ≢ Ecall) × (i ≢ Ebreak)

@@ -1,5 +1,6 @@
 -- The bytes of an image whose entry is the start of its code.
-use Rattle.std.specs.Prelude.{ℕ, ◌+◌, ◌*◌, ◌%◌, ◌^◌, ◌<◌, ◌≤◌, ◌≡◌, ◌==◌, if◌then◌else◌, List, [], ◌++◌, length, codes, flat_map, map}
+use Rattle.std.specs.Prelude.{ℕ, ◌+◌, ◌*◌, ◌%◌, ◌^◌, ◌<◌, ◌≤◌, ◌≡◌, ◌==◌, if◌then◌else◌, List, [], ◌++◌, length, codes}
+use Rattle.std.specs.Prelude.{flat_map, map}
 use Rattle.std.specs.Int.{w32, w64, to_le_bytes}
 use Rattle.grift_base.specs.declared.places.Pos.{Pos}
 use Rattle.rv_isa.specs.declared.inst.Inst.{Inst}

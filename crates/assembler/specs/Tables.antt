@@ -1,5 +1,6 @@
 -- What the tables hold from which the layout of a code is read.
-use Rattle.std.specs.Prelude.{ℕ, suc, ◌*◌, ◌^◌, ◌<◌, ◌≤◌, ◌≡◌, Bool, true, nat_eq, Option, Some, None, List, length, get_or, All}
+use Rattle.std.specs.Prelude.{ℕ, suc, ◌*◌, ◌^◌, ◌<◌, ◌≤◌, ◌≡◌, Bool, true, nat_eq, Option, Some, None, List, length}
+use Rattle.std.specs.Prelude.{get_or, All}
 use Rattle.grift_base.specs.declared.places.Pos.{Pos}
 use Rattle.indexmap.specs.IndexMap.{get}
 use Rattle.rv_isa.specs.Bits.{IsIn, IsEven}

@@ -73,7 +73,8 @@ fn put_at(
     requires small { layout.now.reach.start < 2 ^ 61 }
     requires lies { IsLayoutOf items.now layout.now }
     requires inside { place ≤ length items.now }
-    ensures words { OnOk result (words.new ≡ words.old ++ inst_words (item_insts items.now layout.now.reach.start place item.now)) }
+    ensures words { OnOk result (
+        words.new ≡ words.old ++ inst_words (item_insts items.now layout.now.reach.start place item.now)) }
     ensures decode { OnOk result (AllDecode (item_insts items.now layout.now.reach.start place item.now)) }
 {
     let near = layout.is_near(items, place, item);

@@ -2,7 +2,8 @@
 
 ghost use Rattle.std.specs.Prelude.{◌≡◌, ◌++◌, ◌∷◌, [], ◌≤◌, ◌<◌, ◌^◌, true, pos, OnOk};
 ghost use Rattle.rv_isa.specs.declared.inst.Inst.TheVariants.{Jalr, Addi, Slli};
-ghost use Rattle.assembler.specs.Expansion.{offset, opposite, chunk_of, far_insts, near_address_insts, near_item_insts, far_item_insts, insts_of};
+ghost use Rattle.assembler.specs.Expansion.{offset, opposite, chunk_of, far_insts, near_address_insts, near_item_insts};
+ghost use Rattle.assembler.specs.Expansion.{far_item_insts, insts_of};
 ghost use Rattle.assembler.specs.Imaging.{inst_words};
 ghost use Rattle.assembler.specs.Encoded.{AllDecode};
 ghost use Rattle.assembler.specs.Tables.{Fits};
@@ -62,7 +63,7 @@ fn put_near(
     }
 }
 
-// Adds the words of its far form.
+// Adds the words of an item's far form.
 fn put_far(words: &mut CodeWords, target: u64, item: &RealItem) -> Result<(), OutOfMemory>
     ensures words { OnOk result (words.new ≡ words.old ++ inst_words (far_item_insts target item.now)) }
     ensures decode { OnOk result (AllDecode (far_item_insts target item.now)) }
@@ -112,7 +113,7 @@ fn scratch() -> Reg
     Reg::new(31)
 }
 
-// The instructions that put any word into it.
+// The instructions that put any word into the scratch register.
 fn far_address(word: u64) -> [Inst; 9]
     ensures { result ≡ far_insts word }
 {
@@ -129,14 +130,14 @@ fn far_address(word: u64) -> [Inst; 9]
     ]
 }
 
-// The instruction that moves what is in it up by eleven bits.
+// The instruction that moves what is in the scratch register up by eleven bits.
 fn move_up() -> Inst
     ensures { result ≡ Slli 31 31 11 }
 {
     Inst::Slli(scratch(), scratch(), Shift6::new(11))
 }
 
-// The instruction that adds to it the eleven bits of a word from place 11 * k on.
+// The instruction that adds eleven bits of a word, those from place 11 * k on, to the scratch register.
 fn add_chunk(word: u64, k: u32) -> Inst
     requires { k ≤ 3 }
     ensures { result ≡ Addi 31 31 (pos (chunk_of word k)) }

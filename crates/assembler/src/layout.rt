@@ -2,7 +2,8 @@
 
 ghost use Rattle.std.specs.Prelude.{◌≡◌, ◌≤◌, ◌<◌, ◌*◌, ◌^◌, IfOk, length, nat_eq, nat_lt, get_or};
 ghost use Rattle.indexmap.specs.IndexMap.{get};
-ghost use Rattle.assembler.specs.Layout.{longest, shortest, width, distance, mark_place, words_before, is_near, longest_widths, widths, address_of};
+ghost use Rattle.assembler.specs.Layout.{longest, shortest, width, distance, mark_place, words_before, is_near};
+ghost use Rattle.assembler.specs.Layout.{longest_widths, widths, address_of};
 ghost use Rattle.assembler.specs.Expansion.{target_of};
 ghost use Rattle.assembler.specs.Tables.{HoldsSums, HoldsPlaces, IsReachOf, IsLayoutOf};
 
@@ -126,7 +127,7 @@ fn width(near: bool, item: &RealItem) -> u64
 // ---- the layout
 
 impl Reach {
-    // That of a code that begins at this address.
+    // The reach of a code that begins at this address.
     fn new(alloc: Global, items: &[RealItem], start: u64) -> Result<Reach, OutOfMemory>
         requires few { length items.now ≤ 2 ^ 40 }
         ensures reach { IfOk result (λ reach. IsReachOf items.now reach) }
@@ -168,7 +169,9 @@ impl Reach {
         requires few { length items.now ≤ 2 ^ 40 }
         requires inside { place ≤ length items.now }
         requires reach { IsReachOf items.now self.now }
-        ensures { result ≡ nat_lt (4 * distance (words_before (longest_widths items.now) place) (words_before (longest_widths items.now) (mark_place mark items.now))) bytes }
+        ensures { let widths = longest_widths items.now in
+            let there = words_before widths (mark_place mark items.now) in
+            result ≡ nat_lt (4 * distance (words_before widths place) there) bytes }
     {
         let here = self.widest_before(items, place);
         let there = self.widest_before(items, self.place_of(items, mark));
@@ -196,7 +199,7 @@ impl Reach {
 }
 
 impl Layout {
-    // That of a code that begins at this address.
+    // The layout of a code that begins at this address.
     pub(crate) fn new(alloc: Global, items: &[RealItem], start: u64) -> Result<Layout, OutOfMemory>
         requires few { length items.now ≤ 2 ^ 40 }
         requires small { start < 2 ^ 61 }
