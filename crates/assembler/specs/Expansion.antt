@@ -1,6 +1,5 @@
 -- The instructions of an item. Where there is more than one, they change x31 alone, and at the last the register that
--- the
--- item sets.
+-- the item sets.
 use Rattle.std.specs.Prelude.{ℕ, suc, ◌-◌, ◌*◌, ◌/◌, ◌%◌, ◌^◌, nat_le, Bool, true, false, if◌then◌else◌, ℤ, pos, negsuc}
 use Rattle.std.specs.Prelude.{List, [], ◌∷◌, ◌++◌}
 use Rattle.rv_isa.specs.declared.inst.Inst.{Inst}

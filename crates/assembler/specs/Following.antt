@@ -70,8 +70,7 @@ pub record Starts (bytes : List ℕ) (items : List RealItem) (address : ℕ → 
 -- ---- the claims
 
 -- from this state on, where the second machine never goes wrong, the first follows it, and shows the same but for x31
--- at
--- moments that correspond; it takes at most twelve turns for each of its steps
+-- at moments that correspond; it takes at most twelve turns for each of its steps
 pub record Simulates {V : Type 0} (X Y : Machine State State V) (s : State) : Type 0 where
   pub follows : FollowsBy IsLike Any (run X s) (run Y s)
   pub turns : FollowsBy (OfRest IsLike) (Spends 12) (run (metered each_one X) (unspent s))

@@ -5,7 +5,7 @@ ghost use Rattle.rv_machine.specs.Memory.{memory_of};
 
 use crate::bytes::write;
 use crate::ram::{Ram, Width};
-use assembler::bytes::read;
+use assembler::bytes::read_number;
 use grift_base::lists::OutOfMemory;
 use std::alloc::{AllocError, Global};
 
@@ -47,10 +47,10 @@ impl Ram for FlatRam {
         let bytes = self.bytes.as_slice();
         let at = at as usize;
         match width {
-            Width::B1 => read::<1>(bytes, at),
-            Width::B2 => read::<2>(bytes, at),
-            Width::B4 => read::<4>(bytes, at),
-            Width::B8 => read::<8>(bytes, at),
+            Width::B1 => read_number::<1>(bytes, at),
+            Width::B2 => read_number::<2>(bytes, at),
+            Width::B4 => read_number::<4>(bytes, at),
+            Width::B8 => read_number::<8>(bytes, at),
         }
     }
 
