@@ -6,8 +6,8 @@ use borrow.Rule.Slice.PartMut.{put_mid}
 use Rattle.std.proofs.Math.Path.{fun_ext}
 use Rattle.std.specs.Int.{w64, to_le_bytes}
 use Rattle.rv_machine.specs.Memory.{store_bytes, byte_of, memory_of}
-use Rattle.rv_machine.proofs.Memory.{stored_inside, stored_outside}
-use Rattle.assembler.proofs.LittleEndian.{byte_in}
+use Rattle.rv_machine.proofs.Public.{stored_inside, stored_outside}
+use Rattle.assembler.proofs.Public.{byte_in}
 
 written_at : (n at word i : ℕ) (bytes part : List ℕ) → at + n ≤ length bytes → length part ≡ n → ((j : ℕ) → j < n → get_or part j 0 ≡ byte_of word j) → get_or (take at bytes ++ (part ++ drop n (drop at bytes))) i 0 ≡ store_bytes n (memory_of bytes) at word i
 written_at n at word i bytes part h l p =

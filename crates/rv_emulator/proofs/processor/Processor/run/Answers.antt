@@ -1,7 +1,8 @@
 use Rattle.std.proofs.Common.{arith}
-use Rattle.rv_machine.proofs.Runs.{run_none, run_more}
+use Rattle.rv_machine.proofs.Public.{run_none, run_more}
 use Rattle.rv_emulator.specs.Processor.{state_of}
-use Rattle.rv_emulator.proofs.Runs.{ran_stop}
+use Rattle.rv_emulator.specs.Turns.{outcome_of}
+use Rattle.rv_emulator.proofs.Runs.{run_ends}
 use Rattle.rv_emulator.proofs.processor.Processor.run.Goals as goal
 
 pub loop-init : goal.loop-init
@@ -10,7 +11,7 @@ loop-init g c = record { so_far = run_none (state_of g.R.Ram.memory c.args.self.
 pub returns-in-Some-clause-ran : goal.returns-in-Some-clause-ran
 returns-in-Some-clause-ran g c =
     let mem = g.R.Ram.memory in
-    ran_stop _ c.loop.counter c.args.steps (state_of mem c.args.self.now) (state_of mem c.loop.self) (state_of mem c.turn.new.self) c.in-Some.stop c.loop.invariant.so_far (omega arith) c.in-Some.ensures.made
+    run_ends _ c.loop.counter c.args.steps (state_of mem c.args.self.now) (state_of mem c.loop.self) (state_of mem c.turn.new.self) (outcome_of c.in-Some.stop) c.loop.invariant.so_far (omega arith) c.in-Some.ensures.made
 
 pub loop-preserved : goal.loop-preserved
 loop-preserved g c =

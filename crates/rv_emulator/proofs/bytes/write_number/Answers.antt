@@ -1,5 +1,5 @@
 use Rattle.rv_emulator.proofs.Written.{write_is_store}
-use Rattle.rv_emulator.proofs.bytes.write.Goals as goal
+use Rattle.rv_emulator.proofs.bytes.write_number.Goals as goal
 
 pub returns : goal.returns
 returns g c =
