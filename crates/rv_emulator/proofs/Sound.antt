@@ -4,7 +4,10 @@ use Rattle.std.specs.Prelude.{ℤ}
 use Rattle.std.specs.Int.{Width}
 use Rattle.grift_base.specs.World.{WorldState}
 use Rattle.grift_base.specs.declared.worlds.EnvEffect.{EnvEffect}
-use Rattle.grift_base.specs.declared.worlds.EnvEffect.TheVariants.{Next as GoesOn, Ended as Answers, Blamed as Blames, Trapped as Traps, RegionOut as RegionEnds, StackOut as StackEnds, Refused, OutOfMemory as NoRoom}
+use Rattle.grift_base.specs.declared.worlds.EnvEffect.TheVariants.{Next as GoesOn, Ended as Answers, Blamed as Blames}
+use Rattle.grift_base.specs.declared.worlds.EnvEffect.TheVariants.{Trapped as Traps, RegionOut as RegionEnds}
+use Rattle.grift_base.specs.declared.worlds.EnvEffect.TheVariants.{StackOut as StackEnds, Refused}
+use Rattle.grift_base.specs.declared.worlds.EnvEffect.TheVariants.{OutOfMemory as NoRoom}
 use Rattle.rv_machine.specs.State.{State, Turn, Next, Stops}
 use Rattle.rv_machine.specs.Turn.{load_into, store_from, branch_if, jump_and_link, comes_to, called, blames}
 use Rattle.rv_emulator.specs.declared.processor.Action.{Action}
@@ -78,7 +81,8 @@ turn_kept lack turn old None new h k m = let f = rw m at k in f
 turn_kept lack turn old (Some stop) new h k m = kept_by lack turn old (outcome_of stop) new h m
 
 -- parts at the same places are as sound
-pub still_sound : (m n : ℕ) (p q : Places) (a b x y : ℕ) → q.code ≡ p.code → q.region ≡ p.region → q.end ≡ p.end → b ≡ a → y % 4 ≡ 0 → n ≡ m → IsSound m p a x → IsSound n q b y
+pub still_sound : (m n : ℕ) (p q : Places) (a b x y : ℕ) → q.code ≡ p.code → q.region ≡ p.region → q.end ≡ p.end
+    → b ≡ a → y % 4 ≡ 0 → n ≡ m → IsSound m p a x → IsSound n q b y
 still_sound m n p q a b x y c r e l h z s = record {
   start = rw c s.start;
   code = rw c s.code;

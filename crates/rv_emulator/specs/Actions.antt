@@ -2,7 +2,8 @@
 use Rattle.std.specs.Prelude.{◌≡◌, Bool, false}
 use Rattle.grift_base.specs.EnvironmentCall.{Prints}
 use Rattle.rv_machine.specs.State.{State, Turn, Next, reg}
-use Rattle.rv_machine.specs.Turn.{put, load_into, store_from, branch_if, jump_and_link, next_pc, call_environment, is_undefined}
+use Rattle.rv_machine.specs.Turn.{put, load_into, store_from, branch_if, jump_and_link, next_pc, call_environment}
+use Rattle.rv_machine.specs.Turn.{is_undefined}
 use Rattle.rv_emulator.specs.declared.processor.Action.{Action}
 use Rattle.rv_emulator.specs.declared.processor.Action.TheVariants.{Put, Load, Store, Branch, Jump, Skip, Call, Refuse}
 use Rattle.rv_emulator.specs.Widths.{width_of}

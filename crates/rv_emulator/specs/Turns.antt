@@ -60,6 +60,10 @@ MakesTurn memory lack turn old stop new =
 abbrev pub NeverLacks : State → Type 0
 NeverLacks s = ⊥
 
+-- memory of the process is needed unless the ram is whole
+abbrev pub LacksUnless : Bool → State → Type 0
+LacksUnless whole s = whole ≡ false
+
 -- the instruction may need memory of the process: it prints, or it stores into a ram that isn't whole
 abbrev pub LacksAt : Bool → Inst → State → Type 0
 LacksAt whole (Sb rs2 rs1 offset) s = whole ≡ false

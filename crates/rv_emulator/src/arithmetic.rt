@@ -2,7 +2,8 @@
 
 ghost use Rattle.std.specs.Prelude.{◌≡◌, ◌+◌, ◌-◌, ◌*◌, ◌/◌, ◌%◌, ◌^◌, ◌<◌, ◌≤◌, Bool, if◌then◌else◌};
 ghost use Rattle.std.specs.Int.{byte_len, w32};
-ghost use Rattle.rv_machine.specs.Turn.{flag, half, low_half, half_right_signed, sign_extend, shift_left, shift_right, shift_right_signed, signed_less};
+ghost use Rattle.rv_machine.specs.Turn.{flag, half, low_half, half_right_signed, sign_extend, shift_left, shift_right};
+ghost use Rattle.rv_machine.specs.Turn.{shift_right_signed, signed_less};
 ghost use Rattle.rv_emulator.specs.Widths.{width_of};
 
 use crate::ram::Width;

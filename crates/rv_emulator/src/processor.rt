@@ -8,16 +8,16 @@ ghost use Rattle.rv_machine.specs.State.{reg};
 ghost use Rattle.grift_base.specs.EnvironmentCall.{Prints};
 ghost use Rattle.rv_emulator.specs.Widths.{width_of};
 ghost use Rattle.rv_emulator.specs.Processor.{state_of, IsSoundBy};
-ghost use Rattle.rv_emulator.specs.Turns.{MakesTurn, NeverLacks, LacksAt, LacksNext, RunsTo, outcome_of};
+ghost use Rattle.rv_emulator.specs.Turns.{MakesTurn, NeverLacks, LacksUnless, LacksAt, LacksNext, RunsTo, outcome_of};
 ghost use Rattle.rv_emulator.specs.Actions.{performed, go_on, LacksBy};
 
-use crate::ram::{Ram, Width};
-use crate::registers::Registers;
-use crate::stops::Stop;
 use crate::arithmetic::{
     extend, extend_half, flag_of, half_shifted_left, half_shifted_right, half_shifted_right_signed,
     is_less_signed, lower, shifted_left, shifted_right, shifted_right_signed,
 };
+use crate::ram::{Ram, Width};
+use crate::registers::Registers;
+use crate::stops::Stop;
 use grift_base::lists::Items;
 use grift_base::places::Pos;
 use grift_base::worlds::{EnvEffect, World};
@@ -79,8 +79,8 @@ impl<R: Ram> Processor<R> {
     // Reads a number into a register.
     fn load_into(&mut self, rd: Reg, at: u64, width: Width, signed: bool) -> Option<Stop>
         requires { IsSoundBy R.bytes_len self.old }
-        ensures made {
-            MakesTurn R.memory NeverLacks (load_into signed (width_of width) rd at) self.old result self.new }
+        ensures made { let turn = load_into signed (width_of width) rd at in
+            MakesTurn R.memory NeverLacks turn self.old result self.new }
         ensures ram { self.new.ram ≡ self.old.ram }
     {
         let bytes = width.bytes();
@@ -97,8 +97,8 @@ impl<R: Ram> Processor<R> {
     // Writes the lowest bytes of a word.
     fn store_from(&mut self, word: u64, to: u64, width: Width) -> Option<Stop>
         requires { IsSoundBy R.bytes_len self.old }
-        ensures made {
-            MakesTurn R.memory (λ _. R.whole self.new.ram ≡ false) (store_from (width_of width) word to) self.old result self.new }
+        ensures made { let lacks = LacksUnless (R.whole self.new.ram) in
+            MakesTurn R.memory lacks (store_from (width_of width) word to) self.old result self.new }
         ensures len { R.bytes_len self.new.ram ≡ R.bytes_len self.old.ram }
         ensures stays_whole { R.whole self.old.ram ≡ true → R.whole self.new.ram ≡ true }
     {
@@ -376,8 +376,8 @@ impl<R: Ram> Processor<R> {
     // Does what the action says.
     fn perform(&mut self, action: Action) -> Option<Stop>
         requires { IsSoundBy R.bytes_len self.old }
-        ensures made {
-            MakesTurn R.memory (LacksBy (R.whole self.new.ram) action) (performed action) self.old result self.new }
+        ensures made { let lacks = LacksBy (R.whole self.new.ram) action in
+            MakesTurn R.memory lacks (performed action) self.old result self.new }
         ensures len { R.bytes_len self.new.ram ≡ R.bytes_len self.old.ram }
         ensures stays_whole { R.whole self.old.ram ≡ true → R.whole self.new.ram ≡ true }
     {
