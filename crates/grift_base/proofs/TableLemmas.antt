@@ -1,30 +1,6 @@
 -- What a set that keeps its order says of its keys as a table, where its test tells whether two entries are the same.
-use Rattle.std.proofs.Common.{
-  ◌≡◌,
-  ◌≢◌,
-  ℕ,
-  ◌<◌,
-  ◌++◌,
-  ◌∷◌,
-  [],
-  List,
-  Bool,
-  true,
-  false,
-  Some,
-  refl,
-  sym,
-  ap,
-  ◌∙◌,
-  true≢false,
-  inl,
-  inr,
-  slice_get,
-  Contains,
-  if◌then◌else◌,
-  arith,
-  Decides,
-}
+use Rattle.std.proofs.Common.{◌≡◌, ◌≢◌, ℕ, ◌<◌, ◌++◌, ◌∷◌, [], List, Bool, true, false, Some, refl, sym, ap, ◌∙◌}
+use Rattle.std.proofs.Common.{true≢false, inl, inr, slice_get, Contains, if◌then◌else◌, arith, Decides}
 use Rattle.std.proofs.lemmas.Option.{slice_get_cases, slice_get_within, get_or_from_slice_get}
 use Rattle.std.proofs.lemmas.Map.Made.{AllPairs-from_IsDistinct}
 use Rattle.std.proofs.lemmas.Map.Views.{Contains-from_any, list_any-from_Contains}

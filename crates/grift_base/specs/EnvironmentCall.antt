@@ -4,27 +4,12 @@ use Rattle.std.specs.Fmt.{signed_decimal}
 use Rattle.std.specs.Int.{cast_signed, w64}
 use Rattle.grift_base.specs.World.{WorldState, printing}
 use Rattle.grift_base.specs.declared.verdicts.AnswerKind.{AnswerKind}
-use Rattle.grift_base.specs.declared.verdicts.AnswerKind.TheVariants.{
-  Int,
-  Bool,
-  Unit as UnitKind,
-  Function,
-  Tuple,
-  Boxed,
-  Vector,
-}
+use Rattle.grift_base.specs.declared.verdicts.AnswerKind.TheVariants.{Int, Bool, Unit as UnitKind, Function, Tuple}
+use Rattle.grift_base.specs.declared.verdicts.AnswerKind.TheVariants.{Boxed, Vector}
 use Rattle.grift_base.specs.declared.verdicts.Trap.TheVariants.{ZeroDivisor, Index, Length, Input}
 use Rattle.grift_base.specs.declared.worlds.EnvEffect.{EnvEffect}
-use Rattle.grift_base.specs.declared.worlds.EnvEffect.TheVariants.{
-  Next,
-  Ended,
-  Blamed,
-  Trapped,
-  RegionOut,
-  StackOut,
-  Refused,
-  OutOfMemory,
-}
+use Rattle.grift_base.specs.declared.worlds.EnvEffect.TheVariants.{Next, Ended, Blamed, Trapped, RegionOut, StackOut}
+use Rattle.grift_base.specs.declared.worlds.EnvEffect.TheVariants.{Refused, OutOfMemory}
 
 -- what the call comes to, and the outside after it
 pub record Called : Type 0 where

@@ -1,22 +1,6 @@
 -- Integers that a text writes.
-use Rattle.std.specs.Prelude.{
-  ℕ,
-  ℤ,
-  pos,
-  negsuc,
-  Bool,
-  ◌==◌,
-  ◌^◌,
-  ◌&&◌,
-  not,
-  nat_lt,
-  List,
-  length,
-  Option,
-  Some,
-  None,
-  if◌then◌else◌,
-}
+use Rattle.std.specs.Prelude.{ℕ, ℤ, pos, negsuc, Bool, ◌==◌, ◌^◌, ◌&&◌, not, nat_lt, List, length, Option, Some, None}
+use Rattle.std.specs.Prelude.{if◌then◌else◌}
 use Rattle.std.specs.Char.{is_ascii_digit}
 use Rattle.std.specs.List.{list_all}
 use Rattle.std.specs.Str.Parse.{without_leading_sign, signed_digits_value}

@@ -1,31 +1,6 @@
 -- What a load from a shelf comes to, and a shelf in memory as data.
-use Rattle.std.specs.Prelude.{
-  ℕ,
-  ◌≡◌,
-  ◌<◌,
-  ◌≤◌,
-  ◌==◌,
-  ◌||◌,
-  Bool,
-  true,
-  false,
-  List,
-  [],
-  ◌∷◌,
-  ◌++◌,
-  length,
-  find,
-  Option,
-  IfSome,
-  option_map,
-  is_none,
-  Vec,
-  Result,
-  Ok,
-  Err,
-  bytes_eq,
-  if◌then◌else◌,
-}
+use Rattle.std.specs.Prelude.{ℕ, ◌≡◌, ◌<◌, ◌≤◌, ◌==◌, ◌||◌, Bool, true, false, List, [], ◌∷◌, ◌++◌, length, find}
+use Rattle.std.specs.Prelude.{Option, IfSome, option_map, is_none, Vec, Result, Ok, Err, bytes_eq, if◌then◌else◌}
 use Rattle.std.specs.List.{list_any}
 use Rattle.grift_base.specs.Outside.{next_count}
 use Rattle.grift_base.specs.declared.shelves.LoadFault.{LoadFault}

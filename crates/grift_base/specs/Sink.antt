@@ -1,25 +1,6 @@
 -- What a put into a sink comes to, and a sink in memory as data.
-use Rattle.std.specs.Prelude.{
-  ℕ,
-  ◌≡◌,
-  ◌==◌,
-  ◌-◌,
-  Bool,
-  true,
-  false,
-  List,
-  ◌++◌,
-  length,
-  take,
-  Option,
-  Some,
-  None,
-  option_map,
-  IsSomeAnd,
-  Result,
-  Ok,
-  Err,
-}
+use Rattle.std.specs.Prelude.{ℕ, ◌≡◌, ◌==◌, ◌-◌, Bool, true, false, List, ◌++◌, length, take, Option, Some, None}
+use Rattle.std.specs.Prelude.{option_map, IsSomeAnd, Result, Ok, Err}
 use Rattle.std.specs.List.{list_any}
 use Rattle.grift_base.specs.Outside.{next_count}
 use Rattle.grift_base.specs.declared.sinks.SinkFault.{SinkFault}
