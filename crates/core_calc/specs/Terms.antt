@@ -1,4 +1,5 @@
--- Terms and values of the calculus. Names, types and labels are numbers: a type is a place in the table of types, a label one in the table of labels.
+-- Terms and values of the calculus. Names, types and labels are numbers: a type is a place in the table of types, a
+-- label one in the table of labels.
 use Rattle.std.specs.Prelude.{ℕ, suc, ◌+◌, ℤ, Bool, List, [], ◌∷◌, Option, Some, None}
 use Rattle.grift_base.specs.declared.operators.PrimOp.{PrimOp}
 

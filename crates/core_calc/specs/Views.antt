@@ -1,11 +1,13 @@
 -- The compiler's terms as terms of the calculus: what their boxes hold, and not where.
 use Rattle.core_calc.specs.declared.terms.Core.{Core}
-use Rattle.core_calc.specs.declared.terms.Core.TheVariants.{Int, Unit as CoreUnit, Seq as CoreSeq, Prim as CorePrim, Value as CoreValue}
+use Rattle.core_calc.specs.declared.terms.Core.TheVariants.{Int, Unit as CoreUnit, Seq as CoreSeq, Prim as CorePrim}
+use Rattle.core_calc.specs.declared.terms.Core.TheVariants.{Value as CoreValue}
 use Rattle.core_calc.specs.declared.terms.CoreList.{CoreList}
 use Rattle.core_calc.specs.declared.terms.CoreList.TheVariants.{Nil, Cons'}
 use Rattle.core_calc.specs.declared.terms.Value.{Value as RustValue}
 use Rattle.core_calc.specs.declared.terms.Value.TheVariants.{Int as IntCase, Unit as UnitCase}
-use Rattle.core_calc.specs.Terms.{Term, Terms, Value, IntLit, UnitLit, Seq, Prim, ValueTerm, NoTerms, TermThen, IntValue, UnitValue}
+use Rattle.core_calc.specs.Terms.{Term, Terms, Value, IntLit, UnitLit, Seq, Prim, ValueTerm, NoTerms, TermThen}
+use Rattle.core_calc.specs.Terms.{IntValue, UnitValue}
 
 abbrev pub value_of : RustValue → Value
 value_of (IntCase n) = IntValue n

@@ -8,4 +8,5 @@ returns-clause-steps c = λ types labels. calculus_adds_output types labels
 
 pub returns-clause-runs : goal.returns-clause-runs
 returns-clause-runs c = λ program input.
-    reduction_output_grows (calculus program.types program.labels) (calculus_adds_output program.types program.labels) (start program.term input)
+    reduction_output_grows (calculus program.types program.labels) (calculus_adds_output program.types program.labels)
+    (start program.term input)
