@@ -1,7 +1,7 @@
 -- How runs of the calculus end.
 use Rattle.std.proofs.Common.{◌≡◌, ◌↔◌, ℕ, List, Option, Some, None, refl, sym, ap, ◌∙◌}
 use Rattle.std.specs.Prelude.{option_map}
-use Rattle.run_laws.proofs.Reducing.{state_after_keeps}
+use Rattle.run_laws.proofs.Public.{state_after_keeps}
 use Rattle.grift_base.specs.World.{WorldState}
 use Rattle.grift_base.specs.Types.{TypeRows}
 use Rattle.grift_base.specs.declared.places.Pos.{Pos}

@@ -6,7 +6,7 @@ use Rattle.std.specs.Ordering.{int_eq}
 use Rattle.std.specs.Fmt.{signed_decimal}
 use Rattle.run_laws.specs.Runs.{IsPrefix}
 use Rattle.run_laws.specs.Reductions.{ReductionOnlyAddsOutput}
-use Rattle.run_laws.proofs.Following.{prefix_refl}
+use Rattle.run_laws.proofs.Public.{prefix_refl}
 use Rattle.grift_base.specs.World.{WorldState}
 use Rattle.grift_base.specs.Types.{TypeRow, TypeRows, FunRow, row_at, is_dyn, is_base, same_head, tuple_part, dyn_place}
 use Rattle.grift_base.specs.Types.{content_of}

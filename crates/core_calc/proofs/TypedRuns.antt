@@ -3,7 +3,7 @@ use Rattle.std.proofs.Common.{◌≡◌, ◌≢◌, ℕ, zero, suc, ◌<◌, Lis
 use Rattle.std.proofs.Common.{slice_get}
 use Rattle.std.specs.Prelude.{option_map}
 use Rattle.run_laws.specs.Runs.{Ending, Verdict as EndsWith, Wrong, NeverWrong}
-use Rattle.run_laws.proofs.Reducing.{state_after_keeps, reduction_never_wrong}
+use Rattle.run_laws.proofs.Public.{state_after_keeps, reduction_never_wrong}
 use Rattle.grift_base.specs.Types.{TypeRows}
 use Rattle.grift_base.specs.declared.places.Pos.{Pos}
 use Rattle.grift_base.specs.declared.verdicts.Verdict.{Verdict}
