@@ -190,12 +190,12 @@ module _ (types : TypeRows) (store : Store) (world : WorldState) where
   steps_enter (FunValue parameters body type) function arguments e h =
       steps_whole (all_values arguments) (Enter function arguments) (below (Enter function) (focus_terms arguments))
       (enter_body types store world parameters body [])
-          (inside (Enter function) (step_terms types store world arguments)) e
+      (inside (Enter function) (step_terms types store world arguments)) e
       (steps_below (Enter function) (focus_terms arguments) (step_terms types store world arguments) h)
   steps_enter (MemberValue group place) function arguments e h =
       steps_whole (all_values arguments) (Enter function arguments) (below (Enter function) (focus_terms arguments))
       (enter_member types store world group place (group_values group))
-          (inside (Enter function) (step_terms types store world arguments)) e
+      (inside (Enter function) (step_terms types store world arguments)) e
       (steps_below (Enter function) (focus_terms arguments) (step_terms types store world arguments) h)
   steps_enter (TupleValue parts) function arguments e h =
       steps_whole (all_values arguments) (Enter function arguments) (below (Enter function) (focus_terms arguments))
@@ -232,7 +232,7 @@ module _ (types : TypeRows) (store : Store) (world : WorldState) where
     step_is_of_redex (Group group body) = refl
     step_is_of_redex (Let bindings body) =
         steps_whole (bound_values bindings) (Let bindings body)
-            (below (λ next. Let next body) (focus_bindings bindings))
+        (below (λ next. Let next body) (focus_bindings bindings))
         (let_step types store world bindings body)
         (inside (λ next. Let next body) (step_bindings types store world bindings)) refl
         (steps_below (λ next. Let next body) (focus_bindings bindings) (step_bindings types store world bindings)
@@ -366,7 +366,7 @@ mutual
   redex_is_whole (Group group body) = refl
   redex_is_whole (Let bindings body) =
       whole_here (bound_values bindings) (Let bindings body) (below (λ next. Let next body) (focus_bindings bindings))
-          refl
+      refl
       (redex_of_bindings_is_whole bindings)
   redex_is_whole (Call function arguments) =
       whole_choice (as_value function) (Call function arguments)
@@ -374,7 +374,7 @@ mutual
       (below (Call function) (focus_terms arguments)))
       (below (λ next. Call next arguments) (focus function)) refl
       (λ e. whole_here (all_values arguments) (Call function arguments)
-          (below (Call function) (focus_terms arguments)) e
+      (below (Call function) (focus_terms arguments)) e
       (redex_of_terms_is_whole arguments))
       (redex_is_whole function)
   redex_is_whole (Enter function arguments) =
@@ -416,4 +416,4 @@ mutual
   redex_of_bindings_is_whole (BindingThen name bound rest) =
       whole_along (as_value bound) (along (BindingThen name bound) (focus_bindings rest))
       (along (λ next. BindingThen name next rest) (focus bound)) (redex_of_bindings_is_whole rest)
-          (redex_is_whole bound)
+      (redex_is_whole bound)

@@ -10,8 +10,10 @@ use Rattle.core_calc.specs.declared.terms.Core.TheVariants.{ProjDyn' as ProjDynC
 use Rattle.core_calc.specs.declared.terms.Core.TheVariants.{Prim as PrimCase, Value as ValueCase}
 use Rattle.core_calc.specs.declared.terms.CoreList.{CoreList}
 use Rattle.core_calc.specs.declared.terms.CoreList.TheVariants.{Nil, Cons'}
+use Rattle.core_calc.specs.declared.terms.GroupMember.{GroupMember, out-GroupMember}
 use Rattle.core_calc.specs.declared.terms.GroupMembers.{GroupMembers}
 use Rattle.core_calc.specs.declared.terms.GroupMembers.TheVariants.{Nil as NoMember, Cons' as MemberCons}
+use Rattle.core_calc.specs.declared.terms.CoreBinding.{CoreBinding, out-CoreBinding}
 use Rattle.core_calc.specs.declared.terms.CoreBindings.{CoreBindings}
 use Rattle.core_calc.specs.declared.terms.CoreBindings.TheVariants.{Nil as NoBinding, Cons' as BindingCons}
 use Rattle.core_calc.specs.declared.terms.Value.{Value as RustValue}
@@ -21,7 +23,8 @@ use Rattle.core_calc.specs.declared.terms.Value.TheVariants.{Tuple as TupleKind,
 use Rattle.core_calc.specs.declared.terms.Value.TheVariants.{Inject' as InjectKind}
 use Rattle.core_calc.specs.declared.terms.Values.{Values as RustValues}
 use Rattle.core_calc.specs.declared.terms.Values.TheVariants.{Nil as NoValue, Cons' as ValueCons}
-use Rattle.core_calc.specs.Terms.{Term, Terms, Members, Bindings, Value, Values, IntLit, BoolLit, UnitLit, Var, Lambda}
+use Rattle.core_calc.specs.Terms.{Member, Binding, Term, Terms, Members, Bindings, Value, Values, IntLit, BoolLit}
+use Rattle.core_calc.specs.Terms.{UnitLit, Var, Lambda}
 use Rattle.core_calc.specs.Terms.{Group, Let, Call, Enter, If, Seq, Cast, Proj, ProjDyn, Tuple, Prim, ValueTerm}
 use Rattle.core_calc.specs.Terms.{NoTerms, TermThen, NoMembers, MemberThen, NoBindings, BindingThen, IntValue}
 use Rattle.core_calc.specs.Terms.{BoolValue, UnitValue, FunValue, MemberValue, TupleValue, LocValue, WrapValue}
@@ -78,3 +81,14 @@ abbrev mutual
   pub values_of : RustValues → Values
   values_of NoValue = NoValues
   values_of (ValueCons _ v _ rest) = ValueThen (value_of v) (values_of rest)
+
+abbrev pub member_of : GroupMember → Member
+member_of member = record {
+  name = (out-GroupMember member).name.0;
+  parameters = names_of (out-GroupMember member).params;
+  body = term_of (out-GroupMember member).body;
+  type = (out-GroupMember member).ty.0;
+}
+
+abbrev pub binding_of : CoreBinding → Binding
+binding_of binding = record { name = (out-CoreBinding binding).name.0; bound = term_of (out-CoreBinding binding).value }

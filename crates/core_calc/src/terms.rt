@@ -1,8 +1,8 @@
 // Terms and values of the calculus.
 
 ghost use Rattle.std.specs.Prelude.{◌≡◌, ◌==◌, ◌∷◌, [], length, min, reverse, slice_get, OnOk, OnErr, MatchOption, None, Some};
-ghost use Rattle.core_calc.specs.Terms.{term_list, value_list};
-ghost use Rattle.core_calc.specs.Views.{term_of, terms_of, value_of, values_of};
+ghost use Rattle.core_calc.specs.Terms.{term_list, member_list, binding_list, value_list};
+ghost use Rattle.core_calc.specs.Views.{term_of, terms_of, member_of, members_of, binding_of, bindings_of, value_of, values_of};
 
 use grift_base::lists::{Items, OutOfMemory};
 use grift_base::operators::PrimOp;
@@ -180,6 +180,320 @@ impl Drop for Values {
             match self {
                 Values::Nil => return,
                 Values::Cons(_, rest) => self = Box::into_inner(rest),
+            }
+        }
+    }
+}
+
+// Lists are built from the front and turned round, so that nothing walks them for each element.
+
+impl CoreList {
+    /// The empty list.
+    pub fn new() -> CoreList
+        ensures { term_list (terms_of result) ≡ [] }
+    {
+        CoreList::Nil
+    }
+
+    /// Whether there is no term.
+    pub fn is_empty(&self) -> bool
+        ensures { result ≡ (length (term_list (terms_of self.now)) == 0) }
+    {
+        matches!(self, CoreList::Nil)
+    }
+
+    /// How many terms there are, or `u64::MAX` where there are more.
+    pub fn len(&self) -> u64
+        ensures { result ≡ min u64.MAX (length (term_list (terms_of self.now))) }
+    {
+        let mut count = 0u64;
+        let mut left = self;
+        loop {
+            match left {
+                CoreList::Nil => return count,
+                CoreList::Cons(_, rest) => {
+                    count = count.saturating_add(1);
+                    left = rest;
+                }
+            }
+        }
+    }
+
+    /// The term at place `i`, counted from 0; none exactly where there are no more than `i` terms.
+    pub fn get(&self, i: u64) -> Option<&Core>
+        ensures { MatchOption result (slice_get (term_list (terms_of self.now)) i ≡ None)
+            (λ item. slice_get (term_list (terms_of self.now)) i ≡ Some (term_of item.now)) }
+    {
+        let mut place = i;
+        let mut left = self;
+        while let CoreList::Cons(first, rest) = left {
+            if place == 0 {
+                return Some(first);
+            }
+            place -= 1;
+            left = rest;
+        }
+        None
+    }
+
+    /// Puts a term in front of the others.
+    pub fn push_front(&mut self, alloc: Global, item: Core) -> Result<(), OutOfMemory>
+        ensures ok { OnOk result (term_list (terms_of self.new) ≡ term_of item ∷ term_list (terms_of self.old)) }
+        ensures err { OnErr result (self.new ≡ self.old) }
+    {
+        let first = Box::new(alloc, item)?;
+        let mut rest = Box::new(alloc, CoreList::Nil)?;
+        *rest = mem::replace(self, CoreList::Nil);
+        *self = CoreList::Cons(first, rest);
+        Ok(())
+    }
+
+    /// The same terms in the other order.
+    pub fn reversed(mut self) -> CoreList
+        ensures { term_list (terms_of result) ≡ reverse (term_list (terms_of self)) }
+    {
+        let mut turned = CoreList::Nil;
+        loop {
+            match self {
+                CoreList::Nil => return turned,
+                CoreList::Cons(first, mut rest) => {
+                    self = mem::replace(&mut *rest, turned);
+                    turned = CoreList::Cons(first, rest);
+                }
+            }
+        }
+    }
+}
+
+impl GroupMembers {
+    /// The empty list.
+    pub fn new() -> GroupMembers
+        ensures { member_list (members_of result) ≡ [] }
+    {
+        GroupMembers::Nil
+    }
+
+    /// Whether there is no function.
+    pub fn is_empty(&self) -> bool
+        ensures { result ≡ (length (member_list (members_of self.now)) == 0) }
+    {
+        matches!(self, GroupMembers::Nil)
+    }
+
+    /// How many functions there are, or `u64::MAX` where there are more.
+    pub fn len(&self) -> u64
+        ensures { result ≡ min u64.MAX (length (member_list (members_of self.now))) }
+    {
+        let mut count = 0u64;
+        let mut left = self;
+        loop {
+            match left {
+                GroupMembers::Nil => return count,
+                GroupMembers::Cons(_, rest) => {
+                    count = count.saturating_add(1);
+                    left = rest;
+                }
+            }
+        }
+    }
+
+    /// The function at place `i`, counted from 0; none exactly where there are no more than `i` functions.
+    pub fn get(&self, i: u64) -> Option<&GroupMember>
+        ensures { MatchOption result (slice_get (member_list (members_of self.now)) i ≡ None)
+            (λ item. slice_get (member_list (members_of self.now)) i ≡ Some (member_of item.now)) }
+    {
+        let mut place = i;
+        let mut left = self;
+        while let GroupMembers::Cons(first, rest) = left {
+            if place == 0 {
+                return Some(first);
+            }
+            place -= 1;
+            left = rest;
+        }
+        None
+    }
+
+    /// Puts a function in front of the others.
+    pub fn push_front(&mut self, alloc: Global, item: GroupMember) -> Result<(), OutOfMemory>
+        ensures ok { OnOk result (member_list (members_of self.new) ≡ member_of item ∷ member_list (members_of self.old)) }
+        ensures err { OnErr result (self.new ≡ self.old) }
+    {
+        let first = Box::new(alloc, item)?;
+        let mut rest = Box::new(alloc, GroupMembers::Nil)?;
+        *rest = mem::replace(self, GroupMembers::Nil);
+        *self = GroupMembers::Cons(first, rest);
+        Ok(())
+    }
+
+    /// The same functions in the other order.
+    pub fn reversed(mut self) -> GroupMembers
+        ensures { member_list (members_of result) ≡ reverse (member_list (members_of self)) }
+    {
+        let mut turned = GroupMembers::Nil;
+        loop {
+            match self {
+                GroupMembers::Nil => return turned,
+                GroupMembers::Cons(first, mut rest) => {
+                    self = mem::replace(&mut *rest, turned);
+                    turned = GroupMembers::Cons(first, rest);
+                }
+            }
+        }
+    }
+}
+
+impl CoreBindings {
+    /// The empty list.
+    pub fn new() -> CoreBindings
+        ensures { binding_list (bindings_of result) ≡ [] }
+    {
+        CoreBindings::Nil
+    }
+
+    /// Whether there is no binding.
+    pub fn is_empty(&self) -> bool
+        ensures { result ≡ (length (binding_list (bindings_of self.now)) == 0) }
+    {
+        matches!(self, CoreBindings::Nil)
+    }
+
+    /// How many bindings there are, or `u64::MAX` where there are more.
+    pub fn len(&self) -> u64
+        ensures { result ≡ min u64.MAX (length (binding_list (bindings_of self.now))) }
+    {
+        let mut count = 0u64;
+        let mut left = self;
+        loop {
+            match left {
+                CoreBindings::Nil => return count,
+                CoreBindings::Cons(_, rest) => {
+                    count = count.saturating_add(1);
+                    left = rest;
+                }
+            }
+        }
+    }
+
+    /// The binding at place `i`, counted from 0; none exactly where there are no more than `i` bindings.
+    pub fn get(&self, i: u64) -> Option<&CoreBinding>
+        ensures { MatchOption result (slice_get (binding_list (bindings_of self.now)) i ≡ None)
+            (λ item. slice_get (binding_list (bindings_of self.now)) i ≡ Some (binding_of item.now)) }
+    {
+        let mut place = i;
+        let mut left = self;
+        while let CoreBindings::Cons(first, rest) = left {
+            if place == 0 {
+                return Some(first);
+            }
+            place -= 1;
+            left = rest;
+        }
+        None
+    }
+
+    /// Puts a binding in front of the others.
+    pub fn push_front(&mut self, alloc: Global, item: CoreBinding) -> Result<(), OutOfMemory>
+        ensures ok { OnOk result (binding_list (bindings_of self.new) ≡ binding_of item ∷ binding_list (bindings_of self.old)) }
+        ensures err { OnErr result (self.new ≡ self.old) }
+    {
+        let first = Box::new(alloc, item)?;
+        let mut rest = Box::new(alloc, CoreBindings::Nil)?;
+        *rest = mem::replace(self, CoreBindings::Nil);
+        *self = CoreBindings::Cons(first, rest);
+        Ok(())
+    }
+
+    /// The same bindings in the other order.
+    pub fn reversed(mut self) -> CoreBindings
+        ensures { binding_list (bindings_of result) ≡ reverse (binding_list (bindings_of self)) }
+    {
+        let mut turned = CoreBindings::Nil;
+        loop {
+            match self {
+                CoreBindings::Nil => return turned,
+                CoreBindings::Cons(first, mut rest) => {
+                    self = mem::replace(&mut *rest, turned);
+                    turned = CoreBindings::Cons(first, rest);
+                }
+            }
+        }
+    }
+}
+
+impl Values {
+    /// The empty list.
+    pub fn new() -> Values
+        ensures { value_list (values_of result) ≡ [] }
+    {
+        Values::Nil
+    }
+
+    /// Whether there is no value.
+    pub fn is_empty(&self) -> bool
+        ensures { result ≡ (length (value_list (values_of self.now)) == 0) }
+    {
+        matches!(self, Values::Nil)
+    }
+
+    /// How many values there are, or `u64::MAX` where there are more.
+    pub fn len(&self) -> u64
+        ensures { result ≡ min u64.MAX (length (value_list (values_of self.now))) }
+    {
+        let mut count = 0u64;
+        let mut left = self;
+        loop {
+            match left {
+                Values::Nil => return count,
+                Values::Cons(_, rest) => {
+                    count = count.saturating_add(1);
+                    left = rest;
+                }
+            }
+        }
+    }
+
+    /// The value at place `i`, counted from 0; none exactly where there are no more than `i` values.
+    pub fn get(&self, i: u64) -> Option<&Value>
+        ensures { MatchOption result (slice_get (value_list (values_of self.now)) i ≡ None)
+            (λ item. slice_get (value_list (values_of self.now)) i ≡ Some (value_of item.now)) }
+    {
+        let mut place = i;
+        let mut left = self;
+        while let Values::Cons(first, rest) = left {
+            if place == 0 {
+                return Some(first);
+            }
+            place -= 1;
+            left = rest;
+        }
+        None
+    }
+
+    /// Puts a value in front of the others.
+    pub fn push_front(&mut self, alloc: Global, item: Value) -> Result<(), OutOfMemory>
+        ensures ok { OnOk result (value_list (values_of self.new) ≡ value_of item ∷ value_list (values_of self.old)) }
+        ensures err { OnErr result (self.new ≡ self.old) }
+    {
+        let first = Box::new(alloc, item)?;
+        let mut rest = Box::new(alloc, Values::Nil)?;
+        *rest = mem::replace(self, Values::Nil);
+        *self = Values::Cons(first, rest);
+        Ok(())
+    }
+
+    /// The same values in the other order.
+    pub fn reversed(mut self) -> Values
+        ensures { value_list (values_of result) ≡ reverse (value_list (values_of self)) }
+    {
+        let mut turned = Values::Nil;
+        loop {
+            match self {
+                Values::Nil => return turned,
+                Values::Cons(first, mut rest) => {
+                    self = mem::replace(&mut *rest, turned);
+                    turned = Values::Cons(first, rest);
+                }
             }
         }
     }
