@@ -1,18 +1,21 @@
+pub mod Public
 mod Examples
 mod TypedExamples
 mod ReadingExamples
-pub mod Output
-pub mod Endings
-pub mod Substituting
-pub mod Redexes
-pub mod TypedLists
-pub mod TypedRows
-pub mod TypedMore
-pub mod TypedSubstitution
-pub mod TypedValues
-pub mod TypedCells
-pub mod TypedCalls
-pub mod TypedOperators
-pub mod TypedSteps
-pub mod TypedRuns
-pub mod TypedAnswers
+mod Output
+mod Endings
+mod Substituting
+mod Redexes
+mod ListPlaces
+mod RowsOfTables
+mod MoreCells
+mod SubstitutionKeepsTypes
+mod TypedValues
+mod CanonicalForms
+mod OneType
+mod StoredCells
+mod CallsKeepTypes
+mod OperatorsKeepTypes
+mod StepsKeepTypes
+mod RunsKeepTypes
+mod AnswerKinds

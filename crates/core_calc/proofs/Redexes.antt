@@ -50,58 +50,58 @@ around_enter (Some (InjectValue v kept)) whole f g p q = q
 around_enter None whole f g p q = p
 
 mutual
-  pub redex_in_place : (term : Term) → (focus term).around (focus term).redex ≡ term
-  redex_in_place (IntLit n) = refl
-  redex_in_place (BoolLit b) = refl
-  redex_in_place UnitLit = refl
-  redex_in_place (ValueTerm v) = refl
-  redex_in_place (Var name) = refl
-  redex_in_place (Lambda parameters body type) = refl
-  redex_in_place (Group group body) = refl
-  redex_in_place (Let bindings body) =
+  pub the_step_is_that_of_the_redex-in_place : (term : Term) → (focus term).around (focus term).redex ≡ term
+  the_step_is_that_of_the_redex-in_place (IntLit n) = refl
+  the_step_is_that_of_the_redex-in_place (BoolLit b) = refl
+  the_step_is_that_of_the_redex-in_place UnitLit = refl
+  the_step_is_that_of_the_redex-in_place (ValueTerm v) = refl
+  the_step_is_that_of_the_redex-in_place (Var name) = refl
+  the_step_is_that_of_the_redex-in_place (Lambda parameters body type) = refl
+  the_step_is_that_of_the_redex-in_place (Group group body) = refl
+  the_step_is_that_of_the_redex-in_place (Let bindings body) =
       around_choice (bound_values bindings) (Let bindings body) (here (Let bindings body))
       (below (λ next. Let next body) (focus_bindings bindings)) refl
       (ap (λ next. Let next body) (redex_in_bindings bindings))
-  redex_in_place (Call function arguments) =
+  the_step_is_that_of_the_redex-in_place (Call function arguments) =
       around_choice (as_value function) (Call function arguments)
       (where_some (all_values arguments) (here (Call function arguments))
       (below (Call function) (focus_terms arguments)))
       (below (λ next. Call next arguments) (focus function))
       (around_choice (all_values arguments) (Call function arguments) (here (Call function arguments))
       (below (Call function) (focus_terms arguments)) refl (ap (Call function) (redex_in_terms arguments)))
-      (ap (λ next. Call next arguments) (redex_in_place function))
-  redex_in_place (Enter function arguments) =
+      (ap (λ next. Call next arguments) (the_step_is_that_of_the_redex-in_place function))
+  the_step_is_that_of_the_redex-in_place (Enter function arguments) =
       around_enter (as_value function) (Enter function arguments) (here (Enter function arguments))
       (where_some (all_values arguments) (here (Enter function arguments))
       (below (Enter function) (focus_terms arguments))) refl
       (around_choice (all_values arguments) (Enter function arguments) (here (Enter function arguments))
       (below (Enter function) (focus_terms arguments)) refl (ap (Enter function) (redex_in_terms arguments)))
-  redex_in_place (If condition on_true on_false) =
+  the_step_is_that_of_the_redex-in_place (If condition on_true on_false) =
       around_choice (as_value condition) (If condition on_true on_false) (here (If condition on_true on_false))
       (below (λ next. If next on_true on_false) (focus condition)) refl
-      (ap (λ next. If next on_true on_false) (redex_in_place condition))
-  redex_in_place (Seq NoTerms) = refl
-  redex_in_place (Seq (TermThen term NoTerms)) = refl
-  redex_in_place (Seq (TermThen term (TermThen second rest))) =
+      (ap (λ next. If next on_true on_false) (the_step_is_that_of_the_redex-in_place condition))
+  the_step_is_that_of_the_redex-in_place (Seq NoTerms) = refl
+  the_step_is_that_of_the_redex-in_place (Seq (TermThen term NoTerms)) = refl
+  the_step_is_that_of_the_redex-in_place (Seq (TermThen term (TermThen second rest))) =
       around_choice (as_value term) (Seq (TermThen term (TermThen second rest)))
       (here (Seq (TermThen term (TermThen second rest))))
       (below (λ next. Seq (TermThen next (TermThen second rest))) (focus term)) refl
-      (ap (λ next. Seq (TermThen next (TermThen second rest))) (redex_in_place term))
-  redex_in_place (Cast term from to label) =
+      (ap (λ next. Seq (TermThen next (TermThen second rest))) (the_step_is_that_of_the_redex-in_place term))
+  the_step_is_that_of_the_redex-in_place (Cast term from to label) =
       around_choice (as_value term) (Cast term from to label) (here (Cast term from to label))
       (below (λ next. Cast next from to label) (focus term)) refl
-      (ap (λ next. Cast next from to label) (redex_in_place term))
-  redex_in_place (Proj term k) =
+      (ap (λ next. Cast next from to label) (the_step_is_that_of_the_redex-in_place term))
+  the_step_is_that_of_the_redex-in_place (Proj term k) =
       around_choice (as_value term) (Proj term k) (here (Proj term k)) (below (λ next. Proj next k) (focus term)) refl
-      (ap (λ next. Proj next k) (redex_in_place term))
-  redex_in_place (ProjDyn term k label) =
+      (ap (λ next. Proj next k) (the_step_is_that_of_the_redex-in_place term))
+  the_step_is_that_of_the_redex-in_place (ProjDyn term k label) =
       around_choice (as_value term) (ProjDyn term k label) (here (ProjDyn term k label))
       (below (λ next. ProjDyn next k label) (focus term)) refl
-      (ap (λ next. ProjDyn next k label) (redex_in_place term))
-  redex_in_place (Tuple parts) =
+      (ap (λ next. ProjDyn next k label) (the_step_is_that_of_the_redex-in_place term))
+  the_step_is_that_of_the_redex-in_place (Tuple parts) =
       around_choice (all_values parts) (Tuple parts) (here (Tuple parts)) (below Tuple (focus_terms parts)) refl
       (ap Tuple (redex_in_terms parts))
-  redex_in_place (Prim operator operands) =
+  the_step_is_that_of_the_redex-in_place (Prim operator operands) =
       around_choice (all_values operands) (Prim operator operands) (here (Prim operator operands))
       (below (Prim operator) (focus_terms operands)) refl (ap (Prim operator) (redex_in_terms operands))
 
@@ -110,7 +110,7 @@ mutual
   redex_in_terms (TermThen term rest) =
       around_choice (as_value term) (TermThen term rest) (along (TermThen term) (focus_terms rest))
       (along (λ next. TermThen next rest) (focus term)) (ap (TermThen term) (redex_in_terms rest))
-      (ap (λ next. TermThen next rest) (redex_in_place term))
+      (ap (λ next. TermThen next rest) (the_step_is_that_of_the_redex-in_place term))
 
   redex_in_bindings : (bindings : Bindings) →
       (focus_bindings bindings).around (focus_bindings bindings).redex ≡ bindings
@@ -119,7 +119,7 @@ mutual
       around_choice (as_value bound) (BindingThen name bound rest)
       (along (BindingThen name bound) (focus_bindings rest)) (along (λ next. BindingThen name next rest) (focus bound))
       (ap (BindingThen name bound) (redex_in_bindings rest))
-      (ap (λ next. BindingThen name next rest) (redex_in_place bound))
+      (ap (λ next. BindingThen name next rest) (the_step_is_that_of_the_redex-in_place bound))
 
 -- ---- the step is that of the redex
 
@@ -222,22 +222,22 @@ module _ (types : TypeRows) (store : Store) (world : WorldState) where
   steps_enter_of None function arguments e h = steps_here (Enter function arguments)
 
   mutual
-    pub step_is_of_redex : (term : Term) → StepsIn (focus term) (step types store world term)
-    step_is_of_redex (IntLit n) = refl
-    step_is_of_redex (BoolLit b) = refl
-    step_is_of_redex UnitLit = refl
-    step_is_of_redex (ValueTerm v) = refl
-    step_is_of_redex (Var name) = refl
-    step_is_of_redex (Lambda parameters body type) = refl
-    step_is_of_redex (Group group body) = refl
-    step_is_of_redex (Let bindings body) =
+    pub the_step_is_that_of_the_redex-steps : (term : Term) → StepsIn (focus term) (step types store world term)
+    the_step_is_that_of_the_redex-steps (IntLit n) = refl
+    the_step_is_that_of_the_redex-steps (BoolLit b) = refl
+    the_step_is_that_of_the_redex-steps UnitLit = refl
+    the_step_is_that_of_the_redex-steps (ValueTerm v) = refl
+    the_step_is_that_of_the_redex-steps (Var name) = refl
+    the_step_is_that_of_the_redex-steps (Lambda parameters body type) = refl
+    the_step_is_that_of_the_redex-steps (Group group body) = refl
+    the_step_is_that_of_the_redex-steps (Let bindings body) =
         steps_whole (bound_values bindings) (Let bindings body)
         (below (λ next. Let next body) (focus_bindings bindings))
         (let_step types store world bindings body)
         (inside (λ next. Let next body) (step_bindings types store world bindings)) refl
         (steps_below (λ next. Let next body) (focus_bindings bindings) (step_bindings types store world bindings)
         (step_is_of_redex_of_bindings bindings))
-    step_is_of_redex (Call function arguments) =
+    the_step_is_that_of_the_redex-steps (Call function arguments) =
         steps_choice (as_value function) (Call function arguments)
         (where_some (all_values arguments) (here (Call function arguments))
         (below (Call function) (focus_terms arguments)))
@@ -252,48 +252,49 @@ module _ (types : TypeRows) (store : Store) (world : WorldState) where
         (steps_below (Call function) (focus_terms arguments) (step_terms types store world arguments)
         (step_is_of_redex_of_terms arguments)))
         (steps_below (λ next. Call next arguments) (focus function) (step types store world function)
-        (step_is_of_redex function))
-    step_is_of_redex (Enter function arguments) =
+        (the_step_is_that_of_the_redex-steps function))
+    the_step_is_that_of_the_redex-steps (Enter function arguments) =
         steps_enter_of (as_value function) function arguments refl (step_is_of_redex_of_terms arguments)
-    step_is_of_redex (If condition on_true on_false) =
+    the_step_is_that_of_the_redex-steps (If condition on_true on_false) =
         steps_whole (as_value condition) (If condition on_true on_false)
         (below (λ next. If next on_true on_false) (focus condition))
         (λ v. if_step types store world v on_true on_false)
         (inside (λ next. If next on_true on_false) (step types store world condition)) refl
         (steps_below (λ next. If next on_true on_false) (focus condition) (step types store world condition)
-        (step_is_of_redex condition))
-    step_is_of_redex (Seq NoTerms) = refl
-    step_is_of_redex (Seq (TermThen term NoTerms)) = refl
-    step_is_of_redex (Seq (TermThen term (TermThen second rest))) =
+        (the_step_is_that_of_the_redex-steps condition))
+    the_step_is_that_of_the_redex-steps (Seq NoTerms) = refl
+    the_step_is_that_of_the_redex-steps (Seq (TermThen term NoTerms)) = refl
+    the_step_is_that_of_the_redex-steps (Seq (TermThen term (TermThen second rest))) =
         steps_whole (as_value term) (Seq (TermThen term (TermThen second rest)))
         (below (λ next. Seq (TermThen next (TermThen second rest))) (focus term))
         (λ v. becomes types store world (Seq (TermThen second rest)))
         (inside (λ next. Seq (TermThen next (TermThen second rest))) (step types store world term)) refl
         (steps_below (λ next. Seq (TermThen next (TermThen second rest))) (focus term) (step types store world term)
-        (step_is_of_redex term))
-    step_is_of_redex (Cast term from to label) =
+        (the_step_is_that_of_the_redex-steps term))
+    the_step_is_that_of_the_redex-steps (Cast term from to label) =
         steps_whole (as_value term) (Cast term from to label) (below (λ next. Cast next from to label) (focus term))
         (λ v. cast_step types store world v from to label)
         (inside (λ next. Cast next from to label) (step types store world term)) refl
         (steps_below (λ next. Cast next from to label) (focus term) (step types store world term)
-        (step_is_of_redex term))
-    step_is_of_redex (Proj term k) =
+        (the_step_is_that_of_the_redex-steps term))
+    the_step_is_that_of_the_redex-steps (Proj term k) =
         steps_whole (as_value term) (Proj term k) (below (λ next. Proj next k) (focus term))
         (λ v. proj_step types store world v k) (inside (λ next. Proj next k) (step types store world term)) refl
-        (steps_below (λ next. Proj next k) (focus term) (step types store world term) (step_is_of_redex term))
-    step_is_of_redex (ProjDyn term k label) =
+        (steps_below (λ next. Proj next k) (focus term) (step types store world term)
+        (the_step_is_that_of_the_redex-steps term))
+    the_step_is_that_of_the_redex-steps (ProjDyn term k label) =
         steps_whole (as_value term) (ProjDyn term k label) (below (λ next. ProjDyn next k label) (focus term))
         (λ v. proj_dyn_step types store world v k label)
         (inside (λ next. ProjDyn next k label) (step types store world term)) refl
         (steps_below (λ next. ProjDyn next k label) (focus term) (step types store world term)
-        (step_is_of_redex term))
-    step_is_of_redex (Tuple parts) =
+        (the_step_is_that_of_the_redex-steps term))
+    the_step_is_that_of_the_redex-steps (Tuple parts) =
         steps_whole (all_values parts) (Tuple parts) (below Tuple (focus_terms parts))
         (λ values. becomes types store world (ValueTerm (TupleValue (values_from values))))
         (inside Tuple (step_terms types store world parts)) refl
         (steps_below Tuple (focus_terms parts) (step_terms types store world parts)
         (step_is_of_redex_of_terms parts))
-    step_is_of_redex (Prim operator operands) =
+    the_step_is_that_of_the_redex-steps (Prim operator operands) =
         steps_whole (all_values operands) (Prim operator operands) (below (Prim operator) (focus_terms operands))
         (operator_step types store world operator) (inside (Prim operator) (step_terms types store world operands)) refl
         (steps_below (Prim operator) (focus_terms operands) (step_terms types store world operands)
@@ -308,7 +309,8 @@ module _ (types : TypeRows) (store : Store) (world : WorldState) where
         (inside (λ next. TermThen next rest) (step types store world term))
         (steps_along (TermThen term) (focus_terms rest) (step_terms types store world rest)
         (step_is_of_redex_of_terms rest))
-        (steps_along (λ next. TermThen next rest) (focus term) (step types store world term) (step_is_of_redex term))
+        (steps_along (λ next. TermThen next rest) (focus term) (step types store world term)
+        (the_step_is_that_of_the_redex-steps term))
 
     step_is_of_redex_of_bindings : (bindings : Bindings) →
         StepsIn (focus_bindings bindings) (step_bindings types store world bindings)
@@ -321,7 +323,7 @@ module _ (types : TypeRows) (store : Store) (world : WorldState) where
         (steps_along (BindingThen name bound) (focus_bindings rest) (step_bindings types store world rest)
         (step_is_of_redex_of_bindings rest))
         (steps_along (λ next. BindingThen name next rest) (focus bound) (step types store world bound)
-        (step_is_of_redex bound))
+        (the_step_is_that_of_the_redex-steps bound))
 
 -- ---- a redex is its own
 
@@ -356,19 +358,19 @@ whole_enter (Some (InjectValue v kept)) whole f e h = h e
 whole_enter None whole f e h = e
 
 mutual
-  pub redex_is_whole : (term : Term) → IsWhole (focus term)
-  redex_is_whole (IntLit n) = refl
-  redex_is_whole (BoolLit b) = refl
-  redex_is_whole UnitLit = refl
-  redex_is_whole (ValueTerm v) = refl
-  redex_is_whole (Var name) = refl
-  redex_is_whole (Lambda parameters body type) = refl
-  redex_is_whole (Group group body) = refl
-  redex_is_whole (Let bindings body) =
+  pub the_step_is_that_of_the_redex-is_whole : (term : Term) → IsWhole (focus term)
+  the_step_is_that_of_the_redex-is_whole (IntLit n) = refl
+  the_step_is_that_of_the_redex-is_whole (BoolLit b) = refl
+  the_step_is_that_of_the_redex-is_whole UnitLit = refl
+  the_step_is_that_of_the_redex-is_whole (ValueTerm v) = refl
+  the_step_is_that_of_the_redex-is_whole (Var name) = refl
+  the_step_is_that_of_the_redex-is_whole (Lambda parameters body type) = refl
+  the_step_is_that_of_the_redex-is_whole (Group group body) = refl
+  the_step_is_that_of_the_redex-is_whole (Let bindings body) =
       whole_here (bound_values bindings) (Let bindings body) (below (λ next. Let next body) (focus_bindings bindings))
       refl
       (redex_of_bindings_is_whole bindings)
-  redex_is_whole (Call function arguments) =
+  the_step_is_that_of_the_redex-is_whole (Call function arguments) =
       whole_choice (as_value function) (Call function arguments)
       (where_some (all_values arguments) (here (Call function arguments))
       (below (Call function) (focus_terms arguments)))
@@ -376,32 +378,35 @@ mutual
       (λ e. whole_here (all_values arguments) (Call function arguments)
       (below (Call function) (focus_terms arguments)) e
       (redex_of_terms_is_whole arguments))
-      (redex_is_whole function)
-  redex_is_whole (Enter function arguments) =
+      (the_step_is_that_of_the_redex-is_whole function)
+  the_step_is_that_of_the_redex-is_whole (Enter function arguments) =
       whole_enter (as_value function) (Enter function arguments)
       (where_some (all_values arguments) (here (Enter function arguments))
       (below (Enter function) (focus_terms arguments))) refl
       (λ e. whole_here (all_values arguments) (Enter function arguments)
       (below (Enter function) (focus_terms arguments)) e (redex_of_terms_is_whole arguments))
-  redex_is_whole (If condition on_true on_false) =
+  the_step_is_that_of_the_redex-is_whole (If condition on_true on_false) =
       whole_here (as_value condition) (If condition on_true on_false)
-      (below (λ next. If next on_true on_false) (focus condition)) refl (redex_is_whole condition)
-  redex_is_whole (Seq NoTerms) = refl
-  redex_is_whole (Seq (TermThen term NoTerms)) = refl
-  redex_is_whole (Seq (TermThen term (TermThen second rest))) =
+      (below (λ next. If next on_true on_false) (focus condition)) refl
+      (the_step_is_that_of_the_redex-is_whole condition)
+  the_step_is_that_of_the_redex-is_whole (Seq NoTerms) = refl
+  the_step_is_that_of_the_redex-is_whole (Seq (TermThen term NoTerms)) = refl
+  the_step_is_that_of_the_redex-is_whole (Seq (TermThen term (TermThen second rest))) =
       whole_here (as_value term) (Seq (TermThen term (TermThen second rest)))
-      (below (λ next. Seq (TermThen next (TermThen second rest))) (focus term)) refl (redex_is_whole term)
-  redex_is_whole (Cast term from to label) =
+      (below (λ next. Seq (TermThen next (TermThen second rest))) (focus term)) refl
+      (the_step_is_that_of_the_redex-is_whole term)
+  the_step_is_that_of_the_redex-is_whole (Cast term from to label) =
       whole_here (as_value term) (Cast term from to label) (below (λ next. Cast next from to label) (focus term)) refl
-      (redex_is_whole term)
-  redex_is_whole (Proj term k) =
-      whole_here (as_value term) (Proj term k) (below (λ next. Proj next k) (focus term)) refl (redex_is_whole term)
-  redex_is_whole (ProjDyn term k label) =
+      (the_step_is_that_of_the_redex-is_whole term)
+  the_step_is_that_of_the_redex-is_whole (Proj term k) =
+      whole_here (as_value term) (Proj term k) (below (λ next. Proj next k) (focus term)) refl
+      (the_step_is_that_of_the_redex-is_whole term)
+  the_step_is_that_of_the_redex-is_whole (ProjDyn term k label) =
       whole_here (as_value term) (ProjDyn term k label) (below (λ next. ProjDyn next k label) (focus term)) refl
-      (redex_is_whole term)
-  redex_is_whole (Tuple parts) =
+      (the_step_is_that_of_the_redex-is_whole term)
+  the_step_is_that_of_the_redex-is_whole (Tuple parts) =
       whole_here (all_values parts) (Tuple parts) (below Tuple (focus_terms parts)) refl (redex_of_terms_is_whole parts)
-  redex_is_whole (Prim operator operands) =
+  the_step_is_that_of_the_redex-is_whole (Prim operator operands) =
       whole_here (all_values operands) (Prim operator operands) (below (Prim operator) (focus_terms operands)) refl
       (redex_of_terms_is_whole operands)
 
@@ -409,11 +414,12 @@ mutual
   redex_of_terms_is_whole NoTerms = refl
   redex_of_terms_is_whole (TermThen term rest) =
       whole_along (as_value term) (along (TermThen term) (focus_terms rest))
-      (along (λ next. TermThen next rest) (focus term)) (redex_of_terms_is_whole rest) (redex_is_whole term)
+      (along (λ next. TermThen next rest) (focus term)) (redex_of_terms_is_whole rest)
+      (the_step_is_that_of_the_redex-is_whole term)
 
   redex_of_bindings_is_whole : (bindings : Bindings) → IsWhole (focus_bindings bindings)
   redex_of_bindings_is_whole NoBindings = refl
   redex_of_bindings_is_whole (BindingThen name bound rest) =
       whole_along (as_value bound) (along (BindingThen name bound) (focus_bindings rest))
       (along (λ next. BindingThen name next rest) (focus bound)) (redex_of_bindings_is_whole rest)
-      (redex_is_whole bound)
+      (the_step_is_that_of_the_redex-is_whole bound)

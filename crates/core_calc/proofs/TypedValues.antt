@@ -14,9 +14,9 @@ use Rattle.core_calc.specs.Terms.{value_list, both_in_front, binding_names, boun
 use Rattle.core_calc.specs.Substitution.{Substitution, entry_of, bind, members_from, group_values}
 use Rattle.core_calc.specs.Typing.{Context, CellType, member_types, MemberHasType, HasType, HaveTypes, MembersHaveTypes}
 use Rattle.core_calc.specs.Typing.{BindingsHaveTypes, ValueHasType, ValuesHaveTypes}
-use Rattle.core_calc.proofs.TypedLists.{none_is_not_some, same_some, both_some}
-use Rattle.core_calc.proofs.TypedRows.{false_is_not_true, HasRow, same_kind}
-use Rattle.core_calc.proofs.TypedSubstitution.{At, Substitutes, both_parts}
+use Rattle.core_calc.proofs.ListPlaces.{none_is_not_some, same_some, both_some}
+use Rattle.core_calc.proofs.RowsOfTables.{false_is_not_true, HasRow, same_kind}
+use Rattle.core_calc.proofs.SubstitutionKeepsTypes.{At, Substitutes, both_parts}
 
 -- whether a value can have a type with this row
 abbrev pub can_be : Value → TypeRow → Bool
@@ -94,17 +94,19 @@ module _ (types : TypeRows) (labels : ℕ) (cells : List CellType) where
   int_like (IntValue n) type h e = (n, refl, h.0)
   int_like v type h e = absurd (false_is_not_true e)
 
-  pub int_form : (v : Value) (type : ℕ) → ValueHas v type → row_at types type ≡ Some IntRow → (n : ℤ) ×
+  pub values_have_their_types_heads-integers : (v : Value) (type : ℕ) → ValueHas v type →
+      row_at types type ≡ Some IntRow → (n : ℤ) ×
       (v ≡ IntValue n) × FitsSigned w64 n
-  int_form v type h e = int_like v type h (form v type IntRow h e)
+  values_have_their_types_heads-integers v type h e = int_like v type h (form v type IntRow h e)
 
   bool_like : (v : Value) → can_be v BoolRow ≡ true → (b : Bool) × (v ≡ BoolValue b)
   bool_like (BoolValue b) e = (b, refl)
   bool_like v e = absurd (false_is_not_true e)
 
-  pub bool_form : (v : Value) (type : ℕ) → ValueHas v type → row_at types type ≡ Some BoolRow → (b : Bool) ×
+  pub values_have_their_types_heads-truth_values : (v : Value) (type : ℕ) → ValueHas v type →
+      row_at types type ≡ Some BoolRow → (b : Bool) ×
       (v ≡ BoolValue b)
-  bool_form v type h e = bool_like v (form v type BoolRow h e)
+  values_have_their_types_heads-truth_values v type h e = bool_like v (form v type BoolRow h e)
 
   -- ---- terms that are values
 

@@ -8,5 +8,6 @@ returns-clause-steps c = λ types labels. calculus_adds_output types labels
 
 pub returns-clause-runs : goal.returns-clause-runs
 returns-clause-runs c = λ program input.
-    output_only_grows-reductions (calculus program.types program.labels) (calculus_adds_output program.types program.labels)
+    output_only_grows-reductions (calculus program.types program.labels)
+    (calculus_adds_output program.types program.labels)
     (start program.term input)

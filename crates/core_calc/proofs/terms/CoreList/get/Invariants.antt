@@ -4,4 +4,5 @@ use Rattle.core_calc.specs.Views.{terms_of}
 use Rattle.core_calc.proofs.terms.CoreList.get.Given as goal
 
 abbrev pub invariant-loop-left : goal.invariant-loop-left
-invariant-loop-left l = slice_get (term_list (terms_of l.left)) l.place ≡ slice_get (term_list (terms_of l.fn.self)) l.fn.i
+invariant-loop-left l =
+    slice_get (term_list (terms_of l.left)) l.place ≡ slice_get (term_list (terms_of l.fn.self)) l.fn.i

@@ -4,4 +4,5 @@ use Rattle.core_calc.specs.Views.{terms_of}
 use Rattle.core_calc.proofs.terms.CoreList.reversed.Given as goal
 
 abbrev pub invariant-loop-self : goal.invariant-loop-self
-invariant-loop-self l = reverse (term_list (terms_of l.self)) ++ term_list (terms_of l.turned) ≡ reverse (term_list (terms_of l.fn.self))
+invariant-loop-self l =
+    reverse (term_list (terms_of l.self)) ++ term_list (terms_of l.turned) ≡ reverse (term_list (terms_of l.fn.self))

@@ -16,14 +16,15 @@ use Rattle.core_calc.specs.Step.{if_step, let_step, step, step_terms, step_bindi
 use Rattle.core_calc.specs.Typing.{Context, CellType, HasMoreCells, member_types, HasType, HaveTypes, MembersHaveTypes}
 use Rattle.core_calc.specs.Typing.{BindingsHaveTypes, IsTypeTable, StoreHasTypes, StateHasType, Keeps, KeepsType}
 use Rattle.core_calc.specs.Calculus.{CalcState}
-use Rattle.core_calc.proofs.TypedLists.{some_is_not_none, none_is_not_some}
-use Rattle.core_calc.proofs.TypedMore.{more_term, more_terms, more_last, more_bindings}
-use Rattle.core_calc.proofs.TypedSubstitution.{substituted}
-use Rattle.core_calc.proofs.TypedValues.{form, bool_form, value_of_term, values_of_terms, values_have_types, stands_for}
+use Rattle.core_calc.proofs.ListPlaces.{some_is_not_none, none_is_not_some}
+use Rattle.core_calc.proofs.MoreCells.{more_term, more_terms, more_last, more_bindings}
+use Rattle.core_calc.proofs.SubstitutionKeepsTypes.{substituted}
+use Rattle.core_calc.proofs.TypedValues.{form, values_have_their_types_heads-truth_values, value_of_term}
+use Rattle.core_calc.proofs.TypedValues.{values_of_terms, values_have_types, stands_for}
 use Rattle.core_calc.proofs.TypedValues.{bindings_stand, members_stand}
-use Rattle.core_calc.proofs.TypedCells.{keeps_some, keeps_if_some, keeps_inside}
-use Rattle.core_calc.proofs.TypedCalls.{goes_on, cast_keeps, enter_keeps, part_keeps, proj_dyn_keeps}
-use Rattle.core_calc.proofs.TypedOperators.{operator_keeps}
+use Rattle.core_calc.proofs.StoredCells.{keeps_some, keeps_if_some, keeps_inside}
+use Rattle.core_calc.proofs.CallsKeepTypes.{goes_on, cast_keeps, enter_keeps, part_keeps, proj_dyn_keeps}
+use Rattle.core_calc.proofs.OperatorsKeepTypes.{operator_keeps}
 
 -- where the first is a value and not all are, the rest are not all values
 rest_is_none : {A : Type 0} (a : A) (o : Option A) (os : Option (List A)) → o ≡ Some a → both_in_front o os ≡ None →
@@ -106,16 +107,16 @@ module _ (types : TypeRows) (labels : ℕ) (table : IsTypeTable types) (cells : 
       )
 
   mutual
-    pub step_keeps : (term : Term) (type : ℕ) → HasType types labels cells [] term type → as_value term ≡ None →
+    pub steps_keep_types : (term : Term) (type : ℕ) → HasType types labels cells [] term type → as_value term ≡ None →
         Kept type (step types store world term)
-    step_keeps (IntLit n) type h none = absurd (some_is_not_none (IntValue n) none)
-    step_keeps (BoolLit b) type h none = absurd (some_is_not_none (BoolValue b) none)
-    step_keeps UnitLit type h none = absurd (some_is_not_none UnitValue none)
-    step_keeps (ValueTerm v) type h none = absurd (some_is_not_none v none)
-    step_keeps (Var name) type h none = absurd (none_is_not_some type h)
-    step_keeps (Lambda parameters body written) type h none = lambda_keeps parameters body written type h
-    step_keeps (Group members body) type h none = group_keeps members body type h
-    step_keeps (Let bindings body) type h none =
+    steps_keep_types (IntLit n) type h none = absurd (some_is_not_none (IntValue n) none)
+    steps_keep_types (BoolLit b) type h none = absurd (some_is_not_none (BoolValue b) none)
+    steps_keep_types UnitLit type h none = absurd (some_is_not_none UnitValue none)
+    steps_keep_types (ValueTerm v) type h none = absurd (some_is_not_none v none)
+    steps_keep_types (Var name) type h none = absurd (none_is_not_some type h)
+    steps_keep_types (Lambda parameters body written) type h none = lambda_keeps parameters body written type h
+    steps_keep_types (Group members body) type h none = group_keeps members body type h
+    steps_keep_types (Let bindings body) type h none =
         keeps_if_some types labels cells (Has type) (bound_values bindings) (let_step types store world bindings body) _
         (λ values e. let_keeps bindings body values h.0 type h.1 h.2 e) (λ e. part (AreBound h.0) (Has type)
         (λ next. Let next body) (step_bindings types store world bindings) (λ new next more typed. (
@@ -123,7 +124,7 @@ module _ (types : TypeRows) (labels : ℕ) (table : IsTypeTable types) (cells : 
           typed,
           more_term types labels cells new more body (h.0 ++ []) type h.2,
         )) (bindings_keep bindings h.0 h.1 e))
-    step_keeps (Call function arguments) type h none =
+    steps_keep_types (Call function arguments) type h none =
         keeps_if_some types labels cells (Has type) (as_value function) _ _ (λ f e. keeps_if_some types labels cells
         (Has type) (all_values arguments) _ _ (λ values g. stays (Enter function arguments) type (
           h.0,
@@ -142,8 +143,8 @@ module _ (types : TypeRows) (labels : ℕ) (table : IsTypeTable types) (cells : 
         )) (terms_keep arguments h.1 h.4 g)))
         (λ e. part (Has h.0) (Has type) (λ next. Call next arguments) (step types store world function)
         (λ new next more typed. (h.0, h.1, typed, h.3, more_terms types labels cells new more arguments [] h.1 h.4))
-        (step_keeps function h.0 h.2 e))
-    step_keeps (Enter function arguments) type h none =
+        (steps_keep_types function h.0 h.2 e))
+    steps_keep_types (Enter function arguments) type h none =
         keeps_some types labels cells (Has type) (as_value function) (λ f. enter_step types store world f arguments
         (inside (Enter function) (step_terms types store world arguments))) h.5.0 h.5.1
         (enter_keeps types labels table cells store stored world h.5.0 arguments
@@ -158,9 +159,10 @@ module _ (types : TypeRows) (labels : ℕ) (table : IsTypeTable types) (cells : 
           typed,
           h.5,
         )) (terms_keep arguments h.1 h.4 g)))
-    step_keeps (If condition on_true on_false) type h none =
+    steps_keep_types (If condition on_true on_false) type h none =
         keeps_if_some types labels cells (Has type) (as_value condition) _ _ (λ v e. let b =
-        bool_form types labels cells v h.0 (value_of_term types labels cells condition [] h.0 v h.1 e) h.2 in
+        values_have_their_types_heads-truth_values types labels cells v h.0
+        (value_of_term types labels cells condition [] h.0 v h.1 e) h.2 in
         if_keeps v b.0 on_true on_false type b.1 h.3 h.4)
         (λ e. part (Has h.0) (Has type) (λ next. If next on_true on_false) (step types store world condition)
         (λ new next more typed. (
@@ -169,38 +171,38 @@ module _ (types : TypeRows) (labels : ℕ) (table : IsTypeTable types) (cells : 
           h.2,
           more_term types labels cells new more on_true [] type h.3,
           more_term types labels cells new more on_false [] type h.4,
-        )) (step_keeps condition h.0 h.1 e))
-    step_keeps (Seq NoTerms) type h none = absurd h
-    step_keeps (Seq (TermThen term NoTerms)) type h none = stays term type h
-    step_keeps (Seq (TermThen term (TermThen second rest))) type h none =
+        )) (steps_keep_types condition h.0 h.1 e))
+    steps_keep_types (Seq NoTerms) type h none = absurd h
+    steps_keep_types (Seq (TermThen term NoTerms)) type h none = stays term type h
+    steps_keep_types (Seq (TermThen term (TermThen second rest))) type h none =
         keeps_if_some types labels cells (Has type) (as_value term) _ _
         (λ v e. stays (Seq (TermThen second rest)) type h.1)
         (λ e. part (Has h.0.0) (Has type) (λ next. Seq (TermThen next (TermThen second rest)))
         (step types store world term) (λ new next more typed. (
           (h.0.0, typed),
           more_last types labels cells new more (TermThen second rest) [] type h.1,
-        )) (step_keeps term h.0.0 h.0.1 e))
-    step_keeps (Cast term from to label) type h none =
+        )) (steps_keep_types term h.0.0 h.0.1 e))
+    steps_keep_types (Cast term from to label) type h none =
         keeps_if_some types labels cells (Has type) (as_value term) _ _
         (λ v e. subst (λ t. Kept t (cast_step types store world v from to label)) h.0
         (cast_keeps types labels table cells store stored world v from to label
         (value_of_term types labels cells term [] from v h.1 e) (h.2.0, ap (λ t. row_at types t) h.0 ∙ h.2.1) h.3))
         (λ e. part (Has from) (Has type) (λ next. Cast next from to label) (step types store world term)
-        (λ new next more typed. (h.0, typed, h.2, h.3)) (step_keeps term from h.1 e))
-    step_keeps (Proj term k) type h none =
+        (λ new next more typed. (h.0, typed, h.2, h.3)) (steps_keep_types term from h.1 e))
+    steps_keep_types (Proj term k) type h none =
         keeps_if_some types labels cells (Has type) (as_value term) _ _
         (λ v e. part_keeps types labels table cells store stored world v k h.0 h.1 type
         (value_of_term types labels cells term [] h.0 v h.2 e) h.3 h.4)
         (λ e. part (Has h.0) (Has type) (λ next. Proj next k) (step types store world term) (λ new next more typed.
-        (h.0, h.1, typed, h.3, h.4)) (step_keeps term h.0 h.2 e))
-    step_keeps (ProjDyn term k label) type h none =
+        (h.0, h.1, typed, h.3, h.4)) (steps_keep_types term h.0 h.2 e))
+    steps_keep_types (ProjDyn term k label) type h none =
         keeps_if_some types labels cells (Has type) (as_value term) _ _ (λ v e. let typed =
         value_of_term types labels cells term [] type v h.0 e in
         proj_dyn_keeps types labels table cells store stored world v k label type typed h.1 h.2
         (form types labels cells v type DynRow typed h.1))
         (λ e. part (Has type) (Has type) (λ next. ProjDyn next k label) (step types store world term)
-        (λ new next more typed. (typed, h.1, h.2)) (step_keeps term type h.0 e))
-    step_keeps (Tuple parts) type h none =
+        (λ new next more typed. (typed, h.1, h.2)) (steps_keep_types term type h.0 e))
+    steps_keep_types (Tuple parts) type h none =
         keeps_if_some types labels cells (Has type) (all_values parts) _ _ (λ values e.
         stays (ValueTerm (TupleValue (values_from values))) type (
           h.0,
@@ -217,7 +219,7 @@ module _ (types : TypeRows) (labels : ℕ) (table : IsTypeTable types) (cells : 
           h.3,
           h.4,
         )) (terms_keep parts h.0 h.1 e))
-    step_keeps (Prim operator operands) type h none =
+    steps_keep_types (Prim operator operands) type h none =
         keeps_if_some types labels cells (Has type) (all_values operands) _ _ (λ values e.
         operator_keeps types labels table cells store stored world operator values h.0 type
         (values_of_terms types labels cells operands [] h.0 values h.1 e) h.2)
@@ -234,7 +236,7 @@ module _ (types : TypeRows) (labels : ℕ) (table : IsTypeTable types) (cells : 
         (terms_keep rest h.1 h.4 (rest_is_none v (as_value term) (all_values rest) e none)))
         (λ e. part (Has h.0) (AllHave wanted) (λ next. TermThen next rest) (step types store world term)
         (λ new next more typed. (h.0, h.1, h.2, typed, more_terms types labels cells new more rest [] h.1 h.4))
-        (step_keeps term h.0 h.3 e))
+        (steps_keep_types term h.0 h.3 e))
 
     bindings_keep : (bindings : Bindings) (bound : Context) → BindingsHaveTypes types labels cells [] bindings bound →
         bound_values bindings ≡ None → Keeps types labels (AreBound bound) cells
@@ -247,7 +249,7 @@ module _ (types : TypeRows) (labels : ℕ) (table : IsTypeTable types) (cells : 
         (bindings_keep rest h.1 h.4 (rest_is_none v (as_value term) (bound_values rest) e none)))
         (λ e. part (Has h.0) (AreBound bound) (λ next. BindingThen name next rest) (step types store world term)
         (λ new next more typed. (h.0, h.1, h.2, typed, more_bindings types labels cells new more rest [] h.1 h.4))
-        (step_keeps term h.0 h.3 e))
+        (steps_keep_types term h.0 h.3 e))
 
 -- an outcome that keeps a type is a step
 kept_is_step : (types : TypeRows) (labels type : ℕ) (cells : List CellType) (outcome : Outcome Term) →
@@ -257,9 +259,9 @@ kept_is_step types labels type cells (Blames label) kept e = cc
 kept_is_step types labels type cells (Traps trap world) kept e = cc
 kept_is_step types labels type cells Stuck kept e = kept
 
-pub typed_steps : (types : TypeRows) (labels : ℕ) (state : CalcState) (type : ℕ) →
+pub typed_states_take_steps : (types : TypeRows) (labels : ℕ) (state : CalcState) (type : ℕ) →
     StateHasType types labels state type → as_value state.term ≡ None →
     step types state.store state.world state.term ≢ Stuck
-typed_steps types labels state type h none =
+typed_states_take_steps types labels state type h none =
     kept_is_step types labels type h.1 (step types state.store state.world state.term)
-    (step_keeps types labels h.0 h.1 state.store h.2 state.world state.term type h.3 none)
+    (steps_keep_types types labels h.0 h.1 state.store h.2 state.world state.term type h.3 none)

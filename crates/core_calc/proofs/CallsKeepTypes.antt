@@ -15,14 +15,15 @@ use Rattle.core_calc.specs.Calls.{cast_arguments, enter_wrapped, enter_body, ent
 use Rattle.core_calc.specs.Calls.{proj_to_dyn, proj_dyn_step}
 use Rattle.core_calc.specs.Typing.{Context, CellType, member_types, MemberHasType, HasType, HaveTypes, MembersHaveTypes}
 use Rattle.core_calc.specs.Typing.{ValueHasType, ValuesHaveTypes, IsTypeTable, StoreHasTypes, KeepsType}
-use Rattle.core_calc.proofs.TypedLists.{none_is_not_some, both_some, get_within}
-use Rattle.core_calc.proofs.TypedRows.{false_is_not_true, both_true, first_false, row_is_dyn, same_base, function_like}
-use Rattle.core_calc.proofs.TypedRows.{tuple_like, HasRow, HaveRows, row_of_part, have_rows_split, same_type}
-use Rattle.core_calc.proofs.TypedRows.{parts_have_rows, dyn_found}
-use Rattle.core_calc.proofs.TypedSubstitution.{substituted}
+use Rattle.core_calc.proofs.ListPlaces.{none_is_not_some, both_some, get_within}
+use Rattle.core_calc.proofs.RowsOfTables.{false_is_not_true, both_true, first_false, row_is_dyn, same_base}
+use Rattle.core_calc.proofs.RowsOfTables.{function_like}
+use Rattle.core_calc.proofs.RowsOfTables.{tuple_like, HasRow, HaveRows, row_of_part, have_rows_split, same_type}
+use Rattle.core_calc.proofs.RowsOfTables.{parts_have_rows, dyn_found}
+use Rattle.core_calc.proofs.SubstitutionKeepsTypes.{substituted}
 use Rattle.core_calc.proofs.TypedValues.{can_be, form, value_has_row, ListHasTypes, values_of_terms, part_of_values}
 use Rattle.core_calc.proofs.TypedValues.{StandFor, stand_for_both, stands_for, bound_values_stand, members_stand}
-use Rattle.core_calc.proofs.TypedCells.{no_more_cells, keeps_some, keeps_if_some, keeps_if, keeps_rows, keeps_parts}
+use Rattle.core_calc.proofs.StoredCells.{no_more_cells, keeps_some, keeps_if_some, keeps_if, keeps_rows, keeps_parts}
 
 same_function : (parameters others : List ℕ) (answer other : ℕ) → FunRow parameters answer ≡ FunRow others other →
     (parameters ≡ others) × (answer ≡ other)

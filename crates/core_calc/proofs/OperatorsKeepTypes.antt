@@ -30,13 +30,14 @@ use Rattle.core_calc.specs.Operators.{vector_set_step, vector_length_step, reads
 use Rattle.core_calc.specs.Reading.{in_word, number_of, run_first, unread, next_number, past_run}
 use Rattle.core_calc.specs.Typing.{CellType, HasType, OperatorHasType, ValueHasType, IsTypeTable, CellHasType}
 use Rattle.core_calc.specs.Typing.{StoreHasTypes, KeepsType}
-use Rattle.core_calc.proofs.TypedLists.{none_is_not_some, same_some, both_some, get_last, get_replicate, length_set}
-use Rattle.core_calc.proofs.TypedLists.{get_set}
-use Rattle.core_calc.proofs.TypedRows.{false_is_not_true, reference_like, vector_like, HasRow, parts_have_rows}
-use Rattle.core_calc.proofs.TypedValues.{can_be, form, int_form, bool_form, ListHasTypes}
-use Rattle.core_calc.proofs.TypedCells.{no_more_cells, cell_there, one_more_cell, cell_changed, keeps_some}
-use Rattle.core_calc.proofs.TypedCells.{keeps_if_some, keeps_if, keeps_parts}
-use Rattle.core_calc.proofs.TypedCalls.{goes_on}
+use Rattle.core_calc.proofs.ListPlaces.{none_is_not_some, same_some, both_some, get_last, get_replicate, length_set}
+use Rattle.core_calc.proofs.ListPlaces.{get_set}
+use Rattle.core_calc.proofs.RowsOfTables.{false_is_not_true, reference_like, vector_like, HasRow, parts_have_rows}
+use Rattle.core_calc.proofs.TypedValues.{can_be, form, values_have_their_types_heads-integers}
+use Rattle.core_calc.proofs.TypedValues.{values_have_their_types_heads-truth_values, ListHasTypes}
+use Rattle.core_calc.proofs.StoredCells.{no_more_cells, cell_there, one_more_cell, cell_changed, keeps_some}
+use Rattle.core_calc.proofs.StoredCells.{keeps_if_some, keeps_if, keeps_parts}
+use Rattle.core_calc.proofs.CallsKeepTypes.{goes_on}
 
 -- ---- numbers fit a word
 
@@ -116,10 +117,11 @@ module _ (types : TypeRows) (labels : ℕ) (table : IsTypeTable types) (cells : 
   no_value [] h = refl
   no_value (v ∷ values) h = absurd h
 
-  one_value : (values : List Value) (a : ℕ) → ListHas values (a ∷ []) → (v : Value) × (values ≡ v ∷ []) × ValueHas v a
-  one_value [] a h = absurd h
-  one_value (v ∷ []) a h = (v, refl, h.0)
-  one_value (v ∷ u ∷ values) a h = absurd h.1
+  a_term_has_one_type-values : (values : List Value) (a : ℕ) → ListHas values (a ∷ []) → (v : Value) ×
+      (values ≡ v ∷ []) × ValueHas v a
+  a_term_has_one_type-values [] a h = absurd h
+  a_term_has_one_type-values (v ∷ []) a h = (v, refl, h.0)
+  a_term_has_one_type-values (v ∷ u ∷ values) a h = absurd h.1
 
   two_values : (values : List Value) (a b : ℕ) → ListHas values (a ∷ b ∷ []) → (v u : Value) × (values ≡ v ∷ u ∷ []) ×
       ValueHas v a × ValueHas u b
@@ -141,8 +143,8 @@ module _ (types : TypeRows) (labels : ℕ) (table : IsTypeTable types) (cells : 
   on_int_keeps : (type : ℕ) (go : ℤ → Outcome Term) (values : List Value) (a : ℕ) → ListHas values (a ∷ []) →
       Is a IntRow → ((n : ℤ) → FitsSigned w64 n → Kept type (go n)) → Kept type (on_int types store world go values)
   on_int_keeps type go values a h row keeps =
-      let one = one_value values a h in
-      let n = int_form types labels cells one.0 a one.2 row in
+      let one = a_term_has_one_type-values values a h in
+      let n = values_have_their_types_heads-integers types labels cells one.0 a one.2 row in
       let is : values ≡ IntValue n.0 ∷ [] = one.1 ∙ ap (λ v. v ∷ []) n.1 in
       subst (λ vs. Kept type (on_int types store world go vs)) (sym is) (keeps n.0 n.2)
 
@@ -151,8 +153,8 @@ module _ (types : TypeRows) (labels : ℕ) (table : IsTypeTable types) (cells : 
       Kept type (on_ints types store world go values)
   on_ints_keeps type go values a b h row other keeps =
       let two = two_values values a b h in
-      let m = int_form types labels cells two.0 a two.3 row in
-      let n = int_form types labels cells two.1 b two.4 other in
+      let m = values_have_their_types_heads-integers types labels cells two.0 a two.3 row in
+      let n = values_have_their_types_heads-integers types labels cells two.1 b two.4 other in
       let is : values ≡ IntValue m.0 ∷ IntValue n.0 ∷ [] =
       two.2 ∙ ap (λ v. v ∷ two.1 ∷ []) m.1 ∙ ap (λ v. IntValue m.0 ∷ v ∷ []) n.1 in
       subst (λ vs. Kept type (on_ints types store world go vs)) (sym is) (keeps m.0 n.0 m.2 n.2)
@@ -186,8 +188,8 @@ module _ (types : TypeRows) (labels : ℕ) (table : IsTypeTable types) (cells : 
   not_keeps : (type : ℕ) (values : List Value) (a : ℕ) → ListHas values (a ∷ []) → Is a BoolRow → Is type BoolRow →
       Kept type (on_bool types store world (λ b. gives types store world (BoolValue (not b))) values)
   not_keeps type values a h row answer =
-      let one = one_value values a h in
-      let b = bool_form types labels cells one.0 a one.2 row in
+      let one = a_term_has_one_type-values values a h in
+      let b = values_have_their_types_heads-truth_values types labels cells one.0 a one.2 row in
       let is : values ≡ BoolValue b.0 ∷ [] = one.1 ∙ ap (λ v. v ∷ []) b.1 in
       subst (λ vs. Kept type (on_bool types store world (λ b. gives types store world (BoolValue (not b))) vs)) (sym is)
       (stays (ValueTerm (BoolValue (not b.0))) world type answer)
@@ -224,7 +226,7 @@ module _ (types : TypeRows) (labels : ℕ) (table : IsTypeTable types) (cells : 
   make_box_keeps : (type content : ℕ) (values : List Value) → ListHas values (content ∷ []) → Is type (RefRow content) →
       Kept type (make_box_step types store world values)
   make_box_keeps type content values h answer =
-      let one = one_value values content h in
+      let one = a_term_has_one_type-values values content h in
       subst (λ vs. Kept type (make_box_step types store world vs)) (sym one.1)
       (new_cell_keeps type content (one.0 ∷ []) false 1 (one_in_cell one.0 content one.2) (λ new e. (
         content,
@@ -246,7 +248,7 @@ module _ (types : TypeRows) (labels : ℕ) (table : IsTypeTable types) (cells : 
       Is index IntRow → Is type (VectRow content) → Kept type (make_vector_step types store world values)
   make_vector_keeps type index content values h row answer =
       let two = two_values values index content h in
-      let n = int_form types labels cells two.0 index two.3 row in
+      let n = values_have_their_types_heads-integers types labels cells two.0 index two.3 row in
       let is : values ≡ IntValue n.0 ∷ two.1 ∷ [] = two.2 ∙ ap (λ v. v ∷ two.1 ∷ []) n.1 in
       subst (λ vs. Kept type (make_vector_step types store world vs)) (sym is)
       (make_vector_at type content n.0 two.1 n.2 two.4 answer)
@@ -323,7 +325,7 @@ module _ (types : TypeRows) (labels : ℕ) (table : IsTypeTable types) (cells : 
   unbox_keeps : (type box : ℕ) (values : List Value) → ListHas values (box ∷ []) → Is box (RefRow type) →
       Kept type (unbox_step types store world values)
   unbox_keeps type box values h row =
-      let one = one_value values box h in
+      let one = a_term_has_one_type-values values box h in
       subst (λ vs. Kept type (unbox_step types store world vs)) (sym one.1)
       (unbox_at one.0 type box one.2 row (form types labels cells one.0 box (RefRow type) one.2 row))
 
@@ -438,7 +440,7 @@ module _ (types : TypeRows) (labels : ℕ) (table : IsTypeTable types) (cells : 
       Is vector (VectRow type) → Is index IntRow → Kept type (vector_ref_step types store world values)
   vector_ref_keeps type vector index values h row int =
       let two = two_values values vector index h in
-      let n = int_form types labels cells two.1 index two.4 int in
+      let n = values_have_their_types_heads-integers types labels cells two.1 index two.4 int in
       let is : values ≡ two.0 ∷ IntValue n.0 ∷ [] = two.2 ∙ ap (λ v. two.0 ∷ v ∷ []) n.1 in
       subst (λ vs. Kept type (vector_ref_step types store world vs)) (sym is)
       (vector_ref_at two.0 n.0 type vector index two.3 n.2 row int (form types labels cells two.0 vector
@@ -516,7 +518,7 @@ module _ (types : TypeRows) (labels : ℕ) (table : IsTypeTable types) (cells : 
       Kept type (vector_set_step types store world values)
   vector_set_keeps type vector index content values h row int answer =
       let three = three_values values vector index content h in
-      let n = int_form types labels cells three.1 index three.5 int in
+      let n = values_have_their_types_heads-integers types labels cells three.1 index three.5 int in
       let is : values ≡ three.0 ∷ IntValue n.0 ∷ three.2 ∷ [] = three.3 ∙ ap (λ v. three.0 ∷ v ∷ three.2 ∷ []) n.1 in
       subst (λ vs. Kept type (vector_set_step types store world vs)) (sym is)
       (vector_set_at three.0 n.0 three.2 type vector index content three.4 n.2 three.6 row int answer
@@ -543,7 +545,7 @@ module _ (types : TypeRows) (labels : ℕ) (table : IsTypeTable types) (cells : 
   vector_length_keeps : (type vector content : ℕ) (values : List Value) → ListHas values (vector ∷ []) →
       Is vector (VectRow content) → Is type IntRow → Kept type (vector_length_step types store world values)
   vector_length_keeps type vector content values h row answer =
-      let one = one_value values vector h in
+      let one = a_term_has_one_type-values values vector h in
       subst (λ vs. Kept type (vector_length_step types store world vs)) (sym one.1)
       (vector_length_at one.0 type vector content one.2 row answer (form types labels cells one.0 vector
       (VectRow content) one.2 row))

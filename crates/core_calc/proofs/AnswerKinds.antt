@@ -11,10 +11,10 @@ use Rattle.core_calc.specs.Terms.{Term, Value, IntValue, BoolValue, UnitValue, F
 use Rattle.core_calc.specs.Terms.{LocValue, WrapValue, InjectValue, as_value}
 use Rattle.core_calc.specs.Calculus.{shown_value, CalcState, Answered, Program, calc}
 use Rattle.core_calc.specs.Typing.{CellType, HasType, ValueHasType, kind_of_type, EndsWell, ProgramTermHasType}
-use Rattle.core_calc.proofs.TypedLists.{none_is_not_some, both_some}
-use Rattle.core_calc.proofs.TypedRows.{false_is_not_true}
+use Rattle.core_calc.proofs.ListPlaces.{none_is_not_some, both_some}
+use Rattle.core_calc.proofs.RowsOfTables.{false_is_not_true}
 use Rattle.core_calc.proofs.TypedValues.{member_function, value_of_term}
-use Rattle.core_calc.proofs.TypedRuns.{typed_stands}
+use Rattle.core_calc.proofs.RunsKeepTypes.{typed_programs_never_go_wrong-typed}
 
 same_kind_shown : (row other : TypeRow) → same_head row other ≡ true → kind_of_type row ≡ kind_of_type other
 same_kind_shown IntRow IntRow e = refl
@@ -62,12 +62,13 @@ module _ (types : TypeRows) (labels : ℕ) (cells : List CellType) where
       e k
   kind_of_option term type row kind shown None is h e k s = absurd (none_is_not_some shown s)
 
-pub answer_kind : (program : Program) (input : List ℕ) (type n : ℕ) (row : TypeRow) (kind : AnswerKind)
+pub answers_have_their_types_kind : (program : Program) (input : List ℕ) (type n : ℕ) (row : TypeRow)
+    (kind : AnswerKind)
     (shown : Answer) → ProgramTermHasType program.types (length program.labels) program.term type →
     row_at program.types type ≡ Some row → kind_of_type row ≡ Some kind →
     (calc program input n).shown.ended ≡ Some (Answered shown) → shown.kind ≡ kind
-answer_kind program input type n row kind shown h e k ended =
-    let stands = typed_stands program input type n h in
+answers_have_their_types_kind program input type n row kind shown h e k ended =
+    let stands = typed_programs_never_go_wrong-typed program input type n h in
     let state : CalcState = (calc program input n).shown in
     let well = subst (λ o. EndsWell (length program.labels) o (as_value state.term)) ended stands.1 in
     kind_of_option program.types (length program.labels) stands.0.1 state.term type row kind shown

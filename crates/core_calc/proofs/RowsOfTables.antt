@@ -7,7 +7,7 @@ use Rattle.std.proofs.lemmas.Option.{slice_get_within, get_or_from_slice_get}
 use Rattle.grift_base.specs.Types.{TypeRow, IntRow, BoolRow, UnitRow, DynRow, FunRow, TupleRow, RefRow, VectRow}
 use Rattle.grift_base.specs.Types.{TypeRows, row_at, parts_of, is_dyn, is_base, same_head, dyn_from, dyn_place}
 use Rattle.core_calc.specs.Typing.{IsTypeTable}
-use Rattle.core_calc.proofs.TypedLists.{none_is_not_some, same_some}
+use Rattle.core_calc.proofs.ListPlaces.{none_is_not_some, same_some}
 
 pub false_is_not_true : false ≡ true → ⊥
 false_is_not_true e = cc

@@ -8,7 +8,7 @@ use Rattle.core_calc.specs.Terms.{BoolValue, UnitValue, FunValue, MemberValue, T
 use Rattle.core_calc.specs.Terms.{InjectValue, NoValues, ValueThen}
 use Rattle.core_calc.specs.Typing.{Context, CellType, HasMoreCells, member_types, HasType, HaveTypes, LastHasType}
 use Rattle.core_calc.specs.Typing.{MembersHaveTypes, BindingsHaveTypes, ValueHasType, ValuesHaveTypes}
-use Rattle.core_calc.proofs.TypedLists.{get_kept}
+use Rattle.core_calc.proofs.ListPlaces.{get_kept}
 
 module _ (types : TypeRows) (labels : ℕ) (cells new : List CellType) (extended : HasMoreCells cells new) where
   cell_stays : (k : ℕ) (cell : CellType) → slice_get cells k ≡ Some cell → slice_get new k ≡ Some cell

@@ -14,8 +14,8 @@ use Rattle.core_calc.specs.Calculus.{shown_value, CalcEnd, Answered, Blamed, Tra
 use Rattle.core_calc.specs.Calculus.{state_after_step, blame_at, ending_of, Program, calculus, calc}
 use Rattle.core_calc.specs.Typing.{CellType, HasType, IsTypeTable, StoreHasTypes, KeepsType, EndsWell, Stands}
 use Rattle.core_calc.specs.Typing.{ProgramTermHasType}
-use Rattle.core_calc.proofs.TypedLists.{some_is_not_none, none_is_not_some}
-use Rattle.core_calc.proofs.TypedSteps.{step_keeps}
+use Rattle.core_calc.proofs.ListPlaces.{some_is_not_none, none_is_not_some}
+use Rattle.core_calc.proofs.StepsKeepTypes.{steps_keep_types}
 
 get_below : {A : Type 0} (xs : List A) (k : ℕ) → k < length xs → (a : A) × (slice_get xs k ≡ Some a)
 get_below [] k below = absurd (omega arith)
@@ -45,7 +45,7 @@ module _ (types : TypeRows) (labels : ℕ) where
       Stands types labels (state_after_step state (step types state.store state.world state.term)) type
   stands_on state type h e =
       stands_after state type h.0.1 (step types state.store state.world state.term) h.0.0 h.0.2 h.0.3
-      (step_keeps types labels h.0.0 h.0.1 state.store h.0.2 state.world state.term type h.0.3
+      (steps_keep_types types labels h.0.0 h.0.1 state.store h.0.2 state.world state.term type h.0.3
       (running_is_no_value state.ended (as_value state.term) h.1 e))
 
 running : (labels : List Pos) (ended : Option CalcEnd) → option_map (ending_of labels) ended ≡ None → ended ≡ None
@@ -78,9 +78,9 @@ start_stands program input type h = (
   ends_of_value program.types (length program.labels) (as_value program.term),
 )
 
-pub typed_never_wrong : (program : Program) (input : List ℕ) (type : ℕ) →
+pub typed_programs_never_go_wrong-never_wrong : (program : Program) (input : List ℕ) (type : ℕ) →
     ProgramTermHasType program.types (length program.labels) program.term type → NeverWrong (calc program input)
-typed_never_wrong program input type h =
+typed_programs_never_go_wrong-never_wrong program input type h =
     reduction_never_wrong (calculus program.types program.labels)
     (λ state. Stands program.types (length program.labels) state type) (λ state stands e.
     stands_on program.types (length program.labels) state type stands (running program.labels state.ended e))
@@ -88,10 +88,10 @@ typed_never_wrong program input type h =
     (start_stands program input type h)
 
 -- at each moment the state has the type
-pub typed_stands : (program : Program) (input : List ℕ) (type : ℕ) (n : ℕ) →
+pub typed_programs_never_go_wrong-typed : (program : Program) (input : List ℕ) (type : ℕ) (n : ℕ) →
     ProgramTermHasType program.types (length program.labels) program.term type →
     Stands program.types (length program.labels) (calc program input n).shown type
-typed_stands program input type n h =
+typed_programs_never_go_wrong-typed program input type n h =
     state_after_keeps (calculus program.types program.labels)
     (λ state. Stands program.types (length program.labels) state type) (λ state stands e.
     stands_on program.types (length program.labels) state type stands (running program.labels state.ended e)) n

@@ -7,9 +7,9 @@ use Rattle.core_calc.specs.Terms.{Value}
 use Rattle.core_calc.specs.Outcome.{Store, Outcome, Goes, Blames, Traps, Stuck, inside, if_some, with_some}
 use Rattle.core_calc.specs.Casts.{with_rows, with_part_of_both}
 use Rattle.core_calc.specs.Typing.{CellType, HasMoreCells, CellHasType, StoreHasTypes, Keeps}
-use Rattle.core_calc.proofs.TypedLists.{none_is_not_some, same_some, both_some, get_before_or_last, get_within}
-use Rattle.core_calc.proofs.TypedLists.{get_past, length_set, get_set, length_one_more}
-use Rattle.core_calc.proofs.TypedMore.{more_value}
+use Rattle.core_calc.proofs.ListPlaces.{none_is_not_some, same_some, both_some, get_before_or_last, get_within}
+use Rattle.core_calc.proofs.ListPlaces.{get_past, length_set, get_set, length_one_more}
+use Rattle.core_calc.proofs.MoreCells.{more_value}
 
 pub no_more_cells : (cells : List CellType) → HasMoreCells cells cells
 no_more_cells cells = ([], sym (append-nil cells))

@@ -12,7 +12,7 @@ use Rattle.core_calc.specs.Substitution.{Substitution, entry_of, is_among, witho
 use Rattle.core_calc.specs.Substitution.{substitute_terms, substitute_members, substitute_bindings, bind}
 use Rattle.core_calc.specs.Typing.{Context, CellType, member_types, HasType, HaveTypes, LastHasType, MembersHaveTypes}
 use Rattle.core_calc.specs.Typing.{BindingsHaveTypes, ValueHasType}
-use Rattle.core_calc.proofs.TypedLists.{none_is_not_some, same_some}
+use Rattle.core_calc.proofs.ListPlaces.{none_is_not_some, same_some}
 
 -- ---- names and their entries
 
