@@ -1,52 +1,10 @@
 -- The laws of following.
-use Rattle.std.proofs.Common.{
-  ◌≡◌,
-  ◌≢◌,
-  ◌⊎◌,
-  inl,
-  inr,
-  ℕ,
-  ◌<◌,
-  ◌≤◌,
-  List,
-  [],
-  ◌++◌,
-  Option,
-  Some,
-  None,
-  refl,
-  sym,
-  ap,
-  ◌∙◌,
-  subst,
-  arith,
-  append_assoc,
-  append-nil,
-}
+use Rattle.std.proofs.Common.{◌≡◌, ◌≢◌, ◌⊎◌, inl, inr, ℕ, ◌<◌, ◌≤◌, List, [], ◌++◌, Option, Some, None, refl, sym, ap}
+use Rattle.std.proofs.Common.{◌∙◌, subst, arith, append_assoc, append-nil}
 use Rattle.std.proofs.lemmas.Bool.{cases_lt}
-use Rattle.run_laws.specs.Runs.{
-  Ending,
-  Verdict,
-  Exhausted,
-  Wrong,
-  Moment,
-  Run,
-  IsPrefix,
-  IsExhausted,
-  EndsAs,
-  HasVerdictOf,
-  NeverWrong,
-  NeverExhausted,
-  StaysEnded,
-  Follows,
-  SameAnswer,
-  Agrees,
-  Backed,
-  Reached,
-  FollowsBy,
-  Through,
-  Same,
-}
+use Rattle.run_laws.specs.Runs.{Ending, Verdict, Exhausted, Wrong, Moment, Run, IsPrefix, IsExhausted, EndsAs}
+use Rattle.run_laws.specs.Runs.{HasVerdictOf, NeverWrong, NeverExhausted, StaysEnded, Follows, SameAnswer, Agrees}
+use Rattle.run_laws.specs.Runs.{Backed, Reached, FollowsBy, Through, Same}
 
 -- having a verdict, and beginning with output, are transitive
 ends_as_trans : {V : Type 0} (a b c : Option (Ending V)) → EndsAs a b → EndsAs b c → EndsAs a c

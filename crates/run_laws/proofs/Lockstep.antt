@@ -2,29 +2,14 @@
 -- at the same cost.
 use Rattle.std.proofs.Common.{◌≡◌, ◌⊎◌, inl, inr, ℕ, zero, suc, ◌+◌, ◌<◌, Some, None, refl, sym, ap, ◌∙◌, subst, arith}
 use Rattle.run_laws.specs.Runs.{Ending, Verdict, Exhausted, Wrong, NeverWrong, FollowsBy, Any}
-use Rattle.run_laws.specs.Machines.{
-  Next,
-  Go,
-  Stop,
-  Machine,
-  run,
-  Reaches,
-  Alike,
-  OnTheWay,
-  StopsAt,
-  UnlessWrong,
-  Does,
-  Simulation,
-}
+use Rattle.run_laws.specs.Machines.{Next, Go, Stop, Machine, run, Reaches, Alike, OnTheWay, StopsAt, UnlessWrong, Does}
+use Rattle.run_laws.specs.Machines.{Simulation}
 use Rattle.run_laws.specs.Reductions.{Reduction, reduction_run, go_or_stop, machine_of}
 use Rattle.run_laws.specs.Meters.{Metered, unspent, metered_reduction, SpendSame}
 use Rattle.run_laws.proofs.Following.{follows_by_before, follows_by_behind, follows_of, follower_never_goes_wrong}
-use Rattle.run_laws.proofs.Reducing.{
-  reduction_and_machine_follow_each_other-machine,
-  reduction_and_machine_follow_each_other-reduction,
-  machine_never_wrong,
-  machine_never_wrong_back,
-}
+use Rattle.run_laws.proofs.Reducing.{reduction_and_machine_follow_each_other-machine}
+use Rattle.run_laws.proofs.Reducing.{reduction_and_machine_follow_each_other-reduction, machine_never_wrong}
+use Rattle.run_laws.proofs.Reducing.{machine_never_wrong_back}
 use Rattle.run_laws.proofs.Simulation.{by_step, unless_wrong_map, follows_by_simulation}
 
 module _ {S T A B V : Type 0} (M : Reduction S A V) (N : Reduction T B V) (work : S → ℕ) (cost : T → ℕ)

@@ -1,80 +1,17 @@
 -- Machines with meters: what the target spends is bounded by what the source spends.
-use Rattle.std.proofs.Common.{
-  ◌≡◌,
-  inl,
-  inr,
-  ⊎_elim,
-  ℕ,
-  zero,
-  suc,
-  ◌+◌,
-  ◌*◌,
-  ◌≤◌,
-  Option,
-  Some,
-  None,
-  refl,
-  sym,
-  ap,
-  ◌∙◌,
-  subst,
-  arith,
-  mul-add,
-  mul_assoc,
-  le_trans,
-  mul-le-mul_left,
-}
+use Rattle.std.proofs.Common.{◌≡◌, inl, inr, ⊎_elim, ℕ, zero, suc, ◌+◌, ◌*◌, ◌≤◌, Option, Some, None, refl, sym, ap}
+use Rattle.std.proofs.Common.{◌∙◌, subst, arith, mul-add, mul_assoc, le_trans, mul-le-mul_left}
 use Rattle.run_laws.specs.Runs.{Ending, Verdict, Exhausted, Wrong, NeverWrong, FollowsBy, Through, Same}
-use Rattle.run_laws.specs.Machines.{
-  Next,
-  Go,
-  Stop,
-  Machine,
-  moment,
-  and_then,
-  steps,
-  seen,
-  run,
-  landing,
-  Onward,
-  Reaches,
-  Alike,
-  OnTheWay,
-  StopsAt,
-  Does,
-  Simulation,
-}
+use Rattle.run_laws.specs.Machines.{Next, Go, Stop, Machine, moment, and_then, steps, seen, run, landing, Onward}
+use Rattle.run_laws.specs.Machines.{Reaches, Alike, OnTheWay, StopsAt, Does, Simulation}
 use Rattle.run_laws.specs.Reductions.{Reduction, unless_ended, state_after, go_or_stop, reduction_run, machine_of}
-use Rattle.run_laws.specs.Meters.{
-  Metered,
-  unspent,
-  charge,
-  metered,
-  metered_reduction,
-  none_once_ended,
-  machine_work,
-  SameButMeter,
-  Spends,
-  OfRest,
-  OnBudget,
-  StopsOnBudget,
-  DoesOnBudget,
-  CostSimulation,
-}
-use Rattle.run_laws.proofs.Following.{
-  ends_as_equal,
-  exhausted_or_equal,
-  reached_by,
-  follows_equal,
-  follows_by_before,
-  follows_by_behind,
-}
+use Rattle.run_laws.specs.Meters.{Metered, unspent, charge, metered, metered_reduction, none_once_ended, machine_work}
+use Rattle.run_laws.specs.Meters.{SameButMeter, Spends, OfRest, OnBudget, StopsOnBudget, DoesOnBudget, CostSimulation}
+use Rattle.run_laws.proofs.Following.{ends_as_equal, exhausted_or_equal, reached_by, follows_equal, follows_by_before}
+use Rattle.run_laws.proofs.Following.{follows_by_behind}
 use Rattle.run_laws.proofs.Simulation.{unless_wrong_map, reaches_weaken, follows_from_start}
-use Rattle.run_laws.proofs.Reducing.{
-  machine_never_wrong,
-  reduction_and_machine_follow_each_other-machine,
-  reduction_and_machine_follow_each_other-reduction,
-}
+use Rattle.run_laws.proofs.Reducing.{machine_never_wrong, reduction_and_machine_follow_each_other-machine}
+use Rattle.run_laws.proofs.Reducing.{reduction_and_machine_follow_each_other-reduction}
 
 -- a meter changes nothing else
 module _ {S A V : Type 0} (M : Machine S A V) (work : S → ℕ) where

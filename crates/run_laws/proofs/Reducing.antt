@@ -1,39 +1,12 @@
 -- What the run of a reduction does, and how it joins the run of its machine.
 use Rattle.std.proofs.Common.{◌≡◌, ◌≢◌, ◌⊎◌, inr, ℕ, zero, suc, ◌+◌, ◌≤◌, Option, Some, None, refl, sym, ap, ◌∙◌, arith}
-use Rattle.run_laws.specs.Runs.{
-  Ending,
-  Wrong,
-  IsPrefix,
-  EndsAs,
-  IsExhausted,
-  HasVerdictOf,
-  NeverWrong,
-  StaysEnded,
-  OutputGrows,
-  Agrees,
-  FollowsBy,
-  Same,
-}
+use Rattle.run_laws.specs.Runs.{Ending, Wrong, IsPrefix, EndsAs, IsExhausted, HasVerdictOf, NeverWrong, StaysEnded}
+use Rattle.run_laws.specs.Runs.{OutputGrows, Agrees, FollowsBy, Same}
 use Rattle.run_laws.specs.Machines.{Go, Machine, moment, and_then, steps, seen, run, landing, OnlyAddsOutput}
-use Rattle.run_laws.specs.Reductions.{
-  Reduction,
-  unless_ended,
-  state_after,
-  moment_at,
-  reduction_run,
-  ReductionOnlyAddsOutput,
-  go_or_stop,
-  machine_of,
-}
-use Rattle.run_laws.proofs.Following.{
-  ends_as_equal,
-  exhausted_or_equal,
-  backed_equal,
-  reached_by,
-  reached_equal,
-  prefix_trans,
-  prefix_refl,
-}
+use Rattle.run_laws.specs.Reductions.{Reduction, unless_ended, state_after, moment_at, reduction_run}
+use Rattle.run_laws.specs.Reductions.{ReductionOnlyAddsOutput, go_or_stop, machine_of}
+use Rattle.run_laws.proofs.Following.{ends_as_equal, exhausted_or_equal, backed_equal, reached_by, reached_equal}
+use Rattle.run_laws.proofs.Following.{prefix_trans, prefix_refl}
 
 none_is_not_some : {V : Type 0} (o : Option (Ending V)) (e : Ending V) → o ≡ None → o ≡ Some e → ⊥
 none_is_not_some o e none some = absurd (apart (sym none ∙ some))

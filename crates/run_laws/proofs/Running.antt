@@ -1,29 +1,9 @@
 -- What the run of a machine does.
 use Rattle.std.proofs.Common.{◌≡◌, ◌≢◌, ℕ, zero, suc, ◌+◌, ◌≤◌, Some, None, refl, ap, ◌∙◌, arith}
-use Rattle.run_laws.specs.Runs.{
-  Ending,
-  Verdict,
-  Exhausted,
-  Wrong,
-  IsPrefix,
-  IsExhausted,
-  NeverWrong,
-  StaysEnded,
-  OutputGrows,
-}
-use Rattle.run_laws.specs.Machines.{
-  Next,
-  Go,
-  Stop,
-  Machine,
-  moment,
-  and_then,
-  steps,
-  seen,
-  run,
-  landing,
-  OnlyAddsOutput,
-}
+use Rattle.run_laws.specs.Runs.{Ending, Verdict, Exhausted, Wrong, IsPrefix, IsExhausted, NeverWrong, StaysEnded}
+use Rattle.run_laws.specs.Runs.{OutputGrows}
+use Rattle.run_laws.specs.Machines.{Next, Go, Stop, Machine, moment, and_then, steps, seen, run, landing}
+use Rattle.run_laws.specs.Machines.{OnlyAddsOutput}
 use Rattle.run_laws.proofs.Following.{prefix_trans, prefix_refl}
 
 module _ {S A V : Type 0} (M : Machine S A V) where

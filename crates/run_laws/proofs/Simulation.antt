@@ -1,59 +1,10 @@
 -- A machine that simulates another follows it.
-use Rattle.std.proofs.Common.{
-  ◌≡◌,
-  ◌≢◌,
-  ◌⊎◌,
-  inl,
-  inr,
-  ⊎_elim,
-  ℕ,
-  zero,
-  suc,
-  ◌+◌,
-  ◌<◌,
-  ◌≤◌,
-  Option,
-  Some,
-  None,
-  refl,
-  sym,
-  ap,
-  ◌∙◌,
-  subst,
-  arith,
-}
-use Rattle.run_laws.specs.Runs.{
-  Ending,
-  Verdict,
-  Exhausted,
-  Wrong,
-  Moment,
-  NeverWrong,
-  Agrees,
-  Backed,
-  Reached,
-  FollowsBy,
-}
-use Rattle.run_laws.specs.Machines.{
-  Next,
-  Go,
-  Stop,
-  Machine,
-  moment,
-  and_then,
-  steps,
-  seen,
-  run,
-  landing,
-  Onward,
-  Reaches,
-  Alike,
-  OnTheWay,
-  StopsAt,
-  UnlessWrong,
-  Does,
-  Simulation,
-}
+use Rattle.std.proofs.Common.{◌≡◌, ◌≢◌, ◌⊎◌, inl, inr, ⊎_elim, ℕ, zero, suc, ◌+◌, ◌<◌, ◌≤◌, Option, Some, None, refl}
+use Rattle.std.proofs.Common.{sym, ap, ◌∙◌, subst, arith}
+use Rattle.run_laws.specs.Runs.{Ending, Verdict, Exhausted, Wrong, Moment, NeverWrong, Agrees, Backed, Reached}
+use Rattle.run_laws.specs.Runs.{FollowsBy}
+use Rattle.run_laws.specs.Machines.{Next, Go, Stop, Machine, moment, and_then, steps, seen, run, landing, Onward}
+use Rattle.run_laws.specs.Machines.{Reaches, Alike, OnTheWay, StopsAt, UnlessWrong, Does, Simulation}
 use Rattle.run_laws.proofs.Following.{ends_as_equal, exhausted_or_equal, reached_by}
 use Rattle.run_laws.proofs.Running.{run_go, run_stop}
 

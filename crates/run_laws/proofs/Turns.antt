@@ -1,49 +1,11 @@
 -- How many turns a machine needs: a bound on its spending, at one for each step, is a bound on its steps.
-use Rattle.std.proofs.Common.{
-  ◌≡◌,
-  ◌⊎◌,
-  inl,
-  inr,
-  ℕ,
-  zero,
-  suc,
-  ◌+◌,
-  ◌*◌,
-  ◌≤◌,
-  Option,
-  Some,
-  None,
-  refl,
-  sym,
-  ap,
-  ◌∙◌,
-  subst,
-  arith,
-}
-use Rattle.run_laws.specs.Runs.{
-  Ending,
-  Verdict,
-  Exhausted,
-  Wrong,
-  Run,
-  IsPrefix,
-  IsExhausted,
-  HasVerdictOf,
-  Reached,
-  FollowsBy,
-}
+use Rattle.std.proofs.Common.{◌≡◌, ◌⊎◌, inl, inr, ℕ, zero, suc, ◌+◌, ◌*◌, ◌≤◌, Option, Some, None, refl, sym, ap, ◌∙◌}
+use Rattle.std.proofs.Common.{subst, arith}
+use Rattle.run_laws.specs.Runs.{Ending, Verdict, Exhausted, Wrong, Run, IsPrefix, IsExhausted, HasVerdictOf, Reached}
+use Rattle.run_laws.specs.Runs.{FollowsBy}
 use Rattle.run_laws.specs.Machines.{Next, Go, Stop, Machine, run, landing, OnlyAddsOutput}
-use Rattle.run_laws.specs.Meters.{
-  Metered,
-  unspent,
-  charge,
-  metered,
-  SameButMeter,
-  each_one,
-  Spends,
-  EndsInTime,
-  ComesInTime,
-}
+use Rattle.run_laws.specs.Meters.{Metered, unspent, charge, metered, SameButMeter, each_one, Spends, EndsInTime}
+use Rattle.run_laws.specs.Meters.{ComesInTime}
 use Rattle.run_laws.proofs.Following.{has_verdict_of_some}
 use Rattle.run_laws.proofs.Metering.{meter_changes_nothing_else-machines}
 use Rattle.run_laws.proofs.Running.{run_go, run_stop, what_has_ended_stays-machines, output_only_grows-machines}

@@ -8,32 +8,12 @@
 #![tactic(auto)]
 
 ghost use Rattle.std.specs.Prelude.{◌≡◌, ℕ, ◌+◌};
-ghost use Rattle.run_laws.specs.Runs.{
-  Ending,
-  Run,
-  NeverWrong,
-  NeverExhausted,
-  StaysEnded,
-  OutputGrows,
-  Follows,
-  SameAnswer,
-  FollowsBy,
-  Same,
-  Any,
-};
+ghost use Rattle.run_laws.specs.Runs.{Ending, Run, NeverWrong, NeverExhausted, StaysEnded, OutputGrows, Follows};
+ghost use Rattle.run_laws.specs.Runs.{SameAnswer, FollowsBy, Same, Any};
 ghost use Rattle.run_laws.specs.Machines.{Machine, and_then, steps, run, OnlyAddsOutput};
 ghost use Rattle.run_laws.specs.Reductions.{Reduction, state_after, reduction_run, ReductionOnlyAddsOutput, machine_of};
-ghost use Rattle.run_laws.specs.Meters.{
-  Metered,
-  unspent,
-  metered,
-  metered_reduction,
-  SameButMeter,
-  each_one,
-  Spends,
-  EndsInTime,
-  ComesInTime,
-};
+ghost use Rattle.run_laws.specs.Meters.{Metered, unspent, metered, metered_reduction, SameButMeter, each_one, Spends};
+ghost use Rattle.run_laws.specs.Meters.{EndsInTime, ComesInTime};
 
 #[cfg(test)]
 mod tests;

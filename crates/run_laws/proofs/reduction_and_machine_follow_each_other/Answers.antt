@@ -1,9 +1,7 @@
-use Rattle.run_laws.proofs.Reducing.{
-  reduction_and_machine_follow_each_other-before_end,
-  reduction_and_machine_follow_each_other-after_end,
-  reduction_and_machine_follow_each_other-machine,
-  reduction_and_machine_follow_each_other-reduction,
-}
+use Rattle.run_laws.proofs.Reducing.{reduction_and_machine_follow_each_other-before_end}
+use Rattle.run_laws.proofs.Reducing.{reduction_and_machine_follow_each_other-after_end}
+use Rattle.run_laws.proofs.Reducing.{reduction_and_machine_follow_each_other-machine}
+use Rattle.run_laws.proofs.Reducing.{reduction_and_machine_follow_each_other-reduction}
 use Rattle.run_laws.proofs.reduction_and_machine_follow_each_other.Goals as goal
 
 pub returns-clause-before_end : goal.returns-clause-before_end
