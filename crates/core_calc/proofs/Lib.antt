@@ -1,7 +1,6 @@
 pub mod Public
 mod Examples
 mod TypedExamples
-mod ReadingExamples
 mod Output
 mod Endings
 mod Substituting

@@ -27,7 +27,8 @@ use Rattle.core_calc.specs.Operators.{cell_behind, gives, on_int, on_ints, on_bo
 use Rattle.core_calc.specs.Operators.{newline_step, new_cell, writes_cell, with_element, cast_written, make_box_step}
 use Rattle.core_calc.specs.Operators.{unbox_cell, unbox_step, box_set_step, make_vector_step, vector_ref_step}
 use Rattle.core_calc.specs.Operators.{vector_set_step, vector_length_step, reads, read_step, operator_step}
-use Rattle.core_calc.specs.Reading.{in_word, number_of, run_first, unread, next_number, past_run}
+use Rattle.grift_base.specs.Numbers.{in_word, number_of}
+use Rattle.grift_base.specs.Reading.{run_first, unread, next_number, past_run}
 use Rattle.core_calc.specs.Typing.{CellType, HasType, OperatorHasType, ValueHasType, IsTypeTable, CellHasType}
 use Rattle.core_calc.specs.Typing.{StoreHasTypes, KeepsType}
 use Rattle.core_calc.proofs.ListPlaces.{none_is_not_some, same_some, both_some, get_last, get_replicate, length_set}

@@ -30,7 +30,7 @@ use Rattle.core_calc.specs.Operators.{cell_behind, gives, on_int, on_ints, on_bo
 use Rattle.core_calc.specs.Operators.{cast_read, cast_written, make_box_step, unbox_cell, unbox_step, box_set_step}
 use Rattle.core_calc.specs.Operators.{make_vector_step, vector_ref_step, vector_set_step, vector_length_step, reads}
 use Rattle.core_calc.specs.Operators.{read_step, operator_step}
-use Rattle.core_calc.specs.Reading.{next_number}
+use Rattle.grift_base.specs.Reading.{next_number}
 use Rattle.core_calc.specs.Step.{if_step, let_step, step, step_terms, step_bindings}
 use Rattle.core_calc.specs.Calculus.{CalcState, state_after_step, calculus}
 

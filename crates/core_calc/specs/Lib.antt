@@ -3,7 +3,6 @@ pub mod Substitution
 pub mod Outcome
 pub mod Casts
 pub mod Calls
-pub mod Reading
 pub mod Redex
 pub mod Operators
 pub mod Step

@@ -14,7 +14,7 @@ use Rattle.grift_base.specs.declared.operators.PrimOp.TheVariants.{MakeVector, V
 use Rattle.grift_base.specs.declared.verdicts.Trap.TheVariants.{ZeroDivisor, Index, Length, Input}
 use Rattle.core_calc.specs.Terms.{Term, Value, Cast, Prim, ValueTerm, IntValue, BoolValue, UnitValue, LocValue}
 use Rattle.core_calc.specs.Terms.{WrapValue, terms_from}
-use Rattle.core_calc.specs.Reading.{next_number, past_white, past_run}
+use Rattle.grift_base.specs.Reading.{next_number, past_white, past_run}
 use Rattle.core_calc.specs.Outcome.{Store, Outcome, Goes, Traps, Stuck, if_some, with_some}
 use Rattle.core_calc.specs.Casts.{with_part_of_both}
 
