@@ -1,0 +1,97 @@
+-- The next redex of a term: the part of it that takes the step, what stands round that part, and how many nodes do.
+use Rattle.std.specs.Prelude.{ℕ, suc, Option, Some, None}
+use Rattle.core_calc.specs.Terms.{Term, Terms, Bindings, Value, IntLit, BoolLit, UnitLit, Var, Lambda, Group, Let, Call}
+use Rattle.core_calc.specs.Terms.{Enter, If, Seq, Cast, Proj, ProjDyn, Tuple, Prim, ValueTerm, NoTerms, TermThen}
+use Rattle.core_calc.specs.Terms.{NoBindings, BindingThen, WrapValue, as_value, all_values, bound_values}
+use Rattle.core_calc.specs.Calculus.{CalcState}
+
+-- a redex inside a term, inside terms or inside bindings: the redex, the whole with another term in the redex's place,
+-- and
+-- the number of nodes strictly above it
+pub record Focus (A : Type 0) : Type 0 where
+  pub redex : Term
+  pub around : Term → A
+  pub above : ℕ
+
+-- the term itself is the redex
+abbrev pub here : Term → Focus Term
+here term = record { redex = term; around = λ next. next; above = 0 }
+
+-- one node further down
+abbrev pub below : {A B : Type 0} → (A → B) → Focus A → Focus B
+below place f = record { redex = f.redex; around = λ next. place (f.around next); above = suc f.above }
+
+-- further along among operands, which is no node
+abbrev pub along : {A B : Type 0} → (A → B) → Focus A → Focus B
+along place f = record { redex = f.redex; around = λ next. place (f.around next); above = f.above }
+
+-- the first where there is something, and else the second
+abbrev pub where_some : {A B : Type 0} → Option A → B → B → B
+where_some (Some a) x y = x
+where_some None x y = y
+
+-- of an Enter: a function seen through a cast is unwrapped at once, whatever its arguments are
+abbrev pub enter_focus : Option Value → Focus Term → Focus Term → Focus Term
+enter_focus (Some (WrapValue v from label to)) whole inner = whole
+enter_focus (Some v) whole inner = inner
+enter_focus None whole inner = whole
+
+-- parts are evaluated from left to right; a term whose parts are values is the redex itself
+abbrev mutual
+  pub focus : Term → Focus Term
+  focus (IntLit n) = here (IntLit n)
+  focus (BoolLit b) = here (BoolLit b)
+  focus UnitLit = here UnitLit
+  focus (ValueTerm v) = here (ValueTerm v)
+  focus (Var name) = here (Var name)
+  focus (Lambda parameters body type) = here (Lambda parameters body type)
+  focus (Group members body) = here (Group members body)
+  focus (Let bindings body) =
+      where_some (bound_values bindings) (here (Let bindings body))
+      (below (λ next. Let next body) (focus_bindings bindings))
+  focus (Call function arguments) =
+      where_some (as_value function)
+      (where_some (all_values arguments) (here (Call function arguments))
+      (below (Call function) (focus_terms arguments)))
+      (below (λ next. Call next arguments) (focus function))
+  focus (Enter function arguments) =
+      enter_focus (as_value function) (here (Enter function arguments))
+      (where_some (all_values arguments) (here (Enter function arguments))
+      (below (Enter function) (focus_terms arguments)))
+  focus (If condition on_true on_false) =
+      where_some (as_value condition) (here (If condition on_true on_false))
+      (below (λ next. If next on_true on_false) (focus condition))
+  focus (Seq NoTerms) = here (Seq NoTerms)
+  focus (Seq (TermThen term NoTerms)) = here (Seq (TermThen term NoTerms))
+  focus (Seq (TermThen term (TermThen second rest))) =
+      where_some (as_value term) (here (Seq (TermThen term (TermThen second rest))))
+      (below (λ next. Seq (TermThen next (TermThen second rest))) (focus term))
+  focus (Cast term from to label) =
+      where_some (as_value term) (here (Cast term from to label)) (below (λ next. Cast next from to label) (focus term))
+  focus (Proj term k) = where_some (as_value term) (here (Proj term k)) (below (λ next. Proj next k) (focus term))
+  focus (ProjDyn term k label) =
+      where_some (as_value term) (here (ProjDyn term k label)) (below (λ next. ProjDyn next k label) (focus term))
+  focus (Tuple parts) = where_some (all_values parts) (here (Tuple parts)) (below Tuple (focus_terms parts))
+  focus (Prim operator operands) =
+      where_some (all_values operands) (here (Prim operator operands)) (below (Prim operator) (focus_terms operands))
+
+  -- of terms that aren't all values; where all are, nothing is said
+  pub focus_terms : Terms → Focus Terms
+  focus_terms NoTerms = record { redex = UnitLit; around = λ next. NoTerms; above = 0 }
+  focus_terms (TermThen term rest) =
+      where_some (as_value term) (along (TermThen term) (focus_terms rest))
+      (along (λ next. TermThen next rest) (focus term))
+
+  pub focus_bindings : Bindings → Focus Bindings
+  focus_bindings NoBindings = record { redex = UnitLit; around = λ next. NoBindings; above = 0 }
+  focus_bindings (BindingThen name bound rest) =
+      where_some (as_value bound) (along (BindingThen name bound) (focus_bindings rest))
+      (along (λ next. BindingThen name next rest) (focus bound))
+
+-- the next redex of a term that is no value; a value is taken as its own
+abbrev pub redex : Term → Term
+redex term = (focus term).redex
+
+-- the pending contexts of a state: the nodes strictly above its next redex, and none once it has ended
+abbrev pub pending_contexts : CalcState → ℕ
+pending_contexts state = where_some state.ended 0 (focus state.term).above
