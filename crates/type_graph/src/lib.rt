@@ -1,0 +1,4 @@
+// Types as rows of a table.
+#![tactic(auto)]
+
+pub mod rows;
