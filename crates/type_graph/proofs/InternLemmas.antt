@@ -118,7 +118,8 @@ pub place_missing : {A : Type 0} (passes : A → Bool) (xs : List A) → place_w
     slice_get xs k ≡ Some a → passes a ≡ true → ⊥
 place_missing passes [] e k a f p = none_is_not_some a f
 place_missing passes (x ∷ xs) e k a f p =
-    missing_from passes x a xs (passes x) refl (place_where passes xs) (λ none j g. place_missing passes xs none j a g p)
+    missing_from passes x a xs (passes x) refl (place_where passes xs)
+    (λ none j g. place_missing passes xs none j a g p)
     k e f p
 
 -- a row that stands at a place is in the table
@@ -137,7 +138,8 @@ intern-from_Interns row old new place apart interns at_place = by_place (place_w
 
     absent : place_where (equal_rows row) old ≡ None → Contains old row → ⊥
     absent e h =
-        place_missing (equal_rows row) old e h.0 row (slice_get-get_or old h.0 row h.1 ∙ ap Some h.2) (row_is_itself row)
+        place_missing (equal_rows row) old e h.0 row (slice_get-get_or old h.0 row h.1 ∙ ap Some h.2)
+        (row_is_itself row)
 
     last : new ≡ old ++ row ∷ [] → (¬ Contains old row) → place ≡ length old
     last e none = by_cases (get_before_or_last old row row place (ap (λ xs. slice_get xs place) (sym e) ∙ at_place))
@@ -195,9 +197,11 @@ module _ (types : TypeRows) (row : TypeRow) (fits : FitsTable types row) (first 
       by_place (inr f) = subst HasWidth f.1 fits.width
 
   new_length : length new ≡ suc (length types)
-  new_length = length-append types (row ∷ []) ∙ (let one_more : length types + 1 ≡ suc (length types) = omega arith in one_more)
+  new_length =
+      length-append types (row ∷ []) ∙ (let one_more : length types + 1 ≡ suc (length types) = omega arith in one_more)
 
-  sums_kept : (parts : List ℕ) → All (λ part. part < length types) parts → sum_of (size new) parts ≡ sum_of (size types) parts
+  sums_kept : (parts : List ℕ) → All (λ part. part < length types) parts
+      → sum_of (size new) parts ≡ sum_of (size types) parts
   sums_kept [] all = refl
   sums_kept (part ∷ parts) all =
       ap₂ ◌+◌ (size_grown types new first longer part (All-head (λ x. x < length types) part parts all))
@@ -207,7 +211,8 @@ module _ (types : TypeRows) (row : TypeRow) (fits : FitsTable types row) (first 
       above_all (height new) parts ≡ above_all (height types) parts
   greatest_kept [] all = refl
   greatest_kept (part ∷ parts) all =
-      ap₂ (λ a b. max (suc a) b) (height_grown types new first longer part (All-head (λ x. x < length types) part parts all))
+      ap₂ (λ a b. max (suc a) b) (height_grown types new first longer part
+      (All-head (λ x. x < length types) part parts all))
       (greatest_kept parts (All-tail (λ x. x < length types) part parts all))
 
   -- size and height of the new type

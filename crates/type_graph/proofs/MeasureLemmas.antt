@@ -79,7 +79,8 @@ part_below_all (part ∷ parts) zero d within = omega arith
 part_below_all (part ∷ parts) (suc k) d within = let later = part_below_all parts k d (omega arith) in omega arith
 
 -- what is above all parts is at most what they are all below
-pub above_all-most : (bound : ℕ) (parts : List ℕ) → All (λ part. part < bound) parts → above_all (λ part. part) parts ≤ bound
+pub above_all-most : (bound : ℕ) (parts : List ℕ) → All (λ part. part < bound) parts
+    → above_all (λ part. part) parts ≤ bound
 above_all-most bound [] all = omega arith
 above_all-most bound (part ∷ parts) all =
     let head = All-head (λ x. x < bound) part parts all in

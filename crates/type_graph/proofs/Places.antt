@@ -76,4 +76,5 @@ HasNoRepeats-push {A} xs a apart absent i j within e = by_place (slice_get_at (x
 
     by_place : (b : A) × (slice_get (xs ++ a ∷ []) i ≡ Some b) → i ≡ j
     by_place found =
-        by_places found.0 (get_before_or_last xs a found.0 i found.1) (get_before_or_last xs a found.0 j (sym e ∙ found.1))
+        by_places found.0 (get_before_or_last xs a found.0 i found.1)
+        (get_before_or_last xs a found.0 j (sym e ∙ found.1))

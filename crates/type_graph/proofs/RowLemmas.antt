@@ -42,7 +42,16 @@ use Rattle.grift_base.specs.Types.{
 use Rattle.type_graph.specs.Rows.{places_of, row_of}
 use Rattle.type_graph.specs.Forming.{equal_numbers, equal_rows}
 use Rattle.type_graph.specs.declared.rows.Row.{Row}
-use Rattle.type_graph.specs.declared.rows.Row.TheVariants.{Int, Bool as Truth, Unit as UnitType, Dyn, Fun, Tuple, Ref, Vect}
+use Rattle.type_graph.specs.declared.rows.Row.TheVariants.{
+  Int,
+  Bool as Truth,
+  Unit as UnitType,
+  Dyn,
+  Fun,
+  Tuple,
+  Ref,
+  Vect,
+}
 use Rattle.std.specs.Cmp.Lexicographic.{pointwise}
 use Rattle.grift_base.specs.contracts.places.TypeIdPartialEq.TheImpl.{ghosts as ids}
 use Rattle.type_graph.specs.contracts.rows.RowPartialEq.TheImpl.{ghosts}

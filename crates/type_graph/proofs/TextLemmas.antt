@@ -128,12 +128,14 @@ module _ (types : TypeRows) (first : PartsFirst types) (a : ℕ) (within : a < l
       e ∙ ap (λ l. before ++ l) (sym (text_by_row types first a within ∙ ap (row_text (type_text types)) at))
 
   pub fun_written : (parameters : List ℕ) (answer : ℕ) → row_at types a ≡ Some (FunRow parameters answer) →
-      (((before ++ codes "(") ++ each_before_space (type_text types) parameters) ++ codes "-> ") ++ type_text types answer
+      (((before ++ codes "(") ++ each_before_space (type_text types) parameters) ++ codes "-> ")
+      ++ type_text types answer
       ++ codes ")" ≡ before ++ type_text types a
   fun_written parameters answer at = behind_row (FunRow parameters answer) at _ (simp append_assoc)
 
   pub tuple_written : (parts : List ℕ) → row_at types a ≡ Some (TupleRow parts) →
-      ((before ++ codes "(Tuple") ++ each_behind_space (type_text types) parts) ++ codes ")" ≡ before ++ type_text types a
+      ((before ++ codes "(Tuple") ++ each_behind_space (type_text types) parts) ++ codes ")" ≡ before
+      ++ type_text types a
   tuple_written parts at = behind_row (TupleRow parts) at _ (simp append_assoc)
 
   pub ref_written : (content : ℕ) → row_at types a ≡ Some (RefRow content) →
@@ -158,8 +160,10 @@ before_space_more types parts k d before text within e =
     ∙ ap (λ l. l ++ (type_text types (get_or parts k d).0 ++ codes " ")) e
     ∙ append_assoc before (each_before_space (type_text types) (places_of (take k parts)))
     (type_text types (get_or parts k d).0 ++ codes " ")
-    ∙ ap (λ l. before ++ l) (sym (each_before_space-push (type_text types) (places_of (take k parts)) (get_or parts k d).0))
-    ∙ ap (λ l. before ++ each_before_space (type_text types) l) (sym (map_more (λ (id : TypeId). id.0) parts k d within))
+    ∙ ap (λ l. before ++ l) (sym (each_before_space-push (type_text types) (places_of (take k parts))
+    (get_or parts k d).0))
+    ∙ ap (λ l. before ++ each_before_space (type_text types) l)
+    (sym (map_more (λ (id : TypeId). id.0) parts k d within))
 
 pub behind_space_more : (types : TypeRows) (parts : List TypeId) (k : ℕ) (d : TypeId) (before text : List ℕ) →
     k < length parts → text ≡ before ++ each_behind_space (type_text types) (places_of (take k parts)) →
@@ -170,8 +174,10 @@ behind_space_more types parts k d before text within e =
     ∙ ap (λ l. l ++ (codes " " ++ type_text types (get_or parts k d).0)) e
     ∙ append_assoc before (each_behind_space (type_text types) (places_of (take k parts)))
     (codes " " ++ type_text types (get_or parts k d).0)
-    ∙ ap (λ l. before ++ l) (sym (each_behind_space-push (type_text types) (places_of (take k parts)) (get_or parts k d).0))
-    ∙ ap (λ l. before ++ each_behind_space (type_text types) l) (sym (map_more (λ (id : TypeId). id.0) parts k d within))
+    ∙ ap (λ l. before ++ l) (sym (each_behind_space-push (type_text types) (places_of (take k parts))
+    (get_or parts k d).0))
+    ∙ ap (λ l. before ++ each_behind_space (type_text types) l)
+    (sym (map_more (λ (id : TypeId). id.0) parts k d within))
 
 -- parameters and result of a function, as parts of its row
 pub fun_parts : (P : ℕ → Type 0) (parameters : List ℕ) (answer : ℕ) → All P (parameters ++ answer ∷ []) →

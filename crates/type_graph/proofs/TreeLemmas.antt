@@ -78,7 +78,8 @@ later_within a b type more below = let m = more_length a b more in omega arith
 
 -- ---- parts
 
-pub row_parts_below : (types : TypeRows) (type : ℕ) (row : Option TypeRow) → PartsFirst types → row_at types type ≡ row →
+pub row_parts_below : (types : TypeRows) (type : ℕ) (row : Option TypeRow) → PartsFirst types
+    → row_at types type ≡ row →
     All (λ part. part < type) (row_parts row)
 row_parts_below types type (Some row) first e = first type row e
 row_parts_below types type None first e = λ k d h. absurd (omega arith)
@@ -97,7 +98,8 @@ sums_same : (f g : ℕ → ℕ) (below : ℕ) (xs : List ℕ) → ((s : ℕ) →
     sum_of f xs ≡ sum_of g xs
 sums_same f g below [] same all = refl
 sums_same f g below (x ∷ xs) same all =
-    ap₂ ◌+◌ (same x (All-head (λ x. x < below) x xs all)) (sums_same f g below xs same (All-tail (λ x. x < below) x xs all))
+    ap₂ ◌+◌ (same x (All-head (λ x. x < below) x xs all))
+    (sums_same f g below xs same (All-tail (λ x. x < below) x xs all))
 
 greatest_same : (f g : ℕ → ℕ) (below : ℕ) (xs : List ℕ) → ((s : ℕ) → s < below → f s ≡ g s) →
     All (λ x. x < below) xs → above_all f xs ≡ above_all g xs

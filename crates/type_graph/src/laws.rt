@@ -25,7 +25,8 @@ pub fn tables_grow()
     ensures table { (types : TypeRows) (row : TypeRow) → IsOrderedTable types → FitsTable types row
         → IsOrderedTable (intern row types).1 }
     ensures place { (types : TypeRows) (row : TypeRow) → row_at (intern row types).1 (intern row types).0 ≡ Some row }
-    ensures size { (types more : TypeRows) (a : ℕ) → PartsFirst types → a < length types → size (types ++ more) a ≡ size types a }
+    ensures size { (types more : TypeRows) (a : ℕ) → PartsFirst types → a < length types
+        → size (types ++ more) a ≡ size types a }
     ensures height { (types more : TypeRows) (a : ℕ) → PartsFirst types → a < length types
         → height (types ++ more) a ≡ height types a }
 {}

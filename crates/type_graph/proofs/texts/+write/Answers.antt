@@ -44,7 +44,8 @@ pub write_each_before_space-write_type-requires : goal.write_each_before_space-w
 write_each_before_space-write_type-requires t c =
     let below = part_below_all c.args.parts.now c.loop-part.part-index nowhere c.loop-part-test.true in (
       omega (arith, c.decreases, below),
-      part_at (λ part. part < length c.args.types.now) c.args.parts.now c.loop-part.part-index nowhere c.loop-part-test.true
+      part_at (λ part. part < length c.args.types.now) c.args.parts.now c.loop-part.part-index nowhere
+          c.loop-part-test.true
           c.requires,
     )
 
@@ -52,22 +53,26 @@ pub write_each_before_space-loop-part-preserved : goal.write_each_before_space-l
 write_each_before_space-loop-part-preserved t c =
     c.in_ok-extend.ensures.ok
     ∙ ap (λ l. l ++ codes " ") c.in_ok-write_type.ensures
-    ∙ before_space_more c.args.types.now c.args.parts.now c.loop-part.part-index nowhere c.args.text.now c.loop-part.text
+    ∙ before_space_more c.args.types.now c.args.parts.now c.loop-part.part-index nowhere c.args.text.now
+    c.loop-part.text
     c.loop-part-test.true c.loop-part.invariant
 
 pub write_each_behind_space-write_type-requires : goal.write_each_behind_space-write_type-requires
 write_each_behind_space-write_type-requires t c =
     let below = part_below_all c.args.parts.now c.loop-part.part-index nowhere c.loop-part-test.true in (
       omega (arith, c.decreases, below),
-      part_at (λ part. part < length c.args.types.now) c.args.parts.now c.loop-part.part-index nowhere c.loop-part-test.true
+      part_at (λ part. part < length c.args.types.now) c.args.parts.now c.loop-part.part-index nowhere
+          c.loop-part-test.true
           c.requires,
     )
 
 pub write_each_behind_space-loop-part-preserved : goal.write_each_behind_space-loop-part-preserved
 write_each_behind_space-loop-part-preserved t c =
     c.in_ok-write_type.ensures
-    ∙ ap (λ l. l ++ type_text c.args.types.now (get_or c.args.parts.now c.loop-part.part-index nowhere).0) c.in_ok-extend.ensures.ok
-    ∙ behind_space_more c.args.types.now c.args.parts.now c.loop-part.part-index nowhere c.args.text.now c.loop-part.text
+    ∙ ap (λ l. l ++ type_text c.args.types.now (get_or c.args.parts.now c.loop-part.part-index nowhere).0)
+    c.in_ok-extend.ensures.ok
+    ∙ behind_space_more c.args.types.now c.args.parts.now c.loop-part.part-index nowhere c.args.text.now
+    c.loop-part.text
     c.loop-part-test.true c.loop-part.invariant
 
 pub write_type-write_each_before_space-requires : goal.write_type-write_each_before_space-requires
@@ -148,7 +153,8 @@ write_type-returns-in_ok-write_type-in-Fun t c =
     c.in-Fun.result.0 row in
     rw (← written) c.extend-in-Fun-3.ensures.ok
 
-pub write_type-returns-in_ok-write_each_behind_space-in-Tuple : goal.write_type-returns-in_ok-write_each_behind_space-in-Tuple
+pub write_type-returns-in_ok-write_each_behind_space-in-Tuple :
+    goal.write_type-returns-in_ok-write_each_behind_space-in-Tuple
 write_type-returns-in_ok-write_each_behind_space-in-Tuple t c =
     let types = c.args.types.now in
     let parts : List ℕ = places_of c.in-Tuple.parts in

@@ -34,6 +34,7 @@ returns c =
     let whole : take c.loop-part.part-index c.args.parts.now ≡ c.args.parts.now =
     take_all c.loop-part.part-index c.args.parts.now c.loop-part-test.false in (
       λ e.
-          subst (λ (parts : List TypeId). All (MayBePart c.args.self.now) (places_of parts)) whole c.loop-part.invariant,
+          subst (λ (parts : List TypeId). All (MayBePart c.args.self.now) (places_of parts)) whole
+          c.loop-part.invariant,
       λ all. refl,
     )

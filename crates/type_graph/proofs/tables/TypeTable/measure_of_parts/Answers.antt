@@ -6,7 +6,8 @@ use Rattle.type_graph.proofs.tables.TypeTable.measure_of_parts.Goals as goal
 
 pub measure-requires : goal.measure-requires
 measure-requires c =
-    (part_at (MayBePart c.args.self.now) c.args.parts.now c.loop-part.part-index _ c.loop-part-test.true c.requires).there
+    (part_at (MayBePart c.args.self.now) c.args.parts.now c.loop-part.part-index _ c.loop-part-test.true
+    c.requires).there
 
 pub with_part-measure-requires-clause-low : goal.with_part-measure-requires-clause-low
 with_part-measure-requires-clause-low c =
