@@ -1,12 +1,18 @@
 // What a token is by itself.
 
-ghost use Rattle.std.specs.Prelude.{◌≡◌, true, IfOk, Option, Some, None, pos, if◌then◌else◌};
+ghost use Rattle.std.specs.Prelude.{◌≡◌, true, IfOk, Some, None, if◌then◌else◌};
 ghost use Rattle.std.specs.Char.{is_ascii_digit};
 ghost use Rattle.std.specs.List.{list_all};
 ghost use Rattle.std.specs.Str.Parse.{without_leading_sign, signed_digits_value};
-ghost use Rattle.sexpr_reader.specs.Meaning.{is_integer, begins_like_number, fits_in_64_bits, meaning, atom_meaning, hash_meaning};
+ghost use Rattle.sexpr_reader.specs.Meaning.{
+  is_integer,
+  begins_like_number,
+  fits_in_64_bits,
+  meaning,
+  atom_meaning,
+  hash_meaning,
+};
 ghost use Rattle.sexpr_reader.specs.Scanning.{lexeme_of};
-ghost use Rattle.sexpr_reader.specs.Parts.{meaning_of};
 
 use crate::scan::{Lexeme, Shape};
 use grift_base::lists::{Name, OutOfMemory};
@@ -62,13 +68,14 @@ fn begins_like_number(atom: &[u8]) -> bool
 // The number that a sign and digits write; none where it does not fit.
 fn integer(atom: &[u8]) -> Option<i64>
     requires { is_integer atom.now ≡ true }
-    ensures { result ≡ (if fits_in_64_bits (signed_digits_value 10 atom.now) then Some (signed_digits_value 10 atom.now) else None) }
+    ensures { let value = signed_digits_value 10 atom.now in
+        result ≡ (if fits_in_64_bits value then Some value else None) }
 {
     str::from_utf8(atom).ok()?.parse().ok()
 }
 
 fn atom_meaning(alloc: Global, atom: &[u8]) -> Result<Meaning, OutOfMemory>
-    ensures { IfOk result (λ m. meaning_of m ≡ atom_meaning atom.now) }
+    ensures { IfOk result (λ m. m ≡ atom_meaning atom.now) }
 {
     if is_integer(atom) {
         return match integer(atom) {
@@ -84,7 +91,7 @@ fn atom_meaning(alloc: Global, atom: &[u8]) -> Result<Meaning, OutOfMemory>
 }
 
 fn hash_meaning(atom: &[u8]) -> Meaning
-    ensures { meaning_of result ≡ hash_meaning atom.now }
+    ensures { result ≡ hash_meaning atom.now }
 {
     match atom {
         b"t" => Meaning::Bool(true),
@@ -95,7 +102,7 @@ fn hash_meaning(atom: &[u8]) -> Meaning
 
 /// What a token with this lexeme is by itself.
 pub fn lexeme_meaning(alloc: Global, lexeme: Lexeme<'_>) -> Result<Meaning, OutOfMemory>
-    ensures { IfOk result (λ m. meaning_of m ≡ meaning (lexeme_of lexeme.entry)) }
+    ensures { IfOk result (λ m. m ≡ meaning (lexeme_of lexeme.entry)) }
 {
     match lexeme {
         Lexeme::Open(shape) => Ok(Meaning::Opening(shape)),

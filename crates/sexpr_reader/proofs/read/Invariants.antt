@@ -1,10 +1,10 @@
 use Rattle.std.proofs.Common.{◌≡◌, length}
 use Rattle.sexpr_reader.specs.Token.{tokens}
-use Rattle.sexpr_reader.specs.Refused.{depth_limit}
+use Rattle.sexpr_reader.specs.Grammar.{depth_limit}
 use Rattle.sexpr_reader.specs.Reader.{start, run}
 use Rattle.sexpr_reader.specs.Scanning.{Stands, IsBetween, tokens_at}
 use Rattle.sexpr_reader.specs.Parts.{state_of}
-use Rattle.sexpr_reader.proofs.first_reading.Given as goal
+use Rattle.sexpr_reader.proofs.read.Given as goal
 
 abbrev pub invariant-loop-token : goal.invariant-loop-token
 invariant-loop-token l = record {
