@@ -1,17 +1,15 @@
 -- Where the parts of an assembled image lie.
-use Rattle.std.proofs.Common.{ℕ, zero, suc, ◌+◌, ◌-◌, ◌*◌, ◌%◌, ◌^◌, ◌<◌, ◌≤◌, ◌≡◌, true, false, List, [], ◌∷◌, ◌++◌}
+use Rattle.std.proofs.Common.{ℕ, zero, suc, ◌+◌, ◌-◌, ◌*◌, ◌^◌, ◌<◌, ◌≤◌, ◌≡◌, false, List, [], ◌∷◌, ◌++◌}
 use Rattle.std.proofs.lemmas.Bool.{true≢false}
-use Rattle.std.proofs.Common.{length, get_or, drop, Some, refl, sym, ◌∙◌, ap, subst, arith, append_assoc}
-use Rattle.std.specs.Prelude.{Any, flat_map, slice_index, slice_get}
+use Rattle.std.proofs.Common.{length, get_or, Some, refl, sym, ◌∙◌, ap, subst, arith, append_assoc}
+use Rattle.std.specs.Prelude.{flat_map, slice_index, slice_get}
 use Rattle.std.proofs.lemmas.List.{get_or-append-add, get_or_append_left}
-use Rattle.grift_base.specs.World.{WorldState}
 use Rattle.grift_base.specs.declared.places.Pos.{Pos}
 use Rattle.rv_isa.specs.declared.real.RealItem.{RealItem}
 use Rattle.rv_isa.specs.declared.real.RealItem.TheVariants.{Op, Mark, Jump, Branch, Address}
-use Rattle.rv_machine.specs.Memory.{load_bytes, memory_of, first_address, from_base}
-use Rattle.rv_machine.specs.Image.{statics_len, code_len, entry, loaded_part}
+use Rattle.rv_machine.specs.Memory.{load_bytes, memory_of, first_address}
+use Rattle.rv_machine.specs.Image.{statics_len, entry, loaded_part}
 use Rattle.rv_machine.specs.State.{Layout}
-use Rattle.rv_machine.specs.Start.{start_of}
 use Rattle.rv_machine.specs.Real.{is_mark, AreAddresses, address_from}
 use Rattle.rv_machine.proofs.Public.{load_same, HasItem, some_address}
 use Rattle.assembler.specs.Expansion.{code_insts}
@@ -57,7 +55,7 @@ static_byte (w ∷ ws) rest (suc i) word k h e =
     ∙ (get_or-append-add (word_bytes w) (flat_map word_bytes ws ++ rest) (8 * i + k) 0
     ∙ static_byte ws rest i word k h e))
 
-module _ (items : List RealItem) (statics : List ℕ) (labels : List Pos) (facts : CodeFacts items statics labels) where
+module _ {items : List RealItem} {statics : List ℕ} {labels : List Pos} (facts : CodeFacts items statics labels) where
   abbrev start : ℕ
   start = code_start statics
 
@@ -74,7 +72,7 @@ module _ (items : List RealItem) (statics : List ℕ) (labels : List Pos) (facts
   below_end place =
       let l : Layout = record { code = start; region = 0; end = 0; labels = [] } in
       let a = reaches_to items l place in
-      let b = words_long items statics labels facts in omega arith
+      let b = words_long facts in omega arith
 
   are_addresses : AreAddresses items address
   are_addresses = record {
@@ -99,7 +97,7 @@ module _ (items : List RealItem) (statics : List ℕ) (labels : List Pos) (facts
           let z : 0 + k ≡ k = omega arith in
           in_memory (loaded_part bytes) (first_address + 8 * i + k) (omega arith)
           ∙ (ap (slice_index (loaded_part bytes)) y
-          ∙ (ap (λ bs. slice_index bs (8 * i + k)) (part items statics labels facts)
+          ∙ (ap (λ bs. slice_index bs (8 * i + k)) (part facts)
           ∙ (static_byte statics (code_bytes words) i word k h e ∙ sym (ap (slice_index (word_bytes word)) z))))
 
   begins : address_from address 0 items ≡ Some start
@@ -113,7 +111,7 @@ module _ (items : List RealItem) (statics : List ℕ) (labels : List Pos) (facts
 
   pub has_addresses : HasAddresses bytes items statics address
   has_addresses =
-      let code = code_at items statics labels facts in
+      let code = code_at facts in
       record {
         sound = are_addresses;
         static = static;
@@ -122,7 +120,7 @@ module _ (items : List RealItem) (statics : List ℕ) (labels : List Pos) (facts
         code = omega arith;
         inside = λ place.
             (let a = below_end place in
-            let b = code_size items statics labels facts in
+            let b = code_size facts in
             let c = code_long words in omega arith);
         entry = λ region stack world.
             (let z : entry bytes ≡ 0 = entry_field (flat_map word_bytes statics) (code_bytes words) labels in

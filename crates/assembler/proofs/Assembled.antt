@@ -20,8 +20,8 @@ is_image_of image items statics labels e facts read_back few =
       labels_are = same;
       few = few;
       few_statics = facts.few_statics;
-      addresses = has_addresses items statics labels facts;
-      words = has_its_words items statics labels facts;
-      follows = λ reading. does_as_code items statics labels facts reading;
-      runs = λ reading. runs_as_code items statics labels facts reading;
+      addresses = has_addresses facts;
+      words = has_its_words facts;
+      follows = λ reading. does_as_code facts reading;
+      runs = λ reading. runs_as_code facts reading;
     }) read_back

@@ -28,7 +28,8 @@ use Rattle.assembler.proofs.Standing.{calls, Stands}
 use Rattle.assembler.proofs.Insts.{item_long_at}
 use Rattle.assembler.proofs.Placing.{bytes_of, bytes_long}
 use Rattle.assembler.proofs.Starting.{got, call_is, call_width, Located, located}
-use Rattle.assembler.proofs.Claims.{CodeFacts, code_at, code_size, words_long, full, full_words, code_byte, tail}
+use Rattle.assembler.proofs.Claims.{CodeFacts, no_sizes, code_at, code_size, words_long, full, full_words, code_byte}
+use Rattle.assembler.proofs.Claims.{tail}
 
 -- ---- forms call nothing
 
@@ -95,7 +96,7 @@ nothing_of_zero = refl
 none_is_some : (i : Inst) → None ≡ Some i → ⊥
 none_is_some i e = cc
 
-module _ (items : List RealItem) (statics : List ℕ) (labels : List Pos) (facts : CodeFacts items statics labels) where
+module _ {items : List RealItem} {statics : List ℕ} {labels : List Pos} (facts : CodeFacts items statics labels) where
   abbrev bytes : List ℕ
   bytes = assembled items statics labels
 
@@ -113,17 +114,16 @@ module _ (items : List RealItem) (statics : List ℕ) (labels : List Pos) (facts
 
   op_word : (place : ℕ) (i : Inst) → slice_get items place ≡ Some (Op i) → load_bytes 4 m (address place) ≡ encode_of i
   op_word place i e =
-      let g = got place items (Op i) e in (full_words items statics labels facts 0 0 (refl, omega arith)
-      (refl, omega arith) place (Op i) g.0 g.1).0
+      let g = got place items (Op i) e in (full_words facts no_sizes place (Op i) g.0 g.1).0
 
   insts_same : length insts ≡ length (code_insts items (code_start statics))
-  insts_same = ap (λ n. length (code_insts items n)) (code_at items statics labels facts)
+  insts_same = ap (λ n. length (code_insts items n)) (code_at facts)
 
   size_is : code_len bytes ≡ 4 * length insts + 4 * (length insts % 2)
   size_is =
       let a = code_long (inst_words (code_insts items (code_start statics))) in
-      let b = code_size items statics labels facts in
-      let c = words_long items statics labels facts in
+      let b = code_size facts in
+      let c = words_long facts in
       let d = insts_same in
       let e : length (inst_words (code_insts items (code_start statics))) % 2 ≡ length insts % 2 = ap (λ n. n % 2)
       (c ∙ sym d) in omega arith
@@ -140,13 +140,13 @@ module _ (items : List RealItem) (statics : List ℕ) (labels : List Pos) (facts
       ))
   in_item at i place item rest there z lo hi free d false c =
       let j : ℕ = (at - address place) / 4 in
-      let s = code_at items statics labels facts in
+      let s = code_at facts in
       let long = item_long_at items l.code place item in
       let e : address place + 4 * j ≡ at = omega arith in
       no_call_of i (calls_nothing_at l m (item_insts items l.code place item) (address place) j i
       (form_calls_nothing (is_near (longest_widths items) items l.code place item) (address place)
       (target_of items l.code item) item c)
-      (full items statics labels facts 0 0 (refl, omega arith) (refl, omega arith) place item rest there)
+      (full facts no_sizes place item rest there)
       (omega arith) (ap (λ a. decode_of (load_bytes 4 m a)) e ∙ d))
 
   -- behind the last word of an odd number stands a word 0
@@ -158,7 +158,7 @@ module _ (items : List RealItem) (statics : List ℕ) (labels : List Pos) (facts
       odd = let s = size_is in omega arith
 
       at_end : at ≡ l.code + 4 * length insts
-      at_end = let s = size_is in let c = code_at items statics labels facts in omega arith
+      at_end = let s = size_is in let c = code_at facts in omega arith
 
       tail_is : (b : Bool) → (length (inst_words (code_insts items (code_start statics))) % 2 == 0) ≡ b → (k : ℕ)
           → slice_index (if b then [] else half_bytes 0) k ≡ 0
@@ -174,12 +174,12 @@ module _ (items : List RealItem) (statics : List ℕ) (labels : List Pos) (facts
 
       byte : (k : ℕ) → m (at + k) ≡ 0
       byte k =
-          let c = code_at items statics labels facts in
+          let c = code_at facts in
           let long = bytes_long insts in
           let e : at + k - l.code ≡ length (bytes_of insts) + k = let f = at_end in omega arith in
-          code_byte items statics labels facts 0 0 (refl, omega arith) (refl, omega arith) (at + k) (omega arith)
-          ∙ (ap (λ n. slice_index (bytes_of insts ++ tail items statics labels facts) n) e
-          ∙ (get_or-append-add (bytes_of insts) (tail items statics labels facts) k 0
+          code_byte facts no_sizes (at + k) (omega arith)
+          ∙ (ap (λ n. slice_index (bytes_of insts ++ tail facts) n) e
+          ∙ (get_or-append-add (bytes_of insts) (tail facts) k 0
           ∙ tail_is (length (inst_words (code_insts items (code_start statics))) % 2 == 0) refl k))
 
       zero : load_bytes 4 m at ≡ 0
@@ -195,23 +195,23 @@ module _ (items : List RealItem) (statics : List ℕ) (labels : List Pos) (facts
           let g : Located items l.code 0 items ((at - l.code) / 4) = located items l.code ((at - l.code) / 4) k in
           let a = g.above in
           let b = g.below in
-          let c = code_at items statics labels facts in
+          let c = code_at facts in
           let y : 0 + g.place ≡ g.place = omega arith in
           let w : width_at items l.code (0 + g.place) g.item ≡ width_at items l.code g.place g.item = ap
           (λ n. width_at items l.code n g.item) y in
           in_item at i g.place g.item g.rest g.stands z (omega arith) (omega arith) free d (calls g.item) refl
       by false e =
           let k : length insts ≤ (at - l.code) / 4 = grind arith in
-          let c = code_at items statics labels facts in absurd (in_padding at i z (omega arith) hi d)
+          let c = code_at facts in absurd (in_padding at i z (omega arith) hi d)
 
-pub has_its_words : (items : List RealItem) (statics : List ℕ) (labels : List Pos) → CodeFacts items statics labels
+pub has_its_words : {items : List RealItem} {statics : List ℕ} {labels : List Pos} → CodeFacts items statics labels
     → HasItsWords (assembled items statics labels) items (address_of items (code_start statics))
-has_its_words items statics labels facts =
-    let c = code_at items statics labels facts in
+has_its_words {items} {statics} {labels} facts =
+    let c = code_at facts in
     record {
       op = λ place i e. subst (λ n. load_bytes 4 (image_memory (assembled items statics labels))
-          (address_of items n place) ≡ encode_of i) c (op_word items statics labels facts place i e);
+          (address_of items n place) ≡ encode_of i) c (op_word facts place i e);
       no_call =
-          λ at i lo hi z free d. no_calls_at items statics labels facts at i lo hi z
+          λ at i lo hi z free d. no_calls_at facts at i lo hi z
           (subst (λ n. IsNoCall items (address_of items n) at) (sym c) free) d;
     }

@@ -16,7 +16,7 @@ use Rattle.rv_isa.specs.Decoding.{decode_of}
 use Rattle.rv_machine.specs.Memory.{Memory, load_bytes}
 use Rattle.rv_machine.specs.State.{Layout, State, Halt, GoesWrong, Turn, Next, Stops}
 use Rattle.rv_machine.specs.declared.faults.MachineFault.TheVariants.{Undefined, BadAddress}
-use Rattle.rv_machine.specs.Start.{start_of, layout_of, IsRegionSize, IsStackSize}
+use Rattle.rv_machine.specs.Start.{start_of, layout_of}
 use Rattle.rv_machine.specs.Turn.{turn_of, act_if, call_environment, is_undefined}
 use Rattle.rv_machine.specs.Mach.{machine_by, step_by}
 use Rattle.rv_machine.specs.Real.{Setting, plain_setting, Here, item_at, call_of_item, call_here, call_or_fetched}
@@ -27,7 +27,7 @@ use Rattle.assembler.specs.Following.{IsLike, LeavesCode, CanBeCall, Simulates, 
 use Rattle.assembler.proofs.Finding.{Found, found}
 use Rattle.assembler.proofs.Turns.{leaves_act, leaves_call, like_call}
 use Rattle.assembler.proofs.Standing.{Intact, same_word}
-use Rattle.assembler.proofs.Claims.{CodeFacts, code_at, full, simulated}
+use Rattle.assembler.proofs.Claims.{CodeFacts, Sizes, code_at, full, simulated}
 
 -- ---- two machines that make the same steps where I holds
 
@@ -95,13 +95,13 @@ seen_same : {S A V : Type 0} (step step1 : S → Step S V) (output : S → List 
 seen_same step step1 output shown (Go s) = refl
 seen_same step step1 output shown (Stop e s) = refl
 
-module _ (items : List RealItem) (statics : List ℕ) (labels : List Pos) (facts : CodeFacts items statics labels)
-    (region stack : ℕ) (region_size : IsRegionSize region) (stack_size : IsStackSize stack) (world : WorldState) where
+module _ {items : List RealItem} {statics : List ℕ} {labels : List Pos} (facts : CodeFacts items statics labels)
+    (sizes : Sizes) (world : WorldState) where
   abbrev bytes : List ℕ
   bytes = assembled items statics labels
 
   abbrev l : Layout
-  l = layout_of bytes region stack
+  l = layout_of bytes sizes.region sizes.stack
 
   abbrev m0 : Memory
   m0 = image_memory bytes
@@ -113,7 +113,7 @@ module _ (items : List RealItem) (statics : List ℕ) (labels : List Pos) (facts
   setting = plain_setting address
 
   abbrev first : State
-  first = start_of bytes region stack world
+  first = start_of bytes sizes.region sizes.stack world
 
   abbrev Sound : State → Type 0
   Sound t = (t.layout ≡ l) × Intact l m0 t.memory
@@ -123,13 +123,13 @@ module _ (items : List RealItem) (statics : List ℕ) (labels : List Pos) (facts
         → address place ≡ t.pc → act_if (decode_of (load_bytes 4 t.memory t.pc)) t
         ≡ call_or_fetched (call_of_item setting place item) t
     by_item place (Op Ecall) rest there e =
-        let s = full items statics labels facts region stack region_size stack_size place (Op Ecall) rest there in
+        let s = full facts sizes place (Op Ecall) rest there in
         let w : load_bytes 4 t.memory t.pc ≡ load_bytes 4 m0 (address place) = subst
         (λ n. load_bytes 4 t.memory n ≡ load_bytes 4 m0 (address place)) e
         (same_word l m0 t.memory (address place) sound.1 s.1) in
         ap (λ n. act_if (decode_of n) t) w ∙ ap (λ o. act_if o t) s.0
     by_item place (Op Ebreak) rest there e =
-        let s = full items statics labels facts region stack region_size stack_size place (Op Ebreak) rest there in
+        let s = full facts sizes place (Op Ebreak) rest there in
         let w : load_bytes 4 t.memory t.pc ≡ load_bytes 4 m0 (address place) = subst
         (λ n. load_bytes 4 t.memory n ≡ load_bytes 4 m0 (address place)) e
         (same_word l m0 t.memory (address place) sound.1 s.1) in
@@ -190,7 +190,7 @@ module _ (items : List RealItem) (statics : List ℕ) (labels : List Pos) (facts
     runs_as : NeverWrong (run (real_machine reading items setting) first)
         → Simulates X (real_machine reading items setting) first
     runs_as nw =
-        let s = simulated items statics labels facts region stack region_size stack_size reading
+        let s = simulated facts sizes reading
         (λ place. call_environment) (λ place. is_undefined) (λ place. can_call) (λ place. can_refuse) first refl
         (λ at h. refl) nw in
         record {
@@ -202,12 +202,14 @@ module _ (items : List RealItem) (statics : List ℕ) (labels : List Pos) (facts
               (run (metered each_one (real_machine reading items setting)) (unspent first)) same_counted s.turns;
         }
 
-pub runs_as_code : (items : List RealItem) (statics : List ℕ) (labels : List Pos) → CodeFacts items statics labels
+pub runs_as_code : {items : List RealItem} {statics : List ℕ} {labels : List Pos} → CodeFacts items statics labels
     → {V : Type 0} (reading : Halt → Ending V)
     → RunsAsCode reading (assembled items statics labels) items (address_of items (code_start statics))
-runs_as_code items statics labels facts reading region stack world region_size stack_size nw =
-    let c = code_at items statics labels facts in
+runs_as_code {items} {statics} {labels} facts reading region stack world region_size stack_size nw =
+    let sizes : Sizes =
+    record { region = region; stack = stack; region_size = region_size; stack_size = stack_size } in
+    let c = code_at facts in
     let s : State = start_of (assembled items statics labels) region stack world in
     subst (λ n. Simulates (machine_by reading) (real_machine reading items (plain_setting (address_of items n))) s) c
-    (runs_as items statics labels facts region stack region_size stack_size world reading
+    (runs_as facts sizes world reading
     (subst (λ n. NeverWrong (run (real_machine reading items (plain_setting (address_of items n))) s)) (sym c) nw))

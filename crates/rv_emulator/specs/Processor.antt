@@ -27,6 +27,6 @@ pub record IsSound (bytes : ℕ) (places : Places) (label_count pc : ℕ) : Type
   pub labels : label_count < 4294967295
   pub aligned : pc % 4 ≡ 0
 
--- so it is with what the emulator keeps, told how many bytes its memory has
+-- the parts of an emulator are sound, told how many bytes its memory has
 abbrev pub IsSoundBy : {R : Type 0} → (R → ℕ) → Processor R → Type 0
 IsSoundBy bytes_len p = IsSound (bytes_len p.ram) p.places (length p.labels) p.pc

@@ -16,7 +16,8 @@ pub use Rattle.rv_machine.proofs.Wrongs.{the_readings_take_faults_as_wrong-endin
 pub use Rattle.rv_machine.proofs.Wrongs.{the_readings_take_faults_as_wrong-stops, a_run_goes_wrong_under_every_reading}
 -- ---- the program logic of code with marks
 pub use Rattle.rv_machine.proofs.Standing.{Program, At, HasItem, has_item-append, drop_next, at_small, at_aligned}
-pub use Rattle.rv_machine.proofs.Standing.{some_address, behind_mark, NextAt, next_at, MarkAt, mark_at, found_at, item_here}
+pub use Rattle.rv_machine.proofs.Standing.{some_address, behind_mark, NextAt, next_at, MarkAt, mark_at, found_at}
+pub use Rattle.rv_machine.proofs.Standing.{item_here}
 pub use Rattle.rv_machine.proofs.Steps.{running, step_is, call_stops, Comes, ComesOn, comes_there, is_there}
 pub use Rattle.rv_machine.proofs.Steps.{comes_later, comes_on_later, goes, op, call, jump, falls_through, is_taken}
 pub use Rattle.rv_machine.proofs.Steps.{puts_address, jumps_to}

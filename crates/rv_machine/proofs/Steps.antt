@@ -53,7 +53,7 @@ module _ {V : Type 0} (program : Program V) where
       pub few : steps ≤ most
       pub reaches : Reaches running P Q steps s
 
-    -- so it does, by one step at least
+    -- the run comes there by one step at least
     pub record ComesOn (most : ℕ) (s : State) : Type 0 where
       pub later : ℕ
       pub few : suc later ≤ most
@@ -62,7 +62,7 @@ module _ {V : Type 0} (program : Program V) where
     pub comes_there : {most : ℕ} {s : State} → ComesOn most s → Comes most s
     comes_there on = record { steps = suc on.later; few = on.few; reaches = on.reaches }
 
-    -- it is there
+    -- a run that is there comes there by no step
     pub is_there : {s : State} → Q s → Comes 0 s
     is_there q = record { steps = 0; few = omega arith; reaches = q }
 
@@ -73,7 +73,7 @@ module _ {V : Type 0} (program : Program V) where
     pub comes_on_later : {n : ℕ} {s : State} (m : ℕ) → n ≤ m → ComesOn n s → ComesOn m s
     comes_on_later m h c = let a = c.few in record { later = c.later; few = omega arith; reaches = c.reaches }
 
-    -- by one step that is known
+    -- the run goes on by one step that is known
     pub goes : {most : ℕ} {s : State} (t : State) → running.step s ≡ Go t → P s → Comes most t → ComesOn (suc most) s
     goes {most} {s} t e p c =
         let a = c.few in

@@ -14,7 +14,7 @@ use Rattle.rv_machine.specs.Real.{op_step, jump_step, holds, address_step, item_
 
 module _ {V W : Type 0} (first : Halt → Ending V) (second : Halt → Ending W)
     (wrong : (halt : Halt) → first halt ≡ Wrong → second halt ≡ Wrong) where
-  -- the same step, but for what the stop is setting as
+  -- the same step, but for the reading of the stop
   abbrev Alike : Step State V → Step State W → Type 0
   Alike (Go s) (Go t) = s ≡ t
   Alike (Stop e s) (Stop f t) = e ≡ Wrong → f ≡ Wrong

@@ -25,7 +25,7 @@ ending_of (Ended verdict) = Verdict verdict
 ending_of (Lacks room) = Exhausted
 ending_of (GoesWrong fault) = Wrong
 
--- the same where want of room is a verdict too
+-- what a stop is as the end of a run in which want of room is a verdict too
 abbrev pub stop_of : Halt → Ending Outcome
 stop_of halt = option_map_or Verdict (verdict_of halt) Wrong
 

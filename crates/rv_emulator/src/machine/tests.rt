@@ -279,7 +279,7 @@ const SMALLEST: [u8; 72] = [
     0x93, 0x05, 0xa0, 0x02, 0x73, 0x00, 0x00, 0x00,
 ];
 
-// It is loaded with the default region and stack. One step, and then the end; a run goes on where the one
+// The smallest image, with the default region and stack: one step, and then the end; a run goes on where the one
 // before it came to.
 #[test]
 fn goes_on(rt: HostRuntime) -> Result<(), OutOfMemory> {

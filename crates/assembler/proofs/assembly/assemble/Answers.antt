@@ -1,4 +1,4 @@
-use Rattle.std.proofs.Common.{List, false, ◌+◌, ◌*◌, ◌^◌, ◌≤◌, ◌≡◌, ◌∙◌, sym, subst, length, arith}
+use Rattle.std.proofs.Common.{List, false, ◌^◌, ◌≤◌, ◌≡◌, ◌∙◌, sym, subst, length, arith}
 use Rattle.std.specs.Prelude.{Any}
 use Rattle.rv_isa.specs.declared.real.RealItem.{RealItem}
 use Rattle.assembler.specs.Conditions.{is_mark}
