@@ -1,1 +1,3 @@
 mod Coercions
+mod Rows
+mod Reporting

@@ -15,6 +15,11 @@ use Rattle.object_layout.specs.Headers.{unpacked}
 abbrev pub Telling : Type 0
 Telling = ℕ → Option ℕ
 
+-- the height that a header says
+abbrev pub height_of : Option Header → ℕ
+height_of None = 0
+height_of (Some h) = h.height
+
 -- the height of a coercion is that which its parts give: one more than the highest of them for functions, tuples, boxes
 -- and vectors, and the height of the highest for the others
 abbrev pub HasHeight : Kind → ℕ → ℕ → Type 0
@@ -61,10 +66,6 @@ module _ (memory : Telling) where
   AreWanted own at (wanted ∷ rest) = StandsWanted own at wanted × AreWanted own (at + 8) rest
 
   -- ---- heights
-
-  abbrev pub height_of : Option Header → ℕ
-  height_of None = 0
-  height_of (Some h) = h.height
 
   -- the height of the object whose address the word is
   abbrev pub height_behind : Option ℕ → ℕ

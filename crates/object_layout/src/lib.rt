@@ -8,5 +8,4 @@
 pub mod headers;
 pub mod kinds;
 pub mod wholes;
-//LAWS
-//WALKS
+pub mod walks;

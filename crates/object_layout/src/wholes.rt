@@ -39,7 +39,7 @@ pub fn kind_at<W: Words>(memory: &W, at: u64) -> Option<Kind>
 fn object_below<W: Words>(memory: &W, own: u64, word: u64) -> Option<(Kind, u16)>
     ensures found { IfSome result (λ found.
         let told = word_within (W.first memory.now) (W.end memory.now) (W.word_at memory.now) in
-        (word < own) × (kind_at told word ≡ Some found.0) × (height_of told (header_at told word) ≡ found.1)) }
+        (word < own) × (kind_at told word ≡ Some found.0) × (height_of (header_at told word) ≡ found.1)) }
     ensures none { IfNone result (word < own
         → kind_at (word_within (W.first memory.now) (W.end memory.now) (W.word_at memory.now)) word ≡ None) }
 {
