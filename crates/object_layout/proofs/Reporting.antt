@@ -23,10 +23,20 @@ fewer_both false b = omega arith
 same_report : (r other : SpaceReport) → r.bytes ≡ other.bytes → r.objects ≡ other.objects → r.proxies ≡ other.proxies →
     r.stacked ≡ other.stacked → r.highest ≡ other.highest → r ≡ other
 same_report r other b o p s t =
-    let one : r ≡ record { bytes = r.bytes; objects = r.objects; proxies = r.proxies; stacked = r.stacked;
-        highest = r.highest } = refl in
-    let two : other ≡ record { bytes = other.bytes; objects = other.objects; proxies = other.proxies;
-        stacked = other.stacked; highest = other.highest } = refl in
+    let one : r ≡ record {
+      bytes = r.bytes;
+      objects = r.objects;
+      proxies = r.proxies;
+      stacked = r.stacked;
+      highest = r.highest;
+    } = refl in
+    let two : other ≡ record {
+      bytes = other.bytes;
+      objects = other.objects;
+      proxies = other.proxies;
+      stacked = other.stacked;
+      highest = other.highest;
+    } = refl in
     cc
 
 module _ (memory : Telling) (ground : Ground) where
@@ -55,14 +65,14 @@ module _ (memory : Telling) (ground : Ground) where
       let b : new.bytes ≡ to - from = bytes ∙ ap (λ r. r.bytes) known in
       let longer = length-append headers (h ∷ []) in
       let o : new.objects ≡ length (headers ++ h ∷ []) =
-          let one = ap (λ r. r.objects) known in omega arith in
+      let one = ap (λ r. r.objects) known in omega arith in
       let p : new.proxies ≡ sum_over proxy_count from (headers ++ h ∷ []) =
-          proxies ∙ ap (λ r. r.proxies + proxy_count at h) known ∙
-          sym (sum_over-one_more proxy_count end from at headers h fills) in
+      proxies ∙ ap (λ r. r.proxies + proxy_count at h) known ∙
+      sym (sum_over-one_more proxy_count end from at headers h fills) in
       let s : new.stacked ≡ sum_over (stacked_count memory) from (headers ++ h ∷ []) =
-          stacked ∙ ap (λ r. r.stacked + stacked_count memory at h) known ∙
-          sym (sum_over-one_more (stacked_count memory) end from at headers h fills) in
+      stacked ∙ ap (λ r. r.stacked + stacked_count memory at h) known ∙
+      sym (sum_over-one_more (stacked_count memory) end from at headers h fills) in
       let t : new.highest ≡ greatest_over (proxy_height memory) from (headers ++ h ∷ []) =
-          highest ∙ ap (λ r. max r.highest (proxy_height memory at h)) known ∙
-          sym (greatest_over-one_more (proxy_height memory) end from at headers h fills) in
+      highest ∙ ap (λ r. max r.highest (proxy_height memory at h)) known ∙
+      sym (greatest_over-one_more (proxy_height memory) end from at headers h fills) in
       same_report new (report_of memory from (headers ++ h ∷ []) to) b o p s t

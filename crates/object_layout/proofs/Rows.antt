@@ -35,7 +35,8 @@ module _ (memory : Telling) (ground : Ground) where
   pub fills_append : (end from mid to : ℕ) (headers more : List Header) → Fills memory ground end from headers mid →
       Fills memory ground end mid more to → Fills memory ground end from (headers ++ more) to
   fills_append end from mid to [] more f g = subst (λ a. Fills memory ground end a more to) (sym f) g
-  fills_append end from mid to (h ∷ rest) more f g = (f.0, fills_append end (from + (8 + 8 * h.count)) mid to rest more f.1 g)
+  fills_append end from mid to (h ∷ rest) more f g =
+      (f.0, fills_append end (from + (8 + 8 * h.count)) mid to rest more f.1 g)
 
   -- one object more at the end
   pub fills_one_more : (end from at to : ℕ) (headers : List Header) (h : Header) → to ≡ at + (8 + 8 * h.count) →
@@ -51,22 +52,24 @@ module _ (memory : Telling) (ground : Ground) where
       let behind = fills_few end (from + (8 + 8 * h.count)) to rest f.1 in omega arith
 
   -- two rows of one range are the same objects
-  pub one_row : (end other from to : ℕ) (headers others : List Header) → Fills memory ground end from headers to →
+  pub a_range_is_one_row : (end other from to : ℕ) (headers others : List Header) →
+      Fills memory ground end from headers to →
       Fills memory ground other from others to → headers ≡ others
-  one_row end other from to [] [] f g = refl
-  one_row end other from to [] (h ∷ rest) f g =
+  a_range_is_one_row end other from to [] [] f g = refl
+  a_range_is_one_row end other from to [] (h ∷ rest) f g =
       let behind = fills_few other (from + (8 + 8 * h.count)) to rest g.1 in
       let e : from ≡ to = f in
       absurd (omega arith)
-  one_row end other from to (h ∷ rest) [] f g =
+  a_range_is_one_row end other from to (h ∷ rest) [] f g =
       let behind = fills_few end (from + (8 + 8 * h.count)) to rest f.1 in
       let e : from ≡ to = g in
       absurd (omega arith)
-  one_row end other from to (h ∷ rest) (k ∷ more) f g =
+  a_range_is_one_row end other from to (h ∷ rest) (k ∷ more) f g =
       let both : Some h ≡ Some k = sym f.0.header ∙ g.0.header in
       let same : h ≡ k = cc in
       let g' = subst (λ x. Fills memory ground other (from + (8 + 8 * x.count)) more to) (sym same) g.1 in
-      ap (λ x. x ∷ rest) same ∙ ap (λ xs. k ∷ xs) (one_row end other (from + (8 + 8 * h.count)) to rest more f.1 g')
+      ap (λ x. x ∷ rest) same ∙ ap (λ xs. k ∷ xs)
+      (a_range_is_one_row end other (from + (8 + 8 * h.count)) to rest more f.1 g')
 
   -- a proxy has two words after its header
   pub proxy_fits : (end at : ℕ) (h : Header) → IsWhole memory ground end at h → is_proxy h ≡ true → at + 24 ≤ end

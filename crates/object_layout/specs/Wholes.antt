@@ -1,5 +1,5 @@
 -- Whole objects in a memory that tells its words, and rows of them.
-use Rattle.std.specs.Prelude.{ℕ, suc, ◌+◌, ◌*◌, ◌≡◌, ◌==◌, ◌<◌, ◌≤◌, ◌⊎◌, max, Bool, true, false, if◌then◌else◌}
+use Rattle.std.specs.Prelude.{ℕ, zero, suc, ◌+◌, ◌*◌, ◌≡◌, ◌==◌, ◌<◌, ◌≤◌, ◌⊎◌, max, Bool, true, false, if◌then◌else◌}
 use Rattle.std.specs.Prelude.{List, [], ◌∷◌, Option, Some, None, option_and_then}
 use Rattle.object_layout.specs.declared.headers.Header.{Header}
 use Rattle.object_layout.specs.declared.kinds.Kind.{Kind}
@@ -8,7 +8,8 @@ use Rattle.object_layout.specs.declared.wholes.Ground.{Ground}
 use Rattle.object_layout.specs.declared.wholes.Ground.TheVariants.{Region, Statics}
 use Rattle.object_layout.specs.declared.kinds.Wanted.{Wanted}
 use Rattle.object_layout.specs.declared.kinds.Wanted.TheVariants.{Anything, Target, Middle, Coercion, TypeAddress}
-use Rattle.object_layout.specs.Kinds.{kind_of, is_type, is_middle, is_coercion, is_target, allows_count, wanted_words}
+use Rattle.object_layout.specs.Kinds.{kind_of, is_type, is_free, is_middle, is_coercion, is_target, allows_count}
+use Rattle.object_layout.specs.Kinds.{wanted_words}
 use Rattle.object_layout.specs.Headers.{unpacked}
 
 -- what a memory tells: the word at an address, if the address is a multiple of 8 and a word stands there
@@ -117,7 +118,48 @@ module _ (memory : Telling) where
   abbrev pub IsRow : Ground → ℕ → List Header → ℕ → Type 0
   IsRow ground from headers to = Fills ground to from headers to
 
-  -- an address of a row is one of an object of it
-  abbrev pub StartsAt : ℕ → List Header → ℕ → Type 0
-  StartsAt from [] at = ⊥
-  StartsAt from (h ∷ rest) at = (at ≡ from) ⊎ StartsAt (from + (8 + 8 * h.count)) rest at
+-- ---- places of rows
+
+-- the object at a place of the row that begins at this address: its own address and its header; places count from 0
+abbrev pub IsNth : ℕ → List Header → ℕ → ℕ → Header → Type 0
+IsNth from [] place at h = ⊥
+IsNth from (first ∷ rest) zero at h = (at ≡ from) × (h ≡ first)
+IsNth from (first ∷ rest) (suc place) at h = IsNth (from + (8 + 8 * first.count)) rest place at h
+
+-- an object of the row begins at the address
+abbrev pub StartsAt : ℕ → List Header → ℕ → Type 0
+StartsAt from headers at = (place : ℕ) × (h : Header) × IsNth from headers place at h
+
+-- what a word may point at in a row that begins at this address, where it has to be this: a target or a coercion is 0,
+-- the start of an object of the row, or lies below the row; a type lies below the row
+abbrev pub MayPoint : ℕ → List Header → Wanted → ℕ → Type 0
+MayPoint from headers Anything word = Unit {0}
+MayPoint from headers Target word = (word ≡ 0) ⊎ ((word < from) ⊎ StartsAt from headers word)
+MayPoint from headers Middle word = (word ≡ 0) ⊎ ((word < from) ⊎ StartsAt from headers word)
+MayPoint from headers Coercion word = (word ≡ 0) ⊎ ((word < from) ⊎ StartsAt from headers word)
+MayPoint from headers TypeAddress word = word < from
+
+-- the words from an address on point so
+abbrev pub PointFrom : Telling → ℕ → List Header → ℕ → List Wanted → Type 0
+PointFrom memory from headers at [] = Unit {0}
+PointFrom memory from headers at (wanted ∷ rest) =
+    ((word : ℕ) → memory at ≡ Some word → MayPoint from headers wanted word) ×
+    PointFrom memory from headers (at + 8) rest
+
+-- the words of all objects of the row do
+abbrev pub PointsIntoItself : Telling → ℕ → List Header → Type 0
+PointsIntoItself memory from headers =
+    (place at : ℕ) (h : Header) (kind : Kind) → IsNth from headers place at h → kind_of h.kind ≡ Some kind →
+    PointFrom memory from headers (at + 8) (wanted_words kind h.count)
+
+-- at the address stands a word of a closure, a tuple, a box or a vector of the row, behind its header
+pub record IsFreeWord (from : ℕ) (headers : List Header) (x : ℕ) : Type 0 where
+  pub place : ℕ
+  pub at : ℕ
+  pub header : Header
+  pub kind : Kind
+  pub there : IsNth from headers place at header
+  pub kind_is : kind_of header.kind ≡ Some kind
+  pub free : is_free kind ≡ true
+  pub above : at + 8 ≤ x
+  pub below : x < at + (8 + 8 * header.count)

@@ -1,6 +1,7 @@
 // The word that an object begins with.
 
-ghost use Rattle.std.specs.Prelude.{◌≡◌};
+ghost use Rattle.std.specs.Prelude.{◌≡◌, ◌↔◌, IsSome, IfSome, Some};
+ghost use Rattle.object_layout.specs.Kinds.{kind_of};
 ghost use Rattle.object_layout.specs.Headers.{packed, unpacked};
 
 use crate::kinds::Kind;
@@ -15,14 +16,16 @@ pub struct Header {
 
 /// The word of a header: its kind in the lowest byte, a byte 0, its height in two bytes and its count in four.
 pub fn pack(header: Header) -> u64
-    ensures { result ≡ packed header }
+    ensures word { result ≡ packed header }
+    ensures unpacks { unpacked result ≡ Some header ↔ IsSome (kind_of header.kind) }
 {
     u64::from(header.kind) + (u64::from(header.height) << 16) + (u64::from(header.count) << 32)
 }
 
 /// The header of a word: none exactly where its lowest byte is the number of no kind, or the byte above it isn't 0.
 pub fn unpack(word: u64) -> Option<Header>
-    ensures { result ≡ unpacked word }
+    ensures header { result ≡ unpacked word }
+    ensures packs { IfSome result (λ header. packed header ≡ word) }
 {
     let kind = (word % 256) as u8;
     Kind::from_number(kind)?;

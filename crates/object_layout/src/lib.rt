@@ -7,5 +7,6 @@
 
 pub mod headers;
 pub mod kinds;
-pub mod wholes;
+pub mod laws;
 pub mod walks;
+pub mod wholes;

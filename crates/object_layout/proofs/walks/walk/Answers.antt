@@ -9,14 +9,14 @@ use Rattle.object_layout.proofs.walks.walk.Goals as goal
 pub with_object-report-requires-clause-inside : goal.with_object-report-requires-clause-inside
 with_object-report-requires-clause-inside g c = λ proxy.
     let told = word_within (g.W.Words.first c.args.memory.now) (g.W.Words.end c.args.memory.now)
-        (g.W.Words.word_at c.args.memory.now) in
+    (g.W.Words.word_at c.args.memory.now) in
     let fits = proxy_fits told Region c.args.to c.loop-at.at c.in-Some.header c.in-Some.ensures.whole proxy in
     omega (arith, fits, c.ranges.to.fits)
 
 pub loop-at-preserved : goal.loop-at-preserved
 loop-at-preserved g c =
     let told = word_within (g.W.Words.first c.args.memory.now) (g.W.Words.end c.args.memory.now)
-        (g.W.Words.word_at c.args.memory.now) in
+    (g.W.Words.word_at c.args.memory.now) in
     let h = c.in-Some.header in
     let at = c.loop-at.at in
     let whole = c.in-Some.ensures.whole in
@@ -32,9 +32,10 @@ loop-at-preserved g c =
       stacked = omega (arith, before.stacked, one.proxies, one.stacked, stacked);
       row = (
         before.row.0 ++ h ∷ [],
-        fills_one_more told Region c.args.to c.args.from at (at + (8 + 8 * c.from.result)) before.row.0 h next before.row.1
-        whole,
+        fills_one_more told Region c.args.to c.args.from
+            at (at + (8 + 8 * c.from.result)) before.row.0 h next before.row.1
+            whole,
         report_one_more told Region c.args.to c.args.from at c.args.to before.row.0 h c.loop-at.report
-        c.with_object-report.result before.row.1 before.row.2 one.bytes one.objects one.proxies one.stacked one.highest,
+            c.with_object-report.result before.row.1 before.row.2 one.bytes one.objects one.proxies one.stacked one.highest,
       );
     }

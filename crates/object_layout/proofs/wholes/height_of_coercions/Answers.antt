@@ -7,7 +7,7 @@ use Rattle.object_layout.proofs.wholes.height_of_coercions.Goals as goal
 pub loop-left-preserved : goal.loop-left-preserved
 loop-left-preserved g c =
     let told = word_within (g.W.Words.first c.args.memory.now) (g.W.Words.end c.args.memory.now)
-        (g.W.Words.word_at c.args.memory.now) in
+    (g.W.Words.word_at c.args.memory.now) in
     let left = c.loop-left.left in
     let at = c.args.own + 8 + 8 * (left - 1) in
     let next = c.args.own + 8 + 8 * left in
@@ -27,7 +27,7 @@ loop-left-preserved g c =
 pub returns-in_err-height_of_wanted-clause-none : goal.returns-in_err-height_of_wanted-clause-none
 returns-in_err-height_of_wanted-clause-none g c = rw c.from_residual.ensures (λ wanted.
     let told = word_within (g.W.Words.first c.args.memory.now) (g.W.Words.end c.args.memory.now)
-        (g.W.Words.word_at c.args.memory.now) in
+    (g.W.Words.word_at c.args.memory.now) in
     let place = c.loop-left.left - 1 in
     let there = rw c.from.ensures at c.in_err-height_of_wanted.ensures.none in
     there (coercion_there told c.args.own (c.args.own + 8) place c.args.count (c.args.own + 8 + 8 * place)
