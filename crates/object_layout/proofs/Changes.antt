@@ -1,21 +1,20 @@
 -- Two changes of memory that leave a row as it is: past its end, and in a word that says nothing of other objects.
 use Rattle.std.proofs.Common.{◌≡◌, ◌≢◌, ℕ, zero, suc, ◌+◌, ◌*◌, ◌≤◌, ◌<◌, List, [], ◌∷◌, length, Some, refl, sym, ap}
-use Rattle.std.proofs.Common.{◌∙◌, subst, arith, ◌⊎◌, inl, inr, true, replicate}
-use Rattle.std.specs.Prelude.{◌==◌}
+use Rattle.std.proofs.Common.{◌∙◌, subst, arith, ◌⊎◌, inl, inr, true}
 use Rattle.std.proofs.lemmas.Bool.{eqb-true}
 use Rattle.std.proofs.lemmas.List.{length-replicate}
 use Rattle.object_layout.specs.declared.headers.Header.{Header}
 use Rattle.object_layout.specs.declared.kinds.Kind.{Kind}
-use Rattle.object_layout.specs.declared.kinds.Kind.TheVariants.{Closure, Proxy, Dyn, Tuple, Boxed, Vector, Fail, Fun}
+use Rattle.object_layout.specs.declared.kinds.Kind.TheVariants.{Closure, Proxy, Tuple, Boxed, Vector, Fun}
 use Rattle.object_layout.specs.declared.kinds.Kind.TheVariants.{Tup, Ref, Vec, Inject, Project}
 use Rattle.object_layout.specs.declared.kinds.Wanted.{Wanted}
 use Rattle.object_layout.specs.declared.kinds.Wanted.TheVariants.{Anything, Target, Middle, Coercion, TypeAddress}
 use Rattle.object_layout.specs.declared.wholes.Ground.{Ground}
 use Rattle.object_layout.specs.Kinds.{kind_of, is_free, allows_count, wanted_words}
-use Rattle.object_layout.specs.Wholes.{Telling, IsAddress, IsWanted, IsWhole, Fills, IsRow, IsNth, StartsAt, MayPoint}
+use Rattle.object_layout.specs.Wholes.{Telling, IsWanted, IsWhole, Fills, IsRow, IsNth, StartsAt, MayPoint}
 use Rattle.object_layout.specs.Wholes.{PointFrom, PointsIntoItself, IsFreeWord}
 use Rattle.object_layout.proofs.Places.{nth_above, one_nth, inside_one, inside_no_start}
-use Rattle.object_layout.proofs.Changing.{IsIn, SameBehind, SameWords, whole_same, fills_same, words_same}
+use Rattle.object_layout.proofs.Changing.{IsIn, SameBehind, whole_same, fills_same, words_same}
 
 -- the words that are wanted are among those that there are
 pub wanted_within : (kind : Kind) (count : ℕ) → allows_count kind count ≡ true →

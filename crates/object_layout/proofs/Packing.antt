@@ -1,5 +1,5 @@
 -- The word of a header has the header's fields.
-use Rattle.std.proofs.Common.{◌≡◌, ℕ, ◌+◌, ◌*◌, ◌/◌, ◌%◌, ◌^◌, ◌<◌, Option, Some, None, refl, sym, ap, ◌∙◌, arith, subst}
+use Rattle.std.proofs.Common.{◌≡◌, ℕ, ◌/◌, ◌%◌, ◌^◌, ◌<◌, Option, Some, None, refl, sym, ap, ◌∙◌, arith, subst}
 use Rattle.std.proofs.Common.{Bool, true, false}
 use Rattle.std.specs.Prelude.{◌==◌, ◌&&◌, ◌↔◌, is_some, IsSome, if◌then◌else◌}
 use Rattle.object_layout.specs.declared.headers.Header.{Header}
@@ -36,9 +36,9 @@ module _ (h : Header) (kind : h.kind < 2 ^ 8) (height : h.height < 2 ^ 16) (coun
       let gap : (packed h / 2 ^ 8 % 2 ^ 8 == 0) ≡ true = ap (λ n. n == 0) gap_field in
       let by_kind = chosen (kind_of h.kind) true refl in
       let same : unpacked (packed h) ≡ (if is_some (kind_of h.kind) && true then Some h else None) =
-          ap (λ k. if is_some (kind_of k) && (packed h / 2 ^ 8 % 2 ^ 8 == 0) then Some (fields (packed h)) else None)
-          kind_field ∙ ap (λ b. if is_some (kind_of h.kind) && b then Some (fields (packed h)) else None) gap ∙
-          ap (λ f. if is_some (kind_of h.kind) && true then Some f else None) fields_packed in
+      ap (λ k. if is_some (kind_of k) && (packed h / 2 ^ 8 % 2 ^ 8 == 0) then Some (fields (packed h)) else None)
+      kind_field ∙ ap (λ b. if is_some (kind_of h.kind) && b then Some (fields (packed h)) else None) gap ∙
+      ap (λ f. if is_some (kind_of h.kind) && true then Some f else None) fields_packed in
       (λ p. by_kind.0 (sym same ∙ p), λ p. same ∙ by_kind.1 p)
 
   -- the same of a word that is put together in another way

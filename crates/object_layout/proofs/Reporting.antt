@@ -1,13 +1,12 @@
 -- The report of a row with one object more.
-use Rattle.std.proofs.Common.{◌≡◌, ℕ, ◌+◌, ◌-◌, ◌*◌, ◌≤◌, List, [], ◌∷◌, ◌++◌, length, max, refl, sym, ap, ◌∙◌, subst}
+use Rattle.std.proofs.Common.{◌≡◌, ℕ, ◌+◌, ◌-◌, ◌*◌, ◌≤◌, List, [], ◌∷◌, ◌++◌, length, max, refl, sym, ap, ◌∙◌}
 use Rattle.std.proofs.Common.{arith, length-append, Bool, true, false}
 use Rattle.std.specs.Prelude.{if◌then◌else◌, ◌&&◌}
-use Rattle.std.proofs.Math.Nat.{max_comm}
 use Rattle.object_layout.specs.declared.headers.Header.{Header}
 use Rattle.object_layout.specs.declared.wholes.Ground.{Ground}
 use Rattle.object_layout.specs.declared.walks.SpaceReport.{SpaceReport}
 use Rattle.object_layout.specs.Wholes.{Telling, Fills}
-use Rattle.object_layout.specs.Reports.{sum_over, greatest_over, is_proxy, is_some_proxy, header_behind, proxy_count}
+use Rattle.object_layout.specs.Reports.{sum_over, greatest_over, proxy_count}
 use Rattle.object_layout.specs.Reports.{stacked_count, proxy_height, report_of}
 
 pub at_most_one : (b : Bool) → (if b then 1 else 0) ≤ 1

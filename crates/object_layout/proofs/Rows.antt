@@ -1,5 +1,5 @@
 -- Rows of whole objects: where they end, how they join, and that a range is one row at most.
-use Rattle.std.proofs.Common.{◌≡◌, ℕ, ◌+◌, ◌*◌, ◌≤◌, ◌<◌, List, [], ◌∷◌, ◌++◌, length, Some, None, refl, sym, ap, ◌∙◌}
+use Rattle.std.proofs.Common.{◌≡◌, ℕ, ◌+◌, ◌*◌, ◌≤◌, List, [], ◌∷◌, ◌++◌, length, Some, refl, sym, ap, ◌∙◌}
 use Rattle.std.proofs.Common.{subst, arith, true}
 use Rattle.std.specs.Prelude.{◌==◌}
 use Rattle.std.proofs.lemmas.Bool.{eqb-true}
@@ -7,7 +7,7 @@ use Rattle.object_layout.specs.declared.headers.Header.{Header}
 use Rattle.object_layout.specs.declared.wholes.Ground.{Ground}
 use Rattle.object_layout.specs.declared.kinds.Kind.TheVariants.{Proxy}
 use Rattle.object_layout.specs.Kinds.{kind_of, allows_count}
-use Rattle.object_layout.specs.Wholes.{Telling, header_at, IsWhole, Fills}
+use Rattle.object_layout.specs.Wholes.{Telling, IsWhole, Fills}
 use Rattle.object_layout.specs.Reports.{is_proxy}
 
 module _ (memory : Telling) (ground : Ground) where

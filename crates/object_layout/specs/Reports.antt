@@ -1,12 +1,11 @@
 -- What is reported of a row of whole objects.
 use Rattle.std.specs.Prelude.{ℕ, ◌+◌, ◌-◌, ◌*◌, ◌≡◌, ◌==◌, ◌&&◌, ◌<◌, max, Bool, false, if◌then◌else◌, List, [], ◌∷◌}
 use Rattle.std.specs.Prelude.{length}
-use Rattle.std.specs.Prelude.{Option, Some, None, is_some, option_and_then}
+use Rattle.std.specs.Prelude.{Option, Some, None, option_and_then}
 use Rattle.object_layout.specs.declared.headers.Header.{Header}
 use Rattle.object_layout.specs.declared.walks.SpaceReport.{SpaceReport}
 use Rattle.object_layout.specs.declared.walks.WalkFault.{WalkFault}
 use Rattle.object_layout.specs.declared.walks.WalkFault.TheVariants.{Torn}
-use Rattle.object_layout.specs.declared.kinds.Kind.{Kind}
 use Rattle.object_layout.specs.declared.kinds.Kind.TheVariants.{Proxy}
 use Rattle.object_layout.specs.declared.wholes.Ground.TheVariants.{Region}
 use Rattle.object_layout.specs.Kinds.{kind_number}

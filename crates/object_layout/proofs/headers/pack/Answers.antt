@@ -11,5 +11,5 @@ returns-clause-unpacks c =
     let count : h.count < 2 ^ 32 = omega arith in
     let word = c.from.result + c.from-2.result * 65536 % 2 ^ 64 + c.from-3.result * 4294967296 % 2 ^ 64 in
     let same : packed h ≡ word =
-        omega (arith, c.from.ensures, c.from-2.ensures, c.from-3.ensures, kind, height, count) in
+    omega (arith, c.from.ensures, c.from-2.ensures, c.from-3.ensures, kind, height, count) in
     unpacks_as h kind height count word same

@@ -1,7 +1,7 @@
-use Rattle.std.proofs.Common.{◌≡◌, ◌+◌, ◌*◌, ◌≤◌, ◌++◌, ◌∷◌, [], arith, rules, ap, ◌∙◌, sym}
+use Rattle.std.proofs.Common.{◌≡◌, ◌+◌, ◌*◌, ◌++◌, ◌∷◌, [], arith, ap}
 use Rattle.grift_base.specs.Words.{word_within}
 use Rattle.object_layout.specs.declared.wholes.Ground.TheVariants.{Region}
-use Rattle.object_layout.specs.Reports.{is_proxy, is_some_proxy, header_behind, proxy_count, stacked_count}
+use Rattle.object_layout.specs.Reports.{is_proxy, is_some_proxy, header_behind}
 use Rattle.object_layout.proofs.Rows.{fills_one_more, proxy_fits}
 use Rattle.object_layout.proofs.Reporting.{at_most_one, fewer_both, report_one_more}
 use Rattle.object_layout.proofs.walks.walk.Goals as goal

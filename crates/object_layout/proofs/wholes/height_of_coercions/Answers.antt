@@ -1,6 +1,5 @@
-use Rattle.std.proofs.Common.{◌≡◌, ◌+◌, ◌-◌, ◌*◌, suc, ap, ◌∙◌, sym, arith, replicate, max}
+use Rattle.std.proofs.Common.{◌≡◌, ◌+◌, ◌-◌, ◌*◌, suc, arith}
 use Rattle.grift_base.specs.Words.{word_within}
-use Rattle.object_layout.specs.declared.kinds.Wanted.TheVariants.{Coercion}
 use Rattle.object_layout.proofs.Coercions.{one_more_coercion, coercion_there, greatest_one_more}
 use Rattle.object_layout.proofs.wholes.height_of_coercions.Goals as goal
 
