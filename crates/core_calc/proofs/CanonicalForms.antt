@@ -1,12 +1,10 @@
 -- What a value of a type can be: its head is that of its type.
-use Rattle.std.proofs.Common.{◌≡◌, ℕ, zero, suc, ℤ, List, [], ◌∷◌, length, Option, Some, None, refl, sym, ap, ◌∙◌}
-use Rattle.std.proofs.Common.{Bool, true, false, slice_get, arith, subst}
-use Rattle.std.specs.Int.{w64}
-use Rattle.std.specs.Int.RustNames.{FitsSigned}
+use Rattle.std.proofs.Common.{◌≡◌, ℕ, zero, suc, List, [], ◌∷◌, length, Some, refl, sym, ap, ◌∙◌}
+use Rattle.std.proofs.Common.{true, false}
 use Rattle.std.proofs.lemmas.Bool.{eqb-true}
 use Rattle.grift_base.specs.Types.{TypeRow, IntRow, BoolRow, UnitRow, DynRow, FunRow, TupleRow, RefRow, VectRow}
 use Rattle.grift_base.specs.Types.{TypeRows, row_at, TypeHead, IntHead, BoolHead, UnitHead, DynHead, FunHead, TupleHead}
-use Rattle.grift_base.specs.Types.{RefHead, VectHead, head_of, equal_heads, same_head}
+use Rattle.grift_base.specs.Types.{RefHead, VectHead, head_of, equal_heads}
 use Rattle.core_calc.specs.Terms.{Members, Value, Values, IntValue, BoolValue, UnitValue, FunValue, MemberValue}
 use Rattle.core_calc.specs.Terms.{TupleValue, LocValue, WrapValue, InjectValue, NoMembers, MemberThen, NoValues}
 use Rattle.core_calc.specs.Terms.{ValueThen, value_list}
@@ -14,7 +12,7 @@ use Rattle.core_calc.specs.Substitution.{bind}
 use Rattle.core_calc.specs.Typing.{Context, CellType, member_types, MemberHasType, MembersHaveTypes, ValueHasType}
 use Rattle.core_calc.specs.Typing.{ValuesHaveTypes}
 use Rattle.core_calc.specs.ValueHeads.{member_head, value_head}
-use Rattle.core_calc.proofs.ListPlaces.{none_is_not_some, same_some, both_some}
+use Rattle.core_calc.proofs.ListPlaces.{none_is_not_some, both_some}
 use Rattle.core_calc.proofs.RowsOfTables.{false_is_not_true}
 use Rattle.core_calc.proofs.SubstitutionKeepsTypes.{both_parts}
 use Rattle.core_calc.proofs.TypedValues.{can_be, form}

@@ -1,5 +1,5 @@
 -- A term has one type, and so does a value.
-use Rattle.std.proofs.Common.{◌≡◌, ℕ, zero, suc, List, [], ◌∷◌, ◌++◌, Option, Some, None, refl, sym, ap, ◌∙◌, subst}
+use Rattle.std.proofs.Common.{◌≡◌, ℕ, zero, suc, List, [], ◌∷◌, ◌++◌, Some, sym, ap, ◌∙◌, subst}
 use Rattle.std.proofs.Common.{true, false, slice_get}
 use Rattle.grift_base.specs.Types.{TypeRow, IntRow, BoolRow, UnitRow, DynRow, FunRow, TupleRow, RefRow, VectRow}
 use Rattle.grift_base.specs.Types.{TypeRows, row_at, tuple_part}
@@ -13,9 +13,9 @@ use Rattle.core_calc.specs.Terms.{NoTerms, TermThen, NoMembers, MemberThen, NoBi
 use Rattle.core_calc.specs.Terms.{BoolValue, UnitValue, FunValue, MemberValue, TupleValue, LocValue, WrapValue}
 use Rattle.core_calc.specs.Terms.{InjectValue, NoValues, ValueThen}
 use Rattle.core_calc.specs.Substitution.{entry_of}
-use Rattle.core_calc.specs.Typing.{Context, CellType, IsTypeTable, MemberHasType, AreInts, IsOne, OperatorHasType}
+use Rattle.core_calc.specs.Typing.{Context, CellType, IsTypeTable, MemberHasType, IsOne, OperatorHasType}
 use Rattle.core_calc.specs.Typing.{HasType, HaveTypes, LastHasType, BindingsHaveTypes, ValueHasType, ValuesHaveTypes}
-use Rattle.core_calc.proofs.ListPlaces.{none_is_not_some, same_some, both_some}
+use Rattle.core_calc.proofs.ListPlaces.{both_some}
 use Rattle.core_calc.proofs.RowsOfTables.{same_type}
 
 module _ (types : TypeRows) (table : IsTypeTable types) where

@@ -1,5 +1,5 @@
 -- The step of a term is that of its redex, in the redex's place.
-use Rattle.std.proofs.Common.{◌≡◌, ℕ, suc, [], List, Option, Some, None, refl, sym, ap, ◌∙◌}
+use Rattle.std.proofs.Common.{◌≡◌, [], Option, Some, None, refl, ap, ◌∙◌}
 use Rattle.grift_base.specs.World.{WorldState}
 use Rattle.grift_base.specs.Types.{TypeRows}
 use Rattle.core_calc.specs.Terms.{Term, Terms, Bindings, Value, IntLit, BoolLit, UnitLit, Var, Lambda, Group, Let, Call}
@@ -8,7 +8,7 @@ use Rattle.core_calc.specs.Terms.{NoBindings, BindingThen, IntValue, BoolValue, 
 use Rattle.core_calc.specs.Terms.{TupleValue, LocValue, WrapValue, InjectValue, as_value, all_values, values_from}
 use Rattle.core_calc.specs.Terms.{bound_values}
 use Rattle.core_calc.specs.Outcome.{Store, Outcome, Goes, Blames, Traps, Stuck, inside, if_some, with_some}
-use Rattle.core_calc.specs.Substitution.{substitute, group_values}
+use Rattle.core_calc.specs.Substitution.{group_values}
 use Rattle.core_calc.specs.Calls.{enter_body, enter_member, enter_step, proj_step, proj_dyn_step}
 use Rattle.core_calc.specs.Casts.{cast_step}
 use Rattle.core_calc.specs.Operators.{operator_step}
