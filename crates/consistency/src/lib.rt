@@ -1,0 +1,5 @@
+// Consistency of types, and what they have in common.
+#![tactic(auto)]
+
+pub mod checks;
+mod pairs;
