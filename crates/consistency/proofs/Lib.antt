@@ -1,1 +1,2 @@
 pub mod ConsistentLemmas
+pub mod BlendLemmas

@@ -23,6 +23,12 @@ AreConsistent types pairs =
 abbrev pub Blends : Type 0
 Blends = HashMap Pair TypeId (BuildHasherDefault FoldHasher)
 
+-- a pair of types that has a blend
+pub record MayBlend (types : TypeRows) (pair : Pair) : Type 0 where
+  pub first_there : pair.first.0 < length types
+  pub second_there : pair.second.0 < length types
+  pub consistent_pair : consistent types pair.first.0 pair.second.0 ≡ true
+
 -- The blend of two types is there: forming it once more, also in a table with more rows, gives it and adds none.
 pub record IsFormed (types : TypeRows) (a b c : ℕ) : Type 0 where
   pub there : c < length types

@@ -1,5 +1,6 @@
 // Consistency of types, and what they have in common.
 #![tactic(auto)]
 
+pub mod blends;
 pub mod checks;
 mod pairs;
