@@ -1,43 +1,7 @@
 -- Blends of rows and of parts, and what stays of them where rows are added.
-use Rattle.std.proofs.Common.{
-  ◌≡◌,
-  ◌⊎◌,
-  inl,
-  inr,
-  ℕ,
-  zero,
-  suc,
-  ◌+◌,
-  ◌-◌,
-  ◌<◌,
-  ◌≤◌,
-  max,
-  Bool,
-  true,
-  false,
-  cond,
-  List,
-  [],
-  ◌∷◌,
-  ◌++◌,
-  length,
-  map,
-  take,
-  get_or,
-  Option,
-  Some,
-  None,
-  refl,
-  sym,
-  ap,
-  ap₂,
-  ◌∙◌,
-  subst,
-  arith,
-  append_assoc,
-  append-nil,
-  length-append,
-}
+use Rattle.std.proofs.Common.{◌≡◌, ◌⊎◌, inl, inr, ℕ, zero, suc, ◌+◌, ◌-◌, ◌<◌, ◌≤◌, max, Bool, true, false, cond, List}
+use Rattle.std.proofs.Common.{[], ◌∷◌, ◌++◌, length, map, take, get_or, Option, Some, None, refl, sym, ap, ap₂, ◌∙◌}
+use Rattle.std.proofs.Common.{subst, arith, append_assoc, append-nil, length-append}
 use Rattle.std.specs.Prelude.{◌&&◌, ◌||◌, nat_eq, All, MatchBool, option_map, slice_index}
 use Rattle.std.proofs.lemmas.Bool.{and_parts, eqb-true, eq-eqb}
 use Rattle.std.proofs.lemmas.List.{map_more, length-map, take_more, take_all, length-take-le, map-append}
@@ -46,57 +10,22 @@ use Rattle.std.proofs.Common.{rules}
 use Rattle.std.proofs.lemmas.Option.{slice_get_within}
 use Rattle.grift_base.specs.Tables.{HasNoRepeats}
 use Rattle.grift_base.specs.declared.places.TypeId.{TypeId}
-use Rattle.grift_base.specs.Types.{
-  TypeRow,
-  TypeRows,
-  IntRow,
-  BoolRow,
-  UnitRow,
-  DynRow,
-  FunRow,
-  TupleRow,
-  RefRow,
-  VectRow,
-  row_at,
-  parts_of,
-  is_dyn,
-  same_head,
-}
+use Rattle.grift_base.specs.Types.{TypeRow, TypeRows, IntRow, BoolRow, UnitRow, DynRow, FunRow, TupleRow, RefRow}
+use Rattle.grift_base.specs.Types.{VectRow, row_at, parts_of, is_dyn, same_head}
 use Rattle.type_graph.specs.Rows.{places_of}
 use Rattle.type_graph.specs.Forming.{Forming, ◌>>=◌, formed, intern, place_where, at_place_or_last, equal_rows}
 use Rattle.type_graph.specs.Trees.{PartsFirst, related, height, above_all, row_parts}
 use Rattle.type_graph.specs.TypeTables.{HasMoreRows, MayBePart, HasWidth, FitsTable, IsOrderedTable}
 use Rattle.type_graph.specs.declared.tables.TheConstants.{MOST_HEIGHT}
-use Rattle.type_graph.proofs.Public.{
-  none_is_not_some,
-  same_some,
-  get_kept,
-  row_stays,
-  more_rows,
-  more_length,
-  later_within,
-  height_grown,
-  height_by_parts,
-  place_found,
-  place_missing,
-  rows_are_equal,
-  row_is_itself,
-  parts_within,
-}
+use Rattle.type_graph.proofs.Public.{none_is_not_some, same_some, get_kept, row_stays, more_rows, more_length}
+use Rattle.type_graph.proofs.Public.{later_within, height_grown, height_by_parts, place_found, place_missing}
+use Rattle.type_graph.proofs.Public.{rows_are_equal, row_is_itself, parts_within}
 use Rattle.consistency.specs.declared.pairs.Pair.{Pair}
 use Rattle.std.specs.HashMap.{get}
 use Rattle.consistency.specs.contracts.pairs.PairPartialEq.TheImpl.{ghosts}
 use Rattle.consistency.specs.Consistency.{consistent_rows, consistent}
-use Rattle.consistency.specs.Blending.{
-  with_parts,
-  blend_each,
-  blend_rows,
-  blend_to,
-  AllBlend,
-  RowsBlend,
-  IsBlendTo,
-  IsBlend,
-}
+use Rattle.consistency.specs.Blending.{with_parts, blend_each, blend_rows, blend_to, AllBlend, RowsBlend, IsBlendTo}
+use Rattle.consistency.specs.Blending.{IsBlend}
 use Rattle.consistency.specs.Known.{Blends, MayBlend, IsFormed, AreFormed, EachFormed, firsts, seconds}
 use Rattle.consistency.proofs.ConsistentLemmas.{consistent_by_rows}
 
@@ -152,7 +81,8 @@ same_head-with_parts BoolRow parts e = refl
 same_head-with_parts UnitRow parts e = refl
 same_head-with_parts DynRow parts e = refl
 same_head-with_parts (FunRow parameters answer) parts e =
-    eq-eqb (length parameters) (length (take (length parts - 1) parts)) (sym (before_last_length parameters answer parts e))
+    eq-eqb (length parameters) (length (take (length parts - 1) parts))
+    (sym (before_last_length parameters answer parts e))
 same_head-with_parts (TupleRow own) parts e = eq-eqb (length own) (length parts) (sym e)
 same_head-with_parts (RefRow content) parts e = refl
 same_head-with_parts (VectRow content) parts e = refl
@@ -244,7 +174,8 @@ IsFormed-grown types new a b c first more h =
       there = later_within types new c more h.there;
       again = λ later depth deep.
           let here = ap (λ rows. rows ++ later) more.1 ∙ append_assoc types more.0 later in
-          subst (λ (rows : TypeRows). blend_to depth a b rows ≡ (c, rows)) (sym here) (h.again (more.0 ++ later) depth deep);
+          subst (λ (rows : TypeRows). blend_to depth a b rows ≡ (c, rows)) (sym here)
+          (h.again (more.0 ++ later) depth deep);
       blends = λ depth. blend_stays depth types new a b c more (h.blends depth);
       low =
           let at_a = height_grown types new first more a a_within in
@@ -348,7 +279,10 @@ intern_there_more : (row : TypeRow) (types more : TypeRows) (place : ℕ) → Ha
     row_at types place ≡ Some row → intern row (types ++ more) ≡ (place, types ++ more)
 intern_there_more row types more place apart at = by_place (place_where (equal_rows row) types) refl
   where
-    by_place : (o : Option ℕ) → place_where (equal_rows row) types ≡ o → intern row (types ++ more) ≡ (place, types ++ more)
+    by_place : (o : Option ℕ) → place_where (equal_rows row) types ≡ o → intern row (types ++ more) ≡ (
+      place,
+      types ++ more,
+    )
     by_place None e = absurd (place_missing (equal_rows row) types e place row at (row_is_itself row))
     by_place (Some k) e =
         let found = place_found (equal_rows row) types k e in
@@ -476,7 +410,8 @@ module _ (middle : TypeRows) (a b : ℕ) (row other : TypeRow) (pairs : List Pai
     deep_enough : (depth : ℕ) → a < suc depth → All (λ s. s < depth) (firsts pairs)
     deep_enough depth deep =
         subst (λ (parts : List ℕ). All (λ s. s < depth) parts) (sym left)
-        (All-weaker (λ s. s < a) (λ s. s < depth) (λ s below. omega arith) (parts_of row) (table.parts_first a row at_a))
+        (All-weaker (λ s. s < a) (λ s. s < depth) (λ s below. omega arith) (parts_of row)
+        (table.parts_first a row at_a))
 
     -- in the table that it went into
     module _ (new : TypeRows) (c : ℕ) (ordered : IsOrderedTable new) (grown : HasMoreRows middle new)
@@ -559,7 +494,8 @@ module _ (middle : TypeRows) (a b : ℕ) (row other : TypeRow) (pairs : List Pai
           ∙ plain_blend (blend_to depth) a b row other old row_plain other_plain
           ∙ ap₂ (λ xs ys. intern (with_parts row (blend_each (blend_to depth) xs ys old).0)
           (blend_each (blend_to depth) xs ys old).1) (sym left) (sym right)
-          ∙ ap (λ (done : List ℕ × TypeRows). intern (with_parts row done.0) done.1) (parts depth (deep_enough depth deep))
+          ∙ ap (λ (done : List ℕ × TypeRows). intern (with_parts row done.0) done.1)
+          (parts depth (deep_enough depth deep))
           ∙ last
 
 -- ---- blends with Dyn
@@ -609,8 +545,16 @@ module _ (types : TypeRows) (a b : ℕ) (row other : TypeRow) (at_a : row_at typ
 
       blends : (depth : ℕ) → IsBlendTo depth types a b a
       blends zero = tt
-      blends (suc depth) =
-          (row, other, row, at_a, at_b, at_a, either_dyn depth a row (ap (λ d. d || is_dyn other) dyn) (dyn_row row dyn))
+      blends (suc depth) = (
+        row,
+        other,
+        row,
+        at_a,
+        at_b,
+        at_a,
+        either_dyn depth a row (ap (λ d. d || is_dyn other) dyn)
+            (dyn_row row dyn),
+      )
 
   -- and so is that of another type and Dyn
   pub IsFormed-second : is_dyn row ≡ false → is_dyn other ≡ true → IsFormed types a b b
@@ -659,8 +603,10 @@ pub AreFormed-grown : (types new : TypeRows) (known : Blends) → PartsFirst typ
 AreFormed-grown types new known first more h pair c e =
     IsFormed-grown types new pair.first.0 pair.second.0 c.0 first more (h pair c e)
 
-known_from : (types : TypeRows) (old : Blends) (key pair : Pair) (c d : TypeId) (same : Bool) → ghosts.eq key pair ≡ same →
-    AreFormed types old → IsFormed types key.first.0 key.second.0 c.0 → cond same (Some c) (get ghosts.eq old pair) ≡ Some d →
+known_from : (types : TypeRows) (old : Blends) (key pair : Pair) (c d : TypeId) (same : Bool) →
+    ghosts.eq key pair ≡ same →
+    AreFormed types old → IsFormed types key.first.0 key.second.0 c.0 →
+    cond same (Some c) (get ghosts.eq old pair) ≡ Some d →
     IsFormed types pair.first.0 pair.second.0 d.0
 known_from types old key pair c d true test h one e =
     let keys : key ≡ pair = same_pair key pair test in
@@ -685,7 +631,8 @@ first_below_all [] k d within = absurd (omega arith)
 first_below_all (pair ∷ pairs) zero d within = omega arith
 first_below_all (pair ∷ pairs) (suc k) d within = let later = first_below_all pairs k d (omega arith) in omega arith
 
-pub one_more_computed : (depth : ℕ) (old middle new : TypeRows) (pairs : List Pair) (k : ℕ) (d : Pair) (cs : List TypeId)
+pub one_more_computed : (depth : ℕ) (old middle new : TypeRows) (pairs : List Pair) (k : ℕ) (d : Pair)
+    (cs : List TypeId)
     (c : TypeId) → k < length pairs →
     blend_each (blend_to depth) (firsts (take k pairs)) (seconds (take k pairs)) old ≡ (places_of cs, middle) →
     blend_to depth (get_or pairs k d).first.0 (get_or pairs k d).second.0 middle ≡ (c.0, new) →
@@ -699,6 +646,9 @@ one_more_computed depth old middle new pairs k d cs c within before last =
     ap₂ (λ xs ys. blend_each (blend_to depth) xs ys old) (map_more (λ (p : Pair). p.first.0) pairs k d within)
     (map_more (λ (p : Pair). p.second.0) pairs k d within)
     ∙ blend_each-push (blend_to depth) (firsts (take k pairs)) (seconds (take k pairs)) x y old lengths
-    ∙ ap (λ (done : List ℕ × TypeRows). (done.0 ++ (blend_to depth x y done.1).0 ∷ [], (blend_to depth x y done.1).1)) before
+    ∙ ap (λ (done : List ℕ × TypeRows). (
+      done.0 ++ (blend_to depth x y done.1).0 ∷ [],
+      (blend_to depth x y done.1).1,
+    )) before
     ∙ ap (λ (done : ℕ × TypeRows). (places_of cs ++ done.0 ∷ [], done.1)) last
     ∙ ap (λ l. (l, new)) (sym (map-append (λ (id : TypeId). id.0) cs (c ∷ [])))

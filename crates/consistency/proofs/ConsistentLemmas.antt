@@ -1,42 +1,14 @@
 -- Consistency goes by rows, and stays where rows are added.
-use Rattle.std.proofs.Common.{
-  ◌≡◌,
-  ◌⊎◌,
-  ℕ,
-  zero,
-  suc,
-  ◌+◌,
-  ◌<◌,
-  ◌≤◌,
-  Bool,
-  true,
-  false,
-  List,
-  [],
-  ◌∷◌,
-  ◌++◌,
-  length,
-  map,
-  take,
-  get_or,
-  Option,
-  Some,
-  None,
-  refl,
-  sym,
-  ap,
-  ap₂,
-  ◌∙◌,
-  subst,
-  arith,
-}
+use Rattle.std.proofs.Common.{◌≡◌, ◌⊎◌, ℕ, zero, suc, ◌+◌, ◌<◌, ◌≤◌, Bool, true, false, List, [], ◌∷◌, ◌++◌, length}
+use Rattle.std.proofs.Common.{map, take, get_or, Option, Some, None, refl, sym, ap, ap₂, ◌∙◌, subst, arith}
 use Rattle.std.specs.Prelude.{◌&&◌, ◌||◌, nat_eq, All}
 use Rattle.std.proofs.lemmas.Bool.{and_parts, eq-eqb, eqb-true}
 use Rattle.std.proofs.lemmas.List.{map_more}
 use Rattle.std.proofs.lemmas.List.Elements.{All-head, All-tail}
 use lib.Dec.{eqb-suc-suc, eqb-zero-suc, eqb-suc-zero}
 use Rattle.grift_base.specs.declared.places.TypeId.{TypeId}
-use Rattle.grift_base.specs.Types.{TypeRow, TypeRows, FunRow, row_at, parts_of, is_dyn, same_head, TupleRow, RefRow, VectRow}
+use Rattle.grift_base.specs.Types.{TypeRow, TypeRows, FunRow, row_at, parts_of, is_dyn, same_head, TupleRow, RefRow}
+use Rattle.grift_base.specs.Types.{VectRow}
 use Rattle.type_graph.specs.Rows.{places_of}
 use Rattle.type_graph.specs.Trees.{PartsFirst, related}
 use Rattle.type_graph.specs.TypeTables.{HasMoreRows}
@@ -108,7 +80,8 @@ module _ (types new : TypeRows) (first : PartsFirst types) (later : PartsFirst n
       consistent_to depth new a b ≡ consistent_to depth types a b
   consistent_to_kept zero a b one two = refl
   consistent_to_kept (suc depth) a b one two =
-      ap₂ (λ r o. consistent_rows (consistent_to depth new) r o) (row_same types new a more one) (row_same types new b more two)
+      ap₂ (λ r o. consistent_rows (consistent_to depth new) r o) (row_same types new a more one)
+      (row_same types new b more two)
       ∙ rows_kept (consistent_to depth new) (consistent_to depth types) (length types) (row_at types a) (row_at types b)
       (λ s t in_types also. consistent_to_kept depth s t in_types also) (λ r e. there a r e) (λ r e. there b r e)
 
@@ -135,7 +108,8 @@ pub related_more : (f : ℕ → ℕ → Bool) (xs ys : List TypeId) (k : ℕ) (d
     related f (places_of (take k xs)) (places_of (take k ys)) ≡ true → f (get_or xs k d).0 (get_or ys k d).0 ≡ true →
     related f (places_of (take (k + 1) xs)) (places_of (take (k + 1) ys)) ≡ true
 related_more f xs ys k d one two e h =
-    ap₂ (λ a b. related f a b) (map_more (λ (id : TypeId). id.0) xs k d one) (map_more (λ (id : TypeId). id.0) ys k d two)
+    ap₂ (λ a b. related f a b) (map_more (λ (id : TypeId). id.0) xs k d one)
+    (map_more (λ (id : TypeId). id.0) ys k d two)
     ∙ related-push f (places_of (take k xs)) (places_of (take k ys)) (get_or xs k d).0 (get_or ys k d).0 e h
 
 and_false : (b : Bool) → (b && false) ≡ false

@@ -1,41 +1,8 @@
 -- What two types have in common.
-use Rattle.std.specs.Prelude.{
-  ◌≡◌,
-  ℕ,
-  zero,
-  suc,
-  ◌-◌,
-  Bool,
-  true,
-  ◌||◌,
-  List,
-  [],
-  ◌∷◌,
-  length,
-  take,
-  slice_index,
-  Option,
-  Some,
-  None,
-  MatchBool,
-  if◌then◌else◌,
-}
-use Rattle.grift_base.specs.Types.{
-  TypeRow,
-  TypeRows,
-  IntRow,
-  BoolRow,
-  UnitRow,
-  DynRow,
-  FunRow,
-  TupleRow,
-  RefRow,
-  VectRow,
-  row_at,
-  parts_of,
-  is_dyn,
-  same_head,
-}
+use Rattle.std.specs.Prelude.{◌≡◌, ℕ, zero, suc, ◌-◌, Bool, true, ◌||◌, List, [], ◌∷◌, length, take, slice_index}
+use Rattle.std.specs.Prelude.{Option, Some, None, MatchBool, if◌then◌else◌}
+use Rattle.grift_base.specs.Types.{TypeRow, TypeRows, IntRow, BoolRow, UnitRow, DynRow, FunRow, TupleRow, RefRow}
+use Rattle.grift_base.specs.Types.{VectRow, row_at, parts_of, is_dyn, same_head}
 use Rattle.type_graph.specs.Forming.{Forming, ◌>>=◌, formed, intern}
 
 -- ---- a blend as it is formed

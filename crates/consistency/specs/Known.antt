@@ -29,10 +29,14 @@ pub record MayBlend (types : TypeRows) (pair : Pair) : Type 0 where
   pub second_there : pair.second.0 < length types
   pub consistent_pair : consistent types pair.first.0 pair.second.0 ≡ true
 
+-- forming the blend of two types gives this type, and turns the first table into the second
+abbrev pub GivesBlend : TypeRows → ℕ → ℕ → ℕ → TypeRows → Type 0
+GivesBlend old a b c new = (depth : ℕ) → a < depth → blend_to depth a b old ≡ (c, new)
+
 -- The blend of two types is there: forming it once more, also in a table with more rows, gives it and adds none.
 pub record IsFormed (types : TypeRows) (a b c : ℕ) : Type 0 where
   pub there : c < length types
-  pub again : (more : TypeRows) (depth : ℕ) → a < depth → blend_to depth a b (types ++ more) ≡ (c, types ++ more)
+  pub again : (more : TypeRows) → GivesBlend (types ++ more) a b c (types ++ more)
   pub blends : IsBlend types a b c
   pub low : height types c ≤ max (height types a) (height types b)
 

@@ -6,7 +6,7 @@ ghost use Rattle.type_graph.specs.Rows.{places_of, row_of};
 ghost use Rattle.type_graph.specs.TypeTables.{HasMoreRows};
 ghost use Rattle.consistency.specs.Consistency.{consistent};
 ghost use Rattle.consistency.specs.Blending.{IsBlend, blend, blend_each, blend_to, with_parts};
-ghost use Rattle.consistency.specs.Known.{AreFormed, EachFormed, IsFormed, MayBlend, firsts, seconds};
+ghost use Rattle.consistency.specs.Known.{AreFormed, EachFormed, GivesBlend, IsFormed, MayBlend, firsts, seconds};
 
 use crate::pairs::Pair;
 use grift_base::lists::OutOfMemory;
@@ -49,7 +49,7 @@ fn form(
     requires b { b.0 < length types.old }
     requires consistent { consistent types.old a.0 b.0 ≡ true }
     requires known { AreFormed types.old known.old }
-    ensures computed { IfOk result (λ c. (depth : ℕ) → a.0 < depth → blend_to depth a.0 b.0 types.old ≡ (c.0, types.new)) }
+    ensures computed { IfOk result (λ c. GivesBlend types.old a.0 b.0 c.0 types.new) }
     ensures formed { IfOk result (λ c. IsFormed types.new a.0 b.0 c.0) }
     ensures known { OnOk result (AreFormed types.new known.new) }
     ensures grown { HasMoreRows types.old types.new }
@@ -79,7 +79,7 @@ fn form_row(
     requires b { b.0 < length types.old }
     requires consistent { consistent types.old a.0 b.0 ≡ true }
     requires known { AreFormed types.old known.old }
-    ensures computed { IfOk result (λ c. (depth : ℕ) → a.0 < depth → blend_to depth a.0 b.0 types.old ≡ (c.0, types.new)) }
+    ensures computed { IfOk result (λ c. GivesBlend types.old a.0 b.0 c.0 types.new) }
     ensures formed { IfOk result (λ c. IsFormed types.new a.0 b.0 c.0) }
     ensures known { OnOk result (AreFormed types.new known.new) }
     ensures grown { HasMoreRows types.old types.new }

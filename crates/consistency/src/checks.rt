@@ -19,7 +19,8 @@ use type_graph::tables::TypeTable;
 pub fn same_head(types: &TypeTable, a: TypeId, b: TypeId) -> bool
     requires a { a.0 < length types.now }
     requires b { b.0 < length types.now }
-    ensures { (row other : TypeRow) → row_at types.now a.0 ≡ Some row → row_at types.now b.0 ≡ Some other → result ≡ same_head row other }
+    ensures { (row other : TypeRow) → row_at types.now a.0 ≡ Some row → row_at types.now b.0 ≡ Some other
+        → result ≡ same_head row other }
 {
     match (types.row(a), types.row(b)) {
         (Row::Int, Row::Int)
@@ -125,7 +126,8 @@ fn check_each(
     requires parts { All (λ part. part < length types.now) (places_of parts.now) }
     requires others { All (λ part. part < length types.now) (places_of others.now) }
     requires known { AreConsistent types.now known.old }
-    ensures answer { IfOk result (λ answer. answer ≡ related (consistent types.now) (places_of parts.now) (places_of others.now)) }
+    ensures answer { IfOk result (λ answer.
+        answer ≡ related (consistent types.now) (places_of parts.now) (places_of others.now)) }
     ensures known { AreConsistent types.now known.new }
 {
     if parts.len() != others.len() {

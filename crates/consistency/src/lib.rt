@@ -3,4 +3,7 @@
 
 pub mod blends;
 pub mod checks;
+pub mod laws;
 mod pairs;
+#[cfg(test)]
+mod tests;

@@ -1,29 +1,5 @@
-use Rattle.std.proofs.Common.{
-  ◌≡◌,
-  ℕ,
-  ◌+◌,
-  ◌<◌,
-  ◌≤◌,
-  ◌++◌,
-  ◌∷◌,
-  Bool,
-  true,
-  false,
-  List,
-  [],
-  length,
-  take,
-  get_or,
-  Some,
-  refl,
-  sym,
-  ap,
-  ap₂,
-  ◌∙◌,
-  subst,
-  arith,
-  append-nil,
-}
+use Rattle.std.proofs.Common.{◌≡◌, ℕ, ◌+◌, ◌<◌, ◌≤◌, ◌++◌, ◌∷◌, Bool, true, false, List, [], length, take, get_or, Some}
+use Rattle.std.proofs.Common.{refl, sym, ap, ap₂, ◌∙◌, subst, arith, append-nil}
 use Rattle.std.specs.Prelude.{All, MatchBool}
 use Rattle.std.proofs.lemmas.List.{map_more, take_more, length-map}
 use Rattle.grift_base.specs.declared.places.TypeId.{TypeId}
@@ -32,38 +8,17 @@ use Rattle.type_graph.specs.Rows.{places_of, row_of}
 use Rattle.type_graph.specs.Trees.{above_all, related}
 use Rattle.type_graph.specs.Forming.{intern}
 use Rattle.type_graph.specs.TypeTables.{HasMoreRows, FitsTable}
-use Rattle.type_graph.proofs.Public.{
-  same_some,
-  row_stays,
-  more_rows,
-  later_within,
-  parts_within,
-  above_all-most,
-  fun_parts,
-  intern_adds,
-}
+use Rattle.type_graph.proofs.Public.{same_some, row_stays, more_rows, later_within, parts_within, above_all-most}
+use Rattle.type_graph.proofs.Public.{fun_parts, intern_adds}
 use Rattle.consistency.specs.declared.pairs.Pair.{Pair}
 use Rattle.consistency.specs.Consistency.{consistent}
 use Rattle.consistency.specs.Blending.{blend_each, blend_to, with_parts}
 use Rattle.consistency.specs.Known.{MayBlend, IsFormed, EachFormed, firsts, seconds}
 use Rattle.consistency.proofs.ConsistentLemmas.{consistent_kept}
-use Rattle.consistency.proofs.BlendLemmas.{
-  IsFormed-grown,
-  EachFormed-grown,
-  EachFormed-push,
-  EachFormed-length,
-  plain_consistent,
-  All-MayBlend,
-  both_fits,
-  IsFormed-both,
-  computes,
-  IsFormed-first,
-  IsFormed-second,
-  AreFormed-grown,
-  AreFormed-insert,
-  first_below_all,
-  one_more_computed,
-}
+use Rattle.consistency.proofs.BlendLemmas.{IsFormed-grown, EachFormed-grown, EachFormed-push, EachFormed-length}
+use Rattle.consistency.proofs.BlendLemmas.{plain_consistent, All-MayBlend, both_fits, IsFormed-both, computes}
+use Rattle.consistency.proofs.BlendLemmas.{IsFormed-first, IsFormed-second, AreFormed-grown, AreFormed-insert}
+use Rattle.consistency.proofs.BlendLemmas.{first_below_all, one_more_computed}
 use Rattle.consistency.proofs.blends.+form.Goals as goal
 
 -- stands for an element where there is none
@@ -159,7 +114,8 @@ form_row-form_each-requires t c =
     let b : ℕ = c.args.b.0 in
     let row = row_of c.row-row.result.now in
     let other = row_of c.row-other.result.now in
-    let parts = plain_consistent types a b row other table.parts_first c.requires.a c.row-row.ensures c.row-other.ensures
+    let parts =
+    plain_consistent types a b row other table.parts_first c.requires.a c.row-row.ensures c.row-other.ensures
     (sym c.is_dyn.ensures ∙ c.if-is_dyn.false) (sym c.is_dyn-2.ensures ∙ c.if-is_dyn-2.false) c.requires.consistent in
     let pairs = c.in_ok-pairs.pairs.items in
     let most : above_all (λ part. part) (firsts pairs) ≤ a =
@@ -260,7 +216,8 @@ form_row-returns-clause-computed t c =
     c.in_ok-both.ensures
     ∙ ap₂ (λ r (xs : List TypeId). with_parts r (places_of xs)) same_row c.as_slice-2.ensures.value in
     let new = c.intern.new.self in
-    let added = subst (λ (rows : TypeRows). HasMoreRows middle rows) (ap (λ (d : ℕ × TypeRows). d.1) c.in_ok-c.ensures.ok)
+    let added =
+    subst (λ (rows : TypeRows). HasMoreRows middle rows) (ap (λ (d : ℕ × TypeRows). d.1) c.in_ok-c.ensures.ok)
     (intern_adds (row_of c.in_ok-both.both) middle) in
     let at_c : row_at new c.in_ok-c.c.0 ≡ Some (with_parts row (places_of cs)) =
     c.in_ok-c.ensures.place ∙ ap Some both in
@@ -298,17 +255,20 @@ form_row-returns-clause-formed t c =
     c.in_ok-both.ensures
     ∙ ap₂ (λ r (xs : List TypeId). with_parts r (places_of xs)) same_row c.as_slice-2.ensures.value in
     let new = c.intern.new.self in
-    let added = subst (λ (rows : TypeRows). HasMoreRows middle rows) (ap (λ (d : ℕ × TypeRows). d.1) c.in_ok-c.ensures.ok)
+    let added =
+    subst (λ (rows : TypeRows). HasMoreRows middle rows) (ap (λ (d : ℕ × TypeRows). d.1) c.in_ok-c.ensures.ok)
     (intern_adds (row_of c.in_ok-both.both) middle) in
     let at_c : row_at new c.in_ok-c.c.0 ≡ Some (with_parts row (places_of cs)) =
     c.in_ok-c.ensures.place ∙ ap Some both in
-    IsFormed-both middle a b row other pairs cs table at_a at_b row_plain other_plain parts.0 c.in_ok-pairs.ensures.firsts
+    IsFormed-both middle a b row other pairs cs table at_a at_b row_plain other_plain parts.0
+    c.in_ok-pairs.ensures.firsts
     c.in_ok-pairs.ensures.seconds each new c.in_ok-c.c.0 c.len-3.ensures.table added at_c
 
 pub form_row-returns-clause-known : goal.form_row-returns-clause-known
 form_row-returns-clause-known t c =
     let middle = c.form_each.new.types in
-    let added = subst (λ (rows : TypeRows). HasMoreRows middle rows) (ap (λ (d : ℕ × TypeRows). d.1) c.in_ok-c.ensures.ok)
+    let added =
+    subst (λ (rows : TypeRows). HasMoreRows middle rows) (ap (λ (d : ℕ × TypeRows). d.1) c.in_ok-c.ensures.ok)
     (intern_adds (row_of c.in_ok-both.both) middle) in
     AreFormed-grown middle c.intern.new.self c.form_each.new.known c.len-2.ensures.table.parts_first added
     c.in_ok-parts.ensures.known

@@ -22,6 +22,7 @@ invariant-form_each-loop-pair l = record {
   grown : HasMoreRows l.fn.types l.types;
   formed : EachFormed l.types (take l.pair-index l.pairs) l.parts.items;
   computed : (depth : ℕ) → All (λ s. s < depth) (firsts (take l.pair-index l.pairs))
-      → blend_each (blend_to depth) (firsts (take l.pair-index l.pairs)) (seconds (take l.pair-index l.pairs)) l.fn.types
+      → blend_each (blend_to depth) (firsts (take l.pair-index l.pairs))
+      (seconds (take l.pair-index l.pairs)) l.fn.types
       ≡ (places_of l.parts.items, l.types);
 }

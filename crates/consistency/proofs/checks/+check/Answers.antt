@@ -1,27 +1,5 @@
-use Rattle.std.proofs.Common.{
-  ◌≡◌,
-  ℕ,
-  ◌<◌,
-  ◌≤◌,
-  ◌++◌,
-  ◌∷◌,
-  Bool,
-  true,
-  false,
-  List,
-  [],
-  length,
-  get_or,
-  Some,
-  Result,
-  refl,
-  sym,
-  ap,
-  ap₂,
-  ◌∙◌,
-  subst,
-  arith,
-}
+use Rattle.std.proofs.Common.{◌≡◌, ℕ, ◌<◌, ◌≤◌, ◌++◌, ◌∷◌, Bool, true, false, List, [], length, get_or, Some, Result}
+use Rattle.std.proofs.Common.{refl, sym, ap, ap₂, ◌∙◌, subst, arith}
 use Rattle.std.specs.Prelude.{All, ◌&&◌, IfOk}
 use Rattle.std.proofs.lemmas.List.Elements.{All-head, All-weaker}
 use Rattle.grift_base.specs.declared.places.TypeId.{TypeId}
@@ -30,15 +8,8 @@ use Rattle.type_graph.specs.Rows.{places_of, row_of}
 use Rattle.type_graph.specs.Trees.{above_all, related}
 use Rattle.type_graph.proofs.Public.{parts_within, part_at, part_below_all, above_all-most, fun_parts}
 use Rattle.consistency.specs.Consistency.{consistent}
-use Rattle.consistency.proofs.ConsistentLemmas.{
-  related_more,
-  related_fails,
-  related_lengths,
-  functions_consistent,
-  tuples_consistent,
-  references_consistent,
-  vectors_consistent,
-}
+use Rattle.consistency.proofs.ConsistentLemmas.{related_more, related_fails, related_lengths, functions_consistent}
+use Rattle.consistency.proofs.ConsistentLemmas.{tuples_consistent, references_consistent, vectors_consistent}
 use Rattle.consistency.proofs.checks.+check.Goals as goal
 
 -- stands for an element where there is none
@@ -224,7 +195,8 @@ check_rows-check-requires-in-Vect-Vect t c =
     let below = All-head (λ part. part < a) c.in-Vect-Vect.content.0 [] (table.parts_first a _ row) in (
       omega (arith, c.decreases, below),
       (
-        All-head (λ part. part < length types) c.in-Vect-Vect.content.0 [] (parts_within types a _ table.parts_first row),
+        All-head (λ part. part < length types) c.in-Vect-Vect.content.0 []
+            (parts_within types a _ table.parts_first row),
         (
           All-head (λ part. part < length types) c.in-Vect-Vect.other.0 []
               (parts_within types c.args.b.0 _ table.parts_first other),
