@@ -7,6 +7,7 @@ use Rattle.std.specs.declared.hash.BuildHasherDefault.{BuildHasherDefault}
 use Rattle.grift_base.specs.declared.places.TypeId.{TypeId}
 use Rattle.grift_base.specs.Types.{TypeRows}
 use Rattle.type_graph.specs.Trees.{height}
+use Rattle.type_graph.specs.TypeTables.{HasMoreRows, IsOrderedTable}
 use Rattle.consistency.specs.declared.pairs.Pair.{Pair}
 use Rattle.consistency.specs.contracts.pairs.PairPartialEq.TheImpl.{ghosts}
 use Rattle.consistency.specs.Consistency.{consistent}
@@ -58,3 +59,10 @@ firsts pairs = map (λ pair. pair.first.0) pairs
 
 abbrev pub seconds : List Pair → List ℕ
 seconds pairs = map (λ pair. pair.second.0) pairs
+
+-- the blend and the table that are formed from this table are as they should be: the table is one and has the rows that
+-- were there, and the blend is there
+pub record FormsBlend (types : TypeRows) (a b : ℕ) (outcome : ℕ × TypeRows) : Type 0 where
+  pub table : IsOrderedTable outcome.1
+  pub grown : HasMoreRows types outcome.1
+  pub formed : IsFormed outcome.1 a b outcome.0
