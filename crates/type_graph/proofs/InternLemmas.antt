@@ -62,6 +62,7 @@ use Rattle.type_graph.specs.TypeTables.{
   IsMeasureOfParts,
   IsKept,
 }
+use Rattle.type_graph.specs.TypeTables.{HasMoreRows}
 use Rattle.type_graph.specs.declared.tables.Measure.{Measure}
 use Rattle.type_graph.specs.declared.tables.TheConstants.{MOST_HEIGHT, SIZE_SHOWN}
 use Rattle.grift_base.specs.declared.places.TheConstants.{MOST_ENTRIES}
@@ -74,7 +75,6 @@ use Rattle.type_graph.proofs.Places.{
 }
 use Rattle.type_graph.proofs.RowLemmas.{rows_are_equal, row_is_itself}
 use Rattle.type_graph.proofs.TreeLemmas.{
-  HasMoreRows,
   row_parts_below,
   size_by_parts,
   height_by_parts,

@@ -10,7 +10,8 @@ pub use Rattle.type_graph.proofs.Places.{
 }
 pub use Rattle.type_graph.proofs.RowLemmas.{rows_are_equal, row_is_itself}
 pub use Rattle.type_graph.proofs.TreeLemmas.{
-  HasMoreRows,
+  same_rows,
+  more_rows,
   more_length,
   row_stays,
   row_same,
@@ -32,4 +33,5 @@ pub use Rattle.type_graph.proofs.InternLemmas.{
   intern_adds,
   intern_there,
 }
-pub use Rattle.type_graph.proofs.TextLemmas.{text_by_row}
+pub use Rattle.type_graph.proofs.MeasureLemmas.{part_at, part_below_all, above_all-most}
+pub use Rattle.type_graph.proofs.TextLemmas.{text_by_row, fun_parts}

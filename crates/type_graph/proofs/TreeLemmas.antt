@@ -30,6 +30,8 @@ use Rattle.std.proofs.Common.{
   subst,
   arith,
   length-append,
+  append-nil,
+  append_assoc,
 }
 use Rattle.std.specs.Prelude.{◌&&◌, All, slice_get}
 use Rattle.std.proofs.lemmas.Bool.{and_parts, eq-eqb, and_from}
@@ -52,14 +54,17 @@ use Rattle.type_graph.specs.Trees.{
   agree_to,
   AreSame,
 }
+use Rattle.type_graph.specs.TypeTables.{HasMoreRows}
 use Rattle.type_graph.proofs.Places.{slice_get_at, get_kept}
 use Rattle.type_graph.proofs.RowLemmas.{rows_are_equal, row_is_itself}
 
 -- ---- tables that grow
 
--- the second table begins with the first
-abbrev pub HasMoreRows : TypeRows → TypeRows → Type 0
-HasMoreRows old new = (more : TypeRows) × (new ≡ old ++ more)
+pub same_rows : (types : TypeRows) → HasMoreRows types types
+same_rows types = ([], sym (append-nil types))
+
+pub more_rows : (a b c : TypeRows) → HasMoreRows a b → HasMoreRows b c → HasMoreRows a c
+more_rows a b c f g = (f.0 ++ g.0, g.1 ∙ ap (λ xs. xs ++ g.0) f.1 ∙ append_assoc a f.0 g.0)
 
 pub more_length : (a b : TypeRows) → HasMoreRows a b → length a ≤ length b
 more_length a b f = let e = ap length f.1 ∙ length-append a f.0 in omega arith

@@ -1,5 +1,5 @@
 -- Tables of types: what each keeps, and which rows may be put into it.
-use Rattle.std.specs.Prelude.{◌≡◌, ℕ, ◌<◌, ◌≤◌, All, suc, min, List, length, Some, slice_get}
+use Rattle.std.specs.Prelude.{◌≡◌, ◌++◌, ℕ, ◌<◌, ◌≤◌, All, suc, min, List, length, Some, slice_get}
 use Rattle.grift_base.specs.Tables.{HasNoRepeats}
 use Rattle.grift_base.specs.Types.{
   TypeRow,
@@ -44,6 +44,10 @@ pub record IsOrderedTable (types : TypeRows) : Type 0 where
   pub parts_first : PartsFirst types
   pub widths : HaveWidths types
   pub low : AreLow types
+
+-- the second table begins with the first
+abbrev pub HasMoreRows : TypeRows → TypeRows → Type 0
+HasMoreRows old new = (more : TypeRows) × (new ≡ old ++ more)
 
 -- a type of the table that may be a part of another
 pub record MayBePart (types : TypeRows) (part : ℕ) : Type 0 where
