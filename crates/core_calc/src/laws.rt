@@ -67,8 +67,9 @@ pub fn typed_states_take_steps()
 /// A step of a typed term keeps its type: it blames a label that there is, traps, or goes on to a
 /// term of the same type with a store whose cell types begin with those from before.
 pub fn steps_keep_types()
-    ensures { (types : TypeRows) (labels : ℕ) (cells : List CellType) (store : Store) (world : WorldState) (term : Term) (type : ℕ)
-        → IsTypeTable types → StoreHasTypes types labels store cells → HasType types labels cells [] term type
+    ensures { (types : TypeRows) (labels : ℕ) (cells : List CellType) (store : Store) (world : WorldState)
+        (term : Term) (type : ℕ) → IsTypeTable types → StoreHasTypes types labels store cells
+        → HasType types labels cells [] term type
         → as_value term ≡ None → KeepsType types labels type cells (step types store world term) }
 {}
 

@@ -1,8 +1,10 @@
 // Terms and values of the calculus.
 
-ghost use Rattle.std.specs.Prelude.{◌≡◌, ◌==◌, ◌∷◌, [], length, min, reverse, slice_get, OnOk, OnErr, MatchOption, None, Some};
+ghost use Rattle.std.specs.Prelude.{◌≡◌, ◌==◌, ◌∷◌, [], length, min, reverse, slice_get};
+ghost use Rattle.std.specs.Prelude.{OnOk, OnErr, MatchOption, None, Some};
 ghost use Rattle.core_calc.specs.Terms.{term_list, member_list, binding_list, value_list};
-ghost use Rattle.core_calc.specs.Views.{term_of, terms_of, member_of, members_of, binding_of, bindings_of, value_of, values_of};
+ghost use Rattle.core_calc.specs.Views.{term_of, terms_of, member_of, members_of};
+ghost use Rattle.core_calc.specs.Views.{binding_of, bindings_of, value_of, values_of};
 
 use grift_base::lists::{Items, OutOfMemory};
 use grift_base::operators::PrimOp;
@@ -319,7 +321,8 @@ impl GroupMembers {
 
     /// Puts a function in front of the others.
     pub fn push_front(&mut self, alloc: Global, item: GroupMember) -> Result<(), OutOfMemory>
-        ensures ok { OnOk result (member_list (members_of self.new) ≡ member_of item ∷ member_list (members_of self.old)) }
+        ensures ok { OnOk result
+            (member_list (members_of self.new) ≡ member_of item ∷ member_list (members_of self.old)) }
         ensures err { OnErr result (self.new ≡ self.old) }
     {
         let first = Box::new(alloc, item)?;
@@ -397,7 +400,8 @@ impl CoreBindings {
 
     /// Puts a binding in front of the others.
     pub fn push_front(&mut self, alloc: Global, item: CoreBinding) -> Result<(), OutOfMemory>
-        ensures ok { OnOk result (binding_list (bindings_of self.new) ≡ binding_of item ∷ binding_list (bindings_of self.old)) }
+        ensures ok { OnOk result
+            (binding_list (bindings_of self.new) ≡ binding_of item ∷ binding_list (bindings_of self.old)) }
         ensures err { OnErr result (self.new ≡ self.old) }
     {
         let first = Box::new(alloc, item)?;

@@ -1,7 +1,8 @@
 // Kinds of objects.
 
 ghost use Rattle.std.specs.Prelude.{◌≡◌};
-ghost use Rattle.object_layout.specs.Kinds.{kind_number, kind_of, is_type, is_middle, is_coercion, is_target, allows_count};
+ghost use Rattle.object_layout.specs.Kinds.{kind_number, kind_of, is_type, is_middle, is_coercion, is_target};
+ghost use Rattle.object_layout.specs.Kinds.{allows_count};
 
 /// What an object is. The words after its header follow each name.
 #[derive(Clone, Copy, PartialEq, Eq, Debug)]

@@ -5,7 +5,8 @@ ghost use Rattle.grift_base.specs.Words.{word_within};
 ghost use Rattle.object_layout.specs.declared.headers.Header.{Header as AHeader};
 ghost use Rattle.object_layout.specs.declared.kinds.Wanted.TheVariants.{Coercion};
 ghost use Rattle.object_layout.specs.Kinds.{allows_count, wanted_words};
-ghost use Rattle.object_layout.specs.Wholes.{IsWhole, header_at, kind_at, height_of, StandsWanted, AreWanted, HasHeight};
+ghost use Rattle.object_layout.specs.Wholes.{IsWhole, header_at, kind_at, height_of, StandsWanted, AreWanted};
+ghost use Rattle.object_layout.specs.Wholes.{HasHeight};
 ghost use Rattle.object_layout.specs.Wholes.{wanted_height, highest};
 
 use crate::headers::{Header, unpack};

@@ -41,7 +41,7 @@ use Rattle.std.proofs.lemmas.List.Quantifiers.{position-Some}
 use Rattle.std.proofs.lemmas.Option.{slice_get_within, slice_get-get_or, get_or_from_slice_get, slice_get-map}
 use Rattle.grift_base.specs.Tables.{HasNoRepeats}
 use Rattle.grift_base.specs.Types.{TypeRow, TypeRows, row_at}
-use Rattle.grift_base.proofs.TableLemmas.{HasNoRepeats-from_IsDistinct}
+use Rattle.grift_base.proofs.Public.{HasNoRepeats-from_IsDistinct}
 use Rattle.type_graph.specs.Rows.{row_of}
 use Rattle.type_graph.specs.declared.rows.Row.{Row}
 use Rattle.type_graph.specs.declared.tables.Measure.{Measure}

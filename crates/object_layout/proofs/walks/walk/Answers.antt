@@ -36,6 +36,7 @@ loop-at-preserved g c =
             at (at + (8 + 8 * c.from.result)) before.row.0 h next before.row.1
             whole,
         report_one_more told Region c.args.to c.args.from at c.args.to before.row.0 h c.loop-at.report
-            c.with_object-report.result before.row.1 before.row.2 one.bytes one.objects one.proxies one.stacked one.highest,
+            c.with_object-report.result before.row.1 before.row.2 one.bytes one.objects one.proxies one.stacked
+            one.highest,
       );
     }
