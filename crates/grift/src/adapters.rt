@@ -139,8 +139,8 @@ impl<W: Write> Sink for StreamSink<W> {
     }
 }
 
-/// A sink that writes to the file at a path. The first put makes the file, and empties one that is there; it fails where
-/// that fails, and then the next put tries it anew. A put that fails half-way leaves in the file what was written.
+/// A sink that writes to the file at a path. The first put makes the file, and empties one that is there; it fails
+/// where that fails, and then the next put tries it anew. A put that fails half-way leaves in the file what was written.
 #[derive(Drop)]
 pub struct FileSink<'a, F: Files> {
     files: F,
@@ -216,8 +216,8 @@ fn put_into_file<F: Files>(
     answer
 }
 
-// Makes the file at this path, or empties the one that is there. Where a standard stream was closed, the system gives its
-// number to the file, and what is put into that stream would go there; no clone of a handle has the number of one.
+// Makes the file at this path, or empties the one that is there. Where a standard stream was closed, the system gives
+// its number to the file, and what is put into that stream would go there; no clone of a handle has the number of one.
 fn make_file<F: Files>(files: &F, path: &str) -> io::Result<F::File> {
     fs::create(files, path)?.try_clone()
 }

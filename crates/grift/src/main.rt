@@ -23,8 +23,8 @@ fn main(rt: HostRuntime) -> ExitCode {
     ExitCode::from(status)
 }
 
-// Does what the words say, with this sink for an image, and answers the status. It is 9 where a put fails half-way, be it
-// the image's: then the file keeps what was written before.
+// Does what the words say, with this sink for an image, and answers the status. It is 9 where a put fails half-way, be
+// it the image's: then the file keeps what was written before.
 fn run<I: Sink>(rt: HostRuntime, words: &[String], img: &mut I) -> u8 {
     let mut shelf = FileShelf::new(rt);
     let mut out = OutSink::new(rt.stdout());

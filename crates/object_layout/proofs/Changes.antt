@@ -9,7 +9,7 @@ use Rattle.object_layout.specs.declared.kinds.Kind.TheVariants.{Closure, Proxy, 
 use Rattle.object_layout.specs.declared.kinds.Kind.TheVariants.{Tup, Ref, Vec, Inject, Project}
 use Rattle.object_layout.specs.declared.kinds.Wanted.{Wanted}
 use Rattle.object_layout.specs.declared.kinds.Wanted.TheVariants.{Anything, Target, Middle, Coercion, TypeAddress}
-use Rattle.object_layout.specs.declared.wholes.Ground.{Ground}
+use Rattle.object_layout.specs.declared.wholes.Area.{Area}
 use Rattle.object_layout.specs.Kinds.{kind_of, is_free, allows_count, wanted_words}
 use Rattle.object_layout.specs.Wholes.{Telling, IsWanted, IsWhole, Fills, IsRow, IsNth, StartsAt, MayPoint}
 use Rattle.object_layout.specs.Wholes.{PointFrom, PointsIntoItself, IsFreeWord}
@@ -30,7 +30,7 @@ wanted_within kind count e = omega arith
 
 -- ---- past the end
 
-module _ (memory other : Telling) (ground : Ground) (to : ℕ) (same : (at : ℕ) → at < to → other at ≡ memory at) where
+module _ (memory other : Telling) (area : Area) (to : ℕ) (same : (at : ℕ) → at < to → other at ≡ memory at) where
   -- whatever is an address lies below the object
   behind_below : (own : ℕ) (wanted : Wanted) (w : ℕ) → own < to → IsWanted memory own wanted w →
       SameBehind memory other wanted w
@@ -41,19 +41,19 @@ module _ (memory other : Telling) (ground : Ground) (to : ℕ) (same : (at : ℕ
   behind_below own Coercion w below (inr a) = let b = a.below in same w (omega arith)
   behind_below own TypeAddress w below is = let b = is.below in same w (omega arith)
 
-  whole_below : (at : ℕ) (h : Header) → IsWhole memory ground to at h → IsWhole other ground to at h
+  whole_below : (at : ℕ) (h : Header) → IsWhole memory area to at h → IsWhole other area to at h
   whole_below at h w =
       let fits = w.fits in
       let few = wanted_within w.kind h.count w.count in
       let inside : at < to = omega arith in
-      whole_same memory other ground to at h w (same at inside)
+      whole_same memory other area to at h w (same at inside)
       (words_same memory other at (at + 8) (wanted_words w.kind h.count) (λ p above below. same p (omega arith))
       (λ p wanted v told is n. behind_below at wanted v inside is) w.words)
 
-  pub a_row_stays_past_its_end : (from : ℕ) (headers : List Header) → IsRow memory ground from headers to →
-      IsRow other ground from headers to
+  pub a_row_stays_past_its_end : (from : ℕ) (headers : List Header) → IsRow memory area from headers to →
+      IsRow other area from headers to
   a_row_stays_past_its_end from headers f =
-      fills_same memory other ground to from headers to (λ place at h n w. whole_below at h w) f
+      fills_same memory other area to from headers to (λ place at h n w. whole_below at h w) f
 
 -- ---- a word of an object that says nothing of others
 
@@ -75,19 +75,19 @@ free_wants_nothing Vector count e = refl
 free_wants_nothing kind count e = cc
 
 -- an object of a row is whole
-pub an_object_of_a_row_is_whole : (memory : Telling) (ground : Ground) (end from : ℕ) (headers : List Header) (to place
+pub an_object_of_a_row_is_whole : (memory : Telling) (area : Area) (end from : ℕ) (headers : List Header) (to place
     at : ℕ) (h : Header) →
-    Fills memory ground end from headers to → IsNth from headers place at h → IsWhole memory ground end at h
-an_object_of_a_row_is_whole memory ground end from [] to place at h f n = absurd n
-an_object_of_a_row_is_whole memory ground end from (first ∷ rest) to zero at h f n =
-    subst (λ a. IsWhole memory ground end a h) (sym n.0)
-    (subst (λ k. IsWhole memory ground end from k) (sym n.1) f.0)
-an_object_of_a_row_is_whole memory ground end from (first ∷ rest) to (suc place) at h f n =
-    an_object_of_a_row_is_whole memory ground end (from + (8 + 8 * first.count)) rest to place at h f.1 n
+    Fills memory area end from headers to → IsNth from headers place at h → IsWhole memory area end at h
+an_object_of_a_row_is_whole memory area end from [] to place at h f n = absurd n
+an_object_of_a_row_is_whole memory area end from (first ∷ rest) to zero at h f n =
+    subst (λ a. IsWhole memory area end a h) (sym n.0)
+    (subst (λ k. IsWhole memory area end from k) (sym n.1) f.0)
+an_object_of_a_row_is_whole memory area end from (first ∷ rest) to (suc place) at h f n =
+    an_object_of_a_row_is_whole memory area end (from + (8 + 8 * first.count)) rest to place at h f.1 n
 
-module _ (memory other : Telling) (ground : Ground) (from : ℕ) (headers : List Header) (to x : ℕ)
+module _ (memory other : Telling) (area : Area) (from : ℕ) (headers : List Header) (to x : ℕ)
     (word : IsFreeWord from headers x) (same : (y : ℕ) → y ≢ x → other y ≡ memory y)
-    (points : PointsIntoItself memory from headers) (row : IsRow memory ground from headers to) where
+    (points : PointsIntoItself memory from headers) (row : IsRow memory area from headers to) where
   no_start : (place at : ℕ) (h : Header) → IsNth from headers place at h → at ≢ x
   no_start place at h n =
       inside_no_start from headers word.place place word.at at word.header h x word.there n word.above word.below
@@ -109,7 +109,7 @@ module _ (memory other : Telling) (ground : Ground) (from : ℕ) (headers : List
   not_there TypeAddress w m = same w (not_pointed w (inr (inl m)))
 
   -- the wanted words of any object lie elsewhere
-  wanted_elsewhere : (place at : ℕ) (h : Header) (w : IsWhole memory ground to at h) → IsNth from headers place at h →
+  wanted_elsewhere : (place at : ℕ) (h : Header) (w : IsWhole memory area to at h) → IsNth from headers place at h →
       (p : ℕ) → at + 8 ≤ p → p < at + 8 + 8 * length (wanted_words w.kind h.count) → p ≢ x
   wanted_elsewhere place at h w n p above below e =
       let few = wanted_within w.kind h.count w.count in
@@ -125,17 +125,17 @@ module _ (memory other : Telling) (ground : Ground) (from : ℕ) (headers : List
       let nothing : length (wanted_words w.kind h.count) ≡ 0 = ap length none in
       omega arith
 
-  whole_elsewhere : (place at : ℕ) (h : Header) → IsNth from headers place at h → IsWhole memory ground to at h →
-      IsWhole other ground to at h
+  whole_elsewhere : (place at : ℕ) (h : Header) → IsNth from headers place at h → IsWhole memory area to at h →
+      IsWhole other area to at h
   whole_elsewhere place at h n w =
-      whole_same memory other ground to at h w (same at (no_start place at h n))
+      whole_same memory other area to at h w (same at (no_start place at h n))
       (words_same memory other at (at + 8) (wanted_words w.kind h.count)
       (λ p above below. same p (wanted_elsewhere place at h w n p above below))
       (λ p wanted v told is m. not_there wanted v (point_at memory from headers p wanted v (at + 8)
       (wanted_words w.kind h.count) (points place at h w.kind n w.kind_is) told m)) w.words)
 
-  pub a_row_stays_in_a_free_word-row : IsRow other ground from headers to
-  a_row_stays_in_a_free_word-row = fills_same memory other ground to from headers to whole_elsewhere row
+  pub a_row_stays_in_a_free_word-row : IsRow other area from headers to
+  a_row_stays_in_a_free_word-row = fills_same memory other area to from headers to whole_elsewhere row
 
   points_same : (at : ℕ) (list : List Wanted) → ((p : ℕ) → at ≤ p → p < at + 8 * length list → p ≢ x) →
       PointFrom memory from headers at list → PointFrom other from headers at list
@@ -147,7 +147,7 @@ module _ (memory other : Telling) (ground : Ground) (from : ℕ) (headers : List
 
   pub a_row_stays_in_a_free_word-points : PointsIntoItself other from headers
   a_row_stays_in_a_free_word-points place at h kind n kind_is =
-      let w = an_object_of_a_row_is_whole memory ground to from headers to place at h row n in
+      let w = an_object_of_a_row_is_whole memory area to from headers to place at h row n in
       let kinds : Some w.kind ≡ Some kind = sym w.kind_is ∙ kind_is in
       let same_kind : w.kind ≡ kind = cc in
       points_same (at + 8) (wanted_words kind h.count)

@@ -7,7 +7,7 @@ use Rattle.object_layout.specs.declared.headers.Header.{Header}
 use Rattle.object_layout.specs.declared.kinds.Kind.{Kind}
 use Rattle.object_layout.specs.declared.kinds.Wanted.{Wanted}
 use Rattle.object_layout.specs.declared.kinds.Wanted.TheVariants.{Anything, Target, Middle, Coercion, TypeAddress}
-use Rattle.object_layout.specs.declared.wholes.Ground.{Ground}
+use Rattle.object_layout.specs.declared.wholes.Area.{Area}
 use Rattle.object_layout.specs.Kinds.{kind_of, wanted_words}
 use Rattle.object_layout.specs.Headers.{unpacked}
 use Rattle.object_layout.specs.Wholes.{Telling, header_at, kind_at, height_of, IsAddress, IsWanted, StandsWanted}
@@ -122,9 +122,9 @@ module _ (memory other : Telling) where
 
   -- ---- objects
 
-  pub whole_same : (ground : Ground) (end at : ℕ) (h : Header) (w : IsWhole memory ground end at h) →
-      other at ≡ memory at → SameWords (at + 8) (wanted_words w.kind h.count) → IsWhole other ground end at h
-  whole_same ground end at h w e s = record {
+  pub whole_same : (area : Area) (end at : ℕ) (h : Header) (w : IsWhole memory area end at h) →
+      other at ≡ memory at → SameWords (at + 8) (wanted_words w.kind h.count) → IsWhole other area end at h
+  whole_same area end at h w e s = record {
     header = header_same at e ∙ w.header;
     kind = w.kind;
     kind_is = w.kind_is;
@@ -137,13 +137,13 @@ module _ (memory other : Telling) where
   }
 
   -- a row stays one where each of its objects stays whole
-  pub fills_same : (ground : Ground) (end from : ℕ) (headers : List Header) (to : ℕ) →
-      ((place at : ℕ) (h : Header) → IsNth from headers place at h → IsWhole memory ground end at h →
-      IsWhole other ground end at h) → Fills memory ground end from headers to → Fills other ground end from headers to
-  fills_same ground end from [] to stays f = f
-  fills_same ground end from (h ∷ rest) to stays f = (
+  pub fills_same : (area : Area) (end from : ℕ) (headers : List Header) (to : ℕ) →
+      ((place at : ℕ) (h : Header) → IsNth from headers place at h → IsWhole memory area end at h →
+      IsWhole other area end at h) → Fills memory area end from headers to → Fills other area end from headers to
+  fills_same area end from [] to stays f = f
+  fills_same area end from (h ∷ rest) to stays f = (
     stays 0 from h (refl, refl) f.0,
-    fills_same ground end (from + (8 + 8 * h.count)) rest to (λ place at k n w. stays (suc place) at k n w) f.1,
+    fills_same area end (from + (8 + 8 * h.count)) rest to (λ place at k n w. stays (suc place) at k n w) f.1,
   )
 
   -- ---- when the words are the same

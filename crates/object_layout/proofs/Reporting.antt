@@ -3,7 +3,7 @@ use Rattle.std.proofs.Common.{◌≡◌, ℕ, ◌+◌, ◌-◌, ◌*◌, ◌≤�
 use Rattle.std.proofs.Common.{arith, length-append, Bool, true, false}
 use Rattle.std.specs.Prelude.{if◌then◌else◌, ◌&&◌}
 use Rattle.object_layout.specs.declared.headers.Header.{Header}
-use Rattle.object_layout.specs.declared.wholes.Ground.{Ground}
+use Rattle.object_layout.specs.declared.wholes.Area.{Area}
 use Rattle.object_layout.specs.declared.walks.SpaceReport.{SpaceReport}
 use Rattle.object_layout.specs.Wholes.{Telling, Fills}
 use Rattle.object_layout.specs.Reports.{sum_over, greatest_over, proxy_count}
@@ -38,16 +38,16 @@ same_report r other b o p s t =
     } = refl in
     cc
 
-module _ (memory : Telling) (ground : Ground) where
+module _ (memory : Telling) (area : Area) where
   sum_over-one_more : (f : ℕ → Header → ℕ) (end from at : ℕ) (headers : List Header) (h : Header) →
-      Fills memory ground end from headers at → sum_over f from (headers ++ h ∷ []) ≡ sum_over f from headers + f at h
+      Fills memory area end from headers at → sum_over f from (headers ++ h ∷ []) ≡ sum_over f from headers + f at h
   sum_over-one_more f end from at [] h fills =
       let here : f from h ≡ f at h = ap (λ a. f a h) fills in omega arith
   sum_over-one_more f end from at (k ∷ rest) h fills =
       let others = sum_over-one_more f end (from + (8 + 8 * k.count)) at rest h fills.1 in omega arith
 
   greatest_over-one_more : (f : ℕ → Header → ℕ) (end from at : ℕ) (headers : List Header) (h : Header) →
-      Fills memory ground end from headers at →
+      Fills memory area end from headers at →
       greatest_over f from (headers ++ h ∷ []) ≡ max (greatest_over f from headers) (f at h)
   greatest_over-one_more f end from at [] h fills =
       let here : f from h ≡ f at h = ap (λ a. f a h) fills in omega arith
@@ -56,7 +56,7 @@ module _ (memory : Telling) (ground : Ground) where
 
   -- where each count is that of before and of the object, and the height the greater of both
   pub report_one_more : (end from at to : ℕ) (headers : List Header) (h : Header) (old new : SpaceReport) →
-      Fills memory ground end from headers at → old ≡ report_of memory from headers to → new.bytes ≡ old.bytes →
+      Fills memory area end from headers at → old ≡ report_of memory from headers to → new.bytes ≡ old.bytes →
       new.objects ≡ old.objects + 1 → new.proxies ≡ old.proxies + proxy_count at h →
       new.stacked ≡ old.stacked + stacked_count memory at h → new.highest ≡ max old.highest (proxy_height memory at h) →
       new ≡ report_of memory from (headers ++ h ∷ []) to

@@ -7,7 +7,7 @@ use Rattle.object_layout.specs.declared.walks.SpaceReport.{SpaceReport}
 use Rattle.object_layout.specs.declared.walks.WalkFault.{WalkFault}
 use Rattle.object_layout.specs.declared.walks.WalkFault.TheVariants.{Torn}
 use Rattle.object_layout.specs.declared.kinds.Kind.TheVariants.{Proxy}
-use Rattle.object_layout.specs.declared.wholes.Ground.TheVariants.{Region}
+use Rattle.object_layout.specs.declared.wholes.Area.TheVariants.{Region}
 use Rattle.object_layout.specs.Kinds.{kind_number}
 use Rattle.object_layout.specs.Wholes.{Telling, header_at, height_of, IsWhole, Fills, IsRow}
 

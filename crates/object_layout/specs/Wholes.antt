@@ -4,8 +4,8 @@ use Rattle.std.specs.Prelude.{List, [], ◌∷◌, Option, Some, None, option_an
 use Rattle.object_layout.specs.declared.headers.Header.{Header}
 use Rattle.object_layout.specs.declared.kinds.Kind.{Kind}
 use Rattle.object_layout.specs.declared.kinds.Kind.TheVariants.{Fail, Fun, Tup, Ref, Vec, Inject, Project}
-use Rattle.object_layout.specs.declared.wholes.Ground.{Ground}
-use Rattle.object_layout.specs.declared.wholes.Ground.TheVariants.{Region, Statics}
+use Rattle.object_layout.specs.declared.wholes.Area.{Area}
+use Rattle.object_layout.specs.declared.wholes.Area.TheVariants.{Region, Statics}
 use Rattle.object_layout.specs.declared.kinds.Wanted.{Wanted}
 use Rattle.object_layout.specs.declared.kinds.Wanted.TheVariants.{Anything, Target, Middle, Coercion, TypeAddress}
 use Rattle.object_layout.specs.Kinds.{kind_of, is_type, is_free, is_middle, is_coercion, is_target, allows_count}
@@ -92,12 +92,12 @@ module _ (memory : Telling) where
   -- ---- whole objects
 
   -- types stand in statics alone
-  abbrev pub StandsOn : Ground → Kind → Type 0
+  abbrev pub StandsOn : Area → Kind → Type 0
   StandsOn Region kind = is_type kind ≡ false
   StandsOn Statics kind = Unit {0}
 
   -- a whole object with this header stands at an address and ends at or before an end
-  pub record IsWhole (ground : Ground) (end at : ℕ) (h : Header) : Type 0 where
+  pub record IsWhole (area : Area) (end at : ℕ) (h : Header) : Type 0 where
     pub header : header_at at ≡ Some h
     pub kind : Kind
     pub kind_is : kind_of h.kind ≡ Some kind
@@ -105,18 +105,18 @@ module _ (memory : Telling) where
     pub fits : at + (8 + 8 * h.count) ≤ end
     pub words : AreWanted at (at + 8) (wanted_words kind h.count)
     pub height : HasHeight kind h.height (highest (at + 8) (wanted_words kind h.count))
-    pub stands : StandsOn ground kind
+    pub stands : StandsOn area kind
 
   -- ---- rows
 
   -- whole objects with these headers fill the range between two addresses without gaps, all of them before an end
-  abbrev pub Fills : Ground → ℕ → ℕ → List Header → ℕ → Type 0
-  Fills ground end from [] to = from ≡ to
-  Fills ground end from (h ∷ rest) to = IsWhole ground end from h × Fills ground end (from + (8 + 8 * h.count)) rest to
+  abbrev pub Fills : Area → ℕ → ℕ → List Header → ℕ → Type 0
+  Fills area end from [] to = from ≡ to
+  Fills area end from (h ∷ rest) to = IsWhole area end from h × Fills area end (from + (8 + 8 * h.count)) rest to
 
   -- the range between two addresses is a row of whole objects with these headers
-  abbrev pub IsRow : Ground → ℕ → List Header → ℕ → Type 0
-  IsRow ground from headers to = Fills ground to from headers to
+  abbrev pub IsRow : Area → ℕ → List Header → ℕ → Type 0
+  IsRow area from headers to = Fills area to from headers to
 
 -- ---- places of rows
 

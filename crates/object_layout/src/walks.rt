@@ -8,7 +8,7 @@ ghost use Rattle.object_layout.specs.Reports.{header_behind, is_proxy, is_some_p
 
 use crate::headers::Header;
 use crate::kinds::Kind;
-use crate::wholes::{Ground, header_at, whole_object};
+use crate::wholes::{Area, header_at, whole_object};
 use grift_base::words::Words;
 
 /// What fills a range of storage.
@@ -97,7 +97,7 @@ pub fn walk<W: Words>(memory: &W, from: u64, to: u64) -> Result<SpaceReport, Wal
     };
     let mut at = from;
     while at < to {
-        let Some(header) = whole_object(memory, Ground::Region, to, at) else {
+        let Some(header) = whole_object(memory, Area::Region, to, at) else {
             return Err(WalkFault::Torn(at));
         };
         report = with_object(report, memory, at, header);

@@ -15,7 +15,7 @@ use grift_base::words::Words;
 
 /// Where objects stand.
 #[derive(Clone, Copy, PartialEq, Eq, Debug)]
-pub enum Ground {
+pub enum Area {
     /// The region: no type is a whole object there.
     Region,
     /// The words that stand before the code.
@@ -151,11 +151,11 @@ impl Kind {
 
 /// The header of the whole object that stands at an address and ends at or before an end: none exactly where there is
 /// none. It takes no memory.
-pub fn whole_object<W: Words>(memory: &W, ground: Ground, end: u64, at: u64) -> Option<Header>
+pub fn whole_object<W: Words>(memory: &W, area: Area, end: u64, at: u64) -> Option<Header>
     ensures whole { IfSome result (λ header. IsWhole
-        (word_within (W.first memory.now) (W.end memory.now) (W.word_at memory.now)) ground end at header) }
+        (word_within (W.first memory.now) (W.end memory.now) (W.word_at memory.now)) area end at header) }
     ensures none { IfNone result ((header : AHeader) → ¬ IsWhole
-        (word_within (W.first memory.now) (W.end memory.now) (W.word_at memory.now)) ground end at header) }
+        (word_within (W.first memory.now) (W.end memory.now) (W.word_at memory.now)) area end at header) }
 {
     let header = header_at(memory, at)?;
     let kind = Kind::from_number(header.kind)?;
@@ -163,7 +163,7 @@ pub fn whole_object<W: Words>(memory: &W, ground: Ground, end: u64, at: u64) -> 
     if !kind.allows_count(header.count) || end < size || end - size < at {
         return None;
     }
-    if ground == Ground::Region && kind.is_type() {
+    if area == Area::Region && kind.is_type() {
         return None;
     }
     let parts = height_of_parts(memory, at, kind, header.count)?;

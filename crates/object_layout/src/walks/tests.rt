@@ -171,14 +171,10 @@ fn types_are_whole_in_statics_alone(rt: HostRuntime) -> Result<(), Fail> {
     ] {
         let end = 65_640;
         assert!(rt;
-            whole_object(&memory, Ground::Statics, end, at).is_some(),
+            whole_object(&memory, Area::Statics, end, at).is_some(),
             "{at}"
         );
-        assert_eq!(rt;
-            whole_object(&memory, Ground::Region, end, at),
-            None,
-            "{at}"
-        );
+        assert_eq!(rt; whole_object(&memory, Area::Region, end, at), None, "{at}");
     }
     Ok(())
 }

@@ -1,6 +1,6 @@
 use Rattle.std.proofs.Common.{◌≡◌, ◌+◌, ◌*◌, ◌++◌, ◌∷◌, [], arith, ap}
 use Rattle.grift_base.specs.Words.{word_within}
-use Rattle.object_layout.specs.declared.wholes.Ground.TheVariants.{Region}
+use Rattle.object_layout.specs.declared.wholes.Area.TheVariants.{Region}
 use Rattle.object_layout.specs.Reports.{is_proxy, is_some_proxy, header_behind}
 use Rattle.object_layout.proofs.Rows.{fills_one_more, proxy_fits}
 use Rattle.object_layout.proofs.Reporting.{at_most_one, fewer_both, report_one_more}

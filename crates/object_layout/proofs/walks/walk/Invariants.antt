@@ -1,7 +1,7 @@
 use Rattle.std.proofs.Common.{◌≡◌, ◌+◌, ◌-◌, ◌*◌, ◌≤◌, List}
 use Rattle.grift_base.specs.Words.{word_within}
 use Rattle.object_layout.specs.declared.headers.Header.{Header}
-use Rattle.object_layout.specs.declared.wholes.Ground.TheVariants.{Region}
+use Rattle.object_layout.specs.declared.wholes.Area.TheVariants.{Region}
 use Rattle.object_layout.specs.Wholes.{Fills}
 use Rattle.object_layout.specs.Reports.{report_of}
 use Rattle.object_layout.proofs.walks.walk.Given as goal
