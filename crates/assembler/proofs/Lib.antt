@@ -18,5 +18,6 @@ mod Plain
 mod Holding
 mod Addresses
 mod Assembled
+mod Programs
 mod Samples
 pub mod Public

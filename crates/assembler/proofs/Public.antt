@@ -8,3 +8,5 @@ pub use Rattle.assembler.proofs.Claims.{CodeFacts, does_as_code}
 pub use Rattle.assembler.proofs.Plain.{runs_as_code}
 -- ---- numbers in bytes, the lowest byte first
 pub use Rattle.assembler.proofs.LittleEndian.{byte_in}
+-- ---- an assembled code in the program logic
+pub use Rattle.assembler.proofs.Programs.{program_of, starts_at}
