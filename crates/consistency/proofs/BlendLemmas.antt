@@ -294,7 +294,8 @@ intern_there_more row types more place apart at = by_place (place_where (equal_r
 -- ---- blends of rows that aren't Dyn
 
 -- such a blend is the row with the blends of the parts
-pub plain_blend : (blended : ℕ → ℕ → Forming ℕ) (a b : ℕ) (row other : TypeRow) (types : TypeRows) → is_dyn row ≡ false →
+pub plain_blend : (blended : ℕ → ℕ → Forming ℕ) (a b : ℕ) (row other : TypeRow) (types : TypeRows) →
+    is_dyn row ≡ false →
     is_dyn other ≡ false →
     blend_rows blended a b (Some row) (Some other) types
     ≡ intern (with_parts row (blend_each blended (parts_of row) (parts_of other) types).0)

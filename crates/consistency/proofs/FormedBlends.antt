@@ -1,5 +1,6 @@
 -- Blends that are formed are as they should be.
-use Rattle.std.proofs.Common.{◌≡◌, ℕ, zero, suc, ◌+◌, ◌<◌, ◌≤◌, Bool, true, false, cond, List, [], ◌∷◌, ◌++◌, length, map}
+use Rattle.std.proofs.Common.{◌≡◌, ℕ, zero, suc, ◌+◌, ◌<◌, ◌≤◌, Bool, true, false, cond, List, [], ◌∷◌, ◌++◌, length}
+use Rattle.std.proofs.Common.{map}
 use Rattle.std.proofs.Common.{Option, Some, None, refl, sym, ap, ap₂, ◌∙◌, subst, arith, append-nil}
 use Rattle.std.specs.Prelude.{All}
 use Rattle.std.proofs.lemmas.List.Elements.{All-head, All-tail, All-cons, All-nil, All-weaker}
@@ -51,7 +52,8 @@ seconds-pair_up (x ∷ xs) (y ∷ ys) e = ap (λ l. y ∷ l) (seconds-pair_up xs
 -- ---- parts
 
 -- what stays of pairs that may be blended where rows are added
-MayBlend-grown : (types new : TypeRows) (pairs : List Pair) → PartsFirst types → PartsFirst new → HasMoreRows types new →
+MayBlend-grown : (types new : TypeRows) (pairs : List Pair) → PartsFirst types → PartsFirst new →
+    HasMoreRows types new →
     All (MayBlend types) pairs → All (MayBlend new) pairs
 MayBlend-grown types new pairs first later more all =
     All-weaker (MayBlend types) (MayBlend new) (λ pair may. record {
@@ -95,7 +97,8 @@ each_forms depth forms (pair ∷ pairs) types table may deep =
 -- ---- rows
 
 -- an outcome that is known
-outcome_is : (types : TypeRows) (a b : ℕ) (outcome known : ℕ × TypeRows) → outcome ≡ known → FormsBlend types a b known →
+outcome_is : (types : TypeRows) (a b : ℕ) (outcome known : ℕ × TypeRows) → outcome ≡ known →
+    FormsBlend types a b known →
     FormsBlend types a b outcome
 outcome_is types a b outcome known e h = subst (λ (o : ℕ × TypeRows). FormsBlend types a b o) (sym e) h
 
@@ -137,7 +140,8 @@ module _ (depth : ℕ) (forms : FormsBlends depth) (types : TypeRows) (a b : ℕ
       let mid_b = row_stays types middle b other each.1 at_b in
       let fits = both_fits middle a b row other pairs cs each.0 mid_a mid_b row_plain other_plain parts.0 left right
       each.2 in
-      let formed = IsFormed-both middle a b row other pairs cs each.0 mid_a mid_b row_plain other_plain parts.0 left right
+      let formed =
+      IsFormed-both middle a b row other pairs cs each.0 mid_a mid_b row_plain other_plain parts.0 left right
       each.2 (intern both middle).1 (intern both middle).0 (IsOrderedTable-intern middle both each.0 fits)
       (intern_adds both middle) (row_at-intern both middle) in
       outcome_is types a b (blend_to (suc depth) a b types) (intern both middle)

@@ -1,35 +1,6 @@
 -- Integers in a source are what std's `parse` reads.
-use Rattle.std.proofs.Common.{
-  ◌≡◌,
-  ℕ,
-  ◌<◌,
-  ◌^◌,
-  Bool,
-  true,
-  false,
-  cond,
-  not,
-  ◌==◌,
-  zero,
-  suc,
-  List,
-  [],
-  ◌∷◌,
-  length,
-  drop,
-  get_or,
-  Some,
-  None,
-  Result,
-  Ok,
-  Err,
-  ℤ,
-  pos,
-  negsuc,
-  refl,
-  ap,
-  arith,
-}
+use Rattle.std.proofs.Common.{◌≡◌, ℕ, ◌<◌, ◌^◌, Bool, true, false, cond, not, ◌==◌, zero, suc, List, [], ◌∷◌, length}
+use Rattle.std.proofs.Common.{drop, get_or, Some, None, Result, Ok, Err, ℤ, pos, negsuc, refl, ap, arith}
 use borrow.Author.Tests.{ltb-true, lt-ltb, eqb-true}
 use mir.Val.{SFits}
 use Rattle.std.specs.Int.{w64}

@@ -1,54 +1,13 @@
 -- What the reader's run reads is a reading, and each reading is what the run reads.
-use Rattle.std.proofs.Common.{
-  ◌≡◌,
-  ◌≢◌,
-  ℕ,
-  ◌+◌,
-  ◌-◌,
-  ◌<◌,
-  ◌≤◌,
-  Bool,
-  true,
-  false,
-  cond,
-  List,
-  [],
-  ◌∷◌,
-  ◌++◌,
-  length,
-  Some,
-  None,
-  Result,
-  Ok,
-  Err,
-  refl,
-  ap,
-  ◌∙◌,
-  sym,
-  subst,
-  arith,
-  append_assoc,
-  append-nil,
-  ltb,
-}
+use Rattle.std.proofs.Common.{◌≡◌, ◌≢◌, ℕ, ◌+◌, ◌-◌, ◌<◌, ◌≤◌, Bool, true, false, cond, List, [], ◌∷◌, ◌++◌, length}
+use Rattle.std.proofs.Common.{Some, None, Result, Ok, Err, refl, ap, ◌∙◌, sym, subst, arith, append_assoc, append-nil}
+use Rattle.std.proofs.Common.{ltb}
 use borrow.Author.Tests.{ltb-true, lt-ltb}
 use Rattle.grift_base.specs.declared.places.Pos.{Pos}
 use Rattle.grift_base.specs.declared.refusals.Refusal.{Refusal}
 use Rattle.grift_base.specs.declared.refusals.RefusalKind.TheVariants.{Unopened, TooDeep}
-use Rattle.sexpr_reader.specs.Datum.{
-  Leaf,
-  integer,
-  truth,
-  symbol,
-  Datum,
-  leaf_datum,
-  list_datum,
-  Datums,
-  no_datums,
-  datum_then,
-  depth,
-  depth_of,
-}
+use Rattle.sexpr_reader.specs.Datum.{Leaf, integer, truth, symbol, Datum, leaf_datum, list_datum, Datums, no_datums}
+use Rattle.sexpr_reader.specs.Datum.{datum_then, depth, depth_of}
 use Rattle.sexpr_reader.specs.Token.{Token}
 use Rattle.sexpr_reader.specs.Meaning.{alone, meaning}
 use Rattle.sexpr_reader.specs.Grammar.{Forms, FormsAll, depth_limit}
@@ -57,20 +16,8 @@ use Rattle.sexpr_reader.specs.declared.scan.Shape.{Shape}
 use Rattle.sexpr_reader.specs.declared.atoms.Meaning.{Meaning}
 use Rattle.sexpr_reader.specs.declared.atoms.Meaning.TheVariants.{Opening, Closing, Int, Bool as Truth, Symbol, Refused}
 use Rattle.sexpr_reader.specs.declared.readers.Bracket.{Bracket}
-use Rattle.sexpr_reader.specs.Reader.{
-  OpenList,
-  ReaderState,
-  same_shape,
-  start,
-  in_row,
-  with_item,
-  closed,
-  step,
-  ended,
-  go_on,
-  run,
-  not_empty,
-}
+use Rattle.sexpr_reader.specs.Reader.{OpenList, ReaderState, same_shape, start, in_row, with_item, closed, step, ended}
+use Rattle.sexpr_reader.specs.Reader.{go_on, run, not_empty}
 use Rattle.sexpr_reader.proofs.Rows.{elements, in_row-elements, FormsAll-push, depth_of-push}
 use Rattle.sexpr_reader.proofs.Walk.{refusal_of_tokens}
 use Rattle.sexpr_reader.proofs.Running.{refusal_in, refusal_in-run}

@@ -1,28 +1,6 @@
 -- The reader's run refuses what the walk along the brackets refuses.
-use Rattle.std.proofs.Common.{
-  ◌≡◌,
-  suc,
-  Bool,
-  true,
-  false,
-  cond,
-  List,
-  [],
-  ◌∷◌,
-  ◌++◌,
-  length,
-  Option,
-  Some,
-  None,
-  Result,
-  Ok,
-  Err,
-  refl,
-  ap,
-  ◌∙◌,
-  sym,
-  ltb,
-}
+use Rattle.std.proofs.Common.{◌≡◌, suc, Bool, true, false, cond, List, [], ◌∷◌, ◌++◌, length, Option, Some, None}
+use Rattle.std.proofs.Common.{Result, Ok, Err, refl, ap, ◌∙◌, sym, ltb}
 use Rattle.grift_base.specs.declared.places.Pos.{Pos}
 use Rattle.grift_base.specs.declared.refusals.Refusal.{Refusal}
 use Rattle.grift_base.specs.declared.refusals.RefusalKind.TheVariants.{Unopened, TooDeep}
@@ -30,18 +8,8 @@ use Rattle.sexpr_reader.specs.Datum.{Leaf, integer, truth, symbol, Datum, leaf_d
 use Rattle.sexpr_reader.specs.Token.{Token}
 use Rattle.sexpr_reader.specs.Meaning.{meaning}
 use Rattle.sexpr_reader.specs.Grammar.{depth_limit}
-use Rattle.sexpr_reader.specs.Reader.{
-  OpenList,
-  ReaderState,
-  same_shape,
-  in_row,
-  with_item,
-  closed,
-  step,
-  ended,
-  go_on,
-  run,
-}
+use Rattle.sexpr_reader.specs.Reader.{OpenList, ReaderState, same_shape, in_row, with_item, closed, step, ended, go_on}
+use Rattle.sexpr_reader.specs.Reader.{run}
 use Rattle.sexpr_reader.specs.declared.scan.Shape.{Shape}
 use Rattle.sexpr_reader.specs.declared.atoms.Meaning.{Meaning}
 use Rattle.sexpr_reader.specs.declared.atoms.Meaning.TheVariants.{Opening, Closing, Int, Bool as Truth, Symbol, Refused}

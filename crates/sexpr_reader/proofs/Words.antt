@@ -1,37 +1,7 @@
 -- What the scanner's steps over bytes leave.
-use Rattle.std.proofs.Common.{
-  ◌≡◌,
-  ◌⊎◌,
-  inl,
-  inr,
-  ℕ,
-  suc,
-  ◌+◌,
-  ◌<◌,
-  Bool,
-  true,
-  false,
-  cond,
-  not,
-  ◌==◌,
-  ◌&&◌,
-  ◌||◌,
-  List,
-  [],
-  ◌∷◌,
-  ◌++◌,
-  length,
-  take,
-  drop,
-  reverse,
-  get_or,
-  refl,
-  ap,
-  ◌∙◌,
-  sym,
-  subst,
-  arith,
-}
+use Rattle.std.proofs.Common.{◌≡◌, ◌⊎◌, inl, inr, ℕ, suc, ◌+◌, ◌<◌, Bool, true, false, cond, not, ◌==◌, ◌&&◌, ◌||◌}
+use Rattle.std.proofs.Common.{List, [], ◌∷◌, ◌++◌, length, take, drop, reverse, get_or, refl, ap, ◌∙◌, sym, subst}
+use Rattle.std.proofs.Common.{arith}
 use borrow.Author.Tests.{eqb-true}
 use Rattle.std.specs.List.{prefix_len, take_while, count_by, list_any}
 use Rattle.std.proofs.lemmas.Bool.{and_parts}
@@ -39,17 +9,8 @@ use Rattle.std.proofs.lemmas.List.{append_assoc, append-nil, reverse-append, tak
 use Rattle.std.proofs.lemmas.List.Sums.{take_while-cons, sum_by-append}
 use Rattle.sexpr_reader.specs.Bytes.{is_line_feed, is_white, is_comment_sign, is_hash, is_symbol_byte}
 use Rattle.sexpr_reader.specs.Places.{line_before, place_after}
-use Rattle.sexpr_reader.specs.Token.{
-  atom,
-  lexeme_at,
-  mark,
-  hash_atom,
-  Token,
-  is_in_comment,
-  may_go_on,
-  no_token_begins,
-  tokens_behind,
-}
+use Rattle.sexpr_reader.specs.Token.{atom, lexeme_at, mark, hash_atom, Token, is_in_comment, may_go_on, no_token_begins}
+use Rattle.sexpr_reader.specs.Token.{tokens_behind}
 use Rattle.sexpr_reader.specs.Scanning.{goes_on, lexeme_len, tokens_at}
 
 -- a byte that is one of these isn't another kind of byte

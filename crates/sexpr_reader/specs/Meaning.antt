@@ -1,25 +1,6 @@
 -- What a token is by itself.
-use Rattle.std.specs.Prelude.{
-  ℕ,
-  ℤ,
-  pos,
-  negsuc,
-  Bool,
-  true,
-  false,
-  ◌==◌,
-  ◌||◌,
-  ◌^◌,
-  ◌&&◌,
-  not,
-  nat_lt,
-  List,
-  length,
-  slice_index,
-  codes,
-  bytes_eq,
-  if◌then◌else◌,
-}
+use Rattle.std.specs.Prelude.{ℕ, ℤ, pos, negsuc, Bool, true, false, ◌==◌, ◌||◌, ◌^◌, ◌&&◌, not, nat_lt, List, length}
+use Rattle.std.specs.Prelude.{slice_index, codes, bytes_eq, if◌then◌else◌}
 use Rattle.std.specs.Char.{is_ascii_digit}
 use Rattle.std.specs.List.{list_all}
 use Rattle.std.specs.Str.Parse.{without_leading_sign, signed_digits_value}

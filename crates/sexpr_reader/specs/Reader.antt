@@ -3,17 +3,8 @@ use Rattle.std.specs.Prelude.{ℕ, Bool, true, false, nat_lt, List, [], ◌∷�
 use Rattle.grift_base.specs.declared.places.Pos.{Pos}
 use Rattle.grift_base.specs.declared.refusals.Refusal.{Refusal}
 use Rattle.grift_base.specs.declared.refusals.RefusalKind.TheVariants.{Unclosed, Unopened, TooDeep, Empty}
-use Rattle.sexpr_reader.specs.Datum.{
-  integer,
-  truth,
-  symbol,
-  Datum,
-  leaf_datum,
-  list_datum,
-  Datums,
-  no_datums,
-  datum_then,
-}
+use Rattle.sexpr_reader.specs.Datum.{integer, truth, symbol, Datum, leaf_datum, list_datum, Datums, no_datums}
+use Rattle.sexpr_reader.specs.Datum.{datum_then}
 use Rattle.sexpr_reader.specs.Places.{first_place}
 use Rattle.sexpr_reader.specs.Token.{Token}
 use Rattle.sexpr_reader.specs.Meaning.{meaning}

@@ -1,37 +1,11 @@
 -- How the scanner goes along a text, for the contracts of its private functions.
-use Rattle.std.specs.Prelude.{
-  ℕ,
-  ◌≡◌,
-  ◌≤◌,
-  ◌+◌,
-  Bool,
-  false,
-  ◌&&◌,
-  ◌||◌,
-  List,
-  [],
-  ◌∷◌,
-  length,
-  take,
-  drop,
-  if◌then◌else◌,
-}
+use Rattle.std.specs.Prelude.{ℕ, ◌≡◌, ◌≤◌, ◌+◌, Bool, false, ◌&&◌, ◌||◌, List, [], ◌∷◌, length, take, drop}
+use Rattle.std.specs.Prelude.{if◌then◌else◌}
 use Rattle.std.specs.List.{prefix_len}
 use Rattle.sexpr_reader.specs.Bytes.{is_hash, is_symbol_byte}
 use Rattle.sexpr_reader.specs.Places.{line_before, place_after}
-use Rattle.sexpr_reader.specs.Token.{
-  Lexeme,
-  open_bracket,
-  close_bracket,
-  atom,
-  hash_atom,
-  quote,
-  other,
-  Token,
-  is_in_comment,
-  may_go_on,
-  tokens_behind,
-}
+use Rattle.sexpr_reader.specs.Token.{Lexeme, open_bracket, close_bracket, atom, hash_atom, quote, other, Token}
+use Rattle.sexpr_reader.specs.Token.{is_in_comment, may_go_on, tokens_behind}
 use Rattle.sexpr_reader.specs.declared.scan.Lexeme.{Lexeme as ScanLexeme}
 use Rattle.sexpr_reader.specs.declared.scan.Lexeme.TheVariants.{Open, Close, Atom, HashAtom, Quote, Other}
 use Rattle.sexpr_reader.specs.declared.scan.Token.{Token as ScanToken}

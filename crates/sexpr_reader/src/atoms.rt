@@ -4,14 +4,8 @@ ghost use Rattle.std.specs.Prelude.{◌≡◌, true, IfOk, Some, None, if◌then
 ghost use Rattle.std.specs.Char.{is_ascii_digit};
 ghost use Rattle.std.specs.List.{list_all};
 ghost use Rattle.std.specs.Str.Parse.{without_leading_sign, signed_digits_value};
-ghost use Rattle.sexpr_reader.specs.Meaning.{
-  is_integer,
-  begins_like_number,
-  fits_in_64_bits,
-  meaning,
-  atom_meaning,
-  hash_meaning,
-};
+ghost use Rattle.sexpr_reader.specs.Meaning.{is_integer, begins_like_number, fits_in_64_bits, meaning, atom_meaning};
+ghost use Rattle.sexpr_reader.specs.Meaning.{hash_meaning};
 ghost use Rattle.sexpr_reader.specs.Scanning.{lexeme_of};
 
 use crate::scan::{Lexeme, Shape};

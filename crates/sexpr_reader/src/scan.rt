@@ -1,24 +1,7 @@
 // Cutting a text into tokens.
 
-ghost use Rattle.std.specs.Prelude.{
-  ◌≡◌,
-  ◌≤◌,
-  ◌<◌,
-  ◌+◌,
-  ◌^◌,
-  ◌==◌,
-  ◌&&◌,
-  ◌||◌,
-  not,
-  if◌then◌else◌,
-  [],
-  false,
-  length,
-  take,
-  drop,
-  slice_index,
-  MatchOption,
-};
+ghost use Rattle.std.specs.Prelude.{◌≡◌, ◌≤◌, ◌<◌, ◌+◌, ◌^◌, ◌==◌, ◌&&◌, ◌||◌, not, if◌then◌else◌, [], false, length};
+ghost use Rattle.std.specs.Prelude.{take, drop, slice_index, MatchOption};
 ghost use Rattle.std.specs.List.{prefix_len};
 ghost use Rattle.sexpr_reader.specs.Bytes.{is_line_feed, is_white, is_comment_sign, is_symbol_byte};
 ghost use Rattle.sexpr_reader.specs.Token.{no_token_begins, lexeme_at};

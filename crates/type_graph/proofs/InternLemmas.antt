@@ -1,86 +1,23 @@
 -- A row that is put into a table: where it stands, and what the table keeps.
-use Rattle.std.proofs.Common.{
-  ◌≡◌,
-  ◌⊎◌,
-  inl,
-  inr,
-  ℕ,
-  zero,
-  suc,
-  ◌+◌,
-  ◌<◌,
-  ◌≤◌,
-  max,
-  min,
-  Bool,
-  true,
-  false,
-  cond,
-  List,
-  [],
-  ◌∷◌,
-  ◌++◌,
-  length,
-  Option,
-  Some,
-  None,
-  refl,
-  sym,
-  ap,
-  ap₂,
-  ◌∙◌,
-  subst,
-  arith,
-  length-append,
-  append-nil,
-  slice_get,
-}
+use Rattle.std.proofs.Common.{◌≡◌, ◌⊎◌, inl, inr, ℕ, zero, suc, ◌+◌, ◌<◌, ◌≤◌, max, min, Bool, true, false, cond, List}
+use Rattle.std.proofs.Common.{[], ◌∷◌, ◌++◌, length, Option, Some, None, refl, sym, ap, ap₂, ◌∙◌, subst, arith}
+use Rattle.std.proofs.Common.{length-append, append-nil, slice_get}
 use Rattle.std.specs.Prelude.{option_map, All, Contains}
 use Rattle.std.proofs.lemmas.List.Elements.{All-head, All-tail, All-weaker}
 use Rattle.std.proofs.lemmas.Option.{slice_get_within, slice_get-get_or, get_or_from_slice_get}
 use Rattle.grift_base.specs.Tables.{HasNoRepeats, Interns}
 use Rattle.grift_base.specs.Types.{TypeRow, TypeRows, row_at, parts_of}
 use Rattle.type_graph.specs.Forming.{equal_rows, place_where, at_place_or_last, intern}
-use Rattle.type_graph.specs.Trees.{
-  row_parts,
-  PartsFirst,
-  sum_of,
-  size_to,
-  size,
-  above_all,
-  height_to,
-  height,
-}
-use Rattle.type_graph.specs.TypeTables.{
-  HasWidth,
-  HaveWidths,
-  AreLow,
-  MayBePart,
-  FitsTable,
-  IsOrderedTable,
-  IsMeasure,
-  IsMeasureOfParts,
-  IsKept,
-}
+use Rattle.type_graph.specs.Trees.{row_parts, PartsFirst, sum_of, size_to, size, above_all, height_to, height}
+use Rattle.type_graph.specs.TypeTables.{HasWidth, HaveWidths, AreLow, MayBePart, FitsTable, IsOrderedTable, IsMeasure}
+use Rattle.type_graph.specs.TypeTables.{IsMeasureOfParts, IsKept}
 use Rattle.type_graph.specs.TypeTables.{HasMoreRows}
 use Rattle.type_graph.specs.declared.tables.Measure.{Measure}
 use Rattle.type_graph.specs.declared.tables.TheConstants.{MOST_HEIGHT, SIZE_SHOWN}
 use Rattle.grift_base.specs.declared.places.TheConstants.{MOST_ENTRIES}
-use Rattle.type_graph.proofs.Places.{
-  none_is_not_some,
-  same_some,
-  get_last,
-  get_before_or_last,
-  HasNoRepeats-push,
-}
+use Rattle.type_graph.proofs.Places.{none_is_not_some, same_some, get_last, get_before_or_last, HasNoRepeats-push}
 use Rattle.type_graph.proofs.RowLemmas.{rows_are_equal, row_is_itself}
-use Rattle.type_graph.proofs.TreeLemmas.{
-  row_parts_below,
-  size_by_parts,
-  height_by_parts,
-  size_grown,
-  height_grown,
-}
+use Rattle.type_graph.proofs.TreeLemmas.{row_parts_below, size_by_parts, height_by_parts, size_grown, height_grown}
 
 -- ---- the place of a row
 

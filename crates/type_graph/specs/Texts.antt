@@ -1,18 +1,7 @@
 -- How a type is written.
 use Rattle.std.specs.Prelude.{ℕ, zero, suc, List, [], ◌∷◌, ◌++◌, length, codes, Option, Some, None}
-use Rattle.grift_base.specs.Types.{
-  TypeRow,
-  TypeRows,
-  IntRow,
-  BoolRow,
-  UnitRow,
-  DynRow,
-  FunRow,
-  TupleRow,
-  RefRow,
-  VectRow,
-  row_at,
-}
+use Rattle.grift_base.specs.Types.{TypeRow, TypeRows, IntRow, BoolRow, UnitRow, DynRow, FunRow, TupleRow, RefRow}
+use Rattle.grift_base.specs.Types.{VectRow, row_at}
 
 -- the texts of these types, each with a space behind it
 abbrev pub each_before_space : (ℕ → List ℕ) → List ℕ → List ℕ

@@ -1,20 +1,8 @@
 -- Tables of types: what each keeps, and which rows may be put into it.
 use Rattle.std.specs.Prelude.{◌≡◌, ◌++◌, ℕ, ◌<◌, ◌≤◌, All, suc, min, List, length, Some, slice_get}
 use Rattle.grift_base.specs.Tables.{HasNoRepeats}
-use Rattle.grift_base.specs.Types.{
-  TypeRow,
-  TypeRows,
-  IntRow,
-  BoolRow,
-  UnitRow,
-  DynRow,
-  FunRow,
-  TupleRow,
-  RefRow,
-  VectRow,
-  row_at,
-  parts_of,
-}
+use Rattle.grift_base.specs.Types.{TypeRow, TypeRows, IntRow, BoolRow, UnitRow, DynRow, FunRow, TupleRow, RefRow}
+use Rattle.grift_base.specs.Types.{VectRow, row_at, parts_of}
 use Rattle.type_graph.specs.Trees.{PartsFirst, height, size, above_all, sum_of}
 use Rattle.type_graph.specs.declared.tables.Measure.{Measure}
 use Rattle.type_graph.specs.declared.tables.TheConstants.{MOST_HEIGHT, SIZE_SHOWN}

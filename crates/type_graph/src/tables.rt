@@ -1,24 +1,7 @@
 // Tables of types.
 
-ghost use Rattle.std.specs.Prelude.{
-  ◌≡◌,
-  ◌≤◌,
-  ◌<◌,
-  ◌+◌,
-  ◌↔◌,
-  max,
-  min,
-  [],
-  All,
-  Contains,
-  IfNone,
-  IfOk,
-  IfSome,
-  IsTrue,
-  OnErr,
-  OnOk,
-  length,
-};
+ghost use Rattle.std.specs.Prelude.{◌≡◌, ◌≤◌, ◌<◌, ◌+◌, ◌↔◌, max, min, [], All, Contains, IfNone, IfOk, IfSome, IsTrue};
+ghost use Rattle.std.specs.Prelude.{OnErr, OnOk, length};
 ghost use Rattle.grift_base.specs.Tables.{Interns};
 ghost use Rattle.grift_base.specs.Types.{parts_of, row_at};
 ghost use Rattle.type_graph.specs.Rows.{places_of, row_of};

@@ -1,26 +1,5 @@
-use Rattle.std.proofs.Common.{
-  ◌≡◌,
-  ◌⊎◌,
-  inl,
-  inr,
-  ℕ,
-  ◌+◌,
-  ◌≤◌,
-  ◌==◌,
-  List,
-  Bool,
-  true,
-  false,
-  cond,
-  get_or,
-  length,
-  take,
-  sym,
-  ap,
-  ◌∙◌,
-  subst,
-  arith,
-}
+use Rattle.std.proofs.Common.{◌≡◌, ◌⊎◌, inl, inr, ℕ, ◌+◌, ◌≤◌, ◌==◌, List, Bool, true, false, cond, get_or, length}
+use Rattle.std.proofs.Common.{take, sym, ap, ◌∙◌, subst, arith}
 use Rattle.grift_base.specs.declared.places.Pos.{Pos}
 use Rattle.sexpr_reader.specs.declared.scan.Cursor.{Cursor}
 use Rattle.sexpr_reader.specs.Bytes.{is_white}
@@ -28,10 +7,8 @@ use Rattle.sexpr_reader.specs.Places.{place_after}
 use Rattle.sexpr_reader.specs.Scanning.{Stands, tokens_at}
 use Rattle.sexpr_reader.proofs.Words.{Skips, SkippedByte, skipped_byte}
 use Rattle.sexpr_reader.proofs.scan.skip_blanks.Goals as goal
-use Rattle.sexpr_reader.proofs.scan.skip_blanks.Goals.{
-  else-not-in_comment-via-then-not-in_comment+else-not-is_white,
-  else-not-in_comment-via-else-not-in_comment,
-}
+use Rattle.sexpr_reader.proofs.scan.skip_blanks.Goals.{else-not-in_comment-via-then-not-in_comment+else-not-is_white}
+use Rattle.sexpr_reader.proofs.scan.skip_blanks.Goals.{else-not-in_comment-via-else-not-in_comment}
 
 -- the loop's invariant behind a byte that is skipped
 kept : (text : List ℕ) (old new : Cursor) (next : Bool) → old.at + 1 ≤ length text → Stands text old
