@@ -17,9 +17,9 @@ pub fn consistency_goes_by_rows()
         → a < length types → b < length types → consistent (types ++ more) a b ≡ consistent types a b }
 {}
 
-/// The blend of two consistent types is Dyn where either is Dyn, else it has their head and the blends of their
-/// parts. It is no higher than the higher of the two; forming it leaves the table one, with the rows that were
-/// there; and forming it once more adds nothing.
+/// The blend of two consistent types is Dyn where either is Dyn, else it has their head and the blends of their parts.
+/// It is no higher than the higher of the two; forming it leaves the table one, with the rows that were there; and
+/// forming it once more adds nothing.
 pub fn blends_are_formed()
     ensures { (types : TypeRows) (a b : ℕ) → IsOrderedTable types → a < length types → b < length types
         → consistent types a b ≡ true → FormsBlend types a b (blend a b types) }

@@ -5,7 +5,8 @@ use Rattle.std.proofs.Common.{append-nil, append_assoc}
 use Rattle.std.specs.Prelude.{◌&&◌, All, slice_get}
 use Rattle.std.proofs.lemmas.Bool.{and_parts, eq-eqb, and_from}
 use Rattle.std.proofs.lemmas.List.Elements.{All-head, All-tail, All-weaker}
-use Rattle.std.proofs.lemmas.Option.{slice_get_within}
+use Rattle.std.proofs.Common.{get_or}
+use Rattle.std.proofs.lemmas.Option.{slice_get_within, slice_get-get_or}
 use Rattle.grift_base.specs.Tables.{HasNoRepeats}
 use Rattle.grift_base.specs.Types.{TypeRow, TypeRows, row_at, parts_of, same_head}
 use Rattle.type_graph.specs.Forming.{equal_numbers, equal_rows}
@@ -194,3 +195,9 @@ above_all-push f (y ∷ xs) x = let rest = above_all-push f xs x in omega arith
 pub sum_of-push : (f : ℕ → ℕ) (xs : List ℕ) (x : ℕ) → sum_of f (xs ++ x ∷ []) ≡ sum_of f xs + f x
 sum_of-push f [] x = omega arith
 sum_of-push f (y ∷ xs) x = let rest = sum_of-push f xs x in omega arith
+
+-- the parts of all rows are places of the table
+pub all_parts_within : (types : TypeRows) → PartsFirst types →
+    All (λ row. All (λ part. part < length types) (parts_of row)) types
+all_parts_within types first k d within =
+    parts_within types k (get_or types k d) first (slice_get-get_or types k d within)
