@@ -1,13 +1,12 @@
 -- The next redex of a term: the part of it that takes the step, what stands round that part, and how many nodes do.
-use Rattle.std.specs.Prelude.{ℕ, suc, Option, Some, None}
+use Rattle.std.specs.Prelude.{◌≡◌, ℕ, suc, List, [], ◌∷◌, Option, Some, None}
 use Rattle.core_calc.specs.Terms.{Term, Terms, Bindings, Value, IntLit, BoolLit, UnitLit, Var, Lambda, Group, Let, Call}
 use Rattle.core_calc.specs.Terms.{Enter, If, Seq, Cast, Proj, ProjDyn, Tuple, Prim, ValueTerm, NoTerms, TermThen}
-use Rattle.core_calc.specs.Terms.{NoBindings, BindingThen, WrapValue, as_value, all_values, bound_values}
+use Rattle.core_calc.specs.Terms.{NoBindings, BindingThen, WrapValue, as_value, term_list, all_values, bound_values}
 use Rattle.core_calc.specs.Calculus.{CalcState}
 
 -- a redex inside a term, inside terms or inside bindings: the redex, the whole with another term in the redex's place,
--- and
--- the number of nodes strictly above it
+-- and the number of nodes strictly above it
 pub record Focus (A : Type 0) : Type 0 where
   pub redex : Term
   pub around : Term → A
@@ -35,6 +34,39 @@ abbrev pub enter_focus : Option Value → Focus Term → Focus Term → Focus Te
 enter_focus (Some (WrapValue v from label to)) whole inner = whole
 enter_focus (Some v) whole inner = inner
 enter_focus None whole inner = whole
+
+-- ---- which parts are evaluated
+
+-- the parts that a term evaluates, from left to right, before it takes a step itself. A sequence evaluates its first
+-- term where more stand behind it; an Enter its arguments, but none where its function is seen through a cast
+abbrev pub entered_parts : Option Value → Terms → List Term
+entered_parts (Some (WrapValue v from label to)) arguments = []
+entered_parts (Some v) arguments = term_list arguments
+entered_parts None arguments = []
+
+abbrev pub bound_terms : Bindings → List Term
+bound_terms NoBindings = []
+bound_terms (BindingThen name bound rest) = bound ∷ bound_terms rest
+
+abbrev pub evaluated_parts : Term → List Term
+evaluated_parts (Let bindings body) = bound_terms bindings
+evaluated_parts (Call function arguments) = function ∷ term_list arguments
+evaluated_parts (Enter function arguments) = entered_parts (as_value function) arguments
+evaluated_parts (If condition on_true on_false) = condition ∷ []
+evaluated_parts (Seq (TermThen term (TermThen second rest))) = term ∷ []
+evaluated_parts (Cast term from to label) = term ∷ []
+evaluated_parts (Proj term k) = term ∷ []
+evaluated_parts (ProjDyn term k label) = term ∷ []
+evaluated_parts (Tuple parts) = term_list parts
+evaluated_parts (Prim operator operands) = term_list operands
+evaluated_parts _ = []
+
+-- the first of these terms that is no value
+abbrev pub first_open : List Term → Option Term
+first_open [] = None
+first_open (term ∷ rest) = where_some (as_value term) (first_open rest) (Some term)
+
+-- ---- the redex, what stands round it, and the nodes above it
 
 -- parts are evaluated from left to right; a term whose parts are values is the redex itself
 abbrev mutual
@@ -87,6 +119,12 @@ abbrev mutual
   focus_bindings (BindingThen name bound rest) =
       where_some (as_value bound) (along (BindingThen name bound) (focus_bindings rest))
       (along (λ next. BindingThen name next rest) (focus bound))
+
+-- the focus of a term whose first part that is no value is this one: the redex is that part's, one node further down. A
+-- term without such a part is the redex itself
+abbrev pub IsFocusThrough : Option Term → Term → Focus Term → Type 0
+IsFocusThrough None term f = f ≡ here term
+IsFocusThrough (Some part) term f = (f.redex ≡ (focus part).redex) × (f.above ≡ suc (focus part).above)
 
 -- the next redex of a term that is no value; a value is taken as its own
 abbrev pub redex : Term → Term

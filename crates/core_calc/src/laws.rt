@@ -15,7 +15,7 @@ ghost use Rattle.grift_base.specs.declared.verdicts.Verdict.TheVariants.{Answer 
 ghost use Rattle.core_calc.specs.Terms.{Term, Value, IntValue, BoolValue, UnitValue, InjectValue, as_value};
 ghost use Rattle.core_calc.specs.Substitution.{substitute};
 ghost use Rattle.core_calc.specs.Outcome.{Store, Stuck, inside};
-ghost use Rattle.core_calc.specs.Redex.{focus, here};
+ghost use Rattle.core_calc.specs.Redex.{focus, here, evaluated_parts, first_open, IsFocusThrough};
 ghost use Rattle.core_calc.specs.Step.{step};
 ghost use Rattle.core_calc.specs.Typing.{Context, CellType, IsTypeTable, HasType, ValueHasType, StoreHasTypes};
 ghost use Rattle.core_calc.specs.Typing.{StateHasType, Stands, KeepsType, kind_of_type, ProgramTermHasType};
@@ -92,12 +92,14 @@ pub fn answers_have_their_types_kind()
 {}
 
 /// A term's step is the step of its redex, in the redex's place: the redex stands in the term, what it comes to is put
-/// where it stood, and below a redex there is no other.
+/// where it stood, and below a redex there is no other. The redex is that of the first part, from left to right, that is
+/// evaluated and is no value, one node further down; a term without such a part is the redex itself.
 pub fn the_step_is_that_of_the_redex()
     ensures in_place { (term : Term) → (focus term).around (focus term).redex ≡ term }
     ensures steps { (types : TypeRows) (store : Store) (world : WorldState) (term : Term)
         → step types store world term ≡ inside (focus term).around (step types store world (focus term).redex) }
     ensures is_whole { (term : Term) → focus (focus term).redex ≡ here (focus term).redex }
+    ensures first_open { (term : Term) → IsFocusThrough (first_open (evaluated_parts term)) term (focus term) }
 {}
 
 /// A term has no more than one type over a table of distinct rows, and neither has a value.
