@@ -18,8 +18,8 @@ cast_arguments (TermThen term rest) (from ∷ froms) (to ∷ tos) label =
 cast_arguments _ _ _ label = None
 
 module _ (types : TypeRows) (store : Store) (world : WorldState) where
-  -- a function seen from one function type as another: the arguments are cast to what it takes, and what it gives is
-  -- cast
+  -- a function seen from one function type as another: the arguments are cast to what it takes, and its answer to what
+  -- is wanted
   abbrev pub enter_wrapped : TypeRow → TypeRow → Value → Terms → ℕ → Outcome Term
   enter_wrapped (FunRow parameters answer) (FunRow wanted_parameters wanted) v arguments label =
       with_some (cast_arguments arguments wanted_parameters parameters label)

@@ -41,11 +41,11 @@ HasMoreCells old new = (more : List CellType) × (new ≡ old ++ more)
 -- an end that there may be: an answer where the term is a value that is shown so, a blame of a label that there is, or
 -- a trap; without an end the term is no value
 abbrev pub EndsWell : ℕ → Option CalcEnd → Option Value → Type 0
-EndsWell labels None option = option ≡ None
-EndsWell labels (Some (Answered shown)) option = option_map shown_value option ≡ Some shown
-EndsWell labels (Some (Blamed label)) option = label < labels
-EndsWell labels (Some (Trapped trap)) option = Unit {0}
-EndsWell labels (Some NoStep) option = ⊥
+EndsWell labels None value = value ≡ None
+EndsWell labels (Some (Answered shown)) value = option_map shown_value value ≡ Some shown
+EndsWell labels (Some (Blamed label)) value = label < labels
+EndsWell labels (Some (Trapped trap)) value = Unit {0}
+EndsWell labels (Some NoStep) value = ⊥
 
 -- the names of a group with their written types
 abbrev pub member_types : Members → Context
@@ -91,7 +91,7 @@ module _ (types : TypeRows) where
   OperatorHasType BoxSet operands type =
       (box : ℕ) × (content : ℕ) × (operands ≡ box ∷ content ∷ []) × Is box (RefRow content) × Is type UnitRow
   OperatorHasType MakeVector operands type =
-      (index : ℕ) × (content : ℕ) × (operands ≡ index ∷ content ∷ []) × Is index IntRow × Is type (VectRow content)
+      (size : ℕ) × (content : ℕ) × (operands ≡ size ∷ content ∷ []) × Is size IntRow × Is type (VectRow content)
   OperatorHasType VectorRef operands type =
       (vector : ℕ) × (index : ℕ) × (operands ≡ vector ∷ index ∷ []) × Is vector (VectRow type) × Is index IntRow
   OperatorHasType VectorSet operands type =
@@ -217,21 +217,20 @@ module _ (types : TypeRows) where
         slice_get store place ≡ Some cell → slice_get cells place ≡ Some cell_type →
         CellHasType cells cell cell_type)
 
-    -- the types are a table, and there is a type for each cell with which the term and all stored values have their
-    -- types
+    -- the types are a table, and with some type for each cell the term and all stored values have their types
     abbrev pub StateHasType : CalcState → ℕ → Type 0
     StateHasType state type =
         IsTypeTable types × (cells : List CellType) × StoreHasTypes state.store cells ×
         HasType labels cells [] state.term type
 
-    -- a state of this type that has not ended, or has ended so
+    -- a state of this type that either goes on or has ended well
     abbrev pub Stands : CalcState → ℕ → Type 0
     Stands state type = StateHasType state type × EndsWell labels state.ended (as_value state.term)
 
     -- ---- steps
 
-    -- the outcome is no want of a step; where it goes on, there are cell types that begin with the old ones, which the
-    -- new store has and with which the rest holds
+    -- there is an outcome. Where the step goes on, the new store has cell types that begin with the old ones, and with
+    -- these the rest holds
     abbrev pub Keeps : {A : Type 0} → (List CellType → A → Type 0) → List CellType → Outcome A → Type 0
     Keeps Holds cells (Goes a store world) =
         (new : List CellType) × HasMoreCells cells new × StoreHasTypes store new × Holds new a
