@@ -4,7 +4,7 @@ use Rattle.std.proofs.Common.{true, false}
 use Rattle.std.proofs.lemmas.Bool.{eqb-true}
 use Rattle.grift_base.specs.Types.{TypeRow, IntRow, BoolRow, UnitRow, DynRow, FunRow, TupleRow, RefRow, VectRow}
 use Rattle.grift_base.specs.Types.{TypeRows, row_at, TypeHead, IntHead, BoolHead, UnitHead, DynHead, FunHead, TupleHead}
-use Rattle.grift_base.specs.Types.{RefHead, VectHead, head_of, equal_heads}
+use Rattle.grift_base.specs.Types.{RefHead, VectHead, head_of, equal_heads, is_dyn}
 use Rattle.core_calc.specs.Terms.{Members, Value, Values, IntValue, BoolValue, UnitValue, FunValue, MemberValue}
 use Rattle.core_calc.specs.Terms.{TupleValue, LocValue, WrapValue, InjectValue, NoMembers, MemberThen, NoValues}
 use Rattle.core_calc.specs.Terms.{ValueThen, value_list}
@@ -96,11 +96,16 @@ module _ (types : TypeRows) (labels : ℕ) (cells : List CellType) where
       row_at types type ≡ Some UnitRow → v ≡ UnitValue
   values_have_their_types_heads-units v type h e = unit_like v (form types labels cells v type UnitRow h e)
 
-  dyn_like : (v : Value) → can_be v DynRow ≡ true → (u : Value) × (kept : ℕ) × (v ≡ InjectValue u kept)
-  dyn_like (InjectValue u kept) e = (u, kept, refl)
-  dyn_like v e = absurd (false_is_not_true e)
+  -- a value that keeps its type, which isn't Dyn
+  abbrev KeepsItsType : Value → Type 0
+  KeepsItsType v =
+      (held : Value) × (kept : ℕ) × (row : TypeRow) × (v ≡ InjectValue held kept) ×
+      ValueHasType types labels cells held kept × (row_at types kept ≡ Some row) × (is_dyn row ≡ false)
+
+  dyn_like : (v : Value) (type : ℕ) → can_be v DynRow ≡ true → ValueHasType types labels cells v type → KeepsItsType v
+  dyn_like (InjectValue held kept) type e h = (held, kept, h.0, refl, h.1, h.2, h.3)
+  dyn_like v type e h = absurd (false_is_not_true e)
 
   pub values_have_their_types_heads-dyns : (v : Value) (type : ℕ) → ValueHasType types labels cells v type →
-      row_at types type ≡ Some DynRow →
-      (u : Value) × (kept : ℕ) × (v ≡ InjectValue u kept)
-  values_have_their_types_heads-dyns v type h e = dyn_like v (form types labels cells v type DynRow h e)
+      row_at types type ≡ Some DynRow → KeepsItsType v
+  values_have_their_types_heads-dyns v type h e = dyn_like v type (form types labels cells v type DynRow h e) h

@@ -20,7 +20,7 @@ pub use Rattle.core_calc.proofs.OneType.{a_term_has_one_type-terms, a_term_has_o
 pub use Rattle.core_calc.proofs.Substituting.{nothing_put_in}
 pub use Rattle.core_calc.proofs.Redexes.{the_step_is_that_of_the_redex-in_place, the_step_is_that_of_the_redex-steps}
 pub use Rattle.core_calc.proofs.Redexes.{the_step_is_that_of_the_redex-is_whole}
-pub use Rattle.core_calc.proofs.Redexes.{the_step_is_that_of_the_redex-first_open}
+pub use Rattle.core_calc.proofs.Redexes.{the_step_is_that_of_the_redex-through_parts}
 pub use Rattle.core_calc.proofs.StepsKeepTypes.{steps_keep_types, typed_states_take_steps}
 pub use Rattle.core_calc.proofs.RunsKeepTypes.{stands_on, typed_programs_never_go_wrong-typed}
 pub use Rattle.core_calc.proofs.RunsKeepTypes.{typed_programs_never_go_wrong-never_wrong}

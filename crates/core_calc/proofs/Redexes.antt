@@ -15,7 +15,7 @@ use Rattle.core_calc.specs.Casts.{cast_step}
 use Rattle.core_calc.specs.Operators.{operator_step}
 use Rattle.core_calc.specs.Step.{becomes, if_step, let_step, step, step_terms, step_bindings}
 use Rattle.core_calc.specs.Redex.{Focus, here, below, along, where_some, enter_focus, focus, focus_terms}
-use Rattle.core_calc.specs.Redex.{focus_bindings, first_open, bound_terms, entered_parts, evaluated_parts}
+use Rattle.core_calc.specs.Redex.{focus_bindings, first_unevaluated, bound_terms, entered_parts, evaluated_parts}
 use Rattle.core_calc.specs.Redex.{IsFocusThrough}
 
 inside_same : {A : Type 0} (outcome : Outcome A) → outcome ≡ inside (λ a. a) outcome
@@ -448,15 +448,15 @@ open_in_front (Some v) term None None e = elim e [ ]
 open_in_front (Some v) term (Some values) (Some part) e = elim e [ ]
 open_in_front None term values first e = tt
 
-open_terms : (terms : Terms) → IsOpenUnless (all_values terms) (first_open (term_list terms))
+open_terms : (terms : Terms) → IsOpenUnless (all_values terms) (first_unevaluated (term_list terms))
 open_terms NoTerms = tt
 open_terms (TermThen term rest) =
-    open_in_front (as_value term) term (all_values rest) (first_open (term_list rest)) (open_terms rest)
+    open_in_front (as_value term) term (all_values rest) (first_unevaluated (term_list rest)) (open_terms rest)
 
-open_bindings : (bindings : Bindings) → IsOpenUnless (bound_values bindings) (first_open (bound_terms bindings))
+open_bindings : (bindings : Bindings) → IsOpenUnless (bound_values bindings) (first_unevaluated (bound_terms bindings))
 open_bindings NoBindings = tt
 open_bindings (BindingThen name bound rest) =
-    open_in_front (as_value bound) bound (bound_values rest) (first_open (bound_terms rest)) (open_bindings rest)
+    open_in_front (as_value bound) bound (bound_values rest) (first_unevaluated (bound_terms rest)) (open_bindings rest)
 
 among_in_front : {A B : Type 0} (o : Option Value) (part : Term) (first : Option Term) (behind : A → B)
     (front : Term → B) (f : Focus A) → IsFocusAmong first f →
@@ -465,16 +465,17 @@ among_in_front (Some v) part None behind front f among = tt
 among_in_front (Some v) part (Some first) behind front f among = among
 among_in_front None part first behind front f among = (refl, refl)
 
-among_terms : (terms : Terms) → IsFocusAmong (first_open (term_list terms)) (focus_terms terms)
+among_terms : (terms : Terms) → IsFocusAmong (first_unevaluated (term_list terms)) (focus_terms terms)
 among_terms NoTerms = tt
 among_terms (TermThen term rest) =
-    among_in_front (as_value term) term (first_open (term_list rest)) (TermThen term)
+    among_in_front (as_value term) term (first_unevaluated (term_list rest)) (TermThen term)
     (λ next. TermThen next rest) (focus_terms rest) (among_terms rest)
 
-among_bindings : (bindings : Bindings) → IsFocusAmong (first_open (bound_terms bindings)) (focus_bindings bindings)
+among_bindings : (bindings : Bindings) →
+    IsFocusAmong (first_unevaluated (bound_terms bindings)) (focus_bindings bindings)
 among_bindings NoBindings = tt
 among_bindings (BindingThen name bound rest) =
-    among_in_front (as_value bound) bound (first_open (bound_terms rest)) (BindingThen name bound)
+    among_in_front (as_value bound) bound (first_unevaluated (bound_terms rest)) (BindingThen name bound)
     (λ next. BindingThen name next rest) (focus_bindings rest) (among_bindings rest)
 
 -- a term with a list of parts
@@ -499,8 +500,8 @@ through_one : (o : Option Value) (part whole : Term) (place : Term → Term) →
 through_one o part whole place = through_front o part None whole place (here whole) refl
 
 through_enter : (o : Option Value) (arguments : Terms) (whole : Term) (inner : Focus Term) →
-    IsFocusThrough (first_open (term_list arguments)) whole inner →
-    IsFocusThrough (first_open (entered_parts o arguments)) whole (enter_focus o (here whole) inner)
+    IsFocusThrough (first_unevaluated (term_list arguments)) whole inner →
+    IsFocusThrough (first_unevaluated (entered_parts o arguments)) whole (enter_focus o (here whole) inner)
 through_enter (Some (WrapValue v from label to)) arguments whole inner through = refl
 through_enter (Some (IntValue n)) arguments whole inner through = through
 through_enter (Some (BoolValue b)) arguments whole inner through = through
@@ -512,47 +513,49 @@ through_enter (Some (LocValue cell is_vector)) arguments whole inner through = t
 through_enter (Some (InjectValue v kept)) arguments whole inner through = through
 through_enter None arguments whole inner through = refl
 
-pub the_step_is_that_of_the_redex-first_open : (term : Term) →
-    IsFocusThrough (first_open (evaluated_parts term)) term (focus term)
-the_step_is_that_of_the_redex-first_open (IntLit n) = refl
-the_step_is_that_of_the_redex-first_open (BoolLit b) = refl
-the_step_is_that_of_the_redex-first_open UnitLit = refl
-the_step_is_that_of_the_redex-first_open (ValueTerm v) = refl
-the_step_is_that_of_the_redex-first_open (Var name) = refl
-the_step_is_that_of_the_redex-first_open (Lambda parameters body type) = refl
-the_step_is_that_of_the_redex-first_open (Group members body) = refl
-the_step_is_that_of_the_redex-first_open (Let bindings body) =
-    through_parts (bound_values bindings) (first_open (bound_terms bindings)) (Let bindings body)
+pub the_step_is_that_of_the_redex-through_parts : (term : Term) →
+    IsFocusThrough (first_unevaluated (evaluated_parts term)) term (focus term)
+the_step_is_that_of_the_redex-through_parts (IntLit n) = refl
+the_step_is_that_of_the_redex-through_parts (BoolLit b) = refl
+the_step_is_that_of_the_redex-through_parts UnitLit = refl
+the_step_is_that_of_the_redex-through_parts (ValueTerm v) = refl
+the_step_is_that_of_the_redex-through_parts (Var name) = refl
+the_step_is_that_of_the_redex-through_parts (Lambda parameters body type) = refl
+the_step_is_that_of_the_redex-through_parts (Group members body) = refl
+the_step_is_that_of_the_redex-through_parts (Let bindings body) =
+    through_parts (bound_values bindings) (first_unevaluated (bound_terms bindings)) (Let bindings body)
     (λ next. Let next body) (focus_bindings bindings) (open_bindings bindings) (among_bindings bindings)
-the_step_is_that_of_the_redex-first_open (Call function arguments) =
-    through_front (as_value function) function (first_open (term_list arguments)) (Call function arguments)
+the_step_is_that_of_the_redex-through_parts (Call function arguments) =
+    through_front (as_value function) function (first_unevaluated (term_list arguments)) (Call function arguments)
     (λ next. Call next arguments)
     (where_some (all_values arguments) (here (Call function arguments))
     (below (Call function) (focus_terms arguments)))
-    (through_parts (all_values arguments) (first_open (term_list arguments)) (Call function arguments) (Call function)
+    (through_parts (all_values arguments) (first_unevaluated (term_list arguments)) (Call function arguments)
+    (Call function)
     (focus_terms arguments) (open_terms arguments) (among_terms arguments))
-the_step_is_that_of_the_redex-first_open (Enter function arguments) =
+the_step_is_that_of_the_redex-through_parts (Enter function arguments) =
     through_enter (as_value function) arguments (Enter function arguments)
     (where_some (all_values arguments) (here (Enter function arguments))
     (below (Enter function) (focus_terms arguments)))
-    (through_parts (all_values arguments) (first_open (term_list arguments)) (Enter function arguments)
+    (through_parts (all_values arguments) (first_unevaluated (term_list arguments)) (Enter function arguments)
     (Enter function) (focus_terms arguments) (open_terms arguments) (among_terms arguments))
-the_step_is_that_of_the_redex-first_open (If condition on_true on_false) =
+the_step_is_that_of_the_redex-through_parts (If condition on_true on_false) =
     through_one (as_value condition) condition (If condition on_true on_false) (λ next. If next on_true on_false)
-the_step_is_that_of_the_redex-first_open (Seq NoTerms) = refl
-the_step_is_that_of_the_redex-first_open (Seq (TermThen term NoTerms)) = refl
-the_step_is_that_of_the_redex-first_open (Seq (TermThen term (TermThen second rest))) =
+the_step_is_that_of_the_redex-through_parts (Seq NoTerms) = refl
+the_step_is_that_of_the_redex-through_parts (Seq (TermThen term NoTerms)) = refl
+the_step_is_that_of_the_redex-through_parts (Seq (TermThen term (TermThen second rest))) =
     through_one (as_value term) term (Seq (TermThen term (TermThen second rest)))
     (λ next. Seq (TermThen next (TermThen second rest)))
-the_step_is_that_of_the_redex-first_open (Cast term from to label) =
+the_step_is_that_of_the_redex-through_parts (Cast term from to label) =
     through_one (as_value term) term (Cast term from to label) (λ next. Cast next from to label)
-the_step_is_that_of_the_redex-first_open (Proj term k) =
+the_step_is_that_of_the_redex-through_parts (Proj term k) =
     through_one (as_value term) term (Proj term k) (λ next. Proj next k)
-the_step_is_that_of_the_redex-first_open (ProjDyn term k label) =
+the_step_is_that_of_the_redex-through_parts (ProjDyn term k label) =
     through_one (as_value term) term (ProjDyn term k label) (λ next. ProjDyn next k label)
-the_step_is_that_of_the_redex-first_open (Tuple parts) =
-    through_parts (all_values parts) (first_open (term_list parts)) (Tuple parts) Tuple (focus_terms parts)
+the_step_is_that_of_the_redex-through_parts (Tuple parts) =
+    through_parts (all_values parts) (first_unevaluated (term_list parts)) (Tuple parts) Tuple (focus_terms parts)
     (open_terms parts) (among_terms parts)
-the_step_is_that_of_the_redex-first_open (Prim operator operands) =
-    through_parts (all_values operands) (first_open (term_list operands)) (Prim operator operands) (Prim operator)
+the_step_is_that_of_the_redex-through_parts (Prim operator operands) =
+    through_parts (all_values operands) (first_unevaluated (term_list operands)) (Prim operator operands)
+    (Prim operator)
     (focus_terms operands) (open_terms operands) (among_terms operands)

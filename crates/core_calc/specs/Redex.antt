@@ -37,8 +37,7 @@ enter_focus None whole inner = whole
 
 -- ---- which parts are evaluated
 
--- the parts that a term evaluates, from left to right, before it takes a step itself. A sequence evaluates its first
--- term where more stand behind it; an Enter its arguments, but none where its function is seen through a cast
+-- an Enter evaluates its arguments, but none where its function is seen through a cast
 abbrev pub entered_parts : Option Value → Terms → List Term
 entered_parts (Some (WrapValue v from label to)) arguments = []
 entered_parts (Some v) arguments = term_list arguments
@@ -48,6 +47,8 @@ abbrev pub bound_terms : Bindings → List Term
 bound_terms NoBindings = []
 bound_terms (BindingThen name bound rest) = bound ∷ bound_terms rest
 
+-- the parts that a term evaluates, from left to right, before it takes a step itself; a sequence evaluates its first
+-- term where more stand behind it
 abbrev pub evaluated_parts : Term → List Term
 evaluated_parts (Let bindings body) = bound_terms bindings
 evaluated_parts (Call function arguments) = function ∷ term_list arguments
@@ -62,9 +63,9 @@ evaluated_parts (Prim operator operands) = term_list operands
 evaluated_parts _ = []
 
 -- the first of these terms that is no value
-abbrev pub first_open : List Term → Option Term
-first_open [] = None
-first_open (term ∷ rest) = where_some (as_value term) (first_open rest) (Some term)
+abbrev pub first_unevaluated : List Term → Option Term
+first_unevaluated [] = None
+first_unevaluated (term ∷ rest) = where_some (as_value term) (first_unevaluated rest) (Some term)
 
 -- ---- the redex, what stands round it, and the nodes above it
 

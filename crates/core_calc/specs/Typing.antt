@@ -229,7 +229,7 @@ module _ (types : TypeRows) where
 
     -- ---- steps
 
-    -- there is an outcome. Where the step goes on, the new store has cell types that begin with the old ones, and with
+    -- the step isn't stuck. Where it goes on, the new store has cell types that begin with the old ones, and with
     -- these the rest holds
     abbrev pub Keeps : {A : Type 0} → (List CellType → A → Type 0) → List CellType → Outcome A → Type 0
     Keeps Holds cells (Goes a store world) =

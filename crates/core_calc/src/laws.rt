@@ -1,13 +1,14 @@
 // Laws of the calculus. Each function has an empty body: its contract is a law, proved for all programs.
 
-ghost use Rattle.std.specs.Prelude.{◌≡◌, ◌≢◌, ◌↔◌, [], IsTrue, ℕ, ℤ, Bool, List, length, Some, None, option_map};
+ghost use Rattle.std.specs.Prelude.{◌≡◌, ◌≢◌, ◌↔◌, [], IsTrue, ℕ, ℤ, Bool, false, List, length, Some, None};
+ghost use Rattle.std.specs.Prelude.{option_map};
 ghost use Rattle.std.specs.Int.{w64};
 ghost use Rattle.std.specs.Int.RustNames.{FitsSigned};
 ghost use Rattle.run_laws.specs.Runs.{Verdict as EndsWith, NeverWrong, StaysEnded, OutputGrows};
 ghost use Rattle.run_laws.specs.Reductions.{ReductionOnlyAddsOutput};
 ghost use Rattle.grift_base.specs.World.{WorldState};
 ghost use Rattle.grift_base.specs.Types.{TypeRow, IntRow, BoolRow, UnitRow, DynRow, TypeRows, row_at};
-ghost use Rattle.grift_base.specs.Types.{TypeHead, equal_heads, head_of};
+ghost use Rattle.grift_base.specs.Types.{TypeHead, equal_heads, head_of, is_dyn};
 ghost use Rattle.grift_base.specs.declared.places.Pos.{Pos};
 ghost use Rattle.grift_base.specs.declared.verdicts.Answer.{Answer};
 ghost use Rattle.grift_base.specs.declared.verdicts.AnswerKind.{AnswerKind};
@@ -15,7 +16,7 @@ ghost use Rattle.grift_base.specs.declared.verdicts.Verdict.TheVariants.{Answer 
 ghost use Rattle.core_calc.specs.Terms.{Term, Value, IntValue, BoolValue, UnitValue, InjectValue, as_value};
 ghost use Rattle.core_calc.specs.Substitution.{substitute};
 ghost use Rattle.core_calc.specs.Outcome.{Store, Stuck, inside};
-ghost use Rattle.core_calc.specs.Redex.{focus, here, evaluated_parts, first_open, IsFocusThrough};
+ghost use Rattle.core_calc.specs.Redex.{focus, here, evaluated_parts, first_unevaluated, IsFocusThrough};
 ghost use Rattle.core_calc.specs.Step.{step};
 ghost use Rattle.core_calc.specs.Typing.{Context, CellType, IsTypeTable, HasType, ValueHasType, StoreHasTypes};
 ghost use Rattle.core_calc.specs.Typing.{StateHasType, Stands, KeepsType, kind_of_type, ProgramTermHasType};
@@ -99,7 +100,7 @@ pub fn the_step_is_that_of_the_redex()
     ensures steps { (types : TypeRows) (store : Store) (world : WorldState) (term : Term)
         → step types store world term ≡ inside (focus term).around (step types store world (focus term).redex) }
     ensures is_whole { (term : Term) → focus (focus term).redex ≡ here (focus term).redex }
-    ensures first_open { (term : Term) → IsFocusThrough (first_open (evaluated_parts term)) term (focus term) }
+    ensures through_parts { (term : Term) → IsFocusThrough (first_unevaluated (evaluated_parts term)) term (focus term) }
 {}
 
 /// A term has no more than one type over a table of distinct rows, and neither has a value.
@@ -113,7 +114,7 @@ pub fn a_term_has_one_type()
 
 /// What a value of a type can be. Seen through its wrappers it has the head of its type: it is a function of that many
 /// parameters, a tuple of that many parts, a box or a vector. A value of type Int is an integer of 64 bits, one of type
-/// Bool a truth value, one of type Unit the unit, and one of type Dyn a value that keeps its type.
+/// Bool a truth value, one of type Unit the unit, and one of type Dyn a value that keeps its type, which isn't Dyn.
 pub fn values_have_their_types_heads()
     ensures heads { (types : TypeRows) (labels : ℕ) (cells : List CellType) (v : Value) (type : ℕ) (row : TypeRow)
         → ValueHasType types labels cells v type → row_at types type ≡ Some row → value_head v ≡ head_of row }
@@ -126,5 +127,6 @@ pub fn values_have_their_types_heads()
         → ValueHasType types labels cells v type → row_at types type ≡ Some UnitRow → v ≡ UnitValue }
     ensures dyns { (types : TypeRows) (labels : ℕ) (cells : List CellType) (v : Value) (type : ℕ)
         → ValueHasType types labels cells v type → row_at types type ≡ Some DynRow
-        → (held : Value) × (kept : ℕ) × (v ≡ InjectValue held kept) }
+        → (held : Value) × (kept : ℕ) × (row : TypeRow) × (v ≡ InjectValue held kept)
+        × ValueHasType types labels cells held kept × (row_at types kept ≡ Some row) × (is_dyn row ≡ false) }
 {}
