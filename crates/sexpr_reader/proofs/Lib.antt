@@ -2,7 +2,6 @@ pub mod Rows
 pub mod Walk
 pub mod Running
 pub mod Readings
-pub mod Numbers
 pub mod Words
 pub mod Lists
 pub mod Taking

@@ -1,9 +1,9 @@
 -- What a token is by itself.
-use Rattle.std.specs.Prelude.{ℕ, ℤ, pos, negsuc, Bool, true, false, ◌==◌, ◌||◌, ◌^◌, ◌&&◌, not, nat_lt, List, length}
+use Rattle.std.specs.Prelude.{ℕ, ℤ, Bool, true, false, ◌==◌, ◌||◌, ◌&&◌, List}
 use Rattle.std.specs.Prelude.{slice_index, codes, bytes_eq, if◌then◌else◌}
 use Rattle.std.specs.Char.{is_ascii_digit}
-use Rattle.std.specs.List.{list_all}
-use Rattle.std.specs.Str.Parse.{without_leading_sign, signed_digits_value}
+use Rattle.std.specs.Str.Parse.{signed_digits_value}
+use Rattle.grift_base.specs.Numbers.{is_integer, fits_in_64_bits}
 use Rattle.grift_base.specs.declared.refusals.RefusalKind.{RefusalKind}
 use Rattle.grift_base.specs.declared.refusals.RefusalKind.TheVariants.{BadByte, NumberRange, NotInProfile}
 use Rattle.sexpr_reader.specs.Datum.{Leaf, integer, truth, symbol}
@@ -16,15 +16,6 @@ abbrev pub alone : Leaf → Meaning
 alone (integer n) = Int n
 alone (truth b) = Truth b
 alone (symbol name) = Symbol name
-
--- an optional sign and one or more digits
-abbrev pub is_integer : List ℕ → Bool
-is_integer text = not (length (without_leading_sign text) == 0) && list_all is_ascii_digit (without_leading_sign text)
-
--- from -9223372036854775808 to 9223372036854775807
-abbrev pub fits_in_64_bits : ℤ → Bool
-fits_in_64_bits (pos n) = nat_lt n (2 ^ 63)
-fits_in_64_bits (negsuc n) = nat_lt n (2 ^ 63)
 
 -- `+`, `-` or `.`
 abbrev pub is_number_sign : ℕ → Bool

@@ -1,15 +1,12 @@
 // What a token is by itself.
 
-ghost use Rattle.std.specs.Prelude.{◌≡◌, true, IfOk, Some, None, if◌then◌else◌};
-ghost use Rattle.std.specs.Char.{is_ascii_digit};
-ghost use Rattle.std.specs.List.{list_all};
-ghost use Rattle.std.specs.Str.Parse.{without_leading_sign, signed_digits_value};
-ghost use Rattle.sexpr_reader.specs.Meaning.{is_integer, begins_like_number, fits_in_64_bits, meaning, atom_meaning};
-ghost use Rattle.sexpr_reader.specs.Meaning.{hash_meaning};
+ghost use Rattle.std.specs.Prelude.{◌≡◌, IfOk};
+ghost use Rattle.sexpr_reader.specs.Meaning.{begins_like_number, meaning, atom_meaning, hash_meaning};
 ghost use Rattle.sexpr_reader.specs.Scanning.{lexeme_of};
 
 use crate::scan::{Lexeme, Shape};
 use grift_base::lists::{Name, OutOfMemory};
+use grift_base::numbers::{integer, is_integer};
 use grift_base::refusals::RefusalKind;
 use std::alloc::Global;
 
@@ -24,30 +21,6 @@ pub enum Meaning {
     Refused(RefusalKind),
 }
 
-// The bytes behind a sign, where there is one.
-fn without_sign(atom: &[u8]) -> &[u8]
-    ensures { result.now ≡ without_leading_sign atom.now }
-{
-    match atom {
-        [b'+' | b'-', digits @ ..] => digits,
-        _ => atom,
-    }
-}
-
-fn are_digits(bytes: &[u8]) -> bool
-    ensures { result ≡ list_all is_ascii_digit bytes.now }
-{
-    bytes.iter().all(|byte| byte.is_ascii_digit())
-}
-
-// Whether these bytes are an optional sign and one or more digits.
-fn is_integer(atom: &[u8]) -> bool
-    ensures { result ≡ is_integer atom.now }
-{
-    let digits = without_sign(atom);
-    !digits.is_empty() && are_digits(digits)
-}
-
 // Whether an atom begins with a digit, or with a sign or a point and a digit.
 fn begins_like_number(atom: &[u8]) -> bool
     ensures { result ≡ begins_like_number atom.now }
@@ -57,15 +30,6 @@ fn begins_like_number(atom: &[u8]) -> bool
         [first, ..] => first.is_ascii_digit(),
         [] => false,
     }
-}
-
-// The number that a sign and digits write; none where it does not fit.
-fn integer(atom: &[u8]) -> Option<i64>
-    requires { is_integer atom.now ≡ true }
-    ensures { let value = signed_digits_value 10 atom.now in
-        result ≡ (if fits_in_64_bits value then Some value else None) }
-{
-    str::from_utf8(atom).ok()?.parse().ok()
 }
 
 fn atom_meaning(alloc: Global, atom: &[u8]) -> Result<Meaning, OutOfMemory>
