@@ -5,7 +5,6 @@ use std::alloc::Global;
 use std::test::Fail;
 use type_graph::rows::{Row, TypeIds};
 use type_graph::tables::TypeTable;
-use type_graph::texts::show_type;
 
 // Puts a row into a table that it fits.
 fn put(types: &mut TypeTable, row: Row) -> Result<TypeId, Fail> {
@@ -49,89 +48,120 @@ fn blended(alloc: Global, types: &mut TypeTable, a: TypeId, b: TypeId) -> Result
     Ok(blend(alloc, types, a, b)?)
 }
 
-fn shown(alloc: Global, types: &TypeTable, t: TypeId) -> Result<String, Fail> {
-    if t.0 >= types.len() {
-        return Err(Fail::from("no type is there"));
+// The types that the tests name by their places.
+fn sample(alloc: Global) -> Result<TypeTable, Fail> {
+    let mut types = TypeTable::new(alloc)?;
+    put(&mut types, Row::Int)?;
+    put(&mut types, Row::Bool)?;
+    put(&mut types, Row::Dyn)?;
+    put(&mut types, Row::Ref(INT))?;
+    put(&mut types, Row::Ref(DYN))?;
+    put(&mut types, Row::Vect(INT))?;
+    put_compound(alloc, &mut types)?;
+    Ok(types)
+}
+
+fn put_compound(alloc: Global, types: &mut TypeTable) -> Result<(), Fail> {
+    function(alloc, types, &[INT], DYN)?;
+    function(alloc, types, &[DYN], BOOL)?;
+    function(alloc, types, &[], INT)?;
+    tuple(alloc, types, &[INT, INT_BOX])?;
+    tuple(alloc, types, &[INT, DYN_BOX])?;
+    tuple(alloc, types, &[INT])?;
+    Ok(())
+}
+
+const INT: TypeId = TypeId(0);
+
+const BOOL: TypeId = TypeId(1);
+
+const DYN: TypeId = TypeId(2);
+
+const INT_BOX: TypeId = TypeId(3);
+
+const DYN_BOX: TypeId = TypeId(4);
+
+const INT_VECTOR: TypeId = TypeId(5);
+
+const FROM_INT: TypeId = TypeId(6);
+
+const TO_BOOL: TypeId = TypeId(7);
+
+const THUNK: TypeId = TypeId(8);
+
+const PAIR: TypeId = TypeId(9);
+
+const LOOSE_PAIR: TypeId = TypeId(10);
+
+const SINGLE: TypeId = TypeId(11);
+
+#[test]
+fn types_are_compared(rt: HostRuntime) -> Result<(), Fail> {
+    let types = sample(rt.alloc())?;
+    let table = [
+        (INT, INT, true, true),
+        (INT, BOOL, false, false),
+        (INT, DYN, true, false),
+        (DYN, THUNK, true, false),
+        (INT_BOX, DYN_BOX, true, true),
+        (INT_BOX, INT_VECTOR, false, false),
+        (FROM_INT, TO_BOOL, true, true),
+        (FROM_INT, THUNK, false, false),
+        (PAIR, LOOSE_PAIR, true, true),
+        (PAIR, SINGLE, false, false),
+    ];
+    for (a, b, consistent, same_head) in table {
+        assert_eq!(rt;
+            compared(rt.alloc(), &types, a, b)?,
+            (consistent, same_head)
+        );
+        assert_eq!(rt;
+            compared(rt.alloc(), &types, b, a)?,
+            (consistent, same_head)
+        );
     }
-    let text = show_type(alloc, types, t)?;
-    let mut shown = String::new(alloc);
-    shown.push_str(str::from_utf8(text.as_slice())?)?;
-    Ok(shown)
+    Ok(())
 }
 
 #[test]
-fn types_are_compared_and_blended(rt: HostRuntime) -> Result<(), Fail> {
-    let alloc = rt.alloc();
-    let mut types = TypeTable::new(alloc)?;
-    let int = put(&mut types, Row::Int)?;
-    let truth = put(&mut types, Row::Bool)?;
-    let dynamic = put(&mut types, Row::Dyn)?;
-    let int_box = put(&mut types, Row::Ref(int))?;
-    let dyn_box = put(&mut types, Row::Ref(dynamic))?;
-    let int_vector = put(&mut types, Row::Vect(int))?;
-    let from_int = function(alloc, &mut types, &[int], dynamic)?;
-    let to_truth = function(alloc, &mut types, &[dynamic], truth)?;
-    let to_int = function(alloc, &mut types, &[dynamic], int)?;
-    let thunk = function(alloc, &mut types, &[], int)?;
-    let pair = tuple(alloc, &mut types, &[int, int_box])?;
-    let loose = tuple(alloc, &mut types, &[int, dyn_box])?;
-    let other = tuple(alloc, &mut types, &[truth, dyn_box])?;
-    let single = tuple(alloc, &mut types, &[int])?;
+fn types_are_blended(rt: HostRuntime) -> Result<(), Fail> {
+    let mut types = sample(rt.alloc())?;
     let table = [
-        (int, int, (true, true)),
-        (int, truth, (false, false)),
-        (int, dynamic, (true, false)),
-        (dynamic, thunk, (true, false)),
-        (int_box, dyn_box, (true, true)),
-        (int_box, int_vector, (false, false)),
-        (from_int, to_truth, (true, true)),
-        (to_truth, to_int, (false, true)),
-        (from_int, thunk, (false, false)),
-        (pair, loose, (true, true)),
-        (pair, other, (false, true)),
-        (pair, single, (false, false)),
+        (INT, INT, INT),
+        (INT, DYN, DYN),
+        (DYN, THUNK, DYN),
+        (INT_BOX, DYN_BOX, DYN_BOX),
+        (PAIR, LOOSE_PAIR, LOOSE_PAIR),
+        // the row of `(Dyn -> Dyn)` was not there before
+        (FROM_INT, TO_BOOL, TypeId(12)),
     ];
     for (a, b, expected) in table {
-        assert_eq!(rt; compared(alloc, &types, a, b)?, expected);
-        assert_eq!(rt; compared(alloc, &types, b, a)?, expected);
+        assert_eq!(rt; blended(rt.alloc(), &mut types, a, b)?, expected);
+        assert_eq!(rt; blended(rt.alloc(), &mut types, b, a)?, expected);
     }
-    let table = [
-        (int, int, "Int"),
-        (int, dynamic, "Dyn"),
-        (dynamic, thunk, "Dyn"),
-        (int_box, dyn_box, "(Ref Dyn)"),
-        (from_int, to_truth, "(Dyn -> Dyn)"),
-        (from_int, to_int, "(Dyn -> Dyn)"),
-        (pair, loose, "(Tuple Int (Ref Dyn))"),
-    ];
-    for (a, b, expected) in table {
-        let both = blended(alloc, &mut types, a, b)?;
-        let text = shown(alloc, &types, both)?;
-        assert_eq!(rt; text.as_str(), expected);
-        assert_eq!(rt; blended(alloc, &mut types, b, a)?, both);
-    }
-    // only the row of `(Dyn -> Dyn)` was not there before
-    assert_eq!(rt; types.len(), 15);
+    assert_eq!(rt; types.len(), 13);
     Ok(())
+}
+
+// The pair of this type with itself, the pair of that with itself, and so on forty times.
+fn pairs_of_pairs(alloc: Global, types: &mut TypeTable, part: TypeId) -> Result<TypeId, Fail> {
+    let mut pair = part;
+    for _ in 0..40 {
+        pair = tuple(alloc, types, &[pair, pair])?;
+    }
+    Ok(pair)
 }
 
 // Two types of forty shared rows each, which are trees of 2 to the 41 leaves.
 #[test]
 fn types_of_shared_rows_take_no_time(rt: HostRuntime) -> Result<(), Fail> {
-    let alloc = rt.alloc();
-    let mut types = TypeTable::new(alloc)?;
-    let int = put(&mut types, Row::Int)?;
-    let dynamic = put(&mut types, Row::Dyn)?;
-    let mut first = function(alloc, &mut types, &[int], dynamic)?;
-    let mut second = function(alloc, &mut types, &[dynamic], int)?;
-    for _ in 0..40 {
-        first = tuple(alloc, &mut types, &[first, first])?;
-        second = tuple(alloc, &mut types, &[second, second])?;
-    }
-    assert_eq!(rt; types.len(), 84);
-    assert_eq!(rt; compared(alloc, &types, first, second)?, (true, true));
-    let both = blended(alloc, &mut types, first, second)?;
-    assert_eq!(rt; types.len(), 125);
-    assert_eq!(rt; both, TypeId(124));
+    let mut types = sample(rt.alloc())?;
+    let first = pairs_of_pairs(rt.alloc(), &mut types, FROM_INT)?;
+    let second = pairs_of_pairs(rt.alloc(), &mut types, TO_BOOL)?;
+    assert_eq!(rt; types.len(), 92);
+    assert_eq!(rt; compared(rt.alloc(), &types, first, second)?, (true, true));
+    let both = blended(rt.alloc(), &mut types, first, second)?;
+    assert_eq!(rt; types.len(), 133);
+    assert_eq!(rt; both, TypeId(132));
     Ok(())
 }
