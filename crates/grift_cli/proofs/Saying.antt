@@ -26,7 +26,7 @@ use Rattle.rv_machine.specs.Start.{IsRegionSize, IsStackSize, start_of, fresh_wo
 use Rattle.rv_machine.specs.Mach.{mach, moment_of}
 use Rattle.rv_machine.proofs.Public.{run_is_its_turns-states}
 use Rattle.grift_cli.specs.Answers.{IsFault}
-use Rattle.grift_cli.specs.Calls.{CallSeen, PutsNothing, AsksFor, FailsNoLoad, HasLoaded, most_of}
+use Rattle.grift_cli.specs.Calls.{CallSeen, PutsNothing, AsksFor, FailsNoLoad, HasLoaded, size_limit}
 use Rattle.grift_cli.specs.Commands.{Command, Run, Exec, file_of, IsCommand}
 use Rattle.grift_cli.specs.Elaboration.{HasExprType, place_of}
 use Rattle.grift_cli.specs.Outcome.{IsCompiled, IsImageFile, HasEndedBy, ComesTo, Says}
@@ -109,7 +109,7 @@ comes_to limits image program verdict r k f t =
 -- a file that was loaded
 pub has_loaded : (call : CallSeen) (command : Command) (bytes items : List ℕ) → IsCommand call.words command
     → AsksFor (file_of command ∷ []) call.shelf → FailsNoLoad call.shelf → bytes ≡ items
-    → length items ≤ most_of command → IfSome (call.shelf.holds (file_of command)) (λ held. items ≡ held)
+    → length items ≤ size_limit command → IfSome (call.shelf.holds (file_of command)) (λ held. items ≡ held)
     → HasLoaded call command bytes
 has_loaded call command bytes items is asked count e short h = record {
   has = record { words = is; asks = asked };
@@ -125,7 +125,7 @@ no_names (Some names) = ap Some (sym (append-nil names))
 
 -- a file that was not loaded
 pub says_load_fault : (call : CallSeen) (command : Command) (fault : LoadFault) → IsCommand call.words command
-    → PutsNothing call → Loads {Z = Global} (call.shelf.holds (file_of command)) (most_of command) (Err fault)
+    → PutsNothing call → Loads {Z = Global} (call.shelf.holds (file_of command)) (size_limit command) (Err fault)
     → call.shelf.asked_after
     ≡ option_map (asked_after {A = Vec ℕ Global} (Err fault) (file_of command)) call.shelf.asked
     → Counts (load_failed {A = Vec ℕ Global} (Err fault)) call.shelf.faults call.shelf.faults_after

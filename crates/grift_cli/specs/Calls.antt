@@ -31,17 +31,17 @@ pub record HasCommand (call : CallSeen) (command : Command) : Type 0 where
   pub words : IsCommand call.words command
   pub asks : AsksFor (file_of command ∷ []) call.shelf
 
--- how many bytes the file of a command may have
-abbrev pub most_of : Command → ℕ
-most_of (Run file limits image) = source_limit
-most_of (Exec file limits) = image_limit
+-- how many bytes the file of a command may have at most
+abbrev pub size_limit : Command → ℕ
+size_limit (Run file limits image) = source_limit
+size_limit (Exec file limits) = image_limit
 
 -- these bytes were loaded: they are no more than the command's file may have, and they are what the name holds, where
 -- that is told
 pub record HasLoaded (call : CallSeen) (command : Command) (bytes : List ℕ) : Type 0 where
   pub has : HasCommand call command
   pub shelf : FailsNoLoad call.shelf
-  pub short : length bytes ≤ most_of command
+  pub short : length bytes ≤ size_limit command
   pub held : IfSome (call.shelf.holds (file_of command)) (λ held. bytes ≡ held)
 
 -- ---- calls that come to no file
@@ -65,7 +65,7 @@ pub record HasLongFile (call : CallSeen) : Type 0 where
   pub command : Command
   pub has : HasCommand call command
   pub shelf : FailsNoLoad call.shelf
-  pub long : IfSome (call.shelf.holds (file_of command)) (λ bytes. most_of command < length bytes)
+  pub long : IfSome (call.shelf.holds (file_of command)) (λ bytes. size_limit command < length bytes)
   pub nothing : PutsNothing call
 
 -- no memory was left for the file
