@@ -62,15 +62,19 @@ abbrev sum_of : List ℕ → ℕ
 sum_of bytes = 64 + statics_len bytes + code_len bytes + 8 * label_count bytes
 
 multiples_decided : (bytes : List ℕ) → Decided (AreMultiples bytes)
-multiples_decided bytes = both3 (cases_eq (statics_len bytes % 8) 0) (cases_eq (code_len bytes % 8) 0) (cases_eq (entry bytes % 4) 0)
+multiples_decided bytes =
+    both3 (cases_eq (statics_len bytes % 8) 0) (cases_eq (code_len bytes % 8) 0) (cases_eq (entry bytes % 4) 0)
 
 range_decided : (bytes : List ℕ) → Decided (AreInRange bytes)
-range_decided bytes = both3 (at_most 8 (code_len bytes)) (below (label_count bytes) 4294967295) (below (entry bytes) (code_len bytes))
+range_decided bytes =
+    both3 (at_most 8 (code_len bytes)) (below (label_count bytes) 4294967295) (below (entry bytes) (code_len bytes))
 
 rest_decided : (bytes : List ℕ) → Decided (AreSpare bytes × (sum_of bytes ≡ length bytes))
-rest_decided bytes = both (both (cases_eq (word_at bytes 48) 0) (cases_eq (word_at bytes 56) 0)) (cases_eq (sum_of bytes) (length bytes))
+rest_decided bytes =
+    both (both (cases_eq (word_at bytes 48) 0) (cases_eq (word_at bytes 56) 0)) (cases_eq (sum_of bytes) (length bytes))
 
-image_of : (bytes : List ℕ) → HasMagic bytes → HasLength bytes → AreMultiples bytes → AreInRange bytes → AreSpare bytes × (sum_of bytes ≡ length bytes) → IsImage bytes
+image_of : (bytes : List ℕ) → HasMagic bytes → HasLength bytes → AreMultiples bytes → AreInRange bytes
+    → AreSpare bytes × (sum_of bytes ≡ length bytes) → IsImage bytes
 image_of bytes m l a r s = record {
   header = l.0;
   magic = m.1;
@@ -90,8 +94,13 @@ image_of bytes m l a r s = record {
 image_decided : (bytes : List ℕ) → HasMagic bytes → HasLength bytes → Decided (IsImage bytes)
 image_decided bytes m l =
     same
-    (λ (p : AreMultiples bytes × AreInRange bytes × (AreSpare bytes × (sum_of bytes ≡ length bytes))). image_of bytes m l p.0 p.1 p.2)
-    (λ i. ((i.statics, i.code, i.entry_place), (i.some_code, i.labels, i.entry_inside), ((i.spare, i.last_spare), i.sections)))
+    (λ (p : AreMultiples bytes × AreInRange bytes × (AreSpare bytes × (sum_of bytes ≡ length bytes))). image_of bytes
+    m l p.0 p.1 p.2)
+    (λ i. (
+      (i.statics, i.code, i.entry_place),
+      (i.some_code, i.labels, i.entry_inside),
+      ((i.spare, i.last_spare), i.sections),
+    ))
     (both3 (multiples_decided bytes) (range_decided bytes) (rest_decided bytes))
 
 -- ---- the first test that fails

@@ -1,19 +1,23 @@
-pub mod LittleEndian
+mod LittleEndian
 mod Faults
-pub mod Images
-pub mod Turns
-pub mod Finding
-pub mod Scratch
-pub mod Standing
-pub mod Counting
-pub mod Doing
-pub mod Placing
-pub mod Starting
-pub mod Claims
-pub mod Sums
-pub mod Distances
-pub mod Places
-pub mod Words
-pub mod Usual
-pub mod Holding
-pub mod Samples
+mod Images
+mod Turns
+mod Finding
+mod Scratch
+mod Standing
+mod Counting
+mod Doing
+mod Placing
+mod Starting
+mod Claims
+mod Sums
+mod Distances
+mod Places
+mod Insts
+mod Plain
+mod Holding
+mod Addresses
+mod Assembled
+mod Programs
+mod Samples
+pub mod Public

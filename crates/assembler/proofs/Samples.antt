@@ -37,9 +37,14 @@ two_items =
     let items : List RealItem = Op (Addi 11 0 (pos 42)) ∷ Op Ecall ∷ [] in
     record {
       some = (0, Op (Addi 11 0 (pos 42)), omega arith, refl, refl);
-      marks = All-cons (NamesOne items) (Op (Addi 11 0 (pos 42))) (Op Ecall ∷ []) tt (All-cons (NamesOne items) (Op Ecall) [] tt (All-nil (NamesOne items)));
-      scratch = All-cons Spares (Op (Addi 11 0 (pos 42))) (Op Ecall ∷ []) set_spares (All-cons Spares (Op Ecall) [] none (All-nil Spares));
-      placed = All-cons IsPlaced (Op (Addi 11 0 (pos 42))) (Op Ecall ∷ []) refl (All-cons IsPlaced (Op Ecall) [] refl (All-nil IsPlaced));
+      marks = All-cons (NamesOne items) (Op (Addi 11 0 (pos 42))) (Op Ecall ∷ []) tt
+          (All-cons (NamesOne items) (Op Ecall) [] tt (All-nil (NamesOne items)));
+      scratch =
+          All-cons Spares (Op (Addi 11 0 (pos 42))) (Op Ecall ∷ []) set_spares
+          (All-cons Spares (Op Ecall) [] none (All-nil Spares));
+      placed =
+          All-cons IsPlaced (Op (Addi 11 0 (pos 42))) (Op Ecall ∷ []) refl
+          (All-cons IsPlaced (Op Ecall) [] refl (All-nil IsPlaced));
     }
 
 pub loop_items : CanBeAssembled (Mark 7 ∷ Op (Addi 11 0 (pos 42)) ∷ Jump 0 7 ∷ [])
@@ -47,7 +52,15 @@ loop_items =
     let items : List RealItem = Mark 7 ∷ Op (Addi 11 0 (pos 42)) ∷ Jump 0 7 ∷ [] in
     record {
       some = (1, Op (Addi 11 0 (pos 42)), omega arith, refl, refl);
-      marks = All-cons (NamesOne items) (Mark 7) (Op (Addi 11 0 (pos 42)) ∷ Jump 0 7 ∷ []) tt (All-cons (NamesOne items) (Op (Addi 11 0 (pos 42))) (Jump 0 7 ∷ []) tt (All-cons (NamesOne items) (Jump 0 7) [] refl (All-nil (NamesOne items))));
-      scratch = All-cons Spares (Mark 7) (Op (Addi 11 0 (pos 42)) ∷ Jump 0 7 ∷ []) none (All-cons Spares (Op (Addi 11 0 (pos 42))) (Jump 0 7 ∷ []) set_spares (All-cons Spares (Jump 0 7) [] (other 0 [] (omega arith) none) (All-nil Spares)));
-      placed = All-cons IsPlaced (Mark 7) (Op (Addi 11 0 (pos 42)) ∷ Jump 0 7 ∷ []) tt (All-cons IsPlaced (Op (Addi 11 0 (pos 42))) (Jump 0 7 ∷ []) refl (All-cons IsPlaced (Jump 0 7) [] tt (All-nil IsPlaced)));
+      marks = All-cons (NamesOne items) (Mark 7) (Op (Addi 11 0 (pos 42)) ∷ Jump 0 7 ∷ []) tt
+          (All-cons (NamesOne items) (Op (Addi 11 0 (pos 42))) (Jump 0 7 ∷ []) tt
+          (All-cons (NamesOne items) (Jump 0 7) [] refl (All-nil (NamesOne items))));
+      scratch =
+          All-cons Spares (Mark 7) (Op (Addi 11 0 (pos 42)) ∷ Jump 0 7 ∷ []) none
+          (All-cons Spares (Op (Addi 11 0 (pos 42))) (Jump 0 7 ∷ []) set_spares
+          (All-cons Spares (Jump 0 7) [] (other 0 [] (omega arith) none) (All-nil Spares)));
+      placed =
+          All-cons IsPlaced (Mark 7) (Op (Addi 11 0 (pos 42)) ∷ Jump 0 7 ∷ []) tt
+          (All-cons IsPlaced (Op (Addi 11 0 (pos 42))) (Jump 0 7 ∷ []) refl
+          (All-cons IsPlaced (Jump 0 7) [] tt (All-nil IsPlaced)));
     }

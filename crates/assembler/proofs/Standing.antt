@@ -1,8 +1,10 @@
 -- Items that stand in code, and the turns that make their instructions.
-use Rattle.std.proofs.Common.{ℕ, suc, ◌+◌, ◌*◌, ◌/◌, ◌^◌, ◌<◌, ◌≤◌, ◌≡◌, ◌≢◌, Bool, true, false, List, [], ◌∷◌, ◌++◌, drop, Option, Some, None, refl, sym, ◌∙◌, ap, subst, arith}
+use Rattle.std.proofs.Common.{ℕ, suc, ◌+◌, ◌*◌, ◌/◌, ◌^◌, ◌<◌, ◌≤◌, ◌≡◌, ◌≢◌, Bool, true, false, List, [], ◌∷◌, ◌++◌}
+use Rattle.std.proofs.Common.{drop, Option, Some, None, refl, sym, ◌∙◌, ap, subst, arith}
+use Rattle.std.proofs.lemmas.Bool.{true≢false}
 use Rattle.std.specs.Prelude.{pos, ◌==◌, ◌&&◌, nat_le, nat_lt}
 use Rattle.run_laws.specs.Machines.{Go, Reaches}
-use Rattle.run_laws.proofs.Simulation.{by_step}
+use Rattle.run_laws.proofs.Public.{by_step}
 use Rattle.rv_isa.specs.declared.inst.Inst.{Inst}
 use Rattle.rv_isa.specs.declared.inst.Inst.TheVariants.{Lui, Addi, Slli, Srli, Ecall, Ebreak}
 use Rattle.rv_isa.specs.declared.real.RealItem.{RealItem}
@@ -14,10 +16,10 @@ use Rattle.rv_machine.specs.State.{Layout, State, Halt, Turn, reg}
 use Rattle.rv_machine.specs.Turn.{act, act_if, put, plus, half, shift_left, shift_right, next_pc}
 use Rattle.rv_machine.specs.Mach.{step_by}
 use Rattle.run_laws.specs.Runs.{Ending}
-use Rattle.rv_machine.specs.Real.{Told, Here, item_at, told_item, told_here, told_or_fetched, told_turn, told_machine}
-use Rattle.rv_machine.proofs.Memory.{load_same}
+use Rattle.rv_machine.specs.Real.{Setting, Here, item_at, call_of_item, call_here, call_or_fetched, turn_in, machine_in}
+use Rattle.rv_machine.proofs.Public.{load_same}
 use Rattle.assembler.specs.Layout.{address_of}
-use Rattle.assembler.specs.Forms.{chunk_of, far_insts}
+use Rattle.assembler.specs.Expansion.{chunk_of, far_insts}
 use Rattle.assembler.specs.Conditions.{is_mark}
 use Rattle.assembler.specs.Following.{IsLike}
 use Rattle.assembler.proofs.Finding.{head_of, width_at, Found, found, same_place}
@@ -29,20 +31,18 @@ abbrev pub calls : RealItem → Bool
 calls (Op i) = is_call i
 calls item = false
 
-true_is_not_false : true ≡ false → ⊥
-true_is_not_false e = cc
+no_call_op : (setting : Setting) (place : ℕ) (i : Inst) → is_call i ≡ false → call_of_item setting place (Op i) ≡ None
+no_call_op setting place Ecall c = absurd (true≢false c)
+no_call_op setting place Ebreak c = absurd (true≢false c)
+no_call_op setting place _ c = refl
 
-not_told_op : (told : Told) (place : ℕ) (i : Inst) → is_call i ≡ false → told_item told place (Op i) ≡ None
-not_told_op told place Ecall c = absurd (true_is_not_false c)
-not_told_op told place Ebreak c = absurd (true_is_not_false c)
-not_told_op told place _ c = refl
-
-pub not_told_item : (told : Told) (place : ℕ) (item : RealItem) → calls item ≡ false → told_item told place item ≡ None
-not_told_item told place (Mark mark) c = refl
-not_told_item told place (Jump rd mark) c = refl
-not_told_item told place (Branch cond a b mark) c = refl
-not_told_item told place (Address rd mark) c = refl
-not_told_item told place (Op i) c = not_told_op told place i c
+pub no_call_item : (setting : Setting) (place : ℕ) (item : RealItem) → calls item ≡ false
+    → call_of_item setting place item ≡ None
+no_call_item setting place (Mark mark) c = refl
+no_call_item setting place (Jump rd mark) c = refl
+no_call_item setting place (Branch cond a b mark) c = refl
+no_call_item setting place (Address rd mark) c = refl
+no_call_item setting place (Op i) c = no_call_op setting place i c
 
 module _ (l : Layout) (m0 : Memory) where
   -- the word lies in code
@@ -62,40 +62,50 @@ module _ (l : Layout) (m0 : Memory) where
   in_code a b c h k = grind arith
 
   pub same_word : (m : Memory) (at : ℕ) → Intact m → InCode at → load_bytes 4 m at ≡ load_bytes 4 m0 at
-  same_word m at h k = load_same 4 m m0 at at (λ i less. let a = k.0 in let b = k.1 in h (at + i) (omega arith) (omega arith))
+  same_word m at h k =
+      load_same 4 m m0 at at (λ i less. let a = k.0 in let b = k.1 in h (at + i) (omega arith) (omega arith))
 
   module _ (items : List RealItem) (ecall ebreak : ℕ → State → Turn) where
     abbrev pub address : ℕ → ℕ
     address = address_of items l.code
 
-    abbrev pub told : Told
-    told = record { address = address; ecall = ecall; ebreak = ebreak }
+    abbrev pub setting : Setting
+    setting = record { address = address; ecall = ecall; ebreak = ebreak }
 
-    turn_known : (t : State) (o : Option (State → Turn)) → t.layout ≡ l → InCode t.pc → told_here told (item_at address items t.pc) ≡ o → told_turn items told t ≡ told_or_fetched o t
-    unfolding told_turn
+    turn_known : (t : State) (o : Option (State → Turn)) → t.layout ≡ l → InCode t.pc
+        → call_here setting (item_at address items t.pc) ≡ o → turn_in items setting t ≡ call_or_fetched o t
+    unfolding turn_in
     turn_known t o e h k =
         let above : t.layout.code ≤ t.pc = rw e h.0 in
         let below : t.pc < t.layout.region = let a = h.1 in rw e (omega arith) in
         rw (in_code t.layout.code t.pc t.layout.region above below, k) refl
 
     -- an item that begins here
-    pub turn_told : (t : State) (here : Here) (does : State → Turn) → t.layout ≡ l → InCode t.pc → item_at address items t.pc ≡ Some here → told_item told here.place here.item ≡ Some does → told_turn items told t ≡ does t
-    turn_told t here does e h k d = turn_known t (Some does) e h (ap (told_here told) k ∙ d)
+    pub turn_of_call : (t : State) (here : Here) (does : State → Turn) → t.layout ≡ l → InCode t.pc
+        → item_at address items t.pc ≡ Some here → call_of_item setting here.place here.item ≡ Some does
+        → turn_in items setting t ≡ does t
+    turn_of_call t here does e h k d = turn_known t (Some does) e h (ap (call_here setting) k ∙ d)
 
-    module _ (place : ℕ) (item : RealItem) (rest : List RealItem) (there : drop place items ≡ item ∷ rest) (m : is_mark item ≡ false) (c : calls item ≡ false) where
-      not_told_at : (x : ℕ) (o : Option Here) → item_at address items x ≡ o → address place ≤ x → x < address place + 4 * width_at items l.code place item → told_here told o ≡ None
-      not_told_at x None k a b = refl
-      not_told_at x (Some here) k a b =
+    module _ (place : ℕ) (item : RealItem) (rest : List RealItem) (there : drop place items ≡ item ∷ rest)
+        (m : is_mark item ≡ false) (c : calls item ≡ false) where
+      no_call_within : (x : ℕ) (o : Option Here) → item_at address items x ≡ o → address place ≤ x
+          → x < address place + 4 * width_at items l.code place item → call_here setting o ≡ None
+      no_call_within x None k a b = refl
+      no_call_within x (Some here) k a b =
           let f : Found items l.code x here = found items l.code x here k in
           let at = f.address in
-          let p : place ≡ here.place = same_place items l.code place here.place item here.item rest f.rest there f.stands m f.item (omega arith) (omega arith) in
+          let p : place ≡ here.place = same_place items l.code place here.place item here.item rest f.rest there
+          f.stands m f.item (omega arith) (omega arith) in
           let same : drop place items ≡ here.item ∷ f.rest = ap (λ n. drop n items) p ∙ f.stands in
           let i : item ≡ here.item = head_of item here.item rest f.rest (sym there ∙ same) in
-          ap (λ x1. told_item told here.place x1) (sym i) ∙ not_told_item told here.place item c
+          ap (λ x1. call_of_item setting here.place x1) (sym i) ∙ no_call_item setting here.place item c
 
-      pub turn_in : (t : State) (i : Inst) (is : List Inst) → t.layout ≡ l → Intact t.memory → address place ≤ t.pc → t.pc < address place + 4 * width_at items l.code place item → Stands t.pc (i ∷ is) → told_turn items told t ≡ act i t
-      turn_in t i is e h a b s =
-          turn_known t None e s.1 (not_told_at t.pc (item_at address items t.pc) refl a b) ∙ ap (λ o. act_if o t) (ap decode_of (same_word t.memory t.pc h s.1) ∙ s.0)
+      pub turn_of_inst : (t : State) (i : Inst) (is : List Inst) → t.layout ≡ l → Intact t.memory
+          → address place ≤ t.pc → t.pc < address place + 4 * width_at items l.code place item → Stands t.pc (i ∷ is)
+          → turn_in items setting t ≡ act i t
+      turn_of_inst t i is e h a b s =
+          turn_known t None e s.1 (no_call_within t.pc (item_at address items t.pc) refl a b)
+          ∙ ap (λ o. act_if o t) (ap decode_of (same_word t.memory t.pc h s.1) ∙ s.0)
 
       -- so many words of the item are done, and nothing but x31 has changed; these instructions are left
       pub record Within (s : State) (n : ℕ) (is : List Inst) (t : State) : Type 0 where
@@ -109,36 +119,56 @@ module _ (l : Layout) (m0 : Memory) where
         pub pc_next : (n : ℕ) (t : State) (i : Inst) (is : List Inst) → Within s n (i ∷ is) t → next_pc t ≡ t.pc + 4
         pc_next n t i is w = let a = w.code.1.1 in omega arith
 
-        pub turn_within : (n : ℕ) (t : State) (i : Inst) (is : List Inst) → Within s n (i ∷ is) t → n < width_at items l.code place item → told_turn items told t ≡ act i t
-        turn_within n t i is w h = let p = w.pc in turn_in t i is w.layout w.intact (omega arith) (omega arith) w.code
+        pub turn_within : (n : ℕ) (t : State) (i : Inst) (is : List Inst) → Within s n (i ∷ is) t
+            → n < width_at items l.code place item → turn_in items setting t ≡ act i t
+        turn_within n t i is w h =
+            let p = w.pc in turn_of_inst t i is w.layout w.intact (omega arith) (omega arith) w.code
 
         set_scratch : (v : ℕ) (t : State) (r : ℕ) → r ≢ 31 → set_reg 31 v t.regs r ≡ t.regs r
         set_scratch v t r h = let e : (r == 31) ≡ false = grind arith in rw e refl
 
-        module _ {V : Type 0} (ending : Halt → Ending V) (Q : State → Type 0) where
+        module _ {V : Type 0} (reading : Halt → Ending V) (Q : State → Type 0) where
           abbrev Way : State → Type 0
           Way t = IsLike t s
 
           -- one turn that changes x31
-          pub puts : (k n v : ℕ) (t : State) (i : Inst) (is : List Inst) → Within s n (i ∷ is) t → n < width_at items l.code place item → act i t ≡ put 31 v t → ((t1 : State) → Within s (suc n) is t1 → reg t1 31 ≡ v → Reaches (told_machine ending items told) Way Q k t1) → Reaches (told_machine ending items told) Way Q (suc k) t
+          pub puts : (k n v : ℕ) (t : State) (i : Inst) (is : List Inst) → Within s n (i ∷ is) t
+              → n < width_at items l.code place item → act i t ≡ put 31 v t
+              → ((t1 : State) → Within s (suc n) is t1 → reg t1 31 ≡ v
+              → Reaches (machine_in reading items setting) Way Q k t1)
+              → Reaches (machine_in reading items setting) Way Q (suc k) t
           puts k n v t i is w h a go =
               let t1 : State = record t { regs = set_reg 31 v t.regs; pc = next_pc t } in
               let p = w.pc in
               let q = pc_next n t i is w in
-              by_step (told_machine ending items told) Way Q k t (Go t1) (ap (step_by ending t) (turn_within n t i is w h ∙ a)) w.like
+              by_step (machine_in reading items setting) Way Q k t (Go t1)
+              (ap (step_by reading t) (turn_within n t i is w h ∙ a)) w.like
               (go t1 (record {
-                like = record { layout = w.like.layout; regs = λ r z. set_scratch v t r z ∙ w.like.regs r z; memory = w.like.memory; world = w.like.world };
+                like = record {
+                  layout = w.like.layout;
+                  regs = λ r z. set_scratch v t r z ∙ w.like.regs r z;
+                  memory = w.like.memory;
+                  world = w.like.world;
+                };
                 layout = w.layout;
                 intact = w.intact;
                 pc = omega arith;
                 code = subst (λ x. Stands x is) (sym q) w.code.2;
               }) refl)
 
-          nine : (n : ℕ) (is : List Inst) (t : State) → Within s (suc (suc (suc (suc (suc (suc (suc (suc (suc n))))))))) is t → Within s (n + 9) is t
-          nine n is t w = let e : suc (suc (suc (suc (suc (suc (suc (suc (suc n)))))))) ≡ n + 9 = omega arith in subst (λ x. Within s x is t) e w
+          nine : (n : ℕ) (is : List Inst) (t : State)
+              → Within s (suc (suc (suc (suc (suc (suc (suc (suc (suc n))))))))) is t → Within s (n + 9) is t
+          nine n is t w =
+              let e : suc (suc (suc (suc (suc (suc (suc (suc (suc n)))))))) ≡ n + 9 = omega arith in
+              subst (λ x. Within s x is t) e w
 
           -- the nine instructions that put a word into x31
-          pub far : (k n word : ℕ) (t : State) (is : List Inst) → word < 2 ^ 64 → Within s n (far_insts word ++ is) t → n + 9 ≤ width_at items l.code place item → ((t1 : State) → Within s (n + 9) is t1 → reg t1 31 ≡ word → Reaches (told_machine ending items told) Way Q k t1) → Reaches (told_machine ending items told) Way Q (suc (suc (suc (suc (suc (suc (suc (suc (suc k))))))))) t
+          pub far : (k n word : ℕ) (t : State) (is : List Inst) → word < 2 ^ 64 → Within s n (far_insts word ++ is) t
+              → n + 9 ≤ width_at items l.code place item
+              → ((t1 : State) → Within s (n + 9) is t1 → reg t1 31 ≡ word
+              → Reaches (machine_in reading items setting) Way Q k t1)
+              → Reaches (machine_in reading items setting) Way Q
+              (suc (suc (suc (suc (suc (suc (suc (suc (suc k))))))))) t
           far k n word t is h w room go =
               let v2 : ℕ = add_chunk (high_part word) word 3 in
               let v3 : ℕ = shift_left v2 11 in
@@ -146,13 +176,23 @@ module _ (l : Layout) (m0 : Memory) where
               let v5 : ℕ = shift_left v4 11 in
               let v6 : ℕ = add_chunk v5 word 1 in
               let v7 : ℕ = shift_left v6 11 in
-              puts (suc (suc (suc (suc (suc (suc (suc (suc k)))))))) n (half (word / 2 ^ 44 * 2 ^ 12)) t (Lui 31 (word / 2 ^ 44)) _ w (omega arith) refl (λ t1 w1 e1.
-              puts (suc (suc (suc (suc (suc (suc (suc k))))))) (suc n) (high_part word) t1 (Srli 31 31 1) _ w1 (omega arith) (ap (λ x. put 31 (shift_right x 1) t1) e1) (λ t2 w2 e2.
-              puts (suc (suc (suc (suc (suc (suc k)))))) (suc (suc n)) v2 t2 (Addi 31 31 (pos (chunk_of word 3))) _ w2 (omega arith) (ap (λ x. put 31 (plus x (pos (chunk_of word 3))) t2) e2) (λ t3 w3 e3.
-              puts (suc (suc (suc (suc (suc k))))) (suc (suc (suc n))) v3 t3 (Slli 31 31 11) _ w3 (omega arith) (ap (λ x. put 31 (shift_left x 11) t3) e3) (λ t4 w4 e4.
-              puts (suc (suc (suc (suc k)))) (suc (suc (suc (suc n)))) v4 t4 (Addi 31 31 (pos (chunk_of word 2))) _ w4 (omega arith) (ap (λ x. put 31 (plus x (pos (chunk_of word 2))) t4) e4) (λ t5 w5 e5.
-              puts (suc (suc (suc k))) (suc (suc (suc (suc (suc n))))) v5 t5 (Slli 31 31 11) _ w5 (omega arith) (ap (λ x. put 31 (shift_left x 11) t5) e5) (λ t6 w6 e6.
-              puts (suc (suc k)) (suc (suc (suc (suc (suc (suc n)))))) v6 t6 (Addi 31 31 (pos (chunk_of word 1))) _ w6 (omega arith) (ap (λ x. put 31 (plus x (pos (chunk_of word 1))) t6) e6) (λ t7 w7 e7.
-              puts (suc k) (suc (suc (suc (suc (suc (suc (suc n))))))) v7 t7 (Slli 31 31 11) _ w7 (omega arith) (ap (λ x. put 31 (shift_left x 11) t7) e7) (λ t8 w8 e8.
-              puts k (suc (suc (suc (suc (suc (suc (suc (suc n)))))))) (far_word word) t8 (Addi 31 31 (pos (chunk_of word 0))) is w8 (omega arith) (ap (λ x. put 31 (plus x (pos (chunk_of word 0))) t8) e8) (λ t9 w9 e9.
+              puts (suc (suc (suc (suc (suc (suc (suc (suc k)))))))) n (half (word / 2 ^ 44 * 2 ^ 12)) t
+              (Lui 31 (word / 2 ^ 44)) _ w (omega arith) refl (λ t1 w1 e1.
+              puts (suc (suc (suc (suc (suc (suc (suc k))))))) (suc n) (high_part word) t1 (Srli 31 31 1) _ w1
+              (omega arith) (ap (λ x. put 31 (shift_right x 1) t1) e1) (λ t2 w2 e2.
+              puts (suc (suc (suc (suc (suc (suc k)))))) (suc (suc n)) v2 t2 (Addi 31 31 (pos (chunk_of word 3))) _ w2
+              (omega arith) (ap (λ x. put 31 (plus x (pos (chunk_of word 3))) t2) e2) (λ t3 w3 e3.
+              puts (suc (suc (suc (suc (suc k))))) (suc (suc (suc n))) v3 t3 (Slli 31 31 11) _ w3 (omega arith)
+              (ap (λ x. put 31 (shift_left x 11) t3) e3) (λ t4 w4 e4.
+              puts (suc (suc (suc (suc k)))) (suc (suc (suc (suc n)))) v4 t4 (Addi 31 31 (pos (chunk_of word 2))) _ w4
+              (omega arith) (ap (λ x. put 31 (plus x (pos (chunk_of word 2))) t4) e4) (λ t5 w5 e5.
+              puts (suc (suc (suc k))) (suc (suc (suc (suc (suc n))))) v5 t5 (Slli 31 31 11) _ w5 (omega arith)
+              (ap (λ x. put 31 (shift_left x 11) t5) e5) (λ t6 w6 e6.
+              puts (suc (suc k)) (suc (suc (suc (suc (suc (suc n)))))) v6 t6 (Addi 31 31 (pos (chunk_of word 1))) _ w6
+              (omega arith) (ap (λ x. put 31 (plus x (pos (chunk_of word 1))) t6) e6) (λ t7 w7 e7.
+              puts (suc k) (suc (suc (suc (suc (suc (suc (suc n))))))) v7 t7 (Slli 31 31 11) _ w7 (omega arith)
+              (ap (λ x. put 31 (shift_left x 11) t7) e7) (λ t8 w8 e8.
+              puts k (suc (suc (suc (suc (suc (suc (suc (suc n)))))))) (far_word word) t8
+              (Addi 31 31 (pos (chunk_of word 0))) is w8 (omega arith)
+              (ap (λ x. put 31 (plus x (pos (chunk_of word 0))) t8) e8) (λ t9 w9 e9.
               go t9 (nine n is t9 w9) (e9 ∙ far_word_is word h))))))))))

@@ -1,5 +1,6 @@
 -- Sums of the widths before each place.
-use Rattle.std.proofs.Common.{ℕ, suc, ◌+◌, ◌*◌, ◌≤◌, ◌≡◌, refl, sym, ◌∙◌, ap, arith, List, [], ◌∷◌, ◌++◌, length, get_or, length-append}
+use Rattle.std.proofs.Common.{ℕ, suc, ◌+◌, ◌*◌, ◌≤◌, ◌≡◌, refl, sym, ◌∙◌, ap, arith, List, [], ◌∷◌, ◌++◌, length}
+use Rattle.std.proofs.Common.{get_or, length-append}
 use Rattle.std.specs.Prelude.{sum}
 use Rattle.std.proofs.Math.Logic.{⊎_elim}
 use Rattle.std.proofs.lemmas.Bool.{cases_lt}
@@ -21,7 +22,8 @@ sums_none = record {
 }
 
 -- one width more
-pub sums_more : (sums ws : List ℕ) (w total : ℕ) → HoldsSums sums ws → total ≡ sum ws + w → total ≤ 11 * suc (length ws) → HoldsSums (sums ++ total ∷ []) (ws ++ w ∷ [])
+pub sums_more : (sums ws : List ℕ) (w total : ℕ) → HoldsSums sums ws → total ≡ sum ws + w
+    → total ≤ 11 * suc (length ws) → HoldsSums (sums ++ total ∷ []) (ws ++ w ∷ [])
 sums_more sums ws w total s e h =
     let n : length (ws ++ w ∷ []) ≡ suc (length ws) = omega (arith, length-append ws (w ∷ [])) in
     let len : length sums ≡ suc (length ws) = s.len in

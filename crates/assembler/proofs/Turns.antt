@@ -1,24 +1,34 @@
 -- What instructions do on states that are the same but for x31, and that they leave code as it is.
-use Rattle.std.proofs.Common.{subst, length, ℕ, ◌+◌, ◌-◌, ◌*◌, ◌/◌, ◌%◌, ◌^◌, ◌<◌, ◌≡◌, ◌≢◌, inl, Bool, true, false, List, [], ◌∷◌, Option, Some, None, refl, sym, ◌∙◌, ap, arith}
-use Rattle.std.specs.Prelude.{ℤ, int_lt, ◌==◌, ◌&&◌, not, nat_lt, nat_le, if◌then◌else◌, bit_and, bit_or, bit_xor, Contains, slice_get}
+use Rattle.std.proofs.Common.{subst, length, ℕ, ◌+◌, ◌-◌, ◌*◌, ◌/◌, ◌%◌, ◌^◌, ◌<◌, ◌≡◌, ◌≢◌, inl, Bool, true, false}
+use Rattle.std.proofs.Common.{List, [], ◌∷◌, Option, Some, None, refl, sym, ◌∙◌, ap, arith}
+use Rattle.std.proofs.lemmas.Bool.{true≢false}
+use Rattle.std.specs.Prelude.{ℤ, int_lt, ◌==◌, ◌&&◌, not, nat_lt, nat_le, if◌then◌else◌, bit_and, bit_or, bit_xor}
+use Rattle.std.specs.Prelude.{Contains, slice_get}
 use Rattle.std.specs.Int.{Width, w8, w16, w32, w64, byte_len}
 use Rattle.grift_base.specs.World.{WorldState}
 use Rattle.grift_base.specs.declared.places.Pos.{Pos}
 use Rattle.grift_base.specs.declared.worlds.EnvEffect.{EnvEffect}
-use Rattle.grift_base.specs.declared.worlds.EnvEffect.TheVariants.{Next as GoesOn, Ended as Answers, Blamed as Blames, Trapped as Traps, RegionOut as RegionEnds, StackOut as StackEnds, Refused, OutOfMemory}
+use Rattle.grift_base.specs.declared.worlds.EnvEffect.TheVariants.{Next as GoesOn, Ended as Answers, Blamed as Blames}
+use Rattle.grift_base.specs.declared.worlds.EnvEffect.TheVariants.{Trapped as Traps, RegionOut as RegionEnds}
+use Rattle.grift_base.specs.declared.worlds.EnvEffect.TheVariants.{StackOut as StackEnds, Refused, OutOfMemory}
 use Rattle.rv_isa.specs.declared.inst.Inst.{Inst}
-use Rattle.rv_isa.specs.declared.inst.Inst.TheVariants.{Lui, Auipc, Jal, Jalr, Beq, Bne, Blt, Bge, Bltu, Bgeu, Lb, Lh, Lw, Ld, Lbu, Lhu, Lwu, Sb, Sh, Sw, Sd, Addi, Slti, Sltiu, Xori, Ori, Andi, Slli, Srli, Srai, Add, Sub, Sll, Slt, Sltu, Xor, Srl, Sra, Or, And, Addiw, Slliw, Srliw, Sraiw, Addw, Subw, Sllw, Srlw, Sraw, Fence, Ecall, Ebreak}
-use Rattle.rv_machine.specs.Memory.{load_bytes, store_bytes}
+use Rattle.rv_isa.specs.declared.inst.Inst.TheVariants.{Lui, Auipc, Jal, Jalr, Beq, Bne, Blt, Bge, Bltu, Bgeu, Lb, Lh}
+use Rattle.rv_isa.specs.declared.inst.Inst.TheVariants.{Lw, Ld, Lbu, Lhu, Lwu, Sb, Sh, Sw, Sd, Addi, Slti, Sltiu, Xori}
+use Rattle.rv_isa.specs.declared.inst.Inst.TheVariants.{Ori, Andi, Slli, Srli, Srai, Add, Sub, Sll, Slt, Sltu, Xor, Srl}
+use Rattle.rv_isa.specs.declared.inst.Inst.TheVariants.{Sra, Or, And, Addiw, Slliw, Srliw, Sraiw, Addw, Subw, Sllw}
+use Rattle.rv_isa.specs.declared.inst.Inst.TheVariants.{Srlw, Sraw, Fence, Ecall, Ebreak}
+use Rattle.rv_machine.specs.Memory.{load_bytes, store_bytes, first_address}
 use Rattle.rv_machine.specs.Registers.{set_reg}
 use Rattle.grift_base.specs.EnvironmentCall.{environment_call}
-use Rattle.rv_machine.specs.State.{Layout, State, Undefined, BadAddress, Misaligned, Turn, reg}
-use Rattle.rv_machine.specs.Turn.{word_of, signed_of, sign_extend, add, plus, subtract, flag, signed_less, shift_left, shift_right, shift_right_signed, low_half, half, half_right_signed, next_pc, put, load_into, store_from, branch_if, jump_and_link, blames, comes_to, called, call_environment, act_with, act}
-use Rattle.rv_machine.proofs.Memory.{stored_outside}
+use Rattle.rv_machine.specs.State.{Layout, State, GoesWrong, Turn, reg}
+use Rattle.rv_machine.specs.declared.faults.MachineFault.TheVariants.{Undefined, BadAddress, Misaligned}
+use Rattle.rv_machine.specs.Turn.{word_of, signed_of, sign_extend, add, plus, subtract, flag, signed_less, shift_left}
+use Rattle.rv_machine.specs.Turn.{shift_right, shift_right_signed, low_half, half, half_right_signed, next_pc, put}
+use Rattle.rv_machine.specs.Turn.{load_into, store_from, branch_if, jump_and_link, blames, comes_to, called}
+use Rattle.rv_machine.specs.Turn.{call_environment, act_with, act}
+use Rattle.rv_machine.proofs.Public.{stored_outside}
 use Rattle.assembler.specs.Conditions.{registers_of, is_relative}
-use Rattle.assembler.specs.Following.{IsLike, ComeToLike, LeavesCode, CanBeTold}
-
-true_is_not_false : true ≡ false → ⊥
-true_is_not_false e = cc
+use Rattle.assembler.specs.Following.{IsLike, ComeToLike, LeavesCode, CanBeCall}
 
 -- ---- registers that aren't named
 
@@ -36,116 +46,233 @@ third a b c h e = h (2, omega arith, e)
 pub like_reg : (a : ℕ) (s t : State) → IsLike s t → a ≢ 31 → reg s a ≡ reg t a
 like_reg a s t l n = ap (λ x. if a == 0 then 0 else x) (l.regs a n)
 
-pub like_set : (rd word : ℕ) (s t : State) → IsLike s t → (r : ℕ) → r ≢ 31 → set_reg rd word s.regs r ≡ set_reg rd word t.regs r
+pub like_set : (rd word : ℕ) (s t : State) → IsLike s t → (r : ℕ) → r ≢ 31
+    → set_reg rd word s.regs r ≡ set_reg rd word t.regs r
 like_set rd word s t l r n = ap (λ x. if (r == rd) && not (rd == 0) then word else x) (l.regs r n)
 
-like_put : (rd word other : ℕ) (s t : State) → IsLike s t → s.pc ≡ t.pc → word ≡ other → ComeToLike (put rd word s) (put rd other t)
-like_put rd word other s t l e w =
-    (record { layout = l.layout; regs = λ r n. ap (λ x. set_reg rd x s.regs r) w ∙ like_set rd other s t l r n; memory = l.memory; world = l.world }, ap (λ x. add x 4) e)
+like_put : (rd word other : ℕ) (s t : State) → IsLike s t → s.pc ≡ t.pc → word ≡ other
+    → ComeToLike (put rd word s) (put rd other t)
+like_put rd word other s t l e w = (
+  record {
+    layout = l.layout;
+    regs = λ r n. ap (λ x. set_reg rd x s.regs r) w ∙ like_set rd other s t l r n;
+    memory = l.memory;
+    world = l.world;
+  },
+  ap (λ x. add x 4) e,
+)
 
-like_if : (b c : Bool) (x x1 y y1 : Turn) → b ≡ c → ComeToLike x y → ComeToLike x1 y1 → ComeToLike (if b then x else x1) (if c then y else y1)
+like_if : (b c : Bool) (x x1 y y1 : Turn) → b ≡ c → ComeToLike x y → ComeToLike x1 y1
+    → ComeToLike (if b then x else x1) (if c then y else y1)
 like_if true true x x1 y y1 e h k = h
 like_if false false x x1 y y1 e h k = k
-like_if true false x x1 y y1 e h k = absurd (true_is_not_false e)
-like_if false true x x1 y y1 e h k = absurd (true_is_not_false (sym e))
+like_if true false x x1 y y1 e h k = absurd (true≢false e)
+like_if false true x x1 y y1 e h k = absurd (true≢false (sym e))
 
-like_load : (signed : Bool) (w : Width) (rd at to : ℕ) (s t : State) → IsLike s t → s.pc ≡ t.pc → at ≡ to → ComeToLike (load_into signed w rd at s) (load_into signed w rd to t)
+like_load : (signed : Bool) (w : Width) (rd at to : ℕ) (s t : State) → IsLike s t → s.pc ≡ t.pc → at ≡ to
+    → ComeToLike (load_into signed w rd at s) (load_into signed w rd to t)
 like_load signed w rd at to s t l e p =
     like_if (at % byte_len w == 0) (to % byte_len w == 0) _ _ _ _ (ap (λ x. x % byte_len w == 0) p)
-    (like_if (nat_le 65536 at && nat_le (at + byte_len w) s.layout.end) (nat_le 65536 to && nat_le (to + byte_len w) t.layout.end) _ _ _ _
-    (ap (λ x. nat_le 65536 x && nat_le (x + byte_len w) s.layout.end) p ∙ ap (λ x. nat_le 65536 to && nat_le (to + byte_len w) x.end) l.layout)
-    (like_put rd _ _ s t l e (ap (λ x. if signed then sign_extend w (load_bytes (byte_len w) s.memory x) else load_bytes (byte_len w) s.memory x) p ∙ ap (λ m. if signed then sign_extend w (load_bytes (byte_len w) m to) else load_bytes (byte_len w) m to) l.memory))
-    (ap BadAddress e))
-    (ap Misaligned e)
+    (like_if (nat_le first_address at && nat_le (at + byte_len w) s.layout.end)
+    (nat_le first_address to && nat_le (to + byte_len w) t.layout.end) _ _ _ _
+    (ap (λ x. nat_le first_address x && nat_le (x + byte_len w) s.layout.end) p
+    ∙ ap (λ x. nat_le first_address to && nat_le (to + byte_len w) x.end) l.layout)
+    (like_put rd _ _ s t l e (ap (λ x. if signed then sign_extend w (load_bytes (byte_len w) s.memory x) else
+    load_bytes (byte_len w) s.memory x) p ∙ ap
+    (λ m. if signed then sign_extend w (load_bytes (byte_len w) m to) else load_bytes (byte_len w) m to) l.memory))
+    (ap (λ pc. GoesWrong (BadAddress pc)) e))
+    (ap (λ pc. GoesWrong (Misaligned pc)) e)
 
-like_store : (w : Width) (word other at to : ℕ) (s t : State) → IsLike s t → s.pc ≡ t.pc → word ≡ other → at ≡ to → ComeToLike (store_from w word at s) (store_from w other to t)
+like_store : (w : Width) (word other at to : ℕ) (s t : State) → IsLike s t → s.pc ≡ t.pc → word ≡ other → at ≡ to
+    → ComeToLike (store_from w word at s) (store_from w other to t)
 like_store w word other at to s t l e v p =
     like_if (at % byte_len w == 0) (to % byte_len w == 0) _ _ _ _ (ap (λ x. x % byte_len w == 0) p)
-    (like_if (nat_le s.layout.region at && nat_le (at + byte_len w) s.layout.end) (nat_le t.layout.region to && nat_le (to + byte_len w) t.layout.end) _ _ _ _
-    (ap (λ x. nat_le s.layout.region x && nat_le (x + byte_len w) s.layout.end) p ∙ ap (λ x. nat_le x.region to && nat_le (to + byte_len w) x.end) l.layout)
-    (record { layout = l.layout; regs = l.regs; memory = ap (λ m. store_bytes (byte_len w) m at word) l.memory ∙ (ap (λ x. store_bytes (byte_len w) t.memory x word) p ∙ ap (λ x. store_bytes (byte_len w) t.memory to x) v); world = l.world }, ap (λ x. add x 4) e)
-    (ap BadAddress e))
-    (ap Misaligned e)
+    (like_if (nat_le s.layout.region at && nat_le (at + byte_len w) s.layout.end)
+    (nat_le t.layout.region to && nat_le (to + byte_len w) t.layout.end) _ _ _ _
+    (ap (λ x. nat_le s.layout.region x && nat_le (x + byte_len w) s.layout.end) p
+    ∙ ap (λ x. nat_le x.region to && nat_le (to + byte_len w) x.end) l.layout) (
+      record {
+        layout = l.layout;
+        regs = l.regs;
+        memory = ap (λ m. store_bytes (byte_len w) m at word) l.memory
+            ∙ (ap (λ x. store_bytes (byte_len w) t.memory x word) p
+            ∙ ap (λ x. store_bytes (byte_len w) t.memory to x) v);
+        world = l.world;
+      },
+      ap (λ x. add x 4) e,
+    )
+    (ap (λ pc. GoesWrong (BadAddress pc)) e))
+    (ap (λ pc. GoesWrong (Misaligned pc)) e)
 
-like_jump : (rd target other : ℕ) (s t : State) → IsLike s t → s.pc ≡ t.pc → target ≡ other → ComeToLike (jump_and_link rd target s) (jump_and_link rd other t)
+like_jump : (rd target other : ℕ) (s t : State) → IsLike s t → s.pc ≡ t.pc → target ≡ other
+    → ComeToLike (jump_and_link rd target s) (jump_and_link rd other t)
 like_jump rd target other s t l e p =
-    like_if (target % 4 == 0) (other % 4 == 0) _ _ _ _ (ap (λ x. x % 4 == 0) p)
-    (record { layout = l.layout; regs = λ r n. ap (λ x. set_reg rd (add x 4) s.regs r) e ∙ like_set rd (next_pc t) s t l r n; memory = l.memory; world = l.world }, p)
-    (ap Misaligned e)
+    like_if (target % 4 == 0) (other % 4 == 0) _ _ _ _ (ap (λ x. x % 4 == 0) p) (
+      record {
+        layout = l.layout;
+        regs = λ r n. ap (λ x. set_reg rd (add x 4) s.regs r) e
+            ∙ like_set rd (next_pc t) s t l r n;
+        memory = l.memory;
+        world = l.world;
+      },
+      p,
+    )
+    (ap (λ pc. GoesWrong (Misaligned pc)) e)
 
 module _ (ecall ebreak : State → Turn) where
-  module _ (ok_ecall : CanBeTold ecall) (ok_ebreak : CanBeTold ebreak) where
-    pub like_act : (i : Inst) → is_relative i ≡ false → ¬ Contains (registers_of i) 31 → (s t : State) → IsLike s t → s.pc ≡ t.pc → ComeToLike (act_with ecall ebreak i s) (act_with ecall ebreak i t)
+  module _ (ok_ecall : CanBeCall ecall) (ok_ebreak : CanBeCall ebreak) where
+    pub like_act : (i : Inst) → is_relative i ≡ false → ¬ Contains (registers_of i) 31 → (s t : State) → IsLike s t
+        → s.pc ≡ t.pc → ComeToLike (act_with ecall ebreak i s) (act_with ecall ebreak i t)
     like_act (Lui rd n) r h s t l e = like_put rd _ _ s t l e refl
-    like_act (Auipc rd n) r h s t l e = absurd (true_is_not_false r)
-    like_act (Jal rd n) r h s t l e = absurd (true_is_not_false r)
-    like_act (Jalr rd a n) r h s t l e = like_jump rd _ _ s t l e (ap (λ x. plus x n - plus x n % 2) (like_reg a s t l (second rd a [] h)))
-    like_act (Beq a b n) r h s t l e = absurd (true_is_not_false r)
-    like_act (Bne a b n) r h s t l e = absurd (true_is_not_false r)
-    like_act (Blt a b n) r h s t l e = absurd (true_is_not_false r)
-    like_act (Bge a b n) r h s t l e = absurd (true_is_not_false r)
-    like_act (Bltu a b n) r h s t l e = absurd (true_is_not_false r)
-    like_act (Bgeu a b n) r h s t l e = absurd (true_is_not_false r)
-    like_act (Lb rd a n) r h s t l e = like_load true w8 rd _ _ s t l e (ap (λ x. plus x n) (like_reg a s t l (second rd a [] h)))
-    like_act (Lh rd a n) r h s t l e = like_load true w16 rd _ _ s t l e (ap (λ x. plus x n) (like_reg a s t l (second rd a [] h)))
-    like_act (Lw rd a n) r h s t l e = like_load true w32 rd _ _ s t l e (ap (λ x. plus x n) (like_reg a s t l (second rd a [] h)))
-    like_act (Ld rd a n) r h s t l e = like_load false w64 rd _ _ s t l e (ap (λ x. plus x n) (like_reg a s t l (second rd a [] h)))
-    like_act (Lbu rd a n) r h s t l e = like_load false w8 rd _ _ s t l e (ap (λ x. plus x n) (like_reg a s t l (second rd a [] h)))
-    like_act (Lhu rd a n) r h s t l e = like_load false w16 rd _ _ s t l e (ap (λ x. plus x n) (like_reg a s t l (second rd a [] h)))
-    like_act (Lwu rd a n) r h s t l e = like_load false w32 rd _ _ s t l e (ap (λ x. plus x n) (like_reg a s t l (second rd a [] h)))
-    like_act (Sb b a n) r h s t l e = like_store w8 _ _ _ _ s t l e (like_reg b s t l (first b (a ∷ []) h)) (ap (λ x. plus x n) (like_reg a s t l (second b a [] h)))
-    like_act (Sh b a n) r h s t l e = like_store w16 _ _ _ _ s t l e (like_reg b s t l (first b (a ∷ []) h)) (ap (λ x. plus x n) (like_reg a s t l (second b a [] h)))
-    like_act (Sw b a n) r h s t l e = like_store w32 _ _ _ _ s t l e (like_reg b s t l (first b (a ∷ []) h)) (ap (λ x. plus x n) (like_reg a s t l (second b a [] h)))
-    like_act (Sd b a n) r h s t l e = like_store w64 _ _ _ _ s t l e (like_reg b s t l (first b (a ∷ []) h)) (ap (λ x. plus x n) (like_reg a s t l (second b a [] h)))
-    like_act (Addi rd a n) r h s t l e = like_put rd _ _ s t l e (ap (λ x. plus x n) (like_reg a s t l (second rd a [] h)))
-    like_act (Slti rd a n) r h s t l e = like_put rd _ _ s t l e (ap (λ x. flag (int_lt (signed_of x) n)) (like_reg a s t l (second rd a [] h)))
-    like_act (Sltiu rd a n) r h s t l e = like_put rd _ _ s t l e (ap (λ x. flag (nat_lt x (word_of n))) (like_reg a s t l (second rd a [] h)))
-    like_act (Xori rd a n) r h s t l e = like_put rd _ _ s t l e (ap (λ x. bit_xor x (word_of n)) (like_reg a s t l (second rd a [] h)))
-    like_act (Ori rd a n) r h s t l e = like_put rd _ _ s t l e (ap (λ x. bit_or x (word_of n)) (like_reg a s t l (second rd a [] h)))
-    like_act (Andi rd a n) r h s t l e = like_put rd _ _ s t l e (ap (λ x. bit_and x (word_of n)) (like_reg a s t l (second rd a [] h)))
-    like_act (Slli rd a n) r h s t l e = like_put rd _ _ s t l e (ap (λ x. shift_left x n) (like_reg a s t l (second rd a [] h)))
-    like_act (Srli rd a n) r h s t l e = like_put rd _ _ s t l e (ap (λ x. shift_right x n) (like_reg a s t l (second rd a [] h)))
-    like_act (Srai rd a n) r h s t l e = like_put rd _ _ s t l e (ap (λ x. shift_right_signed x n) (like_reg a s t l (second rd a [] h)))
-    like_act (Add rd a b) r h s t l e = like_put rd _ _ s t l e (ap (λ x. let y = reg s b in add x y) (like_reg a s t l (second rd a (b ∷ []) h)) ∙ ap (λ y. let x = reg t a in add x y) (like_reg b s t l (third rd a b h)))
-    like_act (Sub rd a b) r h s t l e = like_put rd _ _ s t l e (ap (λ x. let y = reg s b in subtract x y) (like_reg a s t l (second rd a (b ∷ []) h)) ∙ ap (λ y. let x = reg t a in subtract x y) (like_reg b s t l (third rd a b h)))
-    like_act (Sll rd a b) r h s t l e = like_put rd _ _ s t l e (ap (λ x. let y = reg s b in shift_left x (y % 64)) (like_reg a s t l (second rd a (b ∷ []) h)) ∙ ap (λ y. let x = reg t a in shift_left x (y % 64)) (like_reg b s t l (third rd a b h)))
-    like_act (Slt rd a b) r h s t l e = like_put rd _ _ s t l e (ap (λ x. let y = reg s b in flag (signed_less x y)) (like_reg a s t l (second rd a (b ∷ []) h)) ∙ ap (λ y. let x = reg t a in flag (signed_less x y)) (like_reg b s t l (third rd a b h)))
-    like_act (Sltu rd a b) r h s t l e = like_put rd _ _ s t l e (ap (λ x. let y = reg s b in flag (nat_lt x y)) (like_reg a s t l (second rd a (b ∷ []) h)) ∙ ap (λ y. let x = reg t a in flag (nat_lt x y)) (like_reg b s t l (third rd a b h)))
-    like_act (Xor rd a b) r h s t l e = like_put rd _ _ s t l e (ap (λ x. let y = reg s b in bit_xor x y) (like_reg a s t l (second rd a (b ∷ []) h)) ∙ ap (λ y. let x = reg t a in bit_xor x y) (like_reg b s t l (third rd a b h)))
-    like_act (Srl rd a b) r h s t l e = like_put rd _ _ s t l e (ap (λ x. let y = reg s b in shift_right x (y % 64)) (like_reg a s t l (second rd a (b ∷ []) h)) ∙ ap (λ y. let x = reg t a in shift_right x (y % 64)) (like_reg b s t l (third rd a b h)))
-    like_act (Sra rd a b) r h s t l e = like_put rd _ _ s t l e (ap (λ x. let y = reg s b in shift_right_signed x (y % 64)) (like_reg a s t l (second rd a (b ∷ []) h)) ∙ ap (λ y. let x = reg t a in shift_right_signed x (y % 64)) (like_reg b s t l (third rd a b h)))
-    like_act (Or rd a b) r h s t l e = like_put rd _ _ s t l e (ap (λ x. let y = reg s b in bit_or x y) (like_reg a s t l (second rd a (b ∷ []) h)) ∙ ap (λ y. let x = reg t a in bit_or x y) (like_reg b s t l (third rd a b h)))
-    like_act (And rd a b) r h s t l e = like_put rd _ _ s t l e (ap (λ x. let y = reg s b in bit_and x y) (like_reg a s t l (second rd a (b ∷ []) h)) ∙ ap (λ y. let x = reg t a in bit_and x y) (like_reg b s t l (third rd a b h)))
-    like_act (Addiw rd a n) r h s t l e = like_put rd _ _ s t l e (ap (λ x. half (plus x n)) (like_reg a s t l (second rd a [] h)))
-    like_act (Slliw rd a n) r h s t l e = like_put rd _ _ s t l e (ap (λ x. half (low_half x * 2 ^ n)) (like_reg a s t l (second rd a [] h)))
-    like_act (Srliw rd a n) r h s t l e = like_put rd _ _ s t l e (ap (λ x. half (low_half x / 2 ^ n)) (like_reg a s t l (second rd a [] h)))
-    like_act (Sraiw rd a n) r h s t l e = like_put rd _ _ s t l e (ap (λ x. half_right_signed x n) (like_reg a s t l (second rd a [] h)))
-    like_act (Addw rd a b) r h s t l e = like_put rd _ _ s t l e (ap (λ x. let y = reg s b in half (add x y)) (like_reg a s t l (second rd a (b ∷ []) h)) ∙ ap (λ y. let x = reg t a in half (add x y)) (like_reg b s t l (third rd a b h)))
-    like_act (Subw rd a b) r h s t l e = like_put rd _ _ s t l e (ap (λ x. let y = reg s b in half (subtract x y)) (like_reg a s t l (second rd a (b ∷ []) h)) ∙ ap (λ y. let x = reg t a in half (subtract x y)) (like_reg b s t l (third rd a b h)))
-    like_act (Sllw rd a b) r h s t l e = like_put rd _ _ s t l e (ap (λ x. let y = reg s b in half (low_half x * 2 ^ (y % 32))) (like_reg a s t l (second rd a (b ∷ []) h)) ∙ ap (λ y. let x = reg t a in half (low_half x * 2 ^ (y % 32))) (like_reg b s t l (third rd a b h)))
-    like_act (Srlw rd a b) r h s t l e = like_put rd _ _ s t l e (ap (λ x. let y = reg s b in half (low_half x / 2 ^ (y % 32))) (like_reg a s t l (second rd a (b ∷ []) h)) ∙ ap (λ y. let x = reg t a in half (low_half x / 2 ^ (y % 32))) (like_reg b s t l (third rd a b h)))
-    like_act (Sraw rd a b) r h s t l e = like_put rd _ _ s t l e (ap (λ x. let y = reg s b in half_right_signed x (y % 32)) (like_reg a s t l (second rd a (b ∷ []) h)) ∙ ap (λ y. let x = reg t a in half_right_signed x (y % 32)) (like_reg b s t l (third rd a b h)))
-    like_act (Fence rd a n) r h s t l e = (record { layout = l.layout; regs = l.regs; memory = l.memory; world = l.world }, ap (λ x. add x 4) e)
+    like_act (Auipc rd n) r h s t l e = absurd (true≢false r)
+    like_act (Jal rd n) r h s t l e = absurd (true≢false r)
+    like_act (Jalr rd a n) r h s t l e =
+        like_jump rd _ _ s t l e (ap (λ x. plus x n - plus x n % 2) (like_reg a s t l (second rd a [] h)))
+    like_act (Beq a b n) r h s t l e = absurd (true≢false r)
+    like_act (Bne a b n) r h s t l e = absurd (true≢false r)
+    like_act (Blt a b n) r h s t l e = absurd (true≢false r)
+    like_act (Bge a b n) r h s t l e = absurd (true≢false r)
+    like_act (Bltu a b n) r h s t l e = absurd (true≢false r)
+    like_act (Bgeu a b n) r h s t l e = absurd (true≢false r)
+    like_act (Lb rd a n) r h s t l e =
+        like_load true w8 rd _ _ s t l e (ap (λ x. plus x n) (like_reg a s t l (second rd a [] h)))
+    like_act (Lh rd a n) r h s t l e =
+        like_load true w16 rd _ _ s t l e (ap (λ x. plus x n) (like_reg a s t l (second rd a [] h)))
+    like_act (Lw rd a n) r h s t l e =
+        like_load true w32 rd _ _ s t l e (ap (λ x. plus x n) (like_reg a s t l (second rd a [] h)))
+    like_act (Ld rd a n) r h s t l e =
+        like_load false w64 rd _ _ s t l e (ap (λ x. plus x n) (like_reg a s t l (second rd a [] h)))
+    like_act (Lbu rd a n) r h s t l e =
+        like_load false w8 rd _ _ s t l e (ap (λ x. plus x n) (like_reg a s t l (second rd a [] h)))
+    like_act (Lhu rd a n) r h s t l e =
+        like_load false w16 rd _ _ s t l e (ap (λ x. plus x n) (like_reg a s t l (second rd a [] h)))
+    like_act (Lwu rd a n) r h s t l e =
+        like_load false w32 rd _ _ s t l e (ap (λ x. plus x n) (like_reg a s t l (second rd a [] h)))
+    like_act (Sb b a n) r h s t l e =
+        like_store w8 _ _ _ _ s t l e (like_reg b s t l (first b (a ∷ []) h))
+        (ap (λ x. plus x n) (like_reg a s t l (second b a [] h)))
+    like_act (Sh b a n) r h s t l e =
+        like_store w16 _ _ _ _ s t l e (like_reg b s t l (first b (a ∷ []) h))
+        (ap (λ x. plus x n) (like_reg a s t l (second b a [] h)))
+    like_act (Sw b a n) r h s t l e =
+        like_store w32 _ _ _ _ s t l e (like_reg b s t l (first b (a ∷ []) h))
+        (ap (λ x. plus x n) (like_reg a s t l (second b a [] h)))
+    like_act (Sd b a n) r h s t l e =
+        like_store w64 _ _ _ _ s t l e (like_reg b s t l (first b (a ∷ []) h))
+        (ap (λ x. plus x n) (like_reg a s t l (second b a [] h)))
+    like_act (Addi rd a n) r h s t l e =
+        like_put rd _ _ s t l e (ap (λ x. plus x n) (like_reg a s t l (second rd a [] h)))
+    like_act (Slti rd a n) r h s t l e =
+        like_put rd _ _ s t l e (ap (λ x. flag (int_lt (signed_of x) n)) (like_reg a s t l (second rd a [] h)))
+    like_act (Sltiu rd a n) r h s t l e =
+        like_put rd _ _ s t l e (ap (λ x. flag (nat_lt x (word_of n))) (like_reg a s t l (second rd a [] h)))
+    like_act (Xori rd a n) r h s t l e =
+        like_put rd _ _ s t l e (ap (λ x. bit_xor x (word_of n)) (like_reg a s t l (second rd a [] h)))
+    like_act (Ori rd a n) r h s t l e =
+        like_put rd _ _ s t l e (ap (λ x. bit_or x (word_of n)) (like_reg a s t l (second rd a [] h)))
+    like_act (Andi rd a n) r h s t l e =
+        like_put rd _ _ s t l e (ap (λ x. bit_and x (word_of n)) (like_reg a s t l (second rd a [] h)))
+    like_act (Slli rd a n) r h s t l e =
+        like_put rd _ _ s t l e (ap (λ x. shift_left x n) (like_reg a s t l (second rd a [] h)))
+    like_act (Srli rd a n) r h s t l e =
+        like_put rd _ _ s t l e (ap (λ x. shift_right x n) (like_reg a s t l (second rd a [] h)))
+    like_act (Srai rd a n) r h s t l e =
+        like_put rd _ _ s t l e (ap (λ x. shift_right_signed x n) (like_reg a s t l (second rd a [] h)))
+    like_act (Add rd a b) r h s t l e =
+        like_put rd _ _ s t l e (ap (λ x. let y = reg s b in add x y) (like_reg a s t l (second rd a (b ∷ []) h))
+        ∙ ap (λ y. let x = reg t a in add x y) (like_reg b s t l (third rd a b h)))
+    like_act (Sub rd a b) r h s t l e =
+        like_put rd _ _ s t l e (ap (λ x. let y = reg s b in subtract x y) (like_reg a s t l (second rd a (b ∷ []) h))
+        ∙ ap (λ y. let x = reg t a in subtract x y) (like_reg b s t l (third rd a b h)))
+    like_act (Sll rd a b) r h s t l e =
+        like_put rd _ _ s t l e (ap (λ x. let y = reg s b in
+        shift_left x (y % 64)) (like_reg a s t l (second rd a (b ∷ []) h)) ∙ ap (λ y. let x = reg t a in
+        shift_left x (y % 64)) (like_reg b s t l (third rd a b h)))
+    like_act (Slt rd a b) r h s t l e =
+        like_put rd _ _ s t l e (ap (λ x. let y = reg s b in
+        flag (signed_less x y)) (like_reg a s t l (second rd a (b ∷ []) h)) ∙ ap (λ y. let x = reg t a in
+        flag (signed_less x y)) (like_reg b s t l (third rd a b h)))
+    like_act (Sltu rd a b) r h s t l e =
+        like_put rd _ _ s t l e (ap (λ x. let y = reg s b in
+        flag (nat_lt x y)) (like_reg a s t l (second rd a (b ∷ []) h)) ∙ ap (λ y. let x = reg t a in
+        flag (nat_lt x y)) (like_reg b s t l (third rd a b h)))
+    like_act (Xor rd a b) r h s t l e =
+        like_put rd _ _ s t l e (ap (λ x. let y = reg s b in bit_xor x y) (like_reg a s t l (second rd a (b ∷ []) h))
+        ∙ ap (λ y. let x = reg t a in bit_xor x y) (like_reg b s t l (third rd a b h)))
+    like_act (Srl rd a b) r h s t l e =
+        like_put rd _ _ s t l e (ap (λ x. let y = reg s b in
+        shift_right x (y % 64)) (like_reg a s t l (second rd a (b ∷ []) h)) ∙ ap (λ y. let x = reg t a in
+        shift_right x (y % 64)) (like_reg b s t l (third rd a b h)))
+    like_act (Sra rd a b) r h s t l e =
+        like_put rd _ _ s t l e (ap (λ x. let y = reg s b in
+        shift_right_signed x (y % 64)) (like_reg a s t l (second rd a (b ∷ []) h)) ∙ ap (λ y. let x = reg t a in
+        shift_right_signed x (y % 64)) (like_reg b s t l (third rd a b h)))
+    like_act (Or rd a b) r h s t l e =
+        like_put rd _ _ s t l e (ap (λ x. let y = reg s b in bit_or x y) (like_reg a s t l (second rd a (b ∷ []) h))
+        ∙ ap (λ y. let x = reg t a in bit_or x y) (like_reg b s t l (third rd a b h)))
+    like_act (And rd a b) r h s t l e =
+        like_put rd _ _ s t l e (ap (λ x. let y = reg s b in bit_and x y) (like_reg a s t l (second rd a (b ∷ []) h))
+        ∙ ap (λ y. let x = reg t a in bit_and x y) (like_reg b s t l (third rd a b h)))
+    like_act (Addiw rd a n) r h s t l e =
+        like_put rd _ _ s t l e (ap (λ x. half (plus x n)) (like_reg a s t l (second rd a [] h)))
+    like_act (Slliw rd a n) r h s t l e =
+        like_put rd _ _ s t l e (ap (λ x. half (low_half x * 2 ^ n)) (like_reg a s t l (second rd a [] h)))
+    like_act (Srliw rd a n) r h s t l e =
+        like_put rd _ _ s t l e (ap (λ x. half (low_half x / 2 ^ n)) (like_reg a s t l (second rd a [] h)))
+    like_act (Sraiw rd a n) r h s t l e =
+        like_put rd _ _ s t l e (ap (λ x. half_right_signed x n) (like_reg a s t l (second rd a [] h)))
+    like_act (Addw rd a b) r h s t l e =
+        like_put rd _ _ s t l e (ap (λ x. let y = reg s b in
+        half (add x y)) (like_reg a s t l (second rd a (b ∷ []) h)) ∙ ap (λ y. let x = reg t a in
+        half (add x y)) (like_reg b s t l (third rd a b h)))
+    like_act (Subw rd a b) r h s t l e =
+        like_put rd _ _ s t l e (ap (λ x. let y = reg s b in
+        half (subtract x y)) (like_reg a s t l (second rd a (b ∷ []) h)) ∙ ap (λ y. let x = reg t a in
+        half (subtract x y)) (like_reg b s t l (third rd a b h)))
+    like_act (Sllw rd a b) r h s t l e =
+        like_put rd _ _ s t l e (ap (λ x. let y = reg s b in
+        half (low_half x * 2 ^ (y % 32))) (like_reg a s t l (second rd a (b ∷ []) h)) ∙ ap (λ y. let x = reg t a in
+        half (low_half x * 2 ^ (y % 32))) (like_reg b s t l (third rd a b h)))
+    like_act (Srlw rd a b) r h s t l e =
+        like_put rd _ _ s t l e (ap (λ x. let y = reg s b in
+        half (low_half x / 2 ^ (y % 32))) (like_reg a s t l (second rd a (b ∷ []) h)) ∙ ap (λ y. let x = reg t a in
+        half (low_half x / 2 ^ (y % 32))) (like_reg b s t l (third rd a b h)))
+    like_act (Sraw rd a b) r h s t l e =
+        like_put rd _ _ s t l e (ap (λ x. let y = reg s b in
+        half_right_signed x (y % 32)) (like_reg a s t l (second rd a (b ∷ []) h)) ∙ ap (λ y. let x = reg t a in
+        half_right_signed x (y % 32)) (like_reg b s t l (third rd a b h)))
+    like_act (Fence rd a n) r h s t l e =
+        (record { layout = l.layout; regs = l.regs; memory = l.memory; world = l.world }, ap (λ x. add x 4) e)
     like_act Ecall r h s t l e = ok_ecall.spares s t l e
     like_act Ebreak r h s t l e = ok_ebreak.spares s t l e
 
 -- ---- the calls of the environment look at x10, x11 and x17 alone
 
 like_blame : (label : Option Pos) (s t : State) → s.pc ≡ t.pc → ComeToLike (blames label s) (blames label t)
-like_blame None s t e = ap Undefined e
+like_blame None s t e = ap (λ pc. GoesWrong (Undefined pc)) e
 like_blame (Some label) s t e = refl
 
-like_effect : (effect : EnvEffect) (w : WorldState) (s t : State) → IsLike s t → s.pc ≡ t.pc → ComeToLike (comes_to effect w s) (comes_to effect w t)
-like_effect (GoesOn a0 a1) w s t l e =
-    (record { layout = l.layout; regs = λ r n. ap (λ x. if (r == 11) && not (11 == 0) then a1 else x) (like_set 10 a0 s t l r n); memory = l.memory; world = refl }, ap (λ x. add x 4) e)
+like_effect : (effect : EnvEffect) (w : WorldState) (s t : State) → IsLike s t → s.pc ≡ t.pc
+    → ComeToLike (comes_to effect w s) (comes_to effect w t)
+like_effect (GoesOn a0 a1) w s t l e = (
+  record {
+    layout = l.layout;
+    regs = λ r n. ap (λ x. if (r == 11) && not (11 == 0) then a1 else x)
+        (like_set 10 a0 s t l r n);
+    memory = l.memory;
+    world = refl;
+  },
+  ap (λ x. add x 4) e,
+)
 like_effect (Blames label) w s t l e =
-    subst (λ (o : Option Pos). ComeToLike (blames (slice_get s.layout.labels label) s) (blames o t)) (ap (λ (x : Layout). slice_get x.labels label) l.layout) (like_blame (slice_get s.layout.labels label) s t e)
+    subst (λ (o : Option Pos). ComeToLike (blames (slice_get s.layout.labels label) s) (blames o t))
+    (ap (λ (x : Layout). slice_get x.labels label) l.layout) (like_blame (slice_get s.layout.labels label) s t e)
 like_effect (Answers answer) w s t l e = refl
 like_effect (Traps trap) w s t l e = refl
 like_effect RegionEnds w s t l e = refl
 like_effect StackEnds w s t l e = refl
-like_effect Refused w s t l e = ap Undefined e
-like_effect OutOfMemory w s t l e = ap Undefined e
+like_effect Refused w s t l e = ap (λ pc. GoesWrong (Undefined pc)) e
+like_effect OutOfMemory w s t l e = ap (λ pc. GoesWrong (Undefined pc)) e
 
 abbrev called_with : ℕ → ℕ → ℕ → ℕ → WorldState → State → Turn
 called_with number a0 a1 labels w s =
@@ -156,7 +283,13 @@ like_call s t l e =
     let n : reg s 17 ≡ reg t 17 = like_reg 17 s t l (λ h. let f : ⊥ = omega arith in f) in
     let a : reg s 10 ≡ reg t 10 = like_reg 10 s t l (λ h. let f : ⊥ = omega arith in f) in
     let b : reg s 11 ≡ reg t 11 = like_reg 11 s t l (λ h. let f : ⊥ = omega arith in f) in
-    let same : call_environment s ≡ called_with (reg t 17) (reg t 10) (reg t 11) (length t.layout.labels) t.world s = ap (λ x. called_with x (reg s 10) (reg s 11) (length s.layout.labels) s.world s) n ∙ (ap (λ x. called_with (reg t 17) x (reg s 11) (length s.layout.labels) s.world s) a ∙ (ap (λ x. called_with (reg t 17) (reg t 10) x (length s.layout.labels) s.world s) b ∙ (ap (λ (x : Layout). called_with (reg t 17) (reg t 10) (reg t 11) (length x.labels) s.world s) l.layout ∙ ap (λ x. called_with (reg t 17) (reg t 10) (reg t 11) (length t.layout.labels) x s) l.world))) in
+    let same : call_environment s ≡ called_with (reg t 17) (reg t 10) (reg t 11)
+    (length t.layout.labels) t.world s = ap
+    (λ x. called_with x (reg s 10) (reg s 11) (length s.layout.labels) s.world s) n
+    ∙ (ap (λ x. called_with (reg t 17) x (reg s 11) (length s.layout.labels) s.world s) a
+    ∙ (ap (λ x. called_with (reg t 17) (reg t 10) x (length s.layout.labels) s.world s) b
+    ∙ (ap (λ (x : Layout). called_with (reg t 17) (reg t 10) (reg t 11) (length x.labels) s.world s) l.layout
+    ∙ ap (λ x. called_with (reg t 17) (reg t 10) (reg t 11) (length t.layout.labels) x s) l.world))) in
     subst (λ x. ComeToLike x (call_environment t)) (sym same) (like_effect (called t).effect (called t).world s t l e)
 
 -- ---- what they leave
@@ -168,13 +301,17 @@ leaves_if : (s : State) (b : Bool) (x y : Turn) → LeavesCode s x → LeavesCod
 leaves_if s true x y h k = h
 leaves_if s false x y h k = k
 
-leaves_when : (s : State) (b : Bool) (x y : Turn) → (b ≡ true → LeavesCode s x) → LeavesCode s y → LeavesCode s (if b then x else y)
+leaves_when : (s : State) (b : Bool) (x y : Turn) → (b ≡ true → LeavesCode s x) → LeavesCode s y
+    → LeavesCode s (if b then x else y)
 leaves_when s true x y h k = h refl
 leaves_when s false x y h k = k
 
 leaves_load : (signed : Bool) (w : Width) (rd at : ℕ) (s : State) → LeavesCode s (load_into signed w rd at s)
 leaves_load signed w rd at s =
-    leaves_if s (at % byte_len w == 0) _ _ (leaves_if s (nat_le 65536 at && nat_le (at + byte_len w) s.layout.end) _ _ (leaves_put rd (if signed then sign_extend w (load_bytes (byte_len w) s.memory at) else load_bytes (byte_len w) s.memory at) s) tt) tt
+    leaves_if s (at % byte_len w == 0) _ _ (leaves_if s
+    (nat_le first_address at && nat_le (at + byte_len w) s.layout.end) _ _
+    (leaves_put rd (if signed then sign_extend w (load_bytes (byte_len w) s.memory at) else load_bytes
+    (byte_len w) s.memory at) s) tt) tt
 
 above_region : (region at to high : ℕ) (b : Bool) → (nat_le region at && b) ≡ true → to < region → to < at
 above_region region at to high b h k = grind arith
@@ -183,7 +320,11 @@ leaves_store : (w : Width) (word at : ℕ) (s : State) → LeavesCode s (store_f
 leaves_store w word at s =
     leaves_if s (at % byte_len w == 0) _ _
     (leaves_when s (nat_le s.layout.region at && nat_le (at + byte_len w) s.layout.end) _ _
-    (λ e. (refl, λ to h k. stored_outside (byte_len w) s.memory at word to (inl (above_region s.layout.region at to 0 _ e k)))) tt)
+    (λ e. (
+      refl,
+      λ to h k. stored_outside (byte_len w) s.memory at word to
+          (inl (above_region s.layout.region at to 0 _ e k)),
+    )) tt)
     tt
 
 leaves_branch : (taken : Bool) (n : ℤ) (s : State) → LeavesCode s (branch_if taken n s)
@@ -211,60 +352,61 @@ pub leaves_call : (s : State) → LeavesCode s (call_environment s)
 leaves_call s = leaves_effect (called s).effect (called s).world s
 
 module _ (ecall ebreak : State → Turn) where
-  module _ (left_ecall : (s : State) → LeavesCode s (ecall s)) (left_ebreak : (s : State) → LeavesCode s (ebreak s)) where
-    pub leaves_act : (i : Inst) (s : State) → LeavesCode s (act_with ecall ebreak i s)
-    leaves_act (Lui rd n) s = (refl, λ at h k. refl)
-    leaves_act (Auipc rd n) s = (refl, λ at h k. refl)
-    leaves_act (Jal rd n) s = leaves_jump rd (plus s.pc n) s
-    leaves_act (Jalr rd a n) s = leaves_jump rd (plus (reg s a) n - plus (reg s a) n % 2) s
-    leaves_act (Beq a b n) s = leaves_branch (reg s a == reg s b) n s
-    leaves_act (Bne a b n) s = leaves_branch (not (reg s a == reg s b)) n s
-    leaves_act (Blt a b n) s = leaves_branch (signed_less (reg s a) (reg s b)) n s
-    leaves_act (Bge a b n) s = leaves_branch (not (signed_less (reg s a) (reg s b))) n s
-    leaves_act (Bltu a b n) s = leaves_branch (nat_lt (reg s a) (reg s b)) n s
-    leaves_act (Bgeu a b n) s = leaves_branch (not (nat_lt (reg s a) (reg s b))) n s
-    leaves_act (Lb rd a n) s = leaves_load true w8 rd (plus (reg s a) n) s
-    leaves_act (Lh rd a n) s = leaves_load true w16 rd (plus (reg s a) n) s
-    leaves_act (Lw rd a n) s = leaves_load true w32 rd (plus (reg s a) n) s
-    leaves_act (Ld rd a n) s = leaves_load false w64 rd (plus (reg s a) n) s
-    leaves_act (Lbu rd a n) s = leaves_load false w8 rd (plus (reg s a) n) s
-    leaves_act (Lhu rd a n) s = leaves_load false w16 rd (plus (reg s a) n) s
-    leaves_act (Lwu rd a n) s = leaves_load false w32 rd (plus (reg s a) n) s
-    leaves_act (Sb b a n) s = leaves_store w8 (reg s b) (plus (reg s a) n) s
-    leaves_act (Sh b a n) s = leaves_store w16 (reg s b) (plus (reg s a) n) s
-    leaves_act (Sw b a n) s = leaves_store w32 (reg s b) (plus (reg s a) n) s
-    leaves_act (Sd b a n) s = leaves_store w64 (reg s b) (plus (reg s a) n) s
-    leaves_act (Addi rd a n) s = (refl, λ at h k. refl)
-    leaves_act (Slti rd a n) s = (refl, λ at h k. refl)
-    leaves_act (Sltiu rd a n) s = (refl, λ at h k. refl)
-    leaves_act (Xori rd a n) s = (refl, λ at h k. refl)
-    leaves_act (Ori rd a n) s = (refl, λ at h k. refl)
-    leaves_act (Andi rd a n) s = (refl, λ at h k. refl)
-    leaves_act (Slli rd a n) s = (refl, λ at h k. refl)
-    leaves_act (Srli rd a n) s = (refl, λ at h k. refl)
-    leaves_act (Srai rd a n) s = (refl, λ at h k. refl)
-    leaves_act (Add rd a b) s = (refl, λ at h k. refl)
-    leaves_act (Sub rd a b) s = (refl, λ at h k. refl)
-    leaves_act (Sll rd a b) s = (refl, λ at h k. refl)
-    leaves_act (Slt rd a b) s = (refl, λ at h k. refl)
-    leaves_act (Sltu rd a b) s = (refl, λ at h k. refl)
-    leaves_act (Xor rd a b) s = (refl, λ at h k. refl)
-    leaves_act (Srl rd a b) s = (refl, λ at h k. refl)
-    leaves_act (Sra rd a b) s = (refl, λ at h k. refl)
-    leaves_act (Or rd a b) s = (refl, λ at h k. refl)
-    leaves_act (And rd a b) s = (refl, λ at h k. refl)
-    leaves_act (Addiw rd a n) s = (refl, λ at h k. refl)
-    leaves_act (Slliw rd a n) s = (refl, λ at h k. refl)
-    leaves_act (Srliw rd a n) s = (refl, λ at h k. refl)
-    leaves_act (Sraiw rd a n) s = (refl, λ at h k. refl)
-    leaves_act (Addw rd a b) s = (refl, λ at h k. refl)
-    leaves_act (Subw rd a b) s = (refl, λ at h k. refl)
-    leaves_act (Sllw rd a b) s = (refl, λ at h k. refl)
-    leaves_act (Srlw rd a b) s = (refl, λ at h k. refl)
-    leaves_act (Sraw rd a b) s = (refl, λ at h k. refl)
-    leaves_act (Fence rd a n) s = (refl, λ at h k. refl)
-    leaves_act Ecall s = left_ecall s
-    leaves_act Ebreak s = left_ebreak s
+  module _ (left_ecall : (s : State) → LeavesCode s (ecall s)) (left_ebreak : (s : State) → LeavesCode s (ebreak s))
+    where
+      pub leaves_act : (i : Inst) (s : State) → LeavesCode s (act_with ecall ebreak i s)
+      leaves_act (Lui rd n) s = (refl, λ at h k. refl)
+      leaves_act (Auipc rd n) s = (refl, λ at h k. refl)
+      leaves_act (Jal rd n) s = leaves_jump rd (plus s.pc n) s
+      leaves_act (Jalr rd a n) s = leaves_jump rd (plus (reg s a) n - plus (reg s a) n % 2) s
+      leaves_act (Beq a b n) s = leaves_branch (reg s a == reg s b) n s
+      leaves_act (Bne a b n) s = leaves_branch (not (reg s a == reg s b)) n s
+      leaves_act (Blt a b n) s = leaves_branch (signed_less (reg s a) (reg s b)) n s
+      leaves_act (Bge a b n) s = leaves_branch (not (signed_less (reg s a) (reg s b))) n s
+      leaves_act (Bltu a b n) s = leaves_branch (nat_lt (reg s a) (reg s b)) n s
+      leaves_act (Bgeu a b n) s = leaves_branch (not (nat_lt (reg s a) (reg s b))) n s
+      leaves_act (Lb rd a n) s = leaves_load true w8 rd (plus (reg s a) n) s
+      leaves_act (Lh rd a n) s = leaves_load true w16 rd (plus (reg s a) n) s
+      leaves_act (Lw rd a n) s = leaves_load true w32 rd (plus (reg s a) n) s
+      leaves_act (Ld rd a n) s = leaves_load false w64 rd (plus (reg s a) n) s
+      leaves_act (Lbu rd a n) s = leaves_load false w8 rd (plus (reg s a) n) s
+      leaves_act (Lhu rd a n) s = leaves_load false w16 rd (plus (reg s a) n) s
+      leaves_act (Lwu rd a n) s = leaves_load false w32 rd (plus (reg s a) n) s
+      leaves_act (Sb b a n) s = leaves_store w8 (reg s b) (plus (reg s a) n) s
+      leaves_act (Sh b a n) s = leaves_store w16 (reg s b) (plus (reg s a) n) s
+      leaves_act (Sw b a n) s = leaves_store w32 (reg s b) (plus (reg s a) n) s
+      leaves_act (Sd b a n) s = leaves_store w64 (reg s b) (plus (reg s a) n) s
+      leaves_act (Addi rd a n) s = (refl, λ at h k. refl)
+      leaves_act (Slti rd a n) s = (refl, λ at h k. refl)
+      leaves_act (Sltiu rd a n) s = (refl, λ at h k. refl)
+      leaves_act (Xori rd a n) s = (refl, λ at h k. refl)
+      leaves_act (Ori rd a n) s = (refl, λ at h k. refl)
+      leaves_act (Andi rd a n) s = (refl, λ at h k. refl)
+      leaves_act (Slli rd a n) s = (refl, λ at h k. refl)
+      leaves_act (Srli rd a n) s = (refl, λ at h k. refl)
+      leaves_act (Srai rd a n) s = (refl, λ at h k. refl)
+      leaves_act (Add rd a b) s = (refl, λ at h k. refl)
+      leaves_act (Sub rd a b) s = (refl, λ at h k. refl)
+      leaves_act (Sll rd a b) s = (refl, λ at h k. refl)
+      leaves_act (Slt rd a b) s = (refl, λ at h k. refl)
+      leaves_act (Sltu rd a b) s = (refl, λ at h k. refl)
+      leaves_act (Xor rd a b) s = (refl, λ at h k. refl)
+      leaves_act (Srl rd a b) s = (refl, λ at h k. refl)
+      leaves_act (Sra rd a b) s = (refl, λ at h k. refl)
+      leaves_act (Or rd a b) s = (refl, λ at h k. refl)
+      leaves_act (And rd a b) s = (refl, λ at h k. refl)
+      leaves_act (Addiw rd a n) s = (refl, λ at h k. refl)
+      leaves_act (Slliw rd a n) s = (refl, λ at h k. refl)
+      leaves_act (Srliw rd a n) s = (refl, λ at h k. refl)
+      leaves_act (Sraiw rd a n) s = (refl, λ at h k. refl)
+      leaves_act (Addw rd a b) s = (refl, λ at h k. refl)
+      leaves_act (Subw rd a b) s = (refl, λ at h k. refl)
+      leaves_act (Sllw rd a b) s = (refl, λ at h k. refl)
+      leaves_act (Srlw rd a b) s = (refl, λ at h k. refl)
+      leaves_act (Sraw rd a b) s = (refl, λ at h k. refl)
+      leaves_act (Fence rd a n) s = (refl, λ at h k. refl)
+      leaves_act Ecall s = left_ecall s
+      leaves_act Ebreak s = left_ebreak s
 
 -- ---- instructions that are no calls
 
@@ -273,7 +415,8 @@ is_call Ecall = true
 is_call Ebreak = true
 is_call i = false
 
-pub plain_act : (ecall ebreak : State → Turn) (i : Inst) → is_call i ≡ false → (s : State) → act i s ≡ act_with ecall ebreak i s
+pub plain_act : (ecall ebreak : State → Turn) (i : Inst) → is_call i ≡ false → (s : State)
+    → act i s ≡ act_with ecall ebreak i s
 plain_act ecall ebreak (Lui rd n) c s = refl
 plain_act ecall ebreak (Auipc rd n) c s = refl
 plain_act ecall ebreak (Jal rd n) c s = refl
@@ -324,5 +467,5 @@ plain_act ecall ebreak (Sllw rd a b) c s = refl
 plain_act ecall ebreak (Srlw rd a b) c s = refl
 plain_act ecall ebreak (Sraw rd a b) c s = refl
 plain_act ecall ebreak (Fence rd a n) c s = refl
-plain_act ecall ebreak Ecall c s = absurd (true_is_not_false c)
-plain_act ecall ebreak Ebreak c s = absurd (true_is_not_false c)
+plain_act ecall ebreak Ecall c s = absurd (true≢false c)
+plain_act ecall ebreak Ebreak c s = absurd (true≢false c)

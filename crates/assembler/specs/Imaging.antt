@@ -1,11 +1,13 @@
 -- The bytes of an image whose entry is the start of its code.
-use Rattle.std.specs.Prelude.{ℕ, ◌+◌, ◌*◌, ◌%◌, ◌^◌, ◌<◌, ◌≤◌, ◌≡◌, ◌==◌, if◌then◌else◌, List, [], ◌++◌, length, codes, flat_map, map}
+use Rattle.std.specs.Prelude.{ℕ, ◌+◌, ◌*◌, ◌%◌, ◌^◌, ◌<◌, ◌≤◌, ◌≡◌, ◌==◌, if◌then◌else◌, List, [], ◌++◌, length, codes}
+use Rattle.std.specs.Prelude.{flat_map, map}
 use Rattle.std.specs.Int.{w32, w64, to_le_bytes}
 use Rattle.grift_base.specs.declared.places.Pos.{Pos}
 use Rattle.rv_isa.specs.declared.inst.Inst.{Inst}
 use Rattle.rv_isa.specs.declared.real.RealItem.{RealItem}
 use Rattle.rv_isa.specs.Encoding.{encode_of}
-use Rattle.assembler.specs.Forms.{code_insts}
+use Rattle.rv_machine.specs.Memory.{first_address}
+use Rattle.assembler.specs.Expansion.{code_insts}
 
 -- eight bytes, and four, the lowest first
 abbrev pub word_bytes : ℕ → List ℕ
@@ -46,7 +48,7 @@ inst_words insts = map encode_of insts
 
 -- code stands behind the statics, which begin at the first address
 abbrev pub code_start : List ℕ → ℕ
-code_start statics = 65536 + 8 * length statics
+code_start statics = first_address + 8 * length statics
 
 -- the image of a code with these words of statics and these labels
 abbrev pub assembled : List RealItem → List ℕ → List Pos → List ℕ

@@ -1,6 +1,7 @@
--- Where the items of a code lie. Their forms are chosen once: a form is near where it reaches also if every item had its
--- longest form. Positions count words from the start of the code, places count items.
-use Rattle.std.specs.Prelude.{ℕ, suc, ◌+◌, ◌-◌, ◌*◌, ◌==◌, nat_lt, Bool, true, if◌then◌else◌, List, [], ◌∷◌, map, take, sum}
+-- Where the items of a code lie. Their forms are chosen once: a form is near where it reaches also if every item had
+-- its longest form. Positions count words from the start of the code, places count items.
+use Rattle.std.specs.Prelude.{ℕ, suc, ◌+◌, ◌-◌, ◌*◌, ◌==◌, nat_lt, Bool, true, if◌then◌else◌, List, [], ◌∷◌, map, take}
+use Rattle.std.specs.Prelude.{sum}
 use Rattle.rv_isa.specs.declared.real.RealItem.{RealItem}
 use Rattle.rv_isa.specs.declared.real.RealItem.TheVariants.{Op, Mark, Jump, Branch, Address}
 
@@ -34,8 +35,8 @@ words_before widths place = sum (take place widths)
 abbrev pub distance : ℕ → ℕ → ℕ
 distance a b = (a - b) + (b - a)
 
--- whether an item has its near form, told the words of each item's longest form, and the first address: a branch reaches
--- 4,096 bytes, a jump 1,048,576, and the near form of an address those below 2,147,483,648
+-- whether an item has its near form, told the words of each item's longest form, and the first address: a branch
+-- reaches 4,096 bytes, a jump 1,048,576, and the near form of an address those below 2,147,483,648
 abbrev pub is_near : List ℕ → List RealItem → ℕ → ℕ → RealItem → Bool
 is_near widest items start place (Op i) = true
 is_near widest items start place (Mark mark) = true

@@ -1,8 +1,9 @@
 pub mod Faults
 pub mod Layout
-pub mod Forms
+pub mod Expansion
 pub mod Imaging
 pub mod Conditions
 pub mod Encoded
 pub mod Tables
 pub mod Following
+pub mod Assembled

@@ -1,5 +1,6 @@
 -- What the tables hold from which the layout of a code is read.
-use Rattle.std.specs.Prelude.{ℕ, suc, ◌*◌, ◌^◌, ◌<◌, ◌≤◌, ◌≡◌, Bool, true, nat_eq, Option, Some, None, List, length, get_or, All}
+use Rattle.std.specs.Prelude.{ℕ, suc, ◌*◌, ◌^◌, ◌<◌, ◌≤◌, ◌≡◌, Bool, true, nat_eq, Option, Some, None, List, length}
+use Rattle.std.specs.Prelude.{get_or, All}
 use Rattle.grift_base.specs.declared.places.Pos.{Pos}
 use Rattle.indexmap.specs.IndexMap.{get}
 use Rattle.rv_isa.specs.Bits.{IsIn, IsEven}
@@ -8,7 +9,7 @@ use Rattle.rv_isa.specs.declared.real.RealItem.TheVariants.{Jump, Branch, Addres
 use Rattle.assembler.specs.declared.layout.Reach.{Reach}
 use Rattle.assembler.specs.declared.layout.Layout.{Layout}
 use Rattle.assembler.specs.Layout.{mark_place, words_before, longest_widths, widths}
-use Rattle.assembler.specs.Forms.{offset}
+use Rattle.assembler.specs.Expansion.{offset}
 
 -- how many words lie before each place, also before that past the last item. No item has more than eleven
 pub record HoldsSums (sums widths : List ℕ) : Type 0 where
@@ -26,13 +27,13 @@ abbrev pub HoldsPlaces : List RealItem → (ℕ → Option ℕ) → Type 0
 HoldsPlaces items found = (mark : ℕ) → place_or (length items) (found mark) ≡ mark_place mark items
 
 -- where the marks of a code are, and how many words lie before each place if every item has its longest form
-pub record Reaches (items : List RealItem) (reach : Reach) : Type 0 where
+pub record IsReachOf (items : List RealItem) (reach : Reach) : Type 0 where
   pub places : HoldsPlaces items (get nat_eq reach.places)
   pub widest : HoldsSums reach.widest (longest_widths items)
 
 -- and how many words lie there
-pub record LiesSo (items : List RealItem) (layout : Layout) : Type 0 where
-  pub reach : Reaches items layout.reach
+pub record IsLayoutOf (items : List RealItem) (layout : Layout) : Type 0 where
+  pub reach : IsReachOf items layout.reach
   pub before : HoldsSums layout.before (widths items layout.reach.start)
 
 -- the near form of an item can be encoded

@@ -1,17 +1,14 @@
 // Images from code whose jumps, branches and addresses name marks.
 
 ghost use Rattle.std.specs.Prelude.{◌≡◌, ◌++◌, ◌≤◌, ◌<◌, ◌^◌, IfOk, OnOk, length};
-ghost use Rattle.rv_machine.specs.Image.{labels_of};
-ghost use Rattle.rv_machine.specs.Mach.{ending_of, stop_of};
-ghost use Rattle.assembler.specs.Layout.{address_of};
-ghost use Rattle.assembler.specs.Following.{DoesAsCode, DoesAsUsual, HasItsWords};
-ghost use Rattle.assembler.specs.Forms.{item_insts, code_insts};
-ghost use Rattle.assembler.specs.Imaging.{inst_words, code_start, assembled};
+ghost use Rattle.assembler.specs.Assembled.{IsImageOf};
+ghost use Rattle.assembler.specs.Expansion.{item_insts, code_insts};
+ghost use Rattle.assembler.specs.Imaging.{inst_words};
 ghost use Rattle.assembler.specs.Conditions.{CanBeAssembled};
 ghost use Rattle.assembler.specs.Encoded.{AllDecode};
-ghost use Rattle.assembler.specs.Tables.{LiesSo};
+ghost use Rattle.assembler.specs.Tables.{IsLayoutOf};
 
-use crate::forms::{CodeWords, put_item};
+use crate::expansion::{CodeWords, put_item};
 use crate::image::Image;
 use crate::imaging::image_of;
 use crate::layout::Layout;
@@ -19,6 +16,7 @@ use grift_base::lists::OutOfMemory;
 use grift_base::places::LabelTable;
 use grift_base::words::Statics;
 use rv_isa::real::{RealCode, RealItem};
+use rv_machine::FIRST_ADDRESS;
 use std::alloc::Global;
 
 #[cfg(test)]
@@ -26,9 +24,6 @@ mod tests;
 
 // How many items there may be, and how many words of statics: the bytes of more find no place in any memory.
 const MOST: usize = 1 << 40;
-
-// Where statics begin in memory, behind which the code stands.
-const FIRST_ADDRESS: u64 = 65_536;
 
 /// The image of a code, which it enters at its start, with these words of statics and these labels. `OutOfMemory`
 /// comes where no memory is left, or where there are more than 2^40 items or words of statics.
@@ -39,15 +34,7 @@ pub fn assemble(
     labels: &LabelTable,
 ) -> Result<Image, OutOfMemory>
     requires { CanBeAssembled code.now.items }
-    ensures bytes { IfOk result (λ image. image ≡ assembled code.now.items statics.now.words labels.now) }
-    ensures labels { IfOk result (λ image. labels_of image ≡ labels.now) }
-    ensures follows { IfOk result (λ image. DoesAsCode ending_of image code.now.items (address_of code.now.items (code_start statics.now.words))) }
-    ensures follows_usually { IfOk result (λ image. DoesAsUsual ending_of image code.now.items (address_of code.now.items (code_start statics.now.words))) }
-    ensures stops { IfOk result (λ image. DoesAsCode stop_of image code.now.items (address_of code.now.items (code_start statics.now.words))) }
-    ensures stops_usually { IfOk result (λ image. DoesAsUsual stop_of image code.now.items (address_of code.now.items (code_start statics.now.words))) }
-    ensures words { IfOk result (λ image. HasItsWords image code.now.items (address_of code.now.items (code_start statics.now.words))) }
-    ensures few { OnOk result (length code.now.items ≤ 2 ^ 40) }
-    ensures few_statics { OnOk result (length statics.now.words ≤ 2 ^ 40) }
+    ensures { IfOk result (λ image. IsImageOf image code.now.items statics.now.words labels.now) }
 {
     let items = code.items.as_slice();
     let statics = statics.words.as_slice();
@@ -84,9 +71,10 @@ fn put_at(
 ) -> Result<(), OutOfMemory>
     requires few { length items.now ≤ 2 ^ 40 }
     requires small { layout.now.reach.start < 2 ^ 61 }
-    requires lies { LiesSo items.now layout.now }
+    requires lies { IsLayoutOf items.now layout.now }
     requires inside { place ≤ length items.now }
-    ensures words { OnOk result (words.new ≡ words.old ++ inst_words (item_insts items.now layout.now.reach.start place item.now)) }
+    ensures words { OnOk result (
+        words.new ≡ words.old ++ inst_words (item_insts items.now layout.now.reach.start place item.now)) }
     ensures decode { OnOk result (AllDecode (item_insts items.now layout.now.reach.start place item.now)) }
 {
     let near = layout.is_near(items, place, item);

@@ -4,7 +4,7 @@ ghost use Rattle.std.specs.Prelude.{◌≡◌, ◌<◌, ◌≤◌, ◌+◌, ◌*
 ghost use Rattle.rv_machine.specs.Memory.{load_bytes, memory_of};
 
 /// The number of the `WIDTH` bytes from place `at` on.
-pub fn read<const WIDTH: usize>(bytes: &[u8], at: usize) -> u64
+pub fn read_number<const WIDTH: usize>(bytes: &[u8], at: usize) -> u64
     requires small { WIDTH ≤ 8 }
     requires inside { at + WIDTH ≤ length bytes.now }
     ensures value { result ≡ load_bytes WIDTH (memory_of bytes.now) at }

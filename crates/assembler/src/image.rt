@@ -1,11 +1,13 @@
 // Images, as bytes.
 
-ghost use Rattle.std.specs.Prelude.{◌≡◌, ◌≢◌, ◌+◌, ◌*◌, ◌^◌, ◌≤◌, ◌<◌, ◌↔◌, ◌⊎◌, ℕ, List, IsSome, IsTrue, SomeIff, IfOk, IfErr, OnOk, length, codes, slice_get, slice_range};
-ghost use Rattle.rv_machine.specs.Image.{IsImage, image_len, statics_len, code_len, label_count, entry, loaded_part, label_at, labels_of};
+ghost use Rattle.std.specs.Prelude.{◌≡◌, ◌≢◌, ◌+◌, ◌*◌, ◌^◌, ◌≤◌, ◌<◌, ◌↔◌, ◌⊎◌, ℕ, List, IsSome, IsTrue, SomeIff};
+ghost use Rattle.std.specs.Prelude.{IfOk, IfErr, OnOk, length, codes, slice_get, slice_range};
+ghost use Rattle.rv_machine.specs.Image.{IsImage, image_len, statics_len, code_len, label_count, entry, loaded_part};
+ghost use Rattle.rv_machine.specs.Image.{label_at, labels_of};
 ghost use Rattle.assembler.specs.declared.image.ImageFault.{ImageFault};
 ghost use Rattle.assembler.specs.Faults.{IsFirstFault};
 
-use crate::bytes::read;
+use crate::bytes::read_number;
 use grift_base::lists;
 use grift_base::lists::{Bytes, Items};
 use grift_base::places::Pos;
@@ -57,14 +59,14 @@ impl Image {
     pub fn statics_len(&self) -> u64
         ensures { result ≡ statics_len self.now }
     {
-        read::<8>(self.bytes(), 16)
+        read_number::<8>(self.bytes(), 16)
     }
 
     /// How many bytes the code has, a multiple of 8 and at least 8.
     pub fn code_len(&self) -> u64
         ensures { result ≡ code_len self.now }
     {
-        read::<8>(self.bytes(), 24)
+        read_number::<8>(self.bytes(), 24)
     }
 
     /// How many labels there are.
@@ -72,14 +74,14 @@ impl Image {
         ensures value { result ≡ label_count self.now }
         ensures small { result < 4294967295 }
     {
-        read::<8>(self.bytes(), 32) as u32
+        read_number::<8>(self.bytes(), 32) as u32
     }
 
     /// The offset in code at which it starts, a multiple of 4 below the length of the code.
     pub fn entry(&self) -> u64
         ensures { result ≡ entry self.now }
     {
-        read::<8>(self.bytes(), 40)
+        read_number::<8>(self.bytes(), 40)
     }
 
     /// Statics and code, which lie in memory from its first address on.
@@ -117,7 +119,7 @@ impl Image {
         Ok(labels)
     }
 
-    // Where the labels begin.
+    // The offset at which the labels begin.
     fn labels_start(&self) -> usize
         ensures value { result ≡ 64 + statics_len self.now + code_len self.now }
         ensures sections { result + 8 * label_count self.now ≡ length self.now }
@@ -174,7 +176,8 @@ pub fn read_image(alloc: Global, bytes: &[u8]) -> Result<Image, ImageFault>
 pub fn bytes_are_an_image_or_have_one_fault()
     ensures some { (bytes : List ℕ) → IsImage bytes ⊎ ((fault : ImageFault) × IsFirstFault bytes fault) }
     ensures no_fault_of_an_image { (bytes : List ℕ) (fault : ImageFault) → IsImage bytes → ¬ IsFirstFault bytes fault }
-    ensures no_two_faults { (bytes : List ℕ) (first second : ImageFault) → IsFirstFault bytes first → IsFirstFault bytes second → first ≡ second }
+    ensures no_two_faults { (bytes : List ℕ) (first second : ImageFault)
+        → IsFirstFault bytes first → IsFirstFault bytes second → first ≡ second }
 {}
 
 /// Whether these bytes are an image.
@@ -184,38 +187,38 @@ pub fn is_image(bytes: &[u8]) -> bool
     has_magic(bytes) && has_whole_len(bytes) && has_sections(bytes)
 }
 
-// Whether they begin as every image does.
+// Whether these bytes begin as every image does.
 fn has_magic(bytes: &[u8]) -> bool
     ensures { IsTrue result ↔ (slice_range bytes.now 0 8 ≡ codes "GRIFTRV1") }
 {
     bytes.starts_with(b"GRIFTRV1")
 }
 
-// Whether there is a header, and it tells their number.
+// Whether these bytes have a header, and it tells their number.
 fn has_whole_len(bytes: &[u8]) -> bool
     ensures { IsTrue result ↔ ((64 ≤ length bytes.now) × (image_len bytes.now ≡ length bytes.now)) }
 {
-    HEADER_LEN <= bytes.len() && read::<8>(bytes, 8) == bytes.len() as u64
+    HEADER_LEN <= bytes.len() && read_number::<8>(bytes, 8) == bytes.len() as u64
 }
 
-// Whether the rest of the header is that of an image.
+// Whether these bytes, whose magic and length are right, are an image.
 fn has_sections(bytes: &[u8]) -> bool
     requires magic { slice_range bytes.now 0 8 ≡ codes "GRIFTRV1" }
     requires whole { (64 ≤ length bytes.now) × (image_len bytes.now ≡ length bytes.now) }
     ensures { IsTrue result ↔ IsImage bytes.now }
 {
-    let statics = read::<8>(bytes, 16);
-    let code = read::<8>(bytes, 24);
-    let labels = read::<8>(bytes, 32);
-    let entry = read::<8>(bytes, 40);
+    let statics = read_number::<8>(bytes, 16);
+    let code = read_number::<8>(bytes, 24);
+    let labels = read_number::<8>(bytes, 32);
+    let entry = read_number::<8>(bytes, 40);
     statics % 8 == 0
         && code % 8 == 0
         && 8 <= code
         && labels < 4_294_967_295
         && entry % 4 == 0
         && entry < code
-        && read::<8>(bytes, 48) == 0
-        && read::<8>(bytes, 56) == 0
+        && read_number::<8>(bytes, 48) == 0
+        && read_number::<8>(bytes, 56) == 0
         && sections_len(statics, code, labels) == Some(bytes.len() as u64)
 }
 
@@ -235,7 +238,7 @@ fn label_at(bytes: &[u8], at: usize) -> Pos
     ensures { result ≡ label_at bytes.now at }
 {
     Pos {
-        line: read::<4>(bytes, at) as u32,
-        col: read::<4>(bytes, at + 4) as u32,
+        line: read_number::<4>(bytes, at) as u32,
+        col: read_number::<4>(bytes, at + 4) as u32,
     }
 }

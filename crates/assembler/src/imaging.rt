@@ -2,7 +2,8 @@
 
 ghost use Rattle.std.specs.Prelude.{◌≡◌, ◌++◌, ◌≤◌, ◌<◌, ◌*◌, ◌^◌, IfOk, OnOk, length, flat_map};
 ghost use Rattle.rv_machine.specs.Image.{labels_of};
-ghost use Rattle.assembler.specs.Imaging.{word_bytes, half_bytes, label_bytes, header_bytes, code_bytes, image_bytes, AreSections};
+ghost use Rattle.assembler.specs.Imaging.{word_bytes, half_bytes, label_bytes, header_bytes, code_bytes, image_bytes};
+ghost use Rattle.assembler.specs.Imaging.{AreSections};
 ghost use Rattle.assembler.specs.Tables.{AreLabels};
 
 use crate::image::Image;
@@ -23,7 +24,8 @@ pub(crate) fn image_of(
     requires few_statics { length statics.now ≤ 2 ^ 40 }
     requires few { length words.now ≤ 11 * 2 ^ 40 }
     requires some { 0 < length words.now }
-    ensures bytes { IfOk result (λ image. image ≡ image_bytes (flat_map word_bytes statics.now) (code_bytes words.now) labels.now) }
+    ensures bytes { IfOk result (λ image.
+        image ≡ image_bytes (flat_map word_bytes statics.now) (code_bytes words.now) labels.now) }
     ensures labels { IfOk result (λ image. labels_of image ≡ labels.now) }
     ensures sections { OnOk result (AreSections (flat_map word_bytes statics.now) (code_bytes words.now) labels.now) }
 {
@@ -31,7 +33,7 @@ pub(crate) fn image_of(
     Ok(Image::new(bytes))
 }
 
-// Its bytes.
+// The bytes of the image with these words of statics, these words of code and these labels.
 fn image_bytes(
     alloc: Global,
     statics: &[u64],
@@ -41,7 +43,8 @@ fn image_bytes(
     requires few_statics { length statics.now ≤ 2 ^ 40 }
     requires few { length words.now ≤ 11 * 2 ^ 40 }
     requires some { 0 < length words.now }
-    ensures bytes { IfOk result (λ bytes. bytes ≡ image_bytes (flat_map word_bytes statics.now) (code_bytes words.now) labels.now) }
+    ensures bytes { IfOk result (λ bytes.
+        bytes ≡ image_bytes (flat_map word_bytes statics.now) (code_bytes words.now) labels.now) }
     ensures sections { OnOk result (AreSections (flat_map word_bytes statics.now) (code_bytes words.now) labels.now) }
     ensures sound { OnOk result (AreLabels labels.now) }
 {

@@ -2,9 +2,10 @@
 
 ghost use Rattle.std.specs.Prelude.{◌≡◌, ◌≤◌, ◌<◌, ◌*◌, ◌^◌, IfOk, length, nat_eq, nat_lt, get_or};
 ghost use Rattle.indexmap.specs.IndexMap.{get};
-ghost use Rattle.assembler.specs.Layout.{longest, shortest, width, distance, mark_place, words_before, is_near, longest_widths, widths, address_of};
-ghost use Rattle.assembler.specs.Forms.{target_of};
-ghost use Rattle.assembler.specs.Tables.{HoldsSums, HoldsPlaces, Reaches, LiesSo};
+ghost use Rattle.assembler.specs.Layout.{longest, shortest, width, distance, mark_place, words_before, is_near};
+ghost use Rattle.assembler.specs.Layout.{longest_widths, widths, address_of};
+ghost use Rattle.assembler.specs.Expansion.{target_of};
+ghost use Rattle.assembler.specs.Tables.{HoldsSums, HoldsPlaces, IsReachOf, IsLayoutOf};
 
 use grift_base::lists::{Items, OutOfMemory};
 use indexmap::IndexMap;
@@ -63,7 +64,7 @@ fn longest_sums(alloc: Global, items: &[RealItem]) -> Result<Items<u64>, OutOfMe
 fn chosen_sums(alloc: Global, reach: &Reach, items: &[RealItem]) -> Result<Items<u64>, OutOfMemory>
     requires few { length items.now ≤ 2 ^ 40 }
     requires small { reach.now.start < 2 ^ 61 }
-    requires reach { Reaches items.now reach.now }
+    requires reach { IsReachOf items.now reach.now }
     ensures { IfOk result (λ sums. HoldsSums sums (widths items.now reach.now.start)) }
 {
     let mut sums = Items::new(alloc);
@@ -126,10 +127,10 @@ fn width(near: bool, item: &RealItem) -> u64
 // ---- the layout
 
 impl Reach {
-    // That of a code that begins at this address.
+    // The reach of a code that begins at this address.
     fn new(alloc: Global, items: &[RealItem], start: u64) -> Result<Reach, OutOfMemory>
         requires few { length items.now ≤ 2 ^ 40 }
-        ensures reach { IfOk result (λ reach. Reaches items.now reach) }
+        ensures reach { IfOk result (λ reach. IsReachOf items.now reach) }
         ensures start { IfOk result (λ reach. reach.start ≡ start) }
     {
         let places = mark_places(alloc, items)?;
@@ -143,7 +144,7 @@ impl Reach {
 
     // The place of a mark, or that past the last item.
     fn place_of(&self, items: &[RealItem], mark: u32) -> usize
-        requires reach { Reaches items.now self.now }
+        requires reach { IsReachOf items.now self.now }
         ensures value { result ≡ mark_place mark items.now }
         ensures inside { result ≤ length items.now }
     {
@@ -156,7 +157,7 @@ impl Reach {
     // How many words lie before a place if every item has its longest form.
     fn widest_before(&self, items: &[RealItem], place: usize) -> u64
         requires inside { place ≤ length items.now }
-        requires reach { Reaches items.now self.now }
+        requires reach { IsReachOf items.now self.now }
         ensures value { result ≡ words_before (longest_widths items.now) place }
         ensures small { result ≤ 11 * place }
     {
@@ -167,8 +168,10 @@ impl Reach {
     fn is_within(&self, items: &[RealItem], place: usize, mark: u32, bytes: u64) -> bool
         requires few { length items.now ≤ 2 ^ 40 }
         requires inside { place ≤ length items.now }
-        requires reach { Reaches items.now self.now }
-        ensures { result ≡ nat_lt (4 * distance (words_before (longest_widths items.now) place) (words_before (longest_widths items.now) (mark_place mark items.now))) bytes }
+        requires reach { IsReachOf items.now self.now }
+        ensures { let widths = longest_widths items.now in
+            let there = words_before widths (mark_place mark items.now) in
+            result ≡ nat_lt (4 * distance (words_before widths place) there) bytes }
     {
         let here = self.widest_before(items, place);
         let there = self.widest_before(items, self.place_of(items, mark));
@@ -179,7 +182,7 @@ impl Reach {
     fn is_near(&self, items: &[RealItem], place: usize, item: &RealItem) -> bool
         requires few { length items.now ≤ 2 ^ 40 }
         requires small { self.now.start < 2 ^ 61 }
-        requires reach { Reaches items.now self.now }
+        requires reach { IsReachOf items.now self.now }
         requires inside { place ≤ length items.now }
         ensures { result ≡ is_near (longest_widths items.now) items.now self.now.start place item.now }
     {
@@ -196,11 +199,11 @@ impl Reach {
 }
 
 impl Layout {
-    // That of a code that begins at this address.
+    // The layout of a code that begins at this address.
     pub(crate) fn new(alloc: Global, items: &[RealItem], start: u64) -> Result<Layout, OutOfMemory>
         requires few { length items.now ≤ 2 ^ 40 }
         requires small { start < 2 ^ 61 }
-        ensures lies { IfOk result (λ layout. LiesSo items.now layout) }
+        ensures lies { IfOk result (λ layout. IsLayoutOf items.now layout) }
         ensures start { IfOk result (λ layout. layout.reach.start ≡ start) }
     {
         let reach = Reach::new(alloc, items, start)?;
@@ -212,7 +215,7 @@ impl Layout {
     pub(crate) fn is_near(&self, items: &[RealItem], place: usize, item: &RealItem) -> bool
         requires few { length items.now ≤ 2 ^ 40 }
         requires small { self.now.reach.start < 2 ^ 61 }
-        requires lies { LiesSo items.now self.now }
+        requires lies { IsLayoutOf items.now self.now }
         requires inside { place ≤ length items.now }
         ensures { result ≡ is_near (longest_widths items.now) items.now self.now.reach.start place item.now }
     {
@@ -223,7 +226,7 @@ impl Layout {
     pub(crate) fn address_of(&self, items: &[RealItem], place: usize) -> u64
         requires few { length items.now ≤ 2 ^ 40 }
         requires small { self.now.reach.start < 2 ^ 61 }
-        requires lies { LiesSo items.now self.now }
+        requires lies { IsLayoutOf items.now self.now }
         requires inside { place ≤ length items.now }
         ensures value { result ≡ address_of items.now self.now.reach.start place }
         ensures small { result < 2 ^ 62 }
@@ -235,7 +238,7 @@ impl Layout {
     fn address_of_mark(&self, items: &[RealItem], mark: u32) -> u64
         requires few { length items.now ≤ 2 ^ 40 }
         requires small { self.now.reach.start < 2 ^ 61 }
-        requires lies { LiesSo items.now self.now }
+        requires lies { IsLayoutOf items.now self.now }
         ensures value { result ≡ address_of items.now self.now.reach.start (mark_place mark items.now) }
         ensures small { result < 2 ^ 62 }
     {
@@ -246,7 +249,7 @@ impl Layout {
     pub(crate) fn target_of(&self, items: &[RealItem], item: &RealItem) -> u64
         requires few { length items.now ≤ 2 ^ 40 }
         requires small { self.now.reach.start < 2 ^ 61 }
-        requires lies { LiesSo items.now self.now }
+        requires lies { IsLayoutOf items.now self.now }
         ensures value { result ≡ target_of items.now self.now.reach.start item.now }
         ensures small { result < 2 ^ 62 }
     {

@@ -3,7 +3,7 @@
 
 pub mod assembly;
 pub mod bytes;
-pub mod forms;
+pub mod expansion;
 pub mod image;
 mod imaging;
 mod layout;

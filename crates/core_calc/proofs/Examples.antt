@@ -7,14 +7,18 @@ use Rattle.run_laws.specs.Runs.{Ending, Wrong, Moment}
 use Rattle.run_laws.specs.Runs.{Verdict as EndsWith}
 use Rattle.grift_base.specs.Types.{TypeRows, IntRow, BoolRow, UnitRow, DynRow, FunRow, TupleRow, RefRow, VectRow}
 use Rattle.grift_base.specs.declared.places.Pos.{Pos}
-use Rattle.grift_base.specs.declared.operators.PrimOp.TheVariants.{Add, Sub, Quot, Rem, Eq, PrintInt, Newline, MakeBox, Unbox, BoxSet, MakeVector, VectorRef, VectorSet, VectorLength}
+use Rattle.grift_base.specs.declared.operators.PrimOp.TheVariants.{Add, Sub, Quot, Rem, Eq, PrintInt, Newline, MakeBox}
+use Rattle.grift_base.specs.declared.operators.PrimOp.TheVariants.{Unbox, BoxSet, MakeVector, VectorRef, VectorSet}
+use Rattle.grift_base.specs.declared.operators.PrimOp.TheVariants.{VectorLength}
 use Rattle.grift_base.specs.declared.verdicts.AnswerKind.{AnswerKind}
 use Rattle.grift_base.specs.declared.verdicts.AnswerKind.TheVariants.{Int, Bool as Truth, Function, Vector}
 use Rattle.grift_base.specs.declared.verdicts.Trap.TheVariants.{ZeroDivisor, Index, Length}
 use Rattle.grift_base.specs.declared.verdicts.Verdict.{Verdict}
 use Rattle.grift_base.specs.declared.verdicts.Verdict.TheVariants.{Answer as AnswerVerdict, Blame, Trap as TrapVerdict}
 use Rattle.std.specs.Prelude.{ℤ}
-use Rattle.core_calc.specs.Terms.{Term, Terms, Members, IntLit, BoolLit, Var, Lambda, Group, Let, Call, Enter, If, Seq, Cast, Proj, ProjDyn, Tuple, Prim, NoTerms, TermThen, NoMembers, MemberThen, NoBindings, BindingThen, terms_from}
+use Rattle.core_calc.specs.Terms.{Term, Terms, Members, IntLit, BoolLit, Var, Lambda, Group, Let, Call, Enter, If, Seq}
+use Rattle.core_calc.specs.Terms.{Cast, Proj, ProjDyn, Tuple, Prim, NoTerms, TermThen, NoMembers, MemberThen}
+use Rattle.core_calc.specs.Terms.{NoBindings, BindingThen, terms_from}
 use Rattle.core_calc.specs.Calculus.{answer, CalcState, calc}
 
 -- ---- how the examples are written
@@ -69,7 +73,8 @@ unfolding int_wrap
 sum_ends = refl
 
 -- (+ 9223372036854775807 1)
-sum_wraps : (after [] [] 1 (Prim Add (two (int 9223372036854775807) (int 1)))).ending ≡ answers Int (negsuc 9223372036854775807)
+sum_wraps : (after [] [] 1 (Prim Add (two (int 9223372036854775807) (int 1)))).ending ≡
+    answers Int (negsuc 9223372036854775807)
 unfolding int_wrap
 sum_wraps = refl
 
@@ -78,11 +83,13 @@ zero_divisor : (after [] [] 1 (Prim Quot (two (int 1) (int 0)))).ending ≡ Some
 zero_divisor = refl
 
 -- (%/ -9223372036854775808 -1)
-quotient_wraps : (after [] [] 1 (Prim Quot (two (IntLit (negsuc 9223372036854775807)) (IntLit (negsuc 0))))).ending ≡ answers Int (negsuc 9223372036854775807)
+quotient_wraps : (after [] [] 1 (Prim Quot (two (IntLit (negsuc 9223372036854775807)) (IntLit (negsuc 0))))).ending ≡
+    answers Int (negsuc 9223372036854775807)
 quotient_wraps = refl
 
 -- (%% -7 2)
-remainder_has_sign_of_dividend : (after [] [] 1 (Prim Rem (two (IntLit (negsuc 6)) (int 2)))).ending ≡ answers Int (negsuc 0)
+remainder_has_sign_of_dividend : (after [] [] 1 (Prim Rem (two (IntLit (negsuc 6)) (int 2)))).ending ≡
+    answers Int (negsuc 0)
 remainder_has_sign_of_dividend = refl
 
 -- (begin (print-int (+ 40 2)) (newline) 7)
@@ -122,7 +129,8 @@ shadowing : (after [] [] 2 (let_one 0 (int 1) (let_one 0 (int 2) (Var 0)))).endi
 shadowing = refl
 
 -- (let ([x 1]) (let ([x x]) (+ x x))): a bound term is outside the new name
-bound_outside : (after [] [] 3 (let_one 0 (int 1) (let_one 0 (Var 0) (Prim Add (two (Var 0) (Var 0)))))).ending ≡ answers Int (pos 2)
+bound_outside : (after [] [] 3 (let_one 0 (int 1) (let_one 0 (Var 0) (Prim Add (two (Var 0) (Var 0)))))).ending ≡
+    answers Int (pos 2)
 unfolding int_wrap
 bound_outside = refl
 
@@ -130,25 +138,30 @@ abbrev int_to_int : TypeRows
 int_to_int = IntRow ∷ BoolRow ∷ UnitRow ∷ DynRow ∷ FunRow (0 ∷ []) 0 ∷ []
 
 -- (let ([x 1]) ((lambda ([x : Int]) : Int (+ x x)) 5)), both of one name
-parameter_hides : (after int_to_int [] 5 (let_one 0 (int 1) (Call (Lambda (0 ∷ []) (Prim Add (two (Var 0) (Var 0))) 4) (one (int 5))))).ending ≡ answers Int (pos 10)
+parameter_hides : (after int_to_int [] 5 (let_one 0 (int 1) (Call (Lambda (0 ∷ []) (Prim Add (two (Var 0) (Var 0))) 4)
+    (one (int 5))))).ending ≡ answers Int (pos 10)
 unfolding int_wrap
 parameter_hides = refl
 
--- (letrec ([even (lambda ([n : Int]) : Bool (if (= n 0) #t (odd (- n 1))))] [odd (lambda ([n : Int]) : Bool (if (= n 0) #f (even (- n 1))))]) (even 3))
+-- (letrec ([even (lambda ([n : Int]) : Bool (if (= n 0) #t (odd (- n 1))))] [odd (lambda ([n : Int]) : Bool (if (= n 0)
+-- #f (even (- n 1))))]) (even 3))
 abbrev counting_down : Term → ℕ → ℕ → Term
 counting_down at_zero parameter other =
     If (Prim Eq (two (Var parameter) (int 0))) at_zero (Call (Var other) (one (Prim Sub (two (Var parameter) (int 1)))))
 
 abbrev even_and_odd : Members
 even_and_odd =
-    MemberThen 0 (2 ∷ []) (counting_down (BoolLit true) 2 1) 4 (MemberThen 1 (3 ∷ []) (counting_down (BoolLit false) 3 0) 4 NoMembers)
+    MemberThen 0 (2 ∷ []) (counting_down (BoolLit true) 2 1) 4
+    (MemberThen 1 (3 ∷ []) (counting_down (BoolLit false) 3 0) 4 NoMembers)
 
-group_calls : (after (IntRow ∷ BoolRow ∷ UnitRow ∷ DynRow ∷ FunRow (0 ∷ []) 1 ∷ []) [] 30 (Group even_and_odd (Call (Var 0) (one (int 3))))).ending ≡ answers Truth (pos 0)
+group_calls : (after (IntRow ∷ BoolRow ∷ UnitRow ∷ DynRow ∷ FunRow (0 ∷ []) 1 ∷ []) [] 30
+    (Group even_and_odd (Call (Var 0) (one (int 3))))).ending ≡ answers Truth (pos 0)
 unfolding int_wrap
 group_calls = refl
 
 -- (lambda (x) x)
-function_shown : (after (DynRow ∷ FunRow (0 ∷ []) 0 ∷ []) [] 1 (Lambda (0 ∷ []) (Var 0) 1)).ending ≡ answers Function (pos 0)
+function_shown : (after (DynRow ∷ FunRow (0 ∷ []) 0 ∷ []) [] 1 (Lambda (0 ∷ []) (Var 0) 1)).ending ≡
+    answers Function (pos 0)
 function_shown = refl
 
 -- (1 2)
@@ -175,7 +188,8 @@ abbrev base_types : TypeRows
 base_types = BoolRow ∷ DynRow ∷ IntRow ∷ []
 
 -- (: (: #t Dyn) Int)
-blames_the_cast_out : (after base_types (at_column 4 ∷ at_column 1 ∷ []) 3 (Cast (Cast (BoolLit true) 0 1 0) 1 2 1)).ending ≡ blames (at_column 1)
+blames_the_cast_out : (after base_types (at_column 4 ∷ at_column 1 ∷ []) 3
+    (Cast (Cast (BoolLit true) 0 1 0) 1 2 1)).ending ≡ blames (at_column 1)
 blames_the_cast_out = refl
 
 -- a cast between equal types takes its step, and one from Dyn to Dyn gives its value
@@ -190,11 +204,14 @@ no_such_label : (after base_types [] 1 (Cast (int 5) 2 0 0)).ending ≡ Some Wro
 no_such_label = refl
 
 -- (if (: #f Dyn) 1 (: 2 Dyn))
-dyn_condition : (after base_types (at_column 5 ∷ at_column 16 ∷ at_column 18 ∷ []) 9 (If (Cast (Cast (BoolLit false) 0 1 0) 1 0 0) (Cast (int 1) 2 1 1) (Cast (int 2) 2 1 2))).ending ≡ answers Int (pos 2)
+dyn_condition : (after base_types (at_column 5 ∷ at_column 16 ∷ at_column 18 ∷ []) 9
+    (If (Cast (Cast (BoolLit false) 0 1 0) 1 0 0) (Cast (int 1) 2 1 1) (Cast (int 2) 2 1 2))).ending ≡
+    answers Int (pos 2)
 dyn_condition = refl
 
 -- (if (: 0 Dyn) 1 2)
-condition_blamed : (after base_types (at_column 5 ∷ []) 9 (If (Cast (Cast (int 0) 2 1 0) 1 0 0) (int 1) (int 2))).ending ≡ blames (at_column 5)
+condition_blamed : (after base_types (at_column 5 ∷ []) 9 (If (Cast (Cast (int 0) 2 1 0) 1 0 0) (int 1)
+    (int 2))).ending ≡ blames (at_column 5)
 condition_blamed = refl
 
 -- (let ([f (: (: (lambda ([x : Int]) : Int x) Dyn) (Bool -> Int))]) ..)
@@ -204,18 +221,23 @@ function_types = IntRow ∷ BoolRow ∷ DynRow ∷ FunRow (0 ∷ []) 0 ∷ FunRo
 abbrev with_wrapped : Term → Term
 with_wrapped body = let_one 1 (Cast (Cast (Lambda (0 ∷ []) (Var 0) 3) 3 2 0) 2 4 1) (seq (body ∷ []))
 
-function_casts_are_lazy : (after function_types (at_column 13 ∷ at_column 10 ∷ []) 20 (with_wrapped (int 5))).ending ≡ answers Int (pos 5)
+function_casts_are_lazy : (after function_types (at_column 13 ∷ at_column 10 ∷ []) 20 (with_wrapped (int 5))).ending ≡
+    answers Int (pos 5)
 function_casts_are_lazy = refl
 
-argument_blamed : (after function_types (at_column 13 ∷ at_column 10 ∷ []) 20 (with_wrapped (Call (Var 1) (one (BoolLit true))))).ending ≡ blames (at_column 10)
+argument_blamed : (after function_types (at_column 13 ∷ at_column 10 ∷ []) 20
+    (with_wrapped (Call (Var 1) (one (BoolLit true))))).ending ≡ blames (at_column 10)
 argument_blamed = refl
 
 -- ((: (lambda () 1) Dyn) 5): the function has another number of parameters
-wrong_count : (after (IntRow ∷ DynRow ∷ FunRow [] 0 ∷ FunRow (0 ∷ []) 1 ∷ []) (at_column 2 ∷ []) 9 (Call (Cast (Cast (Lambda [] (int 1) 2) 2 1 0) 1 3 0) (one (int 5)))).ending ≡ blames (at_column 2)
+wrong_count : (after (IntRow ∷ DynRow ∷ FunRow [] 0 ∷ FunRow (0 ∷ []) 1 ∷ []) (at_column 2 ∷ []) 9
+    (Call (Cast (Cast (Lambda [] (int 1) 2) 2 1 0) 1 3 0) (one (int 5)))).ending ≡ blames (at_column 2)
 wrong_count = refl
 
 -- ((: (lambda ([x : T]) : Bool #t) (Bool -> Bool)) #t), where the table does not have the type T
-parameter_type_missing : (after (IntRow ∷ BoolRow ∷ UnitRow ∷ DynRow ∷ FunRow (9 ∷ []) 1 ∷ FunRow (1 ∷ []) 1 ∷ []) (at_column 2 ∷ []) 9 (Call (Cast (Lambda (0 ∷ []) (BoolLit true) 4) 4 5 0) (one (BoolLit true)))).ending ≡ Some Wrong
+parameter_type_missing : (after (IntRow ∷ BoolRow ∷ UnitRow ∷ DynRow ∷ FunRow (9 ∷ []) 1 ∷ FunRow (1 ∷ []) 1 ∷ [])
+    (at_column 2 ∷ []) 9 (Call (Cast (Lambda (0 ∷ []) (BoolLit true) 4) 4 5 0) (one (BoolLit true)))).ending ≡
+    Some Wrong
 parameter_type_missing = refl
 
 -- four lines:
@@ -229,9 +251,13 @@ tenth_of_line number = record { line = number; col = 10 }
 
 abbrev two_wrappers : Term
 two_wrappers =
-    let_one 2 (Lambda (0 ∷ 1 ∷ []) (Var 0) 3) (let_one 3 (Cast (Var 2) 3 4 0) (let_one 4 (Cast (Var 3) 4 5 1) (Call (Var 4) (two (Cast (BoolLit true) 1 2 2) (Cast (BoolLit false) 1 2 2)))))
+    let_one 2 (Lambda (0 ∷ 1 ∷ []) (Var 0) 3)
+    (let_one 3 (Cast (Var 2) 3 4 0) (let_one 4 (Cast (Var 3) 4 5 1)
+    (Call (Var 4) (two (Cast (BoolLit true) 1 2 2) (Cast (BoolLit false) 1 2 2)))))
 
-first_argument_first : (after (IntRow ∷ BoolRow ∷ DynRow ∷ FunRow (0 ∷ 0 ∷ []) 0 ∷ FunRow (2 ∷ 0 ∷ []) 0 ∷ FunRow (2 ∷ 2 ∷ []) 0 ∷ []) (tenth_of_line 2 ∷ tenth_of_line 3 ∷ at_column 1 ∷ []) 30 two_wrappers).ending ≡ blames (tenth_of_line 2)
+first_argument_first : (after (IntRow ∷ BoolRow ∷ DynRow ∷ FunRow (0 ∷ 0 ∷ []) 0 ∷ FunRow (2 ∷ 0 ∷ []) 0 ∷
+    FunRow (2 ∷ 2 ∷ []) 0 ∷ []) (tenth_of_line 2 ∷ tenth_of_line 3 ∷ at_column 1 ∷ []) 30 two_wrappers).ending ≡
+    blames (tenth_of_line 2)
 first_argument_first = refl
 
 -- ---- tuples
@@ -267,12 +293,15 @@ box_types = IntRow ∷ RefRow 0 ∷ DynRow ∷ RefRow 2 ∷ BoolRow ∷ []
 
 abbrev through_the_box : Term → Term
 through_the_box written =
-    let_one 0 (Prim MakeBox (one (int 1))) (let_one 1 (Cast (Var 0) 1 3 0) (seq (Prim BoxSet (two (Var 1) written) ∷ Prim Unbox (one (Var 0)) ∷ [])))
+    let_one 0 (Prim MakeBox (one (int 1)))
+    (let_one 1 (Cast (Var 0) 1 3 0) (seq (Prim BoxSet (two (Var 1) written) ∷ Prim Unbox (one (Var 0)) ∷ [])))
 
-write_blamed : (after box_types (at_column 29 ∷ at_column 65 ∷ []) 20 (through_the_box (Cast (BoolLit true) 4 2 1))).ending ≡ blames (at_column 29)
+write_blamed : (after box_types (at_column 29 ∷ at_column 65 ∷ []) 20
+    (through_the_box (Cast (BoolLit true) 4 2 1))).ending ≡ blames (at_column 29)
 write_blamed = refl
 
-write_kept : (after box_types (at_column 29 ∷ at_column 65 ∷ []) 20 (through_the_box (Cast (int 7) 0 2 1))).ending ≡ answers Int (pos 7)
+write_kept : (after box_types (at_column 29 ∷ at_column 65 ∷ []) 20 (through_the_box (Cast (int 7) 0 2 1))).ending ≡
+    answers Int (pos 7)
 write_kept = refl
 
 -- (vector-ref (make-vector 3 0) ..)
@@ -289,7 +318,8 @@ negative_index : (after [] [] 2 (element_of_three (IntLit (negsuc 0)))).ending �
 negative_index = refl
 
 -- (make-vector -1 0)
-negative_length : (after [] [] 1 (Prim MakeVector (two (IntLit (negsuc 0)) (int 0)))).ending ≡ Some (EndsWith (TrapVerdict Length))
+negative_length : (after [] [] 1 (Prim MakeVector (two (IntLit (negsuc 0)) (int 0)))).ending ≡
+    Some (EndsWith (TrapVerdict Length))
 negative_length = refl
 
 -- (make-vector 100 0)
@@ -307,19 +337,26 @@ abbrev vector_labels : List Pos
 vector_labels = at_column 10 ∷ at_column 68 ∷ []
 
 -- (begin (vector-set! v 0 #t) (vector-ref v 0))
-element_blamed : (after vector_types vector_labels 20 (with_dyn_vector (seq (Prim VectorSet (three (Var 0) (int 0) (Cast (BoolLit true) 4 2 1)) ∷ Prim VectorRef (two (Var 0) (int 0)) ∷ [])))).ending ≡ blames (at_column 10)
+element_blamed : (after vector_types vector_labels 20
+    (with_dyn_vector (seq (Prim VectorSet (three (Var 0) (int 0) (Cast (BoolLit true) 4 2 1)) ∷
+    Prim VectorRef (two (Var 0) (int 0)) ∷ [])))).ending ≡ blames (at_column 10)
 element_blamed = refl
 
 -- (vector-set! v 3 #t): the index is tested before the value is cast
-index_before_cast : (after vector_types vector_labels 20 (with_dyn_vector (Prim VectorSet (three (Var 0) (int 3) (Cast (BoolLit true) 4 2 1))))).ending ≡ Some (EndsWith (TrapVerdict Index))
+index_before_cast : (after vector_types vector_labels 20
+    (with_dyn_vector (Prim VectorSet (three (Var 0) (int 3) (Cast (BoolLit true) 4 2 1))))).ending ≡
+    Some (EndsWith (TrapVerdict Index))
 index_before_cast = refl
 
 -- (begin (vector-set! v 2 8) (vector-ref v 2))
-element_kept : (after vector_types vector_labels 20 (with_dyn_vector (seq (Prim VectorSet (three (Var 0) (int 2) (Cast (int 8) 0 2 1)) ∷ Prim VectorRef (two (Var 0) (int 2)) ∷ [])))).ending ≡ answers Int (pos 8)
+element_kept : (after vector_types vector_labels 20
+    (with_dyn_vector (seq (Prim VectorSet (three (Var 0) (int 2) (Cast (int 8) 0 2 1)) ∷
+    Prim VectorRef (two (Var 0) (int 2)) ∷ [])))).ending ≡ answers Int (pos 8)
 element_kept = refl
 
 -- (vector-length v)
-length_through_wrapper : (after vector_types vector_labels 20 (with_dyn_vector (Prim VectorLength (one (Var 0))))).ending ≡ answers Int (pos 3)
+length_through_wrapper : (after vector_types vector_labels 20
+    (with_dyn_vector (Prim VectorLength (one (Var 0))))).ending ≡ answers Int (pos 3)
 length_through_wrapper = refl
 
 -- v

@@ -1,5 +1,20 @@
+pub mod Public
 mod Examples
 mod TypedExamples
-pub mod Output
-pub mod Endings
-pub mod Substituting
+mod Output
+mod Endings
+mod Substituting
+mod Redexes
+mod ListPlaces
+mod RowsOfTables
+mod MoreCells
+mod SubstitutionKeepsTypes
+mod TypedValues
+mod CanonicalForms
+mod OneType
+mod StoredCells
+mod CallsKeepTypes
+mod OperatorsKeepTypes
+mod StepsKeepTypes
+mod RunsKeepTypes
+mod AnswerKinds

@@ -1,5 +1,6 @@
 -- Types of small programs, and tables of types.
-use Rattle.std.proofs.Common.{◌≡◌, ℕ, zero, suc, ◌<◌, List, [], ◌∷◌, Option, Some, refl, true, false, sym, ap, subst, arith, length, slice_get}
+use Rattle.std.proofs.Common.{◌≡◌, ℕ, zero, suc, ◌<◌, List, [], ◌∷◌, Option, Some, refl, true, false, sym, ap, subst}
+use Rattle.std.proofs.Common.{arith, length, slice_get}
 use Rattle.std.specs.Prelude.{All}
 use Rattle.std.proofs.lemmas.List.Elements.{All-nil, All-cons}
 use Rattle.grift_base.specs.Tables.{HasNoRepeats}
@@ -10,7 +11,8 @@ use Rattle.core_calc.specs.Typing.{HasType, IsTypeTable, ProgramTermHasType}
 -- ---- tables of types
 
 -- what stands nowhere in a list may stand in front of it
-no_repeats_in_front : {T : Type 0} (x : T) (xs : List T) → ((j : ℕ) → Some x ≡ slice_get xs j → ⊥) → HasNoRepeats xs → HasNoRepeats (x ∷ xs)
+no_repeats_in_front : {T : Type 0} (x : T) (xs : List T) → ((j : ℕ) → Some x ≡ slice_get xs j → ⊥) → HasNoRepeats xs →
+    HasNoRepeats (x ∷ xs)
 no_repeats_in_front x xs absent apart zero zero within e = refl
 no_repeats_in_front x xs absent apart zero (suc j) within e = absurd (absent j e)
 no_repeats_in_front x xs absent apart (suc i) zero within e = absurd (absent i (sym e))
@@ -42,7 +44,8 @@ function_once j e = cc
 
 rows_are_distinct : HasNoRepeats rows
 rows_are_distinct =
-    no_repeats_in_front BoolRow last_rows bool_once (no_repeats_in_front DynRow last_row dyn_once (no_repeats_in_front (FunRow (0 ∷ []) 0) [] function_once nothing_repeats))
+    no_repeats_in_front BoolRow last_rows bool_once (no_repeats_in_front DynRow last_row dyn_once
+    (no_repeats_in_front (FunRow (0 ∷ []) 0) [] function_once nothing_repeats))
 
 abbrev IsRow : ℕ → Type 0
 IsRow part = part < length rows
@@ -56,7 +59,8 @@ third_row_has_rows = All-cons IsRow 0 (0 ∷ []) (omega arith) (All-cons IsRow 0
 
 rows_are_closed : All HasRows rows
 rows_are_closed =
-    All-cons HasRows BoolRow last_rows (All-nil IsRow) (All-cons HasRows DynRow last_row (All-nil IsRow) (All-cons HasRows (FunRow (0 ∷ []) 0) [] third_row_has_rows (All-nil HasRows)))
+    All-cons HasRows BoolRow last_rows (All-nil IsRow) (All-cons HasRows DynRow last_row (All-nil IsRow)
+    (All-cons HasRows (FunRow (0 ∷ []) 0) [] third_row_has_rows (All-nil HasRows)))
 
 rows_are_a_table : IsTypeTable rows
 rows_are_a_table = record { distinct = rows_are_distinct; closed = rows_are_closed }
@@ -70,10 +74,17 @@ part_missing_refused table =
     let below : 9 < 6 = table.closed 4 IntRow (omega arith) 0 0 (omega arith) in
     omega arith
 
--- ((: (lambda ([x : T]) : Bool #t) (Bool -> Bool)) #t), where T is the type that is missing: all else is as it should be, and its run goes wrong
-typed_but_for_the_table : HasType with_a_part_missing [] [] (Call (Cast (Lambda (0 ∷ []) (BoolLit true) 4) 4 5 0) (TermThen (BoolLit true) NoTerms)) 1
-typed_but_for_the_table =
-    (5, 1 ∷ [], (refl, (refl, (9 ∷ [], 1, (0, 9) ∷ [], refl, refl, refl)), (FunRow (1 ∷ []) 1, refl)), refl, (1, [], refl, refl, refl))
+-- ((: (lambda ([x : T]) : Bool #t) (Bool -> Bool)) #t), where T is the type that is missing: all else is as it should
+-- be, and its run goes wrong
+typed_but_for_the_table : HasType with_a_part_missing 1 [] [] (Call (Cast (Lambda (0 ∷ []) (BoolLit true) 4) 4 5 0)
+    (TermThen (BoolLit true) NoTerms)) 1
+typed_but_for_the_table = (
+  5,
+  1 ∷ [],
+  (refl, (refl, (9 ∷ [], 1, (0, 9) ∷ [], refl, refl, refl)), (FunRow (1 ∷ []) 1, refl), omega arith),
+  refl,
+  (1, [], refl, refl, refl),
+)
 
 -- Dyn at two places
 dyn_twice_refused : IsTypeTable (DynRow ∷ BoolRow ∷ DynRow ∷ []) → ⊥
@@ -87,25 +98,33 @@ dyn_twice_refused table =
 abbrev identity_call : Term
 identity_call = Call (Lambda (0 ∷ []) (Var 0) 2) (TermThen (BoolLit true) NoTerms)
 
-identity_called : HasType rows [] [] identity_call 0
+identity_called : HasType rows 1 [] [] identity_call 0
 identity_called =
     (2, 0 ∷ [], (refl, (0 ∷ [], 0, (0, 0) ∷ [], refl, refl, refl)), refl, (0, [], refl, refl, refl))
 
 no_binder_else : (j : ℕ) → ◌≡◌ {A = Option ℕ} (Some 0) (slice_get [] j) → ⊥
 no_binder_else j e = cc
 
-identity_call_is_program : ProgramTermHasType rows identity_call 0
-identity_call_is_program = (rows_are_a_table, (tt, (tt, tt)), no_repeats_in_front 0 [] no_binder_else nothing_repeats, identity_called)
+identity_call_is_program : ProgramTermHasType rows 1 identity_call 0
+identity_call_is_program =
+    (rows_are_a_table, (tt, (tt, tt)), no_repeats_in_front 0 [] no_binder_else nothing_repeats, identity_called)
 
 -- (: #t Dyn)
-cast_to_dyn : HasType rows [] [] (Cast (BoolLit true) 0 1 0) 1
-cast_to_dyn = (refl, refl, (DynRow, refl))
+cast_to_dyn : HasType rows 1 [] [] (Cast (BoolLit true) 0 1 0) 1
+cast_to_dyn = (refl, refl, (DynRow, refl), omega arith)
 
 -- (if (: #t Dyn) #t #f) without the cast of its condition to Bool
 dyn_is_no_bool : Some DynRow ≡ Some BoolRow → ⊥
 dyn_is_no_bool e = cc
 
-dyn_condition_refused : (type : ℕ) → HasType rows [] [] (If (Cast (BoolLit true) 0 1 0) (BoolLit true) (BoolLit false)) type → ⊥
+dyn_condition_refused : (type : ℕ) → HasType rows 1 [] [] (If (Cast (BoolLit true) 0 1 0) (BoolLit true)
+    (BoolLit false)) type → ⊥
 dyn_condition_refused type typed =
     let IsBool : ℕ → Type 0 = λ condition. row_at rows condition ≡ Some BoolRow in
     dyn_is_no_bool (subst IsBool (sym typed.1.0) typed.2)
+
+-- a cast with a label that there is not
+label_missing_refused : (type : ℕ) → HasType rows 1 [] [] (Cast (BoolLit true) 0 1 1) type → ⊥
+label_missing_refused type typed =
+    let below : 1 < 1 = typed.3 in
+    omega arith

@@ -8,10 +8,12 @@ use Rattle.grift_base.specs.declared.places.Pos.{Pos}
 use Rattle.grift_base.specs.declared.verdicts.Trap.{Trap}
 use Rattle.grift_base.specs.declared.verdicts.Answer.{Answer}
 use Rattle.grift_base.specs.declared.verdicts.AnswerKind.{AnswerKind}
-use Rattle.grift_base.specs.declared.verdicts.AnswerKind.TheVariants.{Int, Bool as Truth, Unit as UnitKind, Function, Tuple, Boxed, Vector}
+use Rattle.grift_base.specs.declared.verdicts.AnswerKind.TheVariants.{Int, Bool as Truth, Unit as UnitKind, Function}
+use Rattle.grift_base.specs.declared.verdicts.AnswerKind.TheVariants.{Tuple, Boxed, Vector}
 use Rattle.grift_base.specs.declared.verdicts.Verdict.{Verdict}
 use Rattle.grift_base.specs.declared.verdicts.Verdict.TheVariants.{Answer as AnswerVerdict, Blame, Trap as TrapVerdict}
-use Rattle.core_calc.specs.Terms.{Term, Value, IntValue, BoolValue, UnitValue, FunValue, MemberValue, TupleValue, LocValue, WrapValue, InjectValue, as_value}
+use Rattle.core_calc.specs.Terms.{Term, Value, IntValue, BoolValue, UnitValue, FunValue, MemberValue, TupleValue}
+use Rattle.core_calc.specs.Terms.{LocValue, WrapValue, InjectValue, as_value}
 use Rattle.core_calc.specs.Outcome.{Store, Outcome, Goes, Blames, Traps, Stuck}
 use Rattle.core_calc.specs.Step.{step}
 
@@ -49,7 +51,13 @@ pub record CalcState : Type 0 where
 
 -- the state with this term; it has ended where the term is a value
 abbrev pub state_of : Term → Store → WorldState → CalcState
-state_of term store world = record { term = term; store = store; world = world; ended = option_map (λ v. Answered (shown_value v)) (as_value term) }
+state_of term store world =
+    record {
+      term = term;
+      store = store;
+      world = world;
+      ended = option_map (λ v. Answered (shown_value v)) (as_value term);
+    }
 
 -- the state at first: no cells, no output, none of the input read
 abbrev pub start : Term → List ℕ → CalcState

@@ -12,7 +12,8 @@ with_rows types from to go = with_some (row_at types from) (λ row. with_some (r
 -- the types of a part of both types
 abbrev pub with_part_of_both : {A : Type 0} → TypeRows → (TypeRow → Option ℕ) → ℕ → ℕ → (ℕ → ℕ → Outcome A) → Outcome A
 with_part_of_both types part from to go =
-    with_rows types from to (λ row other. with_some (part row) (λ inner. with_some (part other) (λ outer. go inner outer)))
+    with_rows types from to (λ row other. with_some (part row)
+    (λ inner. with_some (part other) (λ outer. go inner outer)))
 
 module _ (types : TypeRows) (store : Store) (world : WorldState) where
   -- a value out of Dyn is cast from the type that it kept

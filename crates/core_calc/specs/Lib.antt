@@ -3,8 +3,10 @@ pub mod Substitution
 pub mod Outcome
 pub mod Casts
 pub mod Calls
+pub mod Redex
 pub mod Operators
 pub mod Step
 pub mod Calculus
 pub mod Views
 pub mod Typing
+pub mod ValueHeads

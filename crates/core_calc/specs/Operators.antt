@@ -1,14 +1,20 @@
 -- Operators on values.
-use Rattle.std.specs.Prelude.{ℕ, ℤ, pos, negsuc, ◌+ℤ◌, ◌-ℤ◌, ◌*ℤ◌, Bool, true, false, not, if◌then◌else◌, int_lt, int_le, int_rem, List, [], ◌∷◌, ◌++◌, length, replicate, codes, Option, None, slice_get, slice_set}
+use Rattle.std.specs.Prelude.{ℕ, ℤ, pos, negsuc, ◌+ℤ◌, ◌-ℤ◌, ◌*ℤ◌, Bool, true, false, not, if◌then◌else◌, int_lt}
+use Rattle.std.specs.Prelude.{int_le, int_rem, List, [], ◌∷◌, ◌++◌, length, replicate, codes, Option, Some, None}
+use Rattle.std.specs.Prelude.{slice_get, slice_set}
 use Rattle.std.specs.Ordering.{int_eq}
 use Rattle.std.specs.Int.{int_wrap, int_wrapping_div, w64}
 use Rattle.std.specs.Fmt.{signed_decimal}
 use Rattle.grift_base.specs.World.{WorldState, printing}
 use Rattle.grift_base.specs.Types.{TypeRows, content_of}
 use Rattle.grift_base.specs.declared.operators.PrimOp.{PrimOp}
-use Rattle.grift_base.specs.declared.operators.PrimOp.TheVariants.{Add, Sub, Mul, Quot, Rem, Lt, Le, Eq, Ge, Gt, Not, PrintInt, Newline, ReadInt, MakeBox, Unbox, BoxSet, MakeVector, VectorRef, VectorSet, VectorLength}
-use Rattle.grift_base.specs.declared.verdicts.Trap.TheVariants.{ZeroDivisor, Index, Length}
-use Rattle.core_calc.specs.Terms.{Term, Value, Cast, Prim, ValueTerm, IntValue, BoolValue, UnitValue, LocValue, WrapValue, terms_from}
+use Rattle.grift_base.specs.declared.operators.PrimOp.TheVariants.{Add, Sub, Mul, Quot, Rem, Lt, Le, Eq, Ge, Gt, Not}
+use Rattle.grift_base.specs.declared.operators.PrimOp.TheVariants.{PrintInt, Newline, ReadInt, MakeBox, Unbox, BoxSet}
+use Rattle.grift_base.specs.declared.operators.PrimOp.TheVariants.{MakeVector, VectorRef, VectorSet, VectorLength}
+use Rattle.grift_base.specs.declared.verdicts.Trap.TheVariants.{ZeroDivisor, Index, Length, Input}
+use Rattle.core_calc.specs.Terms.{Term, Value, Cast, Prim, ValueTerm, IntValue, BoolValue, UnitValue, LocValue}
+use Rattle.core_calc.specs.Terms.{WrapValue, terms_from}
+use Rattle.grift_base.specs.Reading.{next_number, past_white, past_run}
 use Rattle.core_calc.specs.Outcome.{Store, Outcome, Goes, Traps, Stuck, if_some, with_some}
 use Rattle.core_calc.specs.Casts.{with_part_of_both}
 
@@ -41,7 +47,8 @@ module _ (types : TypeRows) (store : Store) (world : WorldState) where
   computes f values = on_ints (λ a b. gives (IntValue (int_wrap w64 (f a b)))) values
 
   abbrev pub divides : (ℤ → ℤ → ℤ) → List Value → Outcome Term
-  divides f values = on_ints (λ a b. if int_eq b (pos 0) then Traps ZeroDivisor world else gives (IntValue (f a b))) values
+  divides f values =
+      on_ints (λ a b. if int_eq b (pos 0) then Traps ZeroDivisor world else gives (IntValue (f a b))) values
 
   abbrev pub compares : (ℤ → ℤ → Bool) → List Value → Outcome Term
   compares test values = on_ints (λ a b. gives (BoolValue (test a b))) values
@@ -76,7 +83,8 @@ module _ (types : TypeRows) (store : Store) (world : WorldState) where
   -- a write through a wrapper: the value is cast from what the outer type holds to what the inner one holds
   abbrev pub cast_written : (Term → Term) → Value → ℕ → ℕ → ℕ → Outcome Term
   cast_written write v from to label =
-      with_part_of_both types content_of from to (λ inner outer. Goes (write (Cast (ValueTerm v) outer inner label)) store world)
+      with_part_of_both types content_of from to (λ inner outer.
+      Goes (write (Cast (ValueTerm v) outer inner label)) store world)
 
   abbrev pub make_box_step : List Value → Outcome Term
   make_box_step (v ∷ []) = new_cell (v ∷ []) false
@@ -113,9 +121,12 @@ module _ (types : TypeRows) (store : Store) (world : WorldState) where
   -- an index outside the cell traps before the written value is cast
   abbrev pub vector_set_step : List Value → Outcome Term
   vector_set_step (LocValue cell true ∷ IntValue i ∷ v ∷ []) =
-      with_some (slice_get store cell) (λ elements. with_element elements i (λ place old. writes_cell cell (slice_set elements place v)))
+      with_some (slice_get store cell) (λ elements. with_element elements i (λ place old.
+      writes_cell cell (slice_set elements place v)))
   vector_set_step (WrapValue vector from label to ∷ IntValue i ∷ v ∷ []) =
-      with_some (cell_behind vector store) (λ elements. with_element elements i (λ place old. cast_written (λ written. Prim VectorSet (terms_from (ValueTerm vector ∷ ValueTerm (IntValue i) ∷ written ∷ []))) v from to label))
+      with_some (cell_behind vector store) (λ elements. with_element elements i (λ place old.
+      cast_written (λ written. Prim VectorSet (terms_from (ValueTerm vector ∷ ValueTerm (IntValue i) ∷ written ∷
+      []))) v from to label))
   vector_set_step _ = Stuck
 
   abbrev pub vector_length_step : List Value → Outcome Term
@@ -125,7 +136,18 @@ module _ (types : TypeRows) (store : Store) (world : WorldState) where
       Goes (Prim VectorLength (terms_from (ValueTerm vector ∷ []))) store world
   vector_length_step _ = Stuck
 
-  -- ---- the step of an operator on values; reading the input has no step yet
+  -- ---- input
+
+  -- what comes of the number that was looked for
+  abbrev pub reads : Option ℤ → Outcome Term
+  reads (Some n) = Goes (ValueTerm (IntValue n)) store (past_run world)
+  reads None = Traps Input (past_white world)
+
+  abbrev pub read_step : List Value → Outcome Term
+  read_step [] = reads (next_number world)
+  read_step _ = Stuck
+
+  -- ---- the step of an operator on values
 
   abbrev pub operator_step : PrimOp → List Value → Outcome Term
   operator_step Add values = computes (λ a b. a +ℤ b) values
@@ -141,7 +163,7 @@ module _ (types : TypeRows) (store : Store) (world : WorldState) where
   operator_step Not values = on_bool (λ b. gives (BoolValue (not b))) values
   operator_step PrintInt values = on_int (λ a. prints (signed_decimal a)) values
   operator_step Newline values = newline_step values
-  operator_step ReadInt values = Stuck
+  operator_step ReadInt values = read_step values
   operator_step MakeBox values = make_box_step values
   operator_step Unbox values = unbox_step values
   operator_step BoxSet values = box_set_step values

@@ -1,6 +1,10 @@
--- Values put in the place of names, several at once. Values are closed, so nothing is put into them, and no name is captured.
+-- Values put in the place of names, several at once. Values are closed, so nothing is put into them, and no name is
+-- captured.
 use Rattle.std.specs.Prelude.{ℕ, suc, Bool, true, false, cond, nat_eq, List, [], ◌∷◌, Option, Some, None}
-use Rattle.core_calc.specs.Terms.{Term, Terms, Members, Bindings, Value, IntLit, BoolLit, UnitLit, Var, Lambda, Group, Let, Call, Enter, If, Seq, Cast, Proj, ProjDyn, Tuple, Prim, ValueTerm, NoTerms, TermThen, NoMembers, MemberThen, NoBindings, BindingThen, MemberValue, both_in_front, member_names, binding_names}
+use Rattle.core_calc.specs.Terms.{Term, Terms, Members, Bindings, Value, IntLit, BoolLit, UnitLit, Var, Lambda, Group}
+use Rattle.core_calc.specs.Terms.{Let, Call, Enter, If, Seq, Cast, Proj, ProjDyn, Tuple, Prim, ValueTerm, NoTerms}
+use Rattle.core_calc.specs.Terms.{TermThen, NoMembers, MemberThen, NoBindings, BindingThen, MemberValue, both_in_front}
+use Rattle.core_calc.specs.Terms.{member_names, binding_names}
 
 -- names with their values; the first entry of a name counts
 abbrev pub Substitution : Type 0
@@ -38,7 +42,8 @@ abbrev mutual
       Let (substitute_bindings bindings values) (substitute body (without (binding_names bindings) values))
   substitute (Call function arguments) values = Call (substitute function values) (substitute_terms arguments values)
   substitute (Enter function arguments) values = Enter (substitute function values) (substitute_terms arguments values)
-  substitute (If condition on_true on_false) values = If (substitute condition values) (substitute on_true values) (substitute on_false values)
+  substitute (If condition on_true on_false) values =
+      If (substitute condition values) (substitute on_true values) (substitute on_false values)
   substitute (Seq terms) values = Seq (substitute_terms terms values)
   substitute (Cast term from to label) values = Cast (substitute term values) from to label
   substitute (Proj term k) values = Proj (substitute term values) k

@@ -1,4 +1,5 @@
--- Terms and values of the calculus. Names, types and labels are numbers: a type is a place in the table of types, a label one in the table of labels.
+-- Terms and values of the calculus. Names, types and labels are numbers: a type is a place in the table of types, a
+-- label one in the table of labels.
 use Rattle.std.specs.Prelude.{ℕ, suc, ◌+◌, ℤ, Bool, List, [], ◌∷◌, Option, Some, None}
 use Rattle.grift_base.specs.declared.operators.PrimOp.{PrimOp}
 
@@ -89,6 +90,29 @@ values_from (v ∷ rest) = ValueThen v (values_from rest)
 abbrev pub value_list : Values → List Value
 value_list NoValues = []
 value_list (ValueThen v rest) = v ∷ value_list rest
+
+-- a function of a group
+pub record Member : Type 0 where
+  pub name : ℕ
+  pub parameters : List ℕ
+  pub body : Term
+  pub type : ℕ
+
+-- the functions of a group as a list
+abbrev pub member_list : Members → List Member
+member_list NoMembers = []
+member_list (MemberThen name parameters body type rest) =
+    record { name = name; parameters = parameters; body = body; type = type } ∷ member_list rest
+
+-- a name and the term that it is bound to
+pub record Binding : Type 0 where
+  pub name : ℕ
+  pub bound : Term
+
+-- bindings as a list
+abbrev pub binding_list : Bindings → List Binding
+binding_list NoBindings = []
+binding_list (BindingThen name bound rest) = record { name = name; bound = bound } ∷ binding_list rest
 
 -- the first in front of the others, if all are there
 abbrev pub both_in_front : {A : Type 0} → Option A → Option (List A) → Option (List A)

@@ -1,13 +1,26 @@
-// Terms of the calculus.
+// Terms and values of the calculus.
 
-ghost use Rattle.std.specs.Prelude.{◌≡◌, ◌==◌, ◌∷◌, [], length, min, reverse, slice_get, OnOk, OnErr, MatchOption, None, Some};
-ghost use Rattle.core_calc.specs.Terms.{node_count, node_count_of_all, term_list};
-ghost use Rattle.core_calc.specs.Views.{term_of, terms_of};
+ghost use Rattle.std.specs.Prelude.{◌≡◌, ◌==◌, ◌∷◌, [], length, min, reverse, slice_get};
+ghost use Rattle.std.specs.Prelude.{OnOk, OnErr, MatchOption, None, Some};
+ghost use Rattle.core_calc.specs.Terms.{term_list, member_list, binding_list, value_list};
+ghost use Rattle.core_calc.specs.Views.{term_of, terms_of, member_of, members_of};
+ghost use Rattle.core_calc.specs.Views.{binding_of, bindings_of, value_of, values_of};
 
-use grift_base::lists::OutOfMemory;
+use grift_base::lists::{Items, OutOfMemory};
 use grift_base::operators::PrimOp;
+use grift_base::places::{LabelId, TypeId};
 use std::alloc::Global;
 use std::mem;
+
+#[cfg(test)]
+mod tests;
+
+/// The number of a name, which its binder has alone.
+#[derive(Clone, Copy, PartialEq, Eq, Hash, Debug)]
+pub struct VarId(pub u32);
+
+/// Names in order.
+pub type VarIds = Items<VarId>;
 
 /// A term of the calculus.
 #[cycle(core)]
@@ -15,23 +28,38 @@ use std::mem;
 pub enum Core {
     /// An integer as it is written.
     Int(i64),
+    /// A truth value as it is written.
+    Bool(bool),
     /// The one value of the unit type, as it is written.
     Unit,
+    /// A name.
+    Var(VarId),
+    /// A function: its parameters, its body and its type.
+    Lambda(VarIds, Box<Core>, TypeId),
+    /// Functions that know each other, and a body that knows them.
+    Group(GroupMembers, Box<Core>),
+    /// Names bound at once, outside each other's scope, and a body.
+    Let(CoreBindings, Box<Core>),
+    /// A call as it is written: the function and its arguments.
+    Call(Box<Core>, CoreList),
+    /// A call whose function and arguments were values.
+    Enter(Box<Core>, CoreList),
+    /// A condition, the term where it is true, and that where it is false.
+    If(Box<Core>, Box<Core>, Box<Core>),
     /// Terms one after another; the last one gives the value.
     Seq(CoreList),
+    /// A cast from a type to a type, which blames its label where it fails.
+    Cast(Box<Core>, TypeId, TypeId, LabelId),
+    /// A part of a tuple, counted from 0.
+    Proj(Box<Core>, i64),
+    /// A part of the tuple that Dyn holds; the label is blamed where it holds none with that part.
+    ProjDyn(Box<Core>, i64, LabelId),
+    /// A tuple, by its parts.
+    Tuple(CoreList),
     /// An operator and its operands.
     Prim(PrimOp, CoreList),
     /// A value.
     Value(Value),
-}
-
-/// A value of the calculus.
-#[derive(Clone, Copy, PartialEq, Eq, Debug)]
-pub enum Value {
-    /// An integer.
-    Int(i64),
-    /// The one value of the unit type.
-    Unit,
 }
 
 /// Terms in order.
@@ -43,7 +71,77 @@ pub enum CoreList {
     Cons(Box<Core>, Box<CoreList>),
 }
 
-// A loop, since a list may be longer than the process's stack is deep.
+/// A function of a group: its name, its parameters, its body and its type.
+#[cycle(core)]
+#[derive(Drop)]
+pub struct GroupMember {
+    pub name: VarId,
+    pub params: VarIds,
+    pub body: Core,
+    pub ty: TypeId,
+}
+
+/// The functions of a group in order.
+#[cycle(core)]
+pub enum GroupMembers {
+    /// No function.
+    Nil,
+    /// The first one, and those behind it.
+    Cons(Box<GroupMember>, Box<GroupMembers>),
+}
+
+/// A name and the term that it is bound to.
+#[cycle(core)]
+#[derive(Drop)]
+pub struct CoreBinding {
+    pub name: VarId,
+    pub value: Core,
+}
+
+/// Bindings in order.
+#[cycle(core)]
+pub enum CoreBindings {
+    /// No binding.
+    Nil,
+    /// The first one, and those behind it.
+    Cons(Box<CoreBinding>, Box<CoreBindings>),
+}
+
+/// A value of the calculus.
+#[cycle(core)]
+#[derive(Drop)]
+pub enum Value {
+    /// An integer.
+    Int(i64),
+    /// A truth value.
+    Bool(bool),
+    /// The one value of the unit type.
+    Unit,
+    /// A function: its parameters, its body and its type.
+    Fun(VarIds, Box<Core>, TypeId),
+    /// A group, and the place of this function in it, from 0.
+    GroupMember(GroupMembers, u32),
+    /// A tuple, by its parts.
+    Tuple(Values),
+    /// The place of a cell, from 0, and whether it is a vector.
+    Loc(u32, bool),
+    /// A value seen through a cast: from a type, under a label, to a type.
+    Wrap(Box<Value>, TypeId, LabelId, TypeId),
+    /// A value in Dyn, and the type that it keeps.
+    Inject(Box<Value>, TypeId),
+}
+
+/// Values in order.
+#[cycle(core)]
+pub enum Values {
+    /// No value.
+    Nil,
+    /// The first one, and those behind it.
+    Cons(Box<Value>, Box<Values>),
+}
+
+// Each list is dropped by a loop, since it may be longer than the process's stack is deep.
+
 impl Drop for CoreList {
     #[cycle(core)]
     fn drop(mut self) {
@@ -56,21 +154,43 @@ impl Drop for CoreList {
     }
 }
 
-impl Core {
-    /// The number of nodes of the term, or `u64::MAX` where there are more.
-    #[cycle(count)]
-    pub fn node_count(&self) -> u64
-        ensures { result ≡ min u64.MAX (node_count (term_of self.now)) }
-    {
-        match self {
-            Core::Int(_) => 1,
-            Core::Unit => 1,
-            Core::Value(_) => 1,
-            Core::Seq(terms) => terms.node_count().saturating_add(1),
-            Core::Prim(_, operands) => operands.node_count().saturating_add(1),
+impl Drop for GroupMembers {
+    #[cycle(core)]
+    fn drop(mut self) {
+        loop {
+            match self {
+                GroupMembers::Nil => return,
+                GroupMembers::Cons(_, rest) => self = Box::into_inner(rest),
+            }
         }
     }
 }
+
+impl Drop for CoreBindings {
+    #[cycle(core)]
+    fn drop(mut self) {
+        loop {
+            match self {
+                CoreBindings::Nil => return,
+                CoreBindings::Cons(_, rest) => self = Box::into_inner(rest),
+            }
+        }
+    }
+}
+
+impl Drop for Values {
+    #[cycle(core)]
+    fn drop(mut self) {
+        loop {
+            match self {
+                Values::Nil => return,
+                Values::Cons(_, rest) => self = Box::into_inner(rest),
+            }
+        }
+    }
+}
+
+// Lists are built from the front and turned round, so that nothing walks them for each element.
 
 impl CoreList {
     /// The empty list.
@@ -80,7 +200,14 @@ impl CoreList {
         CoreList::Nil
     }
 
-    /// How many terms there are.
+    /// Whether there is no term.
+    pub fn is_empty(&self) -> bool
+        ensures { result ≡ (length (term_list (terms_of self.now)) == 0) }
+    {
+        matches!(self, CoreList::Nil)
+    }
+
+    /// How many terms there are, or `u64::MAX` where there are more.
     pub fn len(&self) -> u64
         ensures { result ≡ min u64.MAX (length (term_list (terms_of self.now))) }
     {
@@ -100,7 +227,7 @@ impl CoreList {
     /// The term at place `i`, counted from 0; none exactly where there are no more than `i` terms.
     pub fn get(&self, i: u64) -> Option<&Core>
         ensures { MatchOption result (slice_get (term_list (terms_of self.now)) i ≡ None)
-            (λ term. slice_get (term_list (terms_of self.now)) i ≡ Some (term_of term.now)) }
+            (λ item. slice_get (term_list (terms_of self.now)) i ≡ Some (term_of item.now)) }
     {
         let mut place = i;
         let mut left = self;
@@ -115,11 +242,11 @@ impl CoreList {
     }
 
     /// Puts a term in front of the others.
-    pub fn push_front(&mut self, alloc: Global, term: Core) -> Result<(), OutOfMemory>
-        ensures ok { OnOk result (term_list (terms_of self.new) ≡ term_of term ∷ term_list (terms_of self.old)) }
+    pub fn push_front(&mut self, alloc: Global, item: Core) -> Result<(), OutOfMemory>
+        ensures ok { OnOk result (term_list (terms_of self.new) ≡ term_of item ∷ term_list (terms_of self.old)) }
         ensures err { OnErr result (self.new ≡ self.old) }
     {
-        let first = Box::new(alloc, term)?;
+        let first = Box::new(alloc, item)?;
         let mut rest = Box::new(alloc, CoreList::Nil)?;
         *rest = mem::replace(self, CoreList::Nil);
         *self = CoreList::Cons(first, rest);
@@ -141,63 +268,240 @@ impl CoreList {
             }
         }
     }
+}
 
-    /// The number of nodes of all the terms, or `u64::MAX` where there are more.
-    #[cycle(count)]
-    pub fn node_count(&self) -> u64
-        ensures { result ≡ min u64.MAX (node_count_of_all (terms_of self.now)) }
+impl GroupMembers {
+    /// The empty list.
+    pub fn new() -> GroupMembers
+        ensures { member_list (members_of result) ≡ [] }
+    {
+        GroupMembers::Nil
+    }
+
+    /// Whether there is no function.
+    pub fn is_empty(&self) -> bool
+        ensures { result ≡ (length (member_list (members_of self.now)) == 0) }
+    {
+        matches!(self, GroupMembers::Nil)
+    }
+
+    /// How many functions there are, or `u64::MAX` where there are more.
+    pub fn len(&self) -> u64
+        ensures { result ≡ min u64.MAX (length (member_list (members_of self.now))) }
     {
         let mut count = 0u64;
         let mut left = self;
         loop {
             match left {
-                CoreList::Nil => return count,
-                CoreList::Cons(first, rest) => {
-                    count = count.saturating_add(first.node_count());
+                GroupMembers::Nil => return count,
+                GroupMembers::Cons(_, rest) => {
+                    count = count.saturating_add(1);
                     left = rest;
+                }
+            }
+        }
+    }
+
+    /// The function at place `i`, counted from 0; none exactly where there are no more than `i` functions.
+    pub fn get(&self, i: u64) -> Option<&GroupMember>
+        ensures { MatchOption result (slice_get (member_list (members_of self.now)) i ≡ None)
+            (λ item. slice_get (member_list (members_of self.now)) i ≡ Some (member_of item.now)) }
+    {
+        let mut place = i;
+        let mut left = self;
+        while let GroupMembers::Cons(first, rest) = left {
+            if place == 0 {
+                return Some(first);
+            }
+            place -= 1;
+            left = rest;
+        }
+        None
+    }
+
+    /// Puts a function in front of the others.
+    pub fn push_front(&mut self, alloc: Global, item: GroupMember) -> Result<(), OutOfMemory>
+        ensures ok { OnOk result
+            (member_list (members_of self.new) ≡ member_of item ∷ member_list (members_of self.old)) }
+        ensures err { OnErr result (self.new ≡ self.old) }
+    {
+        let first = Box::new(alloc, item)?;
+        let mut rest = Box::new(alloc, GroupMembers::Nil)?;
+        *rest = mem::replace(self, GroupMembers::Nil);
+        *self = GroupMembers::Cons(first, rest);
+        Ok(())
+    }
+
+    /// The same functions in the other order.
+    pub fn reversed(mut self) -> GroupMembers
+        ensures { member_list (members_of result) ≡ reverse (member_list (members_of self)) }
+    {
+        let mut turned = GroupMembers::Nil;
+        loop {
+            match self {
+                GroupMembers::Nil => return turned,
+                GroupMembers::Cons(first, mut rest) => {
+                    self = mem::replace(&mut *rest, turned);
+                    turned = GroupMembers::Cons(first, rest);
                 }
             }
         }
     }
 }
 
-#[cfg(test)]
-mod tests {
-    use super::*;
-    use std::test::Fail;
+impl CoreBindings {
+    /// The empty list.
+    pub fn new() -> CoreBindings
+        ensures { binding_list (bindings_of result) ≡ [] }
+    {
+        CoreBindings::Nil
+    }
 
-    // Integers from 0 below `end`, the greatest first.
-    fn falling(alloc: Global, end: i64) -> Result<CoreList, OutOfMemory> {
-        let mut terms = CoreList::new();
-        for number in 0..end {
-            terms.push_front(alloc, Core::Int(number))?;
+    /// Whether there is no binding.
+    pub fn is_empty(&self) -> bool
+        ensures { result ≡ (length (binding_list (bindings_of self.now)) == 0) }
+    {
+        matches!(self, CoreBindings::Nil)
+    }
+
+    /// How many bindings there are, or `u64::MAX` where there are more.
+    pub fn len(&self) -> u64
+        ensures { result ≡ min u64.MAX (length (binding_list (bindings_of self.now))) }
+    {
+        let mut count = 0u64;
+        let mut left = self;
+        loop {
+            match left {
+                CoreBindings::Nil => return count,
+                CoreBindings::Cons(_, rest) => {
+                    count = count.saturating_add(1);
+                    left = rest;
+                }
+            }
         }
-        Ok(terms)
     }
 
-    #[test]
-    fn lists_are_built_from_the_front(rt: HostRuntime) -> Result<(), Fail> {
-        let terms = falling(rt.alloc(), 3)?.reversed();
-        assert_eq!(rt; terms.len(), 3);
-        assert!(rt; matches!(terms.get(0), Some(Core::Int(0))));
-        assert!(rt; matches!(terms.get(2), Some(Core::Int(2))));
-        assert!(rt; terms.get(3).is_none());
+    /// The binding at place `i`, counted from 0; none exactly where there are no more than `i` bindings.
+    pub fn get(&self, i: u64) -> Option<&CoreBinding>
+        ensures { MatchOption result (slice_get (binding_list (bindings_of self.now)) i ≡ None)
+            (λ item. slice_get (binding_list (bindings_of self.now)) i ≡ Some (binding_of item.now)) }
+    {
+        let mut place = i;
+        let mut left = self;
+        while let CoreBindings::Cons(first, rest) = left {
+            if place == 0 {
+                return Some(first);
+            }
+            place -= 1;
+            left = rest;
+        }
+        None
+    }
+
+    /// Puts a binding in front of the others.
+    pub fn push_front(&mut self, alloc: Global, item: CoreBinding) -> Result<(), OutOfMemory>
+        ensures ok { OnOk result
+            (binding_list (bindings_of self.new) ≡ binding_of item ∷ binding_list (bindings_of self.old)) }
+        ensures err { OnErr result (self.new ≡ self.old) }
+    {
+        let first = Box::new(alloc, item)?;
+        let mut rest = Box::new(alloc, CoreBindings::Nil)?;
+        *rest = mem::replace(self, CoreBindings::Nil);
+        *self = CoreBindings::Cons(first, rest);
         Ok(())
     }
 
-    #[test]
-    fn nodes_are_counted_at_every_depth(rt: HostRuntime) -> Result<(), Fail> {
-        let mut terms = CoreList::new();
-        terms.push_front(rt.alloc(), Core::Value(Value::Unit))?;
-        terms.push_front(rt.alloc(), Core::Prim(PrimOp::Add, falling(rt.alloc(), 2)?))?;
-        assert_eq!(rt; Core::Seq(terms).node_count(), 5);
+    /// The same bindings in the other order.
+    pub fn reversed(mut self) -> CoreBindings
+        ensures { binding_list (bindings_of result) ≡ reverse (binding_list (bindings_of self)) }
+    {
+        let mut turned = CoreBindings::Nil;
+        loop {
+            match self {
+                CoreBindings::Nil => return turned,
+                CoreBindings::Cons(first, mut rest) => {
+                    self = mem::replace(&mut *rest, turned);
+                    turned = CoreBindings::Cons(first, rest);
+                }
+            }
+        }
+    }
+}
+
+impl Values {
+    /// The empty list.
+    pub fn new() -> Values
+        ensures { value_list (values_of result) ≡ [] }
+    {
+        Values::Nil
+    }
+
+    /// Whether there is no value.
+    pub fn is_empty(&self) -> bool
+        ensures { result ≡ (length (value_list (values_of self.now)) == 0) }
+    {
+        matches!(self, Values::Nil)
+    }
+
+    /// How many values there are, or `u64::MAX` where there are more.
+    pub fn len(&self) -> u64
+        ensures { result ≡ min u64.MAX (length (value_list (values_of self.now))) }
+    {
+        let mut count = 0u64;
+        let mut left = self;
+        loop {
+            match left {
+                Values::Nil => return count,
+                Values::Cons(_, rest) => {
+                    count = count.saturating_add(1);
+                    left = rest;
+                }
+            }
+        }
+    }
+
+    /// The value at place `i`, counted from 0; none exactly where there are no more than `i` values.
+    pub fn get(&self, i: u64) -> Option<&Value>
+        ensures { MatchOption result (slice_get (value_list (values_of self.now)) i ≡ None)
+            (λ item. slice_get (value_list (values_of self.now)) i ≡ Some (value_of item.now)) }
+    {
+        let mut place = i;
+        let mut left = self;
+        while let Values::Cons(first, rest) = left {
+            if place == 0 {
+                return Some(first);
+            }
+            place -= 1;
+            left = rest;
+        }
+        None
+    }
+
+    /// Puts a value in front of the others.
+    pub fn push_front(&mut self, alloc: Global, item: Value) -> Result<(), OutOfMemory>
+        ensures ok { OnOk result (value_list (values_of self.new) ≡ value_of item ∷ value_list (values_of self.old)) }
+        ensures err { OnErr result (self.new ≡ self.old) }
+    {
+        let first = Box::new(alloc, item)?;
+        let mut rest = Box::new(alloc, Values::Nil)?;
+        *rest = mem::replace(self, Values::Nil);
+        *self = Values::Cons(first, rest);
         Ok(())
     }
 
-    #[test]
-    fn a_long_list_is_dropped_without_recursion(rt: HostRuntime) -> Result<(), Fail> {
-        let terms = falling(rt.alloc(), 131068)?;
-        assert_eq!(rt; terms.len(), 131068);
-        Ok(())
+    /// The same values in the other order.
+    pub fn reversed(mut self) -> Values
+        ensures { value_list (values_of result) ≡ reverse (value_list (values_of self)) }
+    {
+        let mut turned = Values::Nil;
+        loop {
+            match self {
+                Values::Nil => return turned,
+                Values::Cons(first, mut rest) => {
+                    self = mem::replace(&mut *rest, turned);
+                    turned = Values::Cons(first, rest);
+                }
+            }
+        }
     }
 }

@@ -1,5 +1,5 @@
 -- What reading from a stream and a put of bytes into a stream come to.
-use Rattle.std.specs.Prelude.{ℕ, ◌+◌, ◌≤◌, List, length, Option, IfSome, IsSomeAnd, Result, Ok, Err}
+use Rattle.std.specs.Prelude.{ℕ, ◌+◌, ◌≤◌, List, length, Option, Some, IfSome, IsSomeAnd, Result, Ok, Err}
 use Rattle.std.specs.Io.KnownBytes.{Appends}
 use Rattle.grift_base.specs.Sink.{AddsBeginning}
 use Rattle.grift_base.specs.declared.sinks.SinkFault.{SinkFault}
@@ -9,7 +9,7 @@ use Rattle.grift_base.specs.declared.sinks.SinkFault.TheVariants.{Failed, OutOfM
 -- where it failed a beginning of them; memory is never wanted
 abbrev pub PutsInto : {A : Type 0} → List ℕ → Result A SinkFault → Option (List ℕ) → Option (List ℕ) → Type 0
 PutsInto bytes (Ok done) old new = Appends old new bytes
-PutsInto bytes (Err Failed) old new = IfSome old (λ before. IsSomeAnd new (AddsBeginning bytes before))
+PutsInto bytes (Err Failed) old new = IfSome old (λ before. AddsBeginning bytes (Some before) new)
 PutsInto bytes (Err OutOfMemory) old new = ⊥
 
 -- a reader, where it is known what it has left, gave no more than so many bytes

@@ -46,7 +46,6 @@ impl<F: Files> Shelf for FileShelf<F> {
     fn load(&mut self, alloc: Global, name: &str, max: usize) -> Result<Vec<u8>, LoadFault>
         ensures loads { Loads None max result }
         ensures count { Counts (load_failed result) self.old.faults self.new.faults }
-        ensures exact { self.new.faults ≡ (if load_failed result then next_count self.old.faults else self.old.faults) }
     {
         let answer = load_file(alloc, &self.files, name, max);
         if answer == Err(LoadFault::Failed) {
@@ -129,7 +128,6 @@ impl<W: Write> Sink for StreamSink<W> {
     fn put(&mut self, bytes: &[u8]) -> Result<(), SinkFault>
         ensures stream { PutsInto bytes.now result (W.contents self.old.stream) (W.contents self.new.stream) }
         ensures count { Counts (put_failed result) self.old.faults self.new.faults }
-        ensures exact { self.new.faults ≡ (if put_failed result then next_count self.old.faults else self.old.faults) }
     {
         let answer = write_whole(&mut self.stream, bytes);
         self.faults = faults_after(self.faults, answer);
@@ -141,8 +139,8 @@ impl<W: Write> Sink for StreamSink<W> {
     }
 }
 
-/// A sink that writes to the file at a path. The first put makes the file, and empties one that is there; it fails where
-/// that fails, and then the next put tries it anew. A put that fails half-way leaves in the file what was written.
+/// A sink that writes to the file at a path. The first put makes the file, and empties one that is there; it fails
+/// where that fails, and then the next put tries it anew. A put that fails half-way leaves in the file what was written.
 #[derive(Drop)]
 pub struct FileSink<'a, F: Files> {
     files: F,
@@ -173,13 +171,18 @@ impl<'a, F: Files> Sink for FileSink<'a, F> {
     ghost fault_count = { λ sink. sink.faults };
 
     fn put(&mut self, bytes: &[u8]) -> Result<(), SinkFault>
-        ensures puts { Puts bytes.now result None None }
+        ensures puts { Puts bytes.now result (record {
+          written = None;
+          written_after = None;
+          faults = self.old.faults;
+          faults_after = self.new.faults;
+        }) }
         ensures made { OnOk result (IsSome self.new.file) }
         ensures kept { IsSome self.old.file → IsSome self.new.file }
         ensures path { self.new.path.now ≡ self.old.path.now }
-        ensures file { PutsInto bytes.now result (option_and_then F.File.contents self.old.file) (option_and_then F.File.contents self.new.file) }
-        ensures count { Counts (put_failed result) self.old.faults self.new.faults }
-        ensures exact { self.new.faults ≡ (if put_failed result then next_count self.old.faults else self.old.faults) }
+        ensures file { PutsInto bytes.now result
+            (option_and_then F.File.contents self.old.file)
+            (option_and_then F.File.contents self.new.file) }
     {
         let answer = put_into_file(&self.files, self.path, &mut self.file, bytes);
         self.faults = faults_after(self.faults, answer);
@@ -200,7 +203,9 @@ fn put_into_file<F: Files>(
 ) -> Result<(), SinkFault>
     ensures made { OnOk result (IsSome file.new) }
     ensures kept { IsSome file.old → IsSome file.new }
-    ensures puts { PutsInto bytes.now result (option_and_then F.File.contents file.old) (option_and_then F.File.contents file.new) }
+    ensures puts { PutsInto bytes.now result
+        (option_and_then F.File.contents file.old)
+        (option_and_then F.File.contents file.new) }
 {
     if let Some(open) = file {
         return write_whole(open, bytes);
@@ -211,15 +216,15 @@ fn put_into_file<F: Files>(
     answer
 }
 
-// Makes the file at this path, or empties the one that is there. Where a standard stream was closed, the system gives its
-// number to the file, and what is put into that stream would go there; no clone of a handle has the number of one.
+// Makes the file at this path, or empties the one that is there. Where a standard stream was closed, the system gives
+// its number to the file, and what is put into that stream would go there; no clone of a handle has the number of one.
 fn make_file<F: Files>(files: &F, path: &str) -> io::Result<F::File> {
     fs::create(files, path)?.try_clone()
 }
 
 // The count of faults after a put with this answer.
 fn faults_after(faults: u64, answer: Result<(), SinkFault>) -> u64
-    ensures { result ≡ (if put_failed answer then next_count faults else faults) }
+    ensures { Counts (put_failed answer) faults result }
 {
     if answer == Err(SinkFault::Failed) {
         faults.saturating_add(1)

@@ -6,8 +6,8 @@ mod adapters;
 use crate::adapters::{ErrSink, FileShelf, FileSink, OutSink};
 use grift_base::lists::OutOfMemory;
 use grift_base::sinks::{DropSink, Sink};
+use grift_cli::commands::image_name;
 use grift_cli::top::{grift, put_want_of_memory};
-use grift_cli::words::image_name;
 use std::env;
 use std::io::ErrorKind;
 use std::process::ExitCode;
@@ -23,8 +23,8 @@ fn main(rt: HostRuntime) -> ExitCode {
     ExitCode::from(status)
 }
 
-// Does what the words say, with this sink for an image, and answers the status. It is 9 where a put fails half-way, be it
-// the image's: then the file keeps what was written before.
+// Does what the words say, with this sink for an image, and answers the status. It is 9 where a put fails half-way, be
+// it the image's: then the file keeps what was written before.
 fn run<I: Sink>(rt: HostRuntime, words: &[String], img: &mut I) -> u8 {
     let mut shelf = FileShelf::new(rt);
     let mut out = OutSink::new(rt.stdout());

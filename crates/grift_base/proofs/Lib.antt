@@ -1,2 +1,5 @@
-pub mod TableLemmas
-pub mod PosLemmas
+pub mod Public
+mod TableLemmas
+mod PosLemmas
+mod Numerals
+mod ReadingExamples

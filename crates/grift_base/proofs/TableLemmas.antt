@@ -1,5 +1,6 @@
 -- What a set that keeps its order says of its keys as a table, where its test tells whether two entries are the same.
-use Rattle.std.proofs.Common.{◌≡◌, ◌≢◌, ℕ, ◌<◌, ◌++◌, ◌∷◌, [], List, Bool, true, false, Some, refl, sym, ap, ◌∙◌, true≢false, inl, inr, slice_get, Contains, if◌then◌else◌, arith, Decides}
+use Rattle.std.proofs.Common.{◌≡◌, ◌≢◌, ℕ, ◌<◌, ◌++◌, ◌∷◌, [], List, Bool, true, false, Some, refl, sym, ap, ◌∙◌}
+use Rattle.std.proofs.Common.{true≢false, inl, inr, slice_get, Contains, if◌then◌else◌, arith, Decides}
 use Rattle.std.proofs.lemmas.Option.{slice_get_cases, slice_get_within, get_or_from_slice_get}
 use Rattle.std.proofs.lemmas.Map.Made.{AllPairs-from_IsDistinct}
 use Rattle.std.proofs.lemmas.Map.Views.{Contains-from_any, list_any-from_Contains}
@@ -9,7 +10,8 @@ use Rattle.indexmap.specs.IndexSet.{insert_key}
 use Rattle.grift_base.specs.Tables.{HasNoRepeats, Interns}
 
 -- where no two elements are the same, one element stands at one place
-at_one_place : {T : Type 0} (xs : List T) → AllPairs (λ x y. x ≢ y) xs → (i j : ℕ) (x : T) → slice_get xs i ≡ Some x → slice_get xs j ≡ Some x → i ≡ j
+at_one_place : {T : Type 0} (xs : List T) → AllPairs (λ x y. x ≢ y) xs → (i j : ℕ) (x : T) → slice_get xs i ≡ Some x
+    → slice_get xs j ≡ Some x → i ≡ j
 at_one_place xs apart i j x at_i at_j =
     let same = get_or_from_slice_get xs i x x at_i ∙ sym (get_or_from_slice_get xs j x x at_j) in
     let not_before : i < j → ⊥ = λ l. apart i j x l (slice_get_within xs j x at_j) same in

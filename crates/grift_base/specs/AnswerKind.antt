@@ -1,7 +1,8 @@
 -- The number of each kind of answer.
 use Rattle.std.specs.Prelude.{ℕ}
 use Rattle.grift_base.specs.declared.verdicts.AnswerKind.{AnswerKind}
-use Rattle.grift_base.specs.declared.verdicts.AnswerKind.TheVariants.{Int, Bool, Unit as UnitKind, Function, Tuple, Boxed, Vector}
+use Rattle.grift_base.specs.declared.verdicts.AnswerKind.TheVariants.{Int, Bool, Unit as UnitKind, Function, Tuple}
+use Rattle.grift_base.specs.declared.verdicts.AnswerKind.TheVariants.{Boxed, Vector}
 
 abbrev pub answer_kind_number : AnswerKind → ℕ
 answer_kind_number Int = 0

@@ -4,10 +4,12 @@ use Rattle.std.specs.Fmt.{signed_decimal}
 use Rattle.std.specs.Int.{cast_signed, w64}
 use Rattle.grift_base.specs.World.{WorldState, printing}
 use Rattle.grift_base.specs.declared.verdicts.AnswerKind.{AnswerKind}
-use Rattle.grift_base.specs.declared.verdicts.AnswerKind.TheVariants.{Int, Bool, Unit as UnitKind, Function, Tuple, Boxed, Vector}
+use Rattle.grift_base.specs.declared.verdicts.AnswerKind.TheVariants.{Int, Bool, Unit as UnitKind, Function, Tuple}
+use Rattle.grift_base.specs.declared.verdicts.AnswerKind.TheVariants.{Boxed, Vector}
 use Rattle.grift_base.specs.declared.verdicts.Trap.TheVariants.{ZeroDivisor, Index, Length, Input}
 use Rattle.grift_base.specs.declared.worlds.EnvEffect.{EnvEffect}
-use Rattle.grift_base.specs.declared.worlds.EnvEffect.TheVariants.{Next, Ended, Blamed, Trapped, RegionOut, StackOut, Refused, OutOfMemory}
+use Rattle.grift_base.specs.declared.worlds.EnvEffect.TheVariants.{Next, Ended, Blamed, Trapped, RegionOut, StackOut}
+use Rattle.grift_base.specs.declared.worlds.EnvEffect.TheVariants.{Refused, OutOfMemory}
 
 -- what the call comes to, and the outside after it
 pub record Called : Type 0 where
@@ -22,7 +24,8 @@ ends_plain kind word = if word == 0 then Ended (record { kind = kind; word = cas
 abbrev pub ends : ℕ → ℕ → EnvEffect
 ends kind word =
     if kind == 0 then Ended (record { kind = Int; word = cast_signed w64 word })
-    else if kind == 1 then (if nat_le word 1 then Ended (record { kind = Bool; word = cast_signed w64 word }) else Refused)
+    else if kind == 1 then (if nat_le word 1 then Ended (record { kind = Bool; word = cast_signed w64 word }) else
+    Refused)
     else if kind == 2 then ends_plain UnitKind word
     else if kind == 3 then ends_plain Function word
     else if kind == 4 then ends_plain Tuple word
@@ -55,7 +58,8 @@ environment_call number a0 a1 labels w =
 abbrev pub Prints : ℕ → Type 0
 Prints number = IsTrue ((number == 1) || (number == 2))
 
--- what came of the call in the program: what it comes to, or, where it prints, want of memory with the outside as before
+-- what came of the call in the program: what it comes to, or, where it prints, want of memory with the outside as
+-- before
 abbrev pub MakesCall : Called → ℕ → WorldState → EnvEffect → WorldState → Type 0
 MakesCall c number old OutOfMemory new = Prints number × (new ≡ old)
 MakesCall c number old effect new = (effect ≡ c.effect) × (new ≡ c.world)

@@ -1,5 +1,7 @@
 pub mod Words
 pub mod World
+pub mod Numbers
+pub mod Reading
 pub mod EnvironmentCall
 pub mod Refusals
 pub mod Trap
@@ -7,6 +9,7 @@ pub mod AnswerKind
 pub mod VerdictLine
 pub mod Tables
 pub mod Outside
+pub mod Sizes
 pub mod Shelf
 pub mod Sink
 pub mod Types

@@ -1,7 +1,12 @@
 -- The number and the text of each kind of refusal.
 use Rattle.std.specs.Prelude.{ℕ, List, codes}
 use Rattle.grift_base.specs.declared.refusals.RefusalKind.{RefusalKind}
-use Rattle.grift_base.specs.declared.refusals.RefusalKind.TheVariants.{BadByte, Unclosed, Unopened, NumberRange, TooDeep, Empty, NotInProfile, BadForm, RepeatedName, TooWide, TooManyForms, ReservedName, Unbound, NotConsistent, NotFunction, WrongCount, NotTuple, NoSuchPart, NotRef, NotVector, TypeTooLarge}
+use Rattle.grift_base.specs.declared.refusals.RefusalKind.TheVariants.{BadByte, Unclosed, Unopened, NumberRange}
+use Rattle.grift_base.specs.declared.refusals.RefusalKind.TheVariants.{TooDeep, Empty, NotInProfile, BadForm}
+use Rattle.grift_base.specs.declared.refusals.RefusalKind.TheVariants.{RepeatedName, TooWide, TooManyForms}
+use Rattle.grift_base.specs.declared.refusals.RefusalKind.TheVariants.{ReservedName, Unbound, NotConsistent}
+use Rattle.grift_base.specs.declared.refusals.RefusalKind.TheVariants.{NotFunction, WrongCount, NotTuple, NoSuchPart}
+use Rattle.grift_base.specs.declared.refusals.RefusalKind.TheVariants.{NotRef, NotVector, TypeTooLarge}
 
 abbrev pub refusal_number : RefusalKind → ℕ
 refusal_number BadByte = 1

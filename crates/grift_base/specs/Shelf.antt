@@ -1,9 +1,32 @@
 -- What a load from a shelf comes to, and a shelf in memory as data.
-use Rattle.std.specs.Prelude.{ℕ, ◌≡◌, ◌<◌, ◌≤◌, ◌==◌, ◌||◌, Bool, true, false, List, [], ◌∷◌, ◌++◌, length, find, Option, IfSome, option_map, is_none, Vec, Result, Ok, Err, bytes_eq, if◌then◌else◌}
+use Rattle.std.specs.Prelude.{ℕ, ◌≡◌, ◌<◌, ◌≤◌, ◌==◌, ◌||◌, Bool, true, false, List, [], ◌∷◌, ◌++◌, length, find}
+use Rattle.std.specs.Prelude.{Option, IfSome, option_map, is_none, Vec, Result, Ok, Err, bytes_eq, if◌then◌else◌}
 use Rattle.std.specs.List.{list_any}
 use Rattle.grift_base.specs.Outside.{next_count}
 use Rattle.grift_base.specs.declared.shelves.LoadFault.{LoadFault}
 use Rattle.grift_base.specs.declared.shelves.LoadFault.TheVariants.{Failed, TooLong, OutOfMemory}
+
+-- ---- a shelf over a call
+
+-- what is seen of a shelf: what names hold and the names that it was asked for, where these are told, and the count of
+-- its faults, before and after a call
+pub record ShelfSeen : Type 0 where
+  pub holds : List ℕ → Option (List ℕ)
+  pub asked : Option (List (List ℕ))
+  pub asked_after : Option (List (List ℕ))
+  pub faults : ℕ
+  pub faults_after : ℕ
+
+-- what is seen of two states of a shelf, told how these are read off a state
+abbrev pub shelf_seen : {S : Type 0} → (S → List ℕ → Option (List ℕ)) → (S → Option (List (List ℕ))) → (S → ℕ) → S → S
+    → ShelfSeen
+shelf_seen holds asked fault_count old new = record {
+  holds = holds old;
+  asked = asked old;
+  asked_after = asked new;
+  faults = fault_count old;
+  faults_after = fault_count new;
+}
 
 -- whether a load failed
 abbrev pub load_failed : {A : Type 0} → Result A LoadFault → Bool
@@ -27,7 +50,9 @@ asked_after (Err Failed) name names = names ++ name ∷ []
 asked_after (Err TooLong) name names = names ++ name ∷ []
 asked_after (Err OutOfMemory) name names = names
 
--- a shelf in memory: its files, the numbers of the loads that are to fail, the names that it was asked for
+-- ---- a shelf in memory
+
+-- its files, the numbers of the loads that are to fail, the names that it was asked for
 -- and the count of its faults
 pub record ShelfState : Type 0 where
   pub files : List (List ℕ × List ℕ)
@@ -41,7 +66,8 @@ held files name = option_map (λ file. file.1) (find (λ file. bytes_eq file.0 n
 
 -- whether a load of this name fails: its number, counted from 0, was told, or the name isn't there
 abbrev pub fails_to_load : ShelfState → List ℕ → Bool
-fails_to_load shelf name = list_any (λ call. call == length shelf.asked) shelf.failing || is_none (held shelf.files name)
+fails_to_load shelf name =
+    list_any (λ call. call == length shelf.asked) shelf.failing || is_none (held shelf.files name)
 
 -- a load with this answer found no memory, or failed exactly where it was to
 abbrev pub FailsWhere : {A : Type 0} → Bool → Result A LoadFault → Type 0

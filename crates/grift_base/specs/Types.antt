@@ -1,5 +1,6 @@
 -- Types: a type is a row of a table, and the parts of a row are places in the table.
-use Rattle.std.specs.Prelude.{ℕ, ℤ, pos, suc, nat_eq, Bool, true, false, cond, List, [], ◌∷◌, ◌++◌, length, Option, Some, None, slice_get}
+use Rattle.std.specs.Prelude.{ℕ, ℤ, pos, suc, nat_eq, Bool, true, false, cond, List, [], ◌∷◌, ◌++◌, length, Option}
+use Rattle.std.specs.Prelude.{Some, None, slice_get}
 
 -- a row; what it holds are the places of its parts
 pub data TypeRow : Type 0 where

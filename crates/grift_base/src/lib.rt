@@ -2,11 +2,13 @@
 #![tactic(auto)]
 
 pub mod lists;
+pub mod numbers;
 pub mod operators;
 pub mod places;
 pub mod refusals;
 pub mod shelves;
 pub mod sinks;
+pub mod sizes;
 pub mod verdicts;
 pub mod words;
 pub mod worlds;

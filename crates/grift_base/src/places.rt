@@ -122,4 +122,17 @@ mod tests {
         assert_eq!(rt; labels.as_slice(), [first, second].as_slice());
         Ok(())
     }
+
+    // Each of 1,000 labels gets the next place, and keeps it.
+    #[test]
+    fn many_labels_have_places(rt: HostRuntime) -> Result<(), Fail> {
+        let mut labels = LabelTable::new(rt.alloc());
+        for _round in 0..2 {
+            for line in 0..1000 {
+                assert_eq!(rt; labels.intern(Pos { line, col: 7 })?, LabelId(line));
+            }
+        }
+        assert_eq!(rt; labels.len(), 1000);
+        Ok(())
+    }
 }

@@ -1,8 +1,7 @@
 // Where output goes.
 
 ghost use Rattle.std.specs.Prelude.{ℕ, ◌≡◌, List, [], Option, Some, None, IsOk, IfOk};
-ghost use Rattle.grift_base.specs.Outside.{Counts};
-ghost use Rattle.grift_base.specs.Sink.{Puts, put_failed, fails_to_put, sink_after};
+ghost use Rattle.grift_base.specs.Sink.{Puts, put_failed, fails_to_put, sink_after, sink_seen};
 
 use crate::lists::{Bytes, CallList, OutOfMemory};
 use std::alloc::Global;
@@ -42,8 +41,7 @@ pub trait Sink {
     /// Writes these bytes. `Failed` comes only where the count of faults rises, and then a beginning of the bytes is
     /// written. After `OutOfMemory` the sink is as before.
     fn put(&mut self, bytes: &[u8]) -> Result<(), SinkFault>
-        ensures puts { Puts bytes.now result (written self.old) (written self.new) }
-        ensures count { Counts (put_failed result) (fault_count self.old) (fault_count self.new) };
+        ensures { Puts bytes.now result (sink_seen written fault_count self.old self.new) };
 
     /// How many puts failed, up to the last value of u64.
     fn faults(&self) -> u64
@@ -97,7 +95,6 @@ impl Sink for MemSink {
     fn put(&mut self, bytes: &[u8]) -> Result<(), SinkFault>
         ensures fails { put_failed result ≡ fails_to_put self.old }
         ensures sink { self.new ≡ sink_after result bytes.now self.old }
-        ensures count { Counts (put_failed result) self.old.faults self.new.faults }
     {
         if self.failing.as_slice().contains(&self.calls) {
             self.calls = self.calls.saturating_add(1);

@@ -1,12 +1,17 @@
 // What a program sees of the outside.
 
-ghost use Rattle.std.specs.Prelude.{◌≡◌, ◌≤◌, ◌<◌, ◌%◌, nat_lt, if◌then◌else◌, [], ◌∷◌, OnOk, OnErr};
+ghost use Rattle.std.specs.Prelude.{◌≡◌, ◌≤◌, ◌<◌, ◌%◌, nat_lt, not, if◌then◌else◌};
+ghost use Rattle.std.specs.Prelude.{[], ◌∷◌, length, OnOk, OnErr, option_and_then};
 ghost use Rattle.std.specs.Fmt.{signed_decimal};
 ghost use Rattle.std.specs.Int.{cast_signed, w64};
+ghost use Rattle.std.specs.List.{prefix_len};
 ghost use Rattle.grift_base.specs.World.{WorldState, printing};
+ghost use Rattle.grift_base.specs.Numbers.{in_word, number_of};
+ghost use Rattle.grift_base.specs.Reading.{is_white, next_number, after_reading};
 ghost use Rattle.grift_base.specs.EnvironmentCall.{environment_call, ends, traps, Called, MakesCall, StaysUnlessNext};
 
 use crate::lists::{Bytes, OutOfMemory};
+use crate::numbers::{integer, is_integer};
 use crate::verdicts::{Answer, AnswerKind, Trap};
 use itoa::Buffer;
 use std::alloc::Global;
@@ -82,6 +87,24 @@ impl World {
         self.output.push(b)
     }
 
+    /// The number that stands next in the input. Skips spaces, tabs, carriage returns and line feeds, and looks at the
+    /// bytes up to the next of these: where they are an optional sign and digits of a number of 64 bits, it answers
+    /// the number and stands behind them, and else it answers none and stands at the first of them, or at the end.
+    /// Takes no memory.
+    pub fn read_int(&mut self) -> Option<i64>
+        ensures number { result ≡ next_number self.old }
+        ensures world { self.new ≡ after_reading result self.old }
+    {
+        let rest = &self.input.as_slice()[self.place as usize..];
+        let white = white_length(rest);
+        let rest = &rest[white..];
+        let run = run_length(rest);
+        let number = number_in_word(&rest[..run]);
+        let read = if number.is_some() { white + run } else { white };
+        self.place += read as u64;
+        number
+    }
+
     /// Makes the environment call of this number with these two words, in a program with so many labels. Where
     /// the call goes on, the answer has its first two argument registers; `Refused` comes exactly where there is no
     /// such call or an operand is outside its range, `OutOfMemory` only at a call that prints, and after both the
@@ -123,6 +146,39 @@ impl World {
             Ok(()) => EnvEffect::Next(a0, a1),
             Err(OutOfMemory) => EnvEffect::OutOfMemory,
         }
+    }
+}
+
+fn is_white(byte: u8) -> bool
+    ensures { result ≡ is_white byte }
+{
+    byte == b' ' || byte == b'\t' || byte == b'\r' || byte == b'\n'
+}
+
+// How many white bytes stand first.
+fn white_length(bytes: &[u8]) -> usize
+    ensures length { result ≡ prefix_len is_white bytes.now }
+    ensures within { result ≤ length bytes.now }
+{
+    bytes.iter().take_while(|byte| is_white(**byte)).count()
+}
+
+// How many bytes stand before the first white one.
+fn run_length(bytes: &[u8]) -> usize
+    ensures length { result ≡ prefix_len (λ byte. not (is_white byte)) bytes.now }
+    ensures within { result ≤ length bytes.now }
+{
+    bytes.iter().take_while(|byte| !is_white(**byte)).count()
+}
+
+// The number of 64 bits that these bytes write, if they write one.
+fn number_in_word(text: &[u8]) -> Option<i64>
+    ensures { result ≡ option_and_then in_word (number_of text.now) }
+{
+    if is_integer(text) {
+        integer(text)
+    } else {
+        None
     }
 }
 

@@ -14,7 +14,7 @@ use Rattle.grift_base.specs.declared.operators.PrimOp.{PrimOp}
 use Rattle.grift_base.specs.declared.operators.PrimOp.TheVariants.{Add, PrintInt, Newline}
 use Rattle.assembler.specs.Conditions.{registers_of, registers_named, is_relative, IsPlaced, is_mark, times, NamesOne, CanBeAssembled}
 use Rattle.core_calc.specs.Terms.{Term, Terms, IntLit, Seq, Prim, NoTerms, TermThen}
-use Rattle.assembler.specs.Forms.{chunk_of}
+use Rattle.assembler.specs.Expansion.{chunk_of}
 use Rattle.grift_cli.specs.Code.{chunks_insts, is_short, number_insts, wait_insts, operator_insts, term_insts, operands_insts, terms_insts, slots_of, test_items, answer_insts, program_items}
 use Rattle.grift_cli.specs.declared.elaboration.ExprType.{ExprType}
 use Rattle.grift_cli.proofs.Placing.{number_form, body_insts, items_split}

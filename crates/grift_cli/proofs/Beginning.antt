@@ -5,8 +5,8 @@ use Rattle.std.specs.Int.{w64}
 use Rattle.std.proofs.lemmas.List.{length-map}
 use Rattle.run_laws.specs.Runs.{Exhausted, Follows, Any}
 use Rattle.run_laws.specs.Machines.{Stop, Reaches, Alike, run}
-use Rattle.run_laws.proofs.Following.{follows_trans, follows_of}
-use Rattle.run_laws.proofs.Simulation.{by_step, reaches_then, reaches_weaken, follows_from_start}
+use Rattle.run_laws.proofs.Public.{follows_is_transitive, follows_of}
+use Rattle.run_laws.proofs.Public.{by_step, reaches_then, reaches_weaken, follows_from_start}
 use Rattle.grift_base.specs.World.{WorldState}
 use Rattle.grift_base.specs.declared.places.Pos.{Pos}
 use Rattle.rv_isa.specs.declared.inst.Inst.{Inst}
@@ -15,7 +15,8 @@ use Rattle.rv_isa.specs.Decoding.{decode_of}
 use Rattle.rv_isa.specs.Encoding.{encode_of}
 use Rattle.rv_machine.specs.Memory.{Memory, load_bytes, memory_of, from_base}
 use Rattle.rv_machine.specs.Registers.{get_reg}
-use Rattle.rv_machine.specs.State.{Layout, State, Halt, Ended, Blamed, Trapped, RegionOut, StackOut, Undefined, BadAddress, Misaligned, Next, Stops, reg}
+use Rattle.rv_machine.specs.State.{Layout, State, Region, Stack, Halt, Ended, Lacks, GoesWrong, Next, Stops, reg}
+use Rattle.rv_machine.specs.declared.faults.MachineFault.TheVariants.{Misaligned}
 use Rattle.rv_machine.specs.Turn.{turn_of, put, plus, subtract, branch_if, next_pc}
 use Rattle.rv_machine.specs.Image.{statics_len, code_len, label_count, entry, loaded_part, labels_of, labels_from}
 use Rattle.rv_machine.specs.Start.{start_of, start_regs, fresh_world, IsRegionSize, IsStackSize}
@@ -24,7 +25,7 @@ use Rattle.core_calc.specs.Terms.{Term}
 use Rattle.core_calc.specs.Calculus.{calc}
 use Rattle.grift_cli.specs.Program.{FollowsProgram, program_of}
 use Rattle.assembler.specs.Imaging.{half_bytes, image_bytes, AreSections, code_bytes, inst_words}
-use Rattle.assembler.proofs.Images.{statics_field, code_field, label_field, entry_field, loaded_is}
+use Rattle.assembler.proofs.Public.{statics_field, code_field, label_field, entry_field, loaded_is}
 use Rattle.grift_cli.specs.Code.{number_insts, term_insts, slots_of, answer_insts, program_image}
 use Rattle.grift_cli.specs.Elaboration.{HasExprType}
 use Rattle.grift_cli.specs.declared.elaboration.ExprType.{ExprType}
@@ -35,7 +36,7 @@ use Rattle.grift_cli.proofs.Standing.{Lies, Stands, turn_here, stands_next, turn
 use Rattle.grift_cli.proofs.Blocks.{Loaded, number, zero_plus_small}
 use Rattle.grift_cli.proofs.Calls.{call_stack_out}
 use Rattle.grift_cli.proofs.ZipperCode.{HasRoom, On, code_simulates, has_room}
-use Rattle.grift_cli.proofs.Halting.{OnTurn, Come, walk_halts}
+use Rattle.grift_cli.proofs.Halting.{IsOutcome, OnTurn, Come, walk_halts}
 use Rattle.grift_cli.proofs.Decoding.{AllDecode, program_decodes, program_slots}
 
 -- ---- bytes of code in memory
@@ -155,14 +156,10 @@ start_is term type few region stack world =
 
 -- how code may stop for want of room, told whether the stack has none
 abbrev pub MayLack : Bool → Halt → Type 0
-MayLack full RegionOut = ⊥
-MayLack full StackOut = full ≡ true
-MayLack full (Ended shown) = Unit {0}
-MayLack full (Blamed label) = Unit {0}
-MayLack full (Trapped trap) = Unit {0}
-MayLack full (Undefined pc) = Unit {0}
-MayLack full (BadAddress pc) = Unit {0}
-MayLack full (Misaligned pc) = Unit {0}
+MayLack full (Ended verdict) = IsOutcome verdict
+MayLack full (Lacks Region) = ⊥
+MayLack full (Lacks Stack) = full ≡ true
+MayLack full (GoesWrong fault) = Unit {0}
 
 room_code : (n t a r : List Inst) → (n ++ r ++ t) ++ a ≡ n ++ (r ++ (t ++ a))
 room_code n t a r = append_assoc (n ++ r) t a ∙ append_assoc n r (t ++ a)
@@ -228,7 +225,7 @@ module _ (term : Term) (type : ExprType) (typed : HasExprType term type) (few : 
   ok : (t : State) → t.world ≡ fresh_world input → (t2 : State) → turn_of t ≡ Next t2 → P t
   ok t e t2 h = (like t e, subst (OnTurn (MayLack full)) (sym h) tt)
 
-  ok_full : (t : State) → t.world ≡ fresh_world input → full ≡ true → turn_of t ≡ Stops StackOut → P t
+  ok_full : (t : State) → t.world ≡ fresh_world input → full ≡ true → turn_of t ≡ Stops (Lacks Stack) → P t
   ok_full t e f h = (like t e, subst (OnTurn (MayLack full)) (sym h) f)
 
   byte_at : (i : ℕ) → from_base (memory_of code) (65536 + i) ≡ slice_index code i
@@ -281,13 +278,13 @@ module _ (term : Term) (type : ExprType) (typed : HasExprType term type) (few : 
       taken =
           ap (λ a. branch_if (not (nat_lt a (reg t 10))) (pos 12) t) x
           ∙ (ap (λ b. branch_if (not (nat_lt stack b)) (pos 12) t) y
-          ∙ (ap (λ b. branch_if (not b) (pos 12) t) h ∙ ap (λ b. if b then Next t1 else Stops (Misaligned t.pc)) even))
+          ∙ (ap (λ b. branch_if (not b) (pos 12) t) h ∙ ap (λ b. if b then Next t1 else Stops (GoesWrong (Misaligned t.pc))) even))
 
   -- no room
   runs_out : (t : State) → t.layout ≡ l → t.world ≡ fresh_world input → Stands l t.memory t.pc (Bgeu 5 10 (pos 12) ∷ Addi 17 0 (pos 6) ∷ Ecall ∷ body) → get_reg t.regs 5 ≡ stack → get_reg t.regs 10 ≡ 8 * slots → nat_lt stack (8 * slots) ≡ true → Reaches machine P (On l low lies type z0) 3 t
   runs_out t e o s x y h =
       turns l low lies P (On l low lies type z0) 2 t t1 (turn_here l t (Bgeu 5 10 (pos 12)) (Addi 17 0 (pos 6) ∷ Ecall ∷ body) e s ∙ passed) (ok t o) (puts l low lies P (On l low lies type z0) 1 t1 (Addi 17 0 (pos 6)) (Ecall ∷ body) 17 6 e (stands_next l low lies t (Bgeu 5 10 (pos 12)) (Addi 17 0 (pos 6) ∷ Ecall ∷ body) s) (ap (λ v. put 17 v t1) (zero_plus_small 6 (omega arith))) (ok t1 o) (λ t2 a.
-      let stop : turn_of t2 ≡ Stops StackOut = turn_here l t2 Ecall body a.layout a.code ∙ call_stack_out t2 (ap (λ regs. get_reg regs 17) a.regs) in
+      let stop : turn_of t2 ≡ Stops (Lacks Stack) = turn_here l t2 Ecall body a.layout a.code ∙ call_stack_out t2 (ap (λ regs. get_reg regs 17) a.regs) in
       let so : P t2 = ok_full t2 (a.world ∙ o) h stop in
       by_step machine P (On l low lies type z0) 0 t2 (Stop Exhausted t2) (ap (step_of t2) stop) so so))
     where
@@ -330,21 +327,16 @@ module _ (term : Term) (type : ExprType) (typed : HasExprType term type) (few : 
   from_start =
       let a = arrives full refl in
       let r = reaches_weaken machine P (On l low lies type z0) IsLike (On l low lies type z0) (λ t p. p.0) (λ t q. q) a.0 t0 a.1 in
-      follows_trans (follows_of (follows_from_start (code_simulates l low lies type) z0 a.0 t0 r (λ n. zipper_never_wrong type n z0 (begins_typed term type input typed)))) (zipper_follows term type input typed)
+      follows_is_transitive (follows_of (follows_from_start (code_simulates l low lies type) z0 a.0 t0 r (λ n. zipper_never_wrong type n z0 (begins_typed term type input typed)))) (zipper_follows term type input typed)
 
   follows : Follows (mach (program_image term type) region stack input) (calc (program_of term) input)
   follows = subst (λ t. Follows (run machine t) (calc (program_of term) input)) (sym (start_is term type few region stack (fresh_world input))) from_start
 
   -- a stop for want of room is one of the stack, where it is full
   no_lack : (halt : Halt) → HasRoom halt → MayLack full halt
-  no_lack RegionOut h = absurd h
-  no_lack StackOut h = absurd h
-  no_lack (Ended shown) h = tt
-  no_lack (Blamed label) h = tt
-  no_lack (Trapped trap) h = tt
-  no_lack (Undefined pc) h = tt
-  no_lack (BadAddress pc) h = tt
-  no_lack (Misaligned pc) h = tt
+  no_lack (Ended verdict) h = h
+  no_lack (Lacks room) h = absurd h
+  no_lack (GoesWrong fault) h = tt
 
   no_lack_come : (o : Option Halt) → Come HasRoom o → Come (MayLack full) o
   no_lack_come None h = tt

@@ -7,7 +7,7 @@ use Rattle.std.proofs.Math.Facts.{Fits-of_z}
 use Rattle.std.proofs.Math.Nat.{div-div-eq-div-mul}
 use Rattle.std.proofs.lemmas.Nat.{pow-add}
 use Rattle.run_laws.specs.Machines.{Reaches}
-use Rattle.run_laws.proofs.Simulation.{reaches_weaken}
+use Rattle.run_laws.proofs.Public.{reaches_weaken}
 use Rattle.grift_base.specs.World.{WorldState}
 use Rattle.rv_isa.specs.declared.inst.Inst.{Inst}
 use Rattle.rv_isa.specs.declared.inst.Inst.TheVariants.{Addi, Slli}
@@ -15,7 +15,7 @@ use Rattle.rv_machine.specs.Registers.{set_reg, get_reg}
 use Rattle.rv_machine.specs.State.{Layout, State, Next}
 use Rattle.rv_machine.specs.Turn.{turn_of, put, plus, shift_left}
 use Rattle.rv_machine.specs.Mach.{machine}
-use Rattle.assembler.specs.Forms.{chunk_of}
+use Rattle.assembler.specs.Expansion.{chunk_of}
 use Rattle.grift_cli.specs.Code.{chunks_insts, is_short, number_insts}
 use Rattle.grift_cli.proofs.Placing.{number_form}
 use Rattle.grift_cli.proofs.Standing.{Lies, Stands, After, puts}

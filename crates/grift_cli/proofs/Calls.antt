@@ -12,7 +12,8 @@ use Rattle.grift_base.specs.declared.verdicts.AnswerKind.TheVariants.{Int as Int
 use Rattle.rv_isa.specs.declared.inst.Inst.{Inst}
 use Rattle.rv_isa.specs.declared.inst.Inst.TheVariants.{Ecall}
 use Rattle.rv_machine.specs.Registers.{set_reg, get_reg}
-use Rattle.rv_machine.specs.State.{Layout, State, Turn, Next, Stops, Ended, StackOut}
+use Rattle.rv_machine.specs.State.{Layout, State, Stack, Turn, Next, Stops, Ended, Lacks}
+use Rattle.grift_base.specs.declared.verdicts.Verdict.TheVariants.{Answer}
 use Rattle.rv_machine.specs.Turn.{turn_of, call_environment, comes_to, next_pc}
 use Rattle.rv_machine.specs.Mach.{machine}
 use Rattle.core_calc.specs.Calculus.{shown_value}
@@ -48,11 +49,11 @@ call_print t n f h i =
     let word : ℕ = cast_unsigned w64 n in
     call_with t 1 word (get_reg t.regs 11) h i refl ∙ (print_at t word (get_reg t.regs 11) ∙ ap (λ z. comes_to (GoesOn word (get_reg t.regs 11)) (printing (signed_decimal z) t.world) t) (to_z-of_z w64 n f))
 
-stack_at : (t : State) (a0 a1 : ℕ) → call_at 6 a0 a1 t ≡ Stops StackOut
+stack_at : (t : State) (a0 a1 : ℕ) → call_at 6 a0 a1 t ≡ Stops (Lacks Stack)
 unfolding environment_call
 stack_at t a0 a1 = refl
 
-pub call_stack_out : (t : State) → get_reg t.regs 17 ≡ 6 → call_environment t ≡ Stops StackOut
+pub call_stack_out : (t : State) → get_reg t.regs 17 ≡ 6 → call_environment t ≡ Stops (Lacks Stack)
 call_stack_out t h = call_with t 6 (get_reg t.regs 10) (get_reg t.regs 11) h refl refl ∙ stack_at t (get_reg t.regs 10) (get_reg t.regs 11)
 
 -- the word of what a term comes to
@@ -63,22 +64,22 @@ word_got Nothing = 0
 int_or_unit : Int ≡ UnitType → ⊥
 int_or_unit e = cc
 
-number_at_end : (t : State) (word : ℕ) → call_at 0 0 word t ≡ Stops (Ended (record { kind = IntKind; word = cast_signed w64 word }))
+number_at_end : (t : State) (word : ℕ) → call_at 0 0 word t ≡ Stops (Ended (Answer (record { kind = IntKind; word = cast_signed w64 word })))
 unfolding environment_call
 number_at_end t word = refl
 
-unit_at_end : (t : State) → call_at 0 2 0 t ≡ Stops (Ended (shown_value (value_got Nothing)))
+unit_at_end : (t : State) → call_at 0 2 0 t ≡ Stops (Ended (Answer (shown_value (value_got Nothing))))
 unfolding environment_call
 unit_at_end t = refl
 
-answer_at : (t : State) (answer : ExprType) (g : Got) → IsOf g answer → call_at 0 (answer_kind answer) (word_got g) t ≡ Stops (Ended (shown_value (value_got g)))
+answer_at : (t : State) (answer : ExprType) (g : Got) → IsOf g answer → call_at 0 (answer_kind answer) (word_got g) t ≡ Stops (Ended (Answer (shown_value (value_got g))))
 answer_at t Int (Number n) of =
-    number_at_end t (cast_unsigned w64 n) ∙ ap (λ z. Stops (Ended (record { kind = IntKind; word = z }))) (to_z-of_z w64 n of.0)
+    number_at_end t (cast_unsigned w64 n) ∙ ap (λ z. Stops (Ended (Answer (record { kind = IntKind; word = z })))) (to_z-of_z w64 n of.0)
 answer_at t Int Nothing of = absurd (int_or_unit of)
 answer_at t UnitType (Number n) of = absurd (int_or_unit (sym of.1))
 answer_at t UnitType Nothing of = unit_at_end t
 
-pub call_answer : (t : State) (answer : ExprType) (g : Got) → IsOf g answer → get_reg t.regs 17 ≡ 0 → get_reg t.regs 10 ≡ answer_kind answer → get_reg t.regs 11 ≡ word_got g → call_environment t ≡ Stops (Ended (shown_value (value_got g)))
+pub call_answer : (t : State) (answer : ExprType) (g : Got) → IsOf g answer → get_reg t.regs 17 ≡ 0 → get_reg t.regs 10 ≡ answer_kind answer → get_reg t.regs 11 ≡ word_got g → call_environment t ≡ Stops (Ended (Answer (shown_value (value_got g))))
 call_answer t answer g of h i j = call_with t 0 (answer_kind answer) (word_got g) h i j ∙ answer_at t answer g of
 
 -- these bytes were printed, and the stack is as before

@@ -8,12 +8,12 @@ use Rattle.rv_isa.specs.Bits.{IsIn}
 use Rattle.rv_isa.specs.Fields.{Fit}
 use Rattle.rv_isa.specs.Decoding.{decode_of}
 use Rattle.rv_isa.specs.Encoding.{encode_of, inst_fields}
-use Rattle.rv_isa.proofs.RoundTrip.{decode_of-encode_of}
-use Rattle.rv_isa.proofs.SignedBits.{low_bits_below}
+use Rattle.rv_isa.proofs.Public.{decode_of-encode_of}
+use Rattle.rv_isa.proofs.Public.{low_bits_below}
 use Rattle.grift_base.specs.declared.operators.PrimOp.{PrimOp}
 use Rattle.grift_base.specs.declared.operators.PrimOp.TheVariants.{Add, Sub as SubOp, Mul, Quot, Rem, Lt, Le, Eq, Ge, Gt, Not, PrintInt, Newline, ReadInt, MakeBox, Unbox, BoxSet, MakeVector, VectorRef, VectorSet, VectorLength}
 use Rattle.core_calc.specs.Terms.{Term, Terms, IntLit, BoolLit, UnitLit, Var, Lambda, Group, Let, Call, Enter, If, Seq, Cast, Proj, ProjDyn, Tuple, Prim, ValueTerm, NoTerms, TermThen}
-use Rattle.assembler.specs.Forms.{chunk_of}
+use Rattle.assembler.specs.Expansion.{chunk_of}
 use Rattle.grift_cli.specs.Code.{chunks_insts, is_short, number_insts, wait_insts, operator_insts, term_insts, operands_insts, terms_insts, slots_of, operand_slots, most_slots, answer_kind, answer_insts}
 use Rattle.grift_cli.specs.declared.elaboration.ExprType.{ExprType}
 use Rattle.grift_cli.specs.declared.elaboration.ExprType.TheVariants.{Int, Unit as UnitType}

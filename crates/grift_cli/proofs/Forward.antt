@@ -18,7 +18,7 @@ use Rattle.rv_machine.specs.State.{Layout, State, Turn, Next, Stops, reg}
 use Rattle.rv_machine.specs.Turn.{turn_of, act, act_if, put, plus, load_into, store_from, branch_if, blames, comes_to, called, next_pc}
 use Rattle.rv_machine.specs.Start.{start_of, fresh_world, IsRegionSize, IsStackSize}
 use Rattle.rv_machine.specs.Mach.{run_of, onward}
-use Rattle.rv_machine.proofs.Memory.{load_other}
+use Rattle.rv_machine.proofs.Public.{load_other}
 use Rattle.core_calc.specs.Terms.{Term, Terms, IntLit, Seq, Prim, NoTerms, TermThen, node_count, node_count_of_all}
 use Rattle.assembler.specs.Imaging.{half_bytes, inst_words}
 use Rattle.grift_cli.specs.Limits.{turn_limit}

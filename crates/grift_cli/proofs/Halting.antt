@@ -1,10 +1,19 @@
 -- How runs may stop.
 use Rattle.std.proofs.Common.{ℕ, zero, suc, ◌+◌, ◌≡◌, Option, Some, None, refl, subst, arith}
 use Rattle.run_laws.specs.Machines.{Reaches, Onward}
+use Rattle.grift_base.specs.declared.verdicts.Verdict.{Verdict}
+use Rattle.grift_base.specs.declared.verdicts.Verdict.TheVariants.{Answer, Blame, Trap}
 use Rattle.rv_machine.specs.State.{State, Halt, Turn, Next, Stops}
 use Rattle.rv_machine.specs.Turn.{turn_of}
 use Rattle.rv_machine.specs.Mach.{machine, step_of, run_of}
-use Rattle.rv_machine.proofs.Runs.{run_none}
+use Rattle.rv_machine.proofs.Public.{run_none}
+
+-- a verdict that a program comes to
+abbrev pub IsOutcome : Verdict → Type 0
+IsOutcome (Answer answer) = Unit {0}
+IsOutcome (Blame place) = Unit {0}
+IsOutcome (Trap trap) = Unit {0}
+IsOutcome _ = ⊥
 
 module _ (V : Halt → Type 0) where
   -- if the turn stops, it stops so

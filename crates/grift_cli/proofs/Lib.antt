@@ -1,27 +1,27 @@
-pub mod Placing
-pub mod Assembling
-pub mod FormsRead
-pub mod FormsTyped
-pub mod Emitting
-pub mod ProgramTerms
-pub mod Shapes
-pub mod Zipper
-pub mod ZipperCalc
-pub mod Halting
-pub mod Standing
-pub mod Blocks
-pub mod Calls
-pub mod ZipperCode
-pub mod Decoding
-pub mod Beginning
-pub mod Limits
+mod Placing
+mod Assembling
+mod FormsRead
+mod FormsTyped
+mod Emitting
+mod ProgramTerms
+mod Shapes
+mod Zipper
+mod ZipperCalc
+mod Halting
+mod Standing
+mod Blocks
+mod Calls
+mod ZipperCode
+mod Decoding
+mod Beginning
+mod Limits
 mod LimitExamples
-pub mod Forward
-pub mod WordsNumbers
-pub mod WordsOptions
-pub mod WordsLimits
-pub mod WordsCommands
-pub mod Addresses
-pub mod Putting
-pub mod Telling
-pub mod Working
+mod Forward
+mod ReadingNumbers
+mod ReadingOptions
+mod ReadingLimits
+mod ReadingCommands
+mod Addresses
+mod Putting
+mod Stopping
+mod Saying

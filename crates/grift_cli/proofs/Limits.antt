@@ -1,18 +1,19 @@
 -- The image of a program keeps the limits.
-use Rattle.std.proofs.Common.{ℕ, ◌+◌, ◌*◌, ◌^◌, ◌<◌, ◌≤◌, ◌≡◌, true, length, Option, Some, None, refl, sym, subst, arith}
+use Rattle.std.proofs.Common.{ℕ, ◌+◌, ◌*◌, ◌^◌, ◌<◌, ◌≤◌, ◌≡◌, true, length, Option, Some, None, refl, subst, arith}
 use Rattle.std.specs.Prelude.{max, nat_lt}
-use Rattle.rv_machine.specs.State.{Halt, Ended, Blamed, Trapped, RegionOut, StackOut, Undefined, BadAddress, Misaligned}
+use Rattle.rv_machine.specs.State.{Region, Stack, Halt, Ended, Lacks, GoesWrong}
+use Rattle.grift_base.specs.declared.verdicts.Verdict.TheVariants.{Answer, Blame, Trap, RegionOut, StackOut, StepsSpent}
 use Rattle.rv_machine.specs.Start.{start_of, fresh_world}
 use Rattle.rv_machine.specs.Mach.{run_of}
 use Rattle.core_calc.specs.Terms.{Term, Terms, Seq, Prim, NoTerms, TermThen, node_count, node_count_of_all}
 use Rattle.grift_cli.specs.Code.{slots_of, operand_slots, most_slots, program_image}
-use Rattle.grift_cli.specs.Limits.{turn_limit, MayStop, MayCome, MayTell, KeepsLimits}
-use Rattle.grift_cli.specs.Outcome.{IsTold}
+use Rattle.grift_cli.specs.Limits.{turn_limit, MayTell, KeepsLimits}
+use Rattle.grift_cli.specs.Runs.{verdict_of_run}
 use Rattle.grift_base.specs.declared.verdicts.Verdict.{Verdict}
 use Rattle.grift_cli.specs.Elaboration.{HasExprType}
 use Rattle.grift_cli.specs.declared.elaboration.ExprType.{ExprType}
 use Rattle.grift_cli.proofs.Placing.{program_insts}
-use Rattle.grift_cli.proofs.Halting.{Come}
+use Rattle.grift_cli.proofs.Halting.{IsOutcome, Come}
 use Rattle.grift_cli.proofs.Beginning.{MayLack, program_lacks}
 use Rattle.grift_cli.proofs.Forward.{turns_bounded}
 
@@ -53,35 +54,37 @@ mutual
 less : (a b : ℕ) → nat_lt a b ≡ true → a < b
 less a b h = grind arith
 
-may_stop : (term : Term) (stack : ℕ) (halt : Halt) → MayLack (nat_lt stack (8 * slots_of term)) halt → MayStop term stack halt
-may_stop term stack RegionOut h = h
-may_stop term stack StackOut h =
-    let below = less stack (8 * slots_of term) h in
-    let few = few_slots term in omega arith
-may_stop term stack (Ended answer) h = tt
-may_stop term stack (Blamed label) h = tt
-may_stop term stack (Trapped trap) h = tt
-may_stop term stack (Undefined pc) h = tt
-may_stop term stack (BadAddress pc) h = tt
-may_stop term stack (Misaligned pc) h = tt
+same_verdict : (a b : Verdict) → ◌≡◌ {A = Option Verdict} (Some a) (Some b) → a ≡ b
+same_verdict a b e = cc
 
-may_come : (term : Term) (stack turns : ℕ) (o : Option Halt) → (o ≡ None → turns < turn_limit term) → Come (MayLack (nat_lt stack (8 * slots_of term))) o → MayCome term stack turns o
-may_come term stack turns None below h = below refl
-may_come term stack turns (Some halt) below h = may_stop term stack halt h
+-- a verdict that a program comes to may always be told
+outcome_told : (term : Term) (stack turns : ℕ) (verdict : Verdict) → IsOutcome verdict → MayTell term stack turns verdict
+outcome_told term stack turns (Answer answer) h = tt
+outcome_told term stack turns (Blame place) h = tt
+outcome_told term stack turns (Trap trap) h = tt
+outcome_told term stack turns RegionOut h = absurd h
+outcome_told term stack turns StackOut h = absurd h
+outcome_told term stack turns StepsSpent h = absurd h
+
+may_tell : (term : Term) (stack turns : ℕ) (o : Option Halt) (verdict : Verdict) → (o ≡ None → turns < turn_limit term)
+    → Come (MayLack (nat_lt stack (8 * slots_of term))) o → verdict_of_run o ≡ Some verdict
+    → MayTell term stack turns verdict
+may_tell term stack turns None verdict below h e =
+    subst (MayTell term stack turns) (same_verdict StepsSpent verdict e) (below refl)
+may_tell term stack turns (Some (Ended shown)) verdict below h e =
+    subst (MayTell term stack turns) (same_verdict shown verdict e) (outcome_told term stack turns shown h)
+may_tell term stack turns (Some (Lacks Region)) verdict below h e = absurd h
+may_tell term stack turns (Some (Lacks Stack)) verdict below h e =
+    let small = less stack (8 * slots_of term) h in
+    let few = few_slots term in
+    let fits : MayTell term stack turns StackOut = omega arith in
+    subst (MayTell term stack turns) (same_verdict StackOut verdict e) fits
+may_tell term stack turns (Some (GoesWrong fault)) verdict below h e = absurd (let f : ⊥ = cc in f)
 
 -- the image of a program that has a type keeps the limits
-pub program_keeps_limits : (term : Term) (type : ExprType) → HasExprType term type → length (program_insts term type) ≤ 2 ^ 40 → KeepsLimits (program_image term type) term
-program_keeps_limits term type typed few region stack turns input r k =
-    may_come term stack turns (run_of turns (start_of (program_image term type) region stack (fresh_world input))).1 (λ e. turns_bounded term type few region stack turns input r k e) (program_lacks term type typed few region stack r k input turns)
-
--- what its run is told as
-pub tells_within : (term : Term) (stack steps : ℕ) (o : Option Halt) (verdict : Verdict) → MayCome term stack steps o → IsTold o verdict → MayTell term stack steps verdict
-tells_within term stack steps None verdict m t = subst (MayTell term stack steps) (sym t) m
-tells_within term stack steps (Some (Ended answer)) verdict m t = subst (MayTell term stack steps) (sym t) tt
-tells_within term stack steps (Some (Blamed label)) verdict m t = subst (MayTell term stack steps) (sym t) tt
-tells_within term stack steps (Some (Trapped trap)) verdict m t = subst (MayTell term stack steps) (sym t) tt
-tells_within term stack steps (Some RegionOut) verdict m t = absurd m
-tells_within term stack steps (Some StackOut) verdict m t = subst (MayTell term stack steps) (sym t) m
-tells_within term stack steps (Some (Undefined pc)) verdict m t = absurd t
-tells_within term stack steps (Some (BadAddress pc)) verdict m t = absurd t
-tells_within term stack steps (Some (Misaligned pc)) verdict m t = absurd t
+pub program_keeps_limits : (term : Term) (type : ExprType) → HasExprType term type
+    → length (program_insts term type) ≤ 2 ^ 40 → KeepsLimits (program_image term type) term
+program_keeps_limits term type typed few region stack turns input verdict r k =
+    may_tell term stack turns (run_of turns (start_of (program_image term type) region stack (fresh_world input))).1
+    verdict (λ e. turns_bounded term type few region stack turns input r k e)
+    (program_lacks term type typed few region stack r k input turns)

@@ -9,10 +9,10 @@ use Rattle.rv_isa.specs.declared.inst.Inst.TheVariants.{Addi, Sub, Bgeu, Ecall}
 use Rattle.rv_isa.specs.declared.real.RealItem.{RealItem}
 use Rattle.rv_isa.specs.declared.real.RealItem.TheVariants.{Op}
 use Rattle.assembler.specs.Conditions.{is_mark}
-use Rattle.assembler.specs.Forms.{insts_from, code_insts}
+use Rattle.assembler.specs.Expansion.{insts_from, code_insts}
 use Rattle.assembler.specs.Imaging.{image_bytes, code_bytes, inst_words}
 use Rattle.core_calc.specs.Terms.{Term}
-use Rattle.assembler.specs.Forms.{chunk_of}
+use Rattle.assembler.specs.Expansion.{chunk_of}
 use Rattle.grift_cli.specs.Code.{chunks_insts, is_short, number_insts, term_insts, slots_of, test_items, room_items, answer_insts, program_items, program_image}
 use Rattle.grift_cli.specs.declared.elaboration.ExprType.{ExprType}
 

@@ -17,7 +17,7 @@ is_row : (a b : ExprType) (row : TypeRow) → a ≡ b → row_at plain_types (pl
 is_row a b row e h = subst (λ (x : ExprType). row_at plain_types (place_of x) ≡ Some row) (sym e) h
 
 mutual
-  term_typed : (term : Term) (t : ExprType) → HasExprType term t → HasType plain_types [] [] term (place_of t)
+  term_typed : (term : Term) (t : ExprType) → HasExprType term t → HasType plain_types 0 [] [] term (place_of t)
   term_typed (IntLit n) t h = (h.0, is_row t Int IntRow h.1 refl)
   term_typed (Prim Add (TermThen x (TermThen y NoTerms))) t h =
       (0 ∷ 0 ∷ [], (0, 0 ∷ [], refl, term_typed x Int h.0, (0, [], refl, term_typed y Int h.1, refl)), ((0, 0, refl, refl, refl), is_row t Int IntRow h.2 refl))
@@ -27,7 +27,7 @@ mutual
   term_typed (Seq terms) t h = last_typed terms t h
   term_typed _ t h = absurd h
 
-  last_typed : (terms : Terms) (t : ExprType) → LastHasExprType terms t → LastHasType plain_types [] [] terms (place_of t)
+  last_typed : (terms : Terms) (t : ExprType) → LastHasExprType terms t → LastHasType plain_types 0 [] [] terms (place_of t)
   last_typed NoTerms t h = absurd h
   last_typed (TermThen x NoTerms) t h = term_typed x t h
   last_typed (TermThen x (TermThen y rest)) t h = ((place_of h.0.0, term_typed x h.0.0 h.0.1), last_typed (TermThen y rest) t h.1)
@@ -87,7 +87,7 @@ HasRows row = All (λ part. part < length plain_types) (parts_of row)
 plain_table : IsTypeTable plain_types
 plain_table = record { distinct = rows_differ; closed = All-cons HasRows IntRow (UnitRow ∷ []) (All-nil (λ part. part < 2)) (All-cons HasRows UnitRow [] (All-nil (λ part. part < 2)) (All-nil HasRows)) }
 
-pub program_term : (term : Term) (t : ExprType) → HasExprType term t → ProgramTermHasType plain_types term (place_of t)
+pub program_term : (term : Term) (t : ExprType) → HasExprType term t → ProgramTermHasType plain_types 0 term (place_of t)
 program_term term t h =
     let plain = term_plain term t h in
     (plain_table, plain.0, subst (λ (xs : List ℕ). HasNoRepeats xs) (sym plain.1) nothing_repeats, term_typed term t h)

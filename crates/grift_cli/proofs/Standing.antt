@@ -3,7 +3,7 @@ use Rattle.std.proofs.Common.{ℕ, suc, ◌+◌, ◌%◌, ◌^◌, ◌<◌, ◌�
 use Rattle.std.specs.Prelude.{ℤ, nat_le, nat_lt, ◌&&◌}
 use Rattle.std.specs.Int.{w64}
 use Rattle.run_laws.specs.Machines.{Go, Reaches}
-use Rattle.run_laws.proofs.Simulation.{by_step}
+use Rattle.run_laws.proofs.Public.{by_step}
 use Rattle.rv_isa.specs.declared.inst.Inst.{Inst}
 use Rattle.rv_isa.specs.declared.inst.Inst.TheVariants.{Ld, Sd}
 use Rattle.rv_isa.specs.Decoding.{decode_of}
@@ -12,7 +12,7 @@ use Rattle.rv_machine.specs.Registers.{set_reg}
 use Rattle.rv_machine.specs.State.{Layout, State, Next, reg}
 use Rattle.rv_machine.specs.Turn.{turn_of, act, put, plus, load_into, store_from, next_pc}
 use Rattle.rv_machine.specs.Mach.{machine, step_of}
-use Rattle.rv_machine.proofs.Memory.{load_other}
+use Rattle.rv_machine.proofs.Public.{load_other}
 
 -- where things lie: the stack's low end is a multiple of 8 above the code, and all of memory is below 2^62
 pub record Lies (l : Layout) (low : ℕ) : Type 0 where

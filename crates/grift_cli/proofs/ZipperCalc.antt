@@ -1,5 +1,5 @@
 -- The zipper's run follows the calculus's.
-use Rattle.std.proofs.Common.{ℕ, zero, suc, ◌<◌, ◌≡◌, ◌≢◌, inl, inr, List, [], ◌∷◌, Option, Some, None, refl, sym, ◌∙◌, ap, subst, arith}
+use Rattle.std.proofs.Common.{ℕ, zero, suc, ◌+◌, ◌<◌, ◌≡◌, ◌≢◌, inl, inr, List, [], ◌∷◌, Option, Some, None, refl, sym, ◌∙◌, ap, subst, arith}
 use Rattle.std.specs.Prelude.{◌+ℤ◌, codes, option_map}
 use Rattle.std.specs.Int.{w64, int_wrap}
 use Rattle.std.specs.Fmt.{signed_decimal}
@@ -7,9 +7,9 @@ use Rattle.std.proofs.lemmas.Int.{SFits-int_wrap}
 use Rattle.run_laws.specs.Runs.{Verdict, Exhausted, Wrong, NeverWrong, Follows, FollowsBy, Any}
 use Rattle.run_laws.specs.Machines.{Next, Go, Stop, Machine, and_then, steps, seen, run, Does, Simulation}
 use Rattle.run_laws.specs.Reductions.{go_or_stop, machine_of, reduction_run}
-use Rattle.run_laws.proofs.Following.{follows_trans, follows_of, followed_back, follower_never_wrong}
-use Rattle.run_laws.proofs.Reducing.{machine_ended, machine_follows}
-use Rattle.run_laws.proofs.Simulation.{by_step, follows_by_simulation}
+use Rattle.run_laws.proofs.Public.{follows_is_transitive, follows_of, what_never_runs_out_is_followed_back, follower_never_goes_wrong}
+use Rattle.run_laws.proofs.Public.{reduction_and_machine_follow_each_other-after_end, reduction_and_machine_follow_each_other-machine}
+use Rattle.run_laws.proofs.Public.{by_step, follows_by_simulation}
 use Rattle.grift_base.specs.World.{WorldState, printing}
 use Rattle.grift_base.specs.declared.operators.PrimOp.TheVariants.{Add, PrintInt, Newline}
 use Rattle.grift_base.specs.declared.verdicts.Verdict.{Verdict as Outcome}
@@ -20,7 +20,7 @@ use Rattle.core_calc.specs.Step.{step}
 use Rattle.core_calc.specs.Calculus.{CalcState, CalcEnd, Answered, Blamed, Trapped, NoStep, state_of, shown_value, ending_of, calculus, calc}
 use Rattle.rv_machine.specs.Start.{fresh_world}
 use Rattle.grift_cli.specs.Program.{program_of}
-use Rattle.grift_cli.specs.Elaboration.{HasExprType}
+use Rattle.grift_cli.specs.Elaboration.{HasExprType, plain_types}
 use Rattle.grift_cli.specs.declared.elaboration.ExprType.{ExprType}
 use Rattle.grift_cli.specs.declared.elaboration.ExprType.TheVariants.{Int, Unit as UnitType}
 use Rattle.grift_cli.proofs.Shapes.{Cases, by_cases}
@@ -98,7 +98,7 @@ module _ (answer : ExprType) where
   plug_no_value (Printing ∷ frames) r h = plug_no_value frames (Prim PrintInt (TermThen r NoTerms)) refl
   plug_no_value (Before b rest ∷ frames) r h = plug_no_value frames (Seq (TermThen r (TermThen b rest))) refl
 
-  plug_step : (frames : List Frame) (type : ExprType) (r r1 : Term) (w w1 : WorldState) → Takes frames type answer → as_value r ≡ None → step [] [] w r ≡ Goes r1 [] w1 → step [] [] w (plug frames r) ≡ Goes (plug frames r1) [] w1
+  plug_step : (frames : List Frame) (type : ExprType) (r r1 : Term) (w w1 : WorldState) → Takes frames type answer → as_value r ≡ None → step plain_types [] w r ≡ Goes r1 [] w1 → step plain_types [] w (plug frames r) ≡ Goes (plug frames r1) [] w1
   plug_step [] type r r1 w w1 takes h e = e
   plug_step (LeftOf b ∷ frames) type r r1 w w1 takes h e =
       plug_step frames Int (Prim Add (TermThen r (TermThen b NoTerms))) (Prim Add (TermThen r1 (TermThen b NoTerms))) w w1 takes.2 refl (rw (h, e) refl)
@@ -110,9 +110,9 @@ module _ (answer : ExprType) where
       plug_step frames takes.0 (Seq (TermThen r (TermThen b rest))) (Seq (TermThen r1 (TermThen b rest))) w w1 takes.2 refl (rw (h, e) refl)
 
   abbrev calculating : Machine CalcState CalcState Outcome
-  calculating = machine_of (calculus [] [])
+  calculating = machine_of (calculus plain_types [])
 
-  goes : (frames : List Frame) (type : ExprType) (r r1 : Term) (w w1 : WorldState) → Takes frames type answer → as_value r ≡ None → step [] [] w r ≡ Goes r1 [] w1 → calculating.step (state_of (plug frames r) [] w) ≡ Go (state_of (plug frames r1) [] w1)
+  goes : (frames : List Frame) (type : ExprType) (r r1 : Term) (w w1 : WorldState) → Takes frames type answer → as_value r ≡ None → step plain_types [] w r ≡ Goes r1 [] w1 → calculating.step (state_of (plug frames r) [] w) ≡ Go (state_of (plug frames r1) [] w1)
   goes frames type r r1 w w1 takes h e =
       rw (plug_no_value frames r h, plug_step frames type r r1 w w1 takes h e) refl
 
@@ -195,7 +195,7 @@ module _ (answer : ExprType) where
   Lasts (Go c) = Unit {0}
   Lasts (Stop e c) = e ≢ Exhausted
 
-  lasts : (o : Option CalcEnd) (c : CalcState) → Lasts (go_or_stop (option_map (ending_of []) o) (calculus [] []).step c)
+  lasts : (o : Option CalcEnd) (c : CalcState) → Lasts (go_or_stop (option_map (ending_of []) o) (calculus plain_types []).step c)
   lasts None c = tt
   lasts (Some end) c = calc_end end
 
@@ -212,14 +212,14 @@ module _ (answer : ExprType) where
   from_zipper : (z : Zipper) → IsTyped answer z → FollowsBy Any Any (run calculating (seen_as z)) (run zipping z)
   from_zipper z t = follows_by_simulation simulation z (seen_as z) (t, refl) (λ n. zipper_never_wrong n z t)
 
-  reduction_never_wrong : (c : CalcState) → NeverWrong (run calculating c) → NeverWrong (reduction_run (calculus [] []) c)
+  reduction_never_wrong : (c : CalcState) → NeverWrong (run calculating c) → NeverWrong (reduction_run (calculus plain_types []) c)
   reduction_never_wrong c nw n e =
-      nw (suc n) (ap (λ x. x.ending) (machine_ended (calculus [] []) n c Wrong e) ∙ e)
+      nw (n + 1) (ap (λ x. x.ending) (reduction_and_machine_follow_each_other-after_end (calculus plain_types []) n c Wrong e) ∙ e)
 
-  zipper_follows_calc : (z : Zipper) → IsTyped answer z → Follows (run zipping z) (reduction_run (calculus [] []) (seen_as z))
+  zipper_follows_calc : (z : Zipper) → IsTyped answer z → Follows (run zipping z) (reduction_run (calculus plain_types []) (seen_as z))
   zipper_follows_calc z t =
       let by = from_zipper z t in
-      follows_trans (followed_back (λ n. calc_never_exhausted n (seen_as z)) by) (follows_of (machine_follows (calculus [] []) (seen_as z) (reduction_never_wrong (seen_as z) (follower_never_wrong (follows_of by)))))
+      follows_is_transitive (what_never_runs_out_is_followed_back (λ n. calc_never_exhausted n (seen_as z)) by) (follows_of (reduction_and_machine_follow_each_other-machine (calculus plain_types []) (seen_as z) (reduction_never_wrong (seen_as z) (follower_never_goes_wrong (follows_of by)))))
 
 -- the zipper of a program at first
 abbrev pub beginning : Term → List ℕ → Zipper

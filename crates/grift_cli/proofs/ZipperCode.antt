@@ -6,7 +6,7 @@ use Rattle.std.specs.Fmt.{signed_decimal}
 use Rattle.std.proofs.Math.Nat.{le-max_left, le-max_right}
 use Rattle.run_laws.specs.Runs.{Ending, Verdict, Exhausted, Wrong, Any}
 use Rattle.run_laws.specs.Machines.{Next as Step, Go, Stop, Alike, OnTheWay, StopsAt, Does, Simulation}
-use Rattle.run_laws.proofs.Simulation.{reaches_weaken, unless_wrong_map}
+use Rattle.run_laws.proofs.Public.{reaches_weaken, unless_wrong_map}
 use Rattle.grift_base.specs.World.{WorldState, printing}
 use Rattle.grift_base.specs.declared.verdicts.Verdict.{Verdict as Outcome}
 use Rattle.grift_base.specs.declared.operators.PrimOp.TheVariants.{Add as AddOp, PrintInt, Newline}
@@ -14,11 +14,12 @@ use Rattle.rv_isa.specs.declared.inst.Inst.{Inst}
 use Rattle.rv_isa.specs.declared.inst.Inst.TheVariants.{Sd, Addi, Add, Ecall}
 use Rattle.rv_machine.specs.Memory.{Memory, load_bytes, store_bytes}
 use Rattle.rv_machine.specs.Registers.{get_reg}
-use Rattle.rv_machine.specs.State.{Layout, State, Halt, Ended, Blamed, Trapped, RegionOut, StackOut, Undefined, BadAddress, Misaligned, Turn, Next, Stops}
+use Rattle.grift_base.specs.declared.verdicts.Verdict.TheVariants.{Answer}
+use Rattle.rv_machine.specs.State.{Layout, State, Halt, Ended, Lacks, GoesWrong, Turn, Next, Stops}
 use Rattle.rv_machine.specs.Turn.{turn_of, put, plus, add}
 use Rattle.rv_machine.specs.Mach.{machine, step_of, run_of}
-use Rattle.rv_machine.proofs.Runs.{run_none}
-use Rattle.rv_machine.proofs.Memory.{load_other, load_stored}
+use Rattle.rv_machine.proofs.Public.{run_none}
+use Rattle.rv_machine.proofs.Public.{load_other, load_stored}
 use Rattle.core_calc.specs.Calculus.{shown_value}
 use Rattle.core_calc.specs.Terms.{Term, Terms, IntLit, Seq, Prim, ValueTerm, NoTerms, TermThen, IntValue, UnitValue, as_value}
 use Rattle.grift_cli.specs.Code.{wait_insts, operator_insts, term_insts, terms_insts, slots_of, most_slots, answer_kind, answer_insts}
@@ -28,21 +29,16 @@ use Rattle.grift_cli.specs.declared.elaboration.ExprType.TheVariants.{Int, Unit 
 use Rattle.grift_cli.proofs.Shapes.{Cases, by_cases}
 use Rattle.grift_cli.proofs.Zipper.{Got, Number, Nothing, value_got, Frame, LeftOf, RightOf, Printing, Before, Focus, Doing, Done, Zipper, at, doing, done, zipper_step, zipping, IsOf, HasFocusType, Takes, IsTyped, zipper_size}
 use Rattle.grift_cli.proofs.ZipperCalc.{Keeps, step_keeps}
-use Rattle.grift_cli.proofs.Halting.{OnTurn, Come, first_turn, walk_halts}
+use Rattle.grift_cli.proofs.Halting.{IsOutcome, OnTurn, Come, first_turn, walk_halts}
 use Rattle.grift_cli.proofs.Standing.{Lies, Stands, turn_here, puts, loads, stores}
 use Rattle.grift_cli.proofs.Blocks.{number, word_below, sum_word, plus_zero, plus_small, minus_eight, zero_plus_small}
 use Rattle.grift_cli.proofs.Calls.{word_got, prints, call_newline, call_print, call_answer}
 
 -- a stop that isn't for want of room
 abbrev pub HasRoom : Halt → Type 0
-HasRoom RegionOut = ⊥
-HasRoom StackOut = ⊥
-HasRoom (Ended shown) = Unit {0}
-HasRoom (Blamed label) = Unit {0}
-HasRoom (Trapped trap) = Unit {0}
-HasRoom (Undefined pc) = Unit {0}
-HasRoom (BadAddress pc) = Unit {0}
-HasRoom (Misaligned pc) = Unit {0}
+HasRoom (Ended verdict) = IsOutcome verdict
+HasRoom (Lacks room) = ⊥
+HasRoom (GoesWrong fault) = Unit {0}
 
 not_int : UnitType ≡ Int → ⊥
 not_int e = cc
@@ -245,7 +241,7 @@ module _ (l : Layout) (low : ℕ) (lies : Lies l low) (answer : ExprType) where
         puts l low lies (Way z z) _ 2 t (Addi 11 10 (pos 0)) (Addi 10 0 (pos (answer_kind answer)) ∷ Addi 17 0 (pos 0) ∷ Ecall ∷ []) 11 (word_got g) e s (ap (λ y. put 11 (plus y (pos 0)) t) x ∙ ap (λ y. put 11 y t) (plus_zero (word_got g) (got_below g type of))) (way_first z z t o) (λ t1 a.
             puts l low lies (Way z z) _ 1 t1 (Addi 10 0 (pos (answer_kind answer))) (Addi 17 0 (pos 0) ∷ Ecall ∷ []) 10 (answer_kind answer) a.layout a.code (ap (λ y. put 10 y t1) (zero_plus_small (answer_kind answer) (kind_small answer))) (way_first z z t1 (a.world ∙ o)) (λ t2 b.
             puts l low lies (Way z z) _ 0 t2 (Addi 17 0 (pos 0)) (Ecall ∷ []) 17 0 b.layout b.code (ap (λ y. put 17 y t2) (zero_plus_small 0 (omega arith))) (way_first z z t2 (b.world ∙ a.world ∙ o)) (λ t3 c.
-            let stop : turn_of t3 ≡ Stops (Ended (shown_value (value_got g))) = turn_here l t3 Ecall [] c.layout c.code ∙ call_answer t3 answer g (subst (IsOf g) takes of) (ap (λ regs. get_reg regs 17) c.regs) (ap (λ regs. get_reg regs 10) c.regs ∙ ap (λ regs. get_reg regs 10) b.regs) (ap (λ regs. get_reg regs 11) c.regs ∙ ap (λ regs. get_reg regs 11) b.regs ∙ ap (λ regs. get_reg regs 11) a.regs) in
+            let stop : turn_of t3 ≡ Stops (Ended (Answer (shown_value (value_got g)))) = turn_here l t3 Ecall [] c.layout c.code ∙ call_answer t3 answer g (subst (IsOf g) takes of) (ap (λ regs. get_reg regs 17) c.regs) (ap (λ regs. get_reg regs 10) c.regs ∙ ap (λ regs. get_reg regs 10) b.regs) (ap (λ regs. get_reg regs 11) c.regs ∙ ap (λ regs. get_reg regs 11) b.regs ∙ ap (λ regs. get_reg regs 11) a.regs) in
             let room : OnTurn HasRoom (turn_of t3) = subst (OnTurn HasRoom) (sym stop) tt in
             let like : Alike Any zipping machine z t3 = record { output = ap (λ (k : WorldState). k.output) (c.world ∙ b.world ∙ a.world ∙ o); shown = tt } in
             ((inl like, room), (t3, ap (step_of t3) stop, like, room))))),

@@ -4,7 +4,11 @@ use Rattle.grift_base.specs.declared.refusals.Refusal.{Refusal}
 use Rattle.grift_base.specs.declared.refusals.RefusalKind.TheVariants.{BadForm}
 use Rattle.grift_base.specs.declared.refusals.FrontFault.{FrontFault}
 use Rattle.grift_base.specs.declared.refusals.FrontFault.TheVariants.{Refused, OutOfMemory}
+use Rattle.assembler.specs.declared.image.ImageFault.{ImageFault}
+use Rattle.assembler.specs.declared.image.ImageFault.TheVariants.{BadMagic, BadLength, BadSection}
 use Rattle.core_calc.specs.Terms.{Term}
+use Rattle.grift_cli.specs.declared.reports.BadImage.{BadImage}
+use Rattle.grift_cli.specs.declared.reports.BadImage.TheVariants.{Magic, Length, Section}
 use Rattle.grift_cli.specs.Source.{IsSource}
 
 -- a bad form at the first byte, which every refusal is told as
@@ -19,3 +23,9 @@ IsFaultOf IsTerm OutOfMemory = Unit {0}
 -- a fault of a source: it is no program, or no memory was left
 abbrev pub IsFault : List ℕ → FrontFault → Type 0
 IsFault text fault = IsFaultOf (IsSource text) fault
+
+-- why the bytes of a file are no image, as a fault of reading them
+abbrev pub image_fault : BadImage → ImageFault
+image_fault Magic = BadMagic
+image_fault Length = BadLength
+image_fault Section = BadSection

@@ -1,12 +1,14 @@
--- The code of a program. A term leaves its word in x10. Words of operands that wait for a later one stand on the stack, and x2 is the place of the last.
-use Rattle.std.specs.Prelude.{ℕ, zero, suc, ◌+◌, ◌*◌, ◌&&◌, max, if◌then◌else◌, Bool, ℤ, pos, negsuc, int_le, int_lt, List, [], ◌∷◌, ◌++◌, map}
+-- The code of a program. A term leaves its word in x10. Words of operands that wait for a later one stand on the
+-- stack, and x2 is the place of the last.
+use Rattle.std.specs.Prelude.{ℕ, zero, suc, ◌+◌, ◌*◌, ◌&&◌, max, if◌then◌else◌, Bool, ℤ, pos, negsuc, int_le, int_lt}
+use Rattle.std.specs.Prelude.{List, [], ◌∷◌, ◌++◌, map}
 use Rattle.std.specs.Int.{w64, cast_unsigned}
 use Rattle.rv_isa.specs.declared.inst.Inst.{Inst}
 use Rattle.rv_isa.specs.declared.inst.Inst.TheVariants.{Ld, Sd, Addi, Slli, Add as AddInst, Sub, Ecall}
 use Rattle.rv_isa.specs.declared.inst.Cond.TheVariants.{Geu}
 use Rattle.rv_isa.specs.declared.real.RealItem.{RealItem}
 use Rattle.rv_isa.specs.declared.real.RealItem.TheVariants.{Op, Mark, Branch}
-use Rattle.assembler.specs.Forms.{chunk_of}
+use Rattle.assembler.specs.Expansion.{chunk_of}
 use Rattle.assembler.specs.Imaging.{assembled}
 use Rattle.grift_base.specs.declared.operators.PrimOp.{PrimOp}
 use Rattle.grift_base.specs.declared.operators.PrimOp.TheVariants.{Add, PrintInt, Newline}

@@ -1,4 +1,5 @@
--- The types of programs. For these forms no cast is ever made, so the elaboration of a program is the program itself with its type.
+-- The types of programs. For these forms no cast is ever made, so the elaboration of a program is the program itself
+-- with its type.
 use Rattle.std.specs.Prelude.{ℕ, ◌≡◌, [], ◌∷◌}
 use Rattle.grift_base.specs.Types.{TypeRows, IntRow, UnitRow}
 use Rattle.std.specs.Int.{w64}

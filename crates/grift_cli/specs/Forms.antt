@@ -1,6 +1,7 @@
 -- Which s-expressions are which program. A program is one form: an integer, or a list whose head is one of four words.
 use Rattle.std.specs.Prelude.{ℕ, ◌≡◌, List, codes, Option, Some, None}
-use Rattle.sexpr_reader.specs.Datum.{integer, truth, symbol, Datum, leaf_datum, list_datum, Datums, no_datums, datum_then}
+use Rattle.sexpr_reader.specs.Datum.{integer, truth, symbol, Datum, leaf_datum, list_datum, Datums, no_datums}
+use Rattle.sexpr_reader.specs.Datum.{datum_then}
 use Rattle.grift_base.specs.declared.operators.PrimOp.TheVariants.{Add, PrintInt, Newline}
 use Rattle.core_calc.specs.Terms.{Term, Terms, IntLit, Seq, Prim, NoTerms, TermThen}
 use Rattle.grift_cli.specs.declared.forms.Head.{Head}
@@ -28,7 +29,8 @@ abbrev mutual
   IsForm (leaf_datum place (symbol name)) term = ⊥
   IsForm (list_datum place no_datums) term = ⊥
   IsForm (list_datum place (datum_then (leaf_datum at (symbol word)) operands)) term =
-      (head : Head) × (terms : Terms) × (word ≡ head_word head) × AreForms operands terms × (made head terms ≡ Some term)
+      (head : Head) × (terms : Terms) × (word ≡ head_word head) × AreForms operands terms
+      × (made head terms ≡ Some term)
   IsForm (list_datum place (datum_then (leaf_datum at (integer n)) operands)) term = ⊥
   IsForm (list_datum place (datum_then (leaf_datum at (truth b)) operands)) term = ⊥
   IsForm (list_datum place (datum_then (list_datum at parts) operands)) term = ⊥

@@ -1,12 +1,15 @@
 pub mod Forms
 pub mod Elaboration
 pub mod Code
+pub mod Runs
 pub mod Limits
 pub mod Program
 pub mod Source
-pub mod Words
-pub mod CommandWords
+pub mod Commands
+pub mod ReadCommands
 pub mod Answers
+pub mod Calls
 pub mod Outcome
 pub mod Running
 pub mod Reporting
+pub mod TermViews

@@ -1,42 +1,57 @@
--- Statuses and lines of reports.
+-- Statuses and lines of reports, and how a call is answered.
 use Rattle.std.specs.Prelude.{ℕ, false, ◌-◌, ◌≡◌, ◌⊎◌, List, ◌++◌, codes, length, replicate}
 use Rattle.std.specs.Fmt.{decimal, digits}
 use Rattle.assembler.specs.declared.image.ImageFault.{ImageFault}
-use Rattle.assembler.specs.declared.image.ImageFault.TheVariants.{BadMagic, BadLength, BadSection, OutOfMemory as ImageMemory}
+use Rattle.assembler.specs.declared.image.ImageFault.TheVariants.{BadMagic, BadLength, BadSection}
+use Rattle.assembler.specs.declared.image.ImageFault.TheVariants.{OutOfMemory as ImageMemory}
 use Rattle.grift_base.specs.Refusals.{refusal_text}
+use Rattle.grift_base.specs.Sink.{SinkSeen, Untouched, Takes, Breaks}
 use Rattle.grift_base.specs.VerdictLine.{verdict_text}
 use Rattle.grift_base.specs.declared.refusals.Refusal.{Refusal}
 use Rattle.grift_base.specs.declared.verdicts.Verdict.TheVariants.{Answer, Blame, Trap, RegionOut, StackOut, StepsSpent}
 use Rattle.grift_base.specs.declared.refusals.FrontFault.{FrontFault}
-use Rattle.grift_base.specs.declared.refusals.FrontFault.TheVariants.{Refused as SourceRefused, OutOfMemory as SourceMemory}
+use Rattle.grift_base.specs.declared.refusals.FrontFault.TheVariants.{Refused as SourceRefused}
+use Rattle.grift_base.specs.declared.refusals.FrontFault.TheVariants.{OutOfMemory as SourceMemory}
 use Rattle.grift_base.specs.declared.shelves.LoadFault.{LoadFault}
-use Rattle.grift_base.specs.declared.shelves.LoadFault.TheVariants.{Failed as ShelfFailed, TooLong as ShelfTooLong, OutOfMemory as ShelfMemory}
+use Rattle.grift_base.specs.declared.shelves.LoadFault.TheVariants.{Failed as ShelfFailed, TooLong as ShelfTooLong}
+use Rattle.grift_base.specs.declared.shelves.LoadFault.TheVariants.{OutOfMemory as ShelfMemory}
 use Rattle.grift_base.specs.declared.sinks.SinkFault.{SinkFault}
 use Rattle.grift_base.specs.declared.sinks.SinkFault.TheVariants.{Failed as SinkFailed, OutOfMemory as SinkMemory}
-use Rattle.grift_cli.specs.Outcome.{SinkSeen, Untouched, Takes, Breaks, Work, Means}
+use Rattle.rv_machine.specs.declared.faults.MachineFault.{MachineFault}
+use Rattle.rv_machine.specs.declared.faults.MachineFault.TheVariants.{Undefined, BadAddress, Misaligned}
+use Rattle.grift_cli.specs.Calls.{CallSeen}
+use Rattle.grift_cli.specs.Outcome.{Says}
+use Rattle.grift_cli.specs.declared.reports.BadImage.{BadImage}
+use Rattle.grift_cli.specs.declared.reports.BadImage.TheVariants.{Magic, Length, Section}
+use Rattle.grift_cli.specs.declared.reports.Line.{Line}
+use Rattle.grift_cli.specs.declared.reports.Line.TheVariants.{Fixed, Made}
 use Rattle.grift_cli.specs.declared.reports.Report.{Report}
-use Rattle.grift_cli.specs.declared.reports.Report.TheVariants.{Ran, WentWrong, Refused, ImageRefused, WordsRefused, LoadFailed, PutFailed, NoMemory, TooLong}
-use Rattle.grift_cli.specs.declared.reports.MachineFault.{MachineFault}
-use Rattle.grift_cli.specs.declared.reports.MachineFault.TheVariants.{Undefined, BadAddress, Misaligned}
+use Rattle.grift_cli.specs.declared.reports.Report.TheVariants.{HasVerdict, HasFault, Refused, ImageRefused}
+use Rattle.grift_cli.specs.declared.reports.Report.TheVariants.{WordsRefused, LoadFailed, PutFailed}
+use Rattle.grift_cli.specs.declared.reports.Report.TheVariants.{NoMemory, TooLong}
+
+-- ---- statuses and lines
 
 abbrev pub report_status : Report → ℕ
-report_status (Ran (Answer answer)) = 0
-report_status (Ran (Blame place)) = 3
-report_status (Ran (Trap trap)) = 4
-report_status (Ran RegionOut) = 5
-report_status (Ran StackOut) = 6
-report_status (Ran StepsSpent) = 7
+report_status (HasVerdict (Answer answer)) = 0
+report_status (HasVerdict (Blame place)) = 3
+report_status (HasVerdict (Trap trap)) = 4
+report_status (HasVerdict RegionOut) = 5
+report_status (HasVerdict StackOut) = 6
+report_status (HasVerdict StepsSpent) = 7
 report_status (Refused refusal) = 1
 report_status WordsRefused = 2
 report_status LoadFailed = 8
 report_status PutFailed = 9
 report_status NoMemory = 10
-report_status (WentWrong fault) = 11
+report_status (HasFault fault) = 11
 report_status TooLong = 12
 report_status (ImageRefused fault) = 13
 
-abbrev pub refusal_text_line : Refusal → List ℕ
-refusal_text_line r = codes "refused " ++ refusal_text r.kind ++ codes " " ++ decimal r.pos.line ++ codes ":" ++ decimal r.pos.col ++ codes "\n"
+abbrev pub refusal_line : Refusal → List ℕ
+refusal_line r =
+    codes "refused " ++ refusal_text r.kind ++ codes " " ++ decimal r.pos.line ++ codes ":" ++ decimal r.pos.col
+    ++ codes "\n"
 
 -- an address in hexadecimal digits, at least eight of them
 abbrev pub address_text : ℕ → List ℕ
@@ -47,53 +62,76 @@ fault_line (Undefined pc) = codes "machine undefined " ++ address_text pc ++ cod
 fault_line (BadAddress pc) = codes "machine address " ++ address_text pc ++ codes "\n"
 fault_line (Misaligned pc) = codes "machine misaligned " ++ address_text pc ++ codes "\n"
 
--- want of memory is no fault of an image, and has its own line
-abbrev pub image_fault_line : ImageFault → List ℕ
-image_fault_line BadMagic = codes "bad image magic\n"
-image_fault_line BadLength = codes "bad image length\n"
-image_fault_line BadSection = codes "bad image section\n"
-image_fault_line ImageMemory = codes "out of memory\n"
+abbrev pub bad_image_line : BadImage → List ℕ
+bad_image_line Magic = codes "bad image magic\n"
+bad_image_line Length = codes "bad image length\n"
+bad_image_line Section = codes "bad image section\n"
 
 abbrev pub report_line : Report → List ℕ
-report_line (Ran verdict) = verdict_text verdict ++ codes "\n"
-report_line (WentWrong fault) = fault_line fault
-report_line (Refused refusal) = refusal_text_line refusal
-report_line (ImageRefused fault) = image_fault_line fault
+report_line (HasVerdict verdict) = verdict_text verdict ++ codes "\n"
+report_line (HasFault fault) = fault_line fault
+report_line (Refused refusal) = refusal_line refusal
+report_line (ImageRefused fault) = bad_image_line fault
 report_line WordsRefused = codes "words refused\n"
 report_line LoadFailed = codes "load failed\n"
 report_line TooLong = codes "file too long\n"
 report_line PutFailed = codes "put failed\n"
 report_line NoMemory = codes "out of memory\n"
 
--- a line was put for this status; or the sink failed, with a beginning of the line; or no memory was left, and nothing was
--- put
-pub data LinePut (line : List ℕ) (wanted : ℕ) (err : SinkSeen) (status : ℕ) : Type 0 where
-  Put : status ≡ wanted → Takes line err → LinePut line wanted err status
-  Fails : status ≡ 9 → Breaks line err → LinePut line wanted err status
-  Lacks : status ≡ 10 → Untouched err → LinePut line wanted err status
+-- the bytes of a line
+abbrev pub bytes_of_line : Line → List ℕ
+bytes_of_line (Fixed bytes) = bytes.now
+bytes_of_line (Made text) = text
 
--- the report's line was put, or that of want of memory
-abbrev pub Reported : Report → SinkSeen → ℕ → Type 0
-Reported report err status = LinePut (report_line report) (report_status report) err status ⊎ LinePut (report_line NoMemory) (report_status NoMemory) err status
+-- ---- how a call is answered
 
--- how a call went: what it means, and how it was reported
-pub record WentBy (w : Work) (err : SinkSeen) (status : ℕ) : Type 0 where
+-- a line was put for this status; or the sink failed, with a beginning of the line; or no memory was left for the put,
+-- and nothing was put
+pub data PutsLine (line : List ℕ) (wanted : ℕ) (err : SinkSeen) (status : ℕ) : Type 0 where
+  Put : status ≡ wanted → Takes line err → PutsLine line wanted err status
+  Fails : status ≡ 9 → Breaks line err → PutsLine line wanted err status
+  Lacks : status ≡ 10 → Untouched err → PutsLine line wanted err status
+
+-- the line of the report takes memory to be made; the other lines are fixed
+abbrev pub IsMadeLine : Report → Type 0
+IsMadeLine (HasVerdict verdict) = Unit {0}
+IsMadeLine (HasFault fault) = Unit {0}
+IsMadeLine (Refused refusal) = Unit {0}
+IsMadeLine _ = ⊥
+
+-- the report's line was put, or, where no memory was left to make it, that of want of memory
+abbrev pub PutsReport : Report → SinkSeen → ℕ → Type 0
+PutsReport report err status =
+    PutsLine (report_line report) (report_status report) err status
+    ⊎ (IsMadeLine report × PutsLine (report_line NoMemory) (report_status NoMemory) err status)
+
+-- the call is answered by this status: a report says what came of it, and its line was put
+pub record IsAnswered (call : CallSeen) (err : SinkSeen) (status : ℕ) : Type 0 where
   pub report : Report
-  pub means : Means w report
-  pub reported : Reported report err status
+  pub says : Says report call
+  pub put : PutsReport report err status
 
--- what a fault of the sink for the line is reported as
+-- ---- what faults are reported as
+
+-- the status where the sink for the line failed or found no memory
 abbrev pub fault_status : SinkFault → ℕ
 fault_status SinkFailed = 9
 fault_status SinkMemory = 10
 
--- what a fault of the shelf is reported as
+-- a fault of the shelf
 abbrev pub load_report : LoadFault → Report
 load_report ShelfFailed = LoadFailed
 load_report ShelfTooLong = TooLong
 load_report ShelfMemory = NoMemory
 
--- what a fault of the source is reported as
+-- a fault of the source
 abbrev pub source_report : FrontFault → Report
 source_report (SourceRefused refusal) = Refused refusal
 source_report SourceMemory = NoMemory
+
+-- a fault of the bytes of an image
+abbrev pub image_report : ImageFault → Report
+image_report BadMagic = ImageRefused Magic
+image_report BadLength = ImageRefused Length
+image_report BadSection = ImageRefused Section
+image_report ImageMemory = NoMemory

@@ -7,10 +7,6 @@ use Rattle.grift_cli.specs.Forms.{IsProgram}
 use Rattle.grift_cli.specs.Elaboration.{HasExprType}
 use Rattle.grift_cli.specs.declared.elaboration.ExprType.{ExprType}
 
--- how many bytes a source may have
-abbrev pub source_limit : ℕ
-source_limit = 262144
-
 -- the text reads as the s-expressions of a program, which has a type
 pub record IsSource (text : List ℕ) (term : Term) : Type 0 where
   pub datums : Datums

@@ -1,7 +1,7 @@
 // Images from programs.
 
 ghost use Rattle.std.specs.Prelude.{◌≡◌, IfOk};
-ghost use Rattle.core_calc.specs.Views.{term_of};
+ghost use Rattle.grift_cli.specs.TermViews.{term_of};
 ghost use Rattle.grift_cli.specs.Code.{program_image};
 ghost use Rattle.grift_cli.specs.Elaboration.{HasExprType};
 ghost use Rattle.grift_cli.specs.Limits.{KeepsLimits};
@@ -9,9 +9,9 @@ ghost use Rattle.grift_cli.specs.Program.{FollowsProgram, program_of};
 
 use crate::elaboration::ExprType;
 use crate::instructions::program_items;
+use crate::terms::Core;
 use assembler::assembly::assemble;
 use assembler::image::Image;
-use core_calc::terms::Core;
 use grift_base::lists::OutOfMemory;
 use grift_base::places::LabelTable;
 use grift_base::words::Statics;

@@ -1,12 +1,12 @@
 // The types of programs. No cast is made for these forms, so a program's term stays as it is.
 
 ghost use Rattle.std.specs.Prelude.{MatchOption, IsTrue, ◌↔◌};
-ghost use Rattle.core_calc.specs.Views.{term_of, terms_of};
+ghost use Rattle.grift_cli.specs.TermViews.{term_of, terms_of};
 ghost use Rattle.core_calc.specs.Terms.{Term, Prim};
 ghost use Rattle.core_calc.specs.Typing.{ProgramTermHasType};
 ghost use Rattle.grift_cli.specs.Elaboration.{HasExprType, LastHasExprType, plain_types, place_of};
 
-use core_calc::terms::{Core, CoreList};
+use crate::terms::{Core, CoreList};
 use grift_base::operators::PrimOp;
 
 /// The type of an expression.
@@ -102,5 +102,5 @@ fn is_int(term: &Core) -> bool
 
 /// A term that has a type is a program term of the calculus, with that type in a table of Int and Unit.
 pub fn a_typed_term_is_a_program_term()
-    ensures { (term : Term) (t : ExprType) → HasExprType term t → ProgramTermHasType plain_types term (place_of t) }
+    ensures { (term : Term) (t : ExprType) → HasExprType term t → ProgramTermHasType plain_types 0 term (place_of t) }
 {}

@@ -4,11 +4,11 @@ ghost use Rattle.std.specs.Prelude.{◌≡◌, IfOk, IfErr, MatchOption, None, S
 ghost use Rattle.sexpr_reader.specs.View.{datums_of, datum_of, datum_at};
 ghost use Rattle.sexpr_reader.specs.Datum.{list_datum, leaf_datum, symbol};
 ghost use Rattle.core_calc.specs.Terms.{Terms, Seq};
-ghost use Rattle.core_calc.specs.Views.{term_of, terms_of};
+ghost use Rattle.grift_cli.specs.TermViews.{term_of, terms_of};
 ghost use Rattle.grift_cli.specs.Forms.{head_word, made, IsForm, AreForms, IsProgram};
 ghost use Rattle.grift_cli.specs.Answers.{bad_form, IsFaultOf};
 
-use core_calc::terms::{Core, CoreList};
+use crate::terms::{Core, CoreList};
 use grift_base::operators::PrimOp;
 use grift_base::places::Pos;
 use grift_base::refusals::{FrontFault, Refusal, RefusalKind};

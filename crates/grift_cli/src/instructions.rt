@@ -8,13 +8,13 @@ ghost use Rattle.rv_isa.specs.declared.real.RealItem.TheVariants.{Op};
 ghost use Rattle.assembler.specs.Conditions.{is_mark};
 ghost use Rattle.grift_base.specs.declared.operators.PrimOp.TheVariants.{Add, PrintInt, Newline};
 ghost use Rattle.core_calc.specs.Terms.{term_list};
-ghost use Rattle.core_calc.specs.Views.{term_of, terms_of};
-ghost use Rattle.assembler.specs.Forms.{chunk_of};
+ghost use Rattle.grift_cli.specs.TermViews.{term_of, terms_of};
+ghost use Rattle.assembler.specs.Expansion.{chunk_of};
 ghost use Rattle.grift_cli.specs.Code.{chunks_insts, is_short, number_insts, wait_insts, operator_insts, term_insts, operands_insts, terms_insts, slots_of, operand_slots, most_slots, test_items, room_items, answer_kind, answer_insts, program_items};
 ghost use Rattle.grift_cli.specs.Limits.{insts_limit};
 
 use crate::elaboration::ExprType;
-use core_calc::terms::{Core, CoreList};
+use crate::terms::{Core, CoreList};
 use grift_base::lists::OutOfMemory;
 use grift_base::operators::PrimOp;
 use rv_isa::inst::{Cond, Inst};

@@ -1,6 +1,7 @@
 // Compiles a file and runs it, between a shelf and sinks.
 #![tactic(auto)]
 
+pub mod commands;
 mod compile;
 mod elaboration;
 mod forms;
@@ -8,5 +9,5 @@ mod instructions;
 mod reports;
 mod runner;
 mod source;
+mod terms;
 pub mod top;
-pub mod words;

@@ -1,8 +1,9 @@
 // What a call of the program reports.
 
-ghost use Rattle.std.specs.Prelude.{◌≡◌, ◌++◌, codes, string_bytes, IfOk};
-ghost use Rattle.grift_cli.specs.Reporting.{report_status, report_line, address_text, fault_line, image_fault_line, refusal_text_line, load_report, source_report, fault_status};
-ghost use Rattle.grift_cli.specs.Running.{image_report};
+ghost use Rattle.std.specs.Prelude.{◌≡◌, ◌++◌, codes, string_bytes, IfOk, OnErr};
+ghost use Rattle.grift_cli.specs.Reporting.{report_status, report_line, address_text, fault_line, bad_image_line};
+ghost use Rattle.grift_cli.specs.Reporting.{bytes_of_line, IsMadeLine, refusal_line, load_report, source_report};
+ghost use Rattle.grift_cli.specs.Reporting.{image_report, fault_status};
 
 use assembler::image::ImageFault;
 use grift_base::lists::{OutOfMemory, Text};
@@ -11,30 +12,31 @@ use grift_base::shelves::LoadFault;
 use grift_base::sinks::SinkFault;
 use grift_base::verdicts::{Verdict, verdict_line};
 use itoa::Buffer;
+use rv_machine::faults::MachineFault;
 use std::alloc::Global;
 
-/// How a stranger's image goes wrong, each with the address of the instruction that stopped.
+/// Why a file holds no image.
 #[derive(Clone, Copy, PartialEq, Eq, Debug)]
-pub enum MachineFault {
-    /// The word is no instruction, or the environment has no such call.
-    Undefined(u64),
-    /// The instruction, or what it reads or writes, doesn't lie where it may.
-    BadAddress(u64),
-    /// What it reads, writes or jumps to isn't aligned.
-    Misaligned(u64),
+pub enum BadImage {
+    /// It doesn't begin as an image does.
+    Magic,
+    /// It has another length than it tells.
+    Length,
+    /// A part of it isn't where, or as, it has to be.
+    Section,
 }
 
 /// What a call of the program reports.
 #[derive(Clone, Copy, PartialEq, Eq, Debug)]
 pub enum Report {
-    /// The image ran and came to this.
-    Ran(Verdict),
-    /// A stranger's image ran and went wrong.
-    WentWrong(MachineFault),
+    /// The run of the image has this verdict.
+    HasVerdict(Verdict),
+    /// The run of a stranger's image went wrong by this fault.
+    HasFault(MachineFault),
     /// The source is no program.
     Refused(Refusal),
     /// The file holds no image.
-    ImageRefused(ImageFault),
+    ImageRefused(BadImage),
     /// The words are no command.
     WordsRefused,
     /// The file could not be read.
@@ -47,42 +49,62 @@ pub enum Report {
     NoMemory,
 }
 
+/// A line for the user: one that takes no memory, or one that was made.
+#[derive(Drop)]
+pub enum Line {
+    Fixed(&'static [u8]),
+    Made(Text),
+}
+
+impl Line {
+    /// The bytes of the line.
+    pub fn as_slice(&self) -> &[u8]
+        ensures { result.now ≡ bytes_of_line self.now }
+    {
+        match self {
+            Line::Fixed(bytes) => bytes,
+            Line::Made(text) => text.as_slice(),
+        }
+    }
+}
+
 /// The status of a report.
 pub fn status_of(report: Report) -> u8
     ensures { result ≡ report_status report }
 {
     match report {
-        Report::Ran(Verdict::Answer(_)) => 0,
+        Report::HasVerdict(Verdict::Answer(_)) => 0,
         Report::Refused(_) => 1,
         Report::WordsRefused => 2,
-        Report::Ran(Verdict::Blame(_)) => 3,
-        Report::Ran(Verdict::Trap(_)) => 4,
-        Report::Ran(Verdict::RegionOut) => 5,
-        Report::Ran(Verdict::StackOut) => 6,
-        Report::Ran(Verdict::StepsSpent) => 7,
+        Report::HasVerdict(Verdict::Blame(_)) => 3,
+        Report::HasVerdict(Verdict::Trap(_)) => 4,
+        Report::HasVerdict(Verdict::RegionOut) => 5,
+        Report::HasVerdict(Verdict::StackOut) => 6,
+        Report::HasVerdict(Verdict::StepsSpent) => 7,
         Report::LoadFailed => 8,
         Report::PutFailed => 9,
         Report::NoMemory => 10,
-        Report::WentWrong(_) => 11,
+        Report::HasFault(_) => 11,
         Report::TooLong => 12,
         Report::ImageRefused(_) => 13,
     }
 }
 
 /// The line of a report, with its line feed.
-pub fn line_of(alloc: Global, report: Report) -> Result<Text, OutOfMemory>
-    ensures { IfOk result (λ line. line ≡ report_line report) }
+pub fn line_of(alloc: Global, report: Report) -> Result<Line, OutOfMemory>
+    ensures ok { IfOk result (λ line. bytes_of_line line ≡ report_line report) }
+    ensures err { OnErr result (IsMadeLine report) }
 {
     match report {
-        Report::Ran(verdict) => verdict_line(alloc, &verdict),
-        Report::WentWrong(fault) => fault_line(alloc, fault),
-        Report::Refused(refusal) => refusal_line(alloc, refusal),
-        Report::ImageRefused(fault) => image_fault_line(alloc, fault),
-        Report::WordsRefused => Text::from_slice(alloc, b"words refused\n"),
-        Report::LoadFailed => Text::from_slice(alloc, b"load failed\n"),
-        Report::TooLong => Text::from_slice(alloc, b"file too long\n"),
-        Report::PutFailed => Text::from_slice(alloc, b"put failed\n"),
-        Report::NoMemory => Text::from_slice(alloc, b"out of memory\n"),
+        Report::HasVerdict(verdict) => verdict_line(alloc, &verdict).map(Line::Made),
+        Report::HasFault(fault) => fault_line(alloc, fault).map(Line::Made),
+        Report::Refused(refusal) => refusal_line(alloc, refusal).map(Line::Made),
+        Report::ImageRefused(fault) => Ok(Line::Fixed(bad_image_line(fault))),
+        Report::WordsRefused => Ok(Line::Fixed(b"words refused\n")),
+        Report::LoadFailed => Ok(Line::Fixed(b"load failed\n")),
+        Report::TooLong => Ok(Line::Fixed(b"file too long\n")),
+        Report::PutFailed => Ok(Line::Fixed(b"put failed\n")),
+        Report::NoMemory => Ok(Line::Fixed(b"out of memory\n")),
     }
 }
 
@@ -116,20 +138,19 @@ fn address_text(alloc: Global, address: u64) -> Result<String, OutOfMemory>
 }
 
 // The line of a file that holds no image.
-fn image_fault_line(alloc: Global, fault: ImageFault) -> Result<Text, OutOfMemory>
-    ensures { IfOk result (λ line. line ≡ image_fault_line fault) }
+fn bad_image_line(fault: BadImage) -> &'static [u8]
+    ensures { result.now ≡ bad_image_line fault }
 {
     match fault {
-        ImageFault::BadMagic => Text::from_slice(alloc, b"bad image magic\n"),
-        ImageFault::BadLength => Text::from_slice(alloc, b"bad image length\n"),
-        ImageFault::BadSection => Text::from_slice(alloc, b"bad image section\n"),
-        ImageFault::OutOfMemory => Text::from_slice(alloc, b"out of memory\n"),
+        BadImage::Magic => b"bad image magic\n",
+        BadImage::Length => b"bad image length\n",
+        BadImage::Section => b"bad image section\n",
     }
 }
 
 // The line of a refusal.
 fn refusal_line(alloc: Global, refusal: Refusal) -> Result<Text, OutOfMemory>
-    ensures { IfOk result (λ line. line ≡ refusal_text_line refusal) }
+    ensures { IfOk result (λ line. line ≡ refusal_line refusal) }
 {
     let mut line = Text::from_slice(alloc, b"refused ")?;
     line.extend(refusal.kind.text().as_bytes())?;
@@ -167,9 +188,9 @@ pub fn report_of_image(fault: ImageFault) -> Report
     ensures { result ≡ image_report fault }
 {
     match fault {
-        ImageFault::BadMagic => Report::ImageRefused(fault),
-        ImageFault::BadLength => Report::ImageRefused(fault),
-        ImageFault::BadSection => Report::ImageRefused(fault),
+        ImageFault::BadMagic => Report::ImageRefused(BadImage::Magic),
+        ImageFault::BadLength => Report::ImageRefused(BadImage::Length),
+        ImageFault::BadSection => Report::ImageRefused(BadImage::Section),
         ImageFault::OutOfMemory => Report::NoMemory,
     }
 }

@@ -3,12 +3,13 @@
 ghost use Rattle.std.specs.Prelude.{◌≡◌, ℕ, List, [], Option, IfOk, IfSome};
 ghost use Rattle.rv_machine.specs.Start.{IsRegionSize, IsStackSize, fresh_world, start_of};
 ghost use Rattle.rv_emulator.specs.Processor.{state_of};
-ghost use Rattle.grift_cli.specs.Outcome.{sink_seen, final, printed};
-ghost use Rattle.grift_cli.specs.CommandWords.{limits_of_words};
-ghost use Rattle.grift_cli.specs.Running.{RunsWell, IsReported, stop_report, PutsAll, told_of, Executes, Runs};
+ghost use Rattle.rv_emulator.specs.Turns.{outcome_of};
+ghost use Rattle.grift_base.specs.Sink.{sink_seen};
+ghost use Rattle.grift_cli.specs.Runs.{run_within, printed};
+ghost use Rattle.grift_cli.specs.Running.{RunsWell, TellsRun, TellsStop, PutsAll, sink_report, Executes, Runs};
 
-use crate::reports::{MachineFault, Report};
-use crate::words::Limits;
+use crate::commands::Limits;
+use crate::reports::Report;
 use assembler::image::Image;
 use grift_base::lists::{Bytes, OutOfMemory};
 use grift_base::sinks::{Sink, SinkFault};
@@ -18,6 +19,7 @@ use rv_emulator::flat::FlatRam;
 use rv_emulator::machine::Machine;
 use rv_emulator::ram::Ram;
 use rv_emulator::stops::Stop;
+use rv_machine::faults::MachineFault;
 use std::alloc::Global;
 
 /// Puts an image that never goes wrong, runs it within the limits, and puts what it prints.
@@ -30,8 +32,11 @@ pub fn run_image<O: Sink, I: Sink>(
 ) -> Report
     requires region { IsRegionSize limits.region }
     requires stack { IsStackSize limits.stack }
-    requires well { RunsWell (limits_of_words limits) image.now }
-    ensures { Runs (limits_of_words limits) image.now (sink_seen O.written O.fault_count out.old out.new) (sink_seen I.written I.fault_count img.old img.new) result }
+    requires well { RunsWell limits image.now }
+    ensures { Runs limits image.now
+        (sink_seen O.written O.fault_count out.old out.new)
+        (sink_seen I.written I.fault_count img.old img.new)
+        result }
 {
     match put_all(img, image.bytes()) {
         Ok(()) => exec_image(alloc, image, limits, out),
@@ -43,9 +48,9 @@ pub fn run_image<O: Sink, I: Sink>(
 pub fn exec_image<O: Sink>(alloc: Global, image: &Image, limits: Limits, out: &mut O) -> Report
     requires region { IsRegionSize limits.region }
     requires stack { IsStackSize limits.stack }
-    ensures { Executes (limits_of_words limits) image.now (sink_seen O.written O.fault_count out.old out.new) result }
+    ensures { Executes limits image.now (sink_seen O.written O.fault_count out.old out.new) result }
 {
-    match finished(alloc, image, limits) {
+    match run_machine(alloc, image, limits) {
         None => Report::NoMemory,
         Some((report, machine)) => match put_all(out, machine.world().output.as_slice()) {
             Ok(()) => report,
@@ -56,7 +61,7 @@ pub fn exec_image<O: Sink>(alloc: Global, image: &Image, limits: Limits, out: &m
 
 // Puts these bytes, if there are any.
 fn put_all<S: Sink>(sink: &mut S, bytes: &[u8]) -> Result<(), SinkFault>
-    ensures { PutsAll bytes.now (sink_seen S.written S.fault_count sink.old sink.new) result }
+    ensures { PutsAll bytes.now result (sink_seen S.written S.fault_count sink.old sink.new) }
 {
     if bytes.is_empty() {
         return Ok(());
@@ -66,7 +71,7 @@ fn put_all<S: Sink>(sink: &mut S, bytes: &[u8]) -> Result<(), SinkFault>
 
 // What a fault of a sink is reported as.
 fn report_of(fault: SinkFault) -> Report
-    ensures { result ≡ told_of fault }
+    ensures { result ≡ sink_report fault }
 {
     match fault {
         SinkFault::Failed => Report::PutFailed,
@@ -75,11 +80,12 @@ fn report_of(fault: SinkFault) -> Report
 }
 
 // How the run of an image is reported, and the machine as it stopped; none for want of memory.
-fn finished(alloc: Global, image: &Image, limits: Limits) -> Option<(Report, Machine<FlatRam>)>
+fn run_machine(alloc: Global, image: &Image, limits: Limits) -> Option<(Report, Machine<FlatRam>)>
     requires region { IsRegionSize limits.region }
     requires stack { IsStackSize limits.stack }
-    ensures reported { IfSome result (λ run. IsReported (final (limits_of_words limits) image.now).1 run.0) }
-    ensures printed { IfSome result (λ run. (state_of ⟦<FlatRam as Ram>⟧.memory run.1).world.output ≡ printed (limits_of_words limits) image.now) }
+    ensures told { IfSome result (λ run. TellsRun (run_within limits image.now).1 run.0) }
+    ensures printed { IfSome result (λ run.
+        (state_of ⟦<FlatRam as Ram>⟧.memory run.1).world.output ≡ printed limits image.now) }
 {
     let Ok(mut machine) = machine_of(alloc, image, limits) else {
         return None;
@@ -93,7 +99,9 @@ fn finished(alloc: Global, image: &Image, limits: Limits) -> Option<(Report, Mac
 fn machine_of(alloc: Global, image: &Image, limits: Limits) -> Result<Machine<FlatRam>, OutOfMemory>
     requires region { IsRegionSize limits.region }
     requires stack { IsStackSize limits.stack }
-    ensures { IfOk result (λ machine. state_of ⟦<FlatRam as Ram>⟧.memory machine ≡ start_of image.now limits.region limits.stack (fresh_world [])) }
+    ensures { IfOk result (λ machine.
+        state_of ⟦<FlatRam as Ram>⟧.memory machine
+        ≡ start_of image.now limits.region limits.stack (fresh_world [])) }
 {
     let size = image.loaded().len() as u64 + limits.region + limits.stack;
     let ram = FlatRam::new(alloc, size)?;
@@ -104,18 +112,18 @@ fn machine_of(alloc: Global, image: &Image, limits: Limits) -> Result<Machine<Fl
 
 // The report of a stop; none for want of memory.
 fn report_of_stop(stop: Stop) -> Option<Report>
-    ensures { result ≡ stop_report stop }
+    ensures { TellsStop (outcome_of stop) result }
 {
     match stop {
-        Stop::Ended(answer) => Some(Report::Ran(Verdict::Answer(answer))),
-        Stop::Blamed(label) => Some(Report::Ran(Verdict::Blame(label))),
-        Stop::Trapped(trap) => Some(Report::Ran(Verdict::Trap(trap))),
-        Stop::RegionOut => Some(Report::Ran(Verdict::RegionOut)),
-        Stop::StackOut => Some(Report::Ran(Verdict::StackOut)),
-        Stop::StepsSpent => Some(Report::Ran(Verdict::StepsSpent)),
-        Stop::Undefined(pc) => Some(Report::WentWrong(MachineFault::Undefined(pc))),
-        Stop::BadAddress(pc) => Some(Report::WentWrong(MachineFault::BadAddress(pc))),
-        Stop::Misaligned(pc) => Some(Report::WentWrong(MachineFault::Misaligned(pc))),
+        Stop::Ended(answer) => Some(Report::HasVerdict(Verdict::Answer(answer))),
+        Stop::Blamed(label) => Some(Report::HasVerdict(Verdict::Blame(label))),
+        Stop::Trapped(trap) => Some(Report::HasVerdict(Verdict::Trap(trap))),
+        Stop::RegionOut => Some(Report::HasVerdict(Verdict::RegionOut)),
+        Stop::StackOut => Some(Report::HasVerdict(Verdict::StackOut)),
+        Stop::StepsSpent => Some(Report::HasVerdict(Verdict::StepsSpent)),
+        Stop::Undefined(pc) => Some(Report::HasFault(MachineFault::Undefined(pc))),
+        Stop::BadAddress(pc) => Some(Report::HasFault(MachineFault::BadAddress(pc))),
+        Stop::Misaligned(pc) => Some(Report::HasFault(MachineFault::Misaligned(pc))),
         Stop::OutOfMemory => None,
     }
 }

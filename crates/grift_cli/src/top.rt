@@ -1,33 +1,29 @@
 // The top call: all that the program does.
 
 ghost use Rattle.std.specs.Prelude.{◌≡◌, ℕ, List, Option, map, string_bytes};
+ghost use Rattle.grift_base.specs.Shelf.{shelf_seen};
+ghost use Rattle.grift_base.specs.Sink.{SinkSeen, Untouched, sink_seen};
 ghost use Rattle.rv_machine.specs.Start.{IsRegionSize, IsStackSize};
-ghost use Rattle.grift_cli.specs.Words.{IsRun, IsExec, limits_of};
-ghost use Rattle.grift_cli.specs.CommandWords.{command_of, limits_of_words};
-ghost use Rattle.grift_cli.specs.Outcome.{Means, Work, SinkSeen, Untouched, sink_seen};
-ghost use Rattle.grift_cli.specs.Running.{shelf_seen, work_of};
-ghost use Rattle.grift_cli.specs.Reporting.{LinePut, Reported, WentBy, report_line, report_status};
+ghost use Rattle.grift_cli.specs.Commands.{IsRun, IsExec, limits_of};
+ghost use Rattle.grift_cli.specs.ReadCommands.{command_of};
+ghost use Rattle.grift_cli.specs.Outcome.{Says};
+ghost use Rattle.grift_cli.specs.Reporting.{PutsLine, PutsReport, IsAnswered, report_line, report_status};
 
+use crate::commands::{Command, Limits, read_words};
 use crate::compile::compile;
 use crate::reports::{
     Report, line_of, report_of_image, report_of_load, report_of_source, status_of, status_of_fault,
 };
 use crate::runner::{exec_image, run_image};
 use crate::source::program_of;
-use crate::words::{Command, Limits, read_words};
 use assembler::image::read_image;
 use grift_base::shelves::Shelf;
 use grift_base::sinks::Sink;
+use grift_base::sizes::{IMAGE_LIMIT, SOURCE_LIMIT};
 use std::alloc::Global;
 
 #[cfg(test)]
 mod tests;
-
-// How many bytes a source may have.
-const SOURCE_LIMIT: usize = 262144;
-
-// How many bytes an image may have.
-const IMAGE_LIMIT: usize = 268435456;
 
 /// Does all that the program does, and answers its status.
 pub fn grift<S: Shelf, O: Sink, E: Sink, I: Sink>(
@@ -38,13 +34,9 @@ pub fn grift<S: Shelf, O: Sink, E: Sink, I: Sink>(
     err: &mut E,
     img: &mut I,
 ) -> u8
-    ensures { WentBy (record {
+    ensures { IsAnswered (record {
       words = map string_bytes words.now;
-      holds = S.holds shelf.old;
-      asked = S.asked shelf.old;
-      asked_after = S.asked shelf.new;
-      shelf_faults = S.fault_count shelf.old;
-      shelf_faults_after = S.fault_count shelf.new;
+      shelf = shelf_seen S.holds S.asked S.fault_count shelf.old shelf.new;
       out = sink_seen O.written O.fault_count out.old out.new;
       img = sink_seen I.written I.fault_count img.old img.new;
     }) (sink_seen E.written E.fault_count err.old err.new) result }
@@ -61,7 +53,12 @@ fn report_of_call<S: Shelf, O: Sink, I: Sink>(
     out: &mut O,
     img: &mut I,
 ) -> Report
-    ensures { Means (work_of (map string_bytes words.now) (shelf_seen S.holds S.asked S.fault_count shelf.old shelf.new) (sink_seen O.written O.fault_count out.old out.new) (sink_seen I.written I.fault_count img.old img.new)) result }
+    ensures { Says result (record {
+      words = map string_bytes words.now;
+      shelf = shelf_seen S.holds S.asked S.fault_count shelf.old shelf.new;
+      out = sink_seen O.written O.fault_count out.old out.new;
+      img = sink_seen I.written I.fault_count img.old img.new;
+    }) }
 {
     let Some(command) = read_words(words) else {
         return Report::WordsRefused;
@@ -75,7 +72,7 @@ fn report_of_call<S: Shelf, O: Sink, I: Sink>(
 
 // The limits of a command.
 fn limits_of(command: &Command<'_>) -> Limits
-    ensures { limits_of_words result ≡ limits_of (command_of command.now) }
+    ensures { result ≡ limits_of (command_of command.now) }
 {
     match *command {
         Command::Run {
@@ -112,7 +109,13 @@ fn report_of_run<S: Shelf, O: Sink, I: Sink>(
 ) -> Report
     requires region { IsRegionSize limits.region }
     requires stack { IsStackSize limits.stack }
-    ensures { (words : List (List ℕ)) (name : Option (List ℕ)) → IsRun words file.now (limits_of_words limits) name → Means (work_of words (shelf_seen S.holds S.asked S.fault_count shelf.old shelf.new) (sink_seen O.written O.fault_count out.old out.new) (sink_seen I.written I.fault_count img.old img.new)) result }
+    ensures { (words : List (List ℕ)) (name : Option (List ℕ)) → IsRun words file.now limits name
+        → Says result (record {
+          words = words;
+          shelf = shelf_seen S.holds S.asked S.fault_count shelf.old shelf.new;
+          out = sink_seen O.written O.fault_count out.old out.new;
+          img = sink_seen I.written I.fault_count img.old img.new;
+        }) }
 {
     let text = match shelf.load(alloc, file, SOURCE_LIMIT) {
         Ok(text) => text,
@@ -137,7 +140,13 @@ fn report_of_exec<S: Shelf, O: Sink>(
 ) -> Report
     requires region { IsRegionSize limits.region }
     requires stack { IsStackSize limits.stack }
-    ensures { (words : List (List ℕ)) (img : SinkSeen) → IsExec words file.now (limits_of_words limits) → Untouched img → Means (work_of words (shelf_seen S.holds S.asked S.fault_count shelf.old shelf.new) (sink_seen O.written O.fault_count out.old out.new) img) result }
+    ensures { (words : List (List ℕ)) (img : SinkSeen) → IsExec words file.now limits → Untouched img
+        → Says result (record {
+          words = words;
+          shelf = shelf_seen S.holds S.asked S.fault_count shelf.old shelf.new;
+          out = sink_seen O.written O.fault_count out.old out.new;
+          img = img;
+        }) }
 {
     let bytes = match shelf.load(alloc, file, IMAGE_LIMIT) {
         Ok(bytes) => bytes,
@@ -151,7 +160,7 @@ fn report_of_exec<S: Shelf, O: Sink>(
 
 // Puts the line of a report, and answers the status.
 fn put_report<E: Sink>(alloc: Global, err: &mut E, report: Report) -> u8
-    ensures { Reported report (sink_seen E.written E.fault_count err.old err.new) result }
+    ensures { PutsReport report (sink_seen E.written E.fault_count err.old err.new) result }
 {
     match line_of(alloc, report) {
         Ok(line) => put_line(err, line.as_slice(), status_of(report)),
@@ -161,14 +170,15 @@ fn put_report<E: Sink>(alloc: Global, err: &mut E, report: Report) -> u8
 
 /// Puts the line of want of memory, and answers the status.
 pub fn put_want_of_memory<E: Sink>(err: &mut E) -> u8
-    ensures { LinePut (report_line Report.NoMemory) (report_status Report.NoMemory) (sink_seen E.written E.fault_count err.old err.new) result }
+    ensures { PutsLine (report_line Report.NoMemory) (report_status Report.NoMemory)
+        (sink_seen E.written E.fault_count err.old err.new) result }
 {
     put_line(err, b"out of memory\n", 10)
 }
 
 // Puts a line, and answers this status, or that of a sink that failed or found no memory.
 fn put_line<E: Sink>(err: &mut E, line: &[u8], status: u8) -> u8
-    ensures { LinePut line.now status (sink_seen E.written E.fault_count err.old err.new) result }
+    ensures { PutsLine line.now status (sink_seen E.written E.fault_count err.old err.new) result }
 {
     match err.put(line) {
         Ok(()) => status,

@@ -24,7 +24,8 @@ printer = record { step = λ s. print_step s.left s.printed; output = λ s. s.pr
 two_printed : run printer (page (7 ∷ 8 ∷ []) []) 2 ≡ record { shown = []; output = 7 ∷ 8 ∷ []; ending = None }
 two_printed = refl
 
-then_ended : run printer (page (7 ∷ 8 ∷ []) []) 3 ≡ record { shown = []; output = 7 ∷ 8 ∷ []; ending = Some (Verdict 0) }
+then_ended : run printer (page (7 ∷ 8 ∷ []) []) 3
+    ≡ record { shown = []; output = 7 ∷ 8 ∷ []; ending = Some (Verdict 0) }
 then_ended = refl
 
 state_then : steps printer (page (7 ∷ 8 ∷ []) []) 1 ≡ Go (page (8 ∷ []) (7 ∷ []))
@@ -47,12 +48,19 @@ next_page [] printed = page [] printed
 next_page (n ∷ left) printed = page left (printed ++ n ∷ [])
 
 abbrev printing : Reduction Page (List ℕ) ℕ
-printing = record { step = λ s. next_page s.left s.printed; ending = λ s. page_end s.left; output = λ s. s.printed; shown = λ s. s.left }
+printing =
+    record {
+      step = λ s. next_page s.left s.printed;
+      ending = λ s. page_end s.left;
+      output = λ s. s.printed;
+      shown = λ s. s.left;
+    }
 
 ended_after_none : (reduction_run printing (page [] []) 0).ending ≡ Some (Verdict 0)
 ended_after_none = refl
 
-ended_after_two : reduction_run printing (page (7 ∷ 8 ∷ []) []) 2 ≡ record { shown = []; output = 7 ∷ 8 ∷ []; ending = Some (Verdict 0) }
+ended_after_two : reduction_run printing (page (7 ∷ 8 ∷ []) []) 2
+    ≡ record { shown = []; output = 7 ∷ 8 ∷ []; ending = Some (Verdict 0) }
 ended_after_two = refl
 
 -- its machine stops a step later

@@ -1,8 +1,10 @@
-pub mod Following
-pub mod Running
-pub mod Simulation
-pub mod Reducing
-pub mod Metering
-pub mod Turns
-pub mod Places
+pub mod Public
+mod Following
+mod Running
+mod Simulation
+mod Reducing
+mod Metering
+mod Turns
+mod Lockstep
+mod Rounds
 mod Examples

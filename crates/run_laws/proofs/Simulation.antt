@@ -1,59 +1,75 @@
 -- A machine that simulates another follows it.
-use Rattle.std.proofs.Common.{◌≡◌, ◌≢◌, ◌⊎◌, inl, inr, ⊎_elim, ℕ, zero, suc, ◌+◌, ◌<◌, ◌≤◌, Option, Some, None, refl, sym, ap, ◌∙◌, subst, arith}
-use Rattle.run_laws.specs.Runs.{Ending, Verdict, Exhausted, Wrong, Moment, NeverWrong, Agrees, Backed, Reached, FollowsBy}
-use Rattle.run_laws.specs.Machines.{Next, Go, Stop, Machine, moment, and_then, steps, seen, run, landing, Onward, Reaches, Alike, OnTheWay, StopsAt, UnlessWrong, Does, Simulation}
+use Rattle.std.proofs.Common.{◌≡◌, ◌≢◌, ◌⊎◌, inl, inr, ⊎_elim, ℕ, zero, suc, ◌+◌, ◌<◌, ◌≤◌, Option, Some, None, refl}
+use Rattle.std.proofs.Common.{sym, ap, ◌∙◌, subst, arith}
+use Rattle.run_laws.specs.Runs.{Ending, Verdict, Exhausted, Wrong, Moment, NeverWrong, Agrees, Backed, Reached}
+use Rattle.run_laws.specs.Runs.{FollowsBy}
+use Rattle.run_laws.specs.Machines.{Next, Go, Stop, Machine, moment, and_then, steps, seen, run, landing, Onward}
+use Rattle.run_laws.specs.Machines.{Reaches, Alike, OnTheWay, StopsAt, UnlessWrong, Does, Simulation}
 use Rattle.run_laws.proofs.Following.{ends_as_equal, exhausted_or_equal, reached_by}
 use Rattle.run_laws.proofs.Running.{run_go, run_stop}
 
 -- one step on the way, known by an equation
-pub by_step : {T B V : Type 0} (N : Machine T B V) (P Q : T → Type 0) (k : ℕ) (t : T) (x : Next T V) → N.step t ≡ x → P t → Onward x P (Reaches N P Q k) → Reaches N P Q (suc k) t
+pub by_step : {T B V : Type 0} (N : Machine T B V) (P Q : T → Type 0) (k : ℕ) (t : T) (x : Next T V) → N.step t ≡ x
+    → P t → Onward x P (Reaches N P Q k) → Reaches N P Q (suc k) t
 by_step N P Q k t x e p r = (p, subst (λ y. Onward y P (Reaches N P Q k)) (sym e) r)
 
-turn_on : {T B V : Type 0} (N : Machine T B V) (P Q : T → Type 0) (j k : ℕ) → ((t : T) → Reaches N P (Reaches N P Q j) k t → Reaches N P Q (k + j) t) → (x : Next T V) → Onward x P (Reaches N P (Reaches N P Q j) k) → Onward x P (Reaches N P Q (k + j))
+turn_on : {T B V : Type 0} (N : Machine T B V) (P Q : T → Type 0) (j k : ℕ)
+    → ((t : T) → Reaches N P (Reaches N P Q j) k t → Reaches N P Q (k + j) t) → (x : Next T V)
+    → Onward x P (Reaches N P (Reaches N P Q j) k) → Onward x P (Reaches N P Q (k + j))
 turn_on N P Q j k ih (Go t) r = ih t r
 turn_on N P Q j k ih (Stop (Verdict v) t) r = r
 turn_on N P Q j k ih (Stop Exhausted t) r = r
 turn_on N P Q j k ih (Stop Wrong t) r = r
 
-weaken_on : {T B V : Type 0} (N : Machine T B V) (P Q P' Q' : T → Type 0) → ((t : T) → P t → P' t) → (k : ℕ) → ((t : T) → Reaches N P Q k t → Reaches N P' Q' k t) → (x : Next T V) → Onward x P (Reaches N P Q k) → Onward x P' (Reaches N P' Q' k)
+weaken_on : {T B V : Type 0} (N : Machine T B V) (P Q P' Q' : T → Type 0) → ((t : T) → P t → P' t) → (k : ℕ)
+    → ((t : T) → Reaches N P Q k t → Reaches N P' Q' k t) → (x : Next T V) → Onward x P (Reaches N P Q k)
+    → Onward x P' (Reaches N P' Q' k)
 weaken_on N P Q P' Q' p k ih (Go t) r = ih t r
 weaken_on N P Q P' Q' p k ih (Stop (Verdict v) t) r = r
 weaken_on N P Q P' Q' p k ih (Stop Exhausted t) r = p t r
 weaken_on N P Q P' Q' p k ih (Stop Wrong t) r = r
 
--- one stretch after another
-pub reaches_then : {T B V : Type 0} (N : Machine T B V) (P Q : T → Type 0) (j k : ℕ) (t : T) → Reaches N P (Reaches N P Q j) k t → Reaches N P Q (k + j) t
+-- in k steps to where j more lead to Q: in k + j steps to Q
+pub reaches_then : {T B V : Type 0} (N : Machine T B V) (P Q : T → Type 0) (j k : ℕ) (t : T)
+    → Reaches N P (Reaches N P Q j) k t → Reaches N P Q (k + j) t
 reaches_then N P Q j zero t r = let e : j ≡ 0 + j = omega arith in subst (λ n. Reaches N P Q n t) e r
 reaches_then N P Q j (suc k) t r =
     let e : suc (k + j) ≡ suc k + j = omega arith in
     subst (λ n. Reaches N P Q n t) e (r.0, turn_on N P Q j k (λ t1 r1. reaches_then N P Q j k t1 r1) (N.step t) r.1)
 
--- with weaker claims
-pub reaches_weaken : {T B V : Type 0} (N : Machine T B V) (P Q P' Q' : T → Type 0) → ((t : T) → P t → P' t) → ((t : T) → Q t → Q' t) → (k : ℕ) (t : T) → Reaches N P Q k t → Reaches N P' Q' k t
+-- P and Q of a way may be weakened
+pub reaches_weaken : {T B V : Type 0} (N : Machine T B V) (P Q P' Q' : T → Type 0) → ((t : T) → P t → P' t)
+    → ((t : T) → Q t → Q' t) → (k : ℕ) (t : T) → Reaches N P Q k t → Reaches N P' Q' k t
 reaches_weaken N P Q P' Q' p q zero t r = q t r
-reaches_weaken N P Q P' Q' p q (suc k) t r = (p t r.0, weaken_on N P Q P' Q' p k (λ t1 r1. reaches_weaken N P Q P' Q' p q k t1 r1) (N.step t) r.1)
+reaches_weaken N P Q P' Q' p q (suc k) t r =
+    (p t r.0, weaken_on N P Q P' Q' p k (λ t1 r1. reaches_weaken N P Q P' Q' p q k t1 r1) (N.step t) r.1)
 
 -- along the target's steps
 module _ {T B V : Type 0} (N : Machine T B V) (P Q : T → Type 0) where
   -- what holds of each moment
-  module _ (G : Moment B V → Type 0) (here : (t : T) → P t → G (moment N t None)) (out : (t : T) → P t → G (moment N t (Some Exhausted))) where
-    walk_on : (m k : ℕ) → ((t1 : T) → Reaches N P Q k t1 → G (run N t1 m)) → (x : Next T V) → Onward x P (Reaches N P Q k) → G (seen N (and_then x (λ t1. steps N t1 m)))
+  module _ (G : Moment B V → Type 0) (here : (t : T) → P t → G (moment N t None))
+      (out : (t : T) → P t → G (moment N t (Some Exhausted))) where
+    walk_on : (m k : ℕ) → ((t1 : T) → Reaches N P Q k t1 → G (run N t1 m)) → (x : Next T V)
+        → Onward x P (Reaches N P Q k) → G (seen N (and_then x (λ t1. steps N t1 m)))
     walk_on m k ih (Go t1) r = ih t1 r
     walk_on m k ih (Stop (Verdict v) t1) r = absurd r
     walk_on m k ih (Stop Exhausted t1) r = out t1 r
     walk_on m k ih (Stop Wrong t1) r = absurd r
 
-    pub walk : (k : ℕ) (t : T) (m : ℕ) → Reaches N P Q k t → ((t1 : T) (j : ℕ) → Q t1 → m ≡ k + j → G (run N t1 j)) → G (run N t m)
+    pub walk : (k : ℕ) (t : T) (m : ℕ) → Reaches N P Q k t → ((t1 : T) (j : ℕ) → Q t1 → m ≡ k + j → G (run N t1 j))
+        → G (run N t m)
     walk zero t m q there = there t m q (omega arith)
     walk (suc k) t zero r there = here t r.0
-    walk (suc k) t (suc m) r there = walk_on m k (λ t1 r1. walk k t1 m r1 (λ t2 j q e. there t2 j q (omega (arith, e)))) (N.step t) r.1
+    walk (suc k) t (suc m) r there =
+        walk_on m k (λ t1 r1. walk k t1 m r1 (λ t2 j q e. there t2 j q (omega (arith, e)))) (N.step t) r.1
 
   -- what holds of some moment
   module _ (H : Moment B V → Type 0) (out : (t : T) → P t → H (moment N t (Some Exhausted))) where
     abbrev Arrives : T → Type 0
     Arrives t = (m : ℕ) × H (run N t m)
 
-    arrive_on : (t : T) (k : ℕ) → ((t1 : T) → Reaches N P Q k t1 → Arrives t1) → (x : Next T V) → N.step t ≡ x → Onward x P (Reaches N P Q k) → Arrives t
+    arrive_on : (t : T) (k : ℕ) → ((t1 : T) → Reaches N P Q k t1 → Arrives t1) → (x : Next T V) → N.step t ≡ x
+        → Onward x P (Reaches N P Q k) → Arrives t
     arrive_on t k ih (Go t1) e r = let a = ih t1 r in (suc a.0, subst H (sym (run_go N t t1 a.0 e)) a.1)
     arrive_on t k ih (Stop (Verdict v) t1) e r = absurd r
     arrive_on t k ih (Stop Exhausted t1) e r = (1, subst H (sym (run_stop N t t1 Exhausted 0 e)) (out t1 r))
@@ -74,18 +90,22 @@ unless_wrong_map (Verdict v) f p = f p
 unless_wrong_map Exhausted f p = f p
 unless_wrong_map Wrong f p = tt
 
-module _ {S T A B V : Type 0} (K L : B → A → Type 0) (M : Machine S A V) (N : Machine T B V) (R : S → T → Type 0) (size : S → ℕ) (b : Simulation K L M N R size) where
-  goes : (s s' : S) (t : T) → R s t → M.step s ≡ Go s' → (k : ℕ) × (0 < k ⊎ size s' < size s) × Reaches N (OnTheWay K L M N s s') (R s') k t
+module _ {S T A B V : Type 0} (K L : B → A → Type 0) (M : Machine S A V) (N : Machine T B V) (R : S → T → Type 0)
+    (size : S → ℕ) (b : Simulation K L M N R size) where
+  goes : (s s' : S) (t : T) → R s t → M.step s ≡ Go s' → (k : ℕ) × (0 < k ⊎ size s' < size s)
+      × Reaches N (OnTheWay K L M N s s') (R s') k t
   goes s s' t r e = subst (Does K L M N R size s t) e (b.does s t r)
 
-  stops : (s s' : S) (t : T) (e : Ending V) → R s t → M.step s ≡ Stop e s' → e ≢ Wrong → (k : ℕ) × Reaches N (OnTheWay K L M N s s') (StopsAt K L M N s s' e) k t
+  stops : (s s' : S) (t : T) (e : Ending V) → R s t → M.step s ≡ Stop e s' → e ≢ Wrong
+      → (k : ℕ) × Reaches N (OnTheWay K L M N s s') (StopsAt K L M N s s' e) k t
   stops s s' t e r h ne = unless_wrong e ne (subst (Does K L M N R size s t) h (b.does s t r))
 
   -- a moment of the source's run
   abbrev Seen : S → Moment B V → Type 0
   Seen s x = (n : ℕ) × Backed K x (run M s n)
 
-  as_agrees : (o : Option (Ending V)) (o' : Option (Ending V)) (s : S) (t : T) → Alike K M N s t → Agrees K (moment N t o) (moment M s o')
+  as_agrees : (o : Option (Ending V)) (o' : Option (Ending V)) (s : S) (t : T) → Alike K M N s t
+      → Agrees K (moment N t o) (moment M s o')
   as_agrees o o' s t a = record { output = a.output; shown = a.shown }
 
   seen_here : (s : S) (t : T) → Alike K M N s t → Seen s (moment N t None)
@@ -102,22 +122,39 @@ module _ {S T A B V : Type 0} (K L : B → A → Type 0) (M : Machine S A V) (N 
   way_here s s' t e p = ⊎_elim (λ a. seen_here s t a) (λ a. seen_shift s s' (moment N t None) e (seen_here s' t a)) p.0
 
   way_out : (s s' : S) (t : T) → M.step s ≡ Go s' → OnTheWay K L M N s s' t → Seen s (moment N t (Some Exhausted))
-  way_out s s' t e p = ⊎_elim (λ a. seen_out s t a) (λ a. seen_shift s s' (moment N t (Some Exhausted)) e (seen_out s' t a)) p.0
+  way_out s s' t e p =
+      ⊎_elim (λ a. seen_out s t a) (λ a. seen_shift s s' (moment N t (Some Exhausted)) e (seen_out s' t a)) p.0
 
   -- on the way to the end
-  end_here : (s s' : S) (t : T) (e : Ending V) → M.step s ≡ Stop e s' → OnTheWay K L M N s s' t → Seen s (moment N t None)
-  end_here s s' t e h p = ⊎_elim (λ a. seen_here s t a) (λ a. (1, subst (λ y. Backed K (moment N t None) y) (sym (run_stop M s s' e 0 h)) (as_agrees None (Some e) s' t a, tt))) p.0
+  end_here : (s s' : S) (t : T) (e : Ending V) → M.step s ≡ Stop e s' → OnTheWay K L M N s s' t
+      → Seen s (moment N t None)
+  end_here s s' t e h p =
+      ⊎_elim (λ a. seen_here s t a) (λ a. (
+        1,
+        subst (λ y. Backed K (moment N t None) y) (sym (run_stop M s s' e 0 h)) (as_agrees None (Some e) s' t a, tt),
+      )) p.0
 
-  end_out : (s s' : S) (t : T) (e : Ending V) → M.step s ≡ Stop e s' → OnTheWay K L M N s s' t → Seen s (moment N t (Some Exhausted))
-  end_out s s' t e h p = ⊎_elim (λ a. seen_out s t a) (λ a. (1, subst (λ y. Backed K (moment N t (Some Exhausted)) y) (sym (run_stop M s s' e 0 h)) (as_agrees (Some Exhausted) (Some e) s' t a, tt))) p.0
+  end_out : (s s' : S) (t : T) (e : Ending V) → M.step s ≡ Stop e s' → OnTheWay K L M N s s' t
+      → Seen s (moment N t (Some Exhausted))
+  end_out s s' t e h p =
+      ⊎_elim (λ a. seen_out s t a) (λ a. (
+        1,
+        subst (λ y. Backed K (moment N t (Some Exhausted)) y)
+            (sym (run_stop M s s' e 0 h)) (as_agrees (Some Exhausted) (Some e) s' t a, tt),
+      )) p.0
 
   some_not_wrong : (e : Ending V) → e ≢ Wrong → Some e ≢ Some Wrong
   some_not_wrong e ne h = ne cc
 
-  end_there : (s s' : S) (t : T) (e : Ending V) (j : ℕ) → e ≢ Wrong → M.step s ≡ Stop e s' → StopsAt K L M N s s' e t → Seen s (run N t j)
+  end_there : (s s' : S) (t : T) (e : Ending V) (j : ℕ) → e ≢ Wrong → M.step s ≡ Stop e s' → StopsAt K L M N s s' e t
+      → Seen s (run N t j)
   end_there s s' t e zero ne h q = end_here s s' t e h q.0
   end_there s s' t e (suc j) ne h q =
-      let both : Backed K (moment N q.1.0 (Some e)) (moment M s' (Some e)) = (as_agrees (Some e) (Some e) s' q.1.0 q.1.2, ends_as_equal (Some e) (Some e) (some_not_wrong e ne) refl) in
+      let both : Backed K (moment N q.1.0 (Some e))
+      (moment M s' (Some e)) = (
+        as_agrees (Some e) (Some e) s' q.1.0 q.1.2,
+        ends_as_equal (Some e) (Some e) (some_not_wrong e ne) refl,
+      ) in
       let one = subst (λ x. Backed K x (moment M s' (Some e))) (sym (run_stop N t q.1.0 e j q.1.1)) both in
       (1, subst (λ y. Backed K (run N t (suc j)) y) (sym (run_stop M s s' e 0 h)) one)
 
@@ -131,24 +168,32 @@ module _ {S T A B V : Type 0} (K L : B → A → Type 0) (M : Machine S A V) (N 
   abbrev Backs : ℕ → Type 0
   Backs f = (s : S) (t : T) (m : ℕ) → m < f → R s t → NeverWrong (run M s) → Seen s (run N t m)
 
-  back_go : (f : ℕ) → Backs f → (s s' : S) (t : T) (m k : ℕ) → m ≤ f → NeverWrong (run M s) → M.step s ≡ Go s' → (0 < k ⊎ size s' < size s) → Reaches N (OnTheWay K L M N s s') (R s') k t → (size s' < size s → R s' t → Seen s' (run N t m)) → Seen s (run N t m)
+  back_go : (f : ℕ) → Backs f → (s s' : S) (t : T) (m k : ℕ) → m ≤ f → NeverWrong (run M s) → M.step s ≡ Go s'
+      → (0 < k ⊎ size s' < size s) → Reaches N (OnTheWay K L M N s s') (R s') k t
+      → (size s' < size s → R s' t → Seen s' (run N t m)) → Seen s (run N t m)
   back_go f ih s s' t m zero le nw e p r again =
       seen_shift s s' (run N t m) e (again (⊎_elim (λ (lt : 0 < 0). absurd (omega arith)) (λ lt. lt) p) r)
   back_go f ih s s' t m (suc k) le nw e p r again =
-      walk N (OnTheWay K L M N s s') (R s') (Seen s) (λ t1 q. way_here s s' t1 e q) (λ t1 q. way_out s s' t1 e q) (suc k) t m r (λ t1 j q h. seen_shift s s' (run N t1 j) e (ih s' t1 j (omega arith) q (never_next s s' e nw)))
+      walk N (OnTheWay K L M N s s') (R s') (Seen s) (λ t1 q. way_here s s' t1 e q) (λ t1 q. way_out s s' t1 e q)
+      (suc k) t m r (λ t1 j q h. seen_shift s s' (run N t1 j) e (ih s' t1 j (omega arith) q (never_next s s' e nw)))
 
-  back_step : (f : ℕ) → Backs f → (s : S) (t : T) (m : ℕ) → m ≤ f → R s t → NeverWrong (run M s) → ((s' : S) → M.step s ≡ Go s' → size s' < size s → R s' t → Seen s' (run N t m)) → (x : Next S V) → M.step s ≡ x → Seen s (run N t m)
+  back_step : (f : ℕ) → Backs f → (s : S) (t : T) (m : ℕ) → m ≤ f → R s t → NeverWrong (run M s)
+      → ((s' : S) → M.step s ≡ Go s' → size s' < size s → R s' t → Seen s' (run N t m)) → (x : Next S V)
+      → M.step s ≡ x → Seen s (run N t m)
   back_step f ih s t m le r nw again (Go s') e =
       let g = goes s s' t r e in back_go f ih s s' t m g.0 le nw e g.1 g.2 (again s' e)
   back_step f ih s t m le r nw again (Stop o s') e =
       let ne = not_wrong s s' o nw e in
       let g = stops s s' t o r e ne in
-      walk N (OnTheWay K L M N s s') _ (Seen s) (λ t1 q. end_here s s' t1 o e q) (λ t1 q. end_out s s' t1 o e q) g.0 t m g.1 (λ t1 j q h. end_there s s' t1 o j ne e q)
+      walk N (OnTheWay K L M N s s') _ (Seen s) (λ t1 q. end_here s s' t1 o e q)
+      (λ t1 q. end_out s s' t1 o e q) g.0 t m g.1 (λ t1 j q h. end_there s s' t1 o j ne e q)
 
-  back_size : (f : ℕ) → Backs f → (z : ℕ) (s : S) (t : T) (m : ℕ) → size s < z → m ≤ f → R s t → NeverWrong (run M s) → Seen s (run N t m)
+  back_size : (f : ℕ) → Backs f → (z : ℕ) (s : S) (t : T) (m : ℕ) → size s < z → m ≤ f → R s t → NeverWrong (run M s)
+      → Seen s (run N t m)
   back_size f ih zero s t m lt le r nw = absurd (omega arith)
   back_size f ih (suc z) s t m lt le r nw =
-      back_step f ih s t m le r nw (λ s' e less r'. back_size f ih z s' t m (omega arith) le r' (never_next s s' e nw)) (M.step s) refl
+      back_step f ih s t m le r nw (λ s' e less r'. back_size f ih z s' t m (omega arith) le r'
+      (never_next s s' e nw)) (M.step s) refl
 
   backs : (f : ℕ) → Backs f
   backs zero s t m lt r nw = absurd (omega arith)
@@ -159,7 +204,8 @@ module _ {S T A B V : Type 0} (K L : B → A → Type 0) (M : Machine S A V) (N 
   allowed_along zero x s l = l
   allowed_along (suc n) x s l = allowed_step (λ s' l'. allowed_along n x s' l') (M.step s) refl
     where
-      allowed_step : ((s' : S) → L x (M.shown s') → L x (run M s' n).shown) → (y : Next S V) → M.step s ≡ y → L x (seen M (and_then y (λ s'. steps M s' n))).shown
+      allowed_step : ((s' : S) → L x (M.shown s') → L x (run M s' n).shown) → (y : Next S V) → M.step s ≡ y
+          → L x (seen M (and_then y (λ s'. steps M s' n))).shown
       allowed_step ih (Go s') e = ih s' (subst (λ z. L x (M.shown (landing z))) e (b.still_allowed x s l))
       allowed_step ih (Stop o s') e = subst (λ z. L x (M.shown (landing z))) e (b.still_allowed x s l)
 
@@ -170,17 +216,31 @@ module _ {S T A B V : Type 0} (K L : B → A → Type 0) (M : Machine S A V) (N 
   comes_shift : (s s' : S) (n : ℕ) (x : Moment B V) → M.step s ≡ Go s' → Comes s' n x → Comes s (suc n) x
   comes_shift s s' n x e c = subst (λ y. L x.shown y.shown × Reached K x y) (sym (run_go M s s' n e)) c
 
-  comes_out : (s s' : S) (n : ℕ) (t : T) → M.step s ≡ Go s' → OnTheWay K L M N s s' t → Comes s (suc n) (moment N t (Some Exhausted))
-  comes_out s s' n t e p = comes_shift s s' n (moment N t (Some Exhausted)) e (allowed_along n (N.shown t) s' p.1, inl refl)
+  comes_out : (s s' : S) (n : ℕ) (t : T) → M.step s ≡ Go s' → OnTheWay K L M N s s' t
+      → Comes s (suc n) (moment N t (Some Exhausted))
+  comes_out s s' n t e p =
+      comes_shift s s' n (moment N t (Some Exhausted)) e (allowed_along n (N.shown t) s' p.1, inl refl)
 
-  comes_end : (s s' : S) (n : ℕ) (x : Moment B V) (e : Ending V) → M.step s ≡ Stop e s' → L x.shown (M.shown s') × Reached K x (moment M s' (Some e)) → Comes s (suc n) x
+  comes_end : (s s' : S) (n : ℕ) (x : Moment B V) (e : Ending V) → M.step s ≡ Stop e s' → L x.shown (M.shown s')
+      × Reached K x (moment M s' (Some e)) → Comes s (suc n) x
   comes_end s s' n x e h c = subst (λ y. L x.shown y.shown × Reached K x y) (sym (run_stop M s s' e n h)) c
 
-  comes_stop : (s s' : S) (n : ℕ) (t : T) (e : Ending V) → e ≢ Wrong → M.step s ≡ Stop e s' → StopsAt K L M N s s' e t → (m : ℕ) × Comes s (suc n) (run N t m)
-  comes_stop s s' n t e ne h q =
-      (1, subst (Comes s (suc n)) (sym (run_stop N t q.1.0 e 0 q.1.1)) (comes_end s s' n (moment N q.1.0 (Some e)) e h (q.1.3, reached_by K (moment N q.1.0 (Some e)) (moment M s' (Some e)) (as_agrees (Some e) (Some e) s' q.1.0 q.1.2) (exhausted_or_equal (Some e) (Some e) (some_not_wrong e ne) refl))))
+  comes_stop : (s s' : S) (n : ℕ) (t : T) (e : Ending V) → e ≢ Wrong → M.step s ≡ Stop e s' → StopsAt K L M N s s' e t
+      → (m : ℕ) × Comes s (suc n) (run N t m)
+  comes_stop s s' n t e ne h q = (
+    1,
+    subst (Comes s (suc n)) (sym (run_stop N t q.1.0 e 0 q.1.1))
+        (comes_end s s' n (moment N q.1.0 (Some e)) e h (
+          q.1.3,
+          reached_by K (moment N q.1.0 (Some e)) (moment M s' (Some e))
+              (as_agrees (Some e) (Some e) s' q.1.0 q.1.2)
+              (exhausted_or_equal (Some e) (Some e) (some_not_wrong e ne) refl),
+        )),
+  )
 
-  forth_step : (n : ℕ) → ((s : S) (t : T) → R s t → NeverWrong (run M s) → (m : ℕ) × Comes s n (run N t m)) → (s : S) (t : T) → R s t → NeverWrong (run M s) → (x : Next S V) → M.step s ≡ x → (m : ℕ) × Comes s (suc n) (run N t m)
+  forth_step : (n : ℕ) → ((s : S) (t : T) → R s t → NeverWrong (run M s) → (m : ℕ) × Comes s n (run N t m))
+      → (s : S) (t : T) → R s t → NeverWrong (run M s) → (x : Next S V) → M.step s ≡ x
+      → (m : ℕ) × Comes s (suc n) (run N t m)
   forth_step n ih s t r nw (Go s') e =
       let g = goes s s' t r e in
       arrive N (OnTheWay K L M N s s') (R s') (Comes s (suc n)) (λ t1 q. comes_out s s' n t1 e q) g.0 t g.2
@@ -188,7 +248,8 @@ module _ {S T A B V : Type 0} (K L : B → A → Type 0) (M : Machine S A V) (N 
   forth_step n ih s t r nw (Stop o s') e =
       let ne = not_wrong s s' o nw e in
       let g = stops s s' t o r e ne in
-      arrive N (OnTheWay K L M N s s') _ (Comes s (suc n)) (λ t1 q. comes_end s s' n (moment N t1 (Some Exhausted)) o e (q.1, inl refl)) g.0 t g.1
+      arrive N (OnTheWay K L M N s s') _ (Comes s (suc n))
+      (λ t1 q. comes_end s s' n (moment N t1 (Some Exhausted)) o e (q.1, inl refl)) g.0 t g.1
       (λ t1 q. comes_stop s s' n t1 o ne e q)
 
   forths : (n : ℕ) (s : S) (t : T) → R s t → NeverWrong (run M s) → (m : ℕ) × Comes s n (run N t m)
@@ -206,24 +267,37 @@ module _ {S T A B V : Type 0} (K L : B → A → Type 0) (M : Machine S A V) (N 
   abbrev Starting : S → T → Type 0
   Starting s t = Alike K M N s t × L (N.shown t) (M.shown s)
 
-  start_back : (s : S) (k : ℕ) (t : T) → Reaches N (Starting s) (R s) k t → NeverWrong (run M s) → (m : ℕ) → Seen s (run N t m)
+  start_back : (s : S) (k : ℕ) (t : T) → Reaches N (Starting s) (R s) k t → NeverWrong (run M s) → (m : ℕ)
+      → Seen s (run N t m)
   start_back s k t r nw m =
-      walk N (Starting s) (R s) (Seen s) (λ t1 q. seen_here s t1 q.0) (λ t1 q. seen_out s t1 q.0) k t m r (λ t1 j q h. backs (suc j) s t1 j (omega arith) q nw)
+      walk N (Starting s) (R s) (Seen s) (λ t1 q. seen_here s t1 q.0) (λ t1 q. seen_out s t1 q.0) k t m r
+      (λ t1 j q h. backs (suc j) s t1 j (omega arith) q nw)
 
-  start_forth : (s : S) (k : ℕ) (t : T) → Reaches N (Starting s) (R s) k t → NeverWrong (run M s) → (n : ℕ) → (m : ℕ) × Comes s n (run N t m)
+  start_forth : (s : S) (k : ℕ) (t : T) → Reaches N (Starting s) (R s) k t → NeverWrong (run M s) → (n : ℕ)
+      → (m : ℕ) × Comes s n (run N t m)
   start_forth s k t r nw n =
-      arrive N (Starting s) (R s) (Comes s n) (λ t1 q. (allowed_along n (N.shown t1) s q.1, inl refl)) k t r (λ t1 q. forths n s t1 q nw)
+      arrive N (Starting s) (R s) (Comes s n) (λ t1 q. (allowed_along n (N.shown t1) s q.1, inl refl)) k t r
+      (λ t1 q. forths n s t1 q nw)
 
-  simulates_from : (s : S) (k : ℕ) (t : T) → Reaches N (Starting s) (R s) k t → NeverWrong (run M s) → FollowsBy K L (run N t) (run M s)
+  simulates_from : (s : S) (k : ℕ) (t : T) → Reaches N (Starting s) (R s) k t → NeverWrong (run M s)
+      → FollowsBy K L (run N t) (run M s)
   simulates_from s k t r nw = record {
     back = λ m. start_back s k t r nw m;
     forth = λ n. let a = start_forth s k t r nw n in (a.0, a.1.0, a.1.1);
   }
 
 -- the simulation theorem: from related states a target that simulates the source follows it
-pub follows_by_simulation : {S T A B V : Type 0} {K L : B → A → Type 0} {M : Machine S A V} {N : Machine T B V} {R : S → T → Type 0} {size : S → ℕ} → Simulation K L M N R size → (s : S) (t : T) → R s t → NeverWrong (run M s) → FollowsBy K L (run N t) (run M s)
-follows_by_simulation {K = K} {L = L} {M = M} {N = N} {R = R} {size = size} b s t r nw = simulates K L M N R size b s t r nw
+pub follows_by_simulation : {S T A B V : Type 0} {K L : B → A → Type 0} {M : Machine S A V} {N : Machine T B V}
+    {R : S → T → Type 0} {size : S → ℕ} → Simulation K L M N R size → (s : S) (t : T) → R s t → NeverWrong (run M s)
+    → FollowsBy K L (run N t) (run M s)
+follows_by_simulation {K = K} {L = L} {M = M} {N = N} {R = R} {size = size} b s t r nw =
+    simulates K L M N R size b s t r nw
 
--- the same from a start of the target, which in some steps comes to a state that is related to the source's first, and is seen as that first state on the way
-pub follows_from_start : {S T A B V : Type 0} {K L : B → A → Type 0} {M : Machine S A V} {N : Machine T B V} {R : S → T → Type 0} {size : S → ℕ} → Simulation K L M N R size → (s : S) (k : ℕ) (t : T) → Reaches N (λ t'. Alike K M N s t' × L (N.shown t') (M.shown s)) (R s) k t → NeverWrong (run M s) → FollowsBy K L (run N t) (run M s)
-follows_from_start {K = K} {L = L} {M = M} {N = N} {R = R} {size = size} b s k t r nw = simulates_from K L M N R size b s k t r nw
+-- the simulation theorem from a start of the target, which in some steps comes to a state that is related to the
+-- source's first, and is seen as that first state on the way
+pub follows_from_start : {S T A B V : Type 0} {K L : B → A → Type 0} {M : Machine S A V} {N : Machine T B V}
+    {R : S → T → Type 0} {size : S → ℕ} → Simulation K L M N R size → (s : S) (k : ℕ) (t : T)
+    → Reaches N (λ t'. Alike K M N s t' × L (N.shown t') (M.shown s)) (R s) k t → NeverWrong (run M s)
+    → FollowsBy K L (run N t) (run M s)
+follows_from_start {K = K} {L = L} {M = M} {N = N} {R = R} {size = size} b s k t r nw =
+    simulates_from K L M N R size b s k t r nw

@@ -52,13 +52,15 @@ Onward (Stop (Verdict v) t) P Q = ⊥
 Onward (Stop Exhausted t) P Q = P t
 Onward (Stop Wrong t) P Q = ⊥
 
--- in k steps the machine comes to where Q holds, or is exhausted before; P holds at each state that it leaves, and where it is exhausted
+-- in k steps the machine comes to where Q holds, or is exhausted before; P holds at each state that it leaves, and
+-- where it is exhausted
 abbrev pub Reaches : {T B V : Type 0} → Machine T B V → (T → Type 0) → (T → Type 0) → ℕ → T → Type 0
 Reaches N P Q zero t = Q t
 Reaches N P Q (suc k) t = P t × Onward (N.step t) P (Reaches N P Q k)
 
 -- the target's state is seen as the source's
-pub record Alike {S T A B V : Type 0} (K : B → A → Type 0) (M : Machine S A V) (N : Machine T B V) (s : S) (t : T) : Type 0 where
+pub record Alike {S T A B V : Type 0} (K : B → A → Type 0) (M : Machine S A V) (N : Machine T B V) (s : S)
+    (t : T) : Type 0 where
   pub output : N.output t ≡ M.output s
   pub shown : K (N.shown t) (M.shown s)
 
@@ -67,8 +69,10 @@ abbrev pub OnTheWay : {S T A B V : Type 0} → (K L : B → A → Type 0) → Ma
 OnTheWay K L M N s s' t = (Alike K M N s t ⊎ Alike K M N s' t) × L (N.shown t) (M.shown s')
 
 -- the target is on the way from s to s', and its step stops with this ending, seen as the source is at s'
-abbrev pub StopsAt : {S T A B V : Type 0} → (K L : B → A → Type 0) → Machine S A V → Machine T B V → S → S → Ending V → T → Type 0
-StopsAt {T = T} K L M N s s' e t = OnTheWay K L M N s s' t × ((t' : T) × (N.step t ≡ Stop e t') × Alike K M N s' t' × L (N.shown t') (M.shown s'))
+abbrev pub StopsAt : {S T A B V : Type 0} → (K L : B → A → Type 0) → Machine S A V → Machine T B V → S → S → Ending V
+    → T → Type 0
+StopsAt {T = T} K L M N s s' e t =
+    OnTheWay K L M N s s' t × ((t' : T) × (N.step t ≡ Stop e t') × Alike K M N s' t' × L (N.shown t') (M.shown s'))
 
 -- a claim of every ending but Wrong
 abbrev pub UnlessWrong : {V : Type 0} → Ending V → Type 0 → Type 0
@@ -76,13 +80,17 @@ UnlessWrong (Verdict v) P = P
 UnlessWrong Exhausted P = P
 UnlessWrong Wrong P = Unit {0}
 
--- what the target does from t for a step of the source from s: some steps, or none where a measure of the source's state falls; a step that goes wrong is left open
-abbrev pub Does : {S T A B V : Type 0} → (K L : B → A → Type 0) → Machine S A V → Machine T B V → (S → T → Type 0) → (S → ℕ) → S → T → Next S V → Type 0
+-- what the target does from t for a step of the source from s: some steps, or none where a measure of the source's
+-- state falls; a step that goes wrong is left open
+abbrev pub Does : {S T A B V : Type 0} → (K L : B → A → Type 0) → Machine S A V → Machine T B V → (S → T → Type 0)
+    → (S → ℕ) → S → T → Next S V → Type 0
 Does K L M N R size s t (Go s') = (k : ℕ) × (0 < k ⊎ size s' < size s) × Reaches N (OnTheWay K L M N s s') (R s') k t
-Does K L M N R size s t (Stop e s') = UnlessWrong e ((k : ℕ) × Reaches N (OnTheWay K L M N s s') (StopsAt K L M N s s' e) k t)
+Does K L M N R size s t (Stop e s') =
+    UnlessWrong e ((k : ℕ) × Reaches N (OnTheWay K L M N s s') (StopsAt K L M N s s' e) k t)
 
 -- the target N simulates the source M: from states that R relates it does each step of the source
-pub record Simulation {S T A B V : Type 0} (K L : B → A → Type 0) (M : Machine S A V) (N : Machine T B V) (R : S → T → Type 0) (size : S → ℕ) : Type 0 where
+pub record Simulation {S T A B V : Type 0} (K L : B → A → Type 0) (M : Machine S A V) (N : Machine T B V)
+    (R : S → T → Type 0) (size : S → ℕ) : Type 0 where
   pub alike : (s : S) (t : T) → R s t → Alike K M N s t × L (N.shown t) (M.shown s)
   pub does : (s : S) (t : T) → R s t → Does K L M N R size s t (M.step s)
   -- what L allows stays allowed as the source goes on

@@ -56,33 +56,50 @@ each_one s = 1
 abbrev pub Spends : {A B : Type 0} → ℕ → Metered A → Metered B → Type 0
 Spends c a b = a.spent ≤ c * b.spent
 
+-- as much was spent
+abbrev pub SpendSame : {A B : Type 0} → Metered A → Metered B → Type 0
+SpendSame a b = a.spent ≡ b.spent
+
 -- where Y has ended, X has ended so or is exhausted within c turns for each unit that Y has spent
 abbrev pub EndsInTime : {A B V : Type 0} → ℕ → Run B V → Run (Metered A) V → Type 0
-EndsInTime {V = V} c X Y = (n k : ℕ) (e : Ending V) → (Y n).ending ≡ Some e → c * (Y n).shown.spent ≤ k → IsExhausted (X k) ⊎ ((X k).ending ≡ Some e)
+EndsInTime {V = V} c X Y =
+    (n k : ℕ) (e : Ending V) → (Y n).ending ≡ Some e → c * (Y n).shown.spent ≤ k → IsExhausted (X k)
+    ⊎ ((X k).ending ≡ Some e)
 
--- whatever Y has come to, X is exhausted or has come to within c turns for each unit that Y has spent: to output that begins with Y's, with the same verdict where Y has ended
+-- whatever Y has come to, X is exhausted or has come to within c turns for each unit that Y has spent: to output that
+-- begins with Y's, with the same verdict where Y has ended
 abbrev pub ComesInTime : {A B V : Type 0} → ℕ → Run B V → Run (Metered A) V → Type 0
-ComesInTime c X Y = (n k : ℕ) → c * (Y n).shown.spent ≤ k → IsExhausted (X k) ⊎ (IsPrefix (Y n).output (X k).output × HasVerdictOf (X k).ending (Y n).ending)
+ComesInTime c X Y =
+    (n k : ℕ) → c * (Y n).shown.spent ≤ k → IsExhausted (X k)
+    ⊎ (IsPrefix (Y n).output (X k).output × HasVerdictOf (X k).ending (Y n).ending)
 
 -- a relation of the rest, whatever was spent
 abbrev pub OfRest : {A B : Type 0} → (A → B → Type 0) → Metered A → Metered B → Type 0
 OfRest K a b = K a.rest b.rest
 
 -- the target is seen as the source's state or the next, with at most b spent
-abbrev pub OnBudget : {S T A B V : Type 0} → (K : B → A → Type 0) → Machine S A V → Machine T B V → S → S → ℕ → Metered T → Type 0
+abbrev pub OnBudget : {S T A B V : Type 0} → (K : B → A → Type 0) → Machine S A V → Machine T B V → S → S → ℕ
+    → Metered T → Type 0
 OnBudget K M N s s' b t = (Alike K M N s t.rest ⊎ Alike K M N s' t.rest) × (t.spent ≤ b)
 
 -- the step stops, with at most b spent when it has
-abbrev pub StopsOnBudget : {S T A B V : Type 0} → (K : B → A → Type 0) → Machine S A V → Machine T B V → (T → ℕ) → S → S → Ending V → ℕ → Metered T → Type 0
+abbrev pub StopsOnBudget : {S T A B V : Type 0} → (K : B → A → Type 0) → Machine S A V → Machine T B V → (T → ℕ) → S
+    → S → Ending V → ℕ → Metered T → Type 0
 StopsOnBudget {T = T} K M N cost s s' e b t =
     OnBudget K M N s s' b t × ((t' : T) × (N.step t.rest ≡ Stop e t') × Alike K M N s' t' × (t.spent + cost t.rest ≤ b))
 
--- as Does, at a cost of at most b
-abbrev pub DoesOnBudget : {S T A B V : Type 0} → (K : B → A → Type 0) → Machine S A V → Machine T B V → (T → ℕ) → (S → T → Type 0) → (S → ℕ) → ℕ → S → T → Next S V → Type 0
-DoesOnBudget K M N cost R size b s t (Go s') = (k : ℕ) × (0 < k ⊎ size s' < size s) × Reaches (metered cost N) (OnBudget K M N s s' b) (λ t'. R s' t'.rest × (t'.spent ≤ b)) k (unspent t)
-DoesOnBudget K M N cost R size b s t (Stop e s') = UnlessWrong e ((k : ℕ) × Reaches (metered cost N) (OnBudget K M N s s' b) (StopsOnBudget K M N cost s s' e b) k (unspent t))
+-- what the target does from t for a step of the source from s, as in a simulation, at a cost of at most b
+abbrev pub DoesOnBudget : {S T A B V : Type 0} → (K : B → A → Type 0) → Machine S A V → Machine T B V → (T → ℕ)
+    → (S → T → Type 0) → (S → ℕ) → ℕ → S → T → Next S V → Type 0
+DoesOnBudget K M N cost R size b s t (Go s') =
+    (k : ℕ) × (0 < k ⊎ size s' < size s) × Reaches (metered cost N) (OnBudget K M N s s' b)
+    (λ t'. R s' t'.rest × (t'.spent ≤ b)) k (unspent t)
+DoesOnBudget K M N cost R size b s t (Stop e s') =
+    UnlessWrong e ((k : ℕ) × Reaches (metered cost N) (OnBudget K M N s s' b) (StopsOnBudget K M N cost s s' e b) k
+    (unspent t))
 
 -- the target N simulates the source M, at no more than c times its work
-pub record CostSimulation {S T A B V : Type 0} (K : B → A → Type 0) (c : ℕ) (M : Machine S A V) (N : Machine T B V) (work : S → ℕ) (cost : T → ℕ) (R : S → T → Type 0) (size : S → ℕ) : Type 0 where
+pub record CostSimulation {S T A B V : Type 0} (K : B → A → Type 0) (c : ℕ) (M : Machine S A V) (N : Machine T B V)
+    (work : S → ℕ) (cost : T → ℕ) (R : S → T → Type 0) (size : S → ℕ) : Type 0 where
   pub alike : (s : S) (t : T) → R s t → Alike K M N s t
   pub does : (s : S) (t : T) → R s t → DoesOnBudget K M N cost R size (c * work s) s t (M.step s)

@@ -25,7 +25,8 @@ IsPrefix xs ys = (rest : List ℕ) × (ys ≡ xs ++ rest)
 abbrev pub IsExhausted : {A V : Type 0} → Moment A V → Type 0
 IsExhausted x = x.ending ≡ Some Exhausted
 
--- where the first has ended other than exhausted, the second has ended with the same verdict; an ending gone wrong has no verdict
+-- where the first has ended other than exhausted, the second has ended with the same verdict; an ending gone wrong
+-- has no verdict
 abbrev pub EndsAs : {V : Type 0} → Option (Ending V) → Option (Ending V) → Type 0
 EndsAs None o = Unit {0}
 EndsAs (Some (Verdict v)) o = o ≡ Some (Verdict v)
@@ -59,27 +60,34 @@ OutputGrows X = (n m : ℕ) → n ≤ m → IsPrefix (X n).output (X m).output
 pub record Follows {A B V : Type 0} (X : Run A V) (Y : Run B V) : Type 0 where
   -- whatever X has come to, Y comes to the same output, and to the same verdict where X has ended other than exhausted
   pub back : (m : ℕ) → (n : ℕ) × ((X m).output ≡ (Y n).output) × EndsAs (X m).ending (Y n).ending
-  -- whatever Y has come to, X comes to be exhausted, or to output that begins with Y's, with the same verdict where Y has ended
-  pub forth : (n : ℕ) → (m : ℕ) × (IsExhausted (X m) ⊎ (IsPrefix (Y n).output (X m).output × HasVerdictOf (X m).ending (Y n).ending))
+  -- whatever Y has come to, X comes to be exhausted, or to output that begins with Y's, with the same verdict where Y
+  -- has ended
+  pub forth : (n : ℕ) → (m : ℕ) × (IsExhausted (X m)
+      ⊎ (IsPrefix (Y n).output (X m).output × HasVerdictOf (X m).ending (Y n).ending))
 
 -- where X has a verdict and Y has ended, Y has the same verdict, and they have the same output
 abbrev pub SameAnswer : {A B V : Type 0} → Run A V → Run B V → Type 0
-SameAnswer {V = V} X Y = (m n : ℕ) (v : V) (e : Ending V) → (X m).ending ≡ Some (Verdict v) → (Y n).ending ≡ Some e → (e ≡ Verdict v) × ((X m).output ≡ (Y n).output)
+SameAnswer {V = V} X Y =
+    (m n : ℕ) (v : V) (e : Ending V) → (X m).ending ≡ Some (Verdict v) → (Y n).ending ≡ Some e
+    → (e ≡ Verdict v) × ((X m).output ≡ (Y n).output)
 
 -- two moments agree: they have the same output, and K relates what they show
 pub record Agrees {A B V : Type 0} (K : A → B → Type 0) (x : Moment A V) (y : Moment B V) : Type 0 where
   pub output : x.output ≡ y.output
   pub shown : K x.shown y.shown
 
--- the first is backed by the second: they agree, and where the first has ended other than exhausted, the second has ended with the same verdict
+-- the first is backed by the second: they agree, and where the first has ended other than exhausted, the second has
+-- ended with the same verdict
 abbrev pub Backed : {A B V : Type 0} → (A → B → Type 0) → Moment A V → Moment B V → Type 0
 Backed K x y = Agrees K x y × EndsAs x.ending y.ending
 
--- the first is exhausted, or has come to the second: they agree, and where the second has ended, the first has ended with the same verdict
+-- the first is exhausted, or has come to the second: they agree, and where the second has ended, the first has ended
+-- with the same verdict
 abbrev pub Reached : {A B V : Type 0} → (A → B → Type 0) → Moment A V → Moment B V → Type 0
 Reached K x y = IsExhausted x ⊎ (Agrees K x y × HasVerdictOf x.ending y.ending)
 
--- X follows Y: K relates what they show at moments that correspond, and L what X shows when it has come to Y's moment, or has run out on the way there
+-- X follows Y: K relates what they show at moments that correspond, and L what X shows when it has come to Y's
+-- moment, or has run out on the way there
 pub record FollowsBy {A B V : Type 0} (K L : A → B → Type 0) (X : Run A V) (Y : Run B V) : Type 0 where
   pub back : (m : ℕ) → (n : ℕ) × Backed K (X m) (Y n)
   pub forth : (n : ℕ) → (m : ℕ) × L (X m).shown (Y n).shown × Reached K (X m) (Y n)

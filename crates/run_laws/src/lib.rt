@@ -2,15 +2,18 @@
 //!
 //! A run gives a moment for each bound: what is shown, the output so far, and the ending if it has
 //! ended. The definitions stand in `specs`. Each function here has an empty body: its contract is a
-//! law, proved for all runs and machines. The laws that speak of relations between states, such as
-//! the simulation theorem, are lemmas of `proofs`.
+//! law, proved for all runs and machines. The laws that speak of relations between states are lemmas,
+//! which a clause can't say: simulation, lockstep and rounds. `proofs/Public.antt` has all that other
+//! crates cite.
 #![tactic(auto)]
 
 ghost use Rattle.std.specs.Prelude.{◌≡◌, ℕ, ◌+◌};
-ghost use Rattle.run_laws.specs.Runs.{Ending, Run, NeverWrong, NeverExhausted, StaysEnded, OutputGrows, Follows, SameAnswer, FollowsBy, Same, Any};
+ghost use Rattle.run_laws.specs.Runs.{Ending, Run, NeverWrong, NeverExhausted, StaysEnded, OutputGrows, Follows};
+ghost use Rattle.run_laws.specs.Runs.{SameAnswer, FollowsBy, Same, Any};
 ghost use Rattle.run_laws.specs.Machines.{Machine, and_then, steps, run, OnlyAddsOutput};
 ghost use Rattle.run_laws.specs.Reductions.{Reduction, state_after, reduction_run, ReductionOnlyAddsOutput, machine_of};
-ghost use Rattle.run_laws.specs.Meters.{Metered, unspent, metered, metered_reduction, SameButMeter, each_one, Spends, EndsInTime, ComesInTime};
+ghost use Rattle.run_laws.specs.Meters.{Metered, unspent, metered, metered_reduction, SameButMeter, each_one, Spends};
+ghost use Rattle.run_laws.specs.Meters.{EndsInTime, ComesInTime};
 
 #[cfg(test)]
 mod tests;

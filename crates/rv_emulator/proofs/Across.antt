@@ -1,5 +1,6 @@
 -- The code of a test, with any number of fillers, can be assembled.
-use Rattle.std.proofs.Common.{ℕ, zero, suc, ◌+◌, ◌≡◌, ◌∙◌, refl, sym, ap, arith, Bool, true, pos, List, [], ◌∷◌, ◌++◌, replicate, Contains}
+use Rattle.std.proofs.Common.{ℕ, zero, suc, ◌+◌, ◌≡◌, ◌∙◌, refl, sym, ap, arith, Bool, true, pos, List, [], ◌∷◌, ◌++◌}
+use Rattle.std.proofs.Common.{replicate, Contains}
 use Rattle.std.specs.Prelude.{All, ◌==◌, not, nat_eq}
 use Rattle.std.specs.List.{list_any, list_all}
 use Rattle.std.specs.Cmp.{nat_eq_equiv}
@@ -38,7 +39,8 @@ times_fillers : (mark n : ℕ) → times mark (replicate n filler) ≡ 0
 times_fillers mark zero = refl
 times_fillers mark (suc n) = times_fillers mark n
 
-times_spread : (mark : ℕ) (front : List RealItem) (n : ℕ) (rear : List RealItem) → times mark (spread front n rear) ≡ times mark (front ++ rear)
+times_spread : (mark : ℕ) (front : List RealItem) (n : ℕ) (rear : List RealItem)
+    → times mark (spread front n rear) ≡ times mark (front ++ rear)
 times_spread mark front n rear =
     let a = times_append mark (front ++ replicate n filler) rear in
     let b = times_append mark front (replicate n filler) in
@@ -47,7 +49,8 @@ times_spread mark front n rear =
     omega (arith, a, b, c, d)
 
 -- each mark is named as where no filler stands
-names_spread : (front : List RealItem) (n : ℕ) (rear : List RealItem) (item : RealItem) → NamesOne (front ++ rear) item → NamesOne (spread front n rear) item
+names_spread : (front : List RealItem) (n : ℕ) (rear : List RealItem) (item : RealItem)
+    → NamesOne (front ++ rear) item → NamesOne (spread front n rear) item
 names_spread front n rear (Op i) h = tt
 names_spread front n rear (Mark mark) h = tt
 names_spread front n rear (Jump rd mark) h = times_spread mark front n rear ∙ h
@@ -55,14 +58,18 @@ names_spread front n rear (Branch cond a b mark) h = times_spread mark front n r
 names_spread front n rear (Address rd mark) h = times_spread mark front n rear ∙ h
 
 -- one more filler behind a list
-pub one_more : (n : ℕ) (before now after : List RealItem) → now ≡ before ++ replicate n filler → after ≡ now ++ filler ∷ [] → after ≡ before ++ replicate (n + 1) filler
+pub one_more : (n : ℕ) (before now after : List RealItem) → now ≡ before ++ replicate n filler
+    → after ≡ now ++ filler ∷ [] → after ≡ before ++ replicate (n + 1) filler
 one_more n before now after e f =
-    f ∙ ap (λ items. items ++ filler ∷ []) e ∙ append_assoc before (replicate n filler) (filler ∷ []) ∙ ap (λ items. before ++ items) (replicate_more n filler)
+    f ∙ ap (λ items. items ++ filler ∷ []) e ∙ append_assoc before (replicate n filler) (filler ∷ [])
+    ∙ ap (λ items. before ++ items) (replicate_more n filler)
 
 -- by the parts of a code
-all_spread : (P : RealItem → Type 0) (front : List RealItem) (n : ℕ) (rear : List RealItem) → All P front → P filler → All P rear → All P (spread front n rear)
+all_spread : (P : RealItem → Type 0) (front : List RealItem) (n : ℕ) (rear : List RealItem) → All P front → P filler
+    → All P rear → All P (spread front n rear)
 all_spread P front n rear f p r =
-    All-append P (front ++ replicate n filler) rear (All-append P front (replicate n filler) f (All-replicate P n filler p)) r
+    All-append P (front ++ replicate n filler) rear
+    (All-append P front (replicate n filler) f (All-replicate P n filler p)) r
 
 abbrev pub front : List RealItem
 front =
@@ -95,7 +102,8 @@ is_placed (Address rd mark) = true
 
 it_spares : (item : RealItem) → spares item ≡ true → Spares item
 it_spares item e c =
-    true≢false (sym (list_any-from_Contains nat_eq_equiv 31 (registers_named item) c) ∙ not-true (list_any (nat_eq 31) (registers_named item)) e)
+    true≢false (sym (list_any-from_Contains nat_eq_equiv 31 (registers_named item) c)
+    ∙ not-true (list_any (nat_eq 31) (registers_named item)) e)
 
 it_names_one : (items : List RealItem) (item : RealItem) → names_one items item ≡ true → NamesOne items item
 it_names_one items (Op i) e = tt
@@ -112,17 +120,24 @@ it_is_placed (Branch cond a b mark) e = tt
 it_is_placed (Address rd mark) e = tt
 
 -- each item of a list passes a test
-each : (P : RealItem → Type 0) (test : RealItem → Bool) → ((item : RealItem) → test item ≡ true → P item) → (items : List RealItem) → list_all test items ≡ true → All P items
+each : (P : RealItem → Type 0) (test : RealItem → Bool) → ((item : RealItem) → test item ≡ true → P item)
+    → (items : List RealItem) → list_all test items ≡ true → All P items
 each P test f items e = All-weaker (λ item. test item ≡ true) P f items (AllPass-from_list_all test items e)
 
-named : (n : ℕ) (items : List RealItem) → list_all (names_one (front ++ rear)) items ≡ true → All (NamesOne (spread front n rear)) items
+named : (n : ℕ) (items : List RealItem) → list_all (names_one (front ++ rear)) items ≡ true
+    → All (NamesOne (spread front n rear)) items
 named n items e =
-    each (NamesOne (spread front n rear)) (names_one (front ++ rear)) (λ item h. names_spread front n rear item (it_names_one (front ++ rear) item h)) items e
+    each (NamesOne (spread front n rear)) (names_one (front ++ rear))
+    (λ item h. names_spread front n rear item (it_names_one (front ++ rear) item h)) items e
 
 pub across_items : (n : ℕ) → CanBeAssembled (spread front n rear)
 across_items n = record {
   some = (0, Branch Ne 0 0 0, omega arith, refl, refl);
   marks = all_spread (NamesOne (spread front n rear)) front n rear (named n front refl) tt (named n rear refl);
-  scratch = all_spread Spares front n rear (each Spares spares it_spares front refl) (it_spares filler refl) (each Spares spares it_spares rear refl);
-  placed = all_spread IsPlaced front n rear (each IsPlaced is_placed it_is_placed front refl) refl (each IsPlaced is_placed it_is_placed rear refl);
+  scratch =
+      all_spread Spares front n rear (each Spares spares it_spares front refl) (it_spares filler refl)
+      (each Spares spares it_spares rear refl);
+  placed =
+      all_spread IsPlaced front n rear (each IsPlaced is_placed it_is_placed front refl) refl
+      (each IsPlaced is_placed it_is_placed rear refl);
 }

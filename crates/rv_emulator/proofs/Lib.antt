@@ -1,7 +1,7 @@
-pub mod Based
-pub mod Calls
-pub mod Sound
-pub mod Runs
-pub mod Start
-pub mod Written
-pub mod Across
+mod Based
+mod Calls
+mod Sound
+mod Runs
+mod Start
+mod Written
+mod Across

@@ -4,16 +4,18 @@ use Rattle.std.specs.Prelude.{ℤ}
 use Rattle.std.specs.Int.{Width}
 use Rattle.grift_base.specs.World.{WorldState}
 use Rattle.grift_base.specs.declared.worlds.EnvEffect.{EnvEffect}
-use Rattle.grift_base.specs.declared.worlds.EnvEffect.TheVariants.{Next as GoesOn, Ended as Answers, Blamed as Blames, Trapped as Traps, RegionOut as RegionEnds, StackOut as StackEnds, Refused, OutOfMemory as NoMemory}
+use Rattle.grift_base.specs.declared.worlds.EnvEffect.TheVariants.{Next as GoesOn, Ended as Answers, Blamed as Blames}
+use Rattle.grift_base.specs.declared.worlds.EnvEffect.TheVariants.{Trapped as Traps, RegionOut as RegionEnds}
+use Rattle.grift_base.specs.declared.worlds.EnvEffect.TheVariants.{StackOut as StackEnds, Refused}
+use Rattle.grift_base.specs.declared.worlds.EnvEffect.TheVariants.{OutOfMemory as NoRoom}
 use Rattle.rv_machine.specs.State.{State, Turn, Next, Stops}
 use Rattle.rv_machine.specs.Turn.{load_into, store_from, branch_if, jump_and_link, comes_to, called, blames}
 use Rattle.rv_emulator.specs.declared.processor.Action.{Action}
 use Rattle.rv_emulator.specs.declared.processor.Action.TheVariants.{Put, Load, Store, Branch, Jump, Skip, Call, Refuse}
 use Rattle.rv_emulator.specs.declared.processor.Places.{Places}
 use Rattle.rv_emulator.specs.declared.stops.Stop.{Stop}
-use Rattle.rv_emulator.specs.declared.stops.Stop.TheVariants.{Ended, Blamed, Trapped, RegionOut, StackOut, StepsSpent, Undefined, BadAddress, Misaligned, OutOfMemory}
 use Rattle.rv_emulator.specs.Actions.{performed}
-use Rattle.rv_emulator.specs.Made.{Made}
+use Rattle.rv_emulator.specs.Turns.{Outcome, Halts, Spent, NoMemory, outcome_of, StopsBy, ComesTo}
 use Rattle.rv_emulator.specs.Processor.{IsSound}
 
 -- a turn keeps the layout, and leads to an instruction's place
@@ -48,7 +50,7 @@ comes_keeps (Traps trap) w s h = tt
 comes_keeps RegionEnds w s h = tt
 comes_keeps StackEnds w s h = tt
 comes_keeps Refused w s h = tt
-comes_keeps NoMemory w s h = tt
+comes_keeps NoRoom w s h = tt
 
 pub performed_keeps : (action : Action) (s : State) → s.pc % 4 ≡ 0 → Keeps s (performed action s)
 performed_keeps (Put rd word) s h = (refl, four s.pc h)
@@ -60,28 +62,27 @@ performed_keeps Skip s h = (refl, four s.pc h)
 performed_keeps Call s h = comes_keeps (called s).effect (called s).world s h
 performed_keeps Refuse s h = tt
 
--- what a turn keeps is kept where it was made
+-- what a turn keeps is kept by the emulator that makes it
 abbrev pub Kept : State → State → Type 0
 Kept old new = (new.layout ≡ old.layout) × (new.pc % 4 ≡ 0)
 
 same_kept : (old new : State) → old.pc % 4 ≡ 0 → new ≡ old → Kept old new
 same_kept old new h e = rw e (refl, h)
 
-pub made_kept : (lack : Type 0) (turn : Turn) (old : State) (r : Option Stop) (new : State) → old.pc % 4 ≡ 0 → Keeps old turn → Made lack turn old r new → Kept old new
-made_kept lack turn old None new h k m = let f = rw m at k in f
-made_kept lack turn old (Some (Ended answer)) new h k m = same_kept old new h m.1
-made_kept lack turn old (Some (Blamed label)) new h k m = same_kept old new h m.1
-made_kept lack turn old (Some (Trapped trap)) new h k m = same_kept old new h m.1
-made_kept lack turn old (Some RegionOut) new h k m = same_kept old new h m.1
-made_kept lack turn old (Some StackOut) new h k m = same_kept old new h m.1
-made_kept lack turn old (Some StepsSpent) new h k m = absurd m
-made_kept lack turn old (Some (Undefined pc)) new h k m = same_kept old new h m.1
-made_kept lack turn old (Some (BadAddress pc)) new h k m = same_kept old new h m.1
-made_kept lack turn old (Some (Misaligned pc)) new h k m = same_kept old new h m.1
-made_kept lack turn old (Some OutOfMemory) new h k m = same_kept old new h m.1
+kept_by : (lack : Type 0) (turn : Turn) (old : State) (outcome : Outcome) (new : State) → old.pc % 4 ≡ 0 →
+    StopsBy lack turn old outcome new → Kept old new
+kept_by lack turn old (Halts halt) new h m = same_kept old new h m.1
+kept_by lack turn old Spent new h m = absurd m
+kept_by lack turn old NoMemory new h m = same_kept old new h m.1
+
+pub turn_kept : (lack : Type 0) (turn : Turn) (old : State) (stop : Option Stop) (new : State) → old.pc % 4 ≡ 0 →
+    Keeps old turn → ComesTo lack turn old stop new → Kept old new
+turn_kept lack turn old None new h k m = let f = rw m at k in f
+turn_kept lack turn old (Some stop) new h k m = kept_by lack turn old (outcome_of stop) new h m
 
 -- parts at the same places are as sound
-pub still_sound : (m n : ℕ) (p q : Places) (a b x y : ℕ) → q.code ≡ p.code → q.region ≡ p.region → q.end ≡ p.end → b ≡ a → y % 4 ≡ 0 → n ≡ m → IsSound m p a x → IsSound n q b y
+pub still_sound : (m n : ℕ) (p q : Places) (a b x y : ℕ) → q.code ≡ p.code → q.region ≡ p.region → q.end ≡ p.end
+    → b ≡ a → y % 4 ≡ 0 → n ≡ m → IsSound m p a x → IsSound n q b y
 still_sound m n p q a b x y c r e l h z s = record {
   start = rw c s.start;
   code = rw c s.code;

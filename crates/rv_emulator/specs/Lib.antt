@@ -1,5 +1,5 @@
 pub mod Widths
 pub mod Registers
 pub mod Processor
-pub mod Made
+pub mod Turns
 pub mod Actions

@@ -1,6 +1,6 @@
 -- What the emulator keeps, as a state of the machine.
-use Rattle.std.specs.Prelude.{ℕ, ◌+◌, ◌%◌, ◌<◌, ◌≤◌, ◌≡◌}
-use Rattle.rv_machine.specs.Memory.{Memory, from_base}
+use Rattle.std.specs.Prelude.{ℕ, length, ◌+◌, ◌%◌, ◌<◌, ◌≤◌, ◌≡◌}
+use Rattle.rv_machine.specs.Memory.{Memory, first_address, from_base}
 use Rattle.rv_machine.specs.State.{State}
 use Rattle.rv_emulator.specs.declared.processor.Processor.{Processor}
 use Rattle.rv_emulator.specs.declared.processor.Places.{Places}
@@ -18,11 +18,15 @@ state_of memory p = record {
 
 -- the parts of memory lie in order and fill it, and the pc is that of an instruction
 pub record IsSound (bytes : ℕ) (places : Places) (label_count pc : ℕ) : Type 0 where
-  pub start : 65536 ≤ places.code
+  pub start : first_address ≤ places.code
   pub code : places.code % 4 ≡ 0
   pub region : places.region % 4 ≡ 0
   pub order : places.code ≤ places.region
   pub room : places.region ≤ places.end
-  pub size : places.end ≡ 65536 + bytes
+  pub size : places.end ≡ first_address + bytes
   pub labels : label_count < 4294967295
   pub aligned : pc % 4 ≡ 0
+
+-- the parts of an emulator are sound, told how many bytes its memory has
+abbrev pub IsSoundBy : {R : Type 0} → (R → ℕ) → Processor R → Type 0
+IsSoundBy bytes_len p = IsSound (bytes_len p.ram) p.places (length p.labels) p.pc

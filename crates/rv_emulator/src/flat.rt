@@ -2,10 +2,11 @@
 
 ghost use Rattle.std.specs.Prelude.{◌≡◌, ℕ, IfOk, length, true};
 ghost use Rattle.rv_machine.specs.Memory.{memory_of};
+ghost use Rattle.std.proofs.lemmas.List.{get_or_past};
 
-use crate::bytes::write;
+use crate::bytes::write_number;
 use crate::ram::{Ram, Width};
-use assembler::bytes::read;
+use assembler::bytes::read_number;
 use grift_base::lists::OutOfMemory;
 use std::alloc::{AllocError, Global};
 
@@ -47,10 +48,10 @@ impl Ram for FlatRam {
         let bytes = self.bytes.as_slice();
         let at = at as usize;
         match width {
-            Width::B1 => read::<1>(bytes, at),
-            Width::B2 => read::<2>(bytes, at),
-            Width::B4 => read::<4>(bytes, at),
-            Width::B8 => read::<8>(bytes, at),
+            Width::B1 => read_number::<1>(bytes, at),
+            Width::B2 => read_number::<2>(bytes, at),
+            Width::B4 => read_number::<4>(bytes, at),
+            Width::B8 => read_number::<8>(bytes, at),
         }
     }
 
@@ -58,11 +59,13 @@ impl Ram for FlatRam {
         let bytes = self.bytes.as_mut_slice();
         let at = at as usize;
         match width {
-            Width::B1 => write::<1>(bytes, at, word),
-            Width::B2 => write::<2>(bytes, at, word),
-            Width::B4 => write::<4>(bytes, at, word),
-            Width::B8 => write::<8>(bytes, at, word),
+            Width::B1 => write_number::<1>(bytes, at, word),
+            Width::B2 => write_number::<2>(bytes, at, word),
+            Width::B4 => write_number::<4>(bytes, at, word),
+            Width::B8 => write_number::<8>(bytes, at, word),
         }
         Ok(())
     }
+
+    ghost nothing_past = { λ ram at h. get_or_past ram.bytes.items at 0 h };
 }

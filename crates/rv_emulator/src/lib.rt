@@ -1,6 +1,7 @@
 // The emulator of the machine.
 #![tactic(auto)]
 
+pub mod arithmetic;
 mod bytes;
 pub mod flat;
 pub mod machine;
@@ -8,4 +9,3 @@ pub mod processor;
 pub mod ram;
 pub mod registers;
 pub mod stops;
-pub mod words;

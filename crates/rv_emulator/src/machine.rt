@@ -1,15 +1,15 @@
 // The machine, whose parts fit together.
 
 ghost use Rattle.std.specs.Prelude.{◌≡◌, ◌≤◌, ◌<◌, ◌+◌, ◌%◌, ◌*◌, ◌^◌, ℕ, length, true, IfOk, OnOk};
-ghost use Rattle.rv_machine.specs.Memory.{memory_of};
+ghost use Rattle.rv_machine.specs.Memory.{memory_of, first_address};
 ghost use Rattle.rv_machine.specs.Image.{IsImage, statics_len, code_len};
 ghost use Rattle.rv_machine.specs.Start.{IsRegionSize, IsStackSize, start_regs, start_of};
 ghost use Rattle.rv_machine.specs.State.{reg};
 ghost use Rattle.rv_emulator.specs.Registers.{regs_of};
 ghost use Rattle.rv_emulator.specs.Processor.{state_of};
-ghost use Rattle.rv_emulator.specs.Made.{Ran};
+ghost use Rattle.rv_emulator.specs.Turns.{RunsTo, outcome_of};
 
-use crate::processor::{BASE, Places, Processor};
+use crate::processor::{Places, Processor};
 use crate::ram::{Ram, Width};
 use crate::registers::Registers;
 use crate::stops::Stop;
@@ -18,6 +18,7 @@ use grift_base::lists::OutOfMemory;
 use grift_base::words::Words;
 use grift_base::worlds::World;
 use rv_isa::number::Reg;
+use rv_machine::FIRST_ADDRESS;
 use std::alloc::Global;
 use std::marker::Model;
 
@@ -33,20 +34,19 @@ pub struct Machine<R: Ram> {
 }
 
 impl<R: Ram> Model for Machine<R> {
-    ghost use Rattle.std.specs.Prelude.{length};
     ghost use Rattle.rv_emulator.specs.declared.processor.Processor.{Processor};
 
     ghost Value = { Processor R };
 
-    ghost use Rattle.rv_emulator.specs.Processor.{IsSound};
+    ghost use Rattle.rv_emulator.specs.Processor.{IsSoundBy};
 
     ghost view = { λ m. m.processor };
 
-    ghost invariant = { λ m. IsSound (R.bytes_len m.processor.ram) m.processor.places (length m.processor.labels) m.processor.pc };
+    ghost invariant = { λ m. IsSoundBy R.bytes_len m.processor };
 }
 
 impl<R: Ram + Drop> Machine<R> {
-    /// The machine in the start state of an image, over a memory that is all zero, with a region and a
+    /// The machine in the start state of an image, over a memory that is all zero below its size, with a region and a
     /// stack of these many bytes.
     pub fn load(
         alloc: Global,
@@ -56,7 +56,7 @@ impl<R: Ram + Drop> Machine<R> {
         stack: u64,
         world: World,
     ) -> Result<Machine<R>, OutOfMemory>
-        requires zero { (i : ℕ) → R.memory ram i ≡ 0 }
+        requires zero { (i : ℕ) → i < R.bytes_len ram → R.memory ram i ≡ 0 }
         requires region { IsRegionSize region }
         requires stack { IsStackSize stack }
         requires size { R.bytes_len ram ≡ statics_len image.now + code_len image.now + region + stack }
@@ -84,13 +84,13 @@ impl<R: Ram + Drop> Machine<R> {
 fn places_of(image: &Image, region: u64, stack: u64) -> Places
     requires region { IsRegionSize region }
     requires stack { IsStackSize stack }
-    ensures code { result.code ≡ 65536 + statics_len image.now }
-    ensures region { result.region ≡ 65536 + statics_len image.now + code_len image.now }
+    ensures code { result.code ≡ first_address + statics_len image.now }
+    ensures region { result.region ≡ first_address + statics_len image.now + code_len image.now }
     ensures end { result.end ≡ result.region + region + stack }
     ensures sound { IsImage image.now }
     ensures small { result.end < 2 ^ 64 }
 {
-    let code_end = BASE + image.loaded().len() as u64;
+    let code_end = FIRST_ADDRESS + image.loaded().len() as u64;
     Places {
         code: code_end - image.code_len(),
         region: code_end,
@@ -118,7 +118,8 @@ impl<R: Ram> Machine<R> {
     /// world and pc as before the instruction that stopped, and a later run goes on from there. Want of
     /// memory comes only at an instruction that prints, or at one that stores into a ram that isn't whole.
     pub fn run(&mut self, steps: u64) -> Stop
-        ensures ran { Ran (R.whole self.new.ram) steps (state_of R.memory self.old) result (state_of R.memory self.new) }
+        ensures ran { RunsTo (R.whole self.new.ram) steps (state_of R.memory self.old) (outcome_of result)
+            (state_of R.memory self.new) }
         ensures stays_whole { R.whole self.old.ram ≡ true → R.whole self.new.ram ≡ true }
     {
         self.processor.run(steps)
@@ -154,10 +155,10 @@ impl<R: Ram> Machine<R> {
 }
 
 impl<R: Ram> Words for Machine<R> {
-    ghost use Rattle.rv_machine.specs.Memory.{load_bytes};
+    ghost use Rattle.rv_machine.specs.Memory.{load_bytes, first_address};
     ghost use Rattle.rv_emulator.specs.Processor.{state_of};
 
-    ghost first = { λ _. 65536 };
+    ghost first = { λ _. first_address };
 
     ghost end = { λ m. m.places.end };
 
@@ -165,16 +166,16 @@ impl<R: Ram> Words for Machine<R> {
 
     fn word(&self, at: u64) -> Option<u64> {
         let end = self.processor.places.end;
-        if at % 8 != 0 || at < BASE || end < 8 || end - 8 < at {
+        if at % 8 != 0 || at < FIRST_ADDRESS || end < 8 || end - 8 < at {
             return None;
         }
-        Some(self.processor.ram.load(at - BASE, Width::B8))
+        Some(self.processor.ram.load(at - FIRST_ADDRESS, Width::B8))
     }
 }
 
 // Writes these bytes at the front of a memory that is all zero.
 fn fill<R: Ram>(ram: &mut R, bytes: &[u8]) -> Result<(), OutOfMemory>
-    requires zero { (i : ℕ) → R.memory ram.old i ≡ 0 }
+    requires zero { (i : ℕ) → i < R.bytes_len ram.old → R.memory ram.old i ≡ 0 }
     requires size { length bytes.now ≤ R.bytes_len ram.old }
     ensures memory { OnOk result (R.memory ram.new ≡ memory_of bytes.now) }
     ensures len { R.bytes_len ram.new ≡ R.bytes_len ram.old }

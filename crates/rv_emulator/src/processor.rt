@@ -2,29 +2,28 @@
 
 ghost use Rattle.std.specs.Prelude.{◌≡◌, ◌<◌, ◌-◌, ◌*◌, ◌%◌, ◌^◌, ℕ, Bool, length, true, false};
 ghost use Rattle.std.specs.Int.{byte_len};
-ghost use Rattle.rv_machine.specs.Turn.{half, word_of, plus, next_pc, put, load_into, store_from, branch_if, jump_and_link, call_environment, act, turn_of};
-ghost use Rattle.rv_machine.specs.State.{Next, reg};
+ghost use Rattle.rv_machine.specs.Turn.{half, word_of, plus, put, load_into, store_from, branch_if, jump_and_link};
+ghost use Rattle.rv_machine.specs.Turn.{call_environment, act, turn_of};
+ghost use Rattle.rv_machine.specs.State.{reg};
 ghost use Rattle.grift_base.specs.EnvironmentCall.{Prints};
 ghost use Rattle.rv_emulator.specs.Widths.{width_of};
-ghost use Rattle.rv_emulator.specs.Processor.{state_of, IsSound};
-ghost use Rattle.rv_emulator.specs.Made.{Made, Ran, LacksAt, LacksNext};
-ghost use Rattle.rv_emulator.specs.Actions.{performed, LacksBy};
+ghost use Rattle.rv_emulator.specs.Processor.{state_of, IsSoundBy};
+ghost use Rattle.rv_emulator.specs.Turns.{MakesTurn, NeverLacks, LacksUnless, LacksAt, LacksNext, RunsTo, outcome_of};
+ghost use Rattle.rv_emulator.specs.Actions.{performed, go_on, LacksBy};
 
-use crate::ram::{Ram, Width};
-use crate::registers::Registers;
-use crate::stops::Stop;
-use crate::words::{
+use crate::arithmetic::{
     extend, extend_half, flag_of, half_shifted_left, half_shifted_right, half_shifted_right_signed,
     is_less_signed, lower, shifted_left, shifted_right, shifted_right_signed,
 };
+use crate::ram::{Ram, Width};
+use crate::registers::Registers;
+use crate::stops::Stop;
 use grift_base::lists::Items;
 use grift_base::places::Pos;
 use grift_base::worlds::{EnvEffect, World};
 use rv_isa::inst::{Inst, decode};
 use rv_isa::number::{Imm12, Imm13, Reg, Upper};
-
-/// The first address of memory.
-pub const BASE: u64 = 65536;
+use rv_machine::FIRST_ADDRESS;
 
 /// Where code begins, where it ends and the region begins, and where memory ends.
 #[derive(Clone, Copy, PartialEq, Eq, Debug)]
@@ -69,7 +68,7 @@ pub struct Processor<R> {
 impl<R: Ram> Processor<R> {
     // Goes on at the next instruction, with a register changed.
     fn put(&mut self, rd: Reg, word: u64) -> Option<Stop>
-        ensures made { Made ⊥ (put rd word (state_of R.memory self.old)) (state_of R.memory self.old) result (state_of R.memory self.new) }
+        ensures made { MakesTurn R.memory NeverLacks (put rd word) self.old result self.new }
         ensures ram { self.new.ram ≡ self.old.ram }
     {
         self.regs.set(rd, word);
@@ -79,25 +78,27 @@ impl<R: Ram> Processor<R> {
 
     // Reads a number into a register.
     fn load_into(&mut self, rd: Reg, at: u64, width: Width, signed: bool) -> Option<Stop>
-        requires { IsSound (R.bytes_len self.old.ram) self.old.places (length self.old.labels) self.old.pc }
-        ensures made { Made ⊥ (load_into signed (width_of width) rd at (state_of R.memory self.old)) (state_of R.memory self.old) result (state_of R.memory self.new) }
+        requires { IsSoundBy R.bytes_len self.old }
+        ensures made { let turn = load_into signed (width_of width) rd at in
+            MakesTurn R.memory NeverLacks turn self.old result self.new }
         ensures ram { self.new.ram ≡ self.old.ram }
     {
         let bytes = width.bytes();
         if at % bytes != 0 {
             return Some(Stop::Misaligned(self.pc));
         }
-        if at < BASE || self.places.end - bytes < at {
+        if at < FIRST_ADDRESS || self.places.end - bytes < at {
             return Some(Stop::BadAddress(self.pc));
         }
-        let word = extend(self.ram.load(at - BASE, width), width, signed);
+        let word = extend(self.ram.load(at - FIRST_ADDRESS, width), width, signed);
         self.put(rd, word)
     }
 
     // Writes the lowest bytes of a word.
     fn store_from(&mut self, word: u64, to: u64, width: Width) -> Option<Stop>
-        requires { IsSound (R.bytes_len self.old.ram) self.old.places (length self.old.labels) self.old.pc }
-        ensures made { Made (R.whole self.new.ram ≡ false) (store_from (width_of width) word to (state_of R.memory self.old)) (state_of R.memory self.old) result (state_of R.memory self.new) }
+        requires { IsSoundBy R.bytes_len self.old }
+        ensures made { let lacks = LacksUnless (R.whole self.new.ram) in
+            MakesTurn R.memory lacks (store_from (width_of width) word to) self.old result self.new }
         ensures len { R.bytes_len self.new.ram ≡ R.bytes_len self.old.ram }
         ensures stays_whole { R.whole self.old.ram ≡ true → R.whole self.new.ram ≡ true }
     {
@@ -108,7 +109,7 @@ impl<R: Ram> Processor<R> {
         if to < self.places.region || self.places.end - bytes < to {
             return Some(Stop::BadAddress(self.pc));
         }
-        match self.ram.store(to - BASE, width, word) {
+        match self.ram.store(to - FIRST_ADDRESS, width, word) {
             Ok(()) => {
                 self.pc = self.pc.wrapping_add(4);
                 None
@@ -118,7 +119,7 @@ impl<R: Ram> Processor<R> {
     }
 
     fn branch_if(&mut self, taken: bool, offset: Imm13) -> Option<Stop>
-        ensures made { Made ⊥ (branch_if taken offset (state_of R.memory self.old)) (state_of R.memory self.old) result (state_of R.memory self.new) }
+        ensures made { MakesTurn R.memory NeverLacks (branch_if taken offset) self.old result self.new }
         ensures ram { self.new.ram ≡ self.old.ram }
     {
         if !taken {
@@ -135,7 +136,7 @@ impl<R: Ram> Processor<R> {
 
     // Jumps, and keeps the address of the next instruction in a register.
     fn jump_and_link(&mut self, rd: Reg, target: u64) -> Option<Stop>
-        ensures made { Made ⊥ (jump_and_link rd target (state_of R.memory self.old)) (state_of R.memory self.old) result (state_of R.memory self.new) }
+        ensures made { MakesTurn R.memory NeverLacks (jump_and_link rd target) self.old result self.new }
         ensures ram { self.new.ram ≡ self.old.ram }
     {
         if target % 4 != 0 {
@@ -148,8 +149,8 @@ impl<R: Ram> Processor<R> {
 
     // Makes an environment call.
     fn call_environment(&mut self) -> Option<Stop>
-        requires { IsSound (R.bytes_len self.old.ram) self.old.places (length self.old.labels) self.old.pc }
-        ensures made { Made (Prints (reg (state_of R.memory self.old) 17)) (call_environment (state_of R.memory self.old)) (state_of R.memory self.old) result (state_of R.memory self.new) }
+        requires { IsSoundBy R.bytes_len self.old }
+        ensures made { MakesTurn R.memory (λ s. Prints (reg s 17)) call_environment self.old result self.new }
         ensures ram { self.new.ram ≡ self.old.ram }
     {
         let number = self.regs.read(17);
@@ -180,9 +181,10 @@ impl<R: Ram> Processor<R> {
 
     /// Makes at most these many turns.
     pub fn run(&mut self, steps: u64) -> Stop
-        requires { IsSound (R.bytes_len self.old.ram) self.old.places (length self.old.labels) self.old.pc }
-        ensures ran { Ran (R.whole self.new.ram) steps (state_of R.memory self.old) result (state_of R.memory self.new) }
-        ensures sound { IsSound (R.bytes_len self.new.ram) self.new.places (length self.new.labels) self.new.pc }
+        requires { IsSoundBy R.bytes_len self.old }
+        ensures ran { RunsTo (R.whole self.new.ram) steps (state_of R.memory self.old) (outcome_of result)
+            (state_of R.memory self.new) }
+        ensures sound { IsSoundBy R.bytes_len self.new }
         ensures stays_whole { R.whole self.old.ram ≡ true → R.whole self.new.ram ≡ true }
     {
         for _ in 0..steps {
@@ -195,15 +197,15 @@ impl<R: Ram> Processor<R> {
 
     // One turn.
     fn turn(&mut self) -> Option<Stop>
-        requires { IsSound (R.bytes_len self.old.ram) self.old.places (length self.old.labels) self.old.pc }
-        ensures made { Made (LacksNext (R.whole self.new.ram) (state_of R.memory self.old)) (turn_of (state_of R.memory self.old)) (state_of R.memory self.old) result (state_of R.memory self.new) }
-        ensures sound { IsSound (R.bytes_len self.new.ram) self.new.places (length self.new.labels) self.new.pc }
+        requires { IsSoundBy R.bytes_len self.old }
+        ensures made { MakesTurn R.memory (LacksNext (R.whole self.new.ram)) turn_of self.old result self.new }
+        ensures sound { IsSoundBy R.bytes_len self.new }
         ensures stays_whole { R.whole self.old.ram ≡ true → R.whole self.new.ram ≡ true }
     {
         if self.pc < self.places.code || self.places.region <= self.pc {
             return Some(Stop::BadAddress(self.pc));
         }
-        let word = self.ram.load(self.pc - BASE, Width::B4);
+        let word = self.ram.load(self.pc - FIRST_ADDRESS, Width::B4);
         match decode(word as u32) {
             Some(i) => {
                 let action = self.action(i);
@@ -238,7 +240,7 @@ impl<R: Ram> Processor<R> {
 
     // Goes on at the next instruction.
     fn skip(&mut self) -> Option<Stop>
-        ensures made { Made ⊥ (Next (record (state_of R.memory self.old) { pc = next_pc (state_of R.memory self.old) })) (state_of R.memory self.old) result (state_of R.memory self.new) }
+        ensures made { MakesTurn R.memory NeverLacks go_on self.old result self.new }
         ensures ram { self.new.ram ≡ self.old.ram }
     {
         self.pc = self.pc.wrapping_add(4);
@@ -248,7 +250,8 @@ impl<R: Ram> Processor<R> {
     // What an instruction does, with its operands read.
     fn action(&self, i: Inst) -> Action
         ensures value { performed result (state_of R.memory self.now) ≡ act i (state_of R.memory self.now) }
-        ensures lacks { (whole : Bool) → LacksBy whole result (state_of R.memory self.now) → LacksAt whole i (state_of R.memory self.now) }
+        ensures lacks { let s = state_of R.memory self.now in
+            (whole : Bool) → LacksBy whole result s → LacksAt whole i s }
     {
         match i {
             Inst::Lui(rd, upper) => Action::Put(rd, upper_word(upper)),
@@ -370,10 +373,11 @@ impl<R: Ram> Processor<R> {
         }
     }
 
-    // Does it.
+    // Does what the action says.
     fn perform(&mut self, action: Action) -> Option<Stop>
-        requires { IsSound (R.bytes_len self.old.ram) self.old.places (length self.old.labels) self.old.pc }
-        ensures made { Made (LacksBy (R.whole self.new.ram) action (state_of R.memory self.old)) (performed action (state_of R.memory self.old)) (state_of R.memory self.old) result (state_of R.memory self.new) }
+        requires { IsSoundBy R.bytes_len self.old }
+        ensures made { let lacks = LacksBy (R.whole self.new.ram) action in
+            MakesTurn R.memory lacks (performed action) self.old result self.new }
         ensures len { R.bytes_len self.new.ram ≡ R.bytes_len self.old.ram }
         ensures stays_whole { R.whole self.old.ram ≡ true → R.whole self.new.ram ≡ true }
     {

@@ -62,8 +62,12 @@ pub trait Ram {
         requires inside { at + byte_len (width_of width) ≤ bytes_len self.old }
         ensures len { bytes_len self.new ≡ bytes_len self.old }
         ensures stays_whole { whole self.old ≡ true → whole self.new ≡ true }
-        ensures ok { OnOk result (memory self.new ≡ store_bytes (byte_len (width_of width)) (memory self.old) at word) }
+        ensures ok { OnOk result (
+            memory self.new ≡ store_bytes (byte_len (width_of width)) (memory self.old) at word) }
         ensures err { OnErr result (memory self.new ≡ memory self.old) }
         ensures fails { OnErr result (whole self.old ≡ false) }
         ensures fails_still { OnErr result (whole self.new ≡ false) };
+
+    // past the size there is nothing
+    ghost nothing_past: { (ram : Self) (at : ℕ) → bytes_len ram ≤ at → memory ram at ≡ 0 };
 }

@@ -1,4 +1,5 @@
-pub mod SignedBits
-pub mod Decoded
-pub mod Rows
-pub mod RoundTrip
+mod SignedBits
+mod Decoded
+mod Rows
+mod RoundTrip
+pub mod Public

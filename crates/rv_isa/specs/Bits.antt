@@ -1,6 +1,7 @@
 -- Bits of a word, and signed numbers as bits. The width of a signed number is told by half the count of its
 -- values: 2048 for 12 bits.
-use Rattle.std.specs.Prelude.{ℕ, suc, ◌-◌, ◌*◌, ◌/◌, ◌%◌, ◌^◌, ◌<◌, ◌≡◌, unsigned_abs, ℤ, pos, negsuc, nat_lt, if◌then◌else◌}
+use Rattle.std.specs.Prelude.{ℕ, suc, ◌-◌, ◌*◌, ◌/◌, ◌%◌, ◌^◌, ◌<◌, ◌≡◌, unsigned_abs, ℤ, pos, negsuc, nat_lt}
+use Rattle.std.specs.Prelude.{if◌then◌else◌}
 
 -- the number that `count` bits of the word make, from the bit `low` up
 abbrev pub bits : ℕ → ℕ → ℕ → ℕ

@@ -1,7 +1,11 @@
 -- The table of RV64I: which word is which instruction, by the bits of the word.
 use Rattle.std.specs.Prelude.{ℕ, ◌+◌, ◌*◌, ◌^◌, ◌≡◌, ℤ}
 use Rattle.rv_isa.specs.declared.inst.Inst.{Inst}
-use Rattle.rv_isa.specs.declared.inst.Inst.TheVariants.{Lui, Auipc, Jal, Jalr, Beq, Bne, Blt, Bge, Bltu, Bgeu, Lb, Lh, Lw, Ld, Lbu, Lhu, Lwu, Sb, Sh, Sw, Sd, Addi, Slti, Sltiu, Xori, Ori, Andi, Slli, Srli, Srai, Add, Sub, Sll, Slt, Sltu, Xor, Srl, Sra, Or, And, Addiw, Slliw, Srliw, Sraiw, Addw, Subw, Sllw, Srlw, Sraw, Fence, Ecall, Ebreak}
+use Rattle.rv_isa.specs.declared.inst.Inst.TheVariants.{Lui, Auipc, Jal, Jalr, Beq, Bne, Blt, Bge, Bltu, Bgeu, Lb, Lh}
+use Rattle.rv_isa.specs.declared.inst.Inst.TheVariants.{Lw, Ld, Lbu, Lhu, Lwu, Sb, Sh, Sw, Sd, Addi, Slti, Sltiu, Xori}
+use Rattle.rv_isa.specs.declared.inst.Inst.TheVariants.{Ori, Andi, Slli, Srli, Srai, Add, Sub, Sll, Slt, Sltu, Xor, Srl}
+use Rattle.rv_isa.specs.declared.inst.Inst.TheVariants.{Sra, Or, And, Addiw, Slliw, Srliw, Sraiw, Addw, Subw, Sllw}
+use Rattle.rv_isa.specs.declared.inst.Inst.TheVariants.{Srlw, Sraw, Fence, Ecall, Ebreak}
 use Rattle.rv_isa.specs.Bits.{bits, signed}
 
 -- the fields
@@ -44,7 +48,8 @@ upper_of word = bits word 12 20
 -- J: bits 21 to 30 are 1 to 10, bit 20 is 11, bits 12 to 19 are 12 to 19, bit 31 is 20, and bit 0 is zero
 abbrev pub jump_offset_of : ℕ → ℤ
 jump_offset_of word =
-    signed 1048576 (bits word 21 10 * 2 ^ 1 + bits word 20 1 * 2 ^ 11 + bits word 12 8 * 2 ^ 12 + bits word 31 1 * 2 ^ 20)
+    signed 1048576 (bits word 21 10 * 2 ^ 1 + bits word 20 1 * 2 ^ 11 + bits word 12 8 * 2 ^ 12
+    + bits word 31 1 * 2 ^ 20)
 
 -- What each form asks of a word.
 pub record IsRegisterForm (word opcode funct3 funct7 rd rs1 rs2 : ℕ) : Type 0 where

@@ -2,7 +2,9 @@
 
 ghost use Rattle.std.specs.Prelude.{◌≡◌};
 ghost use Rattle.rv_isa.specs.Fields.{Fit};
-ghost use Rattle.rv_isa.specs.Decoding.{inst_of, branch_inst, load_inst, store_inst, immediate_inst, register_inst, word_immediate_inst, word_register_inst, system_inst, immediate_in, store_offset_in, branch_offset_in, upper_in, jump_offset_in, shift_amount_in};
+ghost use Rattle.rv_isa.specs.Decoding.{inst_of, branch_inst, load_inst, store_inst, immediate_inst, register_inst};
+ghost use Rattle.rv_isa.specs.Decoding.{word_immediate_inst, word_register_inst, system_inst, immediate_in};
+ghost use Rattle.rv_isa.specs.Decoding.{store_offset_in, branch_offset_in, upper_in, jump_offset_in, shift_amount_in};
 
 use crate::fields::Fields;
 use crate::inst::Inst;

@@ -3,7 +3,8 @@
 ghost use Rattle.std.specs.Prelude.{◌≡◌, ◌<◌};
 ghost use Rattle.rv_isa.specs.Bits.{IsIn, IsEven};
 ghost use Rattle.rv_isa.specs.Fields.{Fit};
-ghost use Rattle.rv_isa.specs.Encoding.{inst_fields, register_form, immediate_form, shift_form, store_form, branch_form, upper_form, jump_form};
+ghost use Rattle.rv_isa.specs.Encoding.{inst_fields, register_form, immediate_form, shift_form, store_form};
+ghost use Rattle.rv_isa.specs.Encoding.{branch_form, upper_form, jump_form};
 ghost use Rattle.rv_isa.specs.Valid.{IsValid};
 
 use crate::fields::Fields;

@@ -85,7 +85,7 @@ impl Reg {
         }
     }
 
-    // Its number.
+    // The number of this register.
     pub(crate) fn bits(&self) -> u32
         ensures value { result ≡ self.now }
         ensures below { result < 32 }
@@ -140,7 +140,7 @@ impl Imm12 {
         }
     }
 
-    // Its low bits.
+    // The low bits of this immediate.
     pub(crate) fn bits(&self) -> u32
         ensures value { result ≡ low_bits 2048 self.now }
         ensures range { IsIn 2048 self.now }
@@ -198,7 +198,7 @@ impl Imm13 {
         }
     }
 
-    // Its low bits.
+    // The low bits of this immediate.
     pub(crate) fn bits(&self) -> u32
         ensures value { result ≡ low_bits 4096 self.now }
         ensures range { IsIn 4096 self.now }
@@ -257,7 +257,7 @@ impl Imm21 {
         }
     }
 
-    // Its low bits.
+    // The low bits of this immediate.
     pub(crate) fn bits(&self) -> u32
         ensures value { result ≡ low_bits 1048576 self.now }
         ensures range { IsIn 1048576 self.now }

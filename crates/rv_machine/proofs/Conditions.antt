@@ -8,10 +8,11 @@ use Rattle.rv_machine.specs.State.{State, reg}
 use Rattle.rv_machine.specs.Turn.{act, branch_if}
 use Rattle.rv_machine.specs.Real.{holds}
 
-pub branch_tests : (cond : Cond) (a b : ℕ) (offset : ℤ) (s : State) → act (branch_when cond a b offset) s ≡ branch_if (holds cond (reg s a) (reg s b)) offset s
-branch_tests Eq a b offset s = refl
-branch_tests Ne a b offset s = refl
-branch_tests Lt a b offset s = refl
-branch_tests Ge a b offset s = refl
-branch_tests Ltu a b offset s = refl
-branch_tests Geu a b offset s = refl
+pub a_condition_is_that_of_its_branch : (cond : Cond) (a b : ℕ) (offset : ℤ) (s : State) →
+    act (branch_when cond a b offset) s ≡ branch_if (holds cond (reg s a) (reg s b)) offset s
+a_condition_is_that_of_its_branch Eq a b offset s = refl
+a_condition_is_that_of_its_branch Ne a b offset s = refl
+a_condition_is_that_of_its_branch Lt a b offset s = refl
+a_condition_is_that_of_its_branch Ge a b offset s = refl
+a_condition_is_that_of_its_branch Ltu a b offset s = refl
+a_condition_is_that_of_its_branch Geu a b offset s = refl

@@ -1,5 +1,6 @@
 -- The labels of an image.
-use Rattle.std.proofs.Common.{ℕ, zero, suc, ◌+◌, ◌*◌, ◌<◌, ◌≤◌, ◌≡◌, Some, None, List, [], ◌∷◌, ◌++◌, length, refl, ap, arith}
+use Rattle.std.proofs.Common.{ℕ, zero, suc, ◌+◌, ◌*◌, ◌<◌, ◌≤◌, ◌≡◌, Some, None, List, [], ◌∷◌, ◌++◌, length, refl, ap}
+use Rattle.std.proofs.Common.{arith}
 use Rattle.std.specs.Prelude.{slice_get}
 use Rattle.std.proofs.lemmas.Option.{slice_get_past}
 use Rattle.rv_machine.specs.Image.{label_at, labels_from}
@@ -10,7 +11,8 @@ length-labels_from zero at bytes = refl
 length-labels_from (suc n) at bytes = ap suc (length-labels_from n (at + 8) bytes)
 
 -- a label, and none past the last
-pub label_within : (n at i : ℕ) (bytes : List ℕ) → i < n → slice_get (labels_from bytes at n) i ≡ Some (label_at bytes (at + 8 * i))
+pub label_within : (n at i : ℕ) (bytes : List ℕ) → i < n →
+    slice_get (labels_from bytes at n) i ≡ Some (label_at bytes (at + 8 * i))
 unfolding labels_from
 label_within zero at i bytes h = absurd (omega arith)
 label_within (suc n) at zero bytes h = let e : at + 8 * 0 ≡ at = omega arith in rw e
@@ -26,7 +28,8 @@ pub labels_none : (at : ℕ) (bytes : List ℕ) → labels_from bytes at 0 ≡ [
 unfolding labels_from
 labels_none at bytes = refl
 
-pub labels_more : (n at : ℕ) (bytes : List ℕ) → labels_from bytes at (n + 1) ≡ labels_from bytes at n ++ label_at bytes (at + 8 * n) ∷ []
+pub labels_more : (n at : ℕ) (bytes : List ℕ) →
+    labels_from bytes at (n + 1) ≡ labels_from bytes at n ++ label_at bytes (at + 8 * n) ∷ []
 unfolding labels_from
 labels_more zero at bytes = let e : at + 8 * 0 ≡ at = omega arith in rw e
 labels_more (suc n) at bytes =

@@ -1,6 +1,9 @@
-pub mod Runs
-pub mod Memory
-pub mod Image
-pub mod Tabled
-pub mod Conditions
-pub mod Wrongs
+mod Runs
+mod Memory
+mod Image
+mod Tabled
+mod Conditions
+mod Wrongs
+mod Standing
+mod Steps
+pub mod Public

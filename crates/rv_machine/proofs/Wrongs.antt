@@ -6,20 +6,23 @@ use Rattle.run_laws.specs.Machines.{Next as Step, Go, Stop, Machine, and_then, s
 use Rattle.rv_isa.specs.declared.inst.Inst.{Inst}
 use Rattle.rv_isa.specs.declared.real.RealItem.{RealItem}
 use Rattle.rv_isa.specs.declared.real.RealItem.TheVariants.{Op, Mark, Jump, Branch, Address}
-use Rattle.rv_machine.specs.State.{State, Halt, Ended, Blamed, Trapped, RegionOut, StackOut, Undefined, BadAddress, Misaligned, Turn, Next, Stops, reg}
+use Rattle.rv_machine.specs.State.{State, Room, Region, Stack, Halt, Ended, Lacks, GoesWrong, Turn, Next, Stops, reg}
 use Rattle.rv_machine.specs.Turn.{act_with, subtract}
-use Rattle.rv_machine.specs.Mach.{ending_of, stop_of, step_by}
-use Rattle.rv_machine.specs.Real.{Told, Here, mark_address, item_at, is_lost, goes_to, needs_next, last_step, op_step, jump_step, holds, address_step, item_step, step_here, real_machine}
+use Rattle.rv_machine.specs.Mach.{ending_of, stop_of, IsReading, step_by}
+use Rattle.rv_machine.specs.Real.{Setting, Here, mark_address, item_at, is_lost, goes_to, needs_next, last_step}
+use Rattle.rv_machine.specs.Real.{op_step, jump_step, holds, address_step, item_step, step_here, real_machine}
 
-module _ {V W : Type 0} (first : Halt → Ending V) (second : Halt → Ending W) (wrong : (halt : Halt) → first halt ≡ Wrong → second halt ≡ Wrong) where
-  -- the same step, but for what the stop is told as
+module _ {V W : Type 0} (first : Halt → Ending V) (second : Halt → Ending W)
+    (wrong : (halt : Halt) → first halt ≡ Wrong → second halt ≡ Wrong) where
+  -- the same step, but for the reading of the stop
   abbrev Alike : Step State V → Step State W → Type 0
   Alike (Go s) (Go t) = s ≡ t
   Alike (Stop e s) (Stop f t) = e ≡ Wrong → f ≡ Wrong
   Alike (Go s) (Stop f t) = ⊥
   Alike (Stop e s) (Go t) = ⊥
 
-  alike_if : (b : Bool) (x x1 : Step State V) (y y1 : Step State W) → Alike x y → Alike x1 y1 → Alike (if b then x else x1) (if b then y else y1)
+  alike_if : (b : Bool) (x x1 : Step State V) (y y1 : Step State W) → Alike x y → Alike x1 y1 →
+      Alike (if b then x else x1) (if b then y else y1)
   alike_if true x x1 y y1 h k = h
   alike_if false x x1 y y1 h k = k
 
@@ -31,7 +34,8 @@ module _ {V W : Type 0} (first : Halt → Ending V) (second : Halt → Ending W)
   alike_last i s (Stops halt) = wrong halt
   alike_last i s (Next t) = alike_if (needs_next i s t) (is_lost s) (Go t) (is_lost s) (Go t) (λ e. refl) refl
 
-  alike_op : (ecall ebreak : State → Turn) (i : Inst) (next : Option ℕ) (s : State) → Alike (op_step first ecall ebreak i next s) (op_step second ecall ebreak i next s)
+  alike_op : (ecall ebreak : State → Turn) (i : Inst) (next : Option ℕ) (s : State) →
+      Alike (op_step first ecall ebreak i next s) (op_step second ecall ebreak i next s)
   alike_op ecall ebreak i (Some next) s = alike_by s (act_with ecall ebreak i (record s { pc = subtract next 4 }))
   alike_op ecall ebreak i None s = alike_last i s (act_with ecall ebreak i s)
 
@@ -39,34 +43,40 @@ module _ {V W : Type 0} (first : Halt → Ending V) (second : Halt → Ending W)
   alike_to None s = λ e. refl
   alike_to (Some at) s = refl
 
-  alike_jump : (rd : ℕ) (target next : Option ℕ) (s : State) → Alike (jump_step rd target next s) (jump_step rd target next s)
+  alike_jump : (rd : ℕ) (target next : Option ℕ) (s : State) →
+      Alike (jump_step rd target next s) (jump_step rd target next s)
   alike_jump rd None next s = λ e. refl
   alike_jump rd (Some target) (Some next) s = refl
   alike_jump rd (Some target) None s =
-      alike_if (rd == 0) (Go (record s { pc = target })) (is_lost s) (Go (record s { pc = target })) (is_lost s) refl (λ e. refl)
+      let there : State = record s { pc = target } in
+      alike_if (rd == 0) (Go there) (is_lost s) (Go there) (is_lost s) refl (λ e. refl)
 
-  alike_address : (rd : ℕ) (target next : Option ℕ) (s : State) → Alike (address_step rd target next s) (address_step rd target next s)
+  alike_address : (rd : ℕ) (target next : Option ℕ) (s : State) →
+      Alike (address_step rd target next s) (address_step rd target next s)
   alike_address rd (Some target) (Some next) s = refl
   alike_address rd None next s = λ e. refl
   alike_address rd (Some target) None s = λ e. refl
 
-  module _ (code : List RealItem) (told : Told) where
-    alike_item : (place : ℕ) (next : Option ℕ) (item : RealItem) (s : State) → Alike (item_step first code told place next item s) (item_step second code told place next item s)
-    alike_item place next (Op i) s = alike_op (told.ecall place) (told.ebreak place) i next s
+  module _ (code : List RealItem) (setting : Setting) where
+    alike_item : (place : ℕ) (next : Option ℕ) (item : RealItem) (s : State) →
+        Alike (item_step first code setting place next item s) (item_step second code setting place next item s)
+    alike_item place next (Op i) s = alike_op (setting.ecall place) (setting.ebreak place) i next s
     alike_item place next (Mark mark) s = λ e. refl
-    alike_item place next (Jump rd mark) s = alike_jump rd (mark_address told.address code mark) next s
-    alike_item place next (Branch cond a b mark) s = alike_to (if holds cond (reg s a) (reg s b) then mark_address told.address code mark else next) s
-    alike_item place next (Address rd mark) s = alike_address rd (mark_address told.address code mark) next s
+    alike_item place next (Jump rd mark) s = alike_jump rd (mark_address setting.address code mark) next s
+    alike_item place next (Branch cond a b mark) s =
+        alike_to (if holds cond (reg s a) (reg s b) then mark_address setting.address code mark else next) s
+    alike_item place next (Address rd mark) s = alike_address rd (mark_address setting.address code mark) next s
 
-    alike_here : (here : Option Here) (s : State) → Alike (step_here first code told here s) (step_here second code told here s)
+    alike_here : (here : Option Here) (s : State) →
+        Alike (step_here first code setting here s) (step_here second code setting here s)
     alike_here None s = λ e. refl
     alike_here (Some here) s = alike_item here.place here.next here.item s
 
     abbrev X : Machine State State V
-    X = real_machine first code told
+    X = real_machine first code setting
 
     abbrev Y : Machine State State W
-    Y = real_machine second code told
+    Y = real_machine second code setting
 
     -- where the first run is wrong, the second is
     abbrev WrongBoth : Step State V → Step State W → Type 0
@@ -78,7 +88,9 @@ module _ {V W : Type 0} (first : Halt → Ending V) (second : Halt → Ending W)
     none_ended : (o : Option (Ending V)) → o ≡ None → o ≡ Some Wrong → ⊥
     none_ended o e h = cc
 
-    onward : (n : ℕ) (x : Step State V) (y : Step State W) → Alike x y → ((s : State) → WrongBoth (steps X s n) (steps Y s n)) → WrongBoth (and_then x (λ s. steps X s n)) (and_then y (λ s. steps Y s n))
+    onward : (n : ℕ) (x : Step State V) (y : Step State W) → Alike x y →
+        ((s : State) → WrongBoth (steps X s n) (steps Y s n)) →
+        WrongBoth (and_then x (λ s. steps X s n)) (and_then y (λ s. steps Y s n))
     onward n (Go s) (Go t) h ih w = subst (λ u. (seen Y (steps Y u n)).ending ≡ Some Wrong) h (ih s w)
     onward n (Stop e s) (Stop f t) h ih w = ap Some (h (inner e w))
     onward n (Go s) (Stop f t) h ih w = absurd h
@@ -86,33 +98,37 @@ module _ {V W : Type 0} (first : Halt → Ending V) (second : Halt → Ending W)
 
     wrong_both : (n : ℕ) (s : State) → WrongBoth (steps X s n) (steps Y s n)
     wrong_both zero s w = absurd (none_ended None refl w)
-    wrong_both (suc n) s w = onward n (X.step s) (Y.step s) (alike_here (item_at told.address code s.pc) s) (λ t. wrong_both n t) w
+    wrong_both (suc n) s w =
+        onward n (X.step s) (Y.step s) (alike_here (item_at setting.address code s.pc) s) (λ t. wrong_both n t) w
 
     pub never_wrong_by : (s : State) → NeverWrong (run Y s) → NeverWrong (run X s)
     never_wrong_by s nw n w = nw n (wrong_both n s w)
 
-told_as_wrong : (halt : Halt) → ending_of halt ≡ Wrong → stop_of halt ≡ Wrong
-told_as_wrong (Ended answer) e = absurd (let f : ⊥ = cc in f)
-told_as_wrong (Blamed label) e = absurd (let f : ⊥ = cc in f)
-told_as_wrong (Trapped trap) e = absurd (let f : ⊥ = cc in f)
-told_as_wrong RegionOut e = absurd (let f : ⊥ = cc in f)
-told_as_wrong StackOut e = absurd (let f : ⊥ = cc in f)
-told_as_wrong (Undefined pc) e = refl
-told_as_wrong (BadAddress pc) e = refl
-told_as_wrong (Misaligned pc) e = refl
+-- the readings that the project uses
+pub the_readings_take_faults_as_wrong-endings : IsReading ending_of
+the_readings_take_faults_as_wrong-endings = record {
+  wrong = λ fault. refl;
+  ended = λ verdict e. let f : ⊥ = cc in f;
+  lacking = λ room e. let f : ⊥ = cc in f;
+}
 
-stopped_as_wrong : (halt : Halt) → stop_of halt ≡ Wrong → ending_of halt ≡ Wrong
-stopped_as_wrong (Ended answer) e = absurd (let f : ⊥ = cc in f)
-stopped_as_wrong (Blamed label) e = absurd (let f : ⊥ = cc in f)
-stopped_as_wrong (Trapped trap) e = absurd (let f : ⊥ = cc in f)
-stopped_as_wrong RegionOut e = absurd (let f : ⊥ = cc in f)
-stopped_as_wrong StackOut e = absurd (let f : ⊥ = cc in f)
-stopped_as_wrong (Undefined pc) e = refl
-stopped_as_wrong (BadAddress pc) e = refl
-stopped_as_wrong (Misaligned pc) e = refl
+lack_is_verdict : (room : Room) → stop_of (Lacks room) ≡ Wrong → ⊥
+lack_is_verdict Region e = cc
+lack_is_verdict Stack e = cc
 
-pub wrong_as_told : (code : List RealItem) (told : Told) (s : State) → NeverWrong (run (real_machine stop_of code told) s) → NeverWrong (run (real_machine ending_of code told) s)
-wrong_as_told code told s nw = never_wrong_by ending_of stop_of told_as_wrong code told s nw
+pub the_readings_take_faults_as_wrong-stops : IsReading stop_of
+the_readings_take_faults_as_wrong-stops =
+    record { wrong = λ fault. refl; ended = λ verdict e. let f : ⊥ = cc in f; lacking = lack_is_verdict }
 
-pub wrong_as_stopped : (code : List RealItem) (told : Told) (s : State) → NeverWrong (run (real_machine ending_of code told) s) → NeverWrong (run (real_machine stop_of code told) s)
-wrong_as_stopped code told s nw = never_wrong_by stop_of ending_of stopped_as_wrong code told s nw
+module _ {V W : Type 0} (first : Halt → Ending V) (second : Halt → Ending W)
+    (f : IsReading first) (g : IsReading second) where
+  same_wrong : (halt : Halt) → second halt ≡ Wrong → first halt ≡ Wrong
+  same_wrong (Ended verdict) e = absurd (g.ended verdict e)
+  same_wrong (Lacks room) e = absurd (g.lacking room e)
+  same_wrong (GoesWrong fault) e = f.wrong fault
+
+  -- a run that never goes wrong under one reading never does under another
+  pub a_run_goes_wrong_under_every_reading :
+      (code : List RealItem) (setting : Setting) (s : State) → NeverWrong (run (real_machine first code setting) s) →
+      NeverWrong (run (real_machine second code setting) s)
+  a_run_goes_wrong_under_every_reading code setting s nw = never_wrong_by second first same_wrong code setting s nw

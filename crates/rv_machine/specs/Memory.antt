@@ -1,5 +1,6 @@
 -- A memory, as the byte that stands at each address.
-use Rattle.std.specs.Prelude.{ℕ, zero, suc, ◌+◌, ◌-◌, ◌*◌, ◌/◌, ◌%◌, ◌^◌, ◌&&◌, nat_le, nat_lt, if◌then◌else◌, List, slice_index}
+use Rattle.std.specs.Prelude.{ℕ, zero, suc, ◌+◌, ◌-◌, ◌*◌, ◌/◌, ◌%◌, ◌^◌, ◌&&◌, nat_le, nat_lt, if◌then◌else◌, List}
+use Rattle.std.specs.Prelude.{slice_index}
 
 abbrev pub Memory : Type 0
 Memory = ℕ → ℕ
@@ -22,9 +23,9 @@ abbrev pub memory_of : List ℕ → Memory
 memory_of bytes i = slice_index bytes i
 
 -- the first address of the machine's memory
-abbrev pub base : ℕ
-base = 65536
+abbrev pub first_address : ℕ
+first_address = 65536
 
 -- the same bytes from the machine's first address on
 abbrev pub from_base : Memory → Memory
-from_base m at = if nat_lt at 65536 then 0 else m (at - 65536)
+from_base m at = if nat_lt at first_address then 0 else m (at - first_address)

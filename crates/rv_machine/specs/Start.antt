@@ -1,7 +1,7 @@
 -- The state in which an image starts.
 use Rattle.std.specs.Prelude.{ℕ, ◌+◌, ◌%◌, ◌≤◌, ◌≡◌, List, []}
 use Rattle.grift_base.specs.World.{WorldState}
-use Rattle.rv_machine.specs.Memory.{memory_of, from_base}
+use Rattle.rv_machine.specs.Memory.{memory_of, first_address, from_base}
 use Rattle.rv_machine.specs.Registers.{Registers, set_reg, zero_regs}
 use Rattle.rv_machine.specs.Image.{statics_len, code_len, entry, loaded_part, labels_of}
 use Rattle.rv_machine.specs.State.{Layout, State}
@@ -16,7 +16,7 @@ IsStackSize stack = (stack % 8 ≡ 0) × (stack ≤ 268435456)
 -- statics, code, region and stack lie in this order from the first address on, without gaps
 abbrev pub layout_of : List ℕ → ℕ → ℕ → Layout
 layout_of bytes region stack =
-    let code = 65536 + statics_len bytes in
+    let code = first_address + statics_len bytes in
     let code_end = code + code_len bytes in
     record { code = code; region = code_end; end = code_end + region + stack; labels = labels_of bytes }
 

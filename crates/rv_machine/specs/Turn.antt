@@ -1,17 +1,28 @@
 -- One turn of the machine.
-use Rattle.std.specs.Prelude.{ℕ, ◌+◌, ◌-◌, ◌*◌, ◌/◌, ◌%◌, ◌^◌, ◌<◌, ◌≤◌, Bool, true, false, not, ◌&&◌, ◌==◌, nat_lt, nat_le, if◌then◌else◌, ℤ, int_lt, bit_and, bit_or, bit_xor, Option, Some, None, slice_get, length}
+use Rattle.std.specs.Prelude.{ℕ, ◌+◌, ◌-◌, ◌*◌, ◌/◌, ◌%◌, ◌^◌, ◌<◌, ◌≤◌, Bool, true, false, not, ◌&&◌, ◌==◌, nat_lt}
+use Rattle.std.specs.Prelude.{nat_le, if◌then◌else◌, ℤ, int_lt, bit_and, bit_or, bit_xor, Option, Some, None, slice_get}
+use Rattle.std.specs.Prelude.{length}
 use Rattle.std.specs.Int.{Width, w8, w16, w32, w64, byte_len, cast_unsigned, cast_signed, int_shr}
 use Rattle.grift_base.specs.World.{WorldState}
 use Rattle.grift_base.specs.EnvironmentCall.{Called, environment_call}
 use Rattle.grift_base.specs.declared.places.Pos.{Pos}
 use Rattle.grift_base.specs.declared.worlds.EnvEffect.{EnvEffect}
-use Rattle.grift_base.specs.declared.worlds.EnvEffect.TheVariants.{Next as GoesOn, Ended as Answers, Blamed as Blames, Trapped as Traps, RegionOut as RegionEnds, StackOut as StackEnds, Refused, OutOfMemory}
+use Rattle.grift_base.specs.declared.worlds.EnvEffect.TheVariants.{Next as GoesOn, Ended as Answers, Blamed as Blames}
+use Rattle.grift_base.specs.declared.worlds.EnvEffect.TheVariants.{Trapped as Traps, RegionOut as RegionEnds}
+use Rattle.grift_base.specs.declared.worlds.EnvEffect.TheVariants.{StackOut as StackEnds, Refused, OutOfMemory}
 use Rattle.rv_isa.specs.declared.inst.Inst.{Inst}
-use Rattle.rv_isa.specs.declared.inst.Inst.TheVariants.{Lui, Auipc, Jal, Jalr, Beq, Bne, Blt, Bge, Bltu, Bgeu, Lb, Lh, Lw, Ld, Lbu, Lhu, Lwu, Sb, Sh, Sw, Sd, Addi, Slti, Sltiu, Xori, Ori, Andi, Slli, Srli, Srai, Add, Sub, Sll, Slt, Sltu, Xor, Srl, Sra, Or, And, Addiw, Slliw, Srliw, Sraiw, Addw, Subw, Sllw, Srlw, Sraw, Fence, Ecall, Ebreak}
+use Rattle.rv_isa.specs.declared.inst.Inst.TheVariants.{Lui, Auipc, Jal, Jalr, Beq, Bne, Blt, Bge, Bltu, Bgeu, Lb, Lh}
+use Rattle.rv_isa.specs.declared.inst.Inst.TheVariants.{Lw, Ld, Lbu, Lhu, Lwu, Sb, Sh, Sw, Sd, Addi, Slti, Sltiu, Xori}
+use Rattle.rv_isa.specs.declared.inst.Inst.TheVariants.{Ori, Andi, Slli, Srli, Srai, Add, Sub, Sll, Slt, Sltu, Xor, Srl}
+use Rattle.rv_isa.specs.declared.inst.Inst.TheVariants.{Sra, Or, And, Addiw, Slliw, Srliw, Sraiw, Addw, Subw, Sllw}
+use Rattle.rv_isa.specs.declared.inst.Inst.TheVariants.{Srlw, Sraw, Fence, Ecall, Ebreak}
 use Rattle.rv_isa.specs.Decoding.{decode_of}
-use Rattle.rv_machine.specs.Memory.{load_bytes, store_bytes}
+use Rattle.rv_machine.specs.Memory.{load_bytes, store_bytes, first_address}
 use Rattle.rv_machine.specs.Registers.{set_reg}
-use Rattle.rv_machine.specs.State.{State, Ended, Blamed, Trapped, RegionOut, StackOut, Undefined, BadAddress, Misaligned, Turn, Next, Stops, reg}
+use Rattle.grift_base.specs.declared.verdicts.Verdict.TheVariants.{Answer, Blame, Trap}
+use Rattle.rv_machine.specs.declared.faults.MachineFault.{MachineFault}
+use Rattle.rv_machine.specs.declared.faults.MachineFault.TheVariants.{Undefined, BadAddress, Misaligned}
+use Rattle.rv_machine.specs.State.{State, Region, Stack, Ended, Lacks, GoesWrong, Turn, Next, Stops, reg}
 
 -- ---- words of 64 bits
 
@@ -67,6 +78,10 @@ half_right_signed a n = word_of (int_shr (cast_signed w32 (low_half a)) n)
 
 -- ---- what a turn may do
 
+-- goes wrong at this pc
+abbrev pub goes_wrong : (ℕ → MachineFault) → State → Turn
+goes_wrong fault s = Stops (GoesWrong (fault s.pc))
+
 -- goes on at the next instruction
 abbrev pub next_pc : State → ℕ
 next_pc s = add s.pc 4
@@ -79,10 +94,10 @@ put rd word s = Next (record s { regs = set_reg rd word s.regs; pc = next_pc s }
 abbrev pub load_into : Bool → Width → ℕ → ℕ → State → Turn
 load_into signed w rd at s =
     if at % byte_len w == 0 then
-    (if nat_le 65536 at && nat_le (at + byte_len w) s.layout.end then
+    (if nat_le first_address at && nat_le (at + byte_len w) s.layout.end then
     (let n = load_bytes (byte_len w) s.memory at in put rd (if signed then sign_extend w n else n) s)
-    else Stops (BadAddress s.pc))
-    else Stops (Misaligned s.pc)
+    else goes_wrong BadAddress s)
+    else goes_wrong Misaligned s
 
 abbrev pub load_signed : Width → ℕ → ℕ → State → Turn
 load_signed w rd at s = load_into true w rd at s
@@ -96,36 +111,37 @@ store_from w word at s =
     if at % byte_len w == 0 then
     (if nat_le s.layout.region at && nat_le (at + byte_len w) s.layout.end then
     Next (record s { memory = store_bytes (byte_len w) s.memory at word; pc = next_pc s })
-    else Stops (BadAddress s.pc))
-    else Stops (Misaligned s.pc)
+    else goes_wrong BadAddress s)
+    else goes_wrong Misaligned s
 
 abbrev pub branch_if : Bool → ℤ → State → Turn
 branch_if taken imm s =
-    if taken then (if plus s.pc imm % 4 == 0 then Next (record s { pc = plus s.pc imm }) else Stops (Misaligned s.pc))
+    if taken then (if plus s.pc imm % 4 == 0 then Next (record s { pc = plus s.pc imm }) else goes_wrong Misaligned s)
     else Next (record s { pc = next_pc s })
 
 -- jumps, and keeps the address of the next instruction in a register
 abbrev pub jump_and_link : ℕ → ℕ → State → Turn
 jump_and_link rd target s =
-    if target % 4 == 0 then Next (record s { regs = set_reg rd (next_pc s) s.regs; pc = target }) else Stops (Misaligned s.pc)
+    if target % 4 == 0 then Next (record s { regs = set_reg rd (next_pc s) s.regs; pc = target })
+    else goes_wrong Misaligned s
 
 abbrev pub is_undefined : State → Turn
-is_undefined s = Stops (Undefined s.pc)
+is_undefined s = goes_wrong Undefined s
 
 -- ---- environment calls
 
 abbrev pub blames : Option Pos → State → Turn
 blames None s = is_undefined s
-blames (Some label) s = Stops (Blamed label)
+blames (Some label) s = Stops (Ended (Blame label))
 
 -- what a call comes to; the definition of the calls never gives want of memory
 abbrev pub comes_to : EnvEffect → WorldState → State → Turn
 comes_to (GoesOn a0 a1) w s = Next (record s { regs = set_reg 11 a1 (set_reg 10 a0 s.regs); world = w; pc = next_pc s })
-comes_to (Answers answer) w s = Stops (Ended answer)
+comes_to (Answers answer) w s = Stops (Ended (Answer answer))
 comes_to (Blames label) w s = blames (slice_get s.layout.labels label) s
-comes_to (Traps trap) w s = Stops (Trapped trap)
-comes_to RegionEnds w s = Stops RegionOut
-comes_to StackEnds w s = Stops StackOut
+comes_to (Traps trap) w s = Stops (Ended (Trap trap))
+comes_to RegionEnds w s = Stops (Lacks Region)
+comes_to StackEnds w s = Stops (Lacks Stack)
 comes_to Refused w s = is_undefined s
 comes_to OutOfMemory w s = is_undefined s
 
@@ -203,7 +219,7 @@ act_if (Some i) s = act i s
 unfoldable pub turn_of : State → Turn
 turn_of s =
     if nat_le s.layout.code s.pc && nat_lt s.pc s.layout.region then act_if (decode_of (load_bytes 4 s.memory s.pc)) s
-    else Stops (BadAddress s.pc)
+    else goes_wrong BadAddress s
 
 -- the word is fetched: the pc is in code, and the word has 32 bits, as four bytes have
 pub record IsFetched (s : State) (word : ℕ) : Type 0 where

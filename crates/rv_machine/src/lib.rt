@@ -5,28 +5,33 @@
 //! definitions, proved for all states.
 #![tactic(auto)]
 
+pub mod faults;
+
 ghost use Rattle.std.specs.Prelude.{◌≡◌, ℕ, ℤ, ◌+◌, ◌≤◌, List, Some, None};
 ghost use Rattle.run_laws.specs.Machines.{run};
-ghost use Rattle.rv_machine.specs.State.{State, Halt, Stops, Undefined, reg};
-ghost use Rattle.rv_machine.specs.Turn.{turn_of, act, branch_if, IsFetched};
+ghost use Rattle.rv_machine.specs.State.{State, Halt, Stops, reg};
+ghost use Rattle.rv_machine.specs.Turn.{turn_of, act, branch_if, is_undefined, IsFetched};
 ghost use Rattle.rv_machine.specs.Start.{start_of, fresh_world};
-ghost use Rattle.rv_machine.specs.Mach.{run_of, machine, mach, come_to, ending_of, stop_of};
+ghost use Rattle.rv_machine.specs.Mach.{run_of, machine, mach, moment_of, ending_of, stop_of, IsReading};
 ghost use Rattle.rv_machine.specs.Memory.{load_bytes};
-ghost use Rattle.rv_machine.specs.Real.{Told, holds, real_machine};
-ghost use Rattle.run_laws.specs.Runs.{NeverWrong};
+ghost use Rattle.rv_machine.specs.Real.{Setting, holds, real_machine};
+ghost use Rattle.run_laws.specs.Runs.{Ending, NeverWrong};
 ghost use Rattle.rv_isa.specs.declared.real.RealItem.{RealItem};
 ghost use Rattle.rv_isa.specs.declared.inst.Cond.{Cond};
 ghost use Rattle.rv_isa.specs.Conditions.{branch_when};
 ghost use Rattle.rv_isa.specs.declared.inst.Inst.{Inst};
 ghost use Rattle.rv_isa.specs.Table.{IsWordOf};
 
+/// The first address of memory.
+pub const FIRST_ADDRESS: u64 = 65_536;
+
 /// The run of a state is what its turns come to, one after another: it shows the state after them and
 /// what was printed, and where a turn has stopped, it has that stop's ending.
 pub fn run_is_its_turns()
-    ensures states { (s : State) (n : ℕ) → run machine s n ≡ come_to (run_of n s) }
+    ensures states { (s : State) (n : ℕ) → run machine s n ≡ moment_of (run_of n s) }
     ensures images { (bytes : List ℕ) (region stack : ℕ) (input : List ℕ) (n : ℕ)
         → mach bytes region stack input n
-        ≡ come_to (run_of n (start_of bytes region stack (fresh_world input))) }
+        ≡ moment_of (run_of n (start_of bytes region stack (fresh_world input))) }
 {}
 
 /// Turns add up: where some turns have all gone on, more turns go on from there.
@@ -48,7 +53,7 @@ pub fn turn_goes_by_the_table()
     ensures instruction { (s : State) (i : Inst) → IsFetched s (load_bytes 4 s.memory s.pc)
         → IsWordOf i (load_bytes 4 s.memory s.pc) → turn_of s ≡ act i s }
     ensures undefined { (s : State) → IsFetched s (load_bytes 4 s.memory s.pc)
-        → ((i : Inst) → ¬ IsWordOf i (load_bytes 4 s.memory s.pc)) → turn_of s ≡ Stops (Undefined s.pc) }
+        → ((i : Inst) → ¬ IsWordOf i (load_bytes 4 s.memory s.pc)) → turn_of s ≡ is_undefined s }
 {}
 
 /// A condition holds of the words of two registers exactly where the branch that tests it is taken.
@@ -57,11 +62,15 @@ pub fn a_condition_is_that_of_its_branch()
         → act (branch_when cond a b offset) s ≡ branch_if (holds cond (reg s a) (reg s b)) offset s }
 {}
 
-/// A code's run never goes wrong where its stops are told as the endings of a program exactly where it never does where
-/// each stop is told as it is.
-pub fn a_run_goes_wrong_however_its_stops_are_told()
-    ensures stops { (code : List RealItem) (told : Told) (s : State)
-        → NeverWrong (run (real_machine ending_of code told) s) → NeverWrong (run (real_machine stop_of code told) s) }
-    ensures endings { (code : List RealItem) (told : Told) (s : State)
-        → NeverWrong (run (real_machine stop_of code told) s) → NeverWrong (run (real_machine ending_of code told) s) }
+/// Whether a code's run goes wrong doesn't depend on the reading of stops as endings.
+pub fn a_run_goes_wrong_under_every_reading<V, W>()
+    ensures { (first : Halt → Ending V) (second : Halt → Ending W) (code : List RealItem)
+        (setting : Setting) (s : State) → IsReading first → IsReading second
+        → NeverWrong (run (real_machine first code setting) s) → NeverWrong (run (real_machine second code setting) s) }
+{}
+
+/// Both readings are such: that by which want of room is no verdict, and that by which it is one.
+pub fn the_readings_take_faults_as_wrong()
+    ensures endings { IsReading ending_of }
+    ensures stops { IsReading stop_of }
 {}

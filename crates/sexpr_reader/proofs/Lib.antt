@@ -1,8 +1,11 @@
 pub mod Rows
+pub mod Walk
 pub mod Running
 pub mod Readings
-pub mod Numbers
 pub mod Words
 pub mod Lists
 pub mod Taking
+pub mod Opened
+pub mod FirstRefusals
 pub mod Outcomes
+pub mod Public

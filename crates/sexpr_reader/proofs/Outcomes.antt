@@ -5,15 +5,16 @@ use Rattle.grift_base.specs.declared.refusals.FrontFault.{FrontFault}
 use Rattle.grift_base.specs.declared.refusals.FrontFault.TheVariants.{Refused as RefusedFault, OutOfMemory}
 use Rattle.sexpr_reader.specs.Datum.{Datums}
 use Rattle.sexpr_reader.specs.Token.{Token, tokens}
-use Rattle.sexpr_reader.specs.Meaning.{Meaning, meaning}
-use Rattle.sexpr_reader.specs.Refused.{depth_limit, refusal_of}
-use Rattle.sexpr_reader.specs.Grammar.{Reads}
+use Rattle.sexpr_reader.specs.Meaning.{meaning}
+use Rattle.sexpr_reader.specs.Grammar.{depth_limit, Reads}
 use Rattle.sexpr_reader.specs.Reader.{ReaderState, start, step, go_on, run, ended, not_empty}
 use Rattle.sexpr_reader.specs.View.{datums_of}
-use Rattle.sexpr_reader.specs.Answers.{IsFirstRefusal}
+use Rattle.sexpr_reader.specs.Answers.{IsFault}
 use Rattle.sexpr_reader.specs.Parts.{Goes, Gives}
 use Rattle.sexpr_reader.specs.declared.sexps.SexpList.{SexpList}
-use Rattle.sexpr_reader.proofs.Readings.{IsRead, IsRead-run, not_refused, refusal_of_tokens-run}
+use Rattle.sexpr_reader.specs.declared.atoms.Meaning.{Meaning}
+use Rattle.sexpr_reader.proofs.Readings.{IsRead, IsRead-run, refusal_of_tokens-run}
+use Rattle.sexpr_reader.proofs.FirstRefusals.{AreRefused-walk}
 
 Reads-run : (text : List ℕ) (ds : Datums) → not_empty (run depth_limit (tokens text) start) ≡ Ok ds → Reads text ds
 Reads-run text ds e =
@@ -28,22 +29,24 @@ module _ (text : List ℕ) (s : ReaderState) (ts : List Token) (all : Ends text 
   answer : not_empty (run depth_limit (tokens text) start) ≡ not_empty (ended s.around s.items)
   answer = ap not_empty (sym all ∙ ap (λ l. run depth_limit l s) none)
 
-  pub reads_rightly : (r : Result SexpList FrontFault) → Gives r (not_empty (ended s.around s.items)) → IfOk r (λ list. Reads text (datums_of list))
+  pub reads_rightly : (r : Result SexpList FrontFault) → Gives r (not_empty (ended s.around s.items))
+      → IfOk r (λ list. Reads text (datums_of list))
   reads_rightly (Ok list) g = Reads-run text (datums_of list) (answer ∙ g)
   reads_rightly (Err fault) g = tt
 
-  pub accepts_rightly : (r : Result SexpList FrontFault) → Gives r (not_empty (ended s.around s.items)) → IfOk r (λ list. refusal_of text ≡ None)
-  accepts_rightly (Ok list) g = not_refused (tokens text) (datums_of list) (IsRead-run (tokens text) (datums_of list) (answer ∙ g))
-  accepts_rightly (Err fault) g = tt
-
-  pub refuses_rightly : (r : Result SexpList FrontFault) → Gives r (not_empty (ended s.around s.items)) → IfErr r (IsFirstRefusal text)
+  pub refuses_rightly : (r : Result SexpList FrontFault) → Gives r (not_empty (ended s.around s.items))
+      → IfErr r (IsFault text)
   refuses_rightly (Ok list) g = tt
-  refuses_rightly (Err (RefusedFault x)) g = refusal_of_tokens-run (tokens text) x (answer ∙ g)
+  refuses_rightly (Err (RefusedFault x)) g =
+      AreRefused-walk (tokens text) x (refusal_of_tokens-run (tokens text) x (answer ∙ g))
   refuses_rightly (Err OutOfMemory) g = tt
 
 -- a step that refuses ends the run
-pub refuses_step : (text : List ℕ) (s new : ReaderState) (t : Token) (ts : List Token) (m : Meaning) (fault : FrontFault) →
-    Ends text s (t ∷ ts) → m ≡ meaning t.lexeme → Goes (Err fault) new (step depth_limit t.pos m s) → IsFirstRefusal text fault
+pub refuses_step : (text : List ℕ) (s new : ReaderState) (t : Token) (ts : List Token) (m : Meaning)
+    (fault : FrontFault) →
+    Ends text s (t ∷ ts) → m ≡ meaning t.lexeme → Goes (Err fault) new (step depth_limit t.pos m s) → IsFault text fault
 refuses_step text s new t ts m (RefusedFault x) all e g =
-    refusal_of_tokens-run (tokens text) x (ap not_empty (sym all ∙ ap (λ k. go_on (run depth_limit ts) (step depth_limit t.pos k s)) (sym e) ∙ ap (go_on (run depth_limit ts)) g))
+    AreRefused-walk (tokens text) x (refusal_of_tokens-run (tokens text) x (ap not_empty
+    (sym all ∙ ap (λ k. go_on (run depth_limit ts) (step depth_limit t.pos k s)) (sym e)
+    ∙ ap (go_on (run depth_limit ts)) g)))
 refuses_step text s new t ts m OutOfMemory all e g = tt

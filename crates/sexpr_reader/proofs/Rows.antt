@@ -15,13 +15,20 @@ in_row-elements no_datums = refl
 in_row-elements (datum_then d ds) = ap (datum_then d) (in_row-elements ds)
 
 -- one more at the end
-pub FormsAll-push : (before : List Datum) (d : Datum) (outer front : List Token) → FormsAll outer (in_row before) → Forms front d → FormsAll (outer ++ front) (in_row (before ++ d ∷ []))
+pub FormsAll-push : (before : List Datum) (d : Datum) (outer front : List Token) → FormsAll outer (in_row before)
+    → Forms front d → FormsAll (outer ++ front) (in_row (before ++ d ∷ []))
 FormsAll-push [] d outer front none one =
     (front, [], ap (λ ts. ts ++ front) none ∙ sym (append-nil front), one, refl)
-FormsAll-push (x ∷ before) d outer front some one =
-    (some.0, some.1 ++ front, ap (λ ts. ts ++ front) some.2 ∙ append_assoc some.0 some.1 front, some.3, FormsAll-push before d some.1 front some.4 one)
+FormsAll-push (x ∷ before) d outer front some one = (
+  some.0,
+  some.1 ++ front,
+  ap (λ ts. ts ++ front) some.2 ∙ append_assoc some.0 some.1 front,
+  some.3,
+  FormsAll-push before d some.1 front some.4 one,
+)
 
-pub depth_of-push : (before : List Datum) (d : Datum) (n : ℕ) → depth_of (in_row before) ≤ n → depth d ≤ n → depth_of (in_row (before ++ d ∷ [])) ≤ n
+pub depth_of-push : (before : List Datum) (d : Datum) (n : ℕ) → depth_of (in_row before) ≤ n → depth d ≤ n
+    → depth_of (in_row (before ++ d ∷ [])) ≤ n
 depth_of-push [] d n h k = omega arith
 depth_of-push (x ∷ before) d n h k =
     let rest : depth_of (in_row (before ++ d ∷ [])) ≤ n = depth_of-push before d n (omega arith) k in

@@ -1,5 +1,6 @@
 -- What the next token leaves.
-use Rattle.std.proofs.Common.{◌≡◌, ℕ, ◌+◌, ◌-◌, ◌<◌, ◌≤◌, Bool, true, false, cond, ◌||◌, List, ◌∷◌, ◌++◌, length, take, drop, get_or, ap, ◌∙◌, sym, arith, length-drop}
+use Rattle.std.proofs.Common.{◌≡◌, ℕ, ◌+◌, ◌-◌, ◌<◌, ◌≤◌, Bool, true, false, cond, ◌||◌, List, ◌∷◌, ◌++◌, length, take}
+use Rattle.std.proofs.Common.{drop, get_or, ap, ◌∙◌, sym, arith, length-drop}
 use lib.Seq.{take-add}
 use Rattle.std.specs.List.{prefix_len}
 use Rattle.std.proofs.lemmas.List.{take_all, drop_more, drop-drop}
@@ -21,7 +22,8 @@ lexeme_len-le b rest = by_test (is_symbol_byte b || is_hash b)
     by_test false = omega arith
 
 -- the place behind a token whose first byte is at `here`
-module _ (text : List ℕ) (here next : Cursor) (t : ScanToken) (inside : here.at < length text) (stands : Stands text here)
+module _ (text : List ℕ) (here next : Cursor) (t : ScanToken) (inside : here.at < length text)
+    (stands : Stands text here)
     (begins : no_token_begins (take here.at text) (get_or text here.at 0) ≡ false) where
   abbrev b : ℕ
   b = get_or text here.at 0
@@ -35,7 +37,8 @@ module _ (text : List ℕ) (here next : Cursor) (t : ScanToken) (inside : here.a
   whole : drop here.at text ≡ b ∷ rest
   whole = drop_more text here.at 0 inside
 
-  after : AfterToken (take here.at text) (b ∷ rest) n (record { pos = place_after (take here.at text); lexeme = lexeme_at b rest })
+  after : AfterToken (take here.at text) (b ∷ rest) n
+      (record { pos = place_after (take here.at text); lexeme = lexeme_at b rest })
   after = after_token (take here.at text) b rest begins
 
   -- the text up to the place behind the token, and from there on
@@ -49,7 +52,8 @@ module _ (text : List ℕ) (here next : Cursor) (t : ScanToken) (inside : here.a
     in_text : next.at ≤ length text
     in_text = omega (arith, lexeme_len-le b rest, length-drop (here.at + 1) text)
 
-    takes : next.pos.line ≡ here.pos.line → next.pos.col ≡ here.pos.col + n → t.pos ≡ here.pos → lexeme_of t.lexeme ≡ lexeme_at b rest → TakesToken text here.at t next
+    takes : next.pos.line ≡ here.pos.line → next.pos.col ≡ here.pos.col + n → t.pos ≡ here.pos
+        → lexeme_of t.lexeme ≡ lexeme_at b rest → TakesToken text here.at t next
     takes line col pos lexeme =
         let same : record { pos = place_after (take here.at text); lexeme = lexeme_at b rest } ≡ token_of t =
         λ i. record { pos = (sym stands.place ∙ sym pos) i; lexeme = sym lexeme i } in
@@ -59,8 +63,10 @@ module _ (text : List ℕ) (here next : Cursor) (t : ScanToken) (inside : here.a
           stands = record {
             in_text = in_text;
             place = λ i. record {
-              line = (line ∙ ap (λ (p : Pos). p.line) stands.place ∙ sym after.line ∙ ap (λ l. (place_after l).line) (sym front)) i;
-              col = (col ∙ ap (λ (p : Pos). p.col + n) stands.place ∙ sym after.col ∙ ap (λ l. (place_after l).col) (sym front)) i;
+              line = (line ∙ ap (λ (p : Pos). p.line) stands.place ∙ sym after.line
+                  ∙ ap (λ l. (place_after l).line) (sym front)) i;
+              col = (col ∙ ap (λ (p : Pos). p.col + n) stands.place ∙ sym after.col
+                  ∙ ap (λ l. (place_after l).col) (sym front)) i;
             };
             low_line = omega (arith, stands.low_line);
             low_col = omega (arith, stands.low_col);
@@ -72,16 +78,23 @@ module _ (text : List ℕ) (here next : Cursor) (t : ScanToken) (inside : here.a
         }
 
 -- the bytes from a place on
-pub bytes_from : (text : List ℕ) (at : ℕ) → at < length text → take (length text - at) (drop at text) ≡ get_or text at 0 ∷ drop (at + 1) text
-bytes_from text at inside = take_all (length text - at) (drop at text) (omega (arith, length-drop at text)) ∙ drop_more text at 0 inside
+pub bytes_from : (text : List ℕ) (at : ℕ) → at < length text
+    → take (length text - at) (drop at text) ≡ get_or text at 0 ∷ drop (at + 1) text
+bytes_from text at inside =
+    take_all (length text - at) (drop at text) (omega (arith, length-drop at text)) ∙ drop_more text at 0 inside
 
 -- the same, where the lexeme was read from the bytes from there on
-pub takes_token : (text bytes : List ℕ) (from : ℕ) (here next : Cursor) (t : ScanToken) (len : ℕ) → here.at < length text → Stands text here →
+pub takes_token : (text bytes : List ℕ) (from : ℕ) (here next : Cursor) (t : ScanToken) (len : ℕ)
+    → here.at < length text → Stands text here →
     no_token_begins (take here.at text) (get_or text here.at 0) ≡ false → tokens_at text from ≡ tokens_at text here.at →
-    bytes ≡ get_or text here.at 0 ∷ drop (here.at + 1) text → len ≡ lexeme_len (get_or bytes 0 0) (drop 1 bytes) → lexeme_of t.lexeme ≡ lexeme_at (get_or bytes 0 0) (drop 1 bytes) →
-    next.at ≡ here.at + len → next.pos.line ≡ here.pos.line → next.pos.col ≡ here.pos.col + len → t.pos ≡ here.pos → TakesToken text from t next
+    bytes ≡ get_or text here.at 0 ∷ drop (here.at + 1) text → len ≡ lexeme_len (get_or bytes 0 0) (drop 1 bytes)
+    → lexeme_of t.lexeme ≡ lexeme_at (get_or bytes 0 0) (drop 1 bytes) →
+    next.at ≡ here.at + len → next.pos.line ≡ here.pos.line → next.pos.col ≡ here.pos.col + len → t.pos ≡ here.pos
+    → TakesToken text from t next
 takes_token text bytes from here next t len inside stands begins same bytes_are len_is lexeme at line col pos =
-    let len_there : len ≡ lexeme_len (get_or text here.at 0) (drop (here.at + 1) text) = len_is ∙ ap (λ l. lexeme_len (get_or l 0 0) (drop 1 l)) bytes_are in
-    let taken = takes text here next t inside stands begins (at ∙ ap (λ k. here.at + k) len_there) line (col ∙ ap (λ k. here.pos.col + k) len_there) pos
+    let len_there : len ≡ lexeme_len (get_or text here.at 0) (drop (here.at + 1) text) = len_is
+    ∙ ap (λ l. lexeme_len (get_or l 0 0) (drop 1 l)) bytes_are in
+    let taken = takes text here next t inside stands begins (at ∙ ap (λ k. here.at + k) len_there) line
+    (col ∙ ap (λ k. here.pos.col + k) len_there) pos
     (lexeme ∙ ap (λ l. lexeme_at (get_or l 0 0) (drop 1 l)) bytes_are) in
     record { tokens = same ∙ taken.tokens; stands = taken.stands; between = taken.between }

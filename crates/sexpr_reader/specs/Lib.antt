@@ -3,8 +3,8 @@ pub mod Places
 pub mod Datum
 pub mod Token
 pub mod Meaning
-pub mod Refused
 pub mod Grammar
+pub mod Refused
 pub mod View
 pub mod Reader
 pub mod Scanning

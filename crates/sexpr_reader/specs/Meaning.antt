@@ -1,27 +1,21 @@
 -- What a token is by itself.
-use Rattle.std.specs.Prelude.{ℕ, ℤ, pos, negsuc, Bool, true, false, ◌==◌, ◌||◌, ◌^◌, ◌&&◌, not, nat_lt, List, length, slice_index, codes, bytes_eq, if◌then◌else◌}
+use Rattle.std.specs.Prelude.{ℕ, ℤ, Bool, true, false, ◌==◌, ◌||◌, ◌&&◌, List}
+use Rattle.std.specs.Prelude.{slice_index, codes, bytes_eq, if◌then◌else◌}
 use Rattle.std.specs.Char.{is_ascii_digit}
-use Rattle.std.specs.List.{list_all}
-use Rattle.std.specs.Str.Parse.{without_leading_sign, signed_digits_value}
+use Rattle.std.specs.Str.Parse.{signed_digits_value}
+use Rattle.grift_base.specs.Numbers.{is_integer, fits_in_64_bits}
 use Rattle.grift_base.specs.declared.refusals.RefusalKind.{RefusalKind}
 use Rattle.grift_base.specs.declared.refusals.RefusalKind.TheVariants.{BadByte, NumberRange, NotInProfile}
 use Rattle.sexpr_reader.specs.Datum.{Leaf, integer, truth, symbol}
-use Rattle.sexpr_reader.specs.Token.{Shape, Lexeme, open_bracket, close_bracket, atom, hash_atom, quote, other}
+use Rattle.sexpr_reader.specs.Token.{Lexeme, open_bracket, close_bracket, atom, hash_atom, quote, other}
+use Rattle.sexpr_reader.specs.declared.atoms.Meaning.{Meaning}
+use Rattle.sexpr_reader.specs.declared.atoms.Meaning.TheVariants.{Opening, Closing, Int, Bool as Truth, Symbol, Refused}
 
-pub data Meaning : Type 0 where
-  opening : Shape → Meaning
-  closing : Shape → Meaning
-  alone : Leaf → Meaning
-  refused : RefusalKind → Meaning
-
--- an optional sign and one or more digits
-abbrev pub is_integer : List ℕ → Bool
-is_integer text = not (length (without_leading_sign text) == 0) && list_all is_ascii_digit (without_leading_sign text)
-
--- from -9223372036854775808 to 9223372036854775807
-abbrev pub fits_in_64_bits : ℤ → Bool
-fits_in_64_bits (pos n) = nat_lt n (2 ^ 63)
-fits_in_64_bits (negsuc n) = nat_lt n (2 ^ 63)
+-- what a token means that is this s-expression
+abbrev pub alone : Leaf → Meaning
+alone (integer n) = Int n
+alone (truth b) = Truth b
+alone (symbol name) = Symbol name
 
 -- `+`, `-` or `.`
 abbrev pub is_number_sign : ℕ → Bool
@@ -33,24 +27,24 @@ begins_like_number text =
     is_ascii_digit (slice_index text 0) || (is_number_sign (slice_index text 0) && is_ascii_digit (slice_index text 1))
 
 abbrev pub integer_meaning : ℤ → Meaning
-integer_meaning n = if fits_in_64_bits n then alone (integer n) else refused NumberRange
+integer_meaning n = if fits_in_64_bits n then Int n else Refused NumberRange
 
 abbrev pub atom_meaning : List ℕ → Meaning
 atom_meaning text =
     if is_integer text then integer_meaning (signed_digits_value 10 text)
-    else if begins_like_number text then refused NotInProfile
-    else alone (symbol text)
+    else if begins_like_number text then Refused NotInProfile
+    else Symbol text
 
 abbrev pub hash_meaning : List ℕ → Meaning
 hash_meaning text =
-    if bytes_eq text (codes "t") then alone (truth true)
-    else if bytes_eq text (codes "f") then alone (truth false)
-    else refused NotInProfile
+    if bytes_eq text (codes "t") then Truth true
+    else if bytes_eq text (codes "f") then Truth false
+    else Refused NotInProfile
 
 abbrev pub meaning : Lexeme → Meaning
-meaning (open_bracket shape) = opening shape
-meaning (close_bracket shape) = closing shape
+meaning (open_bracket shape) = Opening shape
+meaning (close_bracket shape) = Closing shape
 meaning (atom text) = atom_meaning text
 meaning (hash_atom text) = hash_meaning text
-meaning quote = refused NotInProfile
-meaning other = refused BadByte
+meaning quote = Refused NotInProfile
+meaning other = Refused BadByte

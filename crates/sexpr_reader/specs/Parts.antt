@@ -3,32 +3,15 @@ use Rattle.std.specs.Prelude.{◌≡◌, map, reverse, Result, Ok, Err}
 use Rattle.grift_base.specs.declared.refusals.Refusal.{Refusal}
 use Rattle.grift_base.specs.declared.refusals.FrontFault.{FrontFault}
 use Rattle.grift_base.specs.declared.refusals.FrontFault.TheVariants.{Refused as RefusedFault, OutOfMemory}
-use Rattle.sexpr_reader.specs.Datum.{Datums, integer, truth, symbol}
-use Rattle.sexpr_reader.specs.Meaning.{Meaning, opening, closing, alone, refused}
-use Rattle.sexpr_reader.specs.Refused.{Bracket}
+use Rattle.sexpr_reader.specs.Datum.{Datums}
 use Rattle.sexpr_reader.specs.Reader.{OpenList, ReaderState}
-use Rattle.sexpr_reader.specs.Scanning.{shape_of}
 use Rattle.sexpr_reader.specs.View.{datum_of, datums_of}
 use Rattle.sexpr_reader.specs.declared.sexps.SexpList.{SexpList}
-use Rattle.sexpr_reader.specs.declared.atoms.Meaning.{Meaning as AtomMeaning}
-use Rattle.sexpr_reader.specs.declared.atoms.Meaning.TheVariants.{Opening, Closing, Int, Bool, Symbol, Refused}
-use Rattle.sexpr_reader.specs.declared.readers.Bracket.{Bracket as ReaderBracket}
 use Rattle.sexpr_reader.specs.declared.readers.OpenList.{OpenList as ReaderList}
 use Rattle.sexpr_reader.specs.declared.readers.Reader.{Reader}
 
-abbrev pub meaning_of : AtomMeaning → Meaning
-meaning_of (Opening shape) = opening (shape_of shape)
-meaning_of (Closing shape) = closing (shape_of shape)
-meaning_of (Int n) = alone (integer n)
-meaning_of (Bool b) = alone (truth b)
-meaning_of (Symbol name) = alone (symbol name)
-meaning_of (Refused kind) = refused kind
-
-abbrev pub bracket_of : ReaderBracket → Bracket
-bracket_of b = record { shape = shape_of b.shape; pos = b.pos }
-
 abbrev pub open_list_of : ReaderList → OpenList
-open_list_of o = record { bracket = bracket_of o.bracket; before = map datum_of o.before.items }
+open_list_of o = record { bracket = o.bracket; before = map datum_of o.before.items }
 
 abbrev pub state_of : Reader → ReaderState
 state_of r = record { around = reverse (map open_list_of r.around.items); items = map datum_of r.items.items }

@@ -1,13 +1,18 @@
 -- How the reader goes along the tokens: its state as plain data, for the contracts of its private functions.
-use Rattle.std.specs.Prelude.{ℕ, nat_lt, List, [], ◌∷◌, ◌++◌, length, Result, Ok, Err, if◌then◌else◌}
+use Rattle.std.specs.Prelude.{ℕ, Bool, true, false, nat_lt, List, [], ◌∷◌, ◌++◌, length, Result, Ok, Err, if◌then◌else◌}
 use Rattle.grift_base.specs.declared.places.Pos.{Pos}
 use Rattle.grift_base.specs.declared.refusals.Refusal.{Refusal}
 use Rattle.grift_base.specs.declared.refusals.RefusalKind.TheVariants.{Unclosed, Unopened, TooDeep, Empty}
-use Rattle.sexpr_reader.specs.Datum.{Datum, leaf_datum, list_datum, Datums, no_datums, datum_then}
+use Rattle.sexpr_reader.specs.Datum.{integer, truth, symbol, Datum, leaf_datum, list_datum, Datums, no_datums}
+use Rattle.sexpr_reader.specs.Datum.{datum_then}
 use Rattle.sexpr_reader.specs.Places.{first_place}
 use Rattle.sexpr_reader.specs.Token.{Token}
-use Rattle.sexpr_reader.specs.Meaning.{Meaning, opening, closing, alone, refused, meaning}
-use Rattle.sexpr_reader.specs.Refused.{Bracket, same_shape}
+use Rattle.sexpr_reader.specs.Meaning.{meaning}
+use Rattle.sexpr_reader.specs.declared.scan.Shape.{Shape}
+use Rattle.sexpr_reader.specs.declared.scan.Shape.TheVariants.{Round, Square}
+use Rattle.sexpr_reader.specs.declared.atoms.Meaning.{Meaning}
+use Rattle.sexpr_reader.specs.declared.atoms.Meaning.TheVariants.{Opening, Closing, Int, Bool as Truth, Symbol, Refused}
+use Rattle.sexpr_reader.specs.declared.readers.Bracket.{Bracket}
 
 -- an open list: its bracket, and what stands before it in the list around it
 pub record OpenList : Type 0 where
@@ -36,20 +41,32 @@ opened limit bracket s =
     then Ok (record { around = record { bracket = bracket; before = s.items } ∷ s.around; items = [] })
     else Err (record { kind = TooDeep; pos = bracket.pos })
 
+abbrev pub same_shape : Shape → Shape → Bool
+same_shape Round Round = true
+same_shape Round Square = false
+same_shape Square Round = false
+same_shape Square Square = true
+
 -- the innermost list ends at a closing bracket
 abbrev pub closed : Bracket → List OpenList → List Datum → Result ReaderState Refusal
 closed bracket [] items = Err (record { kind = Unopened; pos = bracket.pos })
 closed bracket (innermost ∷ around) items =
     if same_shape innermost.bracket.shape bracket.shape
-    then Ok (record { around = around; items = innermost.before ++ list_datum innermost.bracket.pos (in_row items) ∷ [] })
+    then Ok (record {
+      around = around;
+      items = innermost.before ++ list_datum innermost.bracket.pos
+          (in_row items) ∷ [];
+    })
     else Err (record { kind = Unopened; pos = bracket.pos })
 
 -- the state behind a token with this meaning, where at most so many lists may be open
 abbrev pub step : ℕ → Pos → Meaning → ReaderState → Result ReaderState Refusal
-step limit p (opening shape) s = opened limit (record { shape = shape; pos = p }) s
-step limit p (closing shape) s = closed (record { shape = shape; pos = p }) s.around s.items
-step limit p (alone leaf) s = Ok (with_item (leaf_datum p leaf) s)
-step limit p (refused kind) s = Err (record { kind = kind; pos = p })
+step limit p (Opening shape) s = opened limit (record { shape = shape; pos = p }) s
+step limit p (Closing shape) s = closed (record { shape = shape; pos = p }) s.around s.items
+step limit p (Int n) s = Ok (with_item (leaf_datum p (integer n)) s)
+step limit p (Truth b) s = Ok (with_item (leaf_datum p (truth b)) s)
+step limit p (Symbol name) s = Ok (with_item (leaf_datum p (symbol name)) s)
+step limit p (Refused kind) s = Err (record { kind = kind; pos = p })
 
 -- the text ends
 abbrev pub ended : List OpenList → List Datum → Result Datums Refusal

@@ -1,63 +1,98 @@
 -- Which texts are refused, why and where.
-use Rattle.std.specs.Prelude.{ℕ, Bool, true, false, nat_lt, List, [], ◌∷◌, length, drop, Option, Some, None, if◌then◌else◌}
-use Rattle.grift_base.specs.declared.places.Pos.{Pos}
+use Rattle.std.specs.Prelude.{ℕ, ◌≡◌, ◌≢◌, ◌≤◌, ◌⊎◌, List, [], ◌∷◌, ◌++◌, length}
 use Rattle.grift_base.specs.declared.refusals.Refusal.{Refusal}
 use Rattle.grift_base.specs.declared.refusals.RefusalKind.{RefusalKind}
 use Rattle.grift_base.specs.declared.refusals.RefusalKind.TheVariants.{Unclosed, Unopened, TooDeep, Empty}
 use Rattle.sexpr_reader.specs.Places.{first_place}
-use Rattle.sexpr_reader.specs.Token.{Shape, round, square, Token, tokens}
-use Rattle.sexpr_reader.specs.Meaning.{Meaning, opening, closing, alone, refused, meaning}
+use Rattle.sexpr_reader.specs.Token.{Token, tokens}
+use Rattle.sexpr_reader.specs.Meaning.{meaning}
+use Rattle.sexpr_reader.specs.Grammar.{AreForms, depth_limit}
+use Rattle.sexpr_reader.specs.declared.scan.Shape.{Shape}
+use Rattle.sexpr_reader.specs.declared.atoms.Meaning.{Meaning}
+use Rattle.sexpr_reader.specs.declared.atoms.Meaning.TheVariants.{Opening, Closing, Int, Bool as Truth, Symbol, Refused}
+use Rattle.sexpr_reader.specs.declared.readers.Bracket.{Bracket}
 
--- an opening bracket
-pub record Bracket : Type 0 where
-  pub shape : Shape
-  pub pos : Pos
+-- ---- brackets that are open
 
-abbrev pub same_shape : Shape → Shape → Bool
-same_shape round round = true
-same_shape round square = false
-same_shape square round = false
-same_shape square square = true
+-- This token closes an opening bracket of this shape that stands before it, with these tokens between the two: they
+-- form whole s-expressions, and it is a closing bracket of the same shape.
+pub record Closes (shape : Shape) (between : List Token) (last : Token) : Type 0 where
+  pub whole : AreForms between
+  pub bracket : meaning last.lexeme ≡ Closing shape
 
--- the most brackets that may be open at once
-abbrev pub depth_limit : ℕ
-depth_limit = 200
+-- The token is an opening bracket of this shape, and none of the tokens behind it closes it.
+pub record IsOpen (t : Token) (shape : Shape) (behind : List Token) : Type 0 where
+  pub bracket : meaning t.lexeme ≡ Opening shape
+  pub unclosed : (between : List Token) (last : Token) (rest : List Token) →
+      behind ≡ between ++ last ∷ rest → Closes shape between last → ⊥
 
--- why a token with this meaning is refused where these brackets are open, the innermost first
-abbrev pub why_refused : List Bracket → Meaning → Option RefusalKind
-why_refused opened (opening shape) = if nat_lt (length opened) depth_limit then None else Some TooDeep
-why_refused [] (closing shape) = Some Unopened
-why_refused (innermost ∷ opened) (closing shape) = if same_shape innermost.shape shape then None else Some Unopened
-why_refused opened (alone leaf) = None
-why_refused opened (refused kind) = Some kind
+-- The brackets among these tokens that are open behind the last of them, the innermost first: those among the tokens
+-- behind the first one, and then the first one, where it is open itself.
+abbrev pub AreOpen : List Token → List Bracket → Type 0
+AreOpen [] opened = opened ≡ []
+AreOpen (t ∷ ts) opened =
+    (inner : List Bracket) × AreOpen ts inner
+    × (((shape : Shape) × IsOpen t shape ts × (opened ≡ inner ++ record { shape = shape; pos = t.pos } ∷ []))
+    ⊎ (((shape : Shape) → IsOpen t shape ts → ⊥) × (opened ≡ inner)))
 
--- the brackets that are open behind it
-abbrev pub open_behind : List Bracket → Pos → Meaning → List Bracket
-open_behind opened p (opening shape) = record { shape = shape; pos = p } ∷ opened
-open_behind opened p (closing shape) = drop 1 opened
-open_behind opened p (alone leaf) = opened
-open_behind opened p (refused kind) = opened
+-- ---- refused tokens
 
--- the text ends while these are open
-abbrev pub unclosed : List Bracket → Option Refusal
-unclosed [] = None
-unclosed (innermost ∷ opened) = Some (record { kind = Unclosed; pos = innermost.pos })
+-- of these open brackets none is there, or the innermost has another shape than this
+abbrev pub HasNoPartner : List Bracket → Shape → Type 0
+HasNoPartner [] shape = Unit {0}
+HasNoPartner (innermost ∷ outer) shape = innermost.shape ≢ shape
 
--- a refusal at this place, or else a later one
-abbrev pub refused_here : Pos → Option RefusalKind → Option Refusal → Option Refusal
-refused_here p (Some kind) later = Some (record { kind = kind; pos = p })
-refused_here p None later = later
+-- Why a token with this meaning is refused where these brackets are open: an opening bracket, since as many are open
+-- as may be; a closing bracket, since it has no partner; any other token, by its own meaning.
+abbrev pub IsReason : List Bracket → Meaning → RefusalKind → Type 0
+IsReason opened (Opening shape) kind = (kind ≡ TooDeep) × (depth_limit ≤ length opened)
+IsReason opened (Closing shape) kind = (kind ≡ Unopened) × HasNoPartner opened shape
+IsReason opened (Refused own) kind = kind ≡ own
+IsReason opened (Int n) kind = ⊥
+IsReason opened (Truth b) kind = ⊥
+IsReason opened (Symbol name) kind = ⊥
 
--- the refusal of the first token that is refused, and where none is, of the end
-abbrev pub first_refusal : List Bracket → List Token → Option Refusal
-first_refusal opened [] = unclosed opened
-first_refusal opened (t ∷ ts) =
-    refused_here t.pos (why_refused opened (meaning t.lexeme)) (first_refusal (open_behind opened t.pos (meaning t.lexeme)) ts)
+-- the token that stands behind these is refused so
+pub record IsTokenRefused (before : List Token) (t : Token) (kind : RefusalKind) : Type 0 where
+  pub opened : List Bracket
+  pub are_open : AreOpen before opened
+  pub reason : IsReason opened (meaning t.lexeme) kind
 
-abbrev pub refusal_of_tokens : List Token → Option Refusal
-refusal_of_tokens [] = Some (record { kind = Empty; pos = first_place })
-refusal_of_tokens (t ∷ ts) = first_refusal [] (t ∷ ts)
+-- none of these tokens is refused
+abbrev pub NoneIsRefused : List Token → Type 0
+NoneIsRefused ts =
+    (before : List Token) (t : Token) (after : List Token) (kind : RefusalKind) →
+    ts ≡ before ++ t ∷ after → IsTokenRefused before t kind → ⊥
+
+-- ---- the first refusal
+
+-- it is that of a token, and no token before this one is refused
+pub record IsOfToken (ts : List Token) (r : Refusal) : Type 0 where
+  pub before : List Token
+  pub token : Token
+  pub after : List Token
+  pub split : ts ≡ before ++ token ∷ after
+  pub none_before : NoneIsRefused before
+  pub refused : IsTokenRefused before token r.kind
+  pub place : r.pos ≡ token.pos
+
+-- no token is refused, brackets are open behind the last one, and the refusal stands at the innermost of them
+pub record IsOfOpenBracket (ts : List Token) (r : Refusal) : Type 0 where
+  pub none : NoneIsRefused ts
+  pub innermost : Bracket
+  pub outer : List Bracket
+  pub are_open : AreOpen ts (innermost ∷ outer)
+  pub refusal : r ≡ record { kind = Unclosed; pos = innermost.pos }
+
+-- there is no token, and the refusal stands at the first place
+pub record IsOfNothing (ts : List Token) (r : Refusal) : Type 0 where
+  pub none : ts ≡ []
+  pub refusal : r ≡ record { kind = Empty; pos = first_place }
+
+-- why and where these tokens are refused
+abbrev pub AreRefused : List Token → Refusal → Type 0
+AreRefused ts r = IsOfToken ts r ⊎ (IsOfOpenBracket ts r ⊎ IsOfNothing ts r)
 
 -- why and where this text is refused
-abbrev pub refusal_of : List ℕ → Option Refusal
-refusal_of text = refusal_of_tokens (tokens text)
+abbrev pub IsRefused : List ℕ → Refusal → Type 0
+IsRefused text r = AreRefused (tokens text) r

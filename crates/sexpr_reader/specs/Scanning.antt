@@ -1,23 +1,19 @@
 -- How the scanner goes along a text, for the contracts of its private functions.
-use Rattle.std.specs.Prelude.{ℕ, ◌≡◌, ◌≤◌, ◌+◌, Bool, false, ◌&&◌, ◌||◌, List, [], ◌∷◌, length, take, drop, if◌then◌else◌}
+use Rattle.std.specs.Prelude.{ℕ, ◌≡◌, ◌≤◌, ◌+◌, Bool, false, ◌&&◌, ◌||◌, List, [], ◌∷◌, length, take, drop}
+use Rattle.std.specs.Prelude.{if◌then◌else◌}
 use Rattle.std.specs.List.{prefix_len}
 use Rattle.sexpr_reader.specs.Bytes.{is_hash, is_symbol_byte}
 use Rattle.sexpr_reader.specs.Places.{line_before, place_after}
-use Rattle.sexpr_reader.specs.Token.{Shape, round, square, Lexeme, open_bracket, close_bracket, atom, hash_atom, quote, other, Token, is_in_comment, may_go_on, tokens_behind}
-use Rattle.sexpr_reader.specs.declared.scan.Shape.{Shape as ScanShape}
-use Rattle.sexpr_reader.specs.declared.scan.Shape.TheVariants.{Round, Square}
+use Rattle.sexpr_reader.specs.Token.{Lexeme, open_bracket, close_bracket, atom, hash_atom, quote, other, Token}
+use Rattle.sexpr_reader.specs.Token.{is_in_comment, may_go_on, tokens_behind}
 use Rattle.sexpr_reader.specs.declared.scan.Lexeme.{Lexeme as ScanLexeme}
 use Rattle.sexpr_reader.specs.declared.scan.Lexeme.TheVariants.{Open, Close, Atom, HashAtom, Quote, Other}
 use Rattle.sexpr_reader.specs.declared.scan.Token.{Token as ScanToken}
 use Rattle.sexpr_reader.specs.declared.scan.Cursor.{Cursor}
 
-abbrev pub shape_of : ScanShape → Shape
-shape_of Round = round
-shape_of Square = square
-
 abbrev pub lexeme_of : ScanLexeme → Lexeme
-lexeme_of (Open shape) = open_bracket (shape_of shape)
-lexeme_of (Close shape) = close_bracket (shape_of shape)
+lexeme_of (Open shape) = open_bracket shape
+lexeme_of (Close shape) = close_bracket shape
 lexeme_of (Atom bytes) = atom bytes.now
 lexeme_of (HashAtom bytes) = hash_atom bytes.now
 lexeme_of Quote = quote

@@ -4,11 +4,8 @@ use Rattle.std.specs.List.{list_any, take_while}
 use Rattle.grift_base.specs.declared.places.Pos.{Pos}
 use Rattle.sexpr_reader.specs.Bytes.{is_white, is_comment_sign, is_hash, is_symbol_byte}
 use Rattle.sexpr_reader.specs.Places.{line_before, place_after}
-
--- the shapes of brackets, `( )` and `[ ]`
-pub data Shape : Type 0 where
-  round : Shape
-  square : Shape
+use Rattle.sexpr_reader.specs.declared.scan.Shape.{Shape}
+use Rattle.sexpr_reader.specs.declared.scan.Shape.TheVariants.{Round, Square}
 
 pub data Lexeme : Type 0 where
   open_bracket : Shape → Lexeme
@@ -38,10 +35,10 @@ may_go_on (last ∷ line) = is_symbol_byte last || is_hash last
 -- the lexeme of a byte that is neither white nor a symbol byte, nor a hash
 abbrev pub mark : ℕ → Lexeme
 mark b =
-    if b == 40 then open_bracket round
-    else if b == 41 then close_bracket round
-    else if b == 91 then open_bracket square
-    else if b == 93 then close_bracket square
+    if b == 40 then open_bracket Round
+    else if b == 41 then close_bracket Round
+    else if b == 91 then open_bracket Square
+    else if b == 93 then close_bracket Square
     else if b == 34 then quote
     else other
 

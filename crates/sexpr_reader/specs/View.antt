@@ -1,6 +1,7 @@
 -- S-expressions as plain data: what their boxes hold, and not where.
 use Rattle.grift_base.specs.declared.places.Pos.{Pos}
-use Rattle.sexpr_reader.specs.Datum.{integer, truth, symbol, Datum, leaf_datum, list_datum, Datums, no_datums, datum_then}
+use Rattle.sexpr_reader.specs.Datum.{integer, truth, symbol, Datum, leaf_datum, list_datum, Datums, no_datums}
+use Rattle.sexpr_reader.specs.Datum.{datum_then}
 use Rattle.sexpr_reader.specs.declared.sexps.Sexp.{Sexp, out-Sexp}
 use Rattle.sexpr_reader.specs.declared.sexps.SexpNode.{SexpNode}
 use Rattle.sexpr_reader.specs.declared.sexps.SexpNode.TheVariants.{Int, Bool as Truth, Symbol, List as ListNode}

@@ -1,10 +1,10 @@
 // Putting the tokens together.
 
 ghost use Rattle.std.specs.Prelude.{◌≡◌, map, IfOk};
-ghost use Rattle.sexpr_reader.specs.Refused.{depth_limit};
+ghost use Rattle.sexpr_reader.specs.Grammar.{depth_limit};
 ghost use Rattle.sexpr_reader.specs.View.{datum_at, datum_of, datums_of};
 ghost use Rattle.sexpr_reader.specs.Reader.{start, in_row, with_item, opened, closed, step, ended, not_empty};
-ghost use Rattle.sexpr_reader.specs.Parts.{meaning_of, state_of, bracket_of, Goes, Gives};
+ghost use Rattle.sexpr_reader.specs.Parts.{state_of, Goes, Gives};
 
 use crate::atoms::Meaning;
 use crate::scan::Shape;
@@ -80,7 +80,7 @@ impl Reader {
     }
 
     fn open(&mut self, bracket: Bracket) -> Result<(), FrontFault>
-        ensures { Goes result (state_of self.new) (opened depth_limit (bracket_of bracket) (state_of self.old)) }
+        ensures { Goes result (state_of self.new) (opened depth_limit bracket (state_of self.old)) }
     {
         if self.around.len() >= DEPTH_LIMIT {
             return refused(RefusalKind::TooDeep, bracket.pos);
@@ -92,7 +92,8 @@ impl Reader {
     }
 
     fn close(&mut self, bracket: Bracket) -> Result<(), FrontFault>
-        ensures { Goes result (state_of self.new) (closed (bracket_of bracket) (state_of self.old).around (state_of self.old).items) }
+        ensures { let before = state_of self.old in
+            Goes result (state_of self.new) (closed bracket before.around before.items) }
     {
         let Some(innermost) = self.around.pop() else {
             return refused(RefusalKind::Unopened, bracket.pos);
@@ -107,7 +108,7 @@ impl Reader {
 
     /// Takes the next token: its place and what it is by itself. After an `Err` nothing is known of what was read.
     pub fn take(&mut self, pos: Pos, meaning: Meaning) -> Result<(), FrontFault>
-        ensures { Goes result (state_of self.new) (step depth_limit pos (meaning_of meaning) (state_of self.old)) }
+        ensures { Goes result (state_of self.new) (step depth_limit pos meaning (state_of self.old)) }
     {
         match meaning {
             Meaning::Opening(shape) => self.open(Bracket { shape, pos }),

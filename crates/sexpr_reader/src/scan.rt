@@ -1,6 +1,7 @@
 // Cutting a text into tokens.
 
-ghost use Rattle.std.specs.Prelude.{◌≡◌, ◌≤◌, ◌<◌, ◌+◌, ◌^◌, ◌==◌, ◌&&◌, ◌||◌, not, if◌then◌else◌, ◌∷◌, [], false, length, take, drop, slice_index, MatchOption};
+ghost use Rattle.std.specs.Prelude.{◌≡◌, ◌≤◌, ◌<◌, ◌+◌, ◌^◌, ◌==◌, ◌&&◌, ◌||◌, not, if◌then◌else◌, [], false, length};
+ghost use Rattle.std.specs.Prelude.{take, drop, slice_index, MatchOption};
 ghost use Rattle.std.specs.List.{prefix_len};
 ghost use Rattle.sexpr_reader.specs.Bytes.{is_line_feed, is_white, is_comment_sign, is_symbol_byte};
 ghost use Rattle.sexpr_reader.specs.Token.{no_token_begins, lexeme_at};
@@ -126,7 +127,8 @@ fn skip_blanks(text: &[u8], from: Cursor) -> Cursor
     requires between { IsBetween text.now from.at }
     ensures stands { Stands text.now result }
     ensures tokens { tokens_at text.now from.at ≡ tokens_at text.now result.at }
-    ensures begins { result.at < length text.now → no_token_begins (take result.at text.now) (slice_index text.now result.at) ≡ false }
+    ensures begins { result.at < length text.now
+        → no_token_begins (take result.at text.now) (slice_index text.now result.at) ≡ false }
 {
     let mut cursor = from;
     let mut in_comment = false;
@@ -171,7 +173,8 @@ pub fn next_token(text: &[u8], from: Cursor) -> Option<(Token<'_>, Cursor)>
     requires long { length text.now ≤ 262144 }
     requires stands { Stands text.now from }
     requires between { IsBetween text.now from.at }
-    ensures { MatchOption result (tokens_at text.now from.at ≡ []) (λ found. TakesToken text.now from.at found.0 found.1) }
+    ensures { MatchOption result (tokens_at text.now from.at ≡ [])
+        (λ found. TakesToken text.now from.at found.0 found.1) }
 {
     let cursor = skip_blanks(text, from);
     if cursor.at == text.len() {

@@ -1,21 +1,23 @@
 use super::*;
 use crate::sexps::{Sexp, SexpNode};
+use grift_base::places::Pos;
+use grift_base::refusals::{Refusal, RefusalKind};
 use std::test::Fail;
 
-// The first reading of a text that is short enough.
+// The s-expressions of a text that is short enough.
 fn reading(alloc: Global, text: &[u8]) -> Result<SexpList, Fail> {
     if text.len() > 262144 {
         return Err(Fail::from("too long"));
     }
-    Ok(first_reading(alloc, text)?)
+    Ok(read(alloc, text)?)
 }
 
-// The first refusal of a text that is short enough, and none where it is read.
+// The refusal of a text that is short enough, and none where it is read.
 fn refusal(alloc: Global, text: &[u8]) -> Result<Option<Refusal>, Fail> {
     if text.len() > 262144 {
         return Err(Fail::from("too long"));
     }
-    match first_reading(alloc, text) {
+    match read(alloc, text) {
         Ok(_) => Ok(None),
         Err(FrontFault::Refused(refusal)) => Ok(Some(refusal)),
         Err(FrontFault::OutOfMemory) => Err(Fail::from("no memory")),
@@ -85,7 +87,7 @@ fn texts_read(rt: HostRuntime) -> Result<(), Fail> {
 
 #[test]
 fn texts_are_refused_where_they_first_fail(rt: HostRuntime) -> Result<(), Fail> {
-    let table: [(&[u8], RefusalKind, u32, u32); 20] = [
+    let table: [(&[u8], RefusalKind, u32, u32); 27] = [
         (b"", RefusalKind::Empty, 1, 1),
         (b"; note", RefusalKind::Empty, 1, 1),
         (b" \n ; note\n", RefusalKind::Empty, 1, 1),
@@ -106,6 +108,14 @@ fn texts_are_refused_where_they_first_fail(rt: HostRuntime) -> Result<(), Fail> 
         (b"#true", RefusalKind::NotInProfile, 1, 1),
         (b"(\"a", RefusalKind::NotInProfile, 1, 2),
         (b"# ]", RefusalKind::NotInProfile, 1, 1),
+        // two faults in one text
+        (b") {", RefusalKind::Unopened, 1, 1),
+        (b"{ )", RefusalKind::BadByte, 1, 1),
+        (b"(1.5", RefusalKind::NotInProfile, 1, 2),
+        (b"(\n[)]", RefusalKind::Unopened, 2, 2),
+        (b"[(] 99999999999999999999", RefusalKind::Unopened, 1, 3),
+        (b"(a) (b [c] (d", RefusalKind::Unclosed, 1, 12),
+        (b"((a) [b", RefusalKind::Unclosed, 1, 6),
     ];
     for (text, kind, line, col) in table {
         let pos = Pos { line, col };
@@ -177,17 +187,8 @@ fn long_lists_are_read_and_dropped(rt: HostRuntime) -> Result<(), Fail> {
 }
 
 #[test]
-fn read_answers_bad_form_for_each_refusal(rt: HostRuntime) -> Result<(), Fail> {
-    let refused = FrontFault::Refused(Refusal {
-        kind: RefusalKind::BadForm,
-        pos: Pos { line: 1, col: 1 },
-    });
-    assert_eq!(rt; read(rt.alloc(), b" {").err(), Some(refused));
-    let list = read(rt.alloc(), b"a b")?;
-    let mut out = String::new(rt.alloc());
-    show_all(&mut out, &list)?;
-    assert_eq!(rt; out.as_str(), "a@1:1 b@1:3 ");
-    let truths = read(rt.alloc(), b"#t #f")?;
+fn s_expressions_are_written_for_debugging(rt: HostRuntime) -> Result<(), Fail> {
+    let truths = reading(rt.alloc(), b"#t #f")?;
     let written = format!(in rt.alloc(); "{truths:?}")?;
     let first = "Sexp { pos: Pos { line: 1, col: 1 }, node: Bool(true) }";
     let second = "Sexp { pos: Pos { line: 1, col: 4 }, node: Bool(false) }";

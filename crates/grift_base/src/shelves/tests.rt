@@ -1,5 +1,5 @@
 ghost use Rattle.std.specs.Prelude.{◌≡◌, ◌<◌, length, option_map, IsErrOf, IfOk, IfSome};
-ghost use Rattle.grift_base.specs.Outside.{HasRisen};
+ghost use Rattle.grift_base.specs.Outside.{next_count};
 ghost use Rattle.grift_base.specs.Shelf.{asked_after};
 
 use super::*;
@@ -29,8 +29,9 @@ fn length_of<S: Shelf>(
     max: usize,
 ) -> Result<u64, LoadFault>
     ensures told { IfOk result (λ n. IfSome (S.holds shelf.old name.now) (λ bytes. n ≡ length bytes)) }
-    ensures too_long { IsErrOf result LoadFault.TooLong → IfSome (S.holds shelf.old name.now) (λ bytes. max < length bytes) }
-    ensures failed { IsErrOf result LoadFault.Failed → HasRisen (S.fault_count shelf.old) (S.fault_count shelf.new) }
+    ensures too_long { IsErrOf result LoadFault.TooLong
+        → IfSome (S.holds shelf.old name.now) (λ bytes. max < length bytes) }
+    ensures failed { IsErrOf result LoadFault.Failed → S.fault_count shelf.new ≡ next_count (S.fault_count shelf.old) }
     ensures names { S.asked shelf.new ≡ option_map (asked_after result name.now) (S.asked shelf.old) }
 {
     let loaded = shelf.load(alloc, name, max)?;

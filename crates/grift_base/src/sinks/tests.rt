@@ -1,13 +1,14 @@
 ghost use Rattle.std.specs.Prelude.{◌≡◌, ◌++◌, option_map, IsErrOf, OnOk};
-ghost use Rattle.grift_base.specs.Outside.{HasRisen};
+ghost use Rattle.grift_base.specs.Outside.{next_count};
 
 use super::*;
 use std::test::Fail;
 
 // Puts the bytes twice, into any sink.
 fn put_twice<O: Sink>(sink: &mut O, bytes: &[u8]) -> Result<(), SinkFault>
-    ensures ok { OnOk result (O.written sink.new ≡ option_map (λ before. before ++ bytes.now ++ bytes.now) (O.written sink.old)) }
-    ensures failed { IsErrOf result SinkFault.Failed → HasRisen (O.fault_count sink.old) (O.fault_count sink.new) }
+    ensures ok { OnOk result (
+        O.written sink.new ≡ option_map (λ before. before ++ bytes.now ++ bytes.now) (O.written sink.old)) }
+    ensures failed { IsErrOf result SinkFault.Failed → O.fault_count sink.new ≡ next_count (O.fault_count sink.old) }
 {
     sink.put(bytes)?;
     sink.put(bytes)

@@ -89,3 +89,37 @@ fn makes_each_other_call(rt: HostRuntime) {
         );
     }
 }
+
+// Each number that is read, and the place behind it; the last answer of each input is none.
+#[test]
+fn reads_numbers(rt: HostRuntime) -> Result<(), Fail> {
+    for (input, answers) in [
+        ("+3\n4", [(Some(3), 2), (Some(4), 4), (None, 4)]),
+        (
+            " \t\r\n-17 008\n",
+            [(Some(-17), 7), (Some(8), 11), (None, 12)],
+        ),
+        (
+            "9223372036854775807 -9223372036854775808",
+            [
+                (Some(9223372036854775807), 19),
+                (Some(-9223372036854775808), 40),
+                (None, 40),
+            ],
+        ),
+        (
+            "1 9223372036854775808",
+            [(Some(1), 1), (None, 2), (None, 2)],
+        ),
+        ("2 - 3", [(Some(2), 1), (None, 2), (None, 2)]),
+        ("5 6x 7", [(Some(5), 1), (None, 2), (None, 2)]),
+        (" \x0c8", [(None, 1), (None, 1), (None, 1)]),
+    ] {
+        let mut world = World::new(rt.alloc(), Bytes::from_slice(rt.alloc(), input.as_bytes())?);
+        for (answer, place) in answers {
+            assert_eq!(rt; world.read_int(), answer, "in {input}");
+            assert_eq!(rt; world.place, place, "in {input}");
+        }
+    }
+    Ok(())
+}

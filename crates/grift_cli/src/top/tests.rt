@@ -556,3 +556,59 @@ fn longest_image(rt: HostRuntime) -> Result<(), NoMemory> {
     }
     Ok(())
 }
+
+// As many as a source holds, and each of them prints.
+#[test]
+fn many_forms(rt: HostRuntime) -> Result<(), NoMemory> {
+    let alloc = rt.alloc();
+    let mut source = Vec::new(alloc);
+    source.extend_from_slice(b"(begin")?;
+    for _ in 0..29000 {
+        source.extend_from_slice(b"(newline)")?;
+    }
+    source.extend_from_slice(b")")?;
+    let output = vec![in alloc; b'\n'; 29000]?;
+    let case = run_of(source.as_slice());
+    assert!(rt; comes_to(alloc, &case, 0, output.as_slice(), b"answer ()\n")?);
+    Ok(())
+}
+
+// An image with this code, and neither statics nor labels.
+fn image_of_code(alloc: Global, code: &[u32]) -> Result<Vec<u8>, NoMemory> {
+    let bytes = 4 * code.len() as u64;
+    let mut image = Vec::new(alloc);
+    image.extend_from_slice(b"GRIFTRV1")?;
+    for field in [64 + bytes, 0, bytes, 0, 0, 0, 0] {
+        image.extend_from_slice(&field.to_le_bytes())?;
+    }
+    for word in code {
+        image.extend_from_slice(&word.to_le_bytes())?;
+    }
+    Ok(image)
+}
+
+// A loop that prints 100,000 points.
+const POINTS: [u32; 12] = [
+    0x000182b7, // lui x5, 24
+    0x6a028293, // addi x5, x5, 1696
+    0x00200893, // addi x17, x0, 2
+    0x02e00513, // addi x10, x0, 46
+    0x00000073, // ecall
+    0xfff28293, // addi x5, x5, -1
+    0xfe0298e3, // bne x5, x0, -16
+    0x00000893, // addi x17, x0, 0
+    0x00200513, // addi x10, x0, 2
+    0x00000593, // addi x11, x0, 0
+    0x00000073, // ecall
+    0x00000013, // addi x0, x0, 0
+];
+
+#[test]
+fn long_loop(rt: HostRuntime) -> Result<(), NoMemory> {
+    let alloc = rt.alloc();
+    let image = image_of_code(alloc, &POINTS)?;
+    let output = vec![in alloc; b'.'; 100000]?;
+    let case = call_of(EXEC, image.as_slice());
+    assert!(rt; comes_to(alloc, &case, 0, output.as_slice(), b"answer ()\n")?);
+    Ok(())
+}

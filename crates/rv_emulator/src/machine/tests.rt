@@ -20,11 +20,12 @@ fn extend_by(bytes: &mut Bytes, word: u64) -> Result<(), OutOfMemory> {
     bytes.extend(&word.to_le_bytes())
 }
 
-// An image of this code, with a word 0 where it needs one, and one label, at 3:7.
-fn image_of(alloc: Global, code: &[u32]) -> Result<Option<Image>, OutOfMemory> {
+// An image of this code, with a word 0 where it needs one, and these labels.
+fn image_of(alloc: Global, code: &[u32], labels: &[Pos]) -> Result<Option<Image>, OutOfMemory> {
     let code_len = (code.len() as u64 % 4096).div_ceil(2) * 8;
+    let count = labels.len() as u64 % 4096;
     let mut bytes = Bytes::from_slice(alloc, b"GRIFTRV1")?;
-    for word in [72 + code_len, 0, code_len, 1, 0, 0, 0] {
+    for word in [64 + code_len + 8 * count, 0, code_len, count, 0, 0, 0] {
         extend_by(&mut bytes, word)?;
     }
     for word in code {
@@ -33,7 +34,10 @@ fn image_of(alloc: Global, code: &[u32]) -> Result<Option<Image>, OutOfMemory> {
     if code.len() % 2 == 1 {
         bytes.extend(&[0, 0, 0, 0])?;
     }
-    bytes.extend(&[3, 0, 0, 0, 7, 0, 0, 0])?;
+    for label in labels {
+        bytes.extend(&label.line.to_le_bytes())?;
+        bytes.extend(&label.col.to_le_bytes())?;
+    }
     if is_image(bytes.as_slice()) {
         Ok(Some(Image::new(bytes)))
     } else {
@@ -61,10 +65,13 @@ pub(crate) fn ended(kind: AnswerKind, word: i64) -> Stop {
     Stop::Ended(Answer { kind, word })
 }
 
-// What this code comes to within 100 steps, and whether it prints this text. None where there is no such
-// image, or no memory.
+// The one label of small images.
+const LABEL: Pos = Pos { line: 3, col: 7 };
+
+// What this code, with one label, comes to within 100 steps, and whether it prints this text. None where there is no
+// such image, or no memory.
 fn comes_to(alloc: Global, code: &[u32], printed: &[u8]) -> Option<(Stop, bool)> {
-    let image = image_of(alloc, code).ok()??;
+    let image = image_of(alloc, code, &[LABEL]).ok()??;
     let mut machine = machine_of(alloc, &image, 16, 16).ok()?;
     let stop = machine.run(100);
     let same = machine.world().output.as_slice() == printed;
@@ -130,11 +137,7 @@ fn calls(rt: HostRuntime) {
             b"A",
         ),
         // call 3 with label 0
-        (
-            &[0x00300893, 0x00000073],
-            Stop::Blamed(Pos { line: 3, col: 7 }),
-            b"",
-        ),
+        (&[0x00300893, 0x00000073], Stop::Blamed(LABEL), b""),
         // call 3 with label 1, of which there is none
         (
             &[0x00300893, 0x00100513, 0x00000073],
@@ -276,7 +279,7 @@ const SMALLEST: [u8; 72] = [
     0x93, 0x05, 0xa0, 0x02, 0x73, 0x00, 0x00, 0x00,
 ];
 
-// It is loaded with the default region and stack. One step, and then the end; a run goes on where the one
+// The smallest image, with the default region and stack: one step, and then the end; a run goes on where the one
 // before it came to.
 #[test]
 fn goes_on(rt: HostRuntime) -> Result<(), OutOfMemory> {
@@ -297,9 +300,35 @@ fn goes_on(rt: HostRuntime) -> Result<(), OutOfMemory> {
     Ok(())
 }
 
+// What a code comes to that writes the last word of a region of 64 MiB, reads it back and blames the label of that
+// number. None where there is no such image, or no memory.
+fn blames_from_a_large_region(alloc: Global, labels: &[Pos]) -> Option<Stop> {
+    // addi x5, x0, 2; sd x5, -8(x27); ld x10, -8(x27); addi x17, x0, 3; ecall
+    let code = [0x00200293, 0xfe5dbc23, 0xff8db503, 0x00300893, 0x00000073];
+    let image = image_of(alloc, &code, labels).ok()??;
+    let mut machine = machine_of(alloc, &image, 67_108_864, 1_048_576).ok()?;
+    Some(machine.run(100))
+}
+
+#[test]
+fn runs_with_several_labels_and_a_large_region(rt: HostRuntime) {
+    let last = Pos {
+        line: 4_294_967_295,
+        col: 12,
+    };
+    assert_eq!(rt;
+        blames_from_a_large_region(rt.alloc(), &[LABEL, Pos { line: 1, col: 1 }, last]),
+        Some(Stop::Blamed(last))
+    );
+    assert_eq!(rt;
+        blames_from_a_large_region(rt.alloc(), &[LABEL]),
+        Some(Stop::Undefined(65552))
+    );
+}
+
 // The word that a machine with this code tells at an address. None where there is no such image, or no memory.
 fn word_at(alloc: Global, code: &[u32], at: u64) -> Option<Option<u64>> {
-    let image = image_of(alloc, code).ok()??;
+    let image = image_of(alloc, code, &[LABEL]).ok()??;
     let machine = machine_of(alloc, &image, 16, 16).ok()?;
     Some(machine.word(at))
 }

@@ -1,5 +1,5 @@
 use Rattle.std.proofs.Common.{◌≡◌, take}
-use Rattle.assembler.specs.Forms.{insts_from}
+use Rattle.assembler.specs.Expansion.{insts_from}
 use Rattle.assembler.specs.Imaging.{inst_words}
 use Rattle.assembler.specs.Encoded.{AllDecode}
 use Rattle.assembler.proofs.assembly.code_words.Given as goal

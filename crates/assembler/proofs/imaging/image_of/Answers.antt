@@ -6,8 +6,12 @@ use Rattle.assembler.proofs.imaging.image_of.Goals as goal
 
 pub new-requires : goal.new-requires
 new-requires c =
-    subst IsImage (sym c.in_ok-bytes.ensures.bytes) (is_image (flat_map word_bytes c.args.statics.now) (code_bytes c.args.words.now) c.args.labels.now c.in_ok-bytes.ensures.sections)
+    subst IsImage (sym c.in_ok-bytes.ensures.bytes)
+    (is_image (flat_map word_bytes c.args.statics.now) (code_bytes c.args.words.now) c.args.labels.now
+    c.in_ok-bytes.ensures.sections)
 
 pub returns-clause-labels : goal.returns-clause-labels
 returns-clause-labels c =
-    ap labels_of (c.new.ensures ∙ c.in_ok-bytes.ensures.bytes) ∙ labels_are (flat_map word_bytes c.args.statics.now) (code_bytes c.args.words.now) c.args.labels.now c.in_ok-bytes.ensures.sections c.in_ok-bytes.ensures.sound
+    ap labels_of (c.new.ensures ∙ c.in_ok-bytes.ensures.bytes)
+    ∙ labels_are (flat_map word_bytes c.args.statics.now) (code_bytes c.args.words.now) c.args.labels.now
+    c.in_ok-bytes.ensures.sections c.in_ok-bytes.ensures.sound

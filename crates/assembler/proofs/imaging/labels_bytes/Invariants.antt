@@ -5,4 +5,5 @@ use Rattle.assembler.proofs.imaging.labels_bytes.Given as goal
 
 -- the bytes of the labels before this one
 abbrev pub invariant-loop-label : goal.invariant-loop-label
-invariant-loop-label l = (l.bytes ≡ flat_map label_bytes (take l.label-index l.labels)) × AreLabels (take l.label-index l.labels)
+invariant-loop-label l =
+    (l.bytes ≡ flat_map label_bytes (take l.label-index l.labels)) × AreLabels (take l.label-index l.labels)

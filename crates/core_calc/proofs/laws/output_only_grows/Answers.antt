@@ -1,4 +1,4 @@
-use Rattle.run_laws.proofs.Reducing.{reduction_output_grows}
+use Rattle.run_laws.proofs.Public.{output_only_grows-reductions}
 use Rattle.core_calc.specs.Calculus.{start, calculus}
 use Rattle.core_calc.proofs.Output.{calculus_adds_output}
 use Rattle.core_calc.proofs.laws.output_only_grows.Goals as goal
@@ -8,4 +8,6 @@ returns-clause-steps c = λ types labels. calculus_adds_output types labels
 
 pub returns-clause-runs : goal.returns-clause-runs
 returns-clause-runs c = λ program input.
-    reduction_output_grows (calculus program.types program.labels) (calculus_adds_output program.types program.labels) (start program.term input)
+    output_only_grows-reductions (calculus program.types program.labels)
+    (calculus_adds_output program.types program.labels)
+    (start program.term input)

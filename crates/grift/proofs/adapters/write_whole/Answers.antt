@@ -6,7 +6,8 @@ use Rattle.std.proofs.KnownBytes.{Appends-trans}
 use Rattle.grift.proofs.adapters.write_whole.Goals as goal
 
 -- some of the rest, after the bytes that are done, makes more bytes that are done
-takes_more : (bytes : List ℕ) (done count : ℕ) → take done bytes ++ take count (take (length bytes - done) (drop done bytes)) ≡ take (done + count) bytes
+takes_more : (bytes : List ℕ) (done count : ℕ) →
+    take done bytes ++ take count (take (length bytes - done) (drop done bytes)) ≡ take (done + count) bytes
 takes_more bytes done count =
     ap (λ rest. take done bytes ++ take count rest) (take_rest bytes done) ∙ sym (take-add done count bytes)
 

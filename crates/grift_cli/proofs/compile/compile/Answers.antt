@@ -4,7 +4,7 @@ use Rattle.grift_base.specs.declared.words.Statics.{Statics}
 use Rattle.rv_isa.specs.declared.real.RealItem.{RealItem}
 use Rattle.assembler.specs.Imaging.{assembled}
 use Rattle.core_calc.specs.Terms.{Term}
-use Rattle.core_calc.specs.Views.{term_of}
+use Rattle.grift_cli.specs.TermViews.{term_of}
 use Rattle.grift_cli.specs.Code.{program_items, program_image}
 use Rattle.grift_cli.specs.declared.elaboration.ExprType.{ExprType}
 use Rattle.grift_cli.proofs.Placing.{program_insts, items_long}

@@ -1,6 +1,6 @@
 use Rattle.std.proofs.Common.{arith, refl, sym, ◌∙◌}
-use Rattle.core_calc.specs.declared.terms.Core.TheViews.{deep-Cons'}
-use Rattle.core_calc.specs.Views.{term_of, terms_of}
+use Rattle.grift_cli.specs.declared.terms.Core.TheViews.{deep-Cons'}
+use Rattle.grift_cli.specs.TermViews.{term_of, terms_of}
 use Rattle.core_calc.specs.Terms.{Prim}
 use Rattle.grift_cli.proofs.FormsTyped.{found_int, two_ints, no_two_ints, no_one_int, one_int, first_of_sequence, rest_of_sequence}
 use Rattle.grift_cli.proofs.elaboration.+typing.Goals as goal

@@ -1,6 +1,6 @@
 use Rattle.std.proofs.Common.{◌≤◌, ◌↔◌}
-use Rattle.core_calc.specs.declared.terms.CoreList.{size-CoreList}
-use Rattle.core_calc.specs.Views.{terms_of}
+use Rattle.grift_cli.specs.declared.terms.CoreList.{size-CoreList}
+use Rattle.grift_cli.specs.TermViews.{terms_of}
 use Rattle.grift_cli.specs.declared.elaboration.ExprType.{ExprType}
 use Rattle.grift_cli.specs.Elaboration.{LastHasExprType}
 use Rattle.grift_cli.proofs.elaboration.+typing.Given as goal

@@ -2,7 +2,7 @@ use Rattle.std.proofs.Common.{arith, refl, [], ◌∷◌}
 use Rattle.std.proofs.lemmas.Result.{err_from_is_err_and}
 use Rattle.sexpr_reader.specs.declared.sexps.Sexp.{out-Sexp}
 use Rattle.sexpr_reader.specs.declared.sexps.SexpList.TheViews.{deep-Cons'}
-use Rattle.core_calc.specs.Views.{term_of}
+use Rattle.grift_cli.specs.TermViews.{term_of}
 use Rattle.grift_cli.proofs.FormsRead.{one_more, of_list, are_forms_along, fault_of_all, made_form, no_head_form, fault_of_operands, no_made_form}
 use Rattle.grift_cli.proofs.forms.+reading.Goals as goal
 

@@ -2,7 +2,7 @@ use Rattle.std.proofs.Common.{◌≤◌, List}
 use mathlib.Core.List.{reverse_aux}
 use Rattle.sexpr_reader.specs.View.{datums_of}
 use Rattle.sexpr_reader.specs.declared.sexps.SexpList.{size-SexpList}
-use Rattle.core_calc.specs.Views.{terms_of}
+use Rattle.grift_cli.specs.TermViews.{terms_of}
 use Rattle.core_calc.specs.Terms.{Term, Terms, terms_from, term_list}
 use Rattle.grift_cli.specs.Forms.{AreForms}
 use Rattle.grift_cli.proofs.forms.+reading.Given as goal

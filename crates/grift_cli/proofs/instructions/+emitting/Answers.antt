@@ -1,6 +1,6 @@
 use Rattle.std.proofs.Common.{rules, ◌∙◌}
-use Rattle.core_calc.specs.declared.terms.CoreList.{the_lemmas}
-use Rattle.core_calc.specs.Views.{term_of, terms_of}
+use Rattle.grift_cli.specs.declared.terms.CoreList.{the_lemmas}
+use Rattle.grift_cli.specs.TermViews.{term_of, terms_of}
 use Rattle.grift_cli.proofs.Emitting.{operands_insts_more}
 use Rattle.grift_cli.proofs.instructions.+emitting.Goals as goal
 

@@ -1,7 +1,7 @@
 use Rattle.std.proofs.Common.{◌≡◌, ◌++◌, ◌≤◌, map}
 use Rattle.rv_isa.specs.declared.real.RealItem.TheVariants.{Op}
-use Rattle.core_calc.specs.declared.terms.CoreList.{size-CoreList}
-use Rattle.core_calc.specs.Views.{terms_of}
+use Rattle.grift_cli.specs.declared.terms.CoreList.{size-CoreList}
+use Rattle.grift_cli.specs.TermViews.{terms_of}
 use Rattle.grift_cli.specs.Code.{operands_insts, terms_insts}
 use Rattle.grift_cli.proofs.instructions.+emitting.Given as goal
 

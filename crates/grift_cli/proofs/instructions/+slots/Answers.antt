@@ -1,6 +1,6 @@
 use Rattle.std.proofs.Common.{rules, arith, ◌∙◌}
-use Rattle.core_calc.specs.declared.terms.CoreList.{the_lemmas}
-use Rattle.core_calc.specs.Views.{term_of, terms_of}
+use Rattle.grift_cli.specs.declared.terms.CoreList.{the_lemmas}
+use Rattle.grift_cli.specs.TermViews.{term_of, terms_of}
 use Rattle.grift_cli.proofs.Emitting.{slots_from_more}
 use Rattle.grift_cli.proofs.instructions.+slots.Goals as goal
 

@@ -1,6 +1,6 @@
 use Rattle.std.proofs.Common.{◌≡◌, min, max, ◌≤◌}
-use Rattle.core_calc.specs.declared.terms.CoreList.{size-CoreList}
-use Rattle.core_calc.specs.Views.{terms_of}
+use Rattle.grift_cli.specs.declared.terms.CoreList.{size-CoreList}
+use Rattle.grift_cli.specs.TermViews.{terms_of}
 use Rattle.grift_cli.specs.Code.{most_slots, operand_slots}
 use Rattle.grift_cli.proofs.Emitting.{slots_from}
 use Rattle.grift_cli.proofs.instructions.+slots.Given as goal

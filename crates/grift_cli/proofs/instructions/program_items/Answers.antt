@@ -2,7 +2,7 @@ use Rattle.std.proofs.Common.{ℕ, List, ◌≡◌, ◌≤◌, sym, subst, rules
 use Rattle.std.specs.Prelude.{not, count_by}
 use Rattle.rv_isa.specs.declared.real.RealItem.{RealItem}
 use Rattle.assembler.specs.Conditions.{is_mark}
-use Rattle.core_calc.specs.Views.{term_of}
+use Rattle.grift_cli.specs.TermViews.{term_of}
 use Rattle.grift_cli.specs.Code.{program_items}
 use Rattle.grift_cli.specs.Limits.{insts_limit}
 use Rattle.grift_cli.proofs.Forward.{program_fits}

@@ -1,7 +1,7 @@
 use Rattle.std.proofs.Common.{◌≡◌, ◌++◌, ◌∷◌, ◌≤◌, pos, map}
 use Rattle.rv_isa.specs.declared.inst.Inst.TheVariants.{Addi}
 use Rattle.rv_isa.specs.declared.real.RealItem.TheVariants.{Op}
-use Rattle.assembler.specs.Forms.{chunk_of}
+use Rattle.assembler.specs.Expansion.{chunk_of}
 use Rattle.grift_cli.specs.Code.{chunks_insts}
 use Rattle.grift_cli.proofs.instructions.put_word.Given as goal
 

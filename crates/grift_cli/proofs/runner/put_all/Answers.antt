@@ -4,4 +4,4 @@ use Rattle.grift_cli.proofs.runner.put_all.Goals as goal
 
 pub returns : goal.returns
 returns g c =
-    puts_all _ _ c.put.result (some_bytes c.args.bytes.now (sym c.if-is_empty.false ∙ c.is_empty.ensures)) c.put.ensures.puts c.put.ensures.count
+    puts_all _ c.put.result _ (some_bytes c.args.bytes.now (sym c.if-is_empty.false ∙ c.is_empty.ensures)) c.put.ensures

@@ -3,7 +3,7 @@ use Rattle.sexpr_reader.specs.Datum.{Datums}
 use Rattle.sexpr_reader.specs.Grammar.{Reads}
 use Rattle.sexpr_reader.specs.View.{datums_of}
 use Rattle.core_calc.specs.Terms.{Term}
-use Rattle.core_calc.specs.Views.{term_of}
+use Rattle.grift_cli.specs.TermViews.{term_of}
 use Rattle.grift_cli.specs.declared.elaboration.ExprType.{ExprType}
 use Rattle.grift_cli.specs.Forms.{IsProgram}
 use Rattle.grift_cli.specs.Elaboration.{HasExprType}
@@ -24,4 +24,9 @@ pub returns-clause-err : goal.returns-clause-err
 returns-clause-err c =
     let text = c.args.text.now in
     let datums = datums_of c.in_ok-forms.forms in
-    rw c.bad_form.ensures (refl, untyped text datums (term_of c.in_ok-term.term) (λ other reads. c.a_text_has_one_reading.ensures text other datums reads.forms c.in_ok-forms.ensures.reading.forms) c.in_ok-term.ensures.ok c.in-None.ensures)
+    rw c.bad_form.ensures (
+      refl,
+      untyped text datums (term_of c.in_ok-term.term)
+          (λ other reads. c.a_text_has_one_reading.ensures text other datums reads.forms
+          c.in_ok-forms.ensures.reading.forms) c.in_ok-term.ensures.ok c.in-None.ensures,
+    )

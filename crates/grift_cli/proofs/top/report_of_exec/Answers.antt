@@ -1,23 +1,30 @@
 use Rattle.std.proofs.Common.{refl, ◌∙◌, subst}
 use Rattle.rv_machine.specs.Image.{IsImage}
-use Rattle.grift_cli.specs.Words.{Exec}
-use Rattle.grift_cli.specs.CommandWords.{limits_of_words}
-use Rattle.grift_cli.proofs.Working.{loaded_file, load_fault, file_fault, means_exec}
+use Rattle.grift_cli.specs.Commands.{Exec}
+use Rattle.grift_cli.proofs.Saying.{has_loaded, says_load_fault, says_image_fault, says_exec}
 use Rattle.grift_cli.proofs.top.report_of_exec.Goals as goal
 
 pub returns-in-Err : goal.returns-in-Err
 returns-in-Err g c words img is none =
-    rw c.report_of_load.ensures (load_fault _ (Exec c.args.file.now (limits_of_words c.args.limits)) c.in-Err.fault is (record { out = record { written = refl; faults = refl }; img = none }) c.in-Err.ensures.loads c.in-Err.ensures.names c.in-Err.ensures.count)
+    rw c.report_of_load.ensures (says_load_fault _ (Exec c.args.file.now c.args.limits) c.in-Err.fault is
+    (record { out = record { written = refl; faults = refl }; img = none })
+    c.in-Err.ensures.loads c.in-Err.ensures.names c.in-Err.ensures.count)
 
 pub returns-in-Ok-read_image : goal.returns-in-Ok-read_image
 returns-in-Ok-read_image g c words img is none =
-    means_exec _ (limits_of_words c.args.limits) c.in-Ok-read_image.image c.exec_image.result (record {
+    says_exec _ c.args.limits c.in-Ok-read_image.image c.exec_image.result (record {
       file = c.args.file.now;
-      loaded = loaded_file _ (Exec c.args.file.now (limits_of_words c.args.limits)) c.in-Ok-read_image.image _ is c.in-Ok.ensures.names c.in-Ok.ensures.count (c.in-Ok-read_image.ensures.image ∙ c.as_slice.ensures.value) c.in-Ok.ensures.loads.0 c.in-Ok.ensures.loads.1;
+      loaded = has_loaded _ (Exec c.args.file.now c.args.limits) c.in-Ok-read_image.image _ is c.in-Ok.ensures.names
+          c.in-Ok.ensures.count (c.in-Ok-read_image.ensures.image ∙ c.as_slice.ensures.value) c.in-Ok.ensures.loads.0
+          c.in-Ok.ensures.loads.1;
       whole = subst IsImage c.image.view_is c.image.invariant;
       no_image = none;
     }) c.exec_image.ensures
 
 pub returns : goal.returns
 returns g c words img is none =
-    rw c.report_of_image.ensures (file_fault _ c.args.file.now (limits_of_words c.args.limits) c.as_slice.result.now c.in-Err-read_image.fault (loaded_file _ (Exec c.args.file.now (limits_of_words c.args.limits)) c.as_slice.result.now _ is c.in-Ok.ensures.names c.in-Ok.ensures.count c.as_slice.ensures.value c.in-Ok.ensures.loads.0 c.in-Ok.ensures.loads.1) (record { out = record { written = refl; faults = refl }; img = none }) c.in-Err-read_image.ensures.fault)
+    rw c.report_of_image.ensures (says_image_fault _ c.args.file.now c.args.limits c.as_slice.result.now
+    c.in-Err-read_image.fault (has_loaded _ (Exec c.args.file.now c.args.limits) c.as_slice.result.now _ is
+    c.in-Ok.ensures.names c.in-Ok.ensures.count c.as_slice.ensures.value c.in-Ok.ensures.loads.0
+    c.in-Ok.ensures.loads.1)
+    (record { out = record { written = refl; faults = refl }; img = none }) c.in-Err-read_image.ensures.fault)

@@ -9,4 +9,5 @@ loop-last-init c = onto-none (map datum_of c.args.items.items)
 
 pub loop-last-preserved : goal.loop-last-preserved
 loop-last-preserved c =
-    rw (c.in_ok-new.ensures.ok, c.in_ok-new-2.ensures.ok) (onto-pop _ _ c.in-Some.last _ _ c.in-Some.ensures.items c.loop-last.invariant)
+    rw (c.in_ok-new.ensures.ok, c.in_ok-new-2.ensures.ok)
+    (onto-pop _ _ c.in-Some.last _ _ c.in-Some.ensures.items c.loop-last.invariant)

@@ -5,4 +5,11 @@ use Rattle.assembler.proofs.assembly.tests.marks_labels_and_statics.Goals as goa
 pub assemble-requires : goal.assemble-requires
 assemble-requires g c =
     let zero : c.new.result ≡ 0 = cc in
-    rw (c.in_ok-push-3.ensures.ok, c.in_ok-push-2.ensures.ok, c.in_ok-push.ensures.ok, c.new-items.ensures, c.set.ensures, zero) loop_items
+    rw (
+      c.in_ok-push-3.ensures.ok,
+      c.in_ok-push-2.ensures.ok,
+      c.in_ok-push.ensures.ok,
+      c.new-items.ensures,
+      c.set.ensures,
+      zero,
+    ) loop_items

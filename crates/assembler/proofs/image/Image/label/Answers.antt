@@ -1,6 +1,6 @@
 use Rattle.std.proofs.Common.{◌+◌, ◌*◌, Some, ap, sym, ◌∙◌, arith}
 use Rattle.rv_machine.specs.Image.{code_len, statics_len, label_at, label_count}
-use Rattle.rv_machine.proofs.Image.{label_past, label_within}
+use Rattle.rv_machine.proofs.Public.{label_past, label_within}
 use Rattle.assembler.proofs.image.Image.label.Goals as goal
 
 pub returns-then-label_count-i-clause-value : goal.returns-then-label_count-i-clause-value

@@ -1,6 +1,6 @@
 use Rattle.std.proofs.Common.{◌∷◌, ◌++◌, [], ap, sym, ◌∙◌}
 use Rattle.rv_machine.specs.Image.{labels_from}
-use Rattle.rv_machine.proofs.Image.{labels_none, labels_more}
+use Rattle.rv_machine.proofs.Public.{labels_none, labels_more}
 use Rattle.assembler.proofs.image.Image.labels.Goals as goal
 
 pub loop-i-init : goal.loop-i-init

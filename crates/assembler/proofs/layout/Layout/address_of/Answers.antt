@@ -1,6 +1,6 @@
 use Rattle.std.proofs.Common.{◌+◌, ◌*◌, ◌∙◌, ap, arith}
 use Rattle.assembler.specs.Layout.{longest_widths}
-use Rattle.assembler.proofs.Words.{widths_long}
+use Rattle.assembler.proofs.Insts.{widths_long}
 use Rattle.assembler.proofs.layout.Layout.address_of.Goals as goal
 
 pub words_before-requires : goal.words_before-requires

@@ -9,6 +9,7 @@ pub returns-in-Some-clause-inside : goal.returns-in-Some-clause-inside
 returns-in-Some-clause-inside c =
     let items = c.args.items.now in
     let found = sym (ap option_copied c.in-Some.is) ∙ c.get.ensures.value in
-    let same : c.in-Some.place.now ≡ mark_place c.args.mark items = ap (place_or (length items)) found ∙ c.requires.reach.places c.args.mark in
+    let same : c.in-Some.place.now ≡ mark_place c.args.mark items = ap (place_or (length items)) found
+    ∙ c.requires.reach.places c.args.mark in
     let inside = mark_inside c.args.mark items in
     omega arith

@@ -5,4 +5,5 @@ use Rattle.core_calc.proofs.terms.CoreList.len.Given as goal
 
 abbrev pub invariant-loop-left : goal.invariant-loop-left
 invariant-loop-left l =
-    (l.count ≤ 18446744073709551615) × (min 18446744073709551615 (l.count + length (term_list (terms_of l.left))) ≡ min 18446744073709551615 (length (term_list (terms_of l.fn.self))))
+    (l.count ≤ 18446744073709551615) × (min 18446744073709551615 (l.count + length (term_list (terms_of l.left))) ≡
+    min 18446744073709551615 (length (term_list (terms_of l.fn.self))))

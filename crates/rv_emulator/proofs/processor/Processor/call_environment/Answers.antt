@@ -4,5 +4,8 @@ use Rattle.rv_emulator.proofs.processor.Processor.call_environment.Goals as goal
 
 pub returns-in-Ended-clause-made : goal.returns-in-Ended-clause-made
 returns-in-Ended-clause-made g c =
-    let s = state_of g.R.Ram.memory c.args.self.now in
-    (call_is s _ _ _ _ _ c.env.new.self c.read-number.ensures c.read-first.ensures c.read-second.ensures c.len.ensures c.in-Ended.ensures.call, as_before s c.env.new.self c.in-Ended.ensures.stays)
+    let s = state_of g.R.Ram.memory c.args.self.now in (
+      call_is s _ _ _ _ _ c.env.new.self c.read-number.ensures c.read-first.ensures c.read-second.ensures c.len.ensures
+          c.in-Ended.ensures.call,
+      as_before s c.env.new.self c.in-Ended.ensures.stays,
+    )

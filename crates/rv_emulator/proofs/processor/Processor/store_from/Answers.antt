@@ -12,4 +12,5 @@ returns-in-Ok-clause-made g c =
     let w = width_of c.args.width in
     let z : c.args.to % byte_len w ≡ 0 = rw (← c.bytes-bytes.ensures.value) (grind arith) in
     let room : c.args.to + byte_len w ≤ c.args.self.now.places.end = rw (← c.bytes-bytes.ensures.value) (omega arith) in
-    store_goes w c.args.word c.args.to s (mem c.args.self.now.ram) (mem c.store.new.self) refl z (omega arith) (omega arith) room c.in-Ok.ensures.ok
+    store_goes w c.args.word c.args.to s (mem c.args.self.now.ram) (mem c.store.new.self) refl z (omega arith)
+    (omega arith) room c.in-Ok.ensures.ok

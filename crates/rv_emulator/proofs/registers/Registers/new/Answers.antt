@@ -8,7 +8,8 @@ zeros : (n i : ℕ) → get_or {A = ℕ} (replicate n 0) i 0 ≡ 0
 zeros n i =
     ⊎_elim
     (λ lt. get_or-replicate n i 0 0 lt)
-    (λ le. let l : length {A = ℕ} (replicate n 0) ≤ i = omega (arith, length-replicate {A = ℕ} n 0) in get_or_past (replicate n 0) i 0 l)
+    (λ le. let l : length {A = ℕ} (replicate n 0) ≤ i = omega (arith, length-replicate {A = ℕ} n 0) in
+    get_or_past (replicate n 0) i 0 l)
     (cases_lt i n)
 
 pub returns : goal.returns

@@ -1,0 +1,21 @@
+use Rattle.std.proofs.Common.{◌∷◌, [], pos, refl}
+use Rattle.rv_isa.specs.declared.inst.Inst.TheVariants.{Jalr}
+use Rattle.assembler.specs.Expansion.{far_insts}
+use Rattle.assembler.proofs.Insts.{ok_more, put_two, decode_two}
+use Rattle.assembler.proofs.expansion.put_far_jump.Goals as goal
+
+pub returns-clause-words : goal.returns-clause-words
+returns-clause-words c =
+    ok_more c.put_all-2.result
+    (put_two (far_insts c.args.target) (Jalr c.args.rd 31 (pos 0) ∷ []) c.far_address.result
+    (Jalr c.args.rd c.scratch.result c.new.result ∷ []) c.args.words.now c.put_all.new.words c.put_all-2.new.words
+    c.far_address.ensures (rw (c.scratch.ensures, c.new.ensures) refl) c.in_ok-put_all.ensures.words)
+    c.put_all-2.ensures.words
+
+pub returns-clause-decode : goal.returns-clause-decode
+returns-clause-decode c =
+    ok_more c.put_all-2.result
+    (decode_two (far_insts c.args.target) (Jalr c.args.rd 31 (pos 0) ∷ []) c.far_address.result
+    (Jalr c.args.rd c.scratch.result c.new.result ∷ []) c.far_address.ensures
+    (rw (c.scratch.ensures, c.new.ensures) refl) c.in_ok-put_all.ensures.decode)
+    c.put_all-2.ensures.decode

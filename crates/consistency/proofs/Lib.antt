@@ -1,0 +1,4 @@
+pub mod ConsistentLemmas
+pub mod BlendLemmas
+pub mod FormedBlends
+pub mod Public

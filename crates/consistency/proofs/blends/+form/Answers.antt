@@ -1,0 +1,274 @@
+use Rattle.std.proofs.Common.{◌≡◌, ℕ, ◌+◌, ◌<◌, ◌≤◌, ◌++◌, ◌∷◌, Bool, true, false, List, [], length, take, get_or, Some}
+use Rattle.std.proofs.Common.{refl, sym, ap, ap₂, ◌∙◌, subst, arith, append-nil}
+use Rattle.std.specs.Prelude.{All, MatchBool}
+use Rattle.std.proofs.lemmas.List.{map_more, take_more, length-map}
+use Rattle.grift_base.specs.declared.places.TypeId.{TypeId}
+use Rattle.grift_base.specs.Types.{TypeRow, TypeRows, row_at, parts_of, is_dyn, same_head}
+use Rattle.type_graph.specs.Rows.{places_of, row_of}
+use Rattle.type_graph.specs.Trees.{above_all, related}
+use Rattle.type_graph.specs.Forming.{intern}
+use Rattle.type_graph.specs.TypeTables.{HasMoreRows, FitsTable}
+use Rattle.type_graph.proofs.Public.{same_some, row_stays, more_rows, later_within, parts_within, above_all-most}
+use Rattle.type_graph.proofs.Public.{fun_parts, intern_adds}
+use Rattle.consistency.specs.declared.pairs.Pair.{Pair}
+use Rattle.consistency.specs.Consistency.{consistent}
+use Rattle.consistency.specs.Blending.{blend_each, blend_to, with_parts}
+use Rattle.consistency.specs.Known.{MayBlend, IsFormed, EachFormed, firsts, seconds}
+use Rattle.consistency.proofs.ConsistentLemmas.{consistent_kept}
+use Rattle.consistency.proofs.BlendLemmas.{IsFormed-grown, EachFormed-grown, EachFormed-push, EachFormed-length}
+use Rattle.consistency.proofs.BlendLemmas.{plain_consistent, All-MayBlend, both_fits, IsFormed-both, computes}
+use Rattle.consistency.proofs.BlendLemmas.{IsFormed-first, IsFormed-second, AreFormed-grown, AreFormed-insert}
+use Rattle.consistency.proofs.BlendLemmas.{first_below_all, one_more_computed}
+use Rattle.consistency.proofs.blends.+form.Goals as goal
+
+-- stands for an element where there is none
+abbrev nowhere : Pair
+nowhere = record { first = record { 0 = 0 }; second = record { 0 = 0 } }
+
+pub form-returns-in-Some-clause-computed : goal.form-returns-in-Some-clause-computed
+form-returns-in-Some-clause-computed t c = λ depth deep.
+    let there = c.requires.known (record { first = c.args.a; second = c.args.b }) c.in-Some.c
+    (sym c.get.ensures.value ∙ sym c.copied.ensures ∙ c.in-Some.is) in
+    subst (λ (rows : TypeRows). blend_to depth c.args.a.0 c.args.b.0 rows ≡ (c.in-Some.c.0, rows))
+    (append-nil c.args.types.now) (there.again [] depth deep)
+
+pub form-returns-in-Some-clause-formed : goal.form-returns-in-Some-clause-formed
+form-returns-in-Some-clause-formed t c =
+    c.requires.known (record { first = c.args.a; second = c.args.b }) c.in-Some.c
+    (sym c.get.ensures.value ∙ sym c.copied.ensures ∙ c.in-Some.is)
+
+pub form-returns-clause-known : goal.form-returns-clause-known
+form-returns-clause-known t c =
+    AreFormed-insert c.form_row.new.types c.form_row.new.known c.insert.new.self
+    (record { first = c.args.a; second = c.args.b }) c.in_ok-c.c c.in_ok-c.ensures.known c.in_ok-c.ensures.formed
+    c.in_ok-insert.ensures.updates.0
+
+pub form_each-form-requires : goal.form_each-form-requires
+form_each-form-requires t c =
+    let old = c.args.types.now in
+    let now = c.loop-pair.types in
+    let pair : Pair = get_or c.args.pairs.now c.loop-pair.pair-index nowhere in
+    let may : MayBlend old pair = c.requires.pairs c.loop-pair.pair-index nowhere c.loop-pair-test.true in
+    let below = first_below_all c.args.pairs.now c.loop-pair.pair-index nowhere c.loop-pair-test.true in
+    let grown = c.loop-pair.invariant.grown in (
+      omega (arith, c.decreases, below),
+      (
+        later_within old now pair.first.0 grown may.first_there,
+        (
+          later_within old now pair.second.0 grown may.second_there,
+          (
+            consistent_kept old now c.len.ensures.table.parts_first c.len-in-loop-pair.ensures.table.parts_first grown
+                pair.first.0 pair.second.0 may.first_there may.second_there
+                ∙ may.consistent_pair,
+            c.loop-pair.invariant.known,
+          ),
+        ),
+      ),
+    )
+
+pub form_each-loop-pair-preserved : goal.form_each-loop-pair-preserved
+form_each-loop-pair-preserved t c =
+    let old = c.args.types.now in
+    let now = c.loop-pair.types in
+    let new = c.form.new.types in
+    let pairs = c.args.pairs.now in
+    let k : ℕ = c.loop-pair.pair-index in
+    let pair : Pair = get_or pairs k nowhere in
+    let parts = c.loop-pair.parts.items in
+    record {
+      known = c.in_ok-part.ensures.known;
+      grown = more_rows old now new c.loop-pair.invariant.grown c.in_ok-part.ensures.grown;
+      formed =
+          subst (λ (cs : List TypeId). EachFormed new (take (k + 1) pairs) cs) (sym c.in_ok-push.ensures)
+          (subst (λ (ps : List Pair). EachFormed new ps (parts ++ c.in_ok-part.part ∷ []))
+          (sym (take_more pairs k nowhere c.loop-pair-test.true))
+          (EachFormed-push new (take k pairs) parts pair c.in_ok-part.part
+          (EachFormed-grown now new (take k pairs) parts c.len-in-loop-pair.ensures.table.parts_first
+          c.in_ok-part.ensures.grown c.loop-pair.invariant.formed)
+          c.in_ok-part.ensures.formed));
+      computed = λ depth deep.
+          let all = fun_parts (λ s. s < depth) (firsts (take k pairs)) pair.first.0
+          (subst (λ (xs : List ℕ). All (λ s. s < depth) xs)
+          (map_more (λ (p : Pair). p.first.0) pairs k nowhere c.loop-pair-test.true) deep) in
+          one_more_computed depth old now new pairs k nowhere parts c.in_ok-part.part c.loop-pair-test.true
+          (c.loop-pair.invariant.computed depth all.0) (c.in_ok-part.ensures.computed depth all.1)
+          ∙ ap (λ (cs : List TypeId). (places_of cs, new)) (sym c.in_ok-push.ensures);
+    }
+
+pub form_row-returns-then-is_dyn-clause-formed : goal.form_row-returns-then-is_dyn-clause-formed
+form_row-returns-then-is_dyn-clause-formed t c =
+    IsFormed-first c.args.types.now c.args.a.0 c.args.b.0 (row_of c.row-row.result.now) (row_of c.row-other.result.now)
+    c.row-row.ensures c.row-other.ensures (sym c.is_dyn.ensures ∙ c.if-is_dyn.true)
+
+pub form_row-returns-then-is_dyn-2-clause-formed : goal.form_row-returns-then-is_dyn-2-clause-formed
+form_row-returns-then-is_dyn-2-clause-formed t c =
+    IsFormed-second c.args.types.now c.args.a.0 c.args.b.0 (row_of c.row-row.result.now) (row_of c.row-other.result.now)
+    c.row-row.ensures c.row-other.ensures (sym c.is_dyn.ensures ∙ c.if-is_dyn.false)
+    (sym c.is_dyn-2.ensures ∙ c.if-is_dyn-2.true)
+
+pub form_row-form_each-requires : goal.form_row-form_each-requires
+form_row-form_each-requires t c =
+    let types = c.args.types.now in
+    let table = c.len.ensures.table in
+    let a : ℕ = c.args.a.0 in
+    let b : ℕ = c.args.b.0 in
+    let row = row_of c.row-row.result.now in
+    let other = row_of c.row-other.result.now in
+    let parts =
+    plain_consistent types a b row other table.parts_first c.requires.a c.row-row.ensures c.row-other.ensures
+    (sym c.is_dyn.ensures ∙ c.if-is_dyn.false) (sym c.is_dyn-2.ensures ∙ c.if-is_dyn-2.false) c.requires.consistent in
+    let pairs = c.in_ok-pairs.pairs.items in
+    let most : above_all (λ part. part) (firsts pairs) ≤ a =
+    subst (λ (xs : List ℕ). above_all (λ part. part) xs ≤ a) (sym c.in_ok-pairs.ensures.firsts)
+    (above_all-most a (parts_of row) (table.parts_first a row c.row-row.ensures)) in
+    rw c.as_slice.ensures.value (
+      omega (arith, c.decreases, most),
+      (
+        All-MayBlend types pairs
+            (subst (λ (xs : List ℕ). All (λ s. s < length types) xs) (sym c.in_ok-pairs.ensures.firsts)
+            (parts_within types a row table.parts_first c.row-row.ensures))
+            (subst (λ (xs : List ℕ). All (λ s. s < length types) xs) (sym c.in_ok-pairs.ensures.seconds)
+            (parts_within types b other table.parts_first c.row-other.ensures))
+            (ap₂ (λ xs ys. related (consistent types) xs ys) c.in_ok-pairs.ensures.firsts c.in_ok-pairs.ensures.seconds
+            ∙ parts.1),
+        c.requires.known,
+      ),
+    )
+
+pub form_row-row_with_parts-requires : goal.form_row-row_with_parts-requires
+form_row-row_with_parts-requires t c =
+    let types = c.args.types.now in
+    let middle = c.form_each.new.types in
+    let table = c.len-2.ensures.table in
+    let a : ℕ = c.args.a.0 in
+    let b : ℕ = c.args.b.0 in
+    let row : TypeRow = row_of c.row-row.result.now in
+    let other : TypeRow = row_of c.row-other.result.now in
+    let row_plain = sym c.is_dyn.ensures ∙ c.if-is_dyn.false in
+    let other_plain = sym c.is_dyn-2.ensures ∙ c.if-is_dyn-2.false in
+    let parts = plain_consistent types a b row other c.len.ensures.table.parts_first c.requires.a c.row-row.ensures
+    c.row-other.ensures row_plain other_plain c.requires.consistent in
+    let grown = c.in_ok-parts.ensures.grown in
+    let at_a : row_at middle a ≡ Some row = row_stays types middle a row grown c.row-row.ensures in
+    let at_b : row_at middle b ≡ Some other = row_stays types middle b other grown c.row-other.ensures in
+    let pairs : List Pair = c.in_ok-pairs.pairs.items in
+    let cs : List TypeId = c.in_ok-parts.parts.items in
+    let each : EachFormed middle pairs cs =
+    subst (λ (ps : List Pair). EachFormed middle ps cs) c.as_slice.ensures.value c.in_ok-parts.ensures.formed in
+    let same_row : row_of c.row.result.now ≡ row =
+    same_some (row_of c.row.result.now) row (sym c.row.ensures ∙ at_a) in
+    rw (c.as_slice-2.ensures.value, same_row)
+    (sym (length-map cs (λ (id : TypeId). id.0)) ∙ EachFormed-length middle pairs cs each
+    ∙ ap length c.in_ok-pairs.ensures.firsts)
+
+pub form_row-intern-requires : goal.form_row-intern-requires
+form_row-intern-requires t c =
+    let types = c.args.types.now in
+    let middle = c.form_each.new.types in
+    let table = c.len-2.ensures.table in
+    let a : ℕ = c.args.a.0 in
+    let b : ℕ = c.args.b.0 in
+    let row : TypeRow = row_of c.row-row.result.now in
+    let other : TypeRow = row_of c.row-other.result.now in
+    let row_plain = sym c.is_dyn.ensures ∙ c.if-is_dyn.false in
+    let other_plain = sym c.is_dyn-2.ensures ∙ c.if-is_dyn-2.false in
+    let parts = plain_consistent types a b row other c.len.ensures.table.parts_first c.requires.a c.row-row.ensures
+    c.row-other.ensures row_plain other_plain c.requires.consistent in
+    let grown = c.in_ok-parts.ensures.grown in
+    let at_a : row_at middle a ≡ Some row = row_stays types middle a row grown c.row-row.ensures in
+    let at_b : row_at middle b ≡ Some other = row_stays types middle b other grown c.row-other.ensures in
+    let pairs : List Pair = c.in_ok-pairs.pairs.items in
+    let cs : List TypeId = c.in_ok-parts.parts.items in
+    let each : EachFormed middle pairs cs =
+    subst (λ (ps : List Pair). EachFormed middle ps cs) c.as_slice.ensures.value c.in_ok-parts.ensures.formed in
+    let same_row : row_of c.row.result.now ≡ row =
+    same_some (row_of c.row.result.now) row (sym c.row.ensures ∙ at_a) in
+    let both : row_of c.in_ok-both.both ≡ with_parts row (places_of cs) =
+    c.in_ok-both.ensures
+    ∙ ap₂ (λ r (xs : List TypeId). with_parts r (places_of xs)) same_row c.as_slice-2.ensures.value in
+    subst (λ (r : TypeRow). FitsTable middle r) (sym both)
+    (both_fits middle a b row other pairs cs table at_a at_b row_plain other_plain parts.0 c.in_ok-pairs.ensures.firsts
+    c.in_ok-pairs.ensures.seconds each)
+
+pub form_row-returns-clause-computed : goal.form_row-returns-clause-computed
+form_row-returns-clause-computed t c =
+    let types = c.args.types.now in
+    let middle = c.form_each.new.types in
+    let table = c.len-2.ensures.table in
+    let a : ℕ = c.args.a.0 in
+    let b : ℕ = c.args.b.0 in
+    let row : TypeRow = row_of c.row-row.result.now in
+    let other : TypeRow = row_of c.row-other.result.now in
+    let row_plain = sym c.is_dyn.ensures ∙ c.if-is_dyn.false in
+    let other_plain = sym c.is_dyn-2.ensures ∙ c.if-is_dyn-2.false in
+    let parts = plain_consistent types a b row other c.len.ensures.table.parts_first c.requires.a c.row-row.ensures
+    c.row-other.ensures row_plain other_plain c.requires.consistent in
+    let grown = c.in_ok-parts.ensures.grown in
+    let at_a : row_at middle a ≡ Some row = row_stays types middle a row grown c.row-row.ensures in
+    let at_b : row_at middle b ≡ Some other = row_stays types middle b other grown c.row-other.ensures in
+    let pairs : List Pair = c.in_ok-pairs.pairs.items in
+    let cs : List TypeId = c.in_ok-parts.parts.items in
+    let each : EachFormed middle pairs cs =
+    subst (λ (ps : List Pair). EachFormed middle ps cs) c.as_slice.ensures.value c.in_ok-parts.ensures.formed in
+    let same_row : row_of c.row.result.now ≡ row =
+    same_some (row_of c.row.result.now) row (sym c.row.ensures ∙ at_a) in
+    let both : row_of c.in_ok-both.both ≡ with_parts row (places_of cs) =
+    c.in_ok-both.ensures
+    ∙ ap₂ (λ r (xs : List TypeId). with_parts r (places_of xs)) same_row c.as_slice-2.ensures.value in
+    let new = c.intern.new.self in
+    let added =
+    subst (λ (rows : TypeRows). HasMoreRows middle rows) (ap (λ (d : ℕ × TypeRows). d.1) c.in_ok-c.ensures.ok)
+    (intern_adds (row_of c.in_ok-both.both) middle) in
+    let at_c : row_at new c.in_ok-c.c.0 ≡ Some (with_parts row (places_of cs)) =
+    c.in_ok-c.ensures.place ∙ ap Some both in
+    computes middle a b row other pairs cs table at_a at_b row_plain other_plain parts.0 c.in_ok-pairs.ensures.firsts
+    c.in_ok-pairs.ensures.seconds each new c.in_ok-c.c.0 c.len-3.ensures.table added at_c types c.row-row.ensures
+    c.row-other.ensures
+    (λ depth. subst (λ (ps : List Pair). All (λ s. s < depth) (firsts ps) →
+    blend_each (blend_to depth) (firsts ps) (seconds ps) types ≡ (places_of cs, middle)) c.as_slice.ensures.value
+    (c.in_ok-parts.ensures.computed depth))
+    (ap (λ r. intern r middle) (sym both) ∙ c.in_ok-c.ensures.ok)
+
+pub form_row-returns-clause-formed : goal.form_row-returns-clause-formed
+form_row-returns-clause-formed t c =
+    let types = c.args.types.now in
+    let middle = c.form_each.new.types in
+    let table = c.len-2.ensures.table in
+    let a : ℕ = c.args.a.0 in
+    let b : ℕ = c.args.b.0 in
+    let row : TypeRow = row_of c.row-row.result.now in
+    let other : TypeRow = row_of c.row-other.result.now in
+    let row_plain = sym c.is_dyn.ensures ∙ c.if-is_dyn.false in
+    let other_plain = sym c.is_dyn-2.ensures ∙ c.if-is_dyn-2.false in
+    let parts = plain_consistent types a b row other c.len.ensures.table.parts_first c.requires.a c.row-row.ensures
+    c.row-other.ensures row_plain other_plain c.requires.consistent in
+    let grown = c.in_ok-parts.ensures.grown in
+    let at_a : row_at middle a ≡ Some row = row_stays types middle a row grown c.row-row.ensures in
+    let at_b : row_at middle b ≡ Some other = row_stays types middle b other grown c.row-other.ensures in
+    let pairs : List Pair = c.in_ok-pairs.pairs.items in
+    let cs : List TypeId = c.in_ok-parts.parts.items in
+    let each : EachFormed middle pairs cs =
+    subst (λ (ps : List Pair). EachFormed middle ps cs) c.as_slice.ensures.value c.in_ok-parts.ensures.formed in
+    let same_row : row_of c.row.result.now ≡ row =
+    same_some (row_of c.row.result.now) row (sym c.row.ensures ∙ at_a) in
+    let both : row_of c.in_ok-both.both ≡ with_parts row (places_of cs) =
+    c.in_ok-both.ensures
+    ∙ ap₂ (λ r (xs : List TypeId). with_parts r (places_of xs)) same_row c.as_slice-2.ensures.value in
+    let new = c.intern.new.self in
+    let added =
+    subst (λ (rows : TypeRows). HasMoreRows middle rows) (ap (λ (d : ℕ × TypeRows). d.1) c.in_ok-c.ensures.ok)
+    (intern_adds (row_of c.in_ok-both.both) middle) in
+    let at_c : row_at new c.in_ok-c.c.0 ≡ Some (with_parts row (places_of cs)) =
+    c.in_ok-c.ensures.place ∙ ap Some both in
+    IsFormed-both middle a b row other pairs cs table at_a at_b row_plain other_plain parts.0
+    c.in_ok-pairs.ensures.firsts
+    c.in_ok-pairs.ensures.seconds each new c.in_ok-c.c.0 c.len-3.ensures.table added at_c
+
+pub form_row-returns-clause-known : goal.form_row-returns-clause-known
+form_row-returns-clause-known t c =
+    let middle = c.form_each.new.types in
+    let added =
+    subst (λ (rows : TypeRows). HasMoreRows middle rows) (ap (λ (d : ℕ × TypeRows). d.1) c.in_ok-c.ensures.ok)
+    (intern_adds (row_of c.in_ok-both.both) middle) in
+    AreFormed-grown middle c.intern.new.self c.form_each.new.known c.len-2.ensures.table.parts_first added
+    c.in_ok-parts.ensures.known

@@ -1,0 +1,213 @@
+use Rattle.std.proofs.Common.{◌≡◌, ℕ, ◌<◌, ◌≤◌, ◌++◌, ◌∷◌, Bool, true, false, List, [], length, get_or, Some, Result}
+use Rattle.std.proofs.Common.{refl, sym, ap, ap₂, ◌∙◌, subst, arith}
+use Rattle.std.specs.Prelude.{All, ◌&&◌, IfOk}
+use Rattle.std.proofs.lemmas.List.Elements.{All-head, All-weaker}
+use Rattle.grift_base.specs.declared.places.TypeId.{TypeId}
+use Rattle.grift_base.specs.Types.{TypeRow, FunRow, TupleRow, RefRow, VectRow, row_at, parts_of}
+use Rattle.type_graph.specs.Rows.{places_of, row_of}
+use Rattle.type_graph.specs.Trees.{above_all, related}
+use Rattle.type_graph.proofs.Public.{parts_within, part_at, part_below_all, above_all-most, fun_parts}
+use Rattle.consistency.specs.Consistency.{consistent}
+use Rattle.consistency.proofs.ConsistentLemmas.{related_more, related_fails, related_lengths, functions_consistent}
+use Rattle.consistency.proofs.ConsistentLemmas.{tuples_consistent, references_consistent, vectors_consistent}
+use Rattle.consistency.proofs.checks.+check.Goals as goal
+
+-- stands for an element where there is none
+abbrev nowhere : TypeId
+nowhere = record { 0 = 0 }
+
+-- an answer is another fact's where that is the same
+same_answer : {E : Type 0} (r : Result Bool E) (x y : Bool) → IfOk r (λ answer. answer ≡ x) → x ≡ y →
+    IfOk r (λ answer. answer ≡ y)
+same_answer r x y h e = subst (λ (z : Bool). IfOk r (λ answer. answer ≡ z)) e h
+
+pub check_each-returns-then-parts-others-clause-answer : goal.check_each-returns-then-parts-others-clause-answer
+check_each-returns-then-parts-others-clause-answer t c =
+    sym (related_lengths (consistent c.args.types.now) c.args.parts.now c.args.others.now c.if-parts-others.true)
+
+pub check_each-check-requires : goal.check_each-check-requires
+check_each-check-requires t c =
+    let same : length c.args.parts.now ≡ length c.args.others.now = c.if-parts-others.false in
+    let below = part_below_all c.args.parts.now c.loop-i.i nowhere c.loop-i-test.true in (
+      omega (arith, c.decreases, below),
+      (
+        part_at (λ part. part < length c.args.types.now) c.args.parts.now c.loop-i.i nowhere c.loop-i-test.true
+            c.requires.parts,
+        (
+          part_at (λ part. part < length c.args.types.now) c.args.others.now c.loop-i.i nowhere (omega arith)
+              c.requires.others,
+          c.loop-i.invariant.known,
+        ),
+      ),
+    )
+
+pub check_each-returns-then-not-branch-clause-answer : goal.check_each-returns-then-not-branch-clause-answer
+check_each-returns-then-not-branch-clause-answer t c =
+    let same : length c.args.parts.now ≡ length c.args.others.now = c.if-parts-others.false in
+    sym (related_fails (consistent c.args.types.now) c.args.parts.now c.args.others.now c.loop-i.i nowhere
+    c.loop-i-test.true (omega arith) (sym c.in_ok-check.ensures.answer ∙ c.if-not-branch.true))
+
+pub check_each-loop-i-preserved : goal.check_each-loop-i-preserved
+check_each-loop-i-preserved t c =
+    let same : length c.args.parts.now ≡ length c.args.others.now = c.if-parts-others.false in
+    record {
+      known = c.in_ok-check.ensures.known;
+      related = related_more (consistent c.args.types.now) c.args.parts.now c.args.others.now c.loop-i.i nowhere
+          c.loop-i-test.true (omega arith) c.loop-i.invariant.related
+          (sym c.in_ok-check.ensures.answer ∙ c.if-not-branch.false);
+    }
+
+pub check_rows-check_each-requires : goal.check_rows-check_each-requires
+check_rows-check_each-requires t c =
+    let types = c.args.types.now in
+    let table = c.len.ensures.table in
+    let a : ℕ = c.args.a.0 in
+    let row : row_at types a ≡ Some (FunRow (places_of c.in-Fun-Fun.parameters) c.in-Fun-Fun.result.0) =
+    c.row.ensures ∙ ap (λ r. Some (row_of r)) c.in-Fun-Fun.is-0 in
+    let other : row_at types c.args.b.0 ≡ Some (FunRow (places_of c.in-Fun-Fun.others) c.in-Fun-Fun.other.0) =
+    c.row-2.ensures ∙ ap (λ r. Some (row_of r)) c.in-Fun-Fun.is-1 in
+    let first = fun_parts (λ part. part < a) _ _ (table.parts_first a _ row) in
+    let most = above_all-most a (places_of c.in-Fun-Fun.parameters) first.0 in
+    rw (c.as_slice.ensures, c.as_slice-in-Fun-Fun.ensures) (
+      omega (arith, c.decreases, most),
+      (
+        (fun_parts (λ part. part < length types) _ _ (parts_within types a _ table.parts_first row)).0,
+        (
+          (fun_parts (λ part. part < length types) _ _ (parts_within types c.args.b.0 _ table.parts_first other)).0,
+          c.requires.known,
+        ),
+      ),
+    )
+
+pub check_rows-returns-then-not-branch-clause-answer : goal.check_rows-returns-then-not-branch-clause-answer
+check_rows-returns-then-not-branch-clause-answer t c =
+    let types = c.args.types.now in
+    let xs : List ℕ = places_of c.in-Fun-Fun.parameters in
+    let ys : List ℕ = places_of c.in-Fun-Fun.others in
+    let answer : false ≡ related (consistent types) xs ys =
+    sym c.if-not-branch.true
+    ∙ (rw (c.as_slice.ensures, c.as_slice-in-Fun-Fun.ensures) at c.in_ok-check_each-in-Fun-Fun.ensures.answer) in
+    ap (λ b. b && consistent types c.in-Fun-Fun.result.0 c.in-Fun-Fun.other.0) answer
+    ∙ sym (functions_consistent types c.len.ensures.table.parts_first c.args.a.0 c.args.b.0 c.requires.a xs ys
+    c.in-Fun-Fun.result.0 c.in-Fun-Fun.other.0 (c.row.ensures ∙ ap (λ r. Some (row_of r)) c.in-Fun-Fun.is-0)
+    (c.row-2.ensures ∙ ap (λ r. Some (row_of r)) c.in-Fun-Fun.is-1))
+
+pub check_rows-check-requires : goal.check_rows-check-requires
+check_rows-check-requires t c =
+    let types = c.args.types.now in
+    let table = c.len.ensures.table in
+    let a : ℕ = c.args.a.0 in
+    let row : row_at types a ≡ Some (FunRow (places_of c.in-Fun-Fun.parameters) c.in-Fun-Fun.result.0) =
+    c.row.ensures ∙ ap (λ r. Some (row_of r)) c.in-Fun-Fun.is-0 in
+    let other : row_at types c.args.b.0 ≡ Some (FunRow (places_of c.in-Fun-Fun.others) c.in-Fun-Fun.other.0) =
+    c.row-2.ensures ∙ ap (λ r. Some (row_of r)) c.in-Fun-Fun.is-1 in
+    let below : c.in-Fun-Fun.result.0 < a = (fun_parts (λ part. part < a) _ _ (table.parts_first a _ row)).1 in (
+      omega (arith, c.decreases, below),
+      (
+        (fun_parts (λ part. part < length types) _ _ (parts_within types a _ table.parts_first row)).1,
+        (
+          (fun_parts (λ part. part < length types) _ _ (parts_within types c.args.b.0 _ table.parts_first other)).1,
+          c.in_ok-check_each-in-Fun-Fun.ensures.known,
+        ),
+      ),
+    )
+
+pub check_rows-returns-else-not-branch-clause-answer : goal.check_rows-returns-else-not-branch-clause-answer
+check_rows-returns-else-not-branch-clause-answer t c =
+    let types = c.args.types.now in
+    let xs : List ℕ = places_of c.in-Fun-Fun.parameters in
+    let ys : List ℕ = places_of c.in-Fun-Fun.others in
+    let answer : true ≡ related (consistent types) xs ys =
+    sym c.if-not-branch.false
+    ∙ (rw (c.as_slice.ensures, c.as_slice-in-Fun-Fun.ensures) at c.in_ok-check_each-in-Fun-Fun.ensures.answer) in
+    same_answer c.check.result _ _ c.check.ensures.answer
+    (ap (λ b. b && consistent types c.in-Fun-Fun.result.0 c.in-Fun-Fun.other.0) answer
+    ∙ sym (functions_consistent types c.len.ensures.table.parts_first c.args.a.0 c.args.b.0 c.requires.a xs ys
+    c.in-Fun-Fun.result.0 c.in-Fun-Fun.other.0 (c.row.ensures ∙ ap (λ r. Some (row_of r)) c.in-Fun-Fun.is-0)
+    (c.row-2.ensures ∙ ap (λ r. Some (row_of r)) c.in-Fun-Fun.is-1)))
+
+pub check_rows-check_each-requires-in-Tuple-Tuple : goal.check_rows-check_each-requires-in-Tuple-Tuple
+check_rows-check_each-requires-in-Tuple-Tuple t c =
+    let types = c.args.types.now in
+    let table = c.len.ensures.table in
+    let a : ℕ = c.args.a.0 in
+    let row : row_at types a ≡ Some (TupleRow (places_of c.in-Tuple-Tuple.parts)) =
+    c.row.ensures ∙ ap (λ r. Some (row_of r)) c.in-Tuple-Tuple.is-0 in
+    let other : row_at types c.args.b.0 ≡ Some (TupleRow (places_of c.in-Tuple-Tuple.others)) =
+    c.row-2.ensures ∙ ap (λ r. Some (row_of r)) c.in-Tuple-Tuple.is-1 in
+    let most = above_all-most a (places_of c.in-Tuple-Tuple.parts) (table.parts_first a _ row) in
+    rw (c.as_slice-in-Tuple-Tuple.ensures, c.as_slice-in-Tuple-Tuple-2.ensures) (
+      omega (arith, c.decreases, most),
+      (
+        parts_within types a _ table.parts_first row,
+        (parts_within types c.args.b.0 _ table.parts_first other, c.requires.known),
+      ),
+    )
+
+pub check_rows-returns-in-Tuple-Tuple-clause-answer : goal.check_rows-returns-in-Tuple-Tuple-clause-answer
+check_rows-returns-in-Tuple-Tuple-clause-answer t c =
+    let types = c.args.types.now in
+    same_answer c.check_each-in-Tuple-Tuple.result _ _
+    (rw (c.as_slice-in-Tuple-Tuple.ensures, c.as_slice-in-Tuple-Tuple-2.ensures)
+    at c.check_each-in-Tuple-Tuple.ensures.answer)
+    (sym (tuples_consistent types c.len.ensures.table.parts_first c.args.a.0 c.args.b.0 c.requires.a
+    (places_of c.in-Tuple-Tuple.parts) (places_of c.in-Tuple-Tuple.others)
+    (c.row.ensures ∙ ap (λ r. Some (row_of r)) c.in-Tuple-Tuple.is-0)
+    (c.row-2.ensures ∙ ap (λ r. Some (row_of r)) c.in-Tuple-Tuple.is-1)))
+
+pub check_rows-check-requires-in-Ref-Ref : goal.check_rows-check-requires-in-Ref-Ref
+check_rows-check-requires-in-Ref-Ref t c =
+    let types = c.args.types.now in
+    let table = c.len.ensures.table in
+    let a : ℕ = c.args.a.0 in
+    let row : row_at types a ≡ Some (RefRow c.in-Ref-Ref.content.0) =
+    c.row.ensures ∙ ap (λ r. Some (row_of r)) c.in-Ref-Ref.is-0 in
+    let other : row_at types c.args.b.0 ≡ Some (RefRow c.in-Ref-Ref.other.0) =
+    c.row-2.ensures ∙ ap (λ r. Some (row_of r)) c.in-Ref-Ref.is-1 in
+    let below = All-head (λ part. part < a) c.in-Ref-Ref.content.0 [] (table.parts_first a _ row) in (
+      omega (arith, c.decreases, below),
+      (
+        All-head (λ part. part < length types) c.in-Ref-Ref.content.0 [] (parts_within types a _ table.parts_first row),
+        (
+          All-head (λ part. part < length types) c.in-Ref-Ref.other.0 []
+              (parts_within types c.args.b.0 _ table.parts_first other),
+          c.requires.known,
+        ),
+      ),
+    )
+
+pub check_rows-returns-in-Ref-Ref-clause-answer : goal.check_rows-returns-in-Ref-Ref-clause-answer
+check_rows-returns-in-Ref-Ref-clause-answer t c =
+    same_answer c.check-in-Ref-Ref.result _ _ c.check-in-Ref-Ref.ensures.answer
+    (sym (references_consistent c.args.types.now c.len.ensures.table.parts_first c.args.a.0 c.args.b.0 c.requires.a
+    c.in-Ref-Ref.content.0 c.in-Ref-Ref.other.0 (c.row.ensures ∙ ap (λ r. Some (row_of r)) c.in-Ref-Ref.is-0)
+    (c.row-2.ensures ∙ ap (λ r. Some (row_of r)) c.in-Ref-Ref.is-1)))
+
+pub check_rows-check-requires-in-Vect-Vect : goal.check_rows-check-requires-in-Vect-Vect
+check_rows-check-requires-in-Vect-Vect t c =
+    let types = c.args.types.now in
+    let table = c.len.ensures.table in
+    let a : ℕ = c.args.a.0 in
+    let row : row_at types a ≡ Some (VectRow c.in-Vect-Vect.content.0) =
+    c.row.ensures ∙ ap (λ r. Some (row_of r)) c.in-Vect-Vect.is-0 in
+    let other : row_at types c.args.b.0 ≡ Some (VectRow c.in-Vect-Vect.other.0) =
+    c.row-2.ensures ∙ ap (λ r. Some (row_of r)) c.in-Vect-Vect.is-1 in
+    let below = All-head (λ part. part < a) c.in-Vect-Vect.content.0 [] (table.parts_first a _ row) in (
+      omega (arith, c.decreases, below),
+      (
+        All-head (λ part. part < length types) c.in-Vect-Vect.content.0 []
+            (parts_within types a _ table.parts_first row),
+        (
+          All-head (λ part. part < length types) c.in-Vect-Vect.other.0 []
+              (parts_within types c.args.b.0 _ table.parts_first other),
+          c.requires.known,
+        ),
+      ),
+    )
+
+pub check_rows-returns-in-Vect-Vect-clause-answer : goal.check_rows-returns-in-Vect-Vect-clause-answer
+check_rows-returns-in-Vect-Vect-clause-answer t c =
+    same_answer c.check-in-Vect-Vect.result _ _ c.check-in-Vect-Vect.ensures.answer
+    (sym (vectors_consistent c.args.types.now c.len.ensures.table.parts_first c.args.a.0 c.args.b.0 c.requires.a
+    c.in-Vect-Vect.content.0 c.in-Vect-Vect.other.0 (c.row.ensures ∙ ap (λ r. Some (row_of r)) c.in-Vect-Vect.is-0)
+    (c.row-2.ensures ∙ ap (λ r. Some (row_of r)) c.in-Vect-Vect.is-1)))

@@ -1,0 +1,3 @@
+-- The lemmas of tables and numbers for other crates.
+pub use Rattle.grift_base.proofs.TableLemmas.{HasNoRepeats-from_IsDistinct, absent-from_list_any, Interns-insert_key}
+pub use Rattle.grift_base.proofs.PosLemmas.{same_pos}

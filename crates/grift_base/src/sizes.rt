@@ -1,0 +1,7 @@
+// How many bytes a file may have.
+
+/// How many bytes a source may have.
+pub const SOURCE_LIMIT: usize = 262_144;
+
+/// How many bytes an image may have.
+pub const IMAGE_LIMIT: usize = 268_435_456;

@@ -1,0 +1,223 @@
+-- What the report of a call says of it.
+use Rattle.std.proofs.Common.{ℕ, ◌≤◌, ◌≡◌, inl, inr, List, [], ◌∷◌, length, Option, Some, None, ◌++◌, refl, sym, ◌∙◌}
+use Rattle.std.proofs.Common.{ap}
+use Rattle.std.proofs.Common.{subst, append-nil, Global}
+use Rattle.std.specs.Prelude.{IfSome, option_map, Err, Vec, ◌≢◌}
+use Rattle.run_laws.specs.Runs.{Ending, EndsAs, Follows}
+use Rattle.run_laws.proofs.Public.{follower_never_goes_wrong}
+use Rattle.assembler.specs.declared.image.ImageFault.{ImageFault}
+use Rattle.assembler.specs.declared.image.ImageFault.TheVariants.{BadMagic, BadLength, BadSection}
+use Rattle.assembler.specs.declared.image.ImageFault.TheVariants.{OutOfMemory as ImageMemory}
+use Rattle.assembler.specs.Faults.{IsFirstFault}
+use Rattle.grift_base.specs.Outside.{Counts}
+use Rattle.grift_base.specs.Shelf.{Loads, load_failed, asked_after}
+use Rattle.grift_base.specs.declared.refusals.FrontFault.{FrontFault}
+use Rattle.grift_base.specs.declared.refusals.FrontFault.TheVariants.{Refused as SourceRefused}
+use Rattle.grift_base.specs.declared.refusals.FrontFault.TheVariants.{OutOfMemory as SourceMemory}
+use Rattle.grift_base.specs.declared.shelves.LoadFault.{LoadFault}
+use Rattle.grift_base.specs.declared.shelves.LoadFault.TheVariants.{Failed as ShelfFailed, TooLong as ShelfTooLong}
+use Rattle.grift_base.specs.declared.shelves.LoadFault.TheVariants.{OutOfMemory as ShelfMemory}
+use Rattle.grift_base.specs.declared.verdicts.Verdict.{Verdict}
+use Rattle.grift_base.specs.declared.verdicts.Verdict.TheVariants.{Answer, Blame, Trap, RegionOut, StackOut, StepsSpent}
+use Rattle.core_calc.specs.Terms.{Term}
+use Rattle.core_calc.specs.Calculus.{Program, calc}
+use Rattle.rv_machine.specs.State.{State, Region, Stack, Halt, Ended, Lacks, GoesWrong}
+use Rattle.rv_machine.specs.Start.{IsRegionSize, IsStackSize, start_of, fresh_world}
+use Rattle.rv_machine.specs.Mach.{mach, moment_of}
+use Rattle.rv_machine.proofs.Public.{run_is_its_turns-states}
+use Rattle.grift_cli.specs.Answers.{IsFault}
+use Rattle.grift_cli.specs.Calls.{CallSeen, PutsNothing, AsksFor, FailsNoLoad, HasLoaded, size_limit}
+use Rattle.grift_cli.specs.Commands.{Command, Run, Exec, file_of, IsCommand}
+use Rattle.grift_cli.specs.Elaboration.{HasExprType, place_of}
+use Rattle.grift_cli.specs.Outcome.{IsCompiled, IsImageFile, HasEndedBy, ComesTo, Says}
+use Rattle.grift_cli.specs.Program.{FollowsProgram, IsTypedProgram, program_of}
+use Rattle.grift_cli.specs.Reporting.{load_report, source_report, image_report}
+use Rattle.grift_cli.specs.Running.{RunsWell, Runs, Executes}
+use Rattle.grift_cli.specs.Runs.{run_within, printed, verdict_of_run}
+use Rattle.grift_cli.specs.declared.commands.Limits.{Limits}
+use Rattle.grift_cli.specs.declared.elaboration.ExprType.{ExprType}
+use Rattle.grift_cli.specs.declared.reports.Report.{Report}
+use Rattle.grift_cli.specs.declared.reports.Report.TheVariants.{HasVerdict, HasFault, Refused, ImageRefused}
+use Rattle.grift_cli.specs.declared.reports.Report.TheVariants.{WordsRefused, LoadFailed, PutFailed}
+use Rattle.grift_cli.specs.declared.reports.Report.TheVariants.{NoMemory, TooLong}
+use Rattle.grift_cli.proofs.ProgramTerms.{program_term}
+
+-- ---- the run of an image and of its program
+
+-- an image that follows a program never goes wrong
+pub runs_well : (limits : Limits) (image : List ℕ) (program : Program) → IsRegionSize limits.region
+    → IsStackSize limits.stack → FollowsProgram image program → RunsWell limits image
+runs_well limits image program r k f = follower_never_goes_wrong (f limits.region limits.stack [] r k)
+
+-- a term that has a type makes a typed program
+pub typed_program : (term : Term) (type : ExprType) → HasExprType term type → IsTypedProgram (program_of term)
+typed_program term type h = (place_of type, program_term term type h)
+
+same_verdict : (a b : Verdict) → ◌≡◌ {A = Option Verdict} (Some a) (Some b) → a ≡ b
+same_verdict a b e = cc
+
+-- what ends as a stop with a verdict of its own has ended by it
+ended_by_own : (s : State) (verdict : Verdict) (ending : Option (Ending Verdict))
+    → EndsAs (moment_of (s, Some (Ended verdict))).ending ending → HasEndedBy verdict ending
+ended_by_own s (Answer answer) ending e = e
+ended_by_own s (Blame place) ending e = e
+ended_by_own s (Trap trap) ending e = e
+ended_by_own s RegionOut ending e = tt
+ended_by_own s StackOut ending e = tt
+ended_by_own s StepsSpent ending e = tt
+
+-- what ends as a run with this verdict has ended by it
+ended_by : (o : Option Halt) (s : State) (verdict : Verdict) (ending : Option (Ending Verdict))
+    → verdict_of_run o ≡ Some verdict → EndsAs (moment_of (s, o)).ending ending → HasEndedBy verdict ending
+ended_by None s verdict ending t e = subst (λ v. HasEndedBy v ending) (same_verdict StepsSpent verdict t) tt
+ended_by (Some (Ended shown)) s verdict ending t e =
+    subst (λ v. HasEndedBy v ending) (same_verdict shown verdict t) (ended_by_own s shown ending e)
+ended_by (Some (Lacks Region)) s verdict ending t e =
+    subst (λ v. HasEndedBy v ending) (same_verdict RegionOut verdict t) tt
+ended_by (Some (Lacks Stack)) s verdict ending t e =
+    subst (λ v. HasEndedBy v ending) (same_verdict StackOut verdict t) tt
+ended_by (Some (GoesWrong fault)) s verdict ending t e = absurd (let f : ⊥ = cc in f)
+
+output_of : (s : State) (o : Option Halt) → (moment_of (s, o)).output ≡ s.world.output
+output_of s None = refl
+output_of s (Some halt) = refl
+
+comes_at : (s : State) (o : Option Halt) (program : Program) (verdict : Verdict) (n : ℕ)
+    → verdict_of_run o ≡ Some verdict → (moment_of (s, o)).output ≡ (calc program [] n).output
+    → EndsAs (moment_of (s, o)).ending (calc program [] n).ending → ComesTo program s.world.output verdict
+comes_at s o program verdict n t out e = record {
+  steps = n;
+  output_is = sym out ∙ output_of s o;
+  ended = ended_by o s verdict (calc program [] n).ending t e;
+}
+
+-- the program comes to the verdict of its image's run
+comes_to : (limits : Limits) (image : List ℕ) (program : Program) (verdict : Verdict) → IsRegionSize limits.region
+    → IsStackSize limits.stack → FollowsProgram image program
+    → verdict_of_run (run_within limits image).1 ≡ Some verdict
+    → ComesTo program (printed limits image) verdict
+comes_to limits image program verdict r k f t =
+    let follows : Follows (mach image limits.region limits.stack []) (calc program []) =
+    f limits.region limits.stack [] r k in
+    let (n, out, e) = follows.back limits.steps in
+    let here = run_is_its_turns-states limits.steps (start_of image limits.region limits.stack (fresh_world [])) in
+    comes_at (run_within limits image).0 (run_within limits image).1 program verdict n t
+    (sym (ap (λ m. m.output) here) ∙ out) (subst (λ m. EndsAs m.ending (calc program [] n).ending) here e)
+
+-- ---- the file of a command
+
+-- a file that was loaded
+pub has_loaded : (call : CallSeen) (command : Command) (bytes items : List ℕ) → IsCommand call.words command
+    → AsksFor (file_of command ∷ []) call.shelf → FailsNoLoad call.shelf → bytes ≡ items
+    → length items ≤ size_limit command → IfSome (call.shelf.holds (file_of command)) (λ held. items ≡ held)
+    → HasLoaded call command bytes
+has_loaded call command bytes items is asked count e short h = record {
+  has = record { words = is; asks = asked };
+  shelf = count;
+  short = rw e short;
+  held = subst (λ xs. IfSome (call.shelf.holds (file_of command)) (λ held. xs ≡ held)) (sym e) h;
+}
+
+no_names : (asked : Option (List (List ℕ)))
+    → option_map (λ (names : List (List ℕ)). names) asked ≡ option_map (λ before. before ++ []) asked
+no_names None = refl
+no_names (Some names) = ap Some (sym (append-nil names))
+
+-- a file that was not loaded
+pub says_load_fault : (call : CallSeen) (command : Command) (fault : LoadFault) → IsCommand call.words command
+    → PutsNothing call → Loads {Z = Global} (call.shelf.holds (file_of command)) (size_limit command) (Err fault)
+    → call.shelf.asked_after
+    ≡ option_map (asked_after {A = Vec ℕ Global} (Err fault) (file_of command)) call.shelf.asked
+    → Counts (load_failed {A = Vec ℕ Global} (Err fault)) call.shelf.faults call.shelf.faults_after
+    → Says (load_report fault) call
+says_load_fault call command ShelfFailed is p loads names count =
+    record { command = command; has = record { words = is; asks = names }; shelf = count; nothing = p }
+says_load_fault call command ShelfTooLong is p loads names count = record {
+  command = command;
+  has = record { words = is; asks = names };
+  shelf = count;
+  long = loads;
+  nothing = p;
+}
+says_load_fault call command ShelfMemory is p loads names count = inl (record {
+  command = command;
+  words = is;
+  asks = names ∙ no_names call.shelf.asked;
+  shelf = count;
+  nothing = p;
+})
+
+-- ---- a source that is compiled and run
+
+-- there is no memory for what is made of the file
+pub says_no_memory : (call : CallSeen) (command : Command) (bytes : List ℕ) → HasLoaded call command bytes
+    → PutsNothing call → Says NoMemory call
+says_no_memory call command bytes l p =
+    inr (inl (record { command = command; bytes = bytes; loaded = l; nothing = p }))
+
+-- the source is refused
+pub says_source_fault : (call : CallSeen) (file : List ℕ) (limits : Limits) (name : Option (List ℕ)) (text : List ℕ)
+    (fault : FrontFault) → HasLoaded call (Run file limits name) text → PutsNothing call → IsFault text fault
+    → Says (source_report fault) call
+says_source_fault call file limits name text (SourceRefused refusal) l p f = (
+  f.0,
+  record { file = file; limits = limits; name = name; text = text; loaded = l; none = f.1; nothing = p },
+)
+says_source_fault call file limits name text SourceMemory l p f =
+    says_no_memory call (Run file limits name) text l p
+
+-- the image of the source is run
+pub says_run : (call : CallSeen) (limits : Limits) (image : List ℕ) (report : Report) → IsRegionSize limits.region
+    → IsStackSize limits.stack → IsCompiled call limits image → Runs limits image call.out call.img report
+    → Says report call
+says_run call limits image (HasVerdict verdict) r k c x = inl (record {
+  limits = limits;
+  image = image;
+  compiled = c;
+  image_put = x.0;
+  verdict_is = x.1;
+  within = c.keeps limits.region limits.stack limits.steps [] verdict r k x.1;
+  meant = comes_to limits image (program_of c.term) verdict r k c.follows x.1;
+  output_put = x.2;
+})
+says_run call limits image PutFailed r k c x =
+    inl (record { limits = limits; image = image; compiled = c; fails = x })
+says_run call limits image NoMemory r k c x =
+    inr (inr (record { limits = limits; image = image; compiled = c; image_put = x.0; no_output = x.1 }))
+says_run call limits image (HasFault fault) r k c x = absurd x
+says_run call limits image (Refused refusal) r k c x = absurd x
+says_run call limits image (ImageRefused fault) r k c x = absurd x
+says_run call limits image WordsRefused r k c x = absurd x
+says_run call limits image LoadFailed r k c x = absurd x
+says_run call limits image TooLong r k c x = absurd x
+
+-- ---- an image from a file that is run
+
+-- the file holds no image
+pub says_image_fault : (call : CallSeen) (file : List ℕ) (limits : Limits) (bytes : List ℕ) (fault : ImageFault)
+    → HasLoaded call (Exec file limits) bytes → PutsNothing call → (fault ≢ ImageMemory → IsFirstFault bytes fault)
+    → Says (image_report fault) call
+says_image_fault call file limits bytes BadMagic l p f =
+    record { file = file; limits = limits; bytes = bytes; loaded = l; first = f (λ e. cc); nothing = p }
+says_image_fault call file limits bytes BadLength l p f =
+    record { file = file; limits = limits; bytes = bytes; loaded = l; first = f (λ e. cc); nothing = p }
+says_image_fault call file limits bytes BadSection l p f =
+    record { file = file; limits = limits; bytes = bytes; loaded = l; first = f (λ e. cc); nothing = p }
+says_image_fault call file limits bytes ImageMemory l p f = says_no_memory call (Exec file limits) bytes l p
+
+-- the image that the file holds is run
+pub says_exec : (call : CallSeen) (limits : Limits) (image : List ℕ) (report : Report)
+    → IsImageFile call limits image → Executes limits image call.out report → Says report call
+says_exec call limits image (HasVerdict verdict) i x =
+    inr (record { limits = limits; image = image; image_file = i; verdict_is = x.0; output_put = x.1 })
+says_exec call limits image (HasFault fault) i x =
+    record { limits = limits; image = image; image_file = i; fault_is = x.0; output_put = x.1 }
+says_exec call limits image PutFailed i x =
+    inr (record { limits = limits; image = image; image_file = i; fails = x })
+says_exec call limits image NoMemory i x =
+    says_no_memory call (Exec i.file limits) image i.loaded (record { out = x; img = i.no_image })
+says_exec call limits image (Refused refusal) i x = absurd x.0
+says_exec call limits image (ImageRefused fault) i x = absurd x.0
+says_exec call limits image WordsRefused i x = absurd x.0
+says_exec call limits image LoadFailed i x = absurd x.0
+says_exec call limits image TooLong i x = absurd x.0

@@ -1,0 +1,95 @@
+-- Which words are which command.
+use Rattle.std.specs.Prelude.{ℕ, ◌+◌, ◌-◌, ◌*◌, ◌≤◌, ◌≡◌, ◌≢◌, ◌⊎◌, List, [], ◌∷◌, ◌++◌, length, codes, All, fold}
+use Rattle.std.specs.Prelude.{Option, Some, None}
+use Rattle.rv_machine.specs.Start.{IsRegionSize, IsStackSize}
+use Rattle.grift_cli.specs.declared.commands.Limits.{Limits}
+
+-- ---- numbers: 1 to 19 decimal digits
+
+abbrev pub IsDigit : ℕ → Type 0
+IsDigit byte = (48 ≤ byte) × (byte ≤ 57)
+
+-- the number that digits make
+abbrev pub number_of : List ℕ → ℕ
+number_of digits = fold (λ n digit. n * 10 + (digit - 48)) 0 digits
+
+pub record IsNumber (word : List ℕ) (n : ℕ) : Type 0 where
+  pub digits : All IsDigit word
+  pub some : word ≢ []
+  pub few : length word ≤ 19
+  pub value : n ≡ number_of word
+
+-- ---- options
+
+-- an option with a number that is allowed, or no words, and then the number is this
+abbrev pub IsNumberOption : List ℕ → (ℕ → Type 0) → ℕ → List (List ℕ) → ℕ → Type 0
+IsNumberOption name IsAllowed default words n =
+    ((words ≡ []) × (n ≡ default)) ⊎ ((word : List ℕ) × (words ≡ name ∷ word ∷ []) × IsNumber word n × IsAllowed n)
+
+-- an option with a name, which isn't empty, or no words and no name
+abbrev pub IsNameOption : List ℕ → List (List ℕ) → Option (List ℕ) → Type 0
+IsNameOption option words found =
+    ((words ≡ []) × (found ≡ None)) ⊎ ((word : List ℕ) × (words ≡ option ∷ word ∷ []) × (word ≢ [])
+    × (found ≡ Some word))
+
+-- ---- the limits of a run
+
+abbrev pub region_default : ℕ
+region_default = 16777216
+
+abbrev pub stack_default : ℕ
+stack_default = 1048576
+
+abbrev pub steps_default : ℕ
+steps_default = 100000000
+
+abbrev pub IsStepLimit : ℕ → Type 0
+IsStepLimit steps = steps ≤ 9223372036854775807
+
+-- the options of a run's limits, each at most once, in this order
+pub record AreLimits (words : List (List ℕ)) (limits : Limits) : Type 0 where
+  pub region_words : List (List ℕ)
+  pub stack_words : List (List ℕ)
+  pub steps_words : List (List ℕ)
+  pub words_are : words ≡ region_words ++ (stack_words ++ steps_words)
+  pub region : IsNumberOption (codes "--region") IsRegionSize region_default region_words limits.region
+  pub stack : IsNumberOption (codes "--stack") IsStackSize stack_default stack_words limits.stack
+  pub steps : IsNumberOption (codes "--steps") IsStepLimit steps_default steps_words limits.steps
+
+-- ---- commands
+
+-- a file that is compiled and run, perhaps with a name for its image; an image in a file that is run
+pub data Command : Type 0 where
+  Run : List ℕ → Limits → Option (List ℕ) → Command
+  Exec : List ℕ → Limits → Command
+
+-- the name of its file
+abbrev pub file_of : Command → List ℕ
+file_of (Run file limits image) = file
+file_of (Exec file limits) = file
+
+abbrev pub limits_of : Command → Limits
+limits_of (Run file limits image) = limits
+limits_of (Exec file limits) = limits
+
+pub record IsRun (words : List (List ℕ)) (file : List ℕ) (limits : Limits) (image : Option (List ℕ)) : Type 0 where
+  pub limit_words : List (List ℕ)
+  pub image_words : List (List ℕ)
+  pub words_are : words ≡ codes "run" ∷ file ∷ limit_words ++ image_words
+  pub named : file ≢ []
+  pub limits_are : AreLimits limit_words limits
+  pub image_is : IsNameOption (codes "--image") image_words image
+
+pub record IsExec (words : List (List ℕ)) (file : List ℕ) (limits : Limits) : Type 0 where
+  pub limit_words : List (List ℕ)
+  pub words_are : words ≡ codes "exec" ∷ file ∷ limit_words
+  pub named : file ≢ []
+  pub limits_are : AreLimits limit_words limits
+
+abbrev pub IsCommand : List (List ℕ) → Command → Type 0
+IsCommand words (Run file limits image) = IsRun words file limits image
+IsCommand words (Exec file limits) = IsExec words file limits
+
+-- the words are no command
+abbrev pub AreNoCommand : List (List ℕ) → Type 0
+AreNoCommand words = (command : Command) → IsCommand words command → ⊥

@@ -1,0 +1,60 @@
+-- The commands that are read from words, and options at the front of words.
+use Rattle.std.specs.Prelude.{ℕ, ◌≤◌, ◌%◌, ◌≡◌, false, List, [], ◌∷◌, ◌++◌, codes, Option, Some, None}
+use Rattle.std.specs.Borrow.{Bor}
+use Rattle.rv_machine.specs.Start.{IsRegionSize, IsStackSize}
+use Rattle.grift_cli.specs.Commands.{Command, Run, Exec, IsNumberOption, IsRun, IsStepLimit, region_default}
+use Rattle.grift_cli.specs.Commands.{stack_default, steps_default}
+use Rattle.grift_cli.specs.declared.commands.Command.{Command as ReadCommand}
+use Rattle.grift_cli.specs.declared.commands.Command.TheVariants.{Run as ReadRun, Exec as ReadExec}
+use Rattle.grift_cli.specs.declared.commands.Limits.{Limits}
+
+-- a multiple, up to a greatest one
+abbrev pub IsWithin : ℕ → ℕ → ℕ → Type 0
+IsWithin multiple most n = (n % multiple ≡ 0) × (n ≤ most)
+
+-- the words don't begin with this one
+abbrev pub BeginOtherwise : List ℕ → List (List ℕ) → Type 0
+BeginOtherwise name words = (rest : List (List ℕ)) → words ≡ name ∷ rest → ⊥
+
+-- the words begin with an option with a number, or not with its name; these are left after it
+pub record NumberAtFront (name : List ℕ) (IsAllowed : ℕ → Type 0) (default : ℕ) (words : List (List ℕ)) (n : ℕ)
+    (rest : List (List ℕ)) : Type 0 where
+  pub part : List (List ℕ)
+  pub words_are : words ≡ part ++ rest
+  pub option : IsNumberOption name IsAllowed default part n
+  pub absent : part ≡ [] → BeginOtherwise name rest
+
+-- the words begin with limits; these are left after them
+pub record LimitsAtFront (words : List (List ℕ)) (limits : Limits) (rest : List (List ℕ)) : Type 0 where
+  pub after_region : List (List ℕ)
+  pub after_stack : List (List ℕ)
+  pub region : NumberAtFront (codes "--region") IsRegionSize region_default words limits.region after_region
+  pub stack : NumberAtFront (codes "--stack") IsStackSize stack_default after_region limits.stack after_stack
+  pub steps : NumberAtFront (codes "--steps") IsStepLimit steps_default after_stack limits.steps rest
+
+-- the bytes of a name
+abbrev pub name_bytes : Option (Bor (List ℕ)) → Option (List ℕ)
+name_bytes None = None
+name_bytes (Some name) = Some name.now
+
+-- a command that was read, as the definitions have it
+abbrev pub command_of : ReadCommand → Command
+command_of (ReadRun file region stack steps input space image) =
+    Run file.now (record { region = region; stack = stack; steps = steps }) (name_bytes image)
+command_of (ReadExec file region stack steps input) =
+    Exec file.now (record { region = region; stack = stack; steps = steps })
+
+-- it tells nothing beside this
+abbrev pub TellsNoMore : ReadCommand → Type 0
+TellsNoMore (ReadRun file region stack steps input space image) = (input ≡ None) × (space ≡ false)
+TellsNoMore (ReadExec file region stack steps input) = input ≡ None
+
+-- the words are a run command that gives its image this name
+pub record GivesImage (words : List (List ℕ)) (name : List ℕ) : Type 0 where
+  pub file : List ℕ
+  pub limits : Limits
+  pub run : IsRun words file limits (Some name)
+
+-- they are none that gives its image a name
+abbrev pub GivesNoImage : List (List ℕ) → Type 0
+GivesNoImage words = (name : List ℕ) → GivesImage words name → ⊥

@@ -1,0 +1,195 @@
+// The words of the command line.
+
+ghost use Rattle.std.specs.Prelude.{ℕ, ◌≡◌, ◌≤◌, ◌<◌, ◌%◌, List, Option, codes, map, string_bytes, MatchOption, IfSome};
+ghost use Rattle.grift_cli.specs.Commands.{Command as WordsCommand, IsNumber, IsNameOption, IsCommand, AreNoCommand};
+ghost use Rattle.grift_cli.specs.ReadCommands.{NumberAtFront, LimitsAtFront, IsWithin, TellsNoMore};
+ghost use Rattle.grift_cli.specs.ReadCommands.{GivesImage, GivesNoImage, command_of, name_bytes};
+
+#[cfg(test)]
+mod tests;
+
+// The limits of a run: the greatest that may be told, and what they are where none is told.
+const MOST_REGION: u64 = 1_073_741_824;
+
+const DEFAULT_REGION: u64 = 16_777_216;
+
+const MOST_STACK: u64 = 268_435_456;
+
+const DEFAULT_STACK: u64 = 1_048_576;
+
+const MOST_STEPS: u64 = 9_223_372_036_854_775_807;
+
+const DEFAULT_STEPS: u64 = 100_000_000;
+
+/// A command of the program. An `input` and a `space` are told by no words.
+#[derive(Clone, Copy, PartialEq, Eq, Debug)]
+pub enum Command<'a> {
+    /// A file that is compiled and run, and the name of its image, if it gets one.
+    Run {
+        file: &'a str,
+        region: u64,
+        stack: u64,
+        steps: u64,
+        input: Option<&'a str>,
+        space: bool,
+        image: Option<&'a str>,
+    },
+    /// An image in a file that is run.
+    Exec {
+        file: &'a str,
+        region: u64,
+        stack: u64,
+        steps: u64,
+        input: Option<&'a str>,
+    },
+}
+
+/// The limits of a run: bytes of the region, bytes of the stack, and instructions.
+#[derive(Clone, Copy, PartialEq, Eq, Debug)]
+pub struct Limits {
+    pub region: u64,
+    pub stack: u64,
+    pub steps: u64,
+}
+
+// The number that a word is.
+fn number_in(word: &str) -> Option<u64>
+    ensures { MatchOption result ((n : ℕ) → IsNumber word.now n → ⊥) (λ n. IsNumber word.now n) }
+{
+    let digits = word.as_bytes();
+    if digits.is_empty() || digits.len() > 19 {
+        return None;
+    }
+    let mut n = 0;
+    for digit in digits {
+        if *digit < b'0' || *digit > b'9' {
+            return None;
+        }
+        n = n * 10 + u64::from(*digit - b'0');
+    }
+    Some(n)
+}
+
+// The number of an option, which is the default where the words don't begin with its name, and the words after it.
+fn number_after<'a>(
+    words: &'a [String],
+    name: &str,
+    most: u64,
+    multiple: u64,
+    default: u64,
+) -> Option<(u64, &'a [String])>
+    requires { 0 < multiple }
+    ensures { let InFront = NumberAtFront name.now (IsWithin multiple most) default (map string_bytes words.now) in
+        MatchOption result
+        ((n : ℕ) (rest : List (List ℕ)) → InFront n rest → ⊥)
+        (λ found. InFront found.0 (map string_bytes found.1.now)) }
+{
+    let [first, rest @ ..] = words else {
+        return Some((default, words));
+    };
+    if first.as_str() != name {
+        return Some((default, words));
+    }
+    let [word, rest @ ..] = rest else {
+        return None;
+    };
+    let n = number_in(word.as_str())?;
+    if n > most || n % multiple != 0 {
+        return None;
+    }
+    Some((n, rest))
+}
+
+// The limits at the front of the words, and the words after them.
+fn limits_after(words: &[String]) -> Option<(Limits, &[String])>
+    ensures { MatchOption result
+        ((limits : Limits) (rest : List (List ℕ)) → LimitsAtFront (map string_bytes words.now) limits rest → ⊥)
+        (λ found. LimitsAtFront (map string_bytes words.now) (found.0) (map string_bytes found.1.now)) }
+{
+    let (region, rest) = number_after(words, "--region", MOST_REGION, 8, DEFAULT_REGION)?;
+    let (stack, rest) = number_after(rest, "--stack", MOST_STACK, 8, DEFAULT_STACK)?;
+    let (steps, rest) = number_after(rest, "--steps", MOST_STEPS, 1, DEFAULT_STEPS)?;
+    Some((
+        Limits {
+            region,
+            stack,
+            steps,
+        },
+        rest,
+    ))
+}
+
+// The name of an image, if the words give one; none where they are no such option.
+fn image_in(words: &[String]) -> Option<Option<&str>>
+    ensures { MatchOption result
+        ((name : Option (List ℕ)) → IsNameOption (codes "--image") (map string_bytes words.now) name → ⊥)
+        (λ name. IsNameOption (codes "--image") (map string_bytes words.now) (name_bytes name)) }
+{
+    match words {
+        [] => Some(None),
+        [option, name] if option.as_str() == "--image" && !name.as_str().is_empty() => {
+            Some(Some(name.as_str()))
+        }
+        _ => None,
+    }
+}
+
+/// The command that the words are; none exactly where they are none. Takes no memory.
+pub fn read_words(words: &[String]) -> Option<Command<'_>>
+    ensures command { let texts = map string_bytes words.now in
+        MatchOption result (AreNoCommand texts) (λ command. IsCommand texts (command_of command)) }
+    ensures rest { IfSome result TellsNoMore }
+{
+    let [command, file, options @ ..] = words else {
+        return None;
+    };
+    let file = file.as_str();
+    if file.is_empty() {
+        return None;
+    }
+    let (limits, rest) = limits_after(options)?;
+    match command.as_str() {
+        "run" => {
+            let image = image_in(rest)?;
+            Some(Command::Run {
+                file,
+                region: limits.region,
+                stack: limits.stack,
+                steps: limits.steps,
+                input: None,
+                space: false,
+                image,
+            })
+        }
+        "exec" => {
+            if !rest.is_empty() {
+                return None;
+            }
+            Some(Command::Exec {
+                file,
+                region: limits.region,
+                stack: limits.stack,
+                steps: limits.steps,
+                input: None,
+            })
+        }
+        _ => None,
+    }
+}
+
+/// The name that a run command gives its image, if it gives one. Takes no memory.
+pub fn image_name(words: &[String]) -> Option<&str>
+    ensures { let texts = map string_bytes words.now in
+        MatchOption result (GivesNoImage texts) (λ name. GivesImage texts name.now) }
+{
+    let Command::Run { image, .. } = read_words(words)? else {
+        return None;
+    };
+    image
+}
+
+/// No words are two commands.
+pub fn words_are_one_command()
+    ensures { (words : List (List ℕ)) (first second : WordsCommand)
+        → IsCommand words first → IsCommand words second → first ≡ second }
+{}

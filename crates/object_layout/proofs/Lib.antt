@@ -1,0 +1,8 @@
+pub mod Public
+mod Coercions
+mod Rows
+mod Reporting
+mod Places
+mod Changing
+mod Changes
+mod Packing

@@ -1,0 +1,23 @@
+-- The lemmas that other crates may cite.
+
+-- ---- memory
+pub use Rattle.rv_machine.proofs.Memory.{stored_inside, stored_outside, load_same, load_short, load_stored, load_other}
+pub use Rattle.rv_machine.proofs.Memory.{load_below}
+-- ---- the labels of an image
+pub use Rattle.rv_machine.proofs.Image.{length-labels_from, label_within, label_past, labels_none, labels_more}
+-- ---- turns
+pub use Rattle.rv_machine.proofs.Tabled.{turn_goes_by_the_table-instruction, turn_goes_by_the_table-undefined}
+pub use Rattle.rv_machine.proofs.Conditions.{a_condition_is_that_of_its_branch}
+pub use Rattle.rv_machine.proofs.Runs.{run_none, run_more, run_stops, later_turns_go_on_from_earlier_ones}
+pub use Rattle.rv_machine.proofs.Runs.{what_has_stopped_stays-stays, what_has_stopped_stays-stops_again}
+pub use Rattle.rv_machine.proofs.Runs.{run_is_its_turns-states}
+-- ---- readings of stops as endings
+pub use Rattle.rv_machine.proofs.Wrongs.{the_readings_take_faults_as_wrong-endings}
+pub use Rattle.rv_machine.proofs.Wrongs.{the_readings_take_faults_as_wrong-stops, a_run_goes_wrong_under_every_reading}
+-- ---- the program logic of code with marks
+pub use Rattle.rv_machine.proofs.Standing.{Program, At, HasItem, has_item-append, drop_next, at_small, at_aligned}
+pub use Rattle.rv_machine.proofs.Standing.{some_address, behind_mark, NextAt, next_at, MarkAt, mark_at, found_at}
+pub use Rattle.rv_machine.proofs.Standing.{item_here}
+pub use Rattle.rv_machine.proofs.Steps.{running, step_is, call_stops, Comes, ComesOn, comes_there, is_there}
+pub use Rattle.rv_machine.proofs.Steps.{comes_later, comes_on_later, goes, op, call, jump, falls_through, is_taken}
+pub use Rattle.rv_machine.proofs.Steps.{puts_address, jumps_to}

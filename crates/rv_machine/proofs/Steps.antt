@@ -1,0 +1,209 @@
+-- What a code with marks comes to, item by item: one lemma a kind of item, each over what the run comes to from there.
+use Rattle.std.proofs.Common.{ℕ, suc, ◌+◌, ◌-◌, ◌%◌, ◌^◌, ◌<◌, ◌≤◌, ◌≡◌, Bool, true, false, List, ◌∷◌}
+use Rattle.std.proofs.Common.{Some, refl, ◌∙◌, ap, arith}
+use Rattle.std.specs.Prelude.{◌==◌, if◌then◌else◌, pos}
+use Rattle.grift_base.specs.World.{WorldState}
+use Rattle.run_laws.specs.Machines.{Go, Stop, Machine, Reaches}
+use Rattle.run_laws.proofs.Public.{by_step}
+use Rattle.rv_isa.specs.declared.inst.Inst.{Inst}
+use Rattle.rv_isa.specs.declared.inst.Inst.TheVariants.{Jalr, Ecall}
+use Rattle.rv_isa.specs.declared.inst.Cond.{Cond}
+use Rattle.rv_isa.specs.declared.real.RealItem.{RealItem}
+use Rattle.rv_isa.specs.declared.real.RealItem.TheVariants.{Op, Jump, Branch, Address}
+use Rattle.rv_machine.specs.declared.faults.MachineFault.TheVariants.{Misaligned}
+use Rattle.rv_machine.specs.Memory.{Memory}
+use Rattle.rv_machine.specs.Registers.{Registers, set_reg}
+use Rattle.rv_machine.specs.State.{State, Halt, Turn, Next, Stops, reg}
+use Rattle.rv_machine.specs.Turn.{subtract, add, act_with, goes_wrong}
+use Rattle.rv_machine.specs.Mach.{step_by}
+use Rattle.rv_machine.specs.Real.{is_mark, address_from, mark_address, holds, step_here, item_step, op_step, jump_step}
+use Rattle.rv_machine.specs.Real.{branch_step, address_step, goes_to, real_machine}
+use Rattle.rv_machine.proofs.Standing.{Program, At, HasItem, item_here, next_at}
+
+back_again : (n : ℕ) → n < 2 ^ 64 → add (subtract n 4) 4 ≡ n
+back_again n h = omega arith
+
+module _ {V : Type 0} (program : Program V) where
+  abbrev pub running : Machine State State V
+  running = real_machine program.reading program.code program.setting
+
+  -- the step of the item that the state is at
+  pub step_is : {s : State} {x : RealItem} {xs : List RealItem} (at : At program s (x ∷ xs)) → is_mark x ≡ false →
+      running.step s
+      ≡ item_step program.reading program.code program.setting at.place
+      (address_from program.setting.address (suc at.place) xs) x s
+  step_is {s} at m =
+      ap (λ here. step_here program.reading program.code program.setting here s) (item_here program at m)
+
+  -- an ECALL that stops
+  pub call_stops : {s : State} {xs : List RealItem} (halt : Halt) (at : At program s (Op Ecall ∷ xs)) → HasItem xs →
+      ((pc : ℕ) → program.setting.ecall at.place (record s { pc = pc }) ≡ Stops halt) →
+      running.step s ≡ Stop (program.reading halt) s
+  call_stops {s} {xs} halt at h stops =
+      let next = next_at program at h in
+      step_is at refl
+      ∙ (ap (λ o. op_step program.reading (program.setting.ecall at.place) (program.setting.ebreak at.place) Ecall o s)
+      next.is_next
+      ∙ ap (λ turn. step_by program.reading s turn) (stops (subtract next.pc 4)))
+
+  module _ (P Q : State → Type 0) where
+    -- within so many steps the run comes to where Q holds, or is exhausted before; P holds at each state that it leaves
+    pub record Comes (most : ℕ) (s : State) : Type 0 where
+      pub steps : ℕ
+      pub few : steps ≤ most
+      pub reaches : Reaches running P Q steps s
+
+    -- the run comes there by one step at least
+    pub record ComesOn (most : ℕ) (s : State) : Type 0 where
+      pub later : ℕ
+      pub few : suc later ≤ most
+      pub reaches : Reaches running P Q (suc later) s
+
+    pub comes_there : {most : ℕ} {s : State} → ComesOn most s → Comes most s
+    comes_there on = record { steps = suc on.later; few = on.few; reaches = on.reaches }
+
+    -- a run that is there comes there by no step
+    pub is_there : {s : State} → Q s → Comes 0 s
+    is_there q = record { steps = 0; few = omega arith; reaches = q }
+
+    -- a bound may be larger
+    pub comes_later : {n : ℕ} {s : State} (m : ℕ) → n ≤ m → Comes n s → Comes m s
+    comes_later m h c = let a = c.few in record { steps = c.steps; few = omega arith; reaches = c.reaches }
+
+    pub comes_on_later : {n : ℕ} {s : State} (m : ℕ) → n ≤ m → ComesOn n s → ComesOn m s
+    comes_on_later m h c = let a = c.few in record { later = c.later; few = omega arith; reaches = c.reaches }
+
+    -- the run goes on by one step that is known
+    pub goes : {most : ℕ} {s : State} (t : State) → running.step s ≡ Go t → P s → Comes most t → ComesOn (suc most) s
+    goes {most} {s} t e p c =
+        let a = c.few in
+        record {
+          later = c.steps;
+          few = omega arith;
+          reaches = by_step running P Q c.steps s (Go t) e p c.reaches;
+        }
+
+    -- an instruction that changes registers and memory and goes on
+    pub op : {most : ℕ} {s : State} {i : Inst} {xs : List RealItem} (regs : Registers) (memory : Memory) →
+        At program s (Op i ∷ xs) → HasItem xs →
+        ((ecall ebreak : State → Turn) (pc : ℕ) → act_with ecall ebreak i (record s { pc = pc })
+        ≡ Next (record s { regs = regs; memory = memory; pc = add pc 4 })) →
+        P s →
+        ((pc : ℕ) → At program (record s { regs = regs; memory = memory; pc = pc }) xs →
+        Comes most (record s { regs = regs; memory = memory; pc = pc })) →
+        ComesOn (suc most) s
+    op {most} {s} {i} {xs} regs memory at h act p go =
+        let next = next_at program at h in
+        let ecall = program.setting.ecall at.place in
+        let ebreak = program.setting.ebreak at.place in
+        let t : State = record s { regs = regs; memory = memory; pc = next.pc } in
+        goes t (step_is at refl
+        ∙ (ap (λ o. op_step program.reading ecall ebreak i o s) next.is_next
+        ∙ (ap (λ turn. step_by program.reading s turn) (act ecall ebreak (subtract next.pc 4))
+        ∙ ap (λ q. Go (record s { regs = regs; memory = memory; pc = q })) (back_again next.pc next.small))))
+        p (go next.pc (next.at t refl))
+
+    -- an ECALL that goes on
+    pub call : {most : ℕ} {s : State} {xs : List RealItem} (regs : Registers) (world : WorldState)
+        (at : At program s (Op Ecall ∷ xs)) → HasItem xs →
+        ((pc : ℕ) → program.setting.ecall at.place (record s { pc = pc })
+        ≡ Next (record s { regs = regs; world = world; pc = add pc 4 })) →
+        P s →
+        ((pc : ℕ) → At program (record s { regs = regs; world = world; pc = pc }) xs →
+        Comes most (record s { regs = regs; world = world; pc = pc })) →
+        ComesOn (suc most) s
+    call {most} {s} {xs} regs world at h act p go =
+        let next = next_at program at h in
+        let ecall = program.setting.ecall at.place in
+        let ebreak = program.setting.ebreak at.place in
+        let t : State = record s { regs = regs; world = world; pc = next.pc } in
+        goes t (step_is at refl
+        ∙ (ap (λ o. op_step program.reading ecall ebreak Ecall o s) next.is_next
+        ∙ (ap (λ turn. step_by program.reading s turn) (act (subtract next.pc 4))
+        ∙ ap (λ q. Go (record s { regs = regs; world = world; pc = q })) (back_again next.pc next.small))))
+        p (go next.pc (next.at t refl))
+
+    -- a jump to a mark, which keeps the next item's address
+    pub jump : {most : ℕ} {s : State} {rd mark : ℕ} {xs : List RealItem} (target : ℕ) →
+        At program s (Jump rd mark ∷ xs) → HasItem xs →
+        mark_address program.setting.address program.code mark ≡ Some target → P s →
+        ((pc : ℕ) → ((t : State) → t.pc ≡ pc → At program t xs) →
+        Comes most (record s { regs = set_reg rd pc s.regs; pc = target })) →
+        ComesOn (suc most) s
+    jump {most} {s} {rd} {mark} {xs} target at h there p go =
+        let next = next_at program at h in
+        goes (record s { regs = set_reg rd next.pc s.regs; pc = target }) (step_is at refl
+        ∙ (ap (λ to. jump_step rd to (address_from program.setting.address (suc at.place) xs) s) there
+        ∙ ap (λ o. jump_step rd (Some target) o s) next.is_next))
+        p (go next.pc next.at)
+
+    -- a branch that isn't taken, and one that is
+    pub falls_through : {most : ℕ} {s : State} {cond : Cond} {a b mark : ℕ} {xs : List RealItem} →
+        At program s (Branch cond a b mark ∷ xs) → HasItem xs → holds cond (reg s a) (reg s b) ≡ false → P s →
+        ((pc : ℕ) → At program (record s { pc = pc }) xs → Comes most (record s { pc = pc })) → ComesOn (suc most) s
+    falls_through {most} {s} {cond} {a} {b} {mark} {xs} at h test p go =
+        let next = next_at program at h in
+        let t : State = record s { pc = next.pc } in
+        let to = mark_address program.setting.address program.code mark in
+        goes t (step_is at refl
+        ∙ (ap (λ c. branch_step c to (address_from program.setting.address (suc at.place) xs) s) test
+        ∙ ap (λ o. goes_to o s) next.is_next))
+        p (go next.pc (next.at t refl))
+
+    pub is_taken : {most : ℕ} {s : State} {cond : Cond} {a b mark : ℕ} {xs : List RealItem} (target : ℕ) →
+        At program s (Branch cond a b mark ∷ xs) → holds cond (reg s a) (reg s b) ≡ true →
+        mark_address program.setting.address program.code mark ≡ Some target → P s →
+        Comes most (record s { pc = target }) → ComesOn (suc most) s
+    is_taken {most} {s} {cond} {a} {b} {mark} {xs} target at test there p go =
+        let to = mark_address program.setting.address program.code mark in
+        goes (record s { pc = target }) (step_is at refl
+        ∙ (ap (λ c. branch_step c to (address_from program.setting.address (suc at.place) xs) s) test
+        ∙ ap (λ o. goes_to o s) there))
+        p go
+
+    -- the address of a mark is put into a register
+    pub puts_address : {most : ℕ} {s : State} {rd mark : ℕ} {xs : List RealItem} (target : ℕ) →
+        At program s (Address rd mark ∷ xs) → HasItem xs →
+        mark_address program.setting.address program.code mark ≡ Some target → P s →
+        ((pc : ℕ) → At program (record s { regs = set_reg rd target s.regs; pc = pc }) xs →
+        Comes most (record s { regs = set_reg rd target s.regs; pc = pc })) →
+        ComesOn (suc most) s
+    puts_address {most} {s} {rd} {mark} {xs} target at h there p go =
+        let next = next_at program at h in
+        let t : State = record s { regs = set_reg rd target s.regs; pc = next.pc } in
+        goes t (step_is at refl
+        ∙ (ap (λ to. address_step rd to (address_from program.setting.address (suc at.place) xs) s) there
+        ∙ ap (λ o. address_step rd (Some target) o s) next.is_next))
+        p (go next.pc (next.at t refl))
+
+    -- a jump to the address in a register, which keeps the next item's address
+    pub jumps_to : {most : ℕ} {s : State} {rd a : ℕ} {xs : List RealItem} (target : ℕ) →
+        At program s (Op (Jalr rd a (pos 0)) ∷ xs) → HasItem xs → reg s a ≡ target → target < 2 ^ 64 →
+        target % 4 ≡ 0 → P s →
+        ((pc : ℕ) → ((t : State) → t.pc ≡ pc → At program t xs) →
+        Comes most (record s { regs = set_reg rd pc s.regs; pc = target })) →
+        ComesOn (suc most) s
+    jumps_to {most} {s} {rd} {a} {xs} target at h is_target small aligned p go =
+        let next = next_at program at h in
+        let ecall = program.setting.ecall at.place in
+        let ebreak = program.setting.ebreak at.place in
+        let whole : (target + 0) % 2 ^ 64 - (target + 0) % 2 ^ 64 % 2 ≡ target = omega arith in
+        let even : (target % 4 == 0) ≡ true = ap (λ x. x == 0) aligned in
+        goes (record s { regs = set_reg rd next.pc s.regs; pc = target }) (step_is at refl
+        ∙ (ap (λ o. op_step program.reading ecall ebreak (Jalr rd a (pos 0)) o s) next.is_next
+        ∙ (ap (λ w. step_by program.reading s (lands rd w (subtract next.pc 4))) is_target
+        ∙ (ap (λ w. step_by program.reading s (lands_at rd w (subtract next.pc 4))) whole
+        ∙ (ap (λ (c : Bool). step_by program.reading s (if c then arrives rd target (subtract next.pc 4)
+        else goes_wrong Misaligned (record s { pc = subtract next.pc 4 }))) even
+        ∙ ap (λ q. Go (record s { regs = set_reg rd q s.regs; pc = target })) (back_again next.pc next.small))))))
+        p (go next.pc next.at)
+      where
+        arrives : ℕ → ℕ → ℕ → Turn
+        arrives rd to pc = Next (record s { regs = set_reg rd (add pc 4) s.regs; pc = to })
+
+        lands_at : ℕ → ℕ → ℕ → Turn
+        lands_at rd to pc =
+            if to % 4 == 0 then arrives rd to pc else goes_wrong Misaligned (record s { pc = pc })
+
+        lands : ℕ → ℕ → ℕ → Turn
+        lands rd word pc = lands_at rd ((word + 0) % 2 ^ 64 - (word + 0) % 2 ^ 64 % 2) pc

@@ -1,0 +1,8 @@
+use Rattle.rv_machine.proofs.Wrongs.{the_readings_take_faults_as_wrong-endings, the_readings_take_faults_as_wrong-stops}
+use Rattle.rv_machine.proofs.the_readings_take_faults_as_wrong.Goals as goal
+
+pub returns-clause-endings : goal.returns-clause-endings
+returns-clause-endings c = the_readings_take_faults_as_wrong-endings
+
+pub returns-clause-stops : goal.returns-clause-stops
+returns-clause-stops c = the_readings_take_faults_as_wrong-stops

@@ -1,0 +1,147 @@
+-- The text of a type is that of its row.
+use Rattle.std.proofs.Common.{◌≡◌, ℕ, zero, suc, ◌+◌, ◌<◌, List, [], ◌∷◌, ◌++◌, length, map, take, get_or, Option, Some}
+use Rattle.std.proofs.Common.{None, refl, sym, ap, ap₂, ◌∙◌, subst, arith, append_assoc, append-nil}
+use Rattle.std.specs.Prelude.{All, codes}
+use Rattle.std.proofs.lemmas.List.{map_more}
+use Rattle.std.proofs.lemmas.List.Elements.{All-head, All-tail, All-cons}
+use Rattle.grift_base.specs.Types.{TypeRow, TypeRows, IntRow, BoolRow, UnitRow, DynRow, FunRow, TupleRow, RefRow}
+use Rattle.grift_base.specs.Types.{VectRow, row_at, parts_of}
+use Rattle.grift_base.specs.declared.places.TypeId.{TypeId}
+use Rattle.type_graph.specs.Rows.{places_of}
+use Rattle.type_graph.specs.Trees.{PartsFirst, row_parts}
+use Rattle.type_graph.specs.Texts.{each_before_space, each_behind_space, row_text, text_to, type_text}
+use Rattle.type_graph.proofs.TreeLemmas.{row_parts_below}
+
+-- ---- types in a row
+
+before_same : (f g : ℕ → List ℕ) (below : ℕ) (xs : List ℕ) → ((s : ℕ) → s < below → f s ≡ g s) →
+    All (λ x. x < below) xs → each_before_space f xs ≡ each_before_space g xs
+before_same f g below [] same all = refl
+before_same f g below (x ∷ xs) same all =
+    ap₂ (λ a b. a ++ codes " " ++ b) (same x (All-head (λ x. x < below) x xs all))
+    (before_same f g below xs same (All-tail (λ x. x < below) x xs all))
+
+behind_same : (f g : ℕ → List ℕ) (below : ℕ) (xs : List ℕ) → ((s : ℕ) → s < below → f s ≡ g s) →
+    All (λ x. x < below) xs → each_behind_space f xs ≡ each_behind_space g xs
+behind_same f g below [] same all = refl
+behind_same f g below (x ∷ xs) same all =
+    ap₂ (λ a b. codes " " ++ a ++ b) (same x (All-head (λ x. x < below) x xs all))
+    (behind_same f g below xs same (All-tail (λ x. x < below) x xs all))
+
+pub each_before_space-push : (f : ℕ → List ℕ) (xs : List ℕ) (x : ℕ) →
+    each_before_space f (xs ++ x ∷ []) ≡ each_before_space f xs ++ (f x ++ codes " ")
+each_before_space-push f [] x = append-nil (f x ++ codes " ")
+each_before_space-push f (y ∷ xs) x =
+    ap (λ l. f y ++ codes " " ++ l) (each_before_space-push f xs x)
+    ∙ sym (append_assoc (f y ++ codes " ") (each_before_space f xs) (f x ++ codes " "))
+
+pub each_behind_space-push : (f : ℕ → List ℕ) (xs : List ℕ) (x : ℕ) →
+    each_behind_space f (xs ++ x ∷ []) ≡ each_behind_space f xs ++ (codes " " ++ f x)
+each_behind_space-push f [] x = append-nil (codes " " ++ f x)
+each_behind_space-push f (y ∷ xs) x =
+    ap (λ l. codes " " ++ f y ++ l) (each_behind_space-push f xs x)
+    ∙ sym (append_assoc (codes " " ++ f y) (each_behind_space f xs) (codes " " ++ f x))
+
+-- ---- the row decides
+
+split_last : (P : ℕ → Type 0) (xs : List ℕ) (a : ℕ) → All P (xs ++ a ∷ []) → All P xs × P a
+split_last P [] a all = (λ k d h. absurd (omega arith), All-head P a [] all)
+split_last P (x ∷ xs) a all =
+    let rest = split_last P xs a (All-tail P x (xs ++ a ∷ []) all) in
+    (All-cons P x xs (All-head P x (xs ++ a ∷ []) all) rest.0, rest.1)
+
+row_text-same : (f g : ℕ → List ℕ) (below : ℕ) (row : Option TypeRow) → ((s : ℕ) → s < below → f s ≡ g s) →
+    All (λ x. x < below) (row_parts row) → row_text f row ≡ row_text g row
+row_text-same f g below (Some IntRow) same all = refl
+row_text-same f g below (Some BoolRow) same all = refl
+row_text-same f g below (Some UnitRow) same all = refl
+row_text-same f g below (Some DynRow) same all = refl
+row_text-same f g below (Some (FunRow parameters answer)) same all =
+    let parts = split_last (λ x. x < below) parameters answer all in
+    ap₂ (λ a b. codes "(" ++ a ++ codes "-> " ++ b ++ codes ")") (before_same f g below parameters same parts.0)
+    (same answer parts.1)
+row_text-same f g below (Some (TupleRow parts)) same all =
+    ap (λ a. codes "(Tuple" ++ a ++ codes ")") (behind_same f g below parts same all)
+row_text-same f g below (Some (RefRow content)) same all =
+    ap (λ a. codes "(Ref " ++ a ++ codes ")") (same content (All-head (λ x. x < below) content [] all))
+row_text-same f g below (Some (VectRow content)) same all =
+    ap (λ a. codes "(Vect " ++ a ++ codes ")") (same content (All-head (λ x. x < below) content [] all))
+row_text-same f g below None same all = refl
+
+module _ (types : TypeRows) (first : PartsFirst types) where
+  text_steady : (n m a : ℕ) → a < n → a < m → text_to n types a ≡ text_to m types a
+  text_steady zero m a one two = absurd (omega arith)
+  text_steady (suc n) zero a one two = absurd (omega arith)
+  text_steady (suc n) (suc m) a one two =
+      row_text-same (text_to n types) (text_to m types) a (row_at types a)
+      (λ s below. text_steady n m s (omega arith) (omega arith)) (row_parts_below types a (row_at types a) first refl)
+
+  -- a type's text is that of its row, with the texts of its parts
+  pub text_by_row : (a : ℕ) → a < length types → type_text types a ≡ row_text (type_text types) (row_at types a)
+  text_by_row a within = text_steady (length types) (suc (length types)) a within (omega arith)
+
+-- ---- what is written piece by piece
+
+-- a type's text behind another
+module _ (types : TypeRows) (first : PartsFirst types) (a : ℕ) (within : a < length types) (before : List ℕ) where
+  behind_row : (row : TypeRow) → row_at types a ≡ Some row → (written : List ℕ) →
+      written ≡ before ++ row_text (type_text types) (Some row) → written ≡ before ++ type_text types a
+  behind_row row at written e =
+      e ∙ ap (λ l. before ++ l) (sym (text_by_row types first a within ∙ ap (row_text (type_text types)) at))
+
+  pub fun_written : (parameters : List ℕ) (answer : ℕ) → row_at types a ≡ Some (FunRow parameters answer) →
+      (((before ++ codes "(") ++ each_before_space (type_text types) parameters) ++ codes "-> ")
+      ++ type_text types answer
+      ++ codes ")" ≡ before ++ type_text types a
+  fun_written parameters answer at = behind_row (FunRow parameters answer) at _ (simp append_assoc)
+
+  pub tuple_written : (parts : List ℕ) → row_at types a ≡ Some (TupleRow parts) →
+      ((before ++ codes "(Tuple") ++ each_behind_space (type_text types) parts) ++ codes ")" ≡ before
+      ++ type_text types a
+  tuple_written parts at = behind_row (TupleRow parts) at _ (simp append_assoc)
+
+  pub ref_written : (content : ℕ) → row_at types a ≡ Some (RefRow content) →
+      ((before ++ codes "(Ref ") ++ type_text types content) ++ codes ")" ≡ before ++ type_text types a
+  ref_written content at = behind_row (RefRow content) at _ (simp append_assoc)
+
+  pub vect_written : (content : ℕ) → row_at types a ≡ Some (VectRow content) →
+      ((before ++ codes "(Vect ") ++ type_text types content) ++ codes ")" ≡ before ++ type_text types a
+  vect_written content at = behind_row (VectRow content) at _ (simp append_assoc)
+
+  pub leaf_written : (row : TypeRow) → row_at types a ≡ Some row →
+      before ++ row_text (type_text types) (Some row) ≡ before ++ type_text types a
+  leaf_written row at = behind_row row at _ refl
+
+-- one type more in a row
+pub before_space_more : (types : TypeRows) (parts : List TypeId) (k : ℕ) (d : TypeId) (before text : List ℕ) →
+    k < length parts → text ≡ before ++ each_before_space (type_text types) (places_of (take k parts)) →
+    (text ++ type_text types (get_or parts k d).0) ++ codes " "
+    ≡ before ++ each_before_space (type_text types) (places_of (take (k + 1) parts))
+before_space_more types parts k d before text within e =
+    append_assoc text (type_text types (get_or parts k d).0) (codes " ")
+    ∙ ap (λ l. l ++ (type_text types (get_or parts k d).0 ++ codes " ")) e
+    ∙ append_assoc before (each_before_space (type_text types) (places_of (take k parts)))
+    (type_text types (get_or parts k d).0 ++ codes " ")
+    ∙ ap (λ l. before ++ l) (sym (each_before_space-push (type_text types) (places_of (take k parts))
+    (get_or parts k d).0))
+    ∙ ap (λ l. before ++ each_before_space (type_text types) l)
+    (sym (map_more (λ (id : TypeId). id.0) parts k d within))
+
+pub behind_space_more : (types : TypeRows) (parts : List TypeId) (k : ℕ) (d : TypeId) (before text : List ℕ) →
+    k < length parts → text ≡ before ++ each_behind_space (type_text types) (places_of (take k parts)) →
+    (text ++ codes " ") ++ type_text types (get_or parts k d).0
+    ≡ before ++ each_behind_space (type_text types) (places_of (take (k + 1) parts))
+behind_space_more types parts k d before text within e =
+    append_assoc text (codes " ") (type_text types (get_or parts k d).0)
+    ∙ ap (λ l. l ++ (codes " " ++ type_text types (get_or parts k d).0)) e
+    ∙ append_assoc before (each_behind_space (type_text types) (places_of (take k parts)))
+    (codes " " ++ type_text types (get_or parts k d).0)
+    ∙ ap (λ l. before ++ l) (sym (each_behind_space-push (type_text types) (places_of (take k parts))
+    (get_or parts k d).0))
+    ∙ ap (λ l. before ++ each_behind_space (type_text types) l)
+    (sym (map_more (λ (id : TypeId). id.0) parts k d within))
+
+-- parameters and result of a function, as parts of its row
+pub fun_parts : (P : ℕ → Type 0) (parameters : List ℕ) (answer : ℕ) → All P (parameters ++ answer ∷ []) →
+    All P parameters × P answer
+fun_parts P parameters answer all = split_last P parameters answer all
