@@ -1,8 +1,8 @@
 -- Blends of rows and of parts, and what stays of them where rows are added.
-use Rattle.std.proofs.Common.{◌≡◌, ◌⊎◌, inl, inr, ℕ, zero, suc, ◌+◌, ◌-◌, ◌<◌, ◌≤◌, max, Bool, true, false, cond, List}
-use Rattle.std.proofs.Common.{[], ◌∷◌, ◌++◌, length, map, take, get_or, Option, Some, None, refl, sym, ap, ap₂, ◌∙◌}
-use Rattle.std.proofs.Common.{subst, arith, append_assoc, append-nil, length-append}
-use Rattle.std.specs.Prelude.{◌&&◌, ◌||◌, nat_eq, All, MatchBool, option_map, slice_index}
+use Rattle.std.proofs.Common.{◌≡◌, ℕ, zero, suc, ◌+◌, ◌-◌, ◌<◌, ◌≤◌, max, Bool, true, false, cond, List}
+use Rattle.std.proofs.Common.{[], ◌∷◌, ◌++◌, length, take, get_or, Option, Some, None, refl, sym, ap, ap₂, ◌∙◌}
+use Rattle.std.proofs.Common.{subst, arith, append_assoc, length-append}
+use Rattle.std.specs.Prelude.{◌&&◌, ◌||◌, All, MatchBool, option_map, slice_index}
 use Rattle.std.proofs.lemmas.Bool.{and_parts, eqb-true, eq-eqb}
 use Rattle.std.proofs.lemmas.List.{map_more, length-map, take_more, take_all, length-take-le, map-append}
 use Rattle.std.proofs.lemmas.List.Elements.{All-head, All-tail, All-cons, All-nil, All-weaker}
@@ -13,19 +13,18 @@ use Rattle.grift_base.specs.declared.places.TypeId.{TypeId}
 use Rattle.grift_base.specs.Types.{TypeRow, TypeRows, IntRow, BoolRow, UnitRow, DynRow, FunRow, TupleRow, RefRow}
 use Rattle.grift_base.specs.Types.{VectRow, row_at, parts_of, is_dyn, same_head}
 use Rattle.type_graph.specs.Rows.{places_of}
-use Rattle.type_graph.specs.Forming.{Forming, ◌>>=◌, formed, intern, place_where, at_place_or_last, equal_rows}
+use Rattle.type_graph.specs.Forming.{Forming, formed, intern, place_where, at_place_or_last, equal_rows}
 use Rattle.type_graph.specs.Trees.{PartsFirst, related, height, above_all, row_parts}
 use Rattle.type_graph.specs.TypeTables.{HasMoreRows, MayBePart, HasWidth, FitsTable, IsOrderedTable}
 use Rattle.type_graph.specs.declared.tables.TheConstants.{MOST_HEIGHT}
-use Rattle.type_graph.proofs.Public.{none_is_not_some, same_some, get_kept, row_stays, more_rows, more_length}
+use Rattle.type_graph.proofs.Public.{none_is_not_some, same_some, get_kept, row_stays}
 use Rattle.type_graph.proofs.Public.{later_within, height_grown, height_by_parts, place_found, place_missing}
-use Rattle.type_graph.proofs.Public.{rows_are_equal, row_is_itself, parts_within}
+use Rattle.type_graph.proofs.Public.{rows_are_equal, row_is_itself}
 use Rattle.consistency.specs.declared.pairs.Pair.{Pair}
 use Rattle.std.specs.HashMap.{get}
 use Rattle.consistency.specs.contracts.pairs.PairPartialEq.TheImpl.{ghosts}
 use Rattle.consistency.specs.Consistency.{consistent_rows, consistent}
-use Rattle.consistency.specs.Blending.{with_parts, blend_each, blend_rows, blend_to, AllBlend, RowsBlend, IsBlendTo}
-use Rattle.consistency.specs.Blending.{IsBlend}
+use Rattle.consistency.specs.Blending.{with_parts, blend_each, blend_rows, blend_to, AllBlend, IsBlendTo}
 use Rattle.consistency.specs.Known.{Blends, MayBlend, IsFormed, AreFormed, EachFormed, firsts, seconds}
 use Rattle.consistency.proofs.ConsistentLemmas.{consistent_by_rows}
 

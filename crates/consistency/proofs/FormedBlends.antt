@@ -1,11 +1,10 @@
 -- Blends that are formed are as they should be.
-use Rattle.std.proofs.Common.{◌≡◌, ℕ, zero, suc, ◌+◌, ◌<◌, ◌≤◌, Bool, true, false, cond, List, [], ◌∷◌, ◌++◌, length}
-use Rattle.std.proofs.Common.{map}
-use Rattle.std.proofs.Common.{Option, Some, None, refl, sym, ap, ap₂, ◌∙◌, subst, arith, append-nil}
+use Rattle.std.proofs.Common.{◌≡◌, ℕ, zero, suc, ◌<◌, Bool, true, false, List, [], ◌∷◌, length}
+use Rattle.std.proofs.Common.{Some, refl, sym, ap, ap₂, ◌∙◌, subst, arith, append-nil}
 use Rattle.std.specs.Prelude.{All}
-use Rattle.std.proofs.lemmas.List.Elements.{All-head, All-tail, All-cons, All-nil, All-weaker}
+use Rattle.std.proofs.lemmas.List.Elements.{All-head, All-tail, All-weaker}
 use Rattle.grift_base.specs.declared.places.TypeId.{TypeId}
-use Rattle.grift_base.specs.Types.{TypeRow, TypeRows, row_at, parts_of, is_dyn, same_head}
+use Rattle.grift_base.specs.Types.{TypeRow, TypeRows, row_at, parts_of, is_dyn}
 use Rattle.type_graph.specs.Rows.{places_of}
 use Rattle.type_graph.specs.Forming.{intern}
 use Rattle.type_graph.specs.Trees.{PartsFirst, related}

@@ -205,6 +205,7 @@ impl TypeTable {
         requires b { b.0 < length self.now }
         ensures { IsTrue result ↔ AreSame self.now a.0 b.0 }
     {
+        // The table is one: `len` says that no row stands twice and that parts stand before wholes.
         self.len();
         a == b
     }

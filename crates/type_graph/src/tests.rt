@@ -36,73 +36,91 @@ fn ids(alloc: Global, ids: &[TypeId]) -> Result<TypeIds, Fail> {
     Ok(TypeIds::from_slice(alloc, ids)?)
 }
 
+const INT: TypeId = TypeId(0);
+
+const BOOL: TypeId = TypeId(1);
+
+const UNIT: TypeId = TypeId(2);
+
+const DYN: TypeId = TypeId(3);
+
+const THUNK: TypeId = TypeId(4);
+
+const FUNCTION: TypeId = TypeId(5);
+
+const PAIR: TypeId = TypeId(6);
+
+const PAIR_BOX: TypeId = TypeId(7);
+
+const VECTOR: TypeId = TypeId(8);
+
+// The types that the tests name by their places.
+fn sample(alloc: Global) -> Result<TypeTable, Fail> {
+    let mut types = TypeTable::new(alloc)?;
+    for row in [Row::Int, Row::Bool, Row::Unit, Row::Dyn] {
+        put(&mut types, row)?;
+    }
+    let none = ids(alloc, &[])?;
+    put(&mut types, Row::Fun(none, INT))?;
+    let two = ids(alloc, &[DYN, THUNK])?;
+    put(&mut types, Row::Fun(two, BOOL))?;
+    let parts = ids(alloc, &[FUNCTION, UNIT])?;
+    put(&mut types, Row::Tuple(parts))?;
+    put(&mut types, Row::Ref(PAIR))?;
+    put(&mut types, Row::Vect(PAIR_BOX))?;
+    Ok(types)
+}
+
 #[test]
 fn rows_stand_once_in_order_of_first_use(rt: HostRuntime) -> Result<(), Fail> {
-    let mut types = TypeTable::new(rt.alloc())?;
-    let int = put(&mut types, Row::Int)?;
-    let dynamic = put(&mut types, Row::Dyn)?;
-    let boxed = put(&mut types, Row::Ref(int))?;
-    let parameters = ids(rt.alloc(), &[dynamic, boxed])?;
-    let function = put(&mut types, Row::Fun(parameters, int))?;
-    assert_eq!(rt; function, TypeId(3));
-    assert_eq!(rt; put(&mut types, Row::Dyn)?, dynamic);
-    let parameters = ids(rt.alloc(), &[dynamic, boxed])?;
-    let again = Row::Fun(parameters, int);
-    assert_eq!(rt; types.place_of(&again), Some(function));
-    assert_eq!(rt; put(&mut types, again)?, function);
-    assert_eq!(rt; types.place_of(&Row::Unit), None);
-    assert_eq!(rt; types.len(), 4);
-    if dynamic.0 < types.len() && boxed.0 < types.len() {
-        assert!(rt; types.same(boxed, boxed));
-        assert!(rt; !types.same(boxed, dynamic));
-        assert!(rt; *types.row(boxed) == Row::Ref(int));
-    }
+    let mut types = sample(rt.alloc())?;
+    assert_eq!(rt; types.len(), 9);
+    assert_eq!(rt; put(&mut types, Row::Dyn)?, DYN);
+    let parameters = ids(rt.alloc(), &[DYN, THUNK])?;
+    let again = Row::Fun(parameters, BOOL);
+    assert_eq!(rt; types.place_of(&again), Some(FUNCTION));
+    assert_eq!(rt; put(&mut types, again)?, FUNCTION);
+    assert_eq!(rt; types.place_of(&Row::Ref(INT)), None);
+    assert_eq!(rt; types.len(), 9);
+    assert!(rt; *types.row(PAIR_BOX) == Row::Ref(PAIR));
+    assert!(rt; types.same(PAIR, PAIR));
+    assert!(rt; !types.same(PAIR, DYN));
     Ok(())
 }
 
 #[test]
 fn rows_that_do_not_fit_are_told(rt: HostRuntime) -> Result<(), Fail> {
-    let mut types = TypeTable::new(rt.alloc())?;
-    let int = put(&mut types, Row::Int)?;
-    let seven = [int, int, int, int, int, int, int];
-    let six = ids(rt.alloc(), &seven[..6])?;
-    assert!(rt; types.fits(&Row::Fun(six, int)));
-    let seven_ids = ids(rt.alloc(), &seven)?;
-    assert!(rt; !types.fits(&Row::Fun(seven_ids, int)));
-    let none = ids(rt.alloc(), &[])?;
-    assert!(rt; !types.fits(&Row::Tuple(none)));
-    let nine = ids(rt.alloc(), &[int, int, int, int, int, int, int, int, int])?;
-    assert!(rt; !types.fits(&Row::Tuple(nine)));
-    assert!(rt; !types.fits(&Row::Vect(TypeId(1))));
+    let types = sample(rt.alloc())?;
+    let nine = [INT; 9];
+    for (count, function_fits, tuple_fits) in [
+        (0, true, false),
+        (6, true, true),
+        (8, false, true),
+        (9, false, false),
+    ] {
+        let parameters = ids(rt.alloc(), &nine[..count])?;
+        assert_eq!(rt; types.fits(&Row::Fun(parameters, INT)), function_fits);
+        let parts = ids(rt.alloc(), &nine[..count])?;
+        assert_eq!(rt; types.fits(&Row::Tuple(parts)), tuple_fits);
+    }
+    assert!(rt; !types.fits(&Row::Vect(TypeId(9))));
     Ok(())
 }
 
 #[test]
 fn types_are_written_and_measured(rt: HostRuntime) -> Result<(), Fail> {
-    let mut types = TypeTable::new(rt.alloc())?;
-    let int = put(&mut types, Row::Int)?;
-    let truth = put(&mut types, Row::Bool)?;
-    let unit = put(&mut types, Row::Unit)?;
-    let dynamic = put(&mut types, Row::Dyn)?;
-    let none = ids(rt.alloc(), &[])?;
-    let thunk = put(&mut types, Row::Fun(none, int))?;
-    let two = ids(rt.alloc(), &[dynamic, thunk])?;
-    let function = put(&mut types, Row::Fun(two, truth))?;
-    let parts = ids(rt.alloc(), &[function, unit])?;
-    let tuple = put(&mut types, Row::Tuple(parts))?;
-    let boxed = put(&mut types, Row::Ref(tuple))?;
-    let vector = put(&mut types, Row::Vect(boxed))?;
+    let types = sample(rt.alloc())?;
     let table = [
-        (int, "Int", 0, 1),
-        (truth, "Bool", 0, 1),
-        (unit, "Unit", 0, 1),
-        (dynamic, "Dyn", 0, 1),
-        (thunk, "(-> Int)", 1, 2),
-        (function, "(Dyn (-> Int) -> Bool)", 2, 5),
-        (tuple, "(Tuple (Dyn (-> Int) -> Bool) Unit)", 3, 7),
-        (boxed, "(Ref (Tuple (Dyn (-> Int) -> Bool) Unit))", 4, 8),
+        (INT, "Int", 0, 1),
+        (BOOL, "Bool", 0, 1),
+        (UNIT, "Unit", 0, 1),
+        (DYN, "Dyn", 0, 1),
+        (THUNK, "(-> Int)", 1, 2),
+        (FUNCTION, "(Dyn (-> Int) -> Bool)", 2, 5),
+        (PAIR, "(Tuple (Dyn (-> Int) -> Bool) Unit)", 3, 7),
+        (PAIR_BOX, "(Ref (Tuple (Dyn (-> Int) -> Bool) Unit))", 4, 8),
         (
-            vector,
+            VECTOR,
             "(Vect (Ref (Tuple (Dyn (-> Int) -> Bool) Unit)))",
             5,
             9,
@@ -121,10 +139,7 @@ fn sizes_are_those_of_trees(rt: HostRuntime) -> Result<(), Fail> {
     let mut types = TypeTable::new(rt.alloc())?;
     let mut part = put(&mut types, Row::Int)?;
     for (height, size) in [(1, 9), (2, 73), (3, 585), (4, 1001), (5, 1001)] {
-        let eight = ids(
-            rt.alloc(),
-            &[part, part, part, part, part, part, part, part],
-        )?;
+        let eight = ids(rt.alloc(), &[part; 8])?;
         part = put(&mut types, Row::Tuple(eight))?;
         assert_eq!(rt; measured(&types, part)?, (height, size));
     }

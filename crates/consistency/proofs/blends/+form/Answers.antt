@@ -1,9 +1,9 @@
-use Rattle.std.proofs.Common.{◌≡◌, ℕ, ◌+◌, ◌<◌, ◌≤◌, ◌++◌, ◌∷◌, Bool, true, false, List, [], length, take, get_or, Some}
-use Rattle.std.proofs.Common.{refl, sym, ap, ap₂, ◌∙◌, subst, arith, append-nil}
-use Rattle.std.specs.Prelude.{All, MatchBool}
+use Rattle.std.proofs.Common.{◌≡◌, ℕ, ◌+◌, ◌<◌, ◌≤◌, ◌++◌, ◌∷◌, List, [], length, take, get_or, Some}
+use Rattle.std.proofs.Common.{sym, ap, ap₂, ◌∙◌, subst, arith, append-nil}
+use Rattle.std.specs.Prelude.{All}
 use Rattle.std.proofs.lemmas.List.{map_more, take_more, length-map}
 use Rattle.grift_base.specs.declared.places.TypeId.{TypeId}
-use Rattle.grift_base.specs.Types.{TypeRow, TypeRows, row_at, parts_of, is_dyn, same_head}
+use Rattle.grift_base.specs.Types.{TypeRow, TypeRows, row_at, parts_of}
 use Rattle.type_graph.specs.Rows.{places_of, row_of}
 use Rattle.type_graph.specs.Trees.{above_all, related}
 use Rattle.type_graph.specs.Forming.{intern}
@@ -13,9 +13,9 @@ use Rattle.type_graph.proofs.Public.{fun_parts, intern_adds}
 use Rattle.consistency.specs.declared.pairs.Pair.{Pair}
 use Rattle.consistency.specs.Consistency.{consistent}
 use Rattle.consistency.specs.Blending.{blend_each, blend_to, with_parts}
-use Rattle.consistency.specs.Known.{MayBlend, IsFormed, EachFormed, firsts, seconds}
+use Rattle.consistency.specs.Known.{MayBlend, EachFormed, firsts, seconds}
 use Rattle.consistency.proofs.ConsistentLemmas.{consistent_kept}
-use Rattle.consistency.proofs.BlendLemmas.{IsFormed-grown, EachFormed-grown, EachFormed-push, EachFormed-length}
+use Rattle.consistency.proofs.BlendLemmas.{EachFormed-grown, EachFormed-push, EachFormed-length}
 use Rattle.consistency.proofs.BlendLemmas.{plain_consistent, All-MayBlend, both_fits, IsFormed-both, computes}
 use Rattle.consistency.proofs.BlendLemmas.{IsFormed-first, IsFormed-second, AreFormed-grown, AreFormed-insert}
 use Rattle.consistency.proofs.BlendLemmas.{first_below_all, one_more_computed}

@@ -1,11 +1,11 @@
-use Rattle.std.proofs.Common.{◌≡◌, ℕ, ◌<◌, ◌≤◌, ◌++◌, ◌∷◌, Bool, true, false, List, [], length, get_or, Some, Result}
-use Rattle.std.proofs.Common.{refl, sym, ap, ap₂, ◌∙◌, subst, arith}
-use Rattle.std.specs.Prelude.{All, ◌&&◌, IfOk}
-use Rattle.std.proofs.lemmas.List.Elements.{All-head, All-weaker}
+use Rattle.std.proofs.Common.{◌≡◌, ℕ, ◌<◌, Bool, true, false, List, [], length, Some, Result}
+use Rattle.std.proofs.Common.{sym, ap, ◌∙◌, subst, arith}
+use Rattle.std.specs.Prelude.{◌&&◌, IfOk}
+use Rattle.std.proofs.lemmas.List.Elements.{All-head}
 use Rattle.grift_base.specs.declared.places.TypeId.{TypeId}
-use Rattle.grift_base.specs.Types.{TypeRow, FunRow, TupleRow, RefRow, VectRow, row_at, parts_of}
+use Rattle.grift_base.specs.Types.{FunRow, TupleRow, RefRow, VectRow, row_at}
 use Rattle.type_graph.specs.Rows.{places_of, row_of}
-use Rattle.type_graph.specs.Trees.{above_all, related}
+use Rattle.type_graph.specs.Trees.{related}
 use Rattle.type_graph.proofs.Public.{parts_within, part_at, part_below_all, above_all-most, fun_parts}
 use Rattle.consistency.specs.Consistency.{consistent}
 use Rattle.consistency.proofs.ConsistentLemmas.{related_more, related_fails, related_lengths, functions_consistent}

@@ -1,4 +1,4 @@
-use Rattle.std.proofs.Common.{◌≡◌, ◌+◌, ◌*◌, true, length, take}
+use Rattle.std.proofs.Common.{◌≡◌, ◌+◌, ◌*◌, true, take}
 use Rattle.type_graph.specs.Rows.{places_of}
 use Rattle.type_graph.specs.Trees.{above_all, related}
 use Rattle.consistency.specs.Consistency.{consistent}
