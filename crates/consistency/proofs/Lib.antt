@@ -1,4 +1,4 @@
-pub mod ConsistentLemmas
-pub mod BlendLemmas
-pub mod FormedBlends
+mod ConsistentLemmas
+mod BlendLemmas
+mod FormedBlends
 pub mod Public

@@ -1,11 +1,11 @@
-pub mod Rows
-pub mod Walk
-pub mod Running
-pub mod Readings
-pub mod Words
-pub mod Lists
-pub mod Taking
-pub mod Opened
-pub mod FirstRefusals
-pub mod Outcomes
+mod Rows
+mod Walk
+mod Running
+mod Readings
+mod Words
+mod Lists
+mod Taking
+mod Opened
+mod FirstRefusals
+mod Outcomes
 pub mod Public

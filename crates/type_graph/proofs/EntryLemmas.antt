@@ -1,16 +1,15 @@
 -- The entries of a map of rows, seen as a table of types.
-use Rattle.std.proofs.Common.{◌≡◌, ◌⊎◌, inl, inr, ℕ, zero, suc, ◌<◌, ◌+◌, Bool, true, false, List, [], ◌∷◌, ◌++◌}
-use Rattle.std.proofs.Common.{length, map, get_or, take, Option, Some, None, refl, sym, ap, ◌∙◌, subst, arith}
+use Rattle.std.proofs.Common.{◌≡◌, ℕ, zero, suc, ◌<◌, Bool, true, false, List, [], ◌∷◌, ◌++◌}
+use Rattle.std.proofs.Common.{length, map, get_or, Option, Some, None, refl, sym, ap, ◌∙◌, subst, arith}
 use Rattle.std.proofs.Common.{slice_get, position}
-use Rattle.std.specs.Prelude.{Contains, All, option_map, is_some, cond}
-use Rattle.std.specs.List.{IsDistinct, list_any}
+use Rattle.std.specs.Prelude.{Contains, option_map, is_some, cond}
+use Rattle.std.specs.List.{IsDistinct}
 use Rattle.std.specs.Map.{keys_of, values_of, lookup}
-use Rattle.std.specs.Map.Iter.{deref_pair}
 use Rattle.std.proofs.lemmas.List.{map-append, length-map}
 use Rattle.std.proofs.lemmas.List.Quantifiers.{position-Some}
-use Rattle.std.proofs.lemmas.Option.{slice_get_within, slice_get-get_or, get_or_from_slice_get, slice_get-map}
+use Rattle.std.proofs.lemmas.Option.{slice_get-get_or, slice_get-map}
 use Rattle.grift_base.specs.Tables.{HasNoRepeats}
-use Rattle.grift_base.specs.Types.{TypeRow, TypeRows, row_at}
+use Rattle.grift_base.specs.Types.{TypeRows, row_at}
 use Rattle.grift_base.proofs.Public.{HasNoRepeats-from_IsDistinct}
 use Rattle.type_graph.specs.Rows.{row_of}
 use Rattle.type_graph.specs.declared.rows.Row.{Row}

@@ -8,7 +8,7 @@ use Rattle.std.proofs.lemmas.Option.{slice_get_within, slice_get-get_or, get_or_
 use Rattle.grift_base.specs.Tables.{HasNoRepeats, Interns}
 use Rattle.grift_base.specs.Types.{TypeRow, TypeRows, row_at, parts_of}
 use Rattle.type_graph.specs.Forming.{equal_rows, place_where, at_place_or_last, intern}
-use Rattle.type_graph.specs.Trees.{row_parts, PartsFirst, sum_of, size_to, size, above_all, height_to, height}
+use Rattle.type_graph.specs.Trees.{row_parts, PartsFirst, sum_of, size, above_all, height}
 use Rattle.type_graph.specs.TypeTables.{HasWidth, HaveWidths, AreLow, MayBePart, FitsTable, IsOrderedTable, IsMeasure}
 use Rattle.type_graph.specs.TypeTables.{IsMeasureOfParts, IsKept}
 use Rattle.type_graph.specs.TypeTables.{HasMoreRows}
@@ -17,7 +17,7 @@ use Rattle.type_graph.specs.declared.tables.TheConstants.{MOST_HEIGHT, SIZE_SHOW
 use Rattle.grift_base.specs.declared.places.TheConstants.{MOST_ENTRIES}
 use Rattle.type_graph.proofs.Places.{none_is_not_some, same_some, get_last, get_before_or_last, HasNoRepeats-push}
 use Rattle.type_graph.proofs.RowLemmas.{rows_are_equal, row_is_itself}
-use Rattle.type_graph.proofs.TreeLemmas.{row_parts_below, size_by_parts, height_by_parts, size_grown, height_grown}
+use Rattle.type_graph.proofs.TreeLemmas.{size_by_parts, height_by_parts, size_grown, height_grown}
 
 -- ---- the place of a row
 

@@ -1,8 +1,8 @@
-pub mod Places
-pub mod RowLemmas
-pub mod TreeLemmas
-pub mod InternLemmas
-pub mod EntryLemmas
-pub mod MeasureLemmas
-pub mod TextLemmas
+mod Places
+mod RowLemmas
+mod TreeLemmas
+mod InternLemmas
+mod EntryLemmas
+mod MeasureLemmas
+mod TextLemmas
 pub mod Public

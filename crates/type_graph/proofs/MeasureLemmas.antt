@@ -1,16 +1,16 @@
 -- Heights and sizes of rows, part by part.
-use Rattle.std.proofs.Common.{◌≡◌, ℕ, zero, suc, ◌+◌, ◌<◌, ◌≤◌, max, min, List, [], ◌∷◌, ◌++◌, length, map, take}
-use Rattle.std.proofs.Common.{get_or, refl, sym, ap, ◌∙◌, subst, arith}
+use Rattle.std.proofs.Common.{◌≡◌, ℕ, zero, suc, ◌+◌, ◌<◌, ◌≤◌, max, min, List, [], ◌∷◌, ◌++◌, length, take}
+use Rattle.std.proofs.Common.{get_or, sym, subst, arith}
 use Rattle.std.specs.Prelude.{All}
-use Rattle.std.proofs.lemmas.List.{map_more, length-map}
+use Rattle.std.proofs.lemmas.List.{map_more}
 use Rattle.std.proofs.lemmas.List.Elements.{All-head, All-tail}
-use Rattle.grift_base.specs.Types.{TypeRow, TypeRows}
+use Rattle.grift_base.specs.Types.{TypeRows}
 use Rattle.grift_base.specs.declared.places.TypeId.{TypeId}
 use Rattle.type_graph.specs.Rows.{places_of}
-use Rattle.type_graph.specs.Trees.{above_all, sum_of, height, size}
+use Rattle.type_graph.specs.Trees.{above_all, height, size}
 use Rattle.type_graph.specs.TypeTables.{IsMeasure, IsMeasureOfParts}
 use Rattle.type_graph.specs.declared.tables.Measure.{Measure}
-use Rattle.type_graph.specs.declared.tables.TheConstants.{MOST_HEIGHT, SIZE_SHOWN}
+use Rattle.type_graph.specs.declared.tables.TheConstants.{SIZE_SHOWN}
 use Rattle.type_graph.proofs.TreeLemmas.{above_all-push, sum_of-push}
 
 -- a fact of each part holds of the one at this place

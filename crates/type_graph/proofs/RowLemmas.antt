@@ -1,11 +1,11 @@
 -- Rows are equal where their constructors and parts are.
-use Rattle.std.proofs.Common.{◌≡◌, ℕ, zero, suc, Bool, true, false, List, [], ◌∷◌, ◌++◌, length, map, refl, ap, ap₂}
-use Rattle.std.proofs.Common.{◌∙◌, sym, subst, rules, Decides}
+use Rattle.std.proofs.Common.{◌≡◌, ℕ, true, List, [], ◌∷◌, ◌++◌, length, refl, ap, ap₂}
+use Rattle.std.proofs.Common.{◌∙◌, sym, rules, Decides}
 use Rattle.std.specs.Prelude.{nat_eq, ◌&&◌}
 use Rattle.std.proofs.lemmas.Bool.{eqb-true, eq-eqb, and_parts}
 use Rattle.grift_base.specs.declared.places.TypeId.{TypeId}
-use Rattle.grift_base.specs.Types.{TypeRow, TypeRows, IntRow, BoolRow, UnitRow, DynRow, FunRow, TupleRow, RefRow}
-use Rattle.grift_base.specs.Types.{VectRow, parts_of, same_head}
+use Rattle.grift_base.specs.Types.{TypeRow, IntRow, BoolRow, UnitRow, DynRow, FunRow, TupleRow, RefRow}
+use Rattle.grift_base.specs.Types.{VectRow, same_head}
 use Rattle.type_graph.specs.Rows.{places_of, row_of}
 use Rattle.type_graph.specs.Forming.{equal_numbers, equal_rows}
 use Rattle.type_graph.specs.declared.rows.Row.{Row}

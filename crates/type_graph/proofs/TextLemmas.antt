@@ -1,11 +1,11 @@
 -- The text of a type is that of its row.
-use Rattle.std.proofs.Common.{◌≡◌, ℕ, zero, suc, ◌+◌, ◌<◌, List, [], ◌∷◌, ◌++◌, length, map, take, get_or, Option, Some}
-use Rattle.std.proofs.Common.{None, refl, sym, ap, ap₂, ◌∙◌, subst, arith, append_assoc, append-nil}
+use Rattle.std.proofs.Common.{◌≡◌, ℕ, zero, suc, ◌+◌, ◌<◌, List, [], ◌∷◌, ◌++◌, length, take, get_or, Option, Some}
+use Rattle.std.proofs.Common.{None, refl, sym, ap, ap₂, ◌∙◌, arith, append_assoc, append-nil}
 use Rattle.std.specs.Prelude.{All, codes}
 use Rattle.std.proofs.lemmas.List.{map_more}
 use Rattle.std.proofs.lemmas.List.Elements.{All-head, All-tail, All-cons}
 use Rattle.grift_base.specs.Types.{TypeRow, TypeRows, IntRow, BoolRow, UnitRow, DynRow, FunRow, TupleRow, RefRow}
-use Rattle.grift_base.specs.Types.{VectRow, row_at, parts_of}
+use Rattle.grift_base.specs.Types.{VectRow, row_at}
 use Rattle.grift_base.specs.declared.places.TypeId.{TypeId}
 use Rattle.type_graph.specs.Rows.{places_of}
 use Rattle.type_graph.specs.Trees.{PartsFirst, row_parts}

@@ -1,17 +1,17 @@
 -- Types as trees: what is read to a depth is the same at each depth that is deep enough, and where rows are added.
-use Rattle.std.proofs.Common.{◌≡◌, ◌⊎◌, inl, inr, ℕ, zero, suc, ◌+◌, ◌<◌, ◌≤◌, max, Bool, true, false, List, [], ◌∷◌}
-use Rattle.std.proofs.Common.{◌++◌, length, Option, Some, None, refl, sym, ap, ap₂, ◌∙◌, subst, arith, length-append}
+use Rattle.std.proofs.Common.{◌≡◌, ℕ, zero, suc, ◌+◌, ◌<◌, ◌≤◌, max, Bool, true, List, [], ◌∷◌}
+use Rattle.std.proofs.Common.{◌++◌, length, Option, Some, None, refl, sym, ap, ap₂, ◌∙◌, arith, length-append}
 use Rattle.std.proofs.Common.{append-nil, append_assoc}
-use Rattle.std.specs.Prelude.{◌&&◌, All, slice_get}
+use Rattle.std.specs.Prelude.{◌&&◌, All}
 use Rattle.std.proofs.lemmas.Bool.{and_parts, eq-eqb, and_from}
 use Rattle.std.proofs.lemmas.List.Elements.{All-head, All-tail, All-weaker}
 use Rattle.std.proofs.Common.{get_or}
 use Rattle.std.proofs.lemmas.Option.{slice_get_within, slice_get-get_or}
 use Rattle.grift_base.specs.Tables.{HasNoRepeats}
 use Rattle.grift_base.specs.Types.{TypeRow, TypeRows, row_at, parts_of, same_head}
-use Rattle.type_graph.specs.Forming.{equal_numbers, equal_rows}
+use Rattle.type_graph.specs.Forming.{equal_numbers}
 use Rattle.type_graph.specs.Trees.{row_parts, PartsFirst, sum_of, size_to, size, above_all, height_to, height, related}
-use Rattle.type_graph.specs.Trees.{agree_rows, agree_to, AreSame}
+use Rattle.type_graph.specs.Trees.{agree_rows, agree_to}
 use Rattle.type_graph.specs.TypeTables.{HasMoreRows}
 use Rattle.type_graph.proofs.Places.{slice_get_at, get_kept}
 use Rattle.type_graph.proofs.RowLemmas.{rows_are_equal, row_is_itself}

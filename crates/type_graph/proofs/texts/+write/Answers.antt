@@ -1,11 +1,10 @@
-use Rattle.std.proofs.Common.{◌≡◌, ℕ, ◌<◌, ◌≤◌, ◌++◌, List, [], length, get_or, Some, sym, ap, ◌∙◌, subst, arith, rules}
-use Rattle.std.specs.Prelude.{All, OnOk, codes}
+use Rattle.std.proofs.Common.{◌≡◌, ℕ, ◌<◌, ◌≤◌, ◌++◌, List, [], length, get_or, Some, ap, ◌∙◌, arith}
+use Rattle.std.specs.Prelude.{All, codes}
 use Rattle.std.proofs.lemmas.List.Elements.{All-head, All-weaker}
-use Rattle.grift_base.specs.Types.{TypeRow, FunRow, TupleRow, RefRow, VectRow, row_at, parts_of}
+use Rattle.grift_base.specs.Types.{FunRow, TupleRow, RefRow, VectRow, row_at}
 use Rattle.type_graph.specs.Rows.{places_of, row_of}
 use Rattle.type_graph.specs.Trees.{above_all}
 use Rattle.type_graph.specs.Texts.{each_before_space, each_behind_space, type_text}
-use Rattle.type_graph.proofs.TreeLemmas.{parts_within}
 use Rattle.type_graph.proofs.MeasureLemmas.{part_at, part_below_all, above_all-most}
 use Rattle.type_graph.proofs.TextLemmas.{fun_parts, fun_written, tuple_written, ref_written, vect_written}
 use Rattle.type_graph.proofs.TextLemmas.{before_space_more, behind_space_more}

@@ -1,10 +1,9 @@
-use Rattle.std.proofs.Common.{◌≡◌, ◌<◌, inl, inr, refl, length, ap, sym, ◌∙◌, ◌++◌, ◌∷◌, [], Some, arith}
+use Rattle.std.proofs.Common.{inl, inr, refl, ap, ◌∙◌, ◌++◌, ◌∷◌, [], arith}
 use Rattle.grift_base.specs.Types.{row_at}
-use Rattle.grift_base.specs.declared.places.TheConstants.{MOST_ENTRIES}
 use Rattle.type_graph.specs.Rows.{row_of}
 use Rattle.type_graph.proofs.Places.{get_last}
 use Rattle.type_graph.proofs.InternLemmas.{intern-from_Interns, contained}
-use Rattle.type_graph.proofs.EntryLemmas.{table_of, table_then, kept_then}
+use Rattle.type_graph.proofs.EntryLemmas.{table_then, kept_then}
 use Rattle.type_graph.proofs.tables.TypeTable.intern.Goals as goal
 
 pub invariant_of-self-2 : goal.invariant_of-self-2

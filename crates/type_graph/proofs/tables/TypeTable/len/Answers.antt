@@ -1,4 +1,3 @@
-use Rattle.type_graph.specs.TypeTables.{IsOrderedTable}
 use Rattle.type_graph.proofs.EntryLemmas.{table_has_no_repeats}
 use Rattle.type_graph.proofs.tables.TypeTable.len.Goals as goal
 

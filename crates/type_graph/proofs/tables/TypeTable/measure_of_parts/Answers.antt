@@ -1,4 +1,4 @@
-use Rattle.std.proofs.Common.{ℕ, ◌<◌, length, sym, subst}
+use Rattle.std.proofs.Common.{◌<◌, sym, subst}
 use Rattle.type_graph.specs.TypeTables.{MayBePart}
 use Rattle.type_graph.specs.declared.tables.TheConstants.{MOST_HEIGHT}
 use Rattle.type_graph.proofs.MeasureLemmas.{part_at, measure_more}

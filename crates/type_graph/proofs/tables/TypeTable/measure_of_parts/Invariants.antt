@@ -1,4 +1,4 @@
-use Rattle.std.proofs.Common.{◌≡◌, ◌+◌, take}
+use Rattle.std.proofs.Common.{take}
 use Rattle.type_graph.specs.Rows.{places_of}
 use Rattle.type_graph.specs.TypeTables.{IsMeasureOfParts}
 use Rattle.type_graph.proofs.tables.TypeTable.measure_of_parts.Given as goal

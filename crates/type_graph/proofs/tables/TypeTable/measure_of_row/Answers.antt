@@ -1,7 +1,4 @@
-use Rattle.std.proofs.Common.{◌≡◌, List, ◌++◌, ◌∷◌, [], sym, ap, subst}
-use Rattle.grift_base.specs.Types.{parts_of}
-use Rattle.type_graph.specs.Rows.{places_of, row_of}
-use Rattle.type_graph.specs.TypeTables.{IsMeasureOfParts}
+use Rattle.type_graph.specs.Rows.{places_of}
 use Rattle.type_graph.proofs.MeasureLemmas.{IsMeasureOfParts-push}
 use Rattle.type_graph.proofs.tables.TypeTable.measure_of_row.Goals as goal
 
