@@ -1,15 +1,16 @@
-pub mod TextTables
-pub mod Steps
-pub mod ParamRows
-pub mod NewNames
-pub mod Runs
-pub mod Binds
-pub mod TypesFound
-pub mod TypesRead
-pub mod FormsFound
-pub mod FormsRead
-pub mod TopsFound
-pub mod TopsRead
-pub mod ExprRows
-pub mod Loops
-pub mod Bridge
+pub mod Public
+mod TextTables
+mod Steps
+mod ParamRows
+mod NewNames
+mod Runs
+mod Binds
+mod TypesFound
+mod TypesRead
+mod FormsFound
+mod FormsRead
+mod TopsFound
+mod TopsRead
+mod ExprRows
+mod Loops
+mod Bridge
