@@ -69,7 +69,7 @@ module _ (rows : ℕ → TypeRow) where
         ids true = refl
         ids false = heads (same_head (rows s) (rows t)) refl
 
-    same_by : (b1 b2 : Bool) (n s t p : ℕ) → SameCastsBelow n next other → TypeNoHigher rows n s →
+    pub same_by : (b1 b2 : Bool) (n s t p : ℕ) → SameCastsBelow n next other → TypeNoHigher rows n s →
         TypeNoHigher rows n t → coerce_by rows next b1 b2 s t p ≡ coerce_by rows other b1 b2 s t p
     same_by true true n s t p same hs ht = refl
     same_by true false n s t p same hs ht = refl

@@ -21,7 +21,8 @@ of_content P content zero le h = h 0 0 (omega arith)
 of_content P content (suc zero) le h = h 0 0 (omega arith)
 of_content P content (suc (suc j)) le h = absurd (omega arith)
 
-of_slots : (P : ℕ → Type 0) (row : TypeRow) (j : ℕ) → j < length (slots_of row) → All P (parts_of row) →
+-- what holds of the parts of a row holds of what the parts of its middles speak of
+pub of_slots : (P : ℕ → Type 0) (row : TypeRow) (j : ℕ) → j < length (slots_of row) → All P (parts_of row) →
     P (get_or (slots_of row) j 0)
 of_slots P IntRow j le h = absurd (omega arith)
 of_slots P BoolRow j le h = absurd (omega arith)

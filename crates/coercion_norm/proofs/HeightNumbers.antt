@@ -4,12 +4,12 @@ use Rattle.grift_base.specs.Types.{TypeRow}
 use Rattle.coercion_norm.specs.Coercions.{Coercion, Coercions, Id, Fail, Middle, Inject, Project, NoCoercions}
 use Rattle.coercion_norm.specs.Coercions.{CoercionThen}
 use Rattle.coercion_norm.specs.Composition.{coerce_to, compose_to}
-use Rattle.coercion_norm.specs.Heights.{NoHigher, AllNoHigher, height, highest, AreHeights}
+use Rattle.coercion_norm.specs.Heights.{NoHigher, AllNoHigher, coercion_height, highest, AreHeights}
 use Rattle.coercion_norm.proofs.HeightLemmas.{coerce_height, compose_height}
 
 module _ (rows : ℕ → TypeRow) (type_height : ℕ → ℕ) (heights : AreHeights rows type_height) where
   mutual
-    pub bound_from_height : (c : Coercion) (n : ℕ) → height type_height c ≤ n → NoHigher rows c n
+    pub bound_from_height : (c : Coercion) (n : ℕ) → coercion_height type_height c ≤ n → NoHigher rows c n
     bound_from_height Id n h = tt
     bound_from_height (Fail label) n h = tt
     bound_from_height (Middle kind parts) zero h = absurd (omega arith)
@@ -24,7 +24,7 @@ module _ (rows : ℕ → TypeRow) (type_height : ℕ → ℕ) (heights : AreHeig
         (bound_from_height c n (omega arith), bounds_from_highest rest n (omega arith))
 
   mutual
-    pub height_from_bound : (c : Coercion) (n : ℕ) → NoHigher rows c n → height type_height c ≤ n
+    pub height_from_bound : (c : Coercion) (n : ℕ) → NoHigher rows c n → coercion_height type_height c ≤ n
     height_from_bound Id n h = omega arith
     height_from_bound (Fail label) n h = omega arith
     height_from_bound (Middle kind parts) zero h = absurd h
@@ -41,7 +41,7 @@ module _ (rows : ℕ → TypeRow) (type_height : ℕ → ℕ) (heights : AreHeig
 
   -- in numbers: the coercion of a cast is no higher than the higher of its types, and composition than the higher of
   -- both
-  pub coerce_no_higher : (made s t p : ℕ) → height type_height (coerce_to rows made s t p) ≤
+  pub coerce_no_higher : (made s t p : ℕ) → coercion_height type_height (coerce_to rows made s t p) ≤
       max (type_height s) (type_height t)
   coerce_no_higher made s t p =
       let n = max (type_height s) (type_height t) in
@@ -49,8 +49,9 @@ module _ (rows : ℕ → TypeRow) (type_height : ℕ → ℕ) (heights : AreHeig
       ((heights t n).1 (omega arith)))
 
   pub compose_no_higher : (made : ℕ) (c d : Coercion) →
-      height type_height (compose_to rows made c d) ≤ max (height type_height c) (height type_height d)
+      coercion_height type_height (compose_to rows made c d) ≤ max (coercion_height type_height c)
+      (coercion_height type_height d)
   compose_no_higher made c d =
-      let n = max (height type_height c) (height type_height d) in
+      let n = max (coercion_height type_height c) (coercion_height type_height d) in
       height_from_bound (compose_to rows made c d) n
       (compose_height rows made n c d (bound_from_height c n (omega arith)) (bound_from_height d n (omega arith)))

@@ -11,4 +11,13 @@ pub mod OneNormalForm
 pub mod SixCases
 pub mod MiddleParts
 mod CastExamples
+pub mod NodeLemmas
+pub mod NodeViews
+pub mod EntryLemmas
+pub mod PartLemmas
+pub mod FittingLemmas
+pub mod MadeParts
+pub mod CastLemmas
+pub mod KnownCasts
+pub mod LaterTypes
 pub mod Public

@@ -15,3 +15,8 @@ pub use Rattle.coercion_norm.proofs.OneNormalForm.{stands_alone, compose_associa
 pub use Rattle.coercion_norm.proofs.TableHeights.{heights_of_a_table}
 pub use Rattle.coercion_norm.proofs.HeightNumbers.{bound_from_height, height_from_bound, coerce_no_higher}
 pub use Rattle.coercion_norm.proofs.HeightNumbers.{compose_no_higher}
+pub use Rattle.coercion_norm.proofs.NodeLemmas.{same_nodes, more_nodes, more_places, node_kept, tree_is, tree_kept}
+pub use Rattle.coercion_norm.proofs.NodeLemmas.{trees_kept, IsTree-kept, IsTree-node, id_there}
+pub use Rattle.coercion_norm.proofs.CastLemmas.{row_is, cast_by_rows, cast_solid, cast_stands, cast_low, cast_sound}
+pub use Rattle.coercion_norm.proofs.KnownCasts.{AreCasts-kept, AreCasts-insert}
+pub use Rattle.coercion_norm.proofs.LaterTypes.{FitsTypes-later}

@@ -1,16 +1,14 @@
--- Coercions as trees. Types and labels are numbers: a type is a place in a table of types, and a label one in a table of
+-- Coercions as trees. Types and labels are numbers: a type is a place in a table of types, and a label one in a table
+-- of
 -- labels. Definitions read types by a function from places to rows; for a table that is `rows_of`.
 use Rattle.std.specs.Prelude.{ℕ, Bool, true, false, ◌&&◌, List, [], ◌∷◌, ◌++◌, length, Option, Some, None}
 use Rattle.std.specs.Prelude.{slice_index, slice_index_or}
 use Rattle.grift_base.specs.Types.{TypeRow, TypeRows, IntRow, BoolRow, UnitRow, DynRow, FunRow, TupleRow, RefRow}
 use Rattle.grift_base.specs.Types.{VectRow}
-
 -- the constructor of a middle
-pub data Kind : Type 0 where
-  FunKind : Kind
-  TupKind : Kind
-  RefKind : Kind
-  VecKind : Kind
+pub use Rattle.coercion_norm.specs.declared.middles.MiddleKind.{MiddleKind as Kind}
+pub use Rattle.coercion_norm.specs.declared.middles.MiddleKind.TheVariants.{Fun as FunKind, Tup as TupKind}
+pub use Rattle.coercion_norm.specs.declared.middles.MiddleKind.TheVariants.{Ref as RefKind, Vec as VecKind}
 
 mutual
   pub data Coercion : Type 0 where

@@ -28,16 +28,16 @@ module _ (rows : ℕ → TypeRow) where
 
 module _ (type_height : ℕ → ℕ) where
   abbrev mutual
-    pub height : Coercion → ℕ
-    height Id = 0
-    height (Fail label) = 0
-    height (Middle kind parts) = suc (highest parts)
-    height (Inject g kept) = max (height g) (type_height kept)
-    height (Project wanted label i) = max (type_height wanted) (height i)
+    pub coercion_height : Coercion → ℕ
+    coercion_height Id = 0
+    coercion_height (Fail label) = 0
+    coercion_height (Middle kind parts) = suc (highest parts)
+    coercion_height (Inject g kept) = max (coercion_height g) (type_height kept)
+    coercion_height (Project wanted label i) = max (type_height wanted) (coercion_height i)
 
     pub highest : Coercions → ℕ
     highest NoCoercions = 0
-    highest (CoercionThen c rest) = max (height c) (highest rest)
+    highest (CoercionThen c rest) = max (coercion_height c) (highest rest)
 
 -- these numbers are the heights of these types
 abbrev pub AreHeights : (ℕ → TypeRow) → (ℕ → ℕ) → Type 0

@@ -4,3 +4,5 @@ pub mod StandsFor
 pub mod Composition
 pub mod Heights
 pub mod Normal
+pub mod Nodes
+pub mod CoercionTables

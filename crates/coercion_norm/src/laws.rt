@@ -4,14 +4,16 @@
 ghost use Rattle.std.specs.Prelude.{◌≡◌, ◌↔◌, ◌≤◌, max, suc, ℕ, true, false, Some, None};
 ghost use Rattle.grift_base.specs.Types.{TypeRow, TypeRows, is_dyn};
 ghost use Rattle.type_graph.specs.Trees.{height};
-ghost use Rattle.type_graph.specs.TypeTables.{IsOrderedTable};
+ghost use Rattle.type_graph.specs.TypeTables.{HasMoreRows, IsOrderedTable};
 ghost use Rattle.coercion_norm.specs.Coercions.{Kind, Coercion, Coercions, Id, Fail, Inject, Project, kind_of, rows_of};
 ghost use Rattle.coercion_norm.specs.Coercions.{slots};
 ghost use Rattle.coercion_norm.specs.Paths.{Steps, Stop, Edge, first_clash, joined, last_type, solid};
 ghost use Rattle.coercion_norm.specs.StandsFor.{AgreesTo, IsMiddle, PartsAgree, StandsFor};
 ghost use Rattle.coercion_norm.specs.Composition.{coerce_solid, coerce_to, compose_to, follow};
-ghost use Rattle.coercion_norm.specs.Heights.{AreHeights, NoHigher, TypeNoHigher, height as coercion_height};
+ghost use Rattle.coercion_norm.specs.Heights.{AreHeights, NoHigher, TypeNoHigher, coercion_height};
 ghost use Rattle.coercion_norm.specs.Normal.{IsNormal};
+ghost use Rattle.coercion_norm.specs.Nodes.{AreOrdered};
+ghost use Rattle.coercion_norm.specs.CoercionTables.{FitsTypes, NodeTable};
 
 /// What a coercion agrees with to a depth above 0, by the first case that fits: a path of Dyn alone, a path that
 /// begins with Dyn, one with a clash of heads, one that ends with Dyn, one of base types, and one of types with parts.
@@ -112,4 +114,10 @@ pub fn heights_are_bounds()
     ensures compositions { (types : TypeRows) → IsOrderedTable types → (made : ℕ) (c d : Coercion)
         → coercion_height (height types) (compose_to (rows_of types) made c d)
         ≤ max (coercion_height (height types) c) (coercion_height (height types) d) }
+{}
+
+/// A table of coercions that fits a table of types goes on fitting it where rows are added.
+pub fn later_types_change_nothing()
+    ensures { (types new : TypeRows) (table : NodeTable) → IsOrderedTable types → HasMoreRows types new
+        → AreOrdered table.nodes → FitsTypes types table → FitsTypes new table }
 {}
