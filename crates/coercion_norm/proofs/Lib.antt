@@ -1,0 +1,23 @@
+pub mod PathLemmas
+pub mod OneDepth
+pub mod AgreementLemmas
+pub mod HeightLemmas
+pub mod EnoughDepth
+pub mod NormalLemmas
+pub mod StandingLemmas
+pub mod HeightNumbers
+pub mod TableHeights
+pub mod OneNormalForm
+pub mod SixCases
+pub mod MiddleParts
+mod CastExamples
+pub mod NodeLemmas
+pub mod NodeViews
+pub mod EntryLemmas
+pub mod PartLemmas
+pub mod FittingLemmas
+pub mod MadeParts
+pub mod CastLemmas
+pub mod KnownCasts
+pub mod LaterTypes
+pub mod Public

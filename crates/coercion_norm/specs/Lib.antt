@@ -1,0 +1,8 @@
+pub mod Coercions
+pub mod Paths
+pub mod StandsFor
+pub mod Composition
+pub mod Heights
+pub mod Normal
+pub mod Nodes
+pub mod CoercionTables
