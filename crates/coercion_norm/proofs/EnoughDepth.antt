@@ -1,17 +1,17 @@
 -- Where nothing is higher than the depth, more depth changes nothing.
 use Rattle.std.proofs.Common.{◌≡◌, ℕ, zero, suc, ◌+◌, ◌≤◌, nat_eq, Bool, true, false, cond, Option, Some, None, refl}
-use Rattle.std.proofs.Common.{ap, ◌∙◌, arith}
+use Rattle.std.proofs.Common.{ap, sym, ◌∙◌, arith}
 use Rattle.grift_base.specs.Types.{TypeRow, is_dyn, same_head, head_of}
 use Rattle.coercion_norm.specs.Coercions.{Kind, Coercion, Coercions, Id, Fail, Middle, Inject, Project, NoCoercions}
 use Rattle.coercion_norm.specs.Coercions.{CoercionThen, is_end, same_kind, runs_back, kind_of, slot, slots}
 use Rattle.coercion_norm.specs.StandsFor.{is_none_left}
 use Rattle.coercion_norm.specs.Composition.{middle, final, coerce_part, coerce_parts, coerce_middle, coerce_solid}
-use Rattle.coercion_norm.specs.Composition.{coerce_by, coerce_to, follow_part, follow_parts, after_middle, after_flat}
-use Rattle.coercion_norm.specs.Composition.{after_inject, follow, compose_to}
+use Rattle.coercion_norm.specs.Composition.{coerce_by, coerce_to, follow_part, follow_parts, after_middle, after_inner}
+use Rattle.coercion_norm.specs.Composition.{after_inject, follow, compose_to, coerce_whole}
 use Rattle.coercion_norm.specs.Heights.{TypeNoHigher, NoHigher, AllNoHigher}
 use Rattle.coercion_norm.proofs.PathLemmas.{heads_exact, same_widths}
 use Rattle.coercion_norm.proofs.HeightLemmas.{slot_lower, CastsKeepHeight, KeepsHeight, coerce_solid_height}
-use Rattle.coercion_norm.proofs.HeightLemmas.{after_flat_height, coerce_height, compose_height}
+use Rattle.coercion_norm.proofs.HeightLemmas.{after_inner_height, coerce_height, compose_height}
 
 module _ (rows : ℕ → TypeRow) where
   -- ---- the coercion of a cast
@@ -85,6 +85,10 @@ module _ (rows : ℕ → TypeRow) where
       same_by (coerce_to rows j) (coerce_to rows n) (is_dyn (rows s)) (is_dyn (rows t)) (suc n) s t p
       (coerce_enough n j (omega arith)) hs ht
 
+  pub coerce_by_table : (n from to label : ℕ) → TypeNoHigher rows n from → TypeNoHigher rows n to →
+      coerce_to rows n from to label ≡ coerce_whole rows (coerce_to rows n) from to label
+  coerce_by_table n from to label hf ht = sym (coerce_enough n (suc n) (omega arith) from to label hf ht)
+
   -- ---- composition
 
   abbrev pub SameFollow : ℕ → (Coercion → Coercion → Coercion) → (Coercion → Coercion → Coercion) → Type 0
@@ -123,12 +127,12 @@ module _ (rows : ℕ → TypeRow) where
         ap (λ x. Inject x kept) (same_after_middle kind cs g n same hc hd.0)
     same_after_middle kind cs (Project w p i) n same hc hd = refl
 
-    same_after_flat : (n : ℕ) → SameFollowBelow n next other → SameFollow n (after_flat next) (after_flat other)
-    same_after_flat n same Id d hc hd = refl
-    same_after_flat n same (Fail p) d hc hd = refl
-    same_after_flat n same (Middle kind cs) d hc hd = same_after_middle kind cs d n same hc hd
-    same_after_flat n same (Inject g kept) d hc hd = refl
-    same_after_flat n same (Project w p i) d hc hd = refl
+    same_after_inner : (n : ℕ) → SameFollowBelow n next other → SameFollow n (after_inner next) (after_inner other)
+    same_after_inner n same Id d hc hd = refl
+    same_after_inner n same (Fail p) d hc hd = refl
+    same_after_inner n same (Middle kind cs) d hc hd = same_after_middle kind cs d n same hc hd
+    same_after_inner n same (Inject g kept) d hc hd = refl
+    same_after_inner n same (Project w p i) d hc hd = refl
 
     module _ (low : KeepsHeight rows next) (coerce cast : ℕ → ℕ → ℕ →
         Coercion) (casts : CastsKeepHeight rows coerce) where
@@ -142,10 +146,10 @@ module _ (rows : ℕ → TypeRow) where
       same_after_inject g kept (Inject h kept2) n same same_cast hc hd = refl
       same_after_inject g kept (Project w p i) n same same_cast hc hd =
           let low_cast : NoHigher rows (coerce kept w p) n = casts n kept w p hc.1 hd.0 in
-          same_after_flat n same g (after_flat next (coerce kept w p) i) hc.0
-          (after_flat_height rows next low n (coerce kept w p) i low_cast hd.1)
-          ∙ ap (after_flat other g) (same_after_flat n same (coerce kept w p) i low_cast hd.1 ∙
-          ap (λ x. after_flat other x i) (same_cast kept w p hc.1 hd.0))
+          same_after_inner n same g (after_inner next (coerce kept w p) i) hc.0
+          (after_inner_height rows next low n (coerce kept w p) i low_cast hd.1)
+          ∙ ap (after_inner other g) (same_after_inner n same (coerce kept w p) i low_cast hd.1 ∙
+          ap (λ x. after_inner other x i) (same_cast kept w p hc.1 hd.0))
 
       same_follow : (n : ℕ) → SameFollowBelow n next other → SameCasts n coerce cast →
           SameFollow n (follow next coerce) (follow other cast)

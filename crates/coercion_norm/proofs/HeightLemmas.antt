@@ -9,7 +9,7 @@ use Rattle.coercion_norm.specs.Coercions.{CoercionThen, is_end, all_id, same_kin
 use Rattle.coercion_norm.specs.Coercions.{slots}
 use Rattle.coercion_norm.specs.StandsFor.{is_none_left}
 use Rattle.coercion_norm.specs.Composition.{middle, final, coerce_part, coerce_parts, coerce_middle, coerce_solid}
-use Rattle.coercion_norm.specs.Composition.{coerce_by, coerce_to, follow_part, follow_parts, after_middle, after_flat}
+use Rattle.coercion_norm.specs.Composition.{coerce_by, coerce_to, follow_part, follow_parts, after_middle, after_inner}
 use Rattle.coercion_norm.specs.Composition.{after_inject, follow, compose_to}
 use Rattle.coercion_norm.specs.Heights.{TypeNoHigher, NoHigher, AllNoHigher}
 use Rattle.coercion_norm.proofs.PathLemmas.{heads_exact, same_widths}
@@ -141,12 +141,12 @@ module _ (rows : ℕ → TypeRow) where
     after_middle_height kind cs (Inject g kept) n hc hd = (after_middle_height kind cs g n hc hd.0, hd.1)
     after_middle_height kind cs (Project w p i) n hc hd = tt
 
-    pub after_flat_height : KeepsHeight (after_flat next)
-    after_flat_height n Id d hc hd = hd
-    after_flat_height n (Fail p) d hc hd = tt
-    after_flat_height n (Middle kind cs) d hc hd = after_middle_height kind cs d n hc hd
-    after_flat_height n (Inject g kept) d hc hd = tt
-    after_flat_height n (Project w p i) d hc hd = tt
+    pub after_inner_height : KeepsHeight (after_inner next)
+    after_inner_height n Id d hc hd = hd
+    after_inner_height n (Fail p) d hc hd = tt
+    after_inner_height n (Middle kind cs) d hc hd = after_middle_height kind cs d n hc hd
+    after_inner_height n (Inject g kept) d hc hd = tt
+    after_inner_height n (Project w p i) d hc hd = tt
 
     module _ (coerce : ℕ → ℕ → ℕ → Coercion) (casts : CastsKeepHeight coerce) where
       after_inject_height : (g : Coercion) (kept : ℕ) (d : Coercion) (n : ℕ) → NoHigher rows (Inject g kept) n →
@@ -156,7 +156,7 @@ module _ (rows : ℕ → TypeRow) where
       after_inject_height g kept (Middle kind parts) n hc hd = tt
       after_inject_height g kept (Inject h other) n hc hd = tt
       after_inject_height g kept (Project w p i) n hc hd =
-          after_flat_height n g (after_flat next (coerce kept w p) i) hc.0 (after_flat_height n (coerce kept w p) i
+          after_inner_height n g (after_inner next (coerce kept w p) i) hc.0 (after_inner_height n (coerce kept w p) i
           (casts n kept w p hc.1 hd.0) hd.1)
 
       follow_height : KeepsHeight (follow next coerce)

@@ -1,23 +1,23 @@
-pub mod PathLemmas
-pub mod OneDepth
-pub mod AgreementLemmas
-pub mod HeightLemmas
-pub mod EnoughDepth
-pub mod NormalLemmas
-pub mod StandingLemmas
-pub mod HeightNumbers
-pub mod TableHeights
-pub mod OneNormalForm
-pub mod SixCases
-pub mod MiddleParts
+mod PathLemmas
+mod OneDepth
+mod AgreementLemmas
+mod HeightLemmas
+mod EnoughDepth
+mod NormalLemmas
+mod StandingLemmas
+mod HeightNumbers
+mod TableHeights
+mod OneNormalForm
+mod SixCases
+mod MiddleParts
 mod CastExamples
-pub mod NodeLemmas
-pub mod NodeViews
-pub mod EntryLemmas
-pub mod PartLemmas
-pub mod FittingLemmas
-pub mod MadeParts
-pub mod CastLemmas
-pub mod KnownCasts
-pub mod LaterTypes
+mod NodeLemmas
+mod NodeViews
+mod EntryLemmas
+mod PartLemmas
+mod FittingLemmas
+mod MadeParts
+mod CastLemmas
+mod KnownCasts
+mod LaterTypes
 pub mod Public

@@ -5,7 +5,7 @@ use Rattle.coercion_norm.specs.Coercions.{Kind, Coercion, Coercions, Id, Fail, M
 use Rattle.coercion_norm.specs.Coercions.{CoercionThen, is_end, all_id, same_kind, runs_back, kind_of, slot, slots}
 use Rattle.coercion_norm.specs.StandsFor.{is_none_left}
 use Rattle.coercion_norm.specs.Composition.{middle, final, coerce_part, coerce_parts, coerce_middle, coerce_solid}
-use Rattle.coercion_norm.specs.Composition.{coerce_by, coerce_to, follow_part, follow_parts, after_middle, after_flat}
+use Rattle.coercion_norm.specs.Composition.{coerce_by, coerce_to, follow_part, follow_parts, after_middle, after_inner}
 use Rattle.coercion_norm.specs.Composition.{after_inject, follow, compose_to}
 use Rattle.coercion_norm.specs.Normal.{is_flat, is_project, IsNormal, AreNormal}
 
@@ -125,12 +125,12 @@ module _ (rows : ℕ → TypeRow) where
         (flat_after_middle next kind cs g hd.0, normal_after_middle kind cs g hc hd.1, hd.2)
     normal_after_middle kind cs (Project w p i) hc hd = tt
 
-    normal_after_flat : KeepsNormal (after_flat next)
-    normal_after_flat Id d hc hd = hd
-    normal_after_flat (Fail p) d hc hd = tt
-    normal_after_flat (Middle kind cs) d hc hd = normal_after_middle kind cs d hc hd
-    normal_after_flat (Inject g kept) d hc hd = tt
-    normal_after_flat (Project w p i) d hc hd = tt
+    normal_after_inner : KeepsNormal (after_inner next)
+    normal_after_inner Id d hc hd = hd
+    normal_after_inner (Fail p) d hc hd = tt
+    normal_after_inner (Middle kind cs) d hc hd = normal_after_middle kind cs d hc hd
+    normal_after_inner (Inject g kept) d hc hd = tt
+    normal_after_inner (Project w p i) d hc hd = tt
 
     module _ (coerce : ℕ → ℕ → ℕ → Coercion) (casts : CastsAreNormal coerce) where
       normal_after_inject : (g : Coercion) (kept : ℕ) (d : Coercion) → IsNormal rows (Inject g kept) → IsNormal rows d →
@@ -140,7 +140,7 @@ module _ (rows : ℕ → TypeRow) where
       normal_after_inject g kept (Middle kind parts) hc hd = tt
       normal_after_inject g kept (Inject h other) hc hd = tt
       normal_after_inject g kept (Project w p i) hc hd =
-          normal_after_flat g (after_flat next (coerce kept w p) i) hc.1 (normal_after_flat (coerce kept w p) i
+          normal_after_inner g (after_inner next (coerce kept w p) i) hc.1 (normal_after_inner (coerce kept w p) i
           (casts kept w p) hd.2)
 
       normal_follow : KeepsNormal (follow next coerce)

@@ -8,7 +8,7 @@ use Rattle.coercion_norm.specs.Coercions.{same_kind, runs_back, kind_of, slot, s
 use Rattle.coercion_norm.specs.Paths.{Steps, Stop, Edge, last_type, joined, turned, along, solid, first_clash}
 use Rattle.coercion_norm.specs.StandsFor.{is_none_left, IsMiddle, PartAgrees, PartsAgree, MiddleIf, MiddleAgrees}
 use Rattle.coercion_norm.specs.StandsFor.{FinalIf, FinalAgrees, WholeIf, WholeAgrees}
-use Rattle.coercion_norm.specs.Composition.{middle, final, follow_part, follow_parts, after_flat, follow}
+use Rattle.coercion_norm.specs.Composition.{middle, final, follow_part, follow_parts, after_inner, follow}
 use Rattle.coercion_norm.proofs.PathLemmas.{last-joined, turned-joined, joined-turned, last-turned, last-along}
 use Rattle.coercion_norm.proofs.PathLemmas.{along-joined, joined-Stop, same_kinds, same_widths, Reaches, solid-joined}
 use Rattle.coercion_norm.proofs.PathLemmas.{clash-some, clash-none, one_head, reaches}
@@ -144,10 +144,10 @@ module _ (rows : ℕ → TypeRow) (A : Coercion → ℕ → Steps → Type 0) wh
           u ≡ last_type t l
           → PartsAgree rows A kind cs n 0 t l → IsMiddle kind cs c → PartsAgree rows A kind ds n 0 u m →
           IsMiddle kind ds d
-          → MiddleIf rows A (Some kind) n (after_flat next c d) t (joined l m)
+          → MiddleIf rows A (Some kind) n (after_inner next c d) t (joined l m)
       two_middles kind n cs ds c d t u l m e hc (inl ec) hd (inl ed) =
-          let h : after_flat next c d ≡ middle kind (follow_parts next kind cs ds) =
-          ap (λ x. after_flat next x d) ec ∙ ap (λ x. after_flat next (Middle kind cs) x) ed ∙
+          let h : after_inner next c d ≡ middle kind (follow_parts next kind cs ds) =
+          ap (λ x. after_inner next x d) ec ∙ ap (λ x. after_inner next (Middle kind cs) x) ed ∙
           ap (λ b. cond b (middle kind (follow_parts next kind cs ds)) Id) (same_kind_same kind) in (
             follow_parts next kind cs ds,
             parts_follow kind cs ds n 0 t u l m e hc hd,
@@ -157,24 +157,24 @@ module _ (rows : ℕ → TypeRow) (A : Coercion → ℕ → Steps → Type 0) wh
       two_middles kind n cs ds c d t u l m e hc (inl ec) hd (inr ed) = (
         cs,
         parts_right kind cs ds n 0 t u l m e ed.1 hc hd,
-        inl (ap (λ x. after_flat next x d) ec ∙ ap (λ x. after_flat next (Middle kind cs) x) ed.0),
+        inl (ap (λ x. after_inner next x d) ec ∙ ap (λ x. after_inner next (Middle kind cs) x) ed.0),
       )
       two_middles kind n cs ds c d t u l m e hc (inr ec) hd ed = (
         ds,
         parts_left kind cs ds n 0 t u l m e ec.1 hc hd,
-        subst (IsMiddle kind ds) (sym (ap (λ x. after_flat next x d) ec.0)) ed,
+        subst (IsMiddle kind ds) (sym (ap (λ x. after_inner next x d) ec.0)) ed,
       )
 
       middles : (o : Option Kind) (n : ℕ) (c d : Coercion) (t u : ℕ) (l m : Steps) → u ≡ last_type t l
           → MiddleIf rows A o n c t l → MiddleIf rows A o n d u m →
-          MiddleIf rows A o n (after_flat next c d) t (joined l m)
-      middles None n c d t u l m e hc hd = ap (λ x. after_flat next x d) hc ∙ hd
+          MiddleIf rows A o n (after_inner next c d) t (joined l m)
+      middles None n c d t u l m e hc hd = ap (λ x. after_inner next x d) hc ∙ hd
       middles (Some kind) n c d t u l m e hc hd = two_middles kind n hc.0 hd.0 c d t u l m e hc.1 hc.2 hd.1 hd.2
 
       -- the types of a path without clash have one head, so that its middles have one kind and width
       middles_join : (c d : Coercion) (t u : ℕ) (l m : Steps) → u ≡ last_type t l → first_clash rows t l ≡ None
           → MiddleAgrees rows A c t l → MiddleAgrees rows A d u m →
-          MiddleAgrees rows A (after_flat next c d) t (joined l m)
+          MiddleAgrees rows A (after_inner next c d) t (joined l m)
       middles_join c d t u l m e none hc hd =
           let head : head_of (rows t) ≡ head_of (rows u) =
           one_head rows t l none ∙ ap (λ x. head_of (rows x)) (sym e) in
@@ -186,38 +186,38 @@ module _ (rows : ℕ → TypeRow) (A : Coercion → ℕ → Steps → Type 0) wh
 
       -- Id and middles are those that agree where there is no clash
       fail_after : (o : Option Kind) (n : ℕ) (c : Coercion) (t : ℕ) (l : Steps) (q : ℕ) → MiddleIf rows A o n c t l →
-          after_flat next c (Fail q) ≡ Fail q
-      fail_after None n c t l q h = ap (λ x. after_flat next x (Fail q)) h
+          after_inner next c (Fail q) ≡ Fail q
+      fail_after None n c t l q h = ap (λ x. after_inner next x (Fail q)) h
       fail_after (Some kind) n c t l q h = go h.2
         where
-          go : IsMiddle kind h.0 c → after_flat next c (Fail q) ≡ Fail q
-          go (inl e) = ap (λ x. after_flat next x (Fail q)) e
-          go (inr e) = ap (λ x. after_flat next x (Fail q)) e.0
+          go : IsMiddle kind h.0 c → after_inner next c (Fail q) ≡ Fail q
+          go (inl e) = ap (λ x. after_inner next x (Fail q)) e
+          go (inr e) = ap (λ x. after_inner next x (Fail q)) e.0
 
       inject_after : (o : Option Kind) (n : ℕ) (c : Coercion) (t : ℕ) (l : Steps) (g : Coercion) (kept : ℕ) →
           MiddleIf rows A o n c t l
-          → after_flat next c (Inject g kept) ≡ Inject (after_flat next c g) kept
+          → after_inner next c (Inject g kept) ≡ Inject (after_inner next c g) kept
       inject_after None n c t l g kept h =
-          ap (λ x. after_flat next x (Inject g kept)) h ∙ ap (λ x. Inject (after_flat next x g) kept) (sym h)
+          ap (λ x. after_inner next x (Inject g kept)) h ∙ ap (λ x. Inject (after_inner next x g) kept) (sym h)
       inject_after (Some kind) n c t l g kept h = go h.2
         where
-          go : IsMiddle kind h.0 c → after_flat next c (Inject g kept) ≡ Inject (after_flat next c g) kept
+          go : IsMiddle kind h.0 c → after_inner next c (Inject g kept) ≡ Inject (after_inner next c g) kept
           go (inl e) =
-              ap (λ x. after_flat next x (Inject g kept)) e ∙ ap (λ x. Inject (after_flat next x g) kept) (sym e)
+              ap (λ x. after_inner next x (Inject g kept)) e ∙ ap (λ x. Inject (after_inner next x g) kept) (sym e)
           go (inr e) =
-              ap (λ x. after_flat next x (Inject g kept)) e.0 ∙ ap (λ x. Inject (after_flat next x g) kept) (sym e.0)
+              ap (λ x. after_inner next x (Inject g kept)) e.0 ∙ ap (λ x. Inject (after_inner next x g) kept) (sym e.0)
 
       -- a path without clash and without Dyn at its end, and one that goes on from there
       plain_then : (o : Option ℕ) (to_dyn : Bool) (c d : Coercion) (t u : ℕ) (l m : Steps) → u ≡ last_type t l →
           first_clash rows t l ≡ None
           → MiddleAgrees rows A c t l → FinalIf rows A o to_dyn d u m →
-          FinalIf rows A o to_dyn (after_flat next c d) t (joined l m)
+          FinalIf rows A o to_dyn (after_inner next c d) t (joined l m)
       plain_then (Some q) to_dyn c d t u l m e none hc hd =
-          ap (after_flat next c) hd ∙ fail_after (kind_of (rows t)) (slots rows t) c t l q hc
+          ap (after_inner next c) hd ∙ fail_after (kind_of (rows t)) (slots rows t) c t l q hc
       plain_then None true c d t u l m e none hc hd = (
-        after_flat next c hd.0,
-        ap (after_flat next c) hd.1 ∙ inject_after (kind_of (rows t)) (slots rows t) c t l hd.0 (last_type u m) hc ∙
-            ap (Inject (after_flat next c hd.0)) (ap (λ x. last_type x m) e ∙ sym (last-joined t l m)),
+        after_inner next c hd.0,
+        ap (after_inner next c) hd.1 ∙ inject_after (kind_of (rows t)) (slots rows t) c t l hd.0 (last_type u m) hc ∙
+            ap (Inject (after_inner next c hd.0)) (ap (λ x. last_type x m) e ∙ sym (last-joined t l m)),
         middles_join c hd.0 t u l m e none hc hd.2,
       )
       plain_then None false c d t u l m e none hc hd = middles_join c d t u l m e none hc hd
@@ -225,12 +225,12 @@ module _ (rows : ℕ → TypeRow) (A : Coercion → ℕ → Steps → Type 0) wh
       flat_then : (o : Option ℕ) (to_dyn : Bool) (c d : Coercion) (t u : ℕ) (l m : Steps) → u ≡ last_type t l →
           first_clash rows t l ≡ o
           → FinalIf rows A o false c t l → FinalAgrees rows A to_dyn d u m →
-          FinalAgrees rows A to_dyn (after_flat next c d) t (joined l m)
+          FinalAgrees rows A to_dyn (after_inner next c d) t (joined l m)
       flat_then (Some p) to_dyn c d t u l m e clash hc hd =
-          subst (λ x. FinalIf rows A x to_dyn (after_flat next c d) t (joined l m))
-          (sym (clash-some rows t l m p clash)) (ap (λ x. after_flat next x d) hc)
+          subst (λ x. FinalIf rows A x to_dyn (after_inner next c d) t (joined l m))
+          (sym (clash-some rows t l m p clash)) (ap (λ x. after_inner next x d) hc)
       flat_then None to_dyn c d t u l m e clash hc hd =
-          subst (λ x. FinalIf rows A x to_dyn (after_flat next c d) t (joined l m))
+          subst (λ x. FinalIf rows A x to_dyn (after_inner next c d) t (joined l m))
           (sym (clash-none rows t l m clash ∙ ap (λ x. first_clash rows x m) (sym e)))
           (plain_then (first_clash rows u m) to_dyn c d t u l m e clash hc hd)
 
@@ -238,13 +238,13 @@ module _ (rows : ℕ → TypeRow) (A : Coercion → ℕ → Steps → Type 0) wh
           FinalAgrees rows A false (coerce s t p) s (Edge p t Stop)) where
         -- a middle is followed as what is flat
         middle_follow : (o : Option Kind) (n : ℕ) (c d : Coercion) (t : ℕ) (l : Steps) → MiddleIf rows A o n c t l →
-            after_flat next c d ≡ follow next coerce c d
-        middle_follow None n c d t l h = ap (λ x. after_flat next x d) h ∙ ap (λ x. follow next coerce x d) (sym h)
+            after_inner next c d ≡ follow next coerce c d
+        middle_follow None n c d t l h = ap (λ x. after_inner next x d) h ∙ ap (λ x. follow next coerce x d) (sym h)
         middle_follow (Some kind) n c d t l h = go h.2
           where
-            go : IsMiddle kind h.0 c → after_flat next c d ≡ follow next coerce c d
-            go (inl e) = ap (λ x. after_flat next x d) e ∙ ap (λ x. follow next coerce x d) (sym e)
-            go (inr e) = ap (λ x. after_flat next x d) e.0 ∙ ap (λ x. follow next coerce x d) (sym e.0)
+            go : IsMiddle kind h.0 c → after_inner next c d ≡ follow next coerce c d
+            go (inl e) = ap (λ x. after_inner next x d) e ∙ ap (λ x. follow next coerce x d) (sym e)
+            go (inr e) = ap (λ x. after_inner next x d) e.0 ∙ ap (λ x. follow next coerce x d) (sym e.0)
 
         -- a path that comes from Dyn behind one that ends there
         from_dyn : (b : Bool) (g d : Coercion) (t u v : ℕ) (l m : Steps) → first_clash rows t l ≡ None →
@@ -260,7 +260,7 @@ module _ (rows : ℕ → TypeRow) (A : Coercion → ℕ → Steps → Type 0) wh
         from_dyn b g d t u v l (Edge q w m) none reached hg hd =
             subst (λ x. FinalAgrees rows A b (follow next coerce (Inject g (last_type t l)) x) t
             (joined l (Edge q w m))) (sym hd.1)
-            (flat_then None b g (after_flat next (coerce (last_type t l) w q) hd.0) t (last_type t l) l
+            (flat_then None b g (after_inner next (coerce (last_type t l) w q) hd.0) t (last_type t l) l
             (Edge q w m) refl none hg
             (flat_then (first_clash rows (last_type t l) (Edge q w Stop)) b (coerce (last_type t l) w q) hd.0
             (last_type t l) w (Edge q w Stop) m refl refl (cast (last_type t l) w q) hd.2))

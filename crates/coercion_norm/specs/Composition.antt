@@ -51,7 +51,7 @@ module _ (rows : ℕ → TypeRow) where
     abbrev pub coerce_whole : ℕ → ℕ → ℕ → Coercion
     coerce_whole from to label = coerce_by (is_dyn (rows from)) (is_dyn (rows to)) from to label
 
-  -- the coercions of the parts, where a depth is given; at depth 0 no part is met
+  -- the coercions of the parts, where a depth is given; at depth 0 every part counts as Id
   abbrev pub coerce_below : ℕ → ℕ → ℕ → ℕ → Coercion
   coerce_below zero from to label = Id
   coerce_below (suc n) from to label = coerce_whole (coerce_below n) from to label
@@ -82,17 +82,17 @@ module _ (next : Coercion → Coercion → Coercion) where
   after_middle kind parts (Project wanted label i) = Id
 
   -- what follows Id, Fail or a middle
-  abbrev pub after_flat : Coercion → Coercion → Coercion
-  after_flat Id d = d
-  after_flat (Fail label) d = Fail label
-  after_flat (Middle kind parts) d = after_middle kind parts d
-  after_flat (Inject g kept) d = Id
-  after_flat (Project wanted label i) d = Id
+  abbrev pub after_inner : Coercion → Coercion → Coercion
+  after_inner Id d = d
+  after_inner (Fail label) d = Fail label
+  after_inner (Middle kind parts) d = after_middle kind parts d
+  after_inner (Inject g kept) d = Id
+  after_inner (Project wanted label i) d = Id
 
   module _ (coerce : ℕ → ℕ → ℕ → Coercion) where
     abbrev pub after_inject : Coercion → ℕ → Coercion → Coercion
     after_inject g kept Id = Inject g kept
-    after_inject g kept (Project wanted label i) = after_flat g (after_flat (coerce kept wanted label) i)
+    after_inject g kept (Project wanted label i) = after_inner g (after_inner (coerce kept wanted label) i)
     after_inject g kept (Fail label) = Fail label
     after_inject g kept (Middle kind parts) = Id
     after_inject g kept (Inject h other) = Id

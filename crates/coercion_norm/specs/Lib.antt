@@ -6,3 +6,4 @@ pub mod Heights
 pub mod Normal
 pub mod Nodes
 pub mod CoercionTables
+pub mod Samples

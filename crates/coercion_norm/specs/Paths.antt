@@ -33,7 +33,7 @@ in_front true label next steps = steps
 in_front false label next steps = Edge label next steps
 
 module _ (rows : ℕ → TypeRow) where
-  -- the steps without Dyn: a type that is left keeps the label of the edge that leads to it
+  -- the steps without Dyn: a type that stays keeps the label of the edge that leads to it
   abbrev pub solid : Steps → Steps
   solid Stop = Stop
   solid (Edge label next steps) = in_front (is_dyn (rows next)) label next (solid steps)

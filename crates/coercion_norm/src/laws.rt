@@ -6,12 +6,13 @@ ghost use Rattle.grift_base.specs.Types.{TypeRow, TypeRows, is_dyn};
 ghost use Rattle.type_graph.specs.Trees.{height};
 ghost use Rattle.type_graph.specs.TypeTables.{HasMoreRows, IsOrderedTable};
 ghost use Rattle.coercion_norm.specs.Coercions.{Kind, Coercion, Coercions, Id, Fail, Inject, Project, kind_of, rows_of};
-ghost use Rattle.coercion_norm.specs.Coercions.{slots};
+ghost use Rattle.coercion_norm.specs.Coercions.{FunKind, RefKind, Middle, slots};
 ghost use Rattle.coercion_norm.specs.Paths.{Steps, Stop, Edge, first_clash, joined, last_type, solid};
 ghost use Rattle.coercion_norm.specs.StandsFor.{AgreesTo, IsMiddle, PartsAgree, StandsFor};
-ghost use Rattle.coercion_norm.specs.Composition.{coerce_solid, coerce_to, compose_to, follow};
+ghost use Rattle.coercion_norm.specs.Composition.{coerce_solid, coerce_to, coerce_whole, compose_to, follow};
 ghost use Rattle.coercion_norm.specs.Heights.{AreHeights, NoHigher, TypeNoHigher, coercion_height};
 ghost use Rattle.coercion_norm.specs.Normal.{IsNormal};
+ghost use Rattle.coercion_norm.specs.Samples.{sample, two};
 ghost use Rattle.coercion_norm.specs.Nodes.{AreOrdered};
 ghost use Rattle.coercion_norm.specs.CoercionTables.{FitsTypes, NodeTable};
 
@@ -43,7 +44,7 @@ pub fn agreement_has_six_cases()
 
 /// The coercion of a cast stands for the path of its two types, is no higher than the higher of them, and is in normal
 /// form. Made to a depth it agrees with the path to that depth, whatever the rows; and a depth that neither type
-/// exceeds is enough.
+/// exceeds is enough, and the coercion then goes by its table with parts cast alike.
 pub fn coercions_of_casts_stand_for_them()
     ensures agrees { (rows : ℕ → TypeRow) (depth made : ℕ) → depth ≤ made → (from to label : ℕ)
         → AgreesTo rows depth (coerce_to rows made from to label) from (Edge label to Stop) }
@@ -57,6 +58,28 @@ pub fn coercions_of_casts_stand_for_them()
     ensures more_depth { (rows : ℕ → TypeRow) (n made from to label : ℕ) → n ≤ made
         → TypeNoHigher rows n from → TypeNoHigher rows n to
         → coerce_to rows made from to label ≡ coerce_to rows n from to label }
+    ensures table { (rows : ℕ → TypeRow) (n from to label : ℕ) → TypeNoHigher rows n from → TypeNoHigher rows n to
+        → coerce_to rows n from to label ≡ coerce_whole rows (coerce_to rows n) from to label }
+{}
+
+/// Casts and compositions worked by hand: which label fails, which parts run backwards, and what is read and written.
+pub fn casts_are_as_worked_by_hand()
+    ensures clash { (p : ℕ) → coerce_to sample 1 0 1 p ≡ Fail p }
+    ensures functions { (p : ℕ)
+        → coerce_to sample 1 3 4 p ≡ Middle FunKind (two (Project 0 p Id) (Inject Id 1)) }
+    ensures references { (p : ℕ)
+        → coerce_to sample 1 5 6 p ≡ Middle RefKind (two (Inject Id 0) (Project 0 p Id)) }
+    ensures into_and_out_of_dyn { (p q : ℕ)
+        → compose_to sample 1 (coerce_to sample 1 0 2 p) (coerce_to sample 1 2 1 q) ≡ Fail q }
+    ensures arguments_and_results { (p q : ℕ)
+        → compose_to sample 1 (coerce_to sample 1 3 4 p) (coerce_to sample 1 4 15 q)
+        ≡ Middle FunKind (two (Fail p) (Fail q)) }
+    ensures reads_and_writes { (p q : ℕ)
+        → compose_to sample 1 (coerce_to sample 1 5 6 p) (coerce_to sample 1 6 7 q)
+        ≡ Middle RefKind (two (Fail q) (Fail p)) }
+    ensures agreement { (p q : ℕ)
+        → AgreesTo sample 2 (Middle RefKind (two (Fail q) (Fail p))) 5 (Edge p 6 (Edge q 7 Stop)) }
+    ensures first_fails { (p q : ℕ) → compose_to sample 1 (Fail p) (Fail q) ≡ Fail p }
 {}
 
 /// The law of composition: where the first coercion stands for a path and the second for one that begins with the last
