@@ -63,7 +63,7 @@ there_and_back = refl
 -- second's
 arguments_and_results :
     compose_to sample 1 (coerce_to sample 1 3 4 77) (coerce_to sample 1 4 15 78) ≡
-        Middle FunKind (two (Fail 77) (Fail 78))
+    Middle FunKind (two (Fail 77) (Fail 78))
 arguments_and_results = refl
 
 -- (Tuple Int Dyn) => (Tuple Dyn Int) => (Tuple Int Dyn): the first part comes back as it was
@@ -75,7 +75,7 @@ tuple_parts = refl
 -- (Ref Int) => (Ref Dyn) => (Ref Bool): reads fail at the second cast's label, writes at the first's
 reads_and_writes :
     compose_to sample 1 (coerce_to sample 1 5 6 77) (coerce_to sample 1 6 7 78) ≡
-        Middle RefKind (two (Fail 78) (Fail 77))
+    Middle RefKind (two (Fail 78) (Fail 77))
 reads_and_writes = refl
 
 -- which agrees with the path of the two casts to depth 2
