@@ -213,8 +213,8 @@ coerce_rows-returns-then-from_dyn-clause-known t c =
     (AreCasts-kept c.args.types.now c.args.table.now.nodes c.intern_node.new.self.nodes c.args.known.now
     c.len-2.ensures.nodes.ordered.before c.intern_node.ensures.grows c.requires.known)
 
-pub
-    coerce_rows-intern_node-requires-then-to_dyn-2-clause-node : goal.coerce_rows-intern_node-requires-then-to_dyn-2-clause-node
+pub coerce_rows-intern_node-requires-then-to_dyn-2-clause-node :
+    goal.coerce_rows-intern_node-requires-then-to_dyn-2-clause-node
 coerce_rows-intern_node-requires-then-to_dyn-2-clause-node t c = record {
   parts = all_one (λ part. part < length c.args.table.now.nodes) c.id-id.result.0 c.id-id.ensures.within;
   types_there = all_one (λ type. type < length c.args.types.now) c.args.cast.from.0 c.requires.cast.from_there;
