@@ -1,0 +1,23 @@
+mod PathLemmas
+mod OneDepth
+mod AgreementLemmas
+mod HeightLemmas
+mod EnoughDepth
+mod NormalLemmas
+mod StandingLemmas
+mod HeightNumbers
+mod TableHeights
+mod OneNormalForm
+mod SixCases
+mod MiddleParts
+mod CastExamples
+mod NodeLemmas
+mod NodeViews
+mod EntryLemmas
+mod PartLemmas
+mod FittingLemmas
+mod MadeParts
+mod CastLemmas
+mod KnownCasts
+mod LaterTypes
+pub mod Public

@@ -1,0 +1,10 @@
+// Coercions: casts in normal form, what they stand for, and how two become one.
+#![tactic(auto)]
+
+pub mod casts;
+pub mod laws;
+pub mod middles;
+pub mod nodes;
+pub mod tables;
+#[cfg(test)]
+mod tests;
