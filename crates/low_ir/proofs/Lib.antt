@@ -1,0 +1,4 @@
+pub mod Public
+mod OneByOne
+mod WindowLemmas
+mod ClosedInWindows

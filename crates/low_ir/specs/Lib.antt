@@ -1,0 +1,7 @@
+pub mod Operations
+pub mod Procedures
+pub mod Views
+pub mod Steps
+pub mod Run
+pub mod Closed
+pub mod Windows

@@ -1,0 +1,41 @@
+// Programs of procedures over words.
+
+ghost use Rattle.std.specs.Prelude.{◌≡◌};
+ghost use Rattle.low_ir.specs.Views.{procs_of};
+ghost use Rattle.low_ir.specs.Closed.{is_closed};
+
+use crate::closing::{each_closed, takes_none};
+use crate::code::LowCode;
+use grift_base::lists::Items;
+use grift_base::words::Statics;
+
+/// A procedure: how many words it takes, how many it has, of which those that it takes are the first, and its code.
+#[derive(Drop)]
+pub struct LowProc {
+    pub params: u32,
+    pub words: u32,
+    pub code: LowCode,
+}
+
+/// Procedures by their numbers.
+pub type LowProcs = Items<LowProc>;
+
+/// A program: its procedures, the number of the one that it begins with, and the words that stand before its code.
+#[derive(Drop)]
+pub struct LowProgram {
+    pub procs: LowProcs,
+    pub entry: u32,
+    pub statics: Statics,
+}
+
+impl LowProgram {
+    /// Whether each word that is read was set before, whatever path is taken; whether what is named by a number is
+    /// there; whether no procedure takes and no call hands on more than eight words, and each call of a numbered
+    /// procedure as many as it takes; whether no code comes to its end but behind a branch; whether what is built has
+    /// fewer than 256 words, and each offset is below 2,048; and whether the procedure that it begins with takes none.
+    pub fn is_closed(&self) -> bool
+        ensures { result ≡ is_closed (procs_of self.now.procs) self.now.entry }
+    {
+        takes_none(&self.procs, self.entry) && each_closed(&self.procs)
+    }
+}
