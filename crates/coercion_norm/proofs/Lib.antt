@@ -19,5 +19,6 @@ mod FittingLemmas
 mod MadeParts
 mod CastLemmas
 mod KnownCasts
+mod CompositionLemmas
 mod LaterTypes
 pub mod Public
