@@ -1,6 +1,6 @@
 // The composition of two coercions.
 
-ghost use Rattle.std.specs.Prelude.{◌≡◌, ◌<◌, ◌≤◌, ◌++◌, ◌∷◌, [], ℕ, max, min, All, IfOk, OnOk, Some, length, slice_get};
+ghost use Rattle.std.specs.Prelude.{◌≡◌, ◌<◌, ◌≤◌, ◌++◌, ◌∷◌, [], ℕ, max, min, All, IfOk, OnOk, length};
 ghost use Rattle.type_graph.specs.Trees.{height};
 ghost use Rattle.coercion_norm.specs.Coercions.{rows_of};
 ghost use Rattle.coercion_norm.specs.Composition.{follow_parts};

@@ -51,7 +51,8 @@ module _ (rows : ℕ → TypeRow) where
     same_middle (Some kind) (suc n) s t p e w same hs ht =
         ap (middle kind) (same_parts kind n s t p (slots rows s) 0 (omega arith) w same hs ht)
 
-    pub same_solid : (n : ℕ) → SameCastsBelow n next other → SameCasts n (coerce_solid rows next) (coerce_solid rows other)
+    pub same_solid : (n : ℕ) → SameCastsBelow n next other → SameCasts n (coerce_solid rows next) (coerce_solid rows
+        other)
     same_solid n same s t p hs ht = ids (nat_eq s t)
       where
         heads : (b : Bool) → same_head (rows s) (rows t) ≡ b

@@ -20,5 +20,7 @@ mod MadeParts
 mod CastLemmas
 mod KnownCasts
 mod CompositionLemmas
+mod TextLemmas
+mod CastRowLemmas
 mod LaterTypes
 pub mod Public
