@@ -125,7 +125,7 @@ module _ (types : TypeRows) (table : IsOrderedTable types) where
 
   -- ---- the coercion of a cast
 
-  below_is_enough : (n : ℕ) → SameCastsBelow (rows_of types) n (coerce_below (rows_of types) n) (cast_of types)
+  pub below_is_enough : (n : ℕ) → SameCastsBelow (rows_of types) n (coerce_below (rows_of types) n) (cast_of types)
   below_is_enough zero = tt
   below_is_enough (suc n) = λ s t p hs ht.
       let from_low : height types s ≤ n = (heights s n).0 hs in

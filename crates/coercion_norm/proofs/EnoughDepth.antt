@@ -51,7 +51,8 @@ module _ (rows : ℕ → TypeRow) where
     same_middle (Some kind) (suc n) s t p e w same hs ht =
         ap (middle kind) (same_parts kind n s t p (slots rows s) 0 (omega arith) w same hs ht)
 
-    same_solid : (n : ℕ) → SameCastsBelow n next other → SameCasts n (coerce_solid rows next) (coerce_solid rows other)
+    pub same_solid : (n : ℕ) → SameCastsBelow n next other → SameCasts n (coerce_solid rows next) (coerce_solid rows
+        other)
     same_solid n same s t p hs ht = ids (nat_eq s t)
       where
         heads : (b : Bool) → same_head (rows s) (rows t) ≡ b
@@ -151,7 +152,7 @@ module _ (rows : ℕ → TypeRow) where
           ∙ ap (after_inner other g) (same_after_inner n same (coerce kept w p) i low_cast hd.1 ∙
           ap (λ x. after_inner other x i) (same_cast kept w p hc.1 hd.0))
 
-      same_follow : (n : ℕ) → SameFollowBelow n next other → SameCasts n coerce cast →
+      pub same_follow : (n : ℕ) → SameFollowBelow n next other → SameCasts n coerce cast →
           SameFollow n (follow next coerce) (follow other cast)
       same_follow n same same_cast Id d hc hd = refl
       same_follow n same same_cast (Fail p) d hc hd = refl

@@ -19,5 +19,8 @@ mod FittingLemmas
 mod MadeParts
 mod CastLemmas
 mod KnownCasts
+mod CompositionLemmas
+mod TextLemmas
+mod CastRowLemmas
 mod LaterTypes
 pub mod Public

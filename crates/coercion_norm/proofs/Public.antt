@@ -18,5 +18,9 @@ pub use Rattle.coercion_norm.proofs.HeightNumbers.{compose_no_higher}
 pub use Rattle.coercion_norm.proofs.NodeLemmas.{same_nodes, more_nodes, more_places, node_kept, tree_is, tree_kept}
 pub use Rattle.coercion_norm.proofs.NodeLemmas.{trees_kept, IsTree-kept, IsTree-node, id_there}
 pub use Rattle.coercion_norm.proofs.CastLemmas.{row_is, cast_by_rows, cast_solid, cast_stands, cast_low, cast_sound}
+pub use Rattle.coercion_norm.proofs.CompositionLemmas.{composition_by_table, composition_low, composition_sound}
+pub use Rattle.coercion_norm.proofs.CompositionLemmas.{composition_stands, is_inner, solid_is_inner}
+pub use Rattle.coercion_norm.proofs.MadeParts.{made_none, made_more, made_there}
+pub use Rattle.coercion_norm.proofs.PartLemmas.{part_at, part_no_higher}
 pub use Rattle.coercion_norm.proofs.KnownCasts.{AreCasts-kept, AreCasts-insert}
 pub use Rattle.coercion_norm.proofs.LaterTypes.{FitsTypes-later}

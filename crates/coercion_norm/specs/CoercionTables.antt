@@ -10,7 +10,7 @@ use Rattle.grift_base.specs.declared.places.LabelId.{LabelId}
 use Rattle.type_graph.specs.Trees.{height}
 use Rattle.type_graph.specs.declared.tables.TheConstants.{MOST_HEIGHT}
 use Rattle.coercion_norm.specs.Coercions.{Coercion, rows_of}
-use Rattle.coercion_norm.specs.Composition.{coerce_to}
+use Rattle.coercion_norm.specs.Composition.{coerce_to, compose_to}
 use Rattle.coercion_norm.specs.Heights.{coercion_height}
 use Rattle.coercion_norm.specs.Normal.{IsNormal}
 use Rattle.coercion_norm.specs.Nodes.{Node, AreOrdered, IsTree, NodeHasWidth, grown, node_parts, node_types}
@@ -56,6 +56,11 @@ pub record MayBeNode (types : TypeRows) (nodes : List Node) (node : Node) : Type
 -- the coercion of a cast between two types of the table
 abbrev pub cast_of : TypeRows → ℕ → ℕ → ℕ → Coercion
 cast_of types from to label = coerce_to (rows_of types) (max (height types from) (height types to)) from to label
+
+-- the composition of two coercions over the types of the table
+abbrev pub composition_of : TypeRows → Coercion → Coercion → Coercion
+composition_of types c d =
+    compose_to (rows_of types) (max (coercion_height (height types) c) (coercion_height (height types) d)) c d
 
 -- the types of a cast are there
 pub record IsCast (types : TypeRows) (cast : Cast) : Type 0 where

@@ -7,3 +7,4 @@ pub mod Normal
 pub mod Nodes
 pub mod CoercionTables
 pub mod Samples
+pub mod Texts

@@ -1,6 +1,7 @@
 // Coercions: casts in normal form, what they stand for, and how two become one.
 #![tactic(auto)]
 
+pub mod cast_rows;
 pub mod casts;
 pub mod laws;
 pub mod middles;
@@ -8,3 +9,4 @@ pub mod nodes;
 pub mod tables;
 #[cfg(test)]
 mod tests;
+pub mod texts;

@@ -1,7 +1,7 @@
 // Coercions one constructor deep.
 
 ghost use Rattle.std.specs.Prelude.{◌≡◌, IfOk, length};
-ghost use Rattle.coercion_norm.specs.Nodes.{KindHasWidth, MiddleNode, coercion_places, node_of};
+ghost use Rattle.coercion_norm.specs.Nodes.{KindHasWidth, MiddleNode, coercion_places, node_of, node_parts};
 
 use crate::middles::MiddleKind;
 use grift_base::lists::{Items, OutOfMemory};
@@ -34,6 +34,29 @@ pub enum CoercionNode {
     Inject(CoercionId, TypeId),
     /// Out of Dyn: the type that is wanted, the label that is blamed where another is found, and what comes after.
     Project(TypeId, LabelId, CoercionId),
+}
+
+impl CoercionNode {
+    /// The places of its parts, in order.
+    pub fn parts(&self, alloc: Global) -> Result<Vec<CoercionId>, OutOfMemory>
+        ensures { IfOk result (λ parts. coercion_places parts.items ≡ node_parts (node_of self.now)) }
+    {
+        match self {
+            CoercionNode::Id | CoercionNode::Fail(_) => Ok(Vec::new(alloc)),
+            CoercionNode::Fun(arguments, result) => {
+                let mut parts = Vec::from_slice(alloc, arguments.as_slice())?;
+                parts.push(*result)?;
+                Ok(parts)
+            }
+            CoercionNode::Tup(parts) => Ok(Vec::from_slice(alloc, parts.as_slice())?),
+            CoercionNode::Ref(read, write) | CoercionNode::Vec(read, write) => {
+                Ok(Vec::from_slice(alloc, &[*read, *write])?)
+            }
+            CoercionNode::Inject(part, _) | CoercionNode::Project(_, _, part) => {
+                Ok(Vec::from_slice(alloc, &[*part])?)
+            }
+        }
+    }
 }
 
 /// The middle with these parts.

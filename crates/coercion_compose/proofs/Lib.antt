@@ -1,0 +1,7 @@
+mod Equations
+mod BothParts
+mod Measures
+mod KnownPairs
+mod Steps
+mod PairSteps
+pub mod Public
