@@ -1,8 +1,9 @@
-//! Procedures over words: what every later pass compiles to before registers are chosen, and the run of a program of them.
+//! Procedures over words: what every later pass compiles to before registers are chosen, and the run of a program of
+//! them.
 //!
-//! A procedure has numbered words of 64 bits and structured code: a branch has two codes, behind both of which goes on what
-//! stands last, and a loop is a tail call. The run in `specs` shows the region below the allocation word, the words asked
-//! for, the turns and the active procedures.
+//! A procedure has numbered words of 64 bits and structured code: a branch has two codes, behind both of which goes on
+//! what stands last, and a loop is a tail call. The run in `specs` shows the region below the allocation word, the
+//! words asked for and the active procedures; a meter counts its turns.
 #![tactic(auto)]
 
 mod closing;

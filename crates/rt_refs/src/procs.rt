@@ -1,0 +1,211 @@
+// The procedures of product, quotient and remainder.
+
+ghost use Rattle.std.specs.Prelude.{◌≡◌, ◌+◌, ◌≤◌, ◌^◌, IfOk};
+ghost use Rattle.low_ir.specs.Views.{code_of, proc_of, procs_of};
+ghost use Rattle.rt_refs.specs.Products.{sum_code, product_loop, multiply};
+ghost use Rattle.rt_refs.specs.Quotients.{signed_answer, subtract_code, next_bit, quotient_loop, magnitude_code};
+ghost use Rattle.rt_refs.specs.Quotients.{divide};
+ghost use Rattle.rt_refs.specs.Quotients.{sign_code, ref_procs};
+
+use crate::codes::{choose, compute, set};
+use grift_base::lists::OutOfMemory;
+use low_ir::code::LowSource::{Number, Word};
+use low_ir::code::{LowCode, LowSource, LowSources, WordOp};
+use low_ir::programs::{LowProc, LowProcs};
+use rv_isa::inst::Cond;
+use std::alloc::Global;
+
+/// How many procedures `ref_procs` gives.
+pub const REF_PROCS: u32 = 4;
+
+// Where the lowest bit of word 1 is set, word 2 gains word 0.
+fn sum_code(alloc: Global, rest: LowCode) -> Result<LowCode, OutOfMemory>
+    ensures { IfOk result (λ code. code_of code ≡ sum_code (code_of rest)) }
+{
+    let gain = compute(alloc, WordOp::Add, 2, (Word(2), Word(0)), LowCode::Done)?;
+    let rest = choose(
+        alloc,
+        Cond::Eq,
+        (Word(3), Number(0)),
+        (LowCode::Done, gain),
+        rest,
+    )?;
+    compute(alloc, WordOp::And, 3, (Word(1), Number(1)), rest)
+}
+
+// The loop of a product, told its own number.
+fn product_loop(alloc: Global, own: u32) -> Result<LowProc, OutOfMemory>
+    ensures { IfOk result (λ proc. proc_of proc ≡ product_loop own) }
+{
+    let words = LowSources::from_slice(alloc, &[Word(0), Word(1), Word(2)])?;
+    let rest = LowCode::TailCall(own, words);
+    let rest = compute(alloc, WordOp::Srl, 1, (Word(1), Number(1)), rest)?;
+    let rest = compute(alloc, WordOp::Sll, 0, (Word(0), Number(1)), rest)?;
+    let rest = sum_code(alloc, rest)?;
+    let ends = (LowCode::Return(Word(2)), LowCode::Done);
+    let code = choose(alloc, Cond::Eq, (Word(1), Number(0)), ends, rest)?;
+    Ok(LowProc {
+        params: 3,
+        words: 4,
+        code,
+    })
+}
+
+// The procedure of a product, told the number of its loop.
+fn multiply(alloc: Global, loop_number: u32) -> Result<LowProc, OutOfMemory>
+    ensures { IfOk result (λ proc. proc_of proc ≡ multiply loop_number) }
+{
+    let words = LowSources::from_slice(alloc, &[Word(0), Word(1), Number(0)])?;
+    Ok(LowProc {
+        params: 2,
+        words: 2,
+        code: LowCode::TailCall(loop_number, words),
+    })
+}
+
+// The quotient or the remainder, with its sign.
+fn signed_answer(alloc: Global) -> Result<LowCode, OutOfMemory>
+    ensures { IfOk result (λ code. code_of code ≡ signed_answer) }
+{
+    let turned = compute(alloc, WordOp::Sub, 2, (Number(0), Word(2)), LowCode::Done)?;
+    let rest = LowCode::Return(Word(2));
+    let rest = choose(
+        alloc,
+        Cond::Lt,
+        (Word(5), Number(0)),
+        (turned, LowCode::Done),
+        rest,
+    )?;
+    let quotient = set(alloc, 2, Word(3), LowCode::Done)?;
+    choose(
+        alloc,
+        Cond::Eq,
+        (Word(6), Number(0)),
+        (quotient, LowCode::Done),
+        rest,
+    )
+}
+
+// Where the remainder has grown to the divisor it loses it, and the quotient gains one.
+fn subtract_code(alloc: Global, rest: LowCode) -> Result<LowCode, OutOfMemory>
+    ensures { IfOk result (λ code. code_of code ≡ subtract_code (code_of rest)) }
+{
+    let gain = compute(alloc, WordOp::Add, 3, (Word(3), Number(1)), LowCode::Done)?;
+    let lose = compute(alloc, WordOp::Sub, 2, (Word(2), Word(1)), gain)?;
+    choose(
+        alloc,
+        Cond::Ltu,
+        (Word(2), Word(1)),
+        (LowCode::Done, lose),
+        rest,
+    )
+}
+
+// The next bit of the dividend goes to the remainder.
+fn next_bit(alloc: Global, rest: LowCode) -> Result<LowCode, OutOfMemory>
+    ensures { IfOk result (λ code. code_of code ≡ next_bit (code_of rest)) }
+{
+    let rest = compute(alloc, WordOp::Sll, 3, (Word(3), Number(1)), rest)?;
+    let rest = compute(alloc, WordOp::Add, 2, (Word(2), Word(7)), rest)?;
+    let rest = compute(alloc, WordOp::Sll, 2, (Word(2), Number(1)), rest)?;
+    let rest = compute(alloc, WordOp::And, 7, (Word(7), Number(1)), rest)?;
+    let rest = compute(alloc, WordOp::Srl, 7, (Word(0), Word(4)), rest)?;
+    compute(alloc, WordOp::Sub, 4, (Word(4), Number(1)), rest)
+}
+
+// The loop of quotient and remainder, told its own number.
+fn quotient_loop(alloc: Global, own: u32) -> Result<LowProc, OutOfMemory>
+    ensures { IfOk result (λ proc. proc_of proc ≡ quotient_loop own) }
+{
+    let words = [
+        Word(0),
+        Word(1),
+        Word(2),
+        Word(3),
+        Word(4),
+        Word(5),
+        Word(6),
+    ];
+    let rest = LowCode::TailCall(own, LowSources::from_slice(alloc, &words)?);
+    let rest = subtract_code(alloc, rest)?;
+    let rest = next_bit(alloc, rest)?;
+    let ends = (signed_answer(alloc)?, LowCode::Done);
+    let code = choose(alloc, Cond::Eq, (Word(4), Number(0)), ends, rest)?;
+    Ok(LowProc {
+        params: 7,
+        words: 8,
+        code,
+    })
+}
+
+// A word without its sign.
+fn magnitude(alloc: Global, word: u32, of: u32, rest: LowCode) -> Result<LowCode, OutOfMemory>
+    ensures { IfOk result (λ code. code_of code ≡ magnitude_code word of (code_of rest)) }
+{
+    let turned = compute(
+        alloc,
+        WordOp::Sub,
+        word,
+        (Number(0), Word(of)),
+        LowCode::Done,
+    )?;
+    let kept = set(alloc, word, Word(of), LowCode::Done)?;
+    choose(alloc, Cond::Lt, (Word(of), Number(0)), (turned, kept), rest)
+}
+
+// The sign of the answer, and the call of the loop.
+fn signs(alloc: Global, loop_number: u32) -> Result<LowCode, OutOfMemory>
+    ensures { IfOk result (λ code. code_of code ≡ sign_code loop_number) }
+{
+    let words = [
+        Word(3),
+        Word(4),
+        Number(0),
+        Number(0),
+        Number(64),
+        Word(5),
+        Word(2),
+    ];
+    let rest = LowCode::TailCall(loop_number, LowSources::from_slice(alloc, &words)?);
+    let both = compute(alloc, WordOp::Xor, 5, (Word(0), Word(1)), LowCode::Done)?;
+    let first = set(alloc, 5, Word(0), LowCode::Done)?;
+    choose(alloc, Cond::Eq, (Word(2), Number(0)), (both, first), rest)
+}
+
+// The procedure of quotient and remainder, told the number of its loop.
+fn divide(alloc: Global, loop_number: u32) -> Result<LowProc, OutOfMemory>
+    ensures { IfOk result (λ proc. proc_of proc ≡ divide loop_number) }
+{
+    let rest = signs(alloc, loop_number)?;
+    let rest = magnitude(alloc, 4, 1, rest)?;
+    let rest = magnitude(alloc, 3, 0, rest)?;
+    let end = Box::new(alloc, LowCode::Return(Number(0)))?;
+    let trap = LowCode::Environment(4, Number(1), Number(0), 3, 4, end);
+    let code = choose(
+        alloc,
+        Cond::Eq,
+        (Word(1), Number(0)),
+        (trap, LowCode::Done),
+        rest,
+    )?;
+    Ok(LowProc {
+        params: 3,
+        words: 8,
+        code,
+    })
+}
+
+/// The procedures that compiled programs call, numbered from `first` on: two loops, then that of the product, which
+/// takes two words, and that of quotient and remainder, which takes dividend, divisor, and 0 for the quotient or 1 for
+/// the remainder. `_cast` is the number of the procedure that casts; none of these casts yet.
+pub fn ref_procs(alloc: Global, first: u32, _cast: u32) -> Result<LowProcs, OutOfMemory>
+    requires { first + 4 ≤ 2 ^ 32 }
+    ensures { IfOk result (λ procs. procs_of procs ≡ ref_procs first) }
+{
+    let mut procs = LowProcs::new(alloc);
+    procs.push(product_loop(alloc, first)?)?;
+    procs.push(quotient_loop(alloc, first + 1)?)?;
+    procs.push(multiply(alloc, first)?)?;
+    procs.push(divide(alloc, first + 1)?)?;
+    Ok(procs)
+}
