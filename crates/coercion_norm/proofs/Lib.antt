@@ -22,5 +22,10 @@ mod KnownCasts
 mod CompositionLemmas
 mod TextLemmas
 mod CastRowLemmas
+mod Objects
+mod TypePlacing
+mod PartWords
+mod CoercionPlacing
+mod NodePlacing
 mod LaterTypes
 pub mod Public
