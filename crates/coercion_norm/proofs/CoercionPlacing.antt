@@ -7,9 +7,11 @@ use Rattle.std.proofs.Common.{append_assoc}
 use Rattle.std.specs.Prelude.{slice_index}
 use Rattle.grift_base.specs.Types.{TypeRows}
 use Rattle.type_graph.specs.Trees.{height}
+use Rattle.object_layout.specs.declared.headers.Header.{Header}
 use Rattle.object_layout.specs.declared.kinds.Kind.{Kind as ObjectKind}
 use Rattle.object_layout.specs.declared.wholes.Area.TheVariants.{Statics as InStatics}
 use Rattle.object_layout.specs.Headers.{packed}
+use Rattle.object_layout.specs.Wholes.{IsNth, StartsAt}
 use Rattle.object_layout.specs.Wholes.{Telling, IsRow, IsWhole, header_at}
 use Rattle.object_layout.proofs.Public.{fills_one_more, fills_sooner}
 use Rattle.coercion_norm.specs.Coercions.{Id}
@@ -17,10 +19,12 @@ use Rattle.coercion_norm.specs.Coercions.{is_id}
 use Rattle.coercion_norm.specs.Heights.{coercion_height}
 use Rattle.coercion_norm.specs.Nodes.{Node}
 use Rattle.coercion_norm.specs.Nodes.{tree_of}
+use Rattle.coercion_norm.specs.StaticObjects.{type_header}
 use Rattle.coercion_norm.specs.StaticObjects.{HoldsCoercion, Tells, coercion_headers}
 use Rattle.coercion_norm.specs.StaticObjects.{header}
 use Rattle.coercion_norm.specs.StaticObjects.{type_headers, up_to}
 use Rattle.coercion_norm.specs.Placed.{ArePlaced, ArePlacedTypes}
+use Rattle.coercion_norm.proofs.Objects.{nth_kept, nth_last}
 use Rattle.coercion_norm.proofs.Objects.{tells_both, told_header, told_last, told_old}
 use Rattle.coercion_norm.proofs.TypePlacing.{below_or_last}
 
@@ -31,6 +35,9 @@ pub no_coercions_placed : (types : TypeRows) (nodes : List Node) (start : ℕ) (
 no_coercions_placed types nodes start words type_at coercion_at placed e = record {
   as_many_types = placed.as_many;
   each_type = placed.each;
+  type_starts = λ memory t type l.
+      nth_kept start (up_to (type_headers types) (length types)) [] type (slice_index type_at type)
+      (type_header types type) (placed.starts memory t type l);
   types_below = placed.below;
   as_many = ap (λ xs. length xs) e;
   few = let f = placed.few in omega (arith, f);
@@ -38,6 +45,7 @@ no_coercions_placed types nodes start words type_at coercion_at placed e = recor
       subst (λ hs. IsRow memory InStatics start hs (start + 8 * length words))
       (sym (append-nil (up_to (type_headers types) (length types)))) (placed.row memory t);
   each = λ memory t c l. absurd (omega arith);
+  starts = λ memory t c l f. absurd (omega arith);
   below = λ c l f. absurd (omega arith);
   above = λ c l f. absurd (omega arith);
   zero_low = λ c l f. absurd (omega arith);
@@ -47,6 +55,33 @@ module _ (types : TypeRows) (nodes : List Node) (start j : ℕ) (words type_at c
     (old : ArePlaced types nodes start words type_at coercion_at j) where
   abbrev at : ℕ
   at = start + 8 * length words
+
+  -- what begins somewhere begins there in a longer row
+  longer : (place word : ℕ) (h : Header) (next : ℕ) → suc j ≡ next
+      → IsNth start
+      (up_to (type_headers types) (length types) ++ up_to (λ c. coercion_headers types (tree_of nodes c)) j) place word
+          h
+      → IsNth start
+      (up_to (type_headers types) (length types) ++ up_to (λ c. coercion_headers types (tree_of nodes c)) next)
+      place word h
+  longer place word h next f n =
+      subst (λ k. IsNth start (up_to (type_headers types) (length types)
+      ++ up_to (λ c. coercion_headers types (tree_of nodes c)) k) place word h) f
+      (subst (λ hs. IsNth start hs place word h)
+      (append_assoc (up_to (type_headers types) (length types))
+      (up_to (λ c. coercion_headers types (tree_of nodes c)) j) (coercion_headers types (tree_of nodes j)))
+      (nth_kept start
+      (up_to (type_headers types) (length types) ++ up_to (λ c. coercion_headers types (tree_of nodes c)) j)
+      (coercion_headers types (tree_of nodes j)) place word h n))
+
+  old_start : (memory : Telling) → Tells memory start words → (c next : ℕ) → suc j ≡ next → c < j
+      → is_id (tree_of nodes c) ≡ false
+      → StartsAt start
+      (up_to (type_headers types) (length types) ++ up_to (λ c. coercion_headers types (tree_of nodes c)) next)
+      (slice_index coercion_at c)
+  old_start memory t c next f less other =
+      let there = old.starts memory t c less other in
+      (there.0, there.1, longer there.0 (slice_index coercion_at c) there.1 next f there.2)
 
   -- ---- Id has no object
 
@@ -82,6 +117,9 @@ module _ (types : TypeRows) (nodes : List Node) (start j : ℕ) (words type_at c
     placed_id = record {
       as_many_types = old.as_many_types;
       each_type = old.each_type;
+      type_starts = λ memory t type l.
+          longer type (slice_index type_at type) (type_header types type) (j + 1) (omega arith)
+          (old.type_starts memory t type l);
       types_below = old.types_below;
       as_many =
           let many = old.as_many in
@@ -95,6 +133,13 @@ module _ (types : TypeRows) (nodes : List Node) (start j : ℕ) (words type_at c
                 (old.each memory t c less)
             | inr same ↦ subst (λ x. HoldsCoercion memory types x (slice_index coercion_at2 c)) (sym (id_now c same))
                 (id_here c same)
+          ];
+      starts = λ memory t c l f.
+          elim (below_or_last c j l) [
+            | inl less ↦ subst (StartsAt start (up_to (type_headers types) (length types)
+                ++ up_to (λ c. coercion_headers types (tree_of nodes c)) (j + 1))) (sym (id_before c less))
+                (old_start memory t c (j + 1) (omega arith) less f)
+            | inr same ↦ (let g : true ≡ false = sym (ap is_id (id_now c same)) ∙ f in absurd (cc g))
           ];
       below = λ c l f.
           elim (below_or_last c j l) [
@@ -186,10 +231,35 @@ module _ (types : TypeRows) (nodes : List Node) (start j : ℕ) (words type_at c
         (subst (λ to. IsWhole memory InStatics to at (header is.kind is.high is.count)) (sym end)
         (is.whole memory (told memory t).0 (stands memory t).0 (stands memory t).1)))))
 
+    new_start : (memory : Telling) → Tells memory start words2 → (next : ℕ) → suc j ≡ next
+        → StartsAt start
+        (up_to (type_headers types) (length types) ++ up_to (λ c. coercion_headers types (tree_of nodes c)) next) at
+    new_start memory t next f =
+        let first = up_to (type_headers types) (length types) in
+        let later = up_to (λ c. coercion_headers types (tree_of nodes c)) j in
+        let place : ℕ = length (up_to (type_headers types) (length types)
+        ++ up_to (λ c. coercion_headers types (tree_of nodes c)) j) in
+        (
+          place,
+          header is.kind is.high is.count,
+          subst (λ n. IsNth start (up_to (type_headers types) (length types)
+              ++ up_to (λ c. coercion_headers types (tree_of nodes c)) n) place at (header is.kind is.high is.count)) f
+              (subst (λ hs. IsNth start (up_to (type_headers types) (length types)
+              ++ (up_to (λ c. coercion_headers types (tree_of nodes c)) j ++ hs)) place at
+              (header is.kind is.high is.count)) (sym is.headers)
+              (subst (λ hs. IsNth start hs place at (header is.kind is.high is.count))
+              (append_assoc first later (header is.kind is.high is.count ∷ []))
+              (nth_last memory InStatics at start at (first ++ later) (header is.kind is.high is.count)
+              (old.row memory (told memory t).0)))),
+        )
+
     pub placed_object : ArePlaced types nodes start words2 type_at coercion_at2 (j + 1)
     placed_object = record {
       as_many_types = old.as_many_types;
       each_type = λ memory t. old.each_type memory (told memory t).0;
+      type_starts = λ memory t type l.
+          longer type (slice_index type_at type) (type_header types type) (j + 1) (omega arith)
+          (old.type_starts memory (told memory t).0 type l);
       types_below = λ type l. let b = old.types_below type l in let long = words2_long in omega (arith, b, long);
       as_many =
           let many = old.as_many in
@@ -205,6 +275,15 @@ module _ (types : TypeRows) (nodes : List Node) (start j : ℕ) (words type_at c
                 same)
                 (subst (HoldsCoercion memory types (tree_of nodes j)) (sym (here j refl))
                 (is.held memory (told memory t).0 (stands memory t).0 (stands memory t).1))
+          ];
+      starts = λ memory t c l f.
+          elim (below_or_last c j l) [
+            | inl less ↦ subst (StartsAt start (up_to (type_headers types) (length types)
+                ++ up_to (λ c. coercion_headers types (tree_of nodes c)) (j + 1))) (sym (before c less))
+                (old_start memory (told memory t).0 c (j + 1) (omega arith) less f)
+            | inr same ↦ subst (StartsAt start (up_to (type_headers types) (length types)
+                ++ up_to (λ c. coercion_headers types (tree_of nodes c)) (j + 1))) (sym (here c same))
+                (new_start memory t (j + 1) (omega arith))
           ];
       below = λ c l f.
           let long = words2_long in

@@ -28,4 +28,5 @@ mod PartWords
 mod CoercionPlacing
 mod NodePlacing
 mod LaterTypes
+mod IdAndDyn
 pub mod Public

@@ -1,4 +1,5 @@
 -- Objects that are told from an address on: their headers and words, and that they are whole.
+use Rattle.std.proofs.Common.{zero}
 use Rattle.std.proofs.Common.{◌≡◌, ℕ, suc, ◌+◌, ◌*◌, ◌<◌, ◌≤◌, ◌^◌, true, refl, sym, ap, ◌∙◌, subst}
 use Rattle.std.proofs.Common.{arith}
 use Rattle.std.proofs.Common.{List, [], ◌∷◌, ◌++◌, length, Some, All, get_or}
@@ -9,6 +10,7 @@ use Rattle.std.proofs.Math.Seq.{get_or-append_seam}
 use Rattle.grift_base.specs.Types.{TypeRow, IntRow, BoolRow, UnitRow, DynRow, FunRow, TupleRow, RefRow, VectRow}
 use Rattle.grift_base.specs.Types.{parts_of}
 use Rattle.type_graph.specs.TypeTables.{HasWidth}
+use Rattle.object_layout.specs.declared.headers.Header.{Header}
 use Rattle.object_layout.specs.declared.kinds.Kind.{Kind as ObjectKind}
 use Rattle.object_layout.specs.declared.kinds.Kind.TheVariants.{Closure, Proxy, Dyn, Tuple, Boxed, Vector, Fail, Fun}
 use Rattle.object_layout.specs.declared.kinds.Kind.TheVariants.{Tup, Ref, Vec, Inject, Project, IntType, BoolType}
@@ -16,6 +18,8 @@ use Rattle.object_layout.specs.declared.kinds.Kind.TheVariants.{UnitType, DynTyp
 use Rattle.object_layout.specs.declared.wholes.Area.TheVariants.{Statics as InStatics}
 use Rattle.object_layout.specs.Headers.{packed, unpacked}
 use Rattle.object_layout.specs.Kinds.{kind_number, kind_of, allows_count, wanted_words}
+use Rattle.object_layout.specs.declared.wholes.Area.{Area}
+use Rattle.object_layout.specs.Wholes.{Fills, IsNth}
 use Rattle.object_layout.specs.Wholes.{Telling, AreWanted, HasHeight, IsWhole, header_at, kind_at}
 use Rattle.object_layout.proofs.Public.{unpacks}
 use Rattle.coercion_norm.specs.StaticObjects.{StandEach, Tells, header, type_kind, words_at}
@@ -185,3 +189,18 @@ whole_type memory end at high row wide e fits = record {
   height = type_high row high _;
   stands = tt;
 }
+
+-- ---- where objects begin
+
+pub nth_kept : (from : ℕ) (headers more : List Header) (place at : ℕ) (h : Header) → IsNth from headers place at h
+    → IsNth from (headers ++ more) place at h
+nth_kept from [] more place at h n = absurd n
+nth_kept from (k ∷ rest) more zero at h n = n
+nth_kept from (k ∷ rest) more (suc place) at h n = nth_kept (from + (8 + 8 * k.count)) rest more place at h n
+
+-- behind a row begins the next object
+pub nth_last : (memory : Telling) (area : Area) (end from to : ℕ) (headers : List Header) (h : Header)
+    → Fills memory area end from headers to → IsNth from (headers ++ h ∷ []) (length headers) to h
+nth_last memory area end from to [] h f = (sym f, refl)
+nth_last memory area end from to (k ∷ rest) h f =
+    nth_last memory area end (from + (8 + 8 * k.count)) to rest h f.1

@@ -11,7 +11,7 @@ use Rattle.type_graph.proofs.Public.{slice_get_at}
 use Rattle.object_layout.specs.declared.wholes.Area.TheVariants.{Statics as InStatics}
 use Rattle.object_layout.specs.declared.kinds.Kind.{Kind as ObjectKind}
 use Rattle.object_layout.specs.Headers.{packed}
-use Rattle.object_layout.specs.Wholes.{Telling, IsRow, header_at}
+use Rattle.object_layout.specs.Wholes.{Telling, IsNth, IsRow, header_at}
 use Rattle.object_layout.proofs.Public.{fills_one_more, fills_sooner}
 use Rattle.coercion_norm.specs.Coercions.{rows_of}
 use Rattle.coercion_norm.specs.StaticObjects.{HoldsType, HoldsTypeTo, Tells, type_header, type_headers}
@@ -19,6 +19,7 @@ use Rattle.coercion_norm.specs.StaticObjects.{type_kind}
 use Rattle.coercion_norm.specs.StaticObjects.{header, type_object, up_to, words_at}
 use Rattle.coercion_norm.specs.Placed.{ArePlacedTypes}
 use Rattle.coercion_norm.proofs.CastLemmas.{row_is}
+use Rattle.coercion_norm.proofs.Objects.{nth_kept, nth_last}
 use Rattle.coercion_norm.proofs.Objects.{few_parts, stand_each, tells_both, told_header, told_last, told_old}
 use Rattle.coercion_norm.proofs.Objects.{whole_type}
 
@@ -35,8 +36,16 @@ none_placed types start words type_at ew et =
       few = omega arith;
       row = λ memory t. (let e : start ≡ start + 8 * length words = omega arith in e);
       each = λ memory t type l. absurd (omega arith);
+      starts = λ memory t type l. absurd (omega arith);
       below = λ type l. absurd (omega arith);
     }
+
+as_many_headers : (types : TypeRows) (n : ℕ) → length (up_to (type_headers types) n) ≡ n
+as_many_headers types zero = refl
+as_many_headers types (suc n) =
+    let e = length-append (up_to (type_headers types) n) (type_header types n ∷ []) in
+    let f = as_many_headers types n in
+    omega (arith, e, f)
 
 -- a type's object, by its row
 pub object_of_row : (types : TypeRows) (type_at : List ℕ) (type high : ℕ) (row : TypeRow) (kind : ObjectKind)
@@ -129,6 +138,24 @@ module _ (types : TypeRows) (table : IsOrderedTable types) (start j : ℕ) (word
       (whole_type memory (start + 8 * length words2) at (height types j) (rows_of types j) wide (stands memory t).0
       (omega (arith, end)))
 
+  new_start : (memory : Telling) → Tells memory start words2 → (type : ℕ) → type < suc j
+      → IsNth start (up_to (type_headers types) (suc j)) type (slice_index type_at2 type) (type_header types type)
+  new_start memory t type l =
+      elim (below_or_last type j (omega (arith, l))) [
+        | inl less ↦ subst (λ word. IsNth start (up_to (type_headers types) (suc j)) type word (type_header types type))
+            (sym (before type less))
+            (nth_kept start (up_to (type_headers types) j) (type_header types j ∷ []) type (slice_index type_at type)
+            (type_header types type) (old.starts memory (told memory t).0 type less))
+        | inr same ↦ subst (λ k. IsNth start (up_to (type_headers types) (suc j)) k (slice_index type_at2 k)
+            (type_header types k)) (sym same)
+            (subst (λ word. IsNth start (up_to (type_headers types) (suc j)) j word (type_header types j))
+            (sym (here j refl))
+            (subst (λ k. IsNth start (up_to (type_headers types) (suc j)) k at (type_header types j))
+            (as_many_headers types j)
+            (nth_last memory InStatics at start at (up_to (type_headers types) j) (type_header types j)
+            (old.row memory (told memory t).0))))
+      ]
+
   pub one_more_placed : ArePlacedTypes types start words2 type_at2 (j + 1)
   one_more_placed = record {
     as_many =
@@ -151,6 +178,11 @@ module _ (types : TypeRows) (table : IsOrderedTable types) (start j : ℕ) (word
           | inr same ↦ subst (λ k. HoldsType memory types (slice_index type_at2 k) k) (sym same)
               (subst (λ word. HoldsType memory types word j) (sym (here j refl)) (new_held memory t))
         ];
+    starts = λ memory t type l.
+        let e : suc j ≡ j + 1 = omega arith in
+        subst (λ n. IsNth start (up_to (type_headers types) n) type (slice_index type_at2 type) (type_header types
+            type))
+        e (new_start memory t type (omega (arith, l)));
     below = λ type l.
         let long = words2_long in
         elim (below_or_last type j l) [

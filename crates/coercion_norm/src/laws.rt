@@ -125,6 +125,19 @@ pub fn composition_is_associative()
         → StandsFor rows (compose_to rows n c (compose_to rows n d e)) t (joined l (joined m o)) }
 {}
 
+/// `Id` in front of a coercion changes nothing, and behind one in normal form neither.
+pub fn id_changes_nothing()
+    ensures before { (rows : ℕ → TypeRow) (made : ℕ) (d : Coercion) → compose_to rows made Id d ≡ d }
+    ensures behind { (rows : ℕ → TypeRow) (made : ℕ) (c : Coercion) → IsNormal rows c → compose_to rows made c Id ≡ c }
+{}
+
+/// A Dyn inside a path can be left out: what stands for the path stands for the rest as well, and the other way round.
+pub fn a_dyn_inside_changes_nothing()
+    ensures { (rows : ℕ → TypeRow) (depth : ℕ) (c : Coercion) (t p d q u : ℕ) (l m : Steps) → is_dyn (rows d) ≡ true
+        → AgreesTo rows depth c t (joined l (Edge p d (Edge q u m)))
+        ↔ AgreesTo rows depth c t (joined l (Edge q u m)) }
+{}
+
 /// Heights as numbers say the same as bounds, over the heights that a table of types tells: neither the coercion of a
 /// cast nor a composition is higher than the higher of what it comes from.
 pub fn heights_are_bounds()
