@@ -60,7 +60,7 @@ module _ (types : TypeRows) (nodes : List Node) (start j : ℕ) (words type_at c
   longer : (place word : ℕ) (h : Header) (next : ℕ) → suc j ≡ next
       → IsNth start
       (up_to (type_headers types) (length types) ++ up_to (λ c. coercion_headers types (tree_of nodes c)) j) place word
-          h
+      h
       → IsNth start
       (up_to (type_headers types) (length types) ++ up_to (λ c. coercion_headers types (tree_of nodes c)) next)
       place word h
@@ -238,8 +238,7 @@ module _ (types : TypeRows) (nodes : List Node) (start j : ℕ) (words type_at c
         let first = up_to (type_headers types) (length types) in
         let later = up_to (λ c. coercion_headers types (tree_of nodes c)) j in
         let place : ℕ = length (up_to (type_headers types) (length types)
-        ++ up_to (λ c. coercion_headers types (tree_of nodes c)) j) in
-        (
+        ++ up_to (λ c. coercion_headers types (tree_of nodes c)) j) in (
           place,
           header is.kind is.high is.count,
           subst (λ n. IsNth start (up_to (type_headers types) (length types)

@@ -29,4 +29,5 @@ mod CoercionPlacing
 mod NodePlacing
 mod LaterTypes
 mod IdAndDyn
+mod LabelLemmas
 pub mod Public

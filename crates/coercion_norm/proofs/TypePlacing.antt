@@ -181,7 +181,7 @@ module _ (types : TypeRows) (table : IsOrderedTable types) (start j : ℕ) (word
     starts = λ memory t type l.
         let e : suc j ≡ j + 1 = omega arith in
         subst (λ n. IsNth start (up_to (type_headers types) n) type (slice_index type_at2 type) (type_header types
-            type))
+        type))
         e (new_start memory t type (omega (arith, l)));
     below = λ type l.
         let long = words2_long in
