@@ -22,5 +22,12 @@ mod KnownCasts
 mod CompositionLemmas
 mod TextLemmas
 mod CastRowLemmas
+mod Objects
+mod TypePlacing
+mod PartWords
+mod CoercionPlacing
+mod NodePlacing
 mod LaterTypes
+mod IdAndDyn
+mod LabelLemmas
 pub mod Public

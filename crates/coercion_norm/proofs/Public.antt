@@ -24,3 +24,6 @@ pub use Rattle.coercion_norm.proofs.MadeParts.{made_none, made_more, made_there}
 pub use Rattle.coercion_norm.proofs.PartLemmas.{part_at, part_no_higher}
 pub use Rattle.coercion_norm.proofs.KnownCasts.{AreCasts-kept, AreCasts-insert}
 pub use Rattle.coercion_norm.proofs.LaterTypes.{FitsTypes-later}
+pub use Rattle.coercion_norm.proofs.LabelLemmas.{coerce_labels, compose_labels}
+pub use Rattle.coercion_norm.proofs.IdAndDyn.{id_behind, a_dyn_inside}
+pub use Rattle.coercion_norm.proofs.Objects.{tells_both, told_header, told_kind, number_of_kind}

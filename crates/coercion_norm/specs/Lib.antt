@@ -8,3 +8,5 @@ pub mod Nodes
 pub mod CoercionTables
 pub mod Samples
 pub mod Texts
+pub mod StaticObjects
+pub mod Placed

@@ -1,7 +1,7 @@
 // Laws of coercions. Each function has an empty body: its contract is a law, proved for all rows of types, also for
 // those of types that contain themselves, unless the law bounds their heights.
 
-ghost use Rattle.std.specs.Prelude.{◌≡◌, ◌↔◌, ◌≤◌, max, suc, ℕ, true, false, Some, None};
+ghost use Rattle.std.specs.Prelude.{◌≡◌, ◌↔◌, ◌<◌, ◌≤◌, max, suc, ℕ, true, false, Some, None};
 ghost use Rattle.grift_base.specs.Types.{TypeRow, TypeRows, is_dyn};
 ghost use Rattle.type_graph.specs.Trees.{height};
 ghost use Rattle.type_graph.specs.TypeTables.{HasMoreRows, IsOrderedTable};
@@ -12,6 +12,7 @@ ghost use Rattle.coercion_norm.specs.StandsFor.{AgreesTo, IsMiddle, PartsAgree, 
 ghost use Rattle.coercion_norm.specs.Composition.{coerce_solid, coerce_to, coerce_whole, compose_to, follow};
 ghost use Rattle.coercion_norm.specs.Heights.{AreHeights, NoHigher, TypeNoHigher, coercion_height};
 ghost use Rattle.coercion_norm.specs.Normal.{IsNormal};
+ghost use Rattle.coercion_norm.specs.Texts.{HasLabels};
 ghost use Rattle.coercion_norm.specs.Samples.{sample, two};
 ghost use Rattle.coercion_norm.specs.Nodes.{AreOrdered};
 ghost use Rattle.coercion_norm.specs.CoercionTables.{FitsTypes, NodeTable};
@@ -123,6 +124,27 @@ pub fn composition_is_associative()
         → NoHigher rows c n → NoHigher rows d n → NoHigher rows e n → u ≡ last_type t l → v ≡ last_type u m
         → StandsFor rows c t l → StandsFor rows d u m → StandsFor rows e v o
         → StandsFor rows (compose_to rows n c (compose_to rows n d e)) t (joined l (joined m o)) }
+{}
+
+/// `Id` in front of a coercion changes nothing, and behind one in normal form neither.
+pub fn id_changes_nothing()
+    ensures before { (rows : ℕ → TypeRow) (made : ℕ) (d : Coercion) → compose_to rows made Id d ≡ d }
+    ensures behind { (rows : ℕ → TypeRow) (made : ℕ) (c : Coercion) → IsNormal rows c → compose_to rows made c Id ≡ c }
+{}
+
+/// A Dyn inside a path can be left out: what stands for the path stands for the rest as well, and the other way round.
+pub fn a_dyn_inside_changes_nothing()
+    ensures { (rows : ℕ → TypeRow) (depth : ℕ) (c : Coercion) (t p d q u : ℕ) (l m : Steps) → is_dyn (rows d) ≡ true
+        → AgreesTo rows depth c t (joined l (Edge p d (Edge q u m)))
+        ↔ AgreesTo rows depth c t (joined l (Edge q u m)) }
+{}
+
+/// The coercion of a cast has no label but that of the cast, and a composition none but those of the two.
+pub fn no_labels_are_added()
+    ensures casts { (rows : ℕ → TypeRow) (made many from to label : ℕ) → label < many
+        → HasLabels many (coerce_to rows made from to label) }
+    ensures compositions { (rows : ℕ → TypeRow) (made many : ℕ) (c d : Coercion)
+        → HasLabels many c → HasLabels many d → HasLabels many (compose_to rows made c d) }
 {}
 
 /// Heights as numbers say the same as bounds, over the heights that a table of types tells: neither the coercion of a

@@ -6,6 +6,7 @@ pub mod casts;
 pub mod laws;
 pub mod middles;
 pub mod nodes;
+pub mod placing;
 pub mod tables;
 #[cfg(test)]
 mod tests;

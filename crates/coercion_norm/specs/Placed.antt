@@ -1,0 +1,53 @@
+-- Objects that are placed one after the other: what holds of those that stand there so far.
+use Rattle.std.specs.Prelude.{◌≡◌, ℕ, ◌+◌, ◌*◌, ◌<◌, ◌≤◌, false, List, ◌++◌, length, slice_index}
+use Rattle.grift_base.specs.Types.{TypeRows}
+use Rattle.type_graph.specs.Trees.{height}
+use Rattle.object_layout.specs.declared.wholes.Area.TheVariants.{Statics as InStatics}
+use Rattle.object_layout.specs.Wholes.{Telling, IsNth, IsRow, StartsAt}
+use Rattle.coercion_norm.specs.Coercions.{is_id}
+use Rattle.coercion_norm.specs.Heights.{coercion_height}
+use Rattle.coercion_norm.specs.Nodes.{Node, tree_of}
+use Rattle.coercion_norm.specs.StaticObjects.{HoldsCoercion, HoldsType, Tells, coercion_headers, type_header}
+use Rattle.coercion_norm.specs.StaticObjects.{type_headers, up_to}
+
+-- The words from `start` on are the objects of the first types, as many as are told, and each type's address is told.
+pub record ArePlacedTypes (types : TypeRows) (start : ℕ) (words type_at : List ℕ) (many : ℕ) : Type 0 where
+  pub as_many : length type_at ≡ many
+  pub few : length words ≤ 9 * many
+  pub row : (memory : Telling) → Tells memory start words
+      → IsRow memory InStatics start (up_to (type_headers types) many) (start + 8 * length words)
+  pub each : (memory : Telling) → Tells memory start words → (type : ℕ) → type < many
+      → HoldsType memory types (slice_index type_at type) type
+  pub starts : (memory : Telling) → Tells memory start words → (type : ℕ) → type < many
+      → IsNth start (up_to (type_headers types) many) type (slice_index type_at type) (type_header types type)
+  pub below : (type : ℕ) → type < many → slice_index type_at type < start + 8 * length words
+
+-- The words from `start` on are the objects of all types, whose addresses are told, and behind them those of the first
+-- coercions, as many as words are told for them.
+pub record ArePlaced (types : TypeRows) (nodes : List Node) (start : ℕ) (words type_at coercion_at : List ℕ) (many : ℕ)
+    : Type 0 where
+  pub as_many_types : length type_at ≡ length types
+  pub each_type : (memory : Telling) → Tells memory start words → (type : ℕ) → type < length types
+      → HoldsType memory types (slice_index type_at type) type
+  pub type_starts : (memory : Telling) → Tells memory start words → (type : ℕ) → type < length types
+      → IsNth start
+      (up_to (type_headers types) (length types) ++ up_to (λ c. coercion_headers types (tree_of nodes c)) many)
+      type (slice_index type_at type) (type_header types type)
+  pub types_below : (type : ℕ) → type < length types → slice_index type_at type < start + 8 * length words
+  pub as_many : length coercion_at ≡ many
+  pub few : length words ≤ 9 * length types + 9 * many
+  pub row : (memory : Telling) → Tells memory start words
+      → IsRow memory InStatics start
+      (up_to (type_headers types) (length types) ++ up_to (λ c. coercion_headers types (tree_of nodes c)) many)
+      (start + 8 * length words)
+  pub each : (memory : Telling) → Tells memory start words → (c : ℕ) → c < many
+      → HoldsCoercion memory types (tree_of nodes c) (slice_index coercion_at c)
+  pub starts : (memory : Telling) → Tells memory start words → (c : ℕ) → c < many → is_id (tree_of nodes c) ≡ false
+      → StartsAt start
+      (up_to (type_headers types) (length types) ++ up_to (λ c. coercion_headers types (tree_of nodes c)) many)
+      (slice_index coercion_at c)
+  pub below : (c : ℕ) → c < many → is_id (tree_of nodes c) ≡ false
+      → slice_index coercion_at c < start + 8 * length words
+  pub above : (c : ℕ) → c < many → is_id (tree_of nodes c) ≡ false → start ≤ slice_index coercion_at c
+  pub zero_low : (c : ℕ) → c < many → slice_index coercion_at c ≡ 0
+      → coercion_height (height types) (tree_of nodes c) ≡ 0
