@@ -18,3 +18,8 @@ mod OperatorsKeepTypes
 mod StepsKeepTypes
 mod RunsKeepTypes
 mod AnswerKinds
+mod NamesInScope
+mod TypesFound
+mod TypesComputed
+mod CountedRuns
+mod Chains

@@ -1,12 +1,18 @@
 -- Types of small programs, and tables of types.
 use Rattle.std.proofs.Common.{◌≡◌, ℕ, zero, suc, ◌<◌, List, [], ◌∷◌, Option, Some, refl, true, false, sym, ap, subst}
-use Rattle.std.proofs.Common.{arith, length, slice_get}
+use Rattle.std.proofs.Common.{arith, length, slice_get, pos}
 use Rattle.std.specs.Prelude.{All}
 use Rattle.std.proofs.lemmas.List.Elements.{All-nil, All-cons}
 use Rattle.grift_base.specs.Tables.{HasNoRepeats}
 use Rattle.grift_base.specs.Types.{TypeRow, TypeRows, IntRow, BoolRow, UnitRow, DynRow, FunRow, row_at, parts_of}
-use Rattle.core_calc.specs.Terms.{Term, BoolLit, Var, Lambda, Call, If, Cast, NoTerms, TermThen}
-use Rattle.core_calc.specs.Typing.{HasType, IsTypeTable, ProgramTermHasType}
+use Rattle.grift_base.specs.Types.{TupleRow, RefRow}
+use Rattle.core_calc.specs.Terms.{Term, Terms, IntLit, BoolLit, Var, Lambda, Let, Call, Enter, If, Seq, Cast, Proj}
+use Rattle.core_calc.specs.Terms.{Tuple}
+use Rattle.core_calc.specs.Terms.{ValueTerm, NoTerms, TermThen, NoBindings, BindingThen, IntValue, LocValue}
+use Rattle.core_calc.specs.Calculus.{CalcState, state_of}
+use Rattle.core_calc.specs.Typing.{HasType, IsTypeTable, ProgramTermHasType, StateHasType}
+use Rattle.core_calc.specs.TypeOf.{and_then, program_type}
+use Rattle.core_calc.proofs.TypesComputed.{no_program_term}
 
 -- ---- tables of types
 
@@ -127,4 +133,113 @@ dyn_condition_refused type typed =
 label_missing_refused : (type : ℕ) → HasType rows 1 [] [] (Cast (BoolLit true) 0 1 1) type → ⊥
 label_missing_refused type typed =
     let below : 1 < 1 = typed.3 in
+    omega arith
+
+-- ---- types that are computed
+
+abbrev program_rows : TypeRows
+program_rows = IntRow ∷ BoolRow ∷ DynRow ∷ FunRow (0 ∷ []) 0 ∷ TupleRow (0 ∷ 1 ∷ []) ∷ []
+
+abbrev int : ℕ → Term
+int n = IntLit (pos n)
+
+-- (: (: #t Dyn) Int)
+cast_out_of_dyn : program_type program_rows (Cast (Cast (BoolLit true) 1 2 0) 2 0 1) ≡ Some 0
+unfolding and_then
+cast_out_of_dyn = refl
+
+-- the identity on integers, whose parameter is this name
+abbrev identity : ℕ → Term
+identity name = Lambda (name ∷ []) (Var name) 3
+
+-- a name bound to 1
+abbrev let_one : ℕ → Term → Term
+let_one name body = Let (BindingThen name (int 1) NoBindings) body
+
+-- (let ([x 1]) ((lambda ([y : Int]) : Int y) x))
+call_under_let : program_type program_rows (let_one 0 (Call (identity 1) (TermThen (Var 0) NoTerms))) ≡ Some 0
+unfolding and_then
+call_under_let = refl
+
+-- ---- terms that are no program terms, whatever the number of labels
+
+abbrev IsRefused : Term → Type 0
+IsRefused term = (labels type : ℕ) → ProgramTermHasType program_rows labels term type → ⊥
+
+abbrev pair : Term
+pair = Tuple (TermThen (int 1) (TermThen (BoolLit true) NoTerms))
+
+free_name_refused : IsRefused (Var 0)
+unfolding and_then
+free_name_refused = no_program_term program_rows (Var 0) refl
+
+-- a name is used behind the scope that binds it
+abbrev outside : Term
+outside = Seq (TermThen (let_one 0 (Var 0)) (TermThen (Var 0) NoTerms))
+
+use_outside_refused : IsRefused outside
+unfolding and_then
+use_outside_refused = no_program_term program_rows outside refl
+
+-- a name is bound in two scopes beside each other
+abbrev bound_twice : Term
+bound_twice = Seq (TermThen (let_one 0 (Var 0)) (TermThen (let_one 0 (Var 0)) NoTerms))
+
+binder_twice_refused : IsRefused bound_twice
+unfolding and_then
+binder_twice_refused = no_program_term program_rows bound_twice refl
+
+abbrev entered : Term
+entered = Enter (identity 0) (TermThen (int 1) NoTerms)
+
+entered_refused : IsRefused entered
+unfolding and_then
+entered_refused = no_program_term program_rows entered refl
+
+value_refused : IsRefused (ValueTerm (IntValue (pos 1)))
+unfolding and_then
+value_refused = no_program_term program_rows (ValueTerm (IntValue (pos 1))) refl
+
+-- the first branch is an integer, the second a truth value
+abbrev branches_differ : Term
+branches_differ = If (BoolLit true) (int 1) (BoolLit false)
+
+branches_refused : IsRefused branches_differ
+unfolding and_then
+branches_refused = no_program_term program_rows branches_differ refl
+
+-- a truth value in a cast from Int
+cast_refused : IsRefused (Cast (BoolLit true) 0 2 0)
+unfolding and_then
+cast_refused = no_program_term program_rows (Cast (BoolLit true) 0 2 0) refl
+
+arguments_refused : IsRefused (Call (identity 0) NoTerms)
+unfolding and_then
+arguments_refused = no_program_term program_rows (Call (identity 0) NoTerms) refl
+
+-- a pair has no third part
+part_refused : IsRefused (Proj pair (pos 2))
+unfolding and_then
+part_refused = no_program_term program_rows (Proj pair (pos 2)) refl
+
+abbrev ones : ℕ → Terms
+ones zero = NoTerms
+ones (suc n) = TermThen (int 1) (ones n)
+
+nine_parts_refused : IsRefused (Tuple (ones 9))
+unfolding and_then
+nine_parts_refused = no_program_term program_rows (Tuple (ones 9)) refl
+
+-- a box, whose cell has two values
+abbrev box_of_two : CalcState
+box_of_two =
+    state_of (ValueTerm (LocValue 0 false)) ((IntValue (pos 1) ∷ IntValue (pos 2) ∷ []) ∷ [])
+    (record { output = []; input = []; place = 0 })
+
+box_of_two_refused : (type : ℕ) → StateHasType (IntRow ∷ RefRow 0 ∷ []) 0 box_of_two type → ⊥
+box_of_two_refused type typed =
+    let box = typed.3 in
+    let cell = typed.2.1 0 (IntValue (pos 1) ∷ IntValue (pos 2) ∷ []) (record { content = box.0; size = 1 }) refl box.1
+    in
+    let two_is_one : ◌≡◌ {A = ℕ} 2 1 = cell.0 in
     omega arith

@@ -10,3 +10,4 @@ pub mod Calculus
 pub mod Views
 pub mod Typing
 pub mod ValueHeads
+pub mod TypeOf

@@ -93,14 +93,15 @@ pub fn answers_have_their_types_kind()
 {}
 
 /// A term's step is the step of its redex, in the redex's place: the redex stands in the term, what it comes to is put
-/// where it stood, and below a redex there is no other. The redex is that of the first part, from left to right, that is
-/// evaluated and is no value, one node further down; a term without such a part is the redex itself.
+/// where it stood, and below a redex there is no other. The redex is that of the first part, from left to right, that
+/// is evaluated and is no value, one node further down; a term without such a part is the redex itself.
 pub fn the_step_is_that_of_the_redex()
     ensures in_place { (term : Term) → (focus term).around (focus term).redex ≡ term }
     ensures steps { (types : TypeRows) (store : Store) (world : WorldState) (term : Term)
         → step types store world term ≡ inside (focus term).around (step types store world (focus term).redex) }
     ensures is_whole { (term : Term) → focus (focus term).redex ≡ here (focus term).redex }
-    ensures through_parts { (term : Term) → IsFocusThrough (first_unevaluated (evaluated_parts term)) term (focus term) }
+    ensures through_parts { (term : Term)
+        → IsFocusThrough (first_unevaluated (evaluated_parts term)) term (focus term) }
 {}
 
 /// A term has no more than one type over a table of distinct rows, and neither has a value.

@@ -5,6 +5,11 @@
 //! the compiler builds them; contracts see them as the terms of the definitions.
 #![tactic(auto)]
 
+mod binders;
 pub mod ends;
+mod forms;
 pub mod laws;
+mod operations;
+mod scopes;
 pub mod terms;
+pub mod typing;

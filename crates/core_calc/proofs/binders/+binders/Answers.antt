@@ -1,0 +1,49 @@
+use Rattle.std.proofs.Common.{ap, ◌∙◌, rules}
+use Rattle.core_calc.specs.declared.terms.CoreList.{the_lemmas as terms}
+use Rattle.core_calc.specs.declared.terms.GroupMember.{out-GroupMember}
+use Rattle.core_calc.specs.declared.terms.GroupMembers.{the_lemmas as members}
+use Rattle.core_calc.specs.declared.terms.CoreBinding.{out-CoreBinding}
+use Rattle.core_calc.specs.declared.terms.CoreBindings.{the_lemmas as bindings}
+use Rattle.core_calc.specs.Views.{term_of, terms_of, members_of, bindings_of, names_of}
+use Rattle.core_calc.specs.Typing.{binders, all_binders, member_binders, binding_binders}
+use Rattle.core_calc.specs.TypeOf.{with_names}
+use Rattle.core_calc.proofs.Chains.{term_step, binding_step, member_step}
+use Rattle.core_calc.proofs.binders.+binders.Goals as goal
+
+pub add_all_binders-loop-left-preserved : goal.add_all_binders-loop-left-preserved
+add_all_binders-loop-left-preserved t c = record {
+  left_is =
+      ap (λ l. with_names c.add_binders.new.seen (all_binders (terms_of l))) c.deref-left.ensures
+      ∙ term_step c.loop-left.seen c.add_binders.new.seen (binders (term_of c.in-Cons.first.value))
+      (all_binders (terms_of c.in-Cons.rest.value)) (rw c.deref.ensures at c.in_ok-add_binders.ensures)
+      ∙ (rw c.in-Cons.is at c.loop-left.invariant.left_is);
+  smaller = search (rules, terms);
+}
+
+pub add_binding_binders-loop-left-preserved : goal.add_binding_binders-loop-left-preserved
+add_binding_binders-loop-left-preserved t c =
+    let first = out-CoreBinding c.in-Cons.first.value in
+    record {
+      left_is =
+          ap (λ l. with_names c.add_binders.new.seen (binding_binders (bindings_of l))) c.deref-left.ensures
+          ∙ binding_step c.loop-left.seen c.add.new.self c.add_binders.new.seen first.name.0
+          (binders (term_of first.value)) (binding_binders (bindings_of c.in-Cons.rest.value))
+          (rw c.deref.ensures at c.in_ok-add.ensures) (rw c.deref-in-Cons.ensures at c.in_ok-add_binders.ensures)
+          ∙ (rw c.in-Cons.is at c.loop-left.invariant.left_is);
+      smaller = search (rules, bindings);
+    }
+
+pub add_member_binders-loop-left-preserved : goal.add_member_binders-loop-left-preserved
+add_member_binders-loop-left-preserved t c =
+    let first = out-GroupMember c.in-Cons.first.value in
+    record {
+      left_is =
+          ap (λ l. with_names c.add_binders.new.seen (member_binders (members_of l))) c.deref-left.ensures
+          ∙ member_step c.loop-left.seen c.add.new.self c.add_all.new.self c.add_binders.new.seen first.name.0
+          (names_of first.params) (binders (term_of first.body)) (member_binders (members_of c.in-Cons.rest.value))
+          (rw c.deref.ensures at c.in_ok-add.ensures)
+          (rw (c.as_slice.ensures, c.deref-in-Cons.ensures) at c.in_ok-add_all.ensures)
+          (rw c.deref-in-Cons-2.ensures at c.in_ok-add_binders.ensures)
+          ∙ (rw c.in-Cons.is at c.loop-left.invariant.left_is);
+      smaller = search (rules, members);
+    }
