@@ -31,7 +31,7 @@ pub returns-then-is_none : goal.returns-then-is_none
 returns-then-is_none c =
     let params = c.args.proc.now.params in
     let exact =
-      subst (λ w. Exact (λ i. nat_lt i params) w) (sym c.new.ensures) (window_exact c.loop-from.from params) in
+    subst (λ w. Exact (λ i. nat_lt i params) w) (sym c.new.ensures) (window_exact c.loop-from.from params) in
     sym (not_closed (procs_of c.args.procs.now) c.args.proc.now.words (code_of c.args.proc.now.code)
     (λ i. nat_lt i params) c.new.result exact (sym c.behind.ensures ∙ nothing c.behind.result c.if-is_none.ensures))
 
