@@ -1,5 +1,5 @@
 -- One step of a walk after another.
-use Rattle.std.proofs.Common.{◌≡◌, ℕ, Bool, true, false, refl, sym, ap, ◌∙◌}
+use Rattle.std.proofs.Common.{◌≡◌, Bool, true, false, refl, ap, ◌∙◌}
 use Rattle.grift_base.specs.declared.places.Pos.{Pos}
 use Rattle.grift_base.specs.declared.refusals.RefusalKind.{RefusalKind}
 use Rattle.surface_syntax.specs.Walking.{Walked, Reads, Refuses, followed_by, test}

@@ -1,24 +1,22 @@
 -- The pass is the walk with its answer expanded.
-use Rattle.std.proofs.Common.{◌≡◌, ℕ, zero, suc, ℤ, pos, Bool, true, false, List, [], ◌∷◌, ◌++◌, Option, Some, None}
-use Rattle.std.proofs.Common.{refl, sym, ap, ap₂, ◌∙◌}
+use Rattle.std.proofs.Common.{◌≡◌, ℕ, zero, suc, pos, Bool, true, false, List, [], ◌∷◌, ◌++◌, Some, None}
+use Rattle.std.proofs.Common.{refl, ◌∙◌}
 use Rattle.std.specs.Prelude.{negsuc, nat_eq}
 use Rattle.grift_base.specs.declared.places.Pos.{Pos}
 use Rattle.grift_base.specs.declared.operators.PrimOp.{PrimOp}
-use Rattle.grift_base.specs.declared.refusals.RefusalKind.{RefusalKind}
-use Rattle.grift_base.specs.declared.refusals.RefusalKind.TheVariants.{BadForm, TooWide}
+use Rattle.grift_base.specs.declared.refusals.RefusalKind.TheVariants.{BadForm}
 use Rattle.surface_syntax.specs.declared.names.Ident.TheVariants.{Source}
-use Rattle.surface_syntax.specs.declared.words.Word.{Word}
 use Rattle.surface_syntax.specs.declared.words.Word.TheVariants.{Lambda, Let, Letrec, If, Begin, And, Or, Repeat, Tuple}
-use Rattle.surface_syntax.specs.declared.words.Word.TheVariants.{TupleProj, Define, Colon, Arrow, ReadInt, Operator}
+use Rattle.surface_syntax.specs.declared.words.Word.TheVariants.{TupleProj, Colon, Arrow, Operator}
 use Rattle.surface_syntax.specs.Words.{operand_count}
-use Rattle.surface_syntax.specs.Marked.{Sexpr, Sexprs, number, truth_value, word, name, list, end, ◌▹◌, place, how_many}
-use Rattle.surface_syntax.specs.Trees.{TypeExpr, Param, Expr, ExprAt, ExprNode, LambdaNode, CallNode, LetNode}
-use Rattle.surface_syntax.specs.Trees.{LetrecNode, IfNode, BeginNode, AscribeNode, TupleNode, ProjNode, PrimNode}
-use Rattle.surface_syntax.specs.Trees.{LambdaExpr, LambdaAt, Exprs, ExprThen, LetBindings, LetThen, LetrecMembers}
+use Rattle.surface_syntax.specs.Marked.{Sexpr, Sexprs, number, truth_value, word, name, list, end, ◌▹◌, how_many}
+use Rattle.surface_syntax.specs.Trees.{TypeExpr, Param, Expr, ExprAt, LambdaNode, CallNode, LetNode}
+use Rattle.surface_syntax.specs.Trees.{LetrecNode, IfNode, BeginNode, AscribeNode, TupleNode, PrimNode}
+use Rattle.surface_syntax.specs.Trees.{LambdaAt, ExprThen, LetThen}
 use Rattle.surface_syntax.specs.Trees.{LetrecThen}
-use Rattle.surface_syntax.specs.Written.{Form, FormAt, FormNode, LambdaForm, CallForm, LetForm, LetrecForm, IfForm}
+use Rattle.surface_syntax.specs.Written.{Form, FormAt, LambdaForm, CallForm, LetForm, LetrecForm, IfForm}
 use Rattle.surface_syntax.specs.Written.{BeginForm, AscribeForm, AndForm, OrForm, RepeatForm, RepeatIntoForm, TupleForm}
-use Rattle.surface_syntax.specs.Written.{ProjForm, PrimForm, LambdaWritten, LambdaFrom, Forms, FormThen, LetForms}
+use Rattle.surface_syntax.specs.Written.{PrimForm, LambdaWritten, LambdaFrom, Forms, FormThen, LetForms}
 use Rattle.surface_syntax.specs.Written.{LetFormThen, LetrecForms, LetrecFormThen}
 use Rattle.surface_syntax.specs.Walking.{Walked, Reads, Refuses, followed_by, test, some, colon, binder}
 use Rattle.surface_syntax.specs.Walk.{Range, Bound, walk_type, walk_param_list, walk, walk_list, walk_part, walk_each}
@@ -31,7 +29,7 @@ use Rattle.surface_syntax.specs.Pass.{Parsing, then_with, with_names, named, ref
 use Rattle.surface_syntax.specs.Pass.{parse_part, parse_each, parse_within, parse_lambda, parse_binding, parse_lets}
 use Rattle.surface_syntax.specs.Pass.{parse_member, parse_lambda_form, parse_letrecs, parse_range}
 
-fun_ext : {A B : Type 0} {f g : A → B} → ((a : A) → f a ≡ g a) → f ≡ g
+pub fun_ext : {A B : Type 0} {f g : A → B} → ((a : A) → f a ≡ g a) → f ≡ g
 fun_ext h = λ i. λ a. h a i
 
 -- what was read, expanded

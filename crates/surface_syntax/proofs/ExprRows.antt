@@ -1,6 +1,6 @@
 -- The rows of the pass over expressions, by what is known of their elements.
-use Rattle.std.proofs.Common.{◌≡◌, ◌≢◌, ◌-◌, ◌+◌, ℕ, zero, suc, ℤ, pos, ◌≤ℤ◌, ◌<ℤ◌, Bool, true, false, List, [], ◌∷◌}
-use Rattle.std.proofs.Common.{◌++◌, Option, Some, None, refl, ap, ◌∙◌, sym, subst, arith}
+use Rattle.std.proofs.Common.{◌≡◌, ◌≢◌, ◌-◌, ℕ, zero, suc, ℤ, pos, ◌≤ℤ◌, ◌<ℤ◌, true, false, List}
+use Rattle.std.proofs.Common.{Some, None, refl, ap, sym, subst, arith}
 use Rattle.std.specs.Prelude.{negsuc, Result}
 use Rattle.std.proofs.lemmas.Int.{ints}
 use Rattle.grift_base.specs.declared.places.Pos.{Pos}
@@ -12,11 +12,10 @@ use Rattle.surface_syntax.specs.declared.words.Word.TheVariants.{Lambda, Let, Le
 use Rattle.surface_syntax.specs.declared.words.Word.TheVariants.{TupleProj, Define, Colon, Arrow, ReadInt, Operator}
 use Rattle.surface_syntax.specs.declared.words.Mark.{Mark}
 use Rattle.surface_syntax.specs.declared.words.Mark.TheVariants.{Reserved, Free}
-use Rattle.surface_syntax.specs.Words.{is_lambda_word}
 use Rattle.surface_syntax.specs.Marked.{Sexpr, Sexprs, number, truth_value, word, name, list, end, ◌▹◌, place}
 use Rattle.surface_syntax.specs.Marked.{reserved_at, marked_symbol}
-use Rattle.surface_syntax.specs.Trees.{Expr, ExprAt, ProjNode, LambdaExpr, LambdaAt, Exprs, ExprThen}
-use Rattle.surface_syntax.specs.Walking.{Walked, Reads, Refuses, some, is_colon, is_lambda_at}
+use Rattle.surface_syntax.specs.Trees.{Expr, ExprAt, ProjNode, LambdaAt, ExprThen}
+use Rattle.surface_syntax.specs.Walking.{Reads, Refuses, some, is_colon, is_lambda_at}
 use Rattle.surface_syntax.specs.Walk.{walk_type, walk_param_list}
 use Rattle.surface_syntax.specs.Pass.{Parsing, then_with, with_names, parse, parse_list, parse_part, parse_each}
 use Rattle.surface_syntax.specs.Pass.{parse_within, parse_lambda, parse_binding, parse_member, parse_lambda_form}

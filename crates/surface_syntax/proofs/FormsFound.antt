@@ -1,22 +1,19 @@
 -- What the walk reads as a form is in the table.
-use Rattle.std.proofs.Common.{◌≡◌, ◌≤◌, ℕ, zero, suc, ◌+◌, Bool, true, false, List, [], ◌∷◌, ◌++◌, Option, refl, sym}
+use Rattle.std.proofs.Common.{◌≡◌, ◌≤◌, ℕ, zero, suc, Bool, true, false, List, [], ◌∷◌, ◌++◌, refl, sym}
 use Rattle.std.proofs.Common.{ap, ◌∙◌, subst, arith}
-use Rattle.std.specs.Prelude.{pos, negsuc, not, nat_eq, Some, None}
-use Rattle.std.proofs.lemmas.Bool.{eqb-true, eq-eqb}
+use Rattle.std.specs.Prelude.{pos, negsuc, not, Some, None}
+use Rattle.std.proofs.lemmas.Bool.{eqb-true}
 use Rattle.grift_base.specs.declared.places.Pos.{Pos}
-use Rattle.grift_base.specs.declared.refusals.RefusalKind.{RefusalKind}
 use Rattle.grift_base.specs.declared.refusals.RefusalKind.TheVariants.{BadForm, RepeatedName}
 use Rattle.surface_syntax.specs.Trees.{TypeExpr, Param}
 use Rattle.surface_syntax.specs.declared.names.Ident.TheVariants.{Source}
 use Rattle.surface_syntax.specs.declared.words.Word.TheVariants.{Lambda, Let, Letrec, If, Begin, And, Or, Repeat, Tuple}
 use Rattle.surface_syntax.specs.declared.words.Word.TheVariants.{TupleProj, Define, Colon, Arrow, ReadInt, Operator}
-use Rattle.surface_syntax.specs.declared.words.TypeWord.{TypeWord}
-use Rattle.surface_syntax.specs.Words.{operand_count}
 use Rattle.surface_syntax.specs.Marked.{Sexpr, Sexprs, number, truth_value, word, name, list, end, ◌▹◌, how_many}
 use Rattle.surface_syntax.specs.Written.{Form, FormAt, BeginForm, RepeatForm, RepeatIntoForm, TupleForm, LetForm}
 use Rattle.surface_syntax.specs.Written.{LetrecForm, Forms, LambdaWritten, LambdaFrom, LetForms, LetrecForms}
-use Rattle.surface_syntax.specs.Walking.{Walked, Reads, Refuses, followed_by, give, test, some, is_some, is_among}
-use Rattle.surface_syntax.specs.Walking.{binder, is_colon, colon}
+use Rattle.surface_syntax.specs.Walking.{Reads, is_some, is_among}
+use Rattle.surface_syntax.specs.Walking.{binder, is_colon}
 use Rattle.surface_syntax.specs.Walk.{Range, Bound, walk_param, walk_params, walk_param_list, walk, walk_list}
 use Rattle.surface_syntax.specs.Walk.{walk_part, walk_each, walk_within, walk_lambda, walk_binding, walk_lets}
 use Rattle.surface_syntax.specs.Walk.{walk_member, walk_lambda_form, walk_letrecs, walk_range}

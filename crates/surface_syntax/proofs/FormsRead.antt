@@ -1,22 +1,17 @@
 -- The walk reads each form of the table.
-use Rattle.std.proofs.Common.{◌≡◌, ◌≤◌, ℕ, zero, suc, ◌+◌, Bool, true, false, List, [], ◌∷◌, ◌++◌, Option, refl, sym}
+use Rattle.std.proofs.Common.{◌≡◌, ◌≤◌, ℕ, zero, suc, Bool, true, false, List, [], ◌∷◌, Option, refl}
 use Rattle.std.proofs.Common.{ap, ◌∙◌, arith}
-use Rattle.std.specs.Prelude.{not, Some, None}
-use Rattle.std.proofs.lemmas.Bool.{eqb-true, eq-eqb}
+use Rattle.std.specs.Prelude.{not, None}
+use Rattle.std.proofs.lemmas.Bool.{eq-eqb}
 use Rattle.grift_base.specs.declared.places.Pos.{Pos}
 use Rattle.grift_base.specs.declared.refusals.RefusalKind.TheVariants.{BadForm, RepeatedName}
 use Rattle.surface_syntax.specs.Trees.{TypeExpr, Param}
-use Rattle.surface_syntax.specs.declared.names.Ident.TheVariants.{Source}
-use Rattle.surface_syntax.specs.declared.words.Word.TheVariants.{Lambda, Let, Letrec, If, Begin, And, Or, Repeat, Tuple}
-use Rattle.surface_syntax.specs.declared.words.Word.TheVariants.{TupleProj, Define, Colon, Arrow, ReadInt, Operator}
-use Rattle.surface_syntax.specs.declared.words.TypeWord.{TypeWord}
-use Rattle.surface_syntax.specs.Words.{operand_count, is_colon_word}
 use Rattle.surface_syntax.specs.Marked.{Sexpr, Sexprs, number, truth_value, word, name, list, end, ◌▹◌, how_many}
 use Rattle.surface_syntax.specs.Written.{Form, FormAt, CallForm, Forms, LambdaWritten, LambdaFrom, LetForms}
 use Rattle.surface_syntax.specs.Written.{LetrecForms}
-use Rattle.surface_syntax.specs.Walking.{Walked, Reads, Refuses, followed_by, give, test, some, is_among, is_colon}
+use Rattle.surface_syntax.specs.Walking.{Reads, followed_by, give, is_among, is_colon}
 use Rattle.surface_syntax.specs.Walking.{binder}
-use Rattle.surface_syntax.specs.Walk.{Bound, walk_param, walk_params, walk_param_list, walk, walk_list, walk_each}
+use Rattle.surface_syntax.specs.Walk.{walk_param, walk_params, walk_param_list, walk, walk_list, walk_each}
 use Rattle.surface_syntax.specs.Walk.{walk_within, walk_lambda, walk_binding, walk_lets, walk_member, walk_letrecs}
 use Rattle.surface_syntax.specs.Walk.{walk_range}
 use Rattle.surface_syntax.specs.Table.{IsName, is_name, IsParam, is_plain, is_typed, AreParams, no_params, param_then}

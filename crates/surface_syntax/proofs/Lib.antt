@@ -12,5 +12,13 @@ mod FormsRead
 mod TopsFound
 mod TopsRead
 mod ExprRows
+mod FormRows
+mod Shapes
 mod Loops
 mod Bridge
+mod TopRows
+mod TopBridge
+mod Joined
+mod Sound
+mod TopSound
+mod Answered

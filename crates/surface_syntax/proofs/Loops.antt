@@ -4,15 +4,15 @@ use Rattle.grift_base.specs.declared.places.Pos.{Pos}
 use Rattle.grift_base.specs.declared.refusals.RefusalKind.{RefusalKind}
 use Rattle.surface_syntax.specs.declared.names.Ident.TheVariants.{Source}
 use Rattle.surface_syntax.specs.declared.exprs.Expr.{Expr as RustExpr}
-use Rattle.surface_syntax.specs.declared.exprs.Binding.{Binding as RustBinding, out-Binding}
-use Rattle.surface_syntax.specs.declared.exprs.Member.{Member as RustMember, out-Member}
+use Rattle.surface_syntax.specs.declared.exprs.Binding.{Binding as RustBinding}
+use Rattle.surface_syntax.specs.declared.exprs.Member.{Member as RustMember}
 use Rattle.surface_syntax.specs.Marked.{Sexpr, Sexprs, end, ◌▹◌}
 use Rattle.surface_syntax.specs.Trees.{Exprs, NoExprs, ExprThen, LetBindings, NoLets, LetThen, LetrecMembers, NoLetrecs}
 use Rattle.surface_syntax.specs.Trees.{LetrecThen}
 use Rattle.surface_syntax.specs.Walking.{Walked, Reads, Refuses}
 use Rattle.surface_syntax.specs.Pass.{then_with, parse, parse_each, parse_binding, parse_lets, parse_member}
 use Rattle.surface_syntax.specs.Pass.{parse_letrecs}
-use Rattle.surface_syntax.specs.Views.{expr_of, lambda_of, written_of, source_of}
+use Rattle.surface_syntax.specs.Views.{expr_of, source_of}
 use Rattle.surface_syntax.specs.Parts.{exprs_before, lets_before, letrecs_before, name_of_binding, type_of_binding}
 use Rattle.surface_syntax.specs.Parts.{value_of_binding, bound_of, name_of_member, type_of_member, fun_of_member}
 use Rattle.surface_syntax.specs.Parts.{member_of}
@@ -34,6 +34,10 @@ pub exprs_push : (es : List RustExpr) (e : RustExpr) (rest : Exprs)
     → exprs_before (es ++ e ∷ []) rest ≡ exprs_before es (ExprThen (expr_of e) rest)
 exprs_push [] e rest = refl
 exprs_push (x ∷ es) e rest = ap (ExprThen (expr_of x)) (exprs_push es e rest)
+
+pub exprs_pop : (all es : List RustExpr) (e : RustExpr) (rest : Exprs) → all ≡ es ++ e ∷ []
+    → exprs_before es (ExprThen (expr_of e) rest) ≡ exprs_before all rest
+exprs_pop all es e rest same = sym (ap (λ es. exprs_before es rest) same ∙ exprs_push es e rest)
 
 abbrev pub behind_exprs : List RustExpr → Walked (Exprs × ℕ) → Walked (Exprs × ℕ)
 behind_exprs es w = with_list (exprs_before es) w
@@ -75,6 +79,11 @@ pub lets_push : (bs : List RustBinding) (b : RustBinding) (rest : LetBindings)
 lets_push [] b rest = refl
 lets_push (x ∷ bs) b rest =
     ap (LetThen (name_of_binding x) (type_of_binding x) (value_of_binding x)) (lets_push bs b rest)
+
+pub lets_pop : (all bs : List RustBinding) (b : RustBinding) (rest : LetBindings) → all ≡ bs ++ b ∷ []
+    → lets_before bs (LetThen (name_of_binding b) (type_of_binding b) (value_of_binding b) rest)
+    ≡ lets_before all rest
+lets_pop all bs b rest same = sym (ap (λ bs. lets_before bs rest) same ∙ lets_push bs b rest)
 
 abbrev pub behind_lets : List RustBinding → Walked (LetBindings × ℕ) → Walked (LetBindings × ℕ)
 behind_lets bs w = with_list (lets_before bs) w
@@ -126,6 +135,11 @@ pub letrecs_push : (bs : List RustMember) (b : RustMember) (rest : LetrecMembers
 letrecs_push [] b rest = refl
 letrecs_push (x ∷ bs) b rest =
     ap (LetrecThen (name_of_member x) (type_of_member x) (fun_of_member x)) (letrecs_push bs b rest)
+
+pub letrecs_pop : (all bs : List RustMember) (b : RustMember) (rest : LetrecMembers) → all ≡ bs ++ b ∷ []
+    → letrecs_before bs (LetrecThen (name_of_member b) (type_of_member b) (fun_of_member b) rest)
+    ≡ letrecs_before all rest
+letrecs_pop all bs b rest same = sym (ap (λ bs. letrecs_before bs rest) same ∙ letrecs_push bs b rest)
 
 abbrev pub behind_letrecs : List RustMember → Walked (LetrecMembers × ℕ) → Walked (LetrecMembers × ℕ)
 behind_letrecs bs w = with_list (letrecs_before bs) w

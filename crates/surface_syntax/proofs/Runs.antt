@@ -1,5 +1,5 @@
 -- Runs of functions that define no name twice.
-use Rattle.std.proofs.Common.{◌≡◌, ℕ, zero, suc, Bool, false, List, [], ◌∷◌, ◌++◌, drop, refl, sym, subst, append_assoc}
+use Rattle.std.proofs.Common.{◌≡◌, ℕ, zero, suc, false, List, [], ◌∷◌, ◌++◌, drop, refl, sym, subst, append_assoc}
 use Rattle.std.proofs.Common.{append-nil, arith}
 use Rattle.grift_base.specs.Tables.{HasNoRepeats}
 use Rattle.surface_syntax.specs.Written.{Top, ExprTop, ValueTop, FunctionTop}

@@ -1,5 +1,5 @@
 -- The rows of the walk over types, by what is known of their elements.
-use Rattle.std.proofs.Common.{◌≡◌, ◌≢◌, ◌-◌, ℕ, zero, suc, Bool, true, false, cond, List, [], Option, Some, None, refl}
+use Rattle.std.proofs.Common.{◌≡◌, ◌≢◌, ◌-◌, ℕ, zero, suc, true, false, cond, List, Some, None, refl}
 use Rattle.std.proofs.Common.{sym, ap, ◌∙◌, arith}
 use Rattle.grift_base.specs.declared.places.Pos.{Pos}
 use Rattle.grift_base.specs.declared.refusals.RefusalKind.{RefusalKind}
@@ -7,11 +7,8 @@ use Rattle.grift_base.specs.declared.refusals.RefusalKind.TheVariants.{BadForm, 
 use Rattle.surface_syntax.specs.declared.words.Word.{Word}
 use Rattle.surface_syntax.specs.declared.words.Word.TheVariants.{Lambda, Let, Letrec, If, Begin, And, Or, Repeat, Tuple}
 use Rattle.surface_syntax.specs.declared.words.Word.TheVariants.{TupleProj, Define, Colon, Arrow, ReadInt, Operator}
-use Rattle.surface_syntax.specs.declared.words.TypeWord.{TypeWord}
 use Rattle.surface_syntax.specs.declared.words.TypeWord.TheVariants.{Int, Bool as BoolWord, Unit as UnitWord, Dyn}
 use Rattle.surface_syntax.specs.declared.words.TypeWord.TheVariants.{Tuple as TupleWord, Ref, Vect, Rec}
-use Rattle.surface_syntax.specs.declared.type_forms.TypeHead.TheVariants.{Tuple as TupleHead, Ref as RefHead}
-use Rattle.surface_syntax.specs.declared.type_forms.TypeHead.TheVariants.{Vect as VectHead, Rec as RecHead, Other}
 use Rattle.sexpr_reader.specs.declared.sexps.SexpNode.{SexpNode}
 use Rattle.sexpr_reader.specs.declared.sexps.SexpNode.TheVariants.{Int as IntCase, Bool as BoolCase}
 use Rattle.sexpr_reader.specs.declared.sexps.SexpNode.TheVariants.{Symbol as SymbolCase, List as ListCase}
@@ -22,12 +19,12 @@ use Rattle.surface_syntax.specs.declared.type_forms.TypeHead.{TypeHead}
 use Rattle.surface_syntax.specs.declared.words.Mark.{Mark}
 use Rattle.surface_syntax.specs.declared.words.Mark.TheVariants.{Reserved, Free}
 use Rattle.surface_syntax.specs.Words.{is_colon_word, is_arrow_word, is_lambda_word, is_define_word, mark_of}
-use Rattle.surface_syntax.specs.Marked.{Sexpr, Sexprs, number, truth_value, word, name, list, end, ◌▹◌, place}
+use Rattle.surface_syntax.specs.Marked.{Sexpr, Sexprs, number, truth_value, word, name, list, ◌▹◌, place}
 use Rattle.surface_syntax.specs.Marked.{reserved_at, marked, all_marked, marked_symbol}
-use Rattle.surface_syntax.specs.Trees.{TypeExpr, TypeAt, FunType, TupleType, RefType, VectType, TypeThen, NoTypes}
-use Rattle.surface_syntax.specs.Walking.{Walked, Reads, Refuses, followed_by, give, test, some, colon, is_colon}
+use Rattle.surface_syntax.specs.Trees.{TypeThen, NoTypes}
+use Rattle.surface_syntax.specs.Walking.{Walked, Reads, Refuses, followed_by, test, colon, is_colon}
 use Rattle.surface_syntax.specs.Walking.{is_arrow_at, is_lambda_at, is_define_at, is_arrow, is_result}
-use Rattle.surface_syntax.specs.Walk.{Signature, walk_type, walk_only, walk_types, walk_signature}
+use Rattle.surface_syntax.specs.Walk.{walk_type, walk_only, walk_types, walk_signature}
 use Rattle.surface_syntax.specs.Parts.{type_head, headed_type}
 
 pub colon_at : (s : Sexpr) (w : Word) → reserved_at s ≡ Some w → is_colon s ≡ is_colon_word w

@@ -1,5 +1,5 @@
 -- What the walk reads as a form of a program is in the table.
-use Rattle.std.proofs.Common.{◌≡◌, ◌≤◌, ◌+◌, zero, suc, arith, ℕ, Bool, true, false, List, [], ◌∷◌, ◌++◌, refl, sym}
+use Rattle.std.proofs.Common.{◌≡◌, ◌≤◌, zero, suc, arith, ℕ, true, false, List, ◌∷◌, refl}
 use Rattle.std.proofs.Common.{subst}
 use Rattle.std.specs.Prelude.{Option, Some, None}
 use Rattle.grift_base.specs.declared.places.Pos.{Pos}
@@ -8,8 +8,8 @@ use Rattle.surface_syntax.specs.Trees.{TypeExpr}
 use Rattle.surface_syntax.specs.declared.words.Word.TheVariants.{Lambda, Let, Letrec, If, Begin, And, Or, Repeat, Tuple}
 use Rattle.surface_syntax.specs.declared.words.Word.TheVariants.{TupleProj, Define, Colon, Arrow, ReadInt, Operator}
 use Rattle.surface_syntax.specs.Marked.{Sexpr, Sexprs, number, truth_value, word, name, list, end, ◌▹◌, place, how_many}
-use Rattle.surface_syntax.specs.Written.{LambdaWritten, Form, Top, ExprTop, ValueTop, FunctionTop}
-use Rattle.surface_syntax.specs.Walking.{Walked, Reads, Refuses, is_colon, is_among}
+use Rattle.surface_syntax.specs.Written.{Top, ExprTop, ValueTop, FunctionTop}
+use Rattle.surface_syntax.specs.Walking.{Reads, is_colon, is_among}
 use Rattle.surface_syntax.specs.TopWalk.{walk_bound, run_for, run_after, walk_top, walk_tops, walk_define}
 use Rattle.surface_syntax.specs.Table.{IsName, IsType}
 use Rattle.surface_syntax.specs.TopTable.{AreTops, no_tops, top_then, IsTop, function_row, define_row, typed_define_row}

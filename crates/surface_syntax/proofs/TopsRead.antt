@@ -1,23 +1,23 @@
 -- The walk reads each form of a program.
-use Rattle.std.proofs.Common.{◌≡◌, ◌≤◌, zero, suc, sym, subst, ℕ, Bool, true, false, List, [], ◌∷◌, refl, ap, ◌∙◌}
+use Rattle.std.proofs.Common.{◌≡◌, ◌≤◌, zero, suc, ℕ, Bool, true, false, List, [], ◌∷◌, refl, ap, ◌∙◌}
 use Rattle.std.proofs.Common.{arith}
 use Rattle.std.specs.Prelude.{Option, Some, None}
 use Rattle.grift_base.specs.declared.places.Pos.{Pos}
 use Rattle.surface_syntax.specs.Trees.{TypeExpr}
-use Rattle.surface_syntax.specs.declared.words.Word.TheVariants.{Lambda, Let, Letrec, If, Begin, And, Or, Repeat, Tuple}
-use Rattle.surface_syntax.specs.declared.words.Word.TheVariants.{TupleProj, Define, Colon, Arrow, ReadInt, Operator}
+use Rattle.surface_syntax.specs.declared.words.Word.TheVariants.{Lambda}
+use Rattle.surface_syntax.specs.declared.words.Word.TheVariants.{Define, Colon}
 use Rattle.surface_syntax.specs.Marked.{Sexpr, Sexprs, number, truth_value, word, name, list, end, ◌▹◌, place, how_many}
 use Rattle.surface_syntax.specs.Written.{LambdaWritten, Form, Top, ExprTop, ValueTop, FunctionTop}
-use Rattle.surface_syntax.specs.Walking.{Walked, Reads, Refuses, followed_by, give, is_among, binder, colon}
+use Rattle.surface_syntax.specs.Walking.{Reads, followed_by, give, is_among, binder, colon}
 use Rattle.surface_syntax.specs.Walk.{walk, walk_type, walk_lambda}
-use Rattle.surface_syntax.specs.TopWalk.{walk_bound, run_for, run_after, walk_top, walk_tops, walk_define, has_body}
+use Rattle.surface_syntax.specs.TopWalk.{walk_bound, run_for, run_after, walk_top, walk_tops, has_body}
 use Rattle.surface_syntax.specs.TopTable.{IsTop, function_row, define_row, typed_define_row, expression_row, AreTops}
 use Rattle.surface_syntax.specs.TopTable.{no_tops, top_then, IsBound, function_bound, value_bound, is_lambda_form}
 use Rattle.surface_syntax.proofs.Runs.{RunsAreNew}
 use Rattle.surface_syntax.proofs.Binds.{bind_reads, refused, test_reads}
 use Rattle.surface_syntax.proofs.FormsRead.{form_read, lambda_read, name_read}
 use Rattle.surface_syntax.proofs.TypesRead.{type_read}
-use Rattle.surface_syntax.specs.Table.{IsLambda, typed_lambda, plain_lambda, AreForms, form_then, IsName, is_name}
+use Rattle.surface_syntax.specs.Table.{IsLambda, typed_lambda, plain_lambda, form_then, IsName, is_name}
 use Rattle.grift_base.specs.declared.refusals.RefusalKind.TheVariants.{BadForm}
 
 value_step : (p : Pos) (x : List ℕ) (t : Option TypeExpr) (e : Sexpr) → is_lambda_form e ≡ false

@@ -1,16 +1,15 @@
 -- What the walk reads as a type is in the table.
-use Rattle.std.proofs.Common.{◌≡◌, ◌≤◌, ℕ, zero, suc, ◌+◌, Bool, true, false, List, Option, Some, None, refl, sym, ap}
-use Rattle.std.proofs.Common.{◌∙◌, subst, arith}
+use Rattle.std.proofs.Common.{◌≡◌, ◌≤◌, ℕ, zero, suc, true, List, Some, refl}
+use Rattle.std.proofs.Common.{subst, arith}
 use Rattle.grift_base.specs.declared.places.Pos.{Pos}
 use Rattle.grift_base.specs.declared.refusals.RefusalKind.TheVariants.{BadForm}
-use Rattle.surface_syntax.specs.Trees.{TypeExpr, TypeAt, FunType, TupleType, RefType, VectType, TypeExprs, TypeThen}
+use Rattle.surface_syntax.specs.Trees.{TypeExpr, TypeAt, TupleType, RefType, VectType, TypeExprs}
 use Rattle.surface_syntax.specs.Trees.{NoTypes}
-use Rattle.surface_syntax.specs.declared.words.Word.TheVariants.{Lambda, Let, Letrec, If, Begin, And, Or, Repeat, Tuple}
-use Rattle.surface_syntax.specs.declared.words.Word.TheVariants.{TupleProj, Define, Colon, Arrow, ReadInt, Operator}
+use Rattle.surface_syntax.specs.declared.words.Word.TheVariants.{Arrow}
 use Rattle.surface_syntax.specs.declared.words.TypeWord.TheVariants.{Int, Bool as BoolWord, Unit as UnitWord, Dyn}
 use Rattle.surface_syntax.specs.declared.words.TypeWord.TheVariants.{Tuple as TupleWord, Ref, Vect, Rec}
-use Rattle.surface_syntax.specs.Marked.{Sexpr, Sexprs, number, truth_value, word, name, list, end, ◌▹◌, how_many}
-use Rattle.surface_syntax.specs.Walking.{Walked, Reads, Refuses, followed_by, give, test, is_arrow, is_some}
+use Rattle.surface_syntax.specs.Marked.{Sexpr, Sexprs, word, name, list, end, ◌▹◌, how_many}
+use Rattle.surface_syntax.specs.Walking.{Reads, is_some}
 use Rattle.surface_syntax.specs.Walk.{Signature, walk_type, walk_only, walk_types, walk_signature}
 use Rattle.surface_syntax.specs.Table.{IsType, is_int, is_bool, is_unit, is_dyn, is_empty, is_tuple, is_ref, is_vect}
 use Rattle.surface_syntax.specs.Table.{is_function, AreTypes, no_types, type_then, AreArrow, arrow_to, from_then}

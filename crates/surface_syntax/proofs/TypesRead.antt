@@ -1,16 +1,14 @@
 -- The walk reads each type of the table.
-use Rattle.std.proofs.Common.{◌≡◌, ◌≤◌, ℕ, zero, suc, ◌+◌, Bool, true, false, refl, sym, ap, ◌∙◌, arith}
+use Rattle.std.proofs.Common.{◌≡◌, ◌≤◌, ℕ, zero, suc, true, false, refl, ap, ◌∙◌, arith}
 use Rattle.grift_base.specs.declared.places.Pos.{Pos}
 use Rattle.grift_base.specs.declared.refusals.RefusalKind.TheVariants.{BadForm}
 use Rattle.surface_syntax.specs.Trees.{TypeExpr, TypeAt, FunType, TypeExprs, TypeThen, NoTypes}
-use Rattle.surface_syntax.specs.declared.words.Word.TheVariants.{Lambda, Let, Letrec, If, Begin, And, Or, Repeat, Tuple}
-use Rattle.surface_syntax.specs.declared.words.Word.TheVariants.{TupleProj, Define, Colon, Arrow, ReadInt, Operator}
-use Rattle.surface_syntax.specs.declared.words.TypeWord.TheVariants.{Int, Bool as BoolWord, Unit as UnitWord, Dyn}
+use Rattle.surface_syntax.specs.declared.words.Word.TheVariants.{Arrow}
 use Rattle.surface_syntax.specs.declared.words.TypeWord.TheVariants.{Tuple as TupleWord, Ref, Vect, Rec}
 use Rattle.surface_syntax.specs.Marked.{Sexpr, Sexprs, number, truth_value, word, name, list, end, ◌▹◌, how_many}
-use Rattle.surface_syntax.specs.Walking.{Walked, Reads, Refuses, followed_by, give, test, is_arrow, is_arrow_at}
+use Rattle.surface_syntax.specs.Walking.{Walked, Reads, followed_by, give, test, is_arrow, is_arrow_at}
 use Rattle.surface_syntax.specs.Walking.{is_result}
-use Rattle.surface_syntax.specs.Walk.{Signature, walk_type, walk_only, walk_types, walk_signature}
+use Rattle.surface_syntax.specs.Walk.{Signature, walk_type, walk_types, walk_signature}
 use Rattle.surface_syntax.specs.Table.{IsType, is_int, is_bool, is_unit, is_dyn, is_empty, is_tuple, is_ref, is_vect}
 use Rattle.surface_syntax.specs.Table.{is_function, AreTypes, no_types, type_then, AreArrow, arrow_to, from_then}
 use Rattle.std.specs.Prelude.{not, cond, Some}

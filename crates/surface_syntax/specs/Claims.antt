@@ -1,5 +1,5 @@
 -- What the definitions say of one another, and what the calls answer.
-use Rattle.std.specs.Prelude.{◌≡◌, ℕ, List, Result, Ok, Err}
+use Rattle.std.specs.Prelude.{◌≡◌, ℕ, Result, Ok, Err}
 use Rattle.grift_base.specs.declared.refusals.FrontFault.{FrontFault}
 use Rattle.grift_base.specs.declared.refusals.FrontFault.TheVariants.{Refused, OutOfMemory}
 use Rattle.surface_syntax.specs.Walking.{Walked, Reads, Refuses}

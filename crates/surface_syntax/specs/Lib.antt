@@ -13,3 +13,7 @@ pub mod Views
 pub mod Claims
 pub mod Parts
 pub mod Laws
+pub mod TopParts
+pub mod Programs
+pub mod Depth
+pub mod Freshness

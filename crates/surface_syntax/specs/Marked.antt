@@ -1,7 +1,7 @@
 -- S-expressions whose symbols are told apart, so that forms are known by pattern.
 use Rattle.std.specs.Prelude.{ℕ, suc, ℤ, Bool, List, Option, Some, None}
 use Rattle.grift_base.specs.declared.places.Pos.{Pos}
-use Rattle.sexpr_reader.specs.Datum.{Datum, Datums, Leaf, integer, truth, symbol, leaf_datum, list_datum, no_datums}
+use Rattle.sexpr_reader.specs.Datum.{Datum, Datums, integer, truth, symbol, leaf_datum, list_datum, no_datums}
 use Rattle.sexpr_reader.specs.Datum.{datum_then}
 use Rattle.surface_syntax.specs.declared.words.Word.{Word}
 use Rattle.surface_syntax.specs.declared.words.TypeWord.{TypeWord}

@@ -1,6 +1,6 @@
 -- The reader's own types as plain data, for the contracts of its private functions.
 use Rattle.surface_syntax.specs.declared.type_forms.Signature.{Signature as RustSignature}
-use Rattle.std.specs.Prelude.{ℕ, List, [], ◌∷◌, Option, Some, None}
+use Rattle.std.specs.Prelude.{ℕ, ℤ, pos, Bool, List, [], ◌∷◌, Option, Some, None}
 use Rattle.grift_base.specs.declared.places.Pos.{Pos}
 use Rattle.grift_base.specs.declared.refusals.RefusalKind.TheVariants.{BadForm}
 use Rattle.surface_syntax.specs.declared.type_forms.TypeHead.{TypeHead}
@@ -13,12 +13,16 @@ use Rattle.surface_syntax.specs.declared.exprs.Expr.{Expr as RustExpr}
 use Rattle.surface_syntax.specs.declared.exprs.Binding.{Binding as RustBinding, out-Binding}
 use Rattle.surface_syntax.specs.declared.exprs.Member.{Member as RustMember, out-Member}
 use Rattle.surface_syntax.specs.declared.names.Ident.{Ident}
-use Rattle.surface_syntax.specs.Marked.{Sexpr, Sexprs, name, end, ◌▹◌}
+use Rattle.surface_syntax.specs.declared.words.Word.TheVariants.{Colon}
+use Rattle.surface_syntax.specs.Marked.{Sexpr, Sexprs, number, word, name, end, ◌▹◌, place}
 use Rattle.surface_syntax.specs.Trees.{TypeExpr, TypeAt, FunType, TupleType, RefType, VectType, Expr, ExprAt, CallNode}
-use Rattle.surface_syntax.specs.Trees.{LambdaExpr, Exprs, ExprThen, LetBindings, LetThen, LetrecMembers, LetrecThen}
-use Rattle.surface_syntax.specs.Walk.{Signature, Bound, walk_only, walk_types, walk_signature}
-use Rattle.surface_syntax.specs.Walking.{Walked, Reads, Refuses, followed_by, test, some, is_arrow}
-use Rattle.surface_syntax.specs.Pass.{Parsing, ParsedRange, ◌>>=◌, give, refuse, parse, parse_within}
+use Rattle.surface_syntax.specs.Trees.{LambdaExpr, LambdaAt, Exprs, ExprThen, LetBindings, LetThen, LetrecMembers}
+use Rattle.surface_syntax.specs.Trees.{LetrecThen, Param}
+use Rattle.surface_syntax.specs.Walk.{Signature, Bound, walk_type, walk_only, walk_types, walk_signature}
+use Rattle.surface_syntax.specs.Expansion.{chain_of}
+use Rattle.surface_syntax.specs.Walking.{Walked, Reads, Refuses, followed_by, test, some, is_arrow, binder, colon}
+use Rattle.surface_syntax.specs.Pass.{Parsing, ParsedRange, ◌>>=◌, give, refuse, plain, parse, parse_each}
+use Rattle.surface_syntax.specs.Pass.{parse_within}
 use Rattle.surface_syntax.specs.Views.{type_of, types_of, written_of, source_of, expr_of, lambda_of}
 
 abbrev pub signature_of : RustSignature → Signature
@@ -57,6 +61,35 @@ parse_call p (f ▹ arguments) = do
   function ← parse f
   exprs ← parse_within 6 arguments
   give (ExprAt p (CallNode function exprs))
+
+-- an `and`, where all operands are to hold, or an `or`
+abbrev pub parse_chain : Bool → Pos → Sexprs → Parsing Expr
+parse_chain all p operands = do
+  exprs ← parse_within 8 operands
+  give (chain_of all p exprs)
+
+-- the number of a tuple's part
+abbrev pub part_number : Sexpr → Walked ℤ
+part_number (number r (pos k)) = Reads (pos k)
+part_number s = Refuses BadForm (place s)
+
+-- a name that is bound, `:` and a type
+abbrev pub typed_name : List (List ℕ) → Sexpr → Sexpr → Sexpr → Walked (List ℕ × TypeExpr)
+typed_name seen x c t =
+    followed_by (binder seen x) (λ bytes. followed_by (colon c) (λ done. followed_by (walk_type t) (λ type.
+    Reads (bytes, type))))
+
+-- a lambda with these parameters, from what stands behind them
+abbrev pub parse_behind : Pos → List Param → Sexprs → Parsing LambdaExpr
+parse_behind p params (word c Colon ▹ t ▹ body) = do
+  result ← plain (walk_type t)
+  exprs ← parse_each body
+  give (LambdaAt p params (Some result) exprs)
+parse_behind p params (word c Colon ▹ end) = refuse BadForm p
+parse_behind p params (e ▹ rest) = do
+  exprs ← parse_each (e ▹ rest)
+  give (LambdaAt p params None exprs)
+parse_behind p params end = refuse BadForm p
 
 abbrev pub range_of : RustRange → ParsedRange
 range_of r = record { counter = r.counter; first = expr_of r.first; bound = expr_of r.bound }

@@ -5,8 +5,8 @@ use Rattle.grift_base.specs.declared.refusals.RefusalKind.TheVariants.{BadForm, 
 use Rattle.surface_syntax.specs.declared.words.Word.TheVariants.{Lambda, Define, Colon}
 use Rattle.surface_syntax.specs.Trees.{TypeExpr}
 use Rattle.surface_syntax.specs.Marked.{Sexpr, Sexprs, word, list, end, ◌▹◌, place}
-use Rattle.surface_syntax.specs.Written.{Form, Top, ExprTop, ValueTop, FunctionTop}
-use Rattle.surface_syntax.specs.Walking.{Walked, Reads, Refuses, ◌>>=◌, ◌>>◌, give, refuse, test, some, colon, binder}
+use Rattle.surface_syntax.specs.Written.{Top, ExprTop, ValueTop, FunctionTop}
+use Rattle.surface_syntax.specs.Walking.{Walked, ◌>>=◌, ◌>>◌, give, refuse, test, colon, binder}
 use Rattle.surface_syntax.specs.Walk.{walk, walk_type, walk_lambda}
 
 -- whether there is a body behind the parameters

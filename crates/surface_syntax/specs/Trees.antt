@@ -1,5 +1,5 @@
 -- Types, expressions and programs, each part with its place. Derived forms are expanded.
-use Rattle.std.specs.Prelude.{ℕ, suc, ℤ, Bool, List, Option}
+use Rattle.std.specs.Prelude.{ℤ, Bool, List, Option}
 use Rattle.grift_base.specs.declared.places.Pos.{Pos}
 use Rattle.grift_base.specs.declared.operators.PrimOp.{PrimOp}
 use Rattle.grift_base.specs.Types.{TypeRow}

@@ -1,6 +1,5 @@
 -- The crate's types as plain data: what their boxes hold, and not where.
-use Rattle.std.specs.Prelude.{ℕ, List, [], ◌∷◌, map, Option, Some, None, option_map}
-use Rattle.grift_base.specs.declared.places.Pos.{Pos}
+use Rattle.std.specs.Prelude.{ℕ, List, [], map, Option, Some, None}
 use Rattle.type_graph.specs.Rows.{row_of}
 use Rattle.surface_syntax.specs.declared.names.Ident.{Ident}
 use Rattle.surface_syntax.specs.declared.names.Ident.TheVariants.{Source, Fresh}

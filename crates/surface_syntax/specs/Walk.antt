@@ -1,11 +1,9 @@
 -- The walk over the forms, from left to right. One clause a row; the lines of a clause are done in order.
-use Rattle.std.specs.Prelude.{ℕ, zero, suc, ℤ, pos, Bool, true, false, nat_eq, List, [], ◌∷◌, ◌++◌, Option, Some, None}
+use Rattle.std.specs.Prelude.{ℕ, zero, suc, pos, nat_eq, List, [], ◌∷◌, ◌++◌, Option, Some, None}
 use Rattle.grift_base.specs.declared.places.Pos.{Pos}
 use Rattle.grift_base.specs.declared.refusals.RefusalKind.TheVariants.{BadForm, TooWide}
-use Rattle.grift_base.specs.declared.operators.PrimOp.{PrimOp}
 use Rattle.grift_base.specs.Types.{IntRow, BoolRow, UnitRow, DynRow}
 use Rattle.surface_syntax.specs.declared.names.Ident.TheVariants.{Source}
-use Rattle.surface_syntax.specs.declared.words.Word.{Word}
 use Rattle.surface_syntax.specs.declared.words.Word.TheVariants.{Lambda, Let, Letrec, If, Begin, And, Or, Repeat, Tuple}
 use Rattle.surface_syntax.specs.declared.words.Word.TheVariants.{TupleProj, Colon, Arrow, Operator}
 use Rattle.surface_syntax.specs.declared.words.TypeWord.TheVariants.{Int, Bool as BoolWord, Unit as UnitWord, Dyn}
@@ -19,7 +17,7 @@ use Rattle.surface_syntax.specs.Written.{LetForm, LetrecForm, IfForm, BeginForm,
 use Rattle.surface_syntax.specs.Written.{RepeatForm, RepeatIntoForm, TupleForm, ProjForm, PrimForm, LambdaWritten}
 use Rattle.surface_syntax.specs.Written.{LambdaFrom, Forms, NoForms, FormThen, LetForms, NoLetForms, LetFormThen}
 use Rattle.surface_syntax.specs.Written.{LetrecForms, NoLetrecForms, LetrecFormThen}
-use Rattle.surface_syntax.specs.Walking.{Walked, Reads, Refuses, ◌>>=◌, ◌>>◌, give, refuse, test, some, colon, binder}
+use Rattle.surface_syntax.specs.Walking.{Walked, ◌>>=◌, ◌>>◌, give, refuse, test, some, colon, binder}
 use Rattle.surface_syntax.specs.Walking.{is_arrow}
 
 -- ---- types

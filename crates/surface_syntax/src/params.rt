@@ -5,14 +5,16 @@ ghost use Rattle.std.specs.Prelude.{◌≡◌, ◌++◌, ◌∷◌, [], IfOk};
 ghost use Rattle.sexpr_reader.specs.View.{datum_of, datums_of};
 ghost use Rattle.surface_syntax.specs.Marked.{marked, all_marked, list as list_at};
 ghost use Rattle.surface_syntax.specs.Walk.{plain_param, walk_param, walk_params, walk_param_list};
-ghost use Rattle.surface_syntax.specs.Views.{source_of, named_param_of, params_of};
+ghost use Rattle.surface_syntax.specs.Views.{type_of, source_of, named_param_of, params_of};
+ghost use Rattle.surface_syntax.specs.Parts.{typed_name};
 ghost use Rattle.surface_syntax.specs.Claims.{Answers};
 
 use crate::lists::{bad_form, binder, colon, refused};
 use crate::names::Ident;
 use crate::scopes::Scope;
 use crate::type_forms::type_expr;
-use crate::types::{Param, Params};
+use crate::types::{Param, Params, TypeExpr};
+use grift_base::lists::Name;
 use grift_base::places::Pos;
 use grift_base::refusals::{FrontFault, RefusalKind};
 use sexpr_reader::sexps::{Sexp, SexpList, SexpNode};
@@ -32,6 +34,31 @@ fn plain_param(alloc: Global, scope: &mut Scope, sexp: &Sexp) -> Result<Param, F
         name: Ident::Source(name),
         ty: None,
     })
+}
+
+/// A name with its written type.
+#[derive(Drop)]
+pub struct TypedName {
+    pub name: Name,
+    pub ty: TypeExpr,
+}
+
+/// A name that a scope binds, the `:` behind it and its type.
+pub fn typed_name(
+    alloc: Global,
+    scope: &mut Scope,
+    name: &Sexp,
+    sign: &Sexp,
+    written: &Sexp,
+) -> Result<TypedName, FrontFault>
+    ensures name { Answers result (λ t. (t.name, type_of t.ty)) (typed_name scope.old (marked (datum_of name.now))
+        (marked (datum_of sign.now)) (marked (datum_of written.now))) }
+    ensures bound { IfOk result (λ t. scope.new ≡ scope.old ++ t.name ∷ []) }
+{
+    let name = binder(alloc, scope, name)?;
+    colon(sign)?;
+    let ty = type_expr(alloc, written)?;
+    Ok(TypedName { name, ty })
 }
 
 // A parameter between brackets: a name, `:` and a type.
@@ -80,8 +107,8 @@ fn param(alloc: Global, scope: &mut Scope, sexp: &Sexp) -> Result<Param, FrontFa
     }
 }
 
-// At most six parameters, no name twice.
-fn params(alloc: Global, elements: &SexpList) -> Result<Params, FrontFault>
+/// At most six parameters, no name twice.
+pub fn params(alloc: Global, elements: &SexpList) -> Result<Params, FrontFault>
     ensures { Answers result params_of (walk_params 6 [] (all_marked (datums_of elements.now))) }
 {
     let mut scope = Scope::new(alloc);

@@ -1,6 +1,6 @@
-use Rattle.std.proofs.Common.{◌≡◌, ap, sym, ◌∙◌, subst}
-use Rattle.sexpr_reader.specs.View.{datum_of, datums_of}
-use Rattle.surface_syntax.specs.Marked.{marked, all_marked, list}
+use Rattle.std.proofs.Common.{ap, sym, ◌∙◌, subst}
+use Rattle.sexpr_reader.specs.View.{datum_of}
+use Rattle.surface_syntax.specs.Marked.{marked}
 use Rattle.surface_syntax.specs.Trees.{TypeAt, TypeExpr}
 use Rattle.surface_syntax.specs.Walking.{Walked}
 use Rattle.surface_syntax.specs.Walk.{walk_type}

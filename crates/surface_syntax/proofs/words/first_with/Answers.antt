@@ -1,4 +1,4 @@
-use Rattle.std.proofs.Common.{◌≡◌, ◌≤◌, Bool, List, ℕ, true, false, length, sym, ◌∙◌, ap, arith}
+use Rattle.std.proofs.Common.{◌≡◌, ◌≤◌, Bool, List, ℕ, length, sym, ◌∙◌, ap, arith}
 use Rattle.std.specs.Prelude.{bytes_eq}
 use Rattle.surface_syntax.proofs.TextTables.{first_found, first_behind, none_left}
 use Rattle.surface_syntax.proofs.words.first_with.Goals as goal

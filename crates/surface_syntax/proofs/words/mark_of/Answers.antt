@@ -1,5 +1,4 @@
-use Rattle.std.proofs.Common.{ap, ap₂, sym, ◌∙◌, refl}
-use Rattle.surface_syntax.specs.declared.words.Mark.TheVariants.{Free}
+use Rattle.std.proofs.Common.{ap, ap₂}
 use Rattle.surface_syntax.specs.Words.{mark_of, marked_as, first_with, type_word_text}
 use Rattle.surface_syntax.specs.declared.words.TheConstants.{TYPE_WORDS}
 use Rattle.surface_syntax.proofs.words.mark_of.Goals as goal

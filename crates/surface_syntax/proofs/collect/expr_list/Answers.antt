@@ -1,0 +1,8 @@
+use Rattle.std.proofs.Common.{◌∙◌}
+use Rattle.surface_syntax.proofs.Loops.{exprs_pop}
+use Rattle.surface_syntax.proofs.collect.expr_list.Goals as goal
+
+pub loop-last-preserved : goal.loop-last-preserved
+loop-last-preserved c =
+    rw (c.in_ok-boxed.ensures, c.in_ok-boxed-2.ensures)
+    (exprs_pop _ _ c.in-Some.last _ c.in-Some.ensures.items ∙ c.loop-last.invariant)

@@ -1,0 +1,52 @@
+// Lists that are gathered in vectors, since these grow at their ends.
+
+ghost use Rattle.std.specs.Prelude.{◌≡◌, ◌++◌, ◌∷◌, [], IfOk};
+ghost use Rattle.surface_syntax.specs.Trees.{NoExprs, NoLets, NoLetrecs};
+ghost use Rattle.surface_syntax.specs.Views.{exprs_of, lets_of, letrecs_of};
+ghost use Rattle.surface_syntax.specs.Parts.{exprs_before, lets_before, letrecs_before};
+
+use crate::exprs::{Binding, Bindings, Expr, ExprList, Member, Members};
+use crate::lists::boxed;
+use grift_base::lists::OutOfMemory;
+use std::alloc::Global;
+
+/// Adds one at the end.
+pub fn push<T: Drop>(gathered: &mut Vec<T>, last: T) -> Result<(), OutOfMemory>
+    ensures { IfOk result (λ done. gathered.new.items ≡ gathered.old.items ++ last ∷ []) }
+{
+    gathered.push(last)?;
+    Ok(())
+}
+
+/// These expressions as a list.
+pub fn expr_list(alloc: Global, mut gathered: Vec<Expr>) -> Result<ExprList, OutOfMemory>
+    ensures { IfOk result (λ list. exprs_of list ≡ exprs_before gathered.items NoExprs) }
+{
+    let mut list = ExprList::Nil;
+    while let Some(last) = gathered.pop() {
+        list = ExprList::Cons(boxed(alloc, last)?, boxed(alloc, list)?);
+    }
+    Ok(list)
+}
+
+/// These bindings as a list.
+pub fn binding_list(alloc: Global, mut gathered: Vec<Binding>) -> Result<Bindings, OutOfMemory>
+    ensures { IfOk result (λ list. lets_of list ≡ lets_before gathered.items NoLets) }
+{
+    let mut list = Bindings::Nil;
+    while let Some(last) = gathered.pop() {
+        list = Bindings::Cons(boxed(alloc, last)?, boxed(alloc, list)?);
+    }
+    Ok(list)
+}
+
+/// These members as a list.
+pub fn member_list(alloc: Global, mut gathered: Vec<Member>) -> Result<Members, OutOfMemory>
+    ensures { IfOk result (λ list. letrecs_of list ≡ letrecs_before gathered.items NoLetrecs) }
+{
+    let mut list = Members::Nil;
+    while let Some(last) = gathered.pop() {
+        list = Members::Cons(boxed(alloc, last)?, boxed(alloc, list)?);
+    }
+    Ok(list)
+}

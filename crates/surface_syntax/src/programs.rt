@@ -1,0 +1,147 @@
+// Programs: their forms put together.
+
+ghost use Rattle.std.specs.Prelude.{◌≡◌, map, IfOk};
+ghost use Rattle.surface_syntax.specs.Trees.{ExprAt, UnitNode};
+ghost use Rattle.surface_syntax.specs.Expansion.{Alone, closed, with_function, before, ending, whole};
+ghost use Rattle.surface_syntax.specs.Views.{expr_of};
+ghost use Rattle.surface_syntax.specs.Parts.{name_of_member, type_of_member, fun_of_member};
+ghost use Rattle.surface_syntax.specs.TopParts.{part_of, rest_of};
+
+use crate::derived::{one, two};
+use crate::exprs::{Binding, Bindings, Expr, ExprNode, Member, Members};
+use crate::lists::boxed;
+use crate::names::Ident;
+use crate::tops::Part;
+use grift_base::lists::OutOfMemory;
+use grift_base::places::Pos;
+use std::alloc::Global;
+
+/// The rest of a program.
+#[derive(Drop)]
+pub enum Rest {
+    /// An expression.
+    Alone(Expr),
+    /// A run of functions from this place on, and what follows them.
+    Run(Pos, Members, Expr),
+}
+
+// The expression that a rest is.
+fn closed(alloc: Global, rest: Rest) -> Result<Expr, OutOfMemory>
+    ensures { IfOk result (λ e. expr_of e ≡ closed (rest_of rest)) }
+{
+    match rest {
+        Rest::Alone(expr) => Ok(expr),
+        Rest::Run(pos, members, body) => Ok(Expr {
+            pos,
+            node: ExprNode::Letrec(members, one(alloc, body)?),
+        }),
+    }
+}
+
+// A function defined before the rest.
+fn with_function(alloc: Global, pos: Pos, member: Member, rest: Rest) -> Result<Rest, OutOfMemory>
+    ensures { IfOk result (λ r. rest_of r ≡ with_function pos (name_of_member member) (type_of_member member)
+        (fun_of_member member) (rest_of rest)) }
+{
+    let member = boxed(alloc, member)?;
+    match rest {
+        Rest::Alone(body) => {
+            let members = Members::Cons(member, boxed(alloc, Members::Nil)?);
+            Ok(Rest::Run(pos, members, body))
+        }
+        Rest::Run(_, members, body) => {
+            let members = Members::Cons(member, boxed(alloc, members)?);
+            Ok(Rest::Run(pos, members, body))
+        }
+    }
+}
+
+// A form before the rest.
+fn before(alloc: Global, part: Part, rest: Rest) -> Result<Rest, OutOfMemory>
+    ensures { IfOk result (λ r. rest_of r ≡ before (part_of part) (rest_of rest)) }
+{
+    match part {
+        Part::Expr { pos, expr } => {
+            let rest = closed(alloc, rest)?;
+            let both = two(alloc, expr, rest)?;
+            Ok(Rest::Alone(Expr {
+                pos,
+                node: ExprNode::Begin(both),
+            }))
+        }
+        Part::Value {
+            pos,
+            name,
+            ty,
+            value,
+        } => {
+            let name = Ident::Source(name);
+            let binding = boxed(alloc, Binding { name, ty, value })?;
+            let bindings = Bindings::Cons(binding, boxed(alloc, Bindings::Nil)?);
+            let rest = closed(alloc, rest)?;
+            let body = one(alloc, rest)?;
+            Ok(Rest::Alone(Expr {
+                pos,
+                node: ExprNode::Let(bindings, body),
+            }))
+        }
+        Part::Function { pos, name, ty, fun } => {
+            let name = Ident::Source(name);
+            with_function(alloc, pos, Member { name, ty, fun }, rest)
+        }
+    }
+}
+
+// The value `()` at this place.
+fn unit_at(pos: Pos) -> Rest
+    ensures { rest_of result ≡ Alone (ExprAt pos UnitNode) }
+{
+    Rest::Alone(Expr {
+        pos,
+        node: ExprNode::Unit,
+    })
+}
+
+// The last form. Behind a definition comes `()`, at the place of the definition.
+fn ending(alloc: Global, part: Part) -> Result<Rest, OutOfMemory>
+    ensures { IfOk result (λ r. rest_of r ≡ ending (part_of part)) }
+{
+    match part {
+        Part::Expr { expr, .. } => Ok(Rest::Alone(expr)),
+        Part::Value {
+            pos,
+            name,
+            ty,
+            value,
+        } => {
+            let definition = Part::Value {
+                pos,
+                name,
+                ty,
+                value,
+            };
+            before(alloc, definition, unit_at(pos))
+        }
+        Part::Function { pos, name, ty, fun } => {
+            let definition = Part::Function { pos, name, ty, fun };
+            before(alloc, definition, unit_at(pos))
+        }
+    }
+}
+
+/// The expression of a program with these forms; one without a form is `()`.
+pub fn whole(alloc: Global, mut parts: Vec<Part>) -> Result<Expr, OutOfMemory>
+    ensures { IfOk result (λ e. expr_of e ≡ whole (map part_of parts.items)) }
+{
+    let Some(last) = parts.pop() else {
+        return Ok(Expr {
+            pos: Pos { line: 1, col: 1 },
+            node: ExprNode::Unit,
+        });
+    };
+    let mut rest = ending(alloc, last)?;
+    while let Some(part) = parts.pop() {
+        rest = before(alloc, part, rest)?;
+    }
+    closed(alloc, rest)
+}

@@ -1,0 +1,76 @@
+// Loops with fresh names of their own. `names` counts the fresh names so far.
+
+ghost use Rattle.std.specs.Prelude.{◌≡◌, ◌+◌, ◌∷◌, [], IfOk};
+ghost use Rattle.surface_syntax.specs.declared.names.Ident.TheVariants.{Fresh};
+ghost use Rattle.surface_syntax.specs.Expansion.{loop_names, repeat_of, repeat_into_of, type_or_dyn};
+ghost use Rattle.surface_syntax.specs.Views.{expr_of, source_of};
+ghost use Rattle.surface_syntax.specs.Parts.{name_of_binding, type_of_binding, value_of_binding};
+
+use crate::derived::{LoopNames, Range, counted_loop, gathering_loop};
+use crate::exprs::{Binding, Expr};
+use grift_base::lists::OutOfMemory;
+use grift_base::places::Pos;
+use std::alloc::Global;
+
+/// The next fresh name. Where 4,294,967,295 are in use there is none: no memory holds that many loops.
+fn fresh(names: &mut u32) -> Result<u32, OutOfMemory>
+    ensures number { IfOk result (λ number. number ≡ names.old) }
+    ensures next { IfOk result (λ number. names.new ≡ names.old + 1) }
+{
+    let number = *names;
+    if number == u32::MAX {
+        return Err(OutOfMemory);
+    }
+    *names = number + 1;
+    Ok(number)
+}
+
+// The next three fresh names, as those of a loop.
+fn loop_names(names: &mut u32) -> Result<LoopNames, OutOfMemory>
+    ensures { IfOk result (λ numbers. loop_names names.old ≡ (numbers, names.new)) }
+{
+    let start = fresh(names)?;
+    let bound = fresh(names)?;
+    let function = fresh(names)?;
+    Ok(LoopNames {
+        start,
+        bound,
+        function,
+    })
+}
+
+/// A `repeat` without an accumulator.
+pub fn counted_repeat(
+    alloc: Global,
+    names: &mut u32,
+    pos: Pos,
+    range: Range,
+    body: Expr,
+) -> Result<Expr, OutOfMemory>
+    ensures expr { IfOk result (λ e. expr_of e ≡ repeat_of pos (loop_names names.old).0 range.counter
+        (expr_of range.first) (expr_of range.bound) (expr_of body)) }
+    ensures next { IfOk result (λ e. names.new ≡ names.old + 3) }
+{
+    let numbers = loop_names(names)?;
+    counted_loop(alloc, pos, numbers, range, body)
+}
+
+/// A `repeat` with this accumulator.
+pub fn gathered_repeat(
+    alloc: Global,
+    names: &mut u32,
+    pos: Pos,
+    range: Range,
+    start: Binding,
+    body: Expr,
+) -> Result<Expr, OutOfMemory>
+    ensures expr { IfOk result (λ e. expr_of e ≡ repeat_into_of pos (loop_names names.old).0
+        (Fresh (names.old + 3)) range.counter (expr_of range.first) (expr_of range.bound)
+        (source_of (name_of_binding start)) (type_or_dyn pos (type_of_binding start)) (value_of_binding start)
+        (expr_of body)) }
+    ensures next { IfOk result (λ e. names.new ≡ names.old + 3 + 1) }
+{
+    let numbers = loop_names(names)?;
+    let value = fresh(names)?;
+    gathering_loop(alloc, pos, numbers, value, range, start, body)
+}
