@@ -3,3 +3,5 @@
 
 pub mod compositions;
 pub mod heads;
+#[cfg(test)]
+mod tests;
