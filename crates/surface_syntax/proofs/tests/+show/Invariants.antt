@@ -1,0 +1,14 @@
+use Rattle.std.proofs.Common.{◌≤◌}
+use Rattle.surface_syntax.specs.declared.exprs.ExprList.{size-ExprList}
+use Rattle.surface_syntax.specs.declared.exprs.Bindings.{size-Bindings}
+use Rattle.surface_syntax.specs.declared.exprs.Members.{size-Members}
+use Rattle.surface_syntax.proofs.tests.+show.Given as goal
+
+abbrev pub invariant-show_all-loop-list : goal.invariant-show_all-loop-list
+invariant-show_all-loop-list l = size-ExprList l.list ≤ size-ExprList l.fn.list
+
+abbrev pub invariant-show_lets-loop-list : goal.invariant-show_lets-loop-list
+invariant-show_lets-loop-list l = size-Bindings l.list ≤ size-Bindings l.fn.list
+
+abbrev pub invariant-show_letrecs-loop-list : goal.invariant-show_letrecs-loop-list
+invariant-show_letrecs-loop-list l = size-Members l.list ≤ size-Members l.fn.list
