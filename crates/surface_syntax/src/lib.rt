@@ -33,8 +33,6 @@ use grift_base::refusals::FrontFault;
 use sexpr_reader::sexps::SexpList;
 use std::alloc::Global;
 
-#[cfg(test)]
-mod tests;
 
 /// The program that these s-expressions are, or the first refusal on the way through them from left to right.
 pub fn parse_program(alloc: Global, forms: &SexpList) -> Result<Program, FrontFault>

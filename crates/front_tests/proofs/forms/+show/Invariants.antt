@@ -2,7 +2,7 @@ use Rattle.std.proofs.Common.{◌≤◌}
 use Rattle.surface_syntax.specs.declared.exprs.ExprList.{size-ExprList}
 use Rattle.surface_syntax.specs.declared.exprs.Bindings.{size-Bindings}
 use Rattle.surface_syntax.specs.declared.exprs.Members.{size-Members}
-use Rattle.surface_syntax.proofs.tests.+show.Given as goal
+use Rattle.front_tests.proofs.forms.+show.Given as goal
 
 abbrev pub invariant-show_all-loop-list : goal.invariant-show_all-loop-list
 invariant-show_all-loop-list l = size-ExprList l.list ≤ size-ExprList l.fn.list

@@ -1,13 +1,16 @@
-use super::*;
-use crate::exprs::{Bindings, Expr, ExprList, ExprNode, LambdaExpr, Members};
-use crate::names::Ident;
-use crate::types::{Params, TypeExpr, TypeExprs, TypeNode};
-use crate::words::operator_text;
+// Texts that are read and parsed: refusals with their kinds and places, and programs as they are shown.
+
 use grift_base::places::Pos;
 use grift_base::refusals::{FrontFault, Refusal, RefusalKind};
 use sexpr_reader::read;
+use std::alloc::Global;
 use std::fmt::Write;
 use std::test::Fail;
+use surface_syntax::exprs::{Bindings, Expr, ExprList, ExprNode, LambdaExpr, Members, Program};
+use surface_syntax::names::Ident;
+use surface_syntax::parse_program;
+use surface_syntax::types::{Params, TypeExpr, TypeExprs, TypeNode};
+use surface_syntax::words::operator_text;
 use type_graph::rows::Row;
 
 // The program that a text is, where it is short enough.
