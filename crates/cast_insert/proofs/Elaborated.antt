@@ -2,6 +2,7 @@
 use Rattle.std.proofs.Common.{◌≡◌, ℕ, List, [], ◌∷◌, length, Option, None, subst, arith}
 use Rattle.grift_base.specs.declared.places.Pos.{Pos}
 use Rattle.core_calc.specs.Typing.{Context, ProgramTermHasType, binders}
+use Rattle.core_calc.specs.Terms.{Term}
 use Rattle.cast_insert.proofs.Tables.{IsFormedTable, type_table}
 use Rattle.surface_syntax.specs.Trees.{Expr, ExprNode, LambdaExpr, Exprs, LetBindings, LetrecMembers, ExprAt, IntNode}
 use Rattle.surface_syntax.specs.Trees.{BoolNode, UnitNode, NameNode, LambdaNode, CallNode, LetNode, LetrecNode, IfNode}
@@ -178,3 +179,10 @@ entries_elaborated program e after source made =
     let h = at_the_end (λ e after. Elaborates nothing_yet [] e after) (elaborate_program program) e after (elaborated
     program source [] [] nothing_yet no_types tt) made in
     h.0.entries (λ place entry e. absurd (none_is_not_some entry e))
+
+-- the same, where a term was answered
+pub program_answered : (program : Expr) (term : Term) (type : ℕ) (entry : Option ℕ) (after : Work) → IsSource program →
+    elaborate_program program ≡ Makes (record { term = term; type = type; entry = entry }) after →
+    ProgramTermHasType after.types (length after.labels) term type
+program_answered program term type entry after source made =
+    program_elaborated program (record { term = term; type = type; entry = entry }) after source made

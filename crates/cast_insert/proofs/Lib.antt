@@ -13,5 +13,10 @@ pub mod Nodes
 pub mod Lists
 pub mod Scopes
 pub mod Groups
+pub mod Steps
+pub mod Scoping
+pub mod Onto
+pub mod Loops
+pub mod Bodies
 pub mod Elaborated
 pub mod Public

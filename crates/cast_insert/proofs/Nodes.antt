@@ -14,7 +14,7 @@ use Rattle.surface_syntax.specs.Trees.{AscribeNode, TupleNode, ProjNode}
 use Rattle.cast_insert.specs.Sources.{place_of, how_many}
 use Rattle.type_graph.specs.Forming.{intern}
 use Rattle.consistency.specs.Blending.{blend}
-use Rattle.cast_insert.specs.Making.{Work, Making, then_make, ◌>>=◌, give, form, row_of, Typed, typed, cast_to}
+use Rattle.cast_insert.specs.Making.{Work, Making, then_make, ◌>>=◌, give, form, row_of, Typed, typed, cast_to, blend_at}
 use Rattle.cast_insert.specs.Environments.{Environment, meaning_of}
 use Rattle.cast_insert.specs.Elaboration.{elaborate, elaborate_node, elaborate_all, elaborate_each}
 use Rattle.type_graph.proofs.Public.{row_stays, later_within}
@@ -174,6 +174,16 @@ tuple_keeps parts place context environment runs least most work table h =
 
 -- ---- if
 
+-- the blend of two types is formed where they are consistent
+blend_keeps : (place : Pos) (a b : ℕ) (work : Work) → IsFormedTable work.types → a < length work.types →
+    b < length work.types → Keeps (λ type after. FormsType work type after) (blend_at place a b work)
+blend_keeps place a b work table one two =
+    then_keeps (λ answer after. (after ≡ work) × (consistent work.types a b ≡ true))
+    (λ type after. FormsType work type after) _ _
+    (test_tells (consistent work.types a b) NotConsistent place work)
+    (λ answer after same. subst (λ w. Keeps (λ type last'. FormsType work type last') (form (blend a b) w)) (sym same.0)
+    (type_of_form work (blend a b) (blend_formed (length work.types) a b work.types table one two same.1)))
+
 module _ (condition on_true on_false : Expr) (place : Pos) (context : Context) (environment : Environment)
     (runs_condition : Runs context environment (elaborate condition environment)) (runs_true : Runs context environment
     (elaborate on_true environment)) (runs_false : Runs context environment (elaborate on_false environment)) where
@@ -221,31 +231,26 @@ module _ (condition on_true on_false : Expr) (place : Pos) (context : Context) (
       let g2 = grown_on work w1 w2 g1 k2.0 in
       then_keeps (λ e after. Elaborates w2 context e after) (λ e after. Elaborates work context e after) _ _
       (runs_false w2 g2.table (fits_grown work w2 context environment g2 h))
-      (λ second w3 k3. then_keeps (λ answer after. (after ≡ w3) × (consistent w3.types first.type second.type ≡ true))
-      (λ e after. Elaborates work context e after) _ _
-      (test_tells (consistent w3.types first.type second.type) NotConsistent place w3)
-      (λ answer w3' same. subst (λ w. Keeps (λ e after. Elaborates work context e after) (rest_of first second truth
-      w)) (sym same.0)
-      (blended truth first second w1 w2 w3 g1 (widen_typed w1 context work.next work.next w0.next w1.next truth (omega
-      arith) k1.0.0.next k1.0.1) k1.1 k2 k3 same.1))))))
+      (λ second w3 k3.
+      blended truth first second w1 w2 w3 g1 (widen_typed w1 context work.next work.next w0.next w1.next truth
+      (omega arith) k1.0.0.next k1.0.1) k1.1 k2 k3))))
     where
       rest_of : Typed → Typed → Typed → Making Typed
       rest_of first second truth =
-          ◌>>=◌ (form (blend first.type second.type)) λ type.
+          ◌>>=◌ (blend_at place first.type second.type) λ type.
           ◌>>=◌ (cast_to (place_of on_true) type first) λ one.
           ◌>>=◌ (cast_to (place_of on_false) type second) λ other.
           give (typed (If truth.term one.term other.term) type)
 
       blended : (truth first second : Typed) (w1 w2 w3 : Work) → Grown work w1 → IsTyped w1 context work.next w1.next
           truth → row_at w1.types truth.type ≡ Some BoolRow → Elaborates w1 context first w2 → Elaborates w2 context
-          second w3 → consistent w3.types first.type second.type ≡ true → Keeps (λ e after. Elaborates work context e
+          second w3 → Keeps (λ e after. Elaborates work context e
           after) (rest_of first second truth w3)
-      blended truth first second w1 w2 w3 g1 t b k2 k3 agree =
+      blended truth first second w1 w2 w3 g1 t b k2 k3 =
           let g13 = grown_on w1 w2 w3 k2.0 k3.0 in
           then_keeps (λ type after. FormsType w3 type after) (λ e after. Elaborates work context e after) _ _
-          (type_of_form w3 (blend first.type second.type)
-          (blend_formed (length w3.types) first.type second.type w3.types k3.0.table (later_within w2.types w3.types
-          first.type k3.0.types k2.1.row) k3.1.row agree))
+          (blend_keeps place first.type second.type w3 k3.0.table
+          (later_within w2.types w3.types first.type k3.0.types k2.1.row) k3.1.row)
           (λ type w4 f.
           let g24 = grown_on w2 w3 w4 k3.0 f.0 in
           then_keeps (λ one after. CastsTo w4 context w1.next w2.next type one after) (λ e after. Elaborates work

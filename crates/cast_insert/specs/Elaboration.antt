@@ -4,7 +4,6 @@ use Rattle.std.specs.Prelude.{ℕ, List, [], ◌∷◌, Option, None}
 use Rattle.grift_base.specs.Types.{IntRow, BoolRow, UnitRow, FunRow, TupleRow}
 use Rattle.grift_base.specs.declared.places.Pos.{Pos}
 use Rattle.type_graph.specs.Forming.{intern}
-use Rattle.consistency.specs.Blending.{blend}
 use Rattle.core_calc.specs.Terms.{Term, Terms, Members, Bindings, IntLit, BoolLit, UnitLit, Lambda, Group, Let, If, Seq}
 use Rattle.core_calc.specs.Terms.{Tuple, Prim, NoTerms, TermThen, NoMembers, MemberThen, NoBindings, BindingThen}
 use Rattle.surface_syntax.specs.Trees.{Expr, ExprNode, LambdaExpr, Exprs, LetBindings, LetrecMembers, ExprAt, IntNode}
@@ -13,7 +12,7 @@ use Rattle.surface_syntax.specs.Trees.{BeginNode, AscribeNode, TupleNode, ProjNo
 use Rattle.surface_syntax.specs.Trees.{ExprThen, NoLets, LetThen, LetrecThen}
 use Rattle.cast_insert.specs.Sources.{place_of, last_place, how_many}
 use Rattle.cast_insert.specs.Making.{Work, Made, Making, ◌>>=◌, ◌>>◌, give, form, row_of, fresh, not_too_large}
-use Rattle.cast_insert.specs.Making.{are_consistent, Typed, typed, cast_to, cast_if, cast_to_row, written, written_if}
+use Rattle.cast_insert.specs.Making.{blend_at, Typed, typed, cast_to, cast_if, cast_to_row, written, written_if}
 use Rattle.cast_insert.specs.Environments.{Environment, meaning_of, plain, with_names, use_at, variables}
 use Rattle.cast_insert.specs.Environments.{parameter_types, bind_names, Head, heads_of, names_of_heads}
 use Rattle.cast_insert.specs.Calls.{Given, call_by, project_by}
@@ -88,8 +87,7 @@ abbrev mutual
     truth ← cast_to_row (place_of condition) BoolRow c
     first ← elaborate on_true environment
     second ← elaborate on_false environment
-    are_consistent place first.type second.type
-    type ← form (blend first.type second.type)
+    type ← blend_at place first.type second.type
     one ← cast_to (place_of on_true) type first
     other ← cast_to (place_of on_false) type second
     give (typed (If truth.term one.term other.term) type)

@@ -7,3 +7,10 @@ pub mod Operators
 pub mod Elaboration
 pub mod Programs
 pub mod Claims
+pub mod Views
+pub mod Scoped
+pub mod Seen
+pub mod Gathered
+pub mod Heads
+pub mod Bodies
+pub mod Outcomes

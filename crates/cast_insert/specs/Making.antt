@@ -8,6 +8,7 @@ use Rattle.grift_base.specs.declared.refusals.RefusalKind.TheVariants.{NotConsis
 use Rattle.type_graph.specs.Forming.{Forming, place_where, at_place_or_last, intern}
 use Rattle.type_graph.specs.Trees.{size}
 use Rattle.consistency.specs.Consistency.{consistent}
+use Rattle.consistency.specs.Blending.{blend}
 use Rattle.core_calc.specs.Terms.{Term, Cast}
 use Rattle.surface_syntax.specs.Trees.{TypeExpr}
 use Rattle.cast_insert.specs.Sources.{place_of_type}
@@ -93,6 +94,12 @@ not_too_large place type = λ work. test (nat_lt (size work.types type) (suc mos
 
 abbrev pub are_consistent : Pos → ℕ → ℕ → Making Bool
 are_consistent place a b = λ work. test (consistent work.types a b) NotConsistent place work
+
+-- the blend of two types, where they are consistent
+abbrev pub blend_at : Pos → ℕ → ℕ → Making ℕ
+blend_at place a b = do
+  are_consistent place a b
+  form (blend a b)
 
 -- ---- terms with their types, and casts
 

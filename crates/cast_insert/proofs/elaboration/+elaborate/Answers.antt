@@ -1,0 +1,148 @@
+use Rattle.std.proofs.Common.{rules, ◌≡◌, ◌∷◌, sym, ap, ◌∙◌, [], ◌++◌, subst}
+use Rattle.core_calc.specs.Terms.{NoTerms, term_list, binding_list}
+use Rattle.core_calc.specs.Views.{term_of, terms_of, bindings_of}
+use Rattle.surface_syntax.specs.Trees.{NoExprs, ExprThen, IfNode}
+use Rattle.surface_syntax.specs.Views.{expr_of, exprs_of, lets_of, written_of}
+use Rattle.surface_syntax.specs.declared.exprs.ExprList.{the_lemmas as list_lemmas}
+use Rattle.cast_insert.specs.Making.{Makes, Made, Typed}
+use Rattle.cast_insert.specs.Elaboration.{elaborate, elaborate_sequence, elaborate_node}
+use Rattle.cast_insert.specs.Gathered.{terms_onto}
+use Rattle.cast_insert.specs.Bodies.{sequence_of}
+use Rattle.cast_insert.specs.Views.{typed_of, work_of, meaning_seen, place_if, Answers}
+use Rattle.cast_insert.proofs.Loops.{failed_as, sequence_refused, sequence_last, sequence_more, bindings_more}
+use Rattle.cast_insert.proofs.Loops.{if_first, if_second, if_joined}
+use Rattle.std.proofs.lemmas.List.{map-append}
+use Rattle.surface_syntax.specs.declared.names.Ident.{Ident}
+use Rattle.surface_syntax.specs.declared.exprs.Binding.{out-Binding}
+use Rattle.surface_syntax.specs.declared.exprs.Bindings.{the_lemmas as binding_lemmas}
+use Rattle.cast_insert.specs.declared.names.Named.{Named}
+use Rattle.cast_insert.specs.Sources.{place_of}
+use Rattle.cast_insert.specs.Environments.{Meaning, plain}
+use Rattle.cast_insert.specs.Scoped.{env_of}
+use Rattle.cast_insert.proofs.elaboration.+elaborate.Goals as goal
+
+pub in_order-returns-in_err-e-clause-answer : goal.in_order-returns-in_err-e-clause-answer
+in_order-returns-in_err-e-clause-answer t c =
+    let whole = elaborate_sequence (exprs_of c.args.list.now) c.args.scopes.now (work_of c.args.progress.now) in
+    failed_as c.in_err-e.field-0.0 typed_of sequence_of c.from_residual-in_err-e.result
+    (work_of c.elaborate.new.progress)
+    (elaborate (expr_of c.in-Cons.first.value) c.args.scopes.now (work_of c.loop-left.progress)) whole
+    (search rules)
+    (rw (c.deref.ensures, c.loop-left.invariant.1) at c.in_err-e.ensures.answer)
+    (λ kind place refused. sequence_refused (term_list (terms_of c.loop-left.terms)) (expr_of c.in-Cons.first.value)
+    (exprs_of c.in-Cons.rest.value) c.args.scopes.now (work_of c.loop-left.progress) whole kind place refused
+    (rw c.in-Cons.is at c.loop-left.invariant.0))
+
+pub in_order-returns-in-Nil-clause-answer : goal.in_order-returns-in-Nil-clause-answer
+in_order-returns-in-Nil-clause-answer t c =
+    let none : exprs_of c.in-Cons.rest.value ≡ NoExprs = ap exprs_of (sym c.deref-in-loop-left.ensures ∙ c.in-Nil.is) in
+    let done = term_list (terms_of c.loop-left.terms) in
+    let terms : terms_of c.turned-in-Nil.result ≡ terms_onto (term_of c.in_ok-e.e.core.value ∷ done) NoTerms =
+    c.turned-in-Nil.ensures ∙ ap (λ xs. terms_onto xs NoTerms) (c.in_ok-push_front.ensures.ok
+    ∙ ap (λ core. term_of core ∷ done) c.into_inner.ensures) in
+    sequence_last done (typed_of c.in_ok-e.e) (expr_of c.in-Cons.first.value) c.args.scopes.now
+    (work_of c.loop-left.progress) (work_of c.elaborate.new.progress) _
+    (rw (c.deref.ensures, c.loop-left.invariant.1) at c.in_ok-e.ensures.answer)
+    (rw none at (rw c.in-Cons.is at c.loop-left.invariant.0))
+    ∙ ap (λ terms. Makes (record { terms = terms; type = c.in_ok-e.e.ty.0 }) (work_of c.elaborate.new.progress))
+    (sym terms)
+
+pub in_order-loop-left-preserved : goal.in_order-loop-left-preserved
+in_order-loop-left-preserved t c =
+    let second = c.in_default-deref.field-0.value in
+    let others = c.in_default-deref.field-1.value in
+    let more : exprs_of c.in-Cons.rest.value ≡ ExprThen (expr_of second) (exprs_of others) =
+    ap exprs_of (sym c.deref-in-loop-left.ensures ∙ c.in_default-deref.is) in
+    let done = term_list (terms_of c.loop-left.terms) in
+    let pushed : term_list (terms_of c.push_front.new.self) ≡ term_of c.in_ok-e.e.core.value ∷ done =
+    c.in_ok-push_front.ensures.ok ∙ ap (λ core. term_of core ∷ done) c.into_inner.ensures in
+    let step = sequence_more done (typed_of c.in_ok-e.e) (expr_of c.in-Cons.first.value) (expr_of second)
+    (exprs_of others) c.args.scopes.now (work_of c.loop-left.progress) (work_of c.elaborate.new.progress) _
+    (rw (c.deref.ensures, c.loop-left.invariant.1) at c.in_ok-e.ensures.answer)
+    (rw more at (rw c.in-Cons.is at c.loop-left.invariant.0)) in (
+      rw (pushed, c.deref-left.ensures, more) step,
+      c.in_ok-e.ensures.scopes ∙ c.loop-left.invariant.1,
+      search (rules, list_lemmas),
+    )
+
+pub bindings-loop-left-preserved : goal.bindings-loop-left-preserved
+bindings-loop-left-preserved t c =
+    let binding = out-Binding c.in-Cons.first.value in
+    let value = expr_of binding.value in
+    let done = binding_list (bindings_of c.loop-left.done) in
+    let names = c.loop-left.names.items in
+    let variable = c.in_ok-variable.variable.0 in
+    let bound = typed_of c.in_ok-bound.bound in
+    let pushed : binding_list (bindings_of c.push_front.new.self) ≡
+    record { name = variable; bound = bound.term } ∷ done =
+    c.in_ok-push_front.ensures.ok
+    ∙ ap (λ core. record { name = variable; bound = term_of core } ∷ done) c.into_inner-value.ensures in
+    let entry : Ident × Meaning = (binding.name, plain (place_of value) variable bound.type) in
+    let named : env_of c.push.new.names.items ≡ env_of names ++ entry ∷ [] =
+    ap env_of c.in_ok-push.ensures
+    ∙ map-append (λ (n : Named). (n.name, meaning_seen n.meaning)) names (c.in_ok-named.named ∷ [])
+    ∙ ap (λ (n : Named). env_of names ++ (n.name, meaning_seen n.meaning) ∷ [])
+    (rw (c.deref-in-Cons-3.ensures, c.deref-in-Cons-4.ensures) at c.in_ok-named.ensures) in
+    let step = bindings_more done (env_of names) binding.name (written_of binding.ty) value
+    (lets_of c.in-Cons.rest.value) c.args.scopes.now (typed_of c.in_ok-e.e) bound (place_if c.in_ok-wanted.wanted)
+    variable (work_of c.loop-left.progress) (work_of c.elaborate.new.progress) (work_of c.written_if.new.self)
+    (work_of c.cast_if.new.self) (work_of c.fresh.new.self) _
+    (rw (c.deref.ensures, c.loop-left.invariant.1) at c.in_ok-e.ensures.answer)
+    (rw c.deref-in-Cons.ensures at c.in_ok-wanted.ensures)
+    (rw c.deref-in-Cons-2.ensures at c.in_ok-bound.ensures)
+    c.in_ok-variable.ensures
+    (rw c.in-Cons.is at c.loop-left.invariant.0) in (
+      rw (pushed, named, c.deref-left.ensures) step,
+      c.in_ok-e.ensures.scopes ∙ c.loop-left.invariant.1,
+      search (rules, binding_lemmas),
+    )
+
+pub if_form-returns-in_err-first-clause-answer : goal.if_form-returns-in_err-first-clause-answer
+if_form-returns-in_err-first-clause-answer t c =
+    let condition = expr_of c.in-If.condition.value in
+    let on_true = expr_of c.in-If.on_true.value in
+    let on_false = expr_of c.in-If.on_false.value in
+    let env = c.args.scopes.now in
+    rw c.in-If.is (failed_as c.in_err-first.field-0.0 typed_of typed_of c.from_residual-in_err-first.result
+    (work_of c.elaborate-2.new.progress) (elaborate on_true env (work_of c.cast_to_row.new.self))
+    (elaborate_node (IfNode condition on_true on_false) c.args.pos env (work_of c.args.progress.now))
+    (search rules)
+    (rw (c.deref-3.ensures, c.in_ok-test.ensures.scopes) at c.in_err-first.ensures.answer)
+    (λ kind at refused. if_first condition on_true on_false c.args.pos env (typed_of c.in_ok-test.test)
+    (typed_of c.in_ok-truth.truth) (work_of c.args.progress.now) (work_of c.elaborate.new.progress)
+    (work_of c.cast_to_row.new.self) kind at (rw c.deref.ensures at c.in_ok-test.ensures.answer)
+    (rw c.deref-2.ensures at c.in_ok-truth.ensures) refused))
+
+pub if_form-returns-in_err-second-clause-answer : goal.if_form-returns-in_err-second-clause-answer
+if_form-returns-in_err-second-clause-answer t c =
+    let condition = expr_of c.in-If.condition.value in
+    let on_true = expr_of c.in-If.on_true.value in
+    let on_false = expr_of c.in-If.on_false.value in
+    let env = c.args.scopes.now in
+    rw c.in-If.is (failed_as c.in_err-second.field-0.0 typed_of typed_of c.from_residual-in_err-second.result
+    (work_of c.elaborate-3.new.progress) (elaborate on_false env (work_of c.elaborate-2.new.progress))
+    (elaborate_node (IfNode condition on_true on_false) c.args.pos env (work_of c.args.progress.now))
+    (search rules)
+    (rw (c.deref-4.ensures, c.in_ok-first.ensures.scopes, c.in_ok-test.ensures.scopes) at c.in_err-second.ensures.answer)
+    (λ kind at refused. if_second condition on_true on_false c.args.pos env (typed_of c.in_ok-test.test)
+    (typed_of c.in_ok-truth.truth) (typed_of c.in_ok-first.first) (work_of c.args.progress.now)
+    (work_of c.elaborate.new.progress) (work_of c.cast_to_row.new.self) (work_of c.elaborate-2.new.progress) kind at
+    (rw c.deref.ensures at c.in_ok-test.ensures.answer) (rw c.deref-2.ensures at c.in_ok-truth.ensures)
+    (rw (c.deref-3.ensures, c.in_ok-test.ensures.scopes) at c.in_ok-first.ensures.answer) refused))
+
+pub if_form-returns-clause-answer : goal.if_form-returns-clause-answer
+if_form-returns-clause-answer t c =
+    let condition = expr_of c.in-If.condition.value in
+    let on_true = expr_of c.in-If.on_true.value in
+    let on_false = expr_of c.in-If.on_false.value in
+    let env = c.args.scopes.now in
+    rw c.in-If.is (subst (λ (m : Made Typed). Answers c.joined.result typed_of (work_of c.joined.new.progress) m)
+    (sym (if_joined condition on_true on_false c.args.pos env (typed_of c.in_ok-test.test)
+    (typed_of c.in_ok-truth.truth) (typed_of c.in_ok-first.first) (typed_of c.in_ok-second.second)
+    (work_of c.args.progress.now) (work_of c.elaborate.new.progress) (work_of c.cast_to_row.new.self)
+    (work_of c.elaborate-2.new.progress) (work_of c.elaborate-3.new.progress)
+    (rw c.deref.ensures at c.in_ok-test.ensures.answer) (rw c.deref-2.ensures at c.in_ok-truth.ensures)
+    (rw (c.deref-3.ensures, c.in_ok-test.ensures.scopes) at c.in_ok-first.ensures.answer)
+    (rw (c.deref-4.ensures, c.in_ok-first.ensures.scopes, c.in_ok-test.ensures.scopes)
+    at c.in_ok-second.ensures.answer)))
+    (rw (c.deref-5.ensures, c.deref-6.ensures) at c.joined.ensures))

@@ -1,0 +1,36 @@
+use Rattle.std.proofs.Common.{◌≡◌, ◌≤◌}
+use Rattle.core_calc.specs.Terms.{term_list, binding_list, member_list}
+use Rattle.core_calc.specs.Views.{terms_of, bindings_of, members_of}
+use Rattle.surface_syntax.specs.Views.{exprs_of, lets_of, letrecs_of}
+use Rattle.surface_syntax.specs.declared.exprs.ExprList.{size-ExprList}
+use Rattle.cast_insert.specs.Elaboration.{elaborate_sequence, elaborate_bindings, elaborate_members}
+use Rattle.cast_insert.specs.Views.{work_of}
+use Rattle.cast_insert.proofs.Loops.{sequence_behind, bound_behind, members_behind}
+use Rattle.surface_syntax.specs.declared.exprs.Bindings.{size-Bindings}
+use Rattle.cast_insert.specs.Scoped.{env_of}
+use Rattle.surface_syntax.specs.declared.exprs.Members.{size-Members}
+use Rattle.cast_insert.specs.Heads.{heads_seen}
+use Rattle.cast_insert.proofs.elaboration.+elaborate.Given as goal
+
+-- the terms so far and what is made behind them are all that is made
+abbrev pub invariant-in_order-loop-left : goal.invariant-in_order-loop-left
+invariant-in_order-loop-left l =
+    (sequence_behind (term_list (terms_of l.terms)) (elaborate_sequence (exprs_of l.left) l.fn.scopes (work_of l.progress))
+    ≡ elaborate_sequence (exprs_of l.fn.list) l.fn.scopes (work_of l.fn.progress))
+    × (l.scopes ≡ l.fn.scopes) × (size-ExprList l.left ≤ size-ExprList l.fn.list)
+
+-- the bindings so far and what is made behind them are all that is made
+abbrev pub invariant-bindings-loop-left : goal.invariant-bindings-loop-left
+invariant-bindings-loop-left l =
+    (bound_behind (binding_list (bindings_of l.done)) (env_of l.names.items)
+    (elaborate_bindings (lets_of l.left) l.fn.scopes (work_of l.progress))
+    ≡ elaborate_bindings (lets_of l.fn.list) l.fn.scopes (work_of l.fn.progress))
+    × (l.scopes ≡ l.fn.scopes) × (size-Bindings l.left ≤ size-Bindings l.fn.list)
+
+-- the members so far and what is made behind them are all that is made
+abbrev pub invariant-members-loop-left : goal.invariant-members-loop-left
+invariant-members-loop-left l =
+    (members_behind (member_list (members_of l.done))
+    (elaborate_members (letrecs_of l.left) (heads_seen l.heads_left) l.fn.scopes (work_of l.progress))
+    ≡ elaborate_members (letrecs_of l.fn.list) (heads_seen l.fn.heads) l.fn.scopes (work_of l.fn.progress))
+    × (l.scopes ≡ l.fn.scopes) × (size-Members l.left ≤ size-Members l.fn.list)

@@ -1,0 +1,56 @@
+-- What bodies, bindings and operands are gathered in, and what is then left to do.
+use Rattle.std.specs.Prelude.{ℕ, List, [], ◌∷◌, Option}
+use Rattle.grift_base.specs.declared.places.Pos.{Pos}
+use Rattle.grift_base.specs.Types.{FunRow}
+use Rattle.type_graph.specs.Forming.{intern}
+use Rattle.core_calc.specs.Terms.{Members, Bindings, MemberThen, BindingThen, Lambda}
+use Rattle.core_calc.specs.Terms.{Member, Binding}
+use Rattle.core_calc.specs.Views.{term_of, terms_of, bindings_of, names_of}
+use Rattle.surface_syntax.specs.Trees.{Exprs}
+use Rattle.cast_insert.specs.declared.elaboration.Sequence.{Sequence as RustSequence}
+use Rattle.cast_insert.specs.declared.elaboration.Bound.{Bound as RustBound}
+use Rattle.cast_insert.specs.declared.elaboration.Gathered.{Gathered}
+use Rattle.cast_insert.specs.declared.elaboration.MemberBody.{MemberBody as RustMemberBody}
+use Rattle.cast_insert.specs.Sources.{last_place}
+use Rattle.cast_insert.specs.Making.{Making, ◌>>=◌, give, form, Typed, typed, cast_if}
+use Rattle.cast_insert.specs.Environments.{Environment, with_names, variables}
+use Rattle.cast_insert.specs.Elaboration.{Sequence, seq, Bound, Operands, MemberBody, elaborate_sequence}
+use Rattle.cast_insert.specs.Scoped.{env_of}
+use Rattle.cast_insert.specs.Views.{place_if}
+
+abbrev pub sequence_of : RustSequence → Sequence
+sequence_of sequence = record { terms = terms_of sequence.terms; type = sequence.ty.0 }
+
+abbrev pub bound_of : RustBound → Bound
+bound_of bound = record { bindings = bindings_of bound.bindings; entries = env_of bound.names.items }
+
+abbrev pub gathered_of : Gathered → Operands
+gathered_of gathered = record { terms = terms_of gathered.terms; content = place_if gathered.content }
+
+abbrev pub body_of : RustMemberBody → MemberBody
+body_of body = record { variables = names_of body.variables; body = term_of body.body.value }
+
+-- bindings behind these, of which the last one stands first
+abbrev pub bindings_onto : List Binding → Bindings → Bindings
+bindings_onto [] bindings = bindings
+bindings_onto (one ∷ before) bindings = bindings_onto before (BindingThen one.name one.bound bindings)
+
+-- members behind these, of which the last one stands first
+abbrev pub members_onto : List Member → Members → Members
+members_onto [] members = members
+members_onto (one ∷ before) members =
+    members_onto before (MemberThen one.name one.parameters one.body one.type members)
+
+-- a function of these parameters with this body
+abbrev pub function_of : Environment → List ℕ → Typed → Making Typed
+function_of entries types e = do
+  type ← form (intern (FunRow types e.type))
+  give (typed (Lambda (variables entries) e.term type) type)
+
+-- what is left of a lambda when its parameters are bound
+abbrev pub lambda_rest : Pos → Exprs → List ℕ → Option ℕ → Environment → Environment → Making Typed
+lambda_rest place body types wanted entries environment = do
+  inner ← elaborate_sequence body (with_names entries environment)
+  e ← cast_if (last_place place body) wanted (seq inner)
+  type ← form (intern (FunRow types e.type))
+  give (typed (Lambda (variables entries) e.term type) type)

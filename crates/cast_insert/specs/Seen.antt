@@ -1,0 +1,32 @@
+-- Operands, answers and terms with their contents as those of the definitions.
+use Rattle.grift_base.specs.Types.{IntRow, BoolRow, UnitRow}
+use Rattle.cast_insert.specs.declared.operands.Operand.{Operand as RustOperand}
+use Rattle.cast_insert.specs.declared.operands.Operand.TheVariants.{Int, Bool, Content as KeepsContent, Box as OpensBox}
+use Rattle.cast_insert.specs.declared.operands.Operand.TheVariants.{Vector as OpensVector, AsContent as ToContent}
+use Rattle.cast_insert.specs.declared.operands.OperatorAnswer.{OperatorAnswer as RustAnswer}
+use Rattle.cast_insert.specs.declared.operands.OperatorAnswer.TheVariants.{Int as IntAnswer, Bool as BoolAnswer}
+use Rattle.cast_insert.specs.declared.operands.OperatorAnswer.TheVariants.{Unit as UnitAnswer, Content as ContentAnswer}
+use Rattle.cast_insert.specs.declared.operands.OperatorAnswer.TheVariants.{BoxOf as BoxAnswer, VectorOf as VectorAnswer}
+use Rattle.cast_insert.specs.declared.operands.Held.{Held as RustHeld}
+use Rattle.cast_insert.specs.Operators.{Operand, As, Content, Box, Vector, AsContent, OperatorAnswer, Always, TheContent}
+use Rattle.cast_insert.specs.Operators.{BoxOf, VectorOf, Held}
+use Rattle.cast_insert.specs.Views.{typed_of, place_if}
+
+abbrev pub operand_seen : RustOperand → Operand
+operand_seen Int = As IntRow
+operand_seen Bool = As BoolRow
+operand_seen KeepsContent = Content
+operand_seen OpensBox = Box
+operand_seen OpensVector = Vector
+operand_seen ToContent = AsContent
+
+abbrev pub answer_seen : RustAnswer → OperatorAnswer
+answer_seen IntAnswer = Always IntRow
+answer_seen BoolAnswer = Always BoolRow
+answer_seen UnitAnswer = Always UnitRow
+answer_seen ContentAnswer = TheContent
+answer_seen BoxAnswer = BoxOf
+answer_seen VectorAnswer = VectorOf
+
+abbrev pub held_of : RustHeld → Held
+held_of held = record { held = typed_of held.held; content = place_if held.content }

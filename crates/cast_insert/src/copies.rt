@@ -1,0 +1,61 @@
+// Refusals, boxes and copies.
+
+ghost use Rattle.std.specs.Prelude.{◌≡◌, ◌∷◌, Err, IfOk, OnOk};
+ghost use Rattle.type_graph.specs.Rows.{row_of};
+
+use grift_base::lists::{Name, OutOfMemory};
+use grift_base::places::Pos;
+use grift_base::refusals::{FrontFault, Refusal, RefusalKind};
+use std::alloc::Global;
+use surface_syntax::names::Ident;
+use type_graph::rows::{Row, TypeIds};
+
+pub(crate) fn refused<T>(kind: RefusalKind, pos: Pos) -> Result<T, FrontFault>
+    ensures { result ≡ Err (FrontFault.Refused (record { kind = kind; pos = pos })) }
+{
+    Err(FrontFault::Refused(Refusal { kind, pos }))
+}
+
+/// A value on the heap.
+pub(crate) fn boxed<T: Drop>(alloc: Global, value: T) -> Result<Box<T>, OutOfMemory>
+    ensures { IfOk result (λ b. b.value ≡ value) }
+{
+    Ok(Box::new(alloc, value)?)
+}
+
+/// The same row again.
+pub(crate) fn copy_of_row(alloc: Global, row: &Row) -> Result<Row, OutOfMemory>
+    ensures { IfOk result (λ same. same ≡ row.now) }
+{
+    match row {
+        Row::Int => Ok(Row::Int),
+        Row::Bool => Ok(Row::Bool),
+        Row::Unit => Ok(Row::Unit),
+        Row::Dyn => Ok(Row::Dyn),
+        Row::Fun(parameters, result) => Ok(Row::Fun(
+            TypeIds::from_slice(alloc, parameters.as_slice())?,
+            *result,
+        )),
+        Row::Tuple(parts) => Ok(Row::Tuple(TypeIds::from_slice(alloc, parts.as_slice())?)),
+        Row::Ref(content) => Ok(Row::Ref(*content)),
+        Row::Vect(content) => Ok(Row::Vect(*content)),
+    }
+}
+
+/// The same name again.
+pub(crate) fn copy_of_name(alloc: Global, name: &Ident) -> Result<Ident, OutOfMemory>
+    ensures { IfOk result (λ same. same ≡ name.now) }
+{
+    match name {
+        Ident::Source(bytes) => Ok(Ident::Source(Name::from_slice(alloc, bytes.as_slice())?)),
+        Ident::Fresh(number) => Ok(Ident::Fresh(*number)),
+    }
+}
+
+/// Puts an element in front of the others, of which there are few.
+pub(crate) fn put_first<T: Drop>(items: &mut Vec<T>, item: T) -> Result<(), OutOfMemory>
+    ensures { OnOk result (items.new.items ≡ item ∷ items.old.items) }
+{
+    items.insert(0, item)?;
+    Ok(())
+}

@@ -1,0 +1,604 @@
+// The elaboration of expressions, form by form.
+#![tactic(auto, using(crate::proofs::Steps::steps, crate::proofs::Bodies::body_steps, crate::proofs::Loops::loop_steps), unfolding(crate::specs::Making::then_make))]
+
+ghost use Rattle.std.specs.Prelude.{◌≡◌, ◌==◌, ◌∷◌, ◌++◌, [], None, IfOk, OnOk, map};
+ghost use Rattle.grift_base.specs.Types.{row_at};
+ghost use Rattle.type_graph.specs.Rows.{places_of};
+ghost use Rattle.core_calc.specs.Terms.{NoBindings, NoMembers, binding_list, member_list};
+ghost use Rattle.core_calc.specs.Views.{bindings_of, members_of, terms_of};
+ghost use Rattle.surface_syntax.specs.Views.{expr_of, exprs_of, lambda_of, lets_of, letrecs_of, node_of};
+ghost use Rattle.cast_insert.specs.Sources.{how_many, last_place};
+ghost use Rattle.cast_insert.specs.Making.{Makes};
+ghost use Rattle.cast_insert.specs.Environments.{with_names};
+ghost use Rattle.cast_insert.specs.Calls.{call_by};
+ghost use Rattle.cast_insert.specs.Elaboration.{elaborate, elaborate_node, elaborate_all, elaborate_each};
+ghost use Rattle.cast_insert.specs.Elaboration.{elaborate_operands, elaborate_sequence, elaborate_bindings};
+ghost use Rattle.cast_insert.specs.Elaboration.{elaborate_lambda, elaborate_member, elaborate_members, seq};
+ghost use Rattle.cast_insert.specs.Scoped.{env_of};
+ghost use Rattle.cast_insert.specs.Seen.{operand_seen};
+ghost use Rattle.cast_insert.specs.Heads.{head_seen, heads_seen};
+ghost use Rattle.cast_insert.specs.Gathered.{given_of};
+ghost use Rattle.cast_insert.specs.Bodies.{bindings_onto, body_of, bound_of, function_of, gathered_of, lambda_rest};
+ghost use Rattle.cast_insert.specs.Bodies.{members_onto, sequence_of};
+ghost use Rattle.cast_insert.specs.Views.{Answers, place_if, typed_of, work_of};
+
+use crate::copies::{boxed, copy_of_name, refused};
+use crate::heads::{Head, heads};
+use crate::joining::{
+    Given, Placed, called_dyn, given_first, joined, literal, plain, projected, terms_first, tuple,
+    turned, used,
+};
+use crate::names::{Meaning, Named, Scopes};
+use crate::operands::{Operand, answer_type, fitted, operands_of};
+use crate::parameters::{bind_names, parameter_types, variables_of};
+use crate::progress::{Progress, Typed};
+use core_calc::terms::{
+    Core, CoreBinding, CoreBindings, CoreList, GroupMember, GroupMembers, VarId, VarIds,
+};
+use grift_base::lists::OutOfMemory;
+use grift_base::places::{Pos, TypeId};
+use grift_base::refusals::{FrontFault, RefusalKind};
+use std::alloc::Global;
+use surface_syntax::exprs::{Bindings, Expr, ExprList, ExprNode, LambdaExpr, Members};
+use surface_syntax::names::Ident;
+use type_graph::rows::{Row, TypeIds};
+
+/// Terms in order, and the type of the last.
+#[derive(Drop)]
+struct Sequence {
+    terms: CoreList,
+    ty: TypeId,
+}
+
+/// Bound terms, and what their names mean.
+#[derive(Drop)]
+struct Bound {
+    bindings: CoreBindings,
+    names: Vec<Named>,
+}
+
+/// The operands of an operator, and the type of the content if there is one.
+#[derive(Drop)]
+struct Gathered {
+    terms: CoreList,
+    content: Option<TypeId>,
+}
+
+/// The parameters and the body of a member.
+#[derive(Drop)]
+struct MemberBody {
+    variables: VarIds,
+    body: Box<Core>,
+}
+
+impl Sequence {
+    // The sequence as a term.
+    fn typed(self, alloc: Global) -> Result<Typed, OutOfMemory>
+        ensures { IfOk result (λ e. typed_of e ≡ seq (sequence_of self)) }
+    {
+        plain(alloc, Core::Seq(self.terms), self.ty)
+    }
+}
+
+// The place of the last expression, or this one where there is none.
+fn last_pos(pos: Pos, list: &ExprList) -> Pos
+    ensures { result ≡ last_place pos (exprs_of list.now) }
+{
+    let mut last = pos;
+    let mut left = list;
+    while let ExprList::Cons(first, rest) = left {
+        last = first.pos;
+        left = rest;
+    }
+    last
+}
+
+// Whether these are so many expressions.
+fn has_length(list: &ExprList, wanted: u64) -> bool
+    ensures { result ≡ (how_many (exprs_of list.now) == wanted) }
+{
+    match list {
+        ExprList::Nil => wanted == 0,
+        ExprList::Cons(_, rest) => wanted != 0 && has_length(rest, wanted - 1),
+    }
+}
+
+// A function of these parameters with this body.
+fn function(
+    alloc: Global,
+    progress: &mut Progress,
+    names: &[Named],
+    types: &[TypeId],
+    e: Typed,
+) -> Result<Typed, OutOfMemory>
+    ensures { IfOk result (λ f. function_of (env_of names.now) (places_of types.now) (typed_of e)
+        (work_of progress.old) ≡ Makes (typed_of f) (work_of progress.new)) }
+{
+    let variables = variables_of(alloc, names)?;
+    let parameters = TypeIds::from_slice(alloc, types)?;
+    let ty = progress.form(Row::Fun(parameters, e.ty))?;
+    plain(alloc, Core::Lambda(variables, e.core, ty), ty)
+}
+
+// A name that means this variable of this type.
+fn plain_name(
+    alloc: Global,
+    name: &Ident,
+    pos: Pos,
+    variable: VarId,
+    ty: TypeId,
+) -> Result<Named, OutOfMemory>
+    ensures { IfOk result (λ named. named ≡ record {
+      name = name.now;
+      meaning = record {
+        variable = variable;
+        ty = ty;
+        written = None;
+        pos = pos;
+      };
+    }) }
+{
+    let name = copy_of_name(alloc, name)?;
+    let meaning = Meaning {
+        variable,
+        ty,
+        written: None,
+        pos,
+    };
+    Ok(Named { name, meaning })
+}
+
+fn push(names: &mut Vec<Named>, named: Named) -> Result<(), OutOfMemory>
+    ensures { OnOk result (names.new.items ≡ names.old.items ++ named ∷ []) }
+{
+    names.push(named)?;
+    Ok(())
+}
+
+// Bindings that were gathered with the last one first, in their order.
+fn turned_bindings(bindings: CoreBindings) -> CoreBindings
+    ensures { bindings_of result ≡ bindings_onto (binding_list (bindings_of bindings)) NoBindings }
+{
+    bindings.reversed()
+}
+
+// Members that were gathered with the last one first, in their order.
+fn turned_members(members: GroupMembers) -> GroupMembers
+    ensures { members_of result ≡ members_onto (member_list (members_of members)) NoMembers }
+{
+    members.reversed()
+}
+
+/// An expression.
+#[cycle(elaborate)]
+pub(crate) fn elaborate(
+    alloc: Global,
+    progress: &mut Progress,
+    scopes: &mut Scopes,
+    e: &Expr,
+) -> Result<Typed, FrontFault>
+    ensures answer { Answers result typed_of (work_of progress.new)
+        (elaborate (expr_of e.now) scopes.old (work_of progress.old)) }
+    ensures scopes { OnOk result (scopes.new ≡ scopes.old) }
+{
+    let typed = node(alloc, progress, scopes, e.pos, &e.node)?;
+    progress.not_too_large(e.pos, typed.ty)?;
+    Ok(typed)
+}
+
+// An expression, without the test of its type's size.
+#[cycle(elaborate)]
+fn node(
+    alloc: Global,
+    progress: &mut Progress,
+    scopes: &mut Scopes,
+    pos: Pos,
+    node: &ExprNode,
+) -> Result<Typed, FrontFault>
+    ensures answer { Answers result typed_of (work_of progress.new)
+        (elaborate_node (node_of node.now) pos scopes.old (work_of progress.old)) }
+    ensures scopes { OnOk result (scopes.new ≡ scopes.old) }
+{
+    match node {
+        ExprNode::Int(n) => Ok(literal(alloc, progress, Core::Int(*n), Row::Int)?),
+        ExprNode::Bool(b) => Ok(literal(alloc, progress, Core::Bool(*b), Row::Bool)?),
+        ExprNode::Unit => Ok(literal(alloc, progress, Core::Unit, Row::Unit)?),
+        ExprNode::Name(name) => used(alloc, progress, pos, scopes.find(name)),
+        ExprNode::Lambda(l) => lambda(alloc, progress, scopes, l),
+        ExprNode::Call(function, arguments) => {
+            let f = elaborate(alloc, progress, scopes, function)?;
+            call(alloc, progress, scopes, pos, function.pos, f, arguments)
+        }
+        ExprNode::Let(list, inner) => {
+            let bound = bindings(alloc, progress, scopes, list)?;
+            let done = body(alloc, progress, scopes, bound.names.as_slice(), inner)?;
+            let inner = boxed(alloc, Core::Seq(done.terms))?;
+            Ok(plain(alloc, Core::Let(bound.bindings, inner), done.ty)?)
+        }
+        ExprNode::Letrec(list, inner) => {
+            let heads = heads(alloc, progress, scopes, list)?;
+            let group = members(alloc, progress, scopes, list, heads.as_slice())?;
+            let done = in_order(alloc, progress, scopes, inner)?;
+            scopes.leave(heads.len())?;
+            let inner = boxed(alloc, Core::Seq(done.terms))?;
+            Ok(plain(alloc, Core::Group(group, inner), done.ty)?)
+        }
+        ExprNode::If(..) => if_form(alloc, progress, scopes, pos, node),
+        ExprNode::Begin(inner) => Ok(in_order(alloc, progress, scopes, inner)?.typed(alloc)?),
+        ExprNode::Ascribe(e, t) => {
+            let e = elaborate(alloc, progress, scopes, e)?;
+            let ty = progress.written(alloc, t)?;
+            progress.cast_to(alloc, pos, ty, e)
+        }
+        ExprNode::Tuple(parts) => {
+            let given = all(alloc, progress, scopes, parts)?;
+            Ok(tuple(alloc, progress, given)?)
+        }
+        ExprNode::Proj(whole, part, part_pos) => {
+            let e = elaborate(alloc, progress, scopes, whole)?;
+            projected(alloc, progress, whole.pos, *part_pos, e, *part)
+        }
+        ExprNode::Prim(operator, list) => {
+            let wanted = operands_of(*operator);
+            let given = operands(alloc, progress, scopes, list, wanted, None)?;
+            let ty = answer_type(progress, *operator, given.content)?;
+            Ok(plain(alloc, Core::Prim(*operator, given.terms), ty)?)
+        }
+    }
+}
+
+// An `if`; no other form comes here.
+#[cycle(elaborate)]
+fn if_form(
+    alloc: Global,
+    progress: &mut Progress,
+    scopes: &mut Scopes,
+    pos: Pos,
+    node: &ExprNode,
+) -> Result<Typed, FrontFault>
+    ensures answer { Answers result typed_of (work_of progress.new)
+        (elaborate_node (node_of node.now) pos scopes.old (work_of progress.old)) }
+    ensures scopes { OnOk result (scopes.new ≡ scopes.old) }
+{
+    let ExprNode::If(condition, on_true, on_false) = node else {
+        return Err(FrontFault::OutOfMemory);
+    };
+    let test = elaborate(alloc, progress, scopes, condition)?;
+    let truth = progress.cast_to_row(alloc, condition.pos, Row::Bool, test)?;
+    let first = elaborate(alloc, progress, scopes, on_true)?;
+    let second = elaborate(alloc, progress, scopes, on_false)?;
+    let first = Placed {
+        pos: on_true.pos,
+        e: first,
+    };
+    let second = Placed {
+        pos: on_false.pos,
+        e: second,
+    };
+    joined(alloc, progress, pos, truth, first, second)
+}
+
+// A call of this function, whose expression stands at `function_pos`.
+#[cycle(elaborate)]
+fn call(
+    alloc: Global,
+    progress: &mut Progress,
+    scopes: &mut Scopes,
+    pos: Pos,
+    function_pos: Pos,
+    function: Typed,
+    arguments: &ExprList,
+) -> Result<Typed, FrontFault>
+    ensures answer { Answers result typed_of (work_of progress.new)
+        (call_by pos function_pos (typed_of function) (how_many (exprs_of arguments.now))
+        (elaborate_each (exprs_of arguments.now) scopes.old) (elaborate_all (exprs_of arguments.now) scopes.old)
+        (row_at progress.old.types function.ty.0) (work_of progress.old)) }
+    ensures scopes { OnOk result (scopes.new ≡ scopes.old) }
+{
+    match progress.row(alloc, function.ty)? {
+        Row::Fun(parameters, answer) => {
+            if !has_length(arguments, parameters.len()) {
+                return refused(RefusalKind::WrongCount, pos);
+            }
+            let terms = each(alloc, progress, scopes, arguments, parameters.as_slice())?;
+            Ok(plain(alloc, Core::Call(function.core, terms), answer)?)
+        }
+        Row::Dyn => {
+            let given = all(alloc, progress, scopes, arguments)?;
+            Ok(called_dyn(alloc, progress, function_pos, function, given)?)
+        }
+        _ => refused(RefusalKind::NotFunction, function_pos),
+    }
+}
+
+// Arguments or parts, each at its own type. There are eight at most.
+#[cycle(elaborate)]
+fn all(
+    alloc: Global,
+    progress: &mut Progress,
+    scopes: &mut Scopes,
+    list: &ExprList,
+) -> Result<Given, FrontFault>
+    ensures answer { Answers result given_of (work_of progress.new)
+        (elaborate_all (exprs_of list.now) scopes.old (work_of progress.old)) }
+    ensures scopes { OnOk result (scopes.new ≡ scopes.old) }
+{
+    let ExprList::Cons(first, rest) = list else {
+        return Ok(Given {
+            terms: CoreList::Nil,
+            types: Vec::new(alloc),
+        });
+    };
+    let e = elaborate(alloc, progress, scopes, first)?;
+    let given = all(alloc, progress, scopes, rest)?;
+    Ok(given_first(alloc, e, given)?)
+}
+
+// Arguments, each cast to the type that is wanted. There are six at most.
+#[cycle(elaborate)]
+fn each(
+    alloc: Global,
+    progress: &mut Progress,
+    scopes: &mut Scopes,
+    list: &ExprList,
+    wanted: &[TypeId],
+) -> Result<CoreList, FrontFault>
+    ensures answer { Answers result terms_of (work_of progress.new)
+        (elaborate_each (exprs_of list.now) scopes.old (places_of wanted.now) (work_of progress.old)) }
+    ensures scopes { OnOk result (scopes.new ≡ scopes.old) }
+{
+    let ExprList::Cons(first, rest) = list else {
+        return Ok(CoreList::Nil);
+    };
+    let [ty, more @ ..] = wanted else {
+        return Ok(CoreList::Nil);
+    };
+    let e = elaborate(alloc, progress, scopes, first)?;
+    let argument = progress.cast_to(alloc, first.pos, *ty, e)?;
+    let others = each(alloc, progress, scopes, rest, more)?;
+    Ok(terms_first(alloc, argument, others)?)
+}
+
+// Operands as their operator wants them, where the content's type may be known. There are three at most.
+#[cycle(elaborate)]
+fn operands(
+    alloc: Global,
+    progress: &mut Progress,
+    scopes: &mut Scopes,
+    list: &ExprList,
+    wanted: &[Operand],
+    content: Option<TypeId>,
+) -> Result<Gathered, FrontFault>
+    ensures answer { Answers result gathered_of (work_of progress.new)
+        (elaborate_operands (exprs_of list.now) (map operand_seen wanted.now) (place_if content) scopes.old
+        (work_of progress.old)) }
+    ensures scopes { OnOk result (scopes.new ≡ scopes.old) }
+{
+    let ExprList::Cons(first, rest) = list else {
+        return Ok(Gathered {
+            terms: CoreList::Nil,
+            content,
+        });
+    };
+    let [operand, more @ ..] = wanted else {
+        return Ok(Gathered {
+            terms: CoreList::Nil,
+            content,
+        });
+    };
+    let e = elaborate(alloc, progress, scopes, first)?;
+    let one = fitted(alloc, progress, first.pos, content, e, *operand)?;
+    let others = operands(alloc, progress, scopes, rest, more, one.content)?;
+    Ok(Gathered {
+        terms: terms_first(alloc, one.held, others.terms)?,
+        content: others.content,
+    })
+}
+
+// A lambda.
+#[cycle(elaborate)]
+fn lambda(
+    alloc: Global,
+    progress: &mut Progress,
+    scopes: &mut Scopes,
+    l: &LambdaExpr,
+) -> Result<Typed, FrontFault>
+    ensures answer { Answers result typed_of (work_of progress.new)
+        (elaborate_lambda (lambda_of l.now) scopes.old (work_of progress.old)) }
+    ensures scopes { OnOk result (scopes.new ≡ scopes.old) }
+{
+    let types = parameter_types(alloc, progress, l.params.as_slice())?;
+    let wanted = progress.written_if(alloc, &l.result)?;
+    let names = bind_names(
+        alloc,
+        progress,
+        l.pos,
+        l.params.as_slice(),
+        types.as_slice(),
+    )?;
+    lambda_body(
+        alloc,
+        progress,
+        scopes,
+        l.pos,
+        &l.body,
+        types.as_slice(),
+        wanted,
+        names.as_slice(),
+    )
+}
+
+// A lambda whose parameters have these names and types.
+#[cycle(elaborate)]
+fn lambda_body(
+    alloc: Global,
+    progress: &mut Progress,
+    scopes: &mut Scopes,
+    pos: Pos,
+    inner: &ExprList,
+    types: &[TypeId],
+    wanted: Option<TypeId>,
+    names: &[Named],
+) -> Result<Typed, FrontFault>
+    ensures answer { Answers result typed_of (work_of progress.new)
+        (lambda_rest pos (exprs_of inner.now) (places_of types.now) (place_if wanted) (env_of names.now) scopes.old
+        (work_of progress.old)) }
+    ensures scopes { OnOk result (scopes.new ≡ scopes.old) }
+{
+    let done = body(alloc, progress, scopes, names, inner)?.typed(alloc)?;
+    let e = progress.cast_if(alloc, last_pos(pos, inner), wanted, done)?;
+    Ok(function(alloc, progress, names, types, e)?)
+}
+
+// A body where these names are bound.
+#[cycle(elaborate)]
+fn body(
+    alloc: Global,
+    progress: &mut Progress,
+    scopes: &mut Scopes,
+    names: &[Named],
+    inner: &ExprList,
+) -> Result<Sequence, FrontFault>
+    ensures answer { Answers result sequence_of (work_of progress.new)
+        (elaborate_sequence (exprs_of inner.now) (with_names (env_of names.now) scopes.old) (work_of progress.old)) }
+    ensures scopes { OnOk result (scopes.new ≡ scopes.old) }
+{
+    scopes.enter(alloc, names)?;
+    let done = in_order(alloc, progress, scopes, inner)?;
+    scopes.leave(names.len())?;
+    Ok(done)
+}
+
+// Expressions one after another.
+#[cycle(elaborate)]
+fn in_order(
+    alloc: Global,
+    progress: &mut Progress,
+    scopes: &mut Scopes,
+    list: &ExprList,
+) -> Result<Sequence, FrontFault>
+    ensures answer { Answers result sequence_of (work_of progress.new)
+        (elaborate_sequence (exprs_of list.now) scopes.old (work_of progress.old)) }
+    ensures scopes { OnOk result (scopes.new ≡ scopes.old) }
+{
+    let mut terms = CoreList::new();
+    let mut left = list;
+    loop {
+        let ExprList::Cons(first, rest) = left else {
+            // No body is empty.
+            let ty = progress.form(Row::Unit)?;
+            return Ok(Sequence {
+                terms: turned(terms),
+                ty,
+            });
+        };
+        let e = elaborate(alloc, progress, scopes, first)?;
+        let ty = e.ty;
+        terms.push_front(alloc, Box::into_inner(e.core))?;
+        if let ExprList::Nil = &**rest {
+            return Ok(Sequence {
+                terms: turned(terms),
+                ty,
+            });
+        }
+        left = rest;
+    }
+}
+
+// The bindings of a `let`, outside their names.
+#[cycle(elaborate)]
+fn bindings(
+    alloc: Global,
+    progress: &mut Progress,
+    scopes: &mut Scopes,
+    list: &Bindings,
+) -> Result<Bound, FrontFault>
+    ensures answer { Answers result bound_of (work_of progress.new)
+        (elaborate_bindings (lets_of list.now) scopes.old (work_of progress.old)) }
+    ensures scopes { OnOk result (scopes.new ≡ scopes.old) }
+{
+    let mut done = CoreBindings::new();
+    let mut names = Vec::new(alloc);
+    let mut left = list;
+    while let Bindings::Cons(first, rest) = left {
+        let e = elaborate(alloc, progress, scopes, &first.value)?;
+        let wanted = progress.written_if(alloc, &first.ty)?;
+        let bound = progress.cast_if(alloc, first.value.pos, wanted, e)?;
+        let variable = progress.fresh()?;
+        let named = plain_name(alloc, &first.name, first.value.pos, variable, bound.ty)?;
+        push(&mut names, named)?;
+        let value = Box::into_inner(bound.core);
+        done.push_front(
+            alloc,
+            CoreBinding {
+                name: variable,
+                value,
+            },
+        )?;
+        left = rest;
+    }
+    Ok(Bound {
+        bindings: turned_bindings(done),
+        names,
+    })
+}
+
+// The members of a `letrec` with these heads.
+#[cycle(elaborate)]
+fn members(
+    alloc: Global,
+    progress: &mut Progress,
+    scopes: &mut Scopes,
+    list: &Members,
+    heads: &[Head],
+) -> Result<GroupMembers, FrontFault>
+    ensures answer { Answers result members_of (work_of progress.new)
+        (elaborate_members (letrecs_of list.now) (heads_seen heads.now) scopes.old (work_of progress.old)) }
+    ensures scopes { OnOk result (scopes.new ≡ scopes.old) }
+{
+    let mut done = GroupMembers::new();
+    let mut left = list;
+    let mut heads_left = heads;
+    while let Members::Cons(first, rest) = left {
+        let [head, more @ ..] = heads_left else {
+            return Ok(turned_members(done));
+        };
+        let member = member(alloc, progress, scopes, &first.fun, head)?;
+        done.push_front(
+            alloc,
+            GroupMember {
+                name: head.meaning.variable,
+                params: member.variables,
+                body: Box::into_inner(member.body),
+                ty: head.meaning.ty,
+            },
+        )?;
+        left = rest;
+        heads_left = more;
+    }
+    Ok(turned_members(done))
+}
+
+// A member with this head.
+#[cycle(elaborate)]
+fn member(
+    alloc: Global,
+    progress: &mut Progress,
+    scopes: &mut Scopes,
+    l: &LambdaExpr,
+    head: &Head,
+) -> Result<MemberBody, FrontFault>
+    ensures answer { Answers result body_of (work_of progress.new)
+        (elaborate_member (lambda_of l.now) (head_seen head.now) scopes.old (work_of progress.old)) }
+    ensures scopes { OnOk result (scopes.new ≡ scopes.old) }
+{
+    let types = head.parameters.as_slice();
+    let names = bind_names(alloc, progress, l.pos, l.params.as_slice(), types)?;
+    let variables = variables_of(alloc, names.as_slice())?;
+    let done = body(alloc, progress, scopes, names.as_slice(), &l.body)?.typed(alloc)?;
+    let e = progress.cast_to(alloc, last_pos(l.pos, &l.body), head.answer, done)?;
+    Ok(MemberBody {
+        variables,
+        body: e.core,
+    })
+}

@@ -1,0 +1,67 @@
+// Programs with their casts.
+#![tactic(auto, using(crate::proofs::Elaborated::program_answered))]
+
+ghost use Rattle.std.specs.Prelude.{◌≡◌, [], IfOk, length};
+ghost use Rattle.core_calc.specs.Typing.{ProgramTermHasType};
+ghost use Rattle.core_calc.specs.Views.{term_of};
+ghost use Rattle.surface_syntax.specs.Views.{expr_of};
+ghost use Rattle.cast_insert.specs.Elaboration.{elaborate_program, nothing_yet};
+ghost use Rattle.cast_insert.specs.Programs.{IsSource};
+ghost use Rattle.cast_insert.specs.Outcomes.{Inserts};
+ghost use Rattle.cast_insert.specs.Views.{Answers, typed_of, work_of};
+
+use crate::casts::CastList;
+use crate::elaboration::elaborate;
+use crate::names::Scopes;
+use crate::progress::{Progress, Typed};
+use core_calc::terms::Core;
+use grift_base::places::{LabelTable, TypeId};
+use grift_base::refusals::FrontFault;
+use std::alloc::Global;
+use std::mem;
+use surface_syntax::exprs::Program;
+use type_graph::tables::TypeTable;
+
+/// A program with its casts: its term and its type, the labels that may be blamed in order of first use, and the
+/// casts and parts in the order in which they are formed.
+#[derive(Drop)]
+pub struct Elab {
+    pub core: Core,
+    pub ty: TypeId,
+    pub labels: LabelTable,
+    pub casts: CastList,
+}
+
+// The elaboration of a program from nothing on.
+fn run(alloc: Global, progress: &mut Progress, program: &Program) -> Result<Typed, FrontFault>
+    requires { work_of progress.old ≡ nothing_yet }
+    ensures { Answers result typed_of (work_of progress.new) (elaborate_program (expr_of program.now.body)) }
+{
+    let mut scopes = Scopes::new(alloc);
+    elaborate(alloc, progress, &mut scopes, &program.body)
+}
+
+/// The elaboration of a program, which fills an empty table of types; or its first refusal. After a refusal the table
+/// has the rows that were formed so far. `OutOfMemory` comes where no memory is left, or a table is full.
+pub fn insert(alloc: Global, program: &Program, types: &mut TypeTable) -> Result<Elab, FrontFault>
+    requires { types.old ≡ [] }
+    ensures answer { Inserts result types.new (elaborate_program (expr_of program.now.body)) }
+    ensures typed { IsSource (expr_of program.now.body) → IfOk result (λ elab.
+        ProgramTermHasType types.new (length elab.labels) (term_of elab.core) elab.ty.0) }
+{
+    let mut progress = Progress {
+        types: mem::replace(types, TypeTable::new(alloc)?),
+        labels: LabelTable::new(alloc),
+        casts: CastList::new(alloc),
+        next: 0,
+    };
+    let done = run(alloc, &mut progress, program);
+    *types = progress.types;
+    let e = done?;
+    Ok(Elab {
+        core: Box::into_inner(e.core),
+        ty: e.ty,
+        labels: progress.labels,
+        casts: progress.casts,
+    })
+}

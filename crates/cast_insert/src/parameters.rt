@@ -1,0 +1,96 @@
+// Parameters: their types, and their variables.
+#![tactic(auto, using(crate::proofs::Steps::steps), unfolding(crate::specs::Making::then_make))]
+
+ghost use Rattle.std.specs.Prelude.{◌≡◌, IfOk};
+ghost use Rattle.type_graph.specs.Rows.{places_of};
+ghost use Rattle.surface_syntax.specs.Views.{params_of, written_of};
+ghost use Rattle.core_calc.specs.Views.{names_of};
+ghost use Rattle.cast_insert.specs.Making.{Makes};
+ghost use Rattle.cast_insert.specs.Environments.{bind_names, parameter_types, type_or_dyn, variables};
+ghost use Rattle.cast_insert.specs.Scoped.{env_of};
+ghost use Rattle.cast_insert.specs.Views.{Answers, work_of};
+
+use crate::copies::{copy_of_name, put_first};
+use crate::names::{Meaning, Named};
+use crate::progress::Progress;
+use core_calc::terms::VarIds;
+use grift_base::lists::OutOfMemory;
+use grift_base::places::{Pos, TypeId};
+use grift_base::refusals::FrontFault;
+use std::alloc::Global;
+use surface_syntax::types::{Param, TypeExpr};
+use type_graph::rows::Row;
+
+/// A type that may be written, or Dyn.
+pub(crate) fn type_or_dyn(
+    alloc: Global,
+    progress: &mut Progress,
+    t: &Option<TypeExpr>,
+) -> Result<TypeId, FrontFault>
+    ensures { Answers result (λ ty. ty.0) (work_of progress.new)
+        (type_or_dyn (written_of t.now) (work_of progress.old)) }
+{
+    match t {
+        Some(t) => progress.written(alloc, t),
+        None => Ok(progress.form(Row::Dyn)?),
+    }
+}
+
+/// The types of parameters, of which there are six at most.
+pub(crate) fn parameter_types(
+    alloc: Global,
+    progress: &mut Progress,
+    params: &[Param],
+) -> Result<Vec<TypeId>, FrontFault>
+    ensures { Answers result (λ types. places_of types.items) (work_of progress.new)
+        (parameter_types (params_of params.now) (work_of progress.old)) }
+{
+    let [first, rest @ ..] = params else {
+        return Ok(Vec::new(alloc));
+    };
+    let ty = type_or_dyn(alloc, progress, &first.ty)?;
+    let mut types = parameter_types(alloc, progress, rest)?;
+    put_first(&mut types, ty)?;
+    Ok(types)
+}
+
+/// A new variable for each of these parameters, which have these types. There are six at most.
+pub(crate) fn bind_names(
+    alloc: Global,
+    progress: &mut Progress,
+    pos: Pos,
+    params: &[Param],
+    types: &[TypeId],
+) -> Result<Vec<Named>, OutOfMemory>
+    ensures { IfOk result (λ names. bind_names pos (params_of params.now) (places_of types.now) (work_of progress.old)
+        ≡ Makes (env_of names.items) (work_of progress.new)) }
+{
+    let [first, others @ ..] = params else {
+        return Ok(Vec::new(alloc));
+    };
+    let [ty, more @ ..] = types else {
+        return Ok(Vec::new(alloc));
+    };
+    let variable = progress.fresh()?;
+    let mut names = bind_names(alloc, progress, pos, others, more)?;
+    let name = copy_of_name(alloc, &first.name)?;
+    let meaning = Meaning {
+        variable,
+        ty: *ty,
+        written: None,
+        pos,
+    };
+    put_first(&mut names, Named { name, meaning })?;
+    Ok(names)
+}
+
+/// The variables of these names.
+pub(crate) fn variables_of(alloc: Global, names: &[Named]) -> Result<VarIds, OutOfMemory>
+    ensures { IfOk result (λ ids. names_of ids ≡ variables (env_of names.now)) }
+{
+    let mut ids = VarIds::new(alloc);
+    for named in names {
+        ids.push(named.meaning.variable)?;
+    }
+    Ok(ids)
+}

@@ -1,0 +1,231 @@
+// What the elaboration has so far, and its small steps.
+#![tactic(auto, using(crate::proofs::Steps::steps), unfolding(crate::specs::Making::then_make))]
+
+ghost use Rattle.std.specs.Prelude.{◌≡◌, Some, true, IfOk};
+ghost use Rattle.grift_base.specs.Types.{row_at};
+ghost use Rattle.type_graph.specs.Forming.{intern};
+ghost use Rattle.type_graph.specs.Rows.{row_of};
+ghost use Rattle.surface_syntax.specs.Views.{type_of, written_of};
+ghost use Rattle.cast_insert.specs.Making.{Makes, form, fresh, label_at, list_entry, not_too_large, are_consistent};
+ghost use Rattle.cast_insert.specs.Making.{cast_at, cast_to, cast_if, cast_to_row, written, written_if};
+ghost use Rattle.cast_insert.specs.Views.{Answers, entry_of, place_if, typed_of, work_of};
+
+use crate::casts::{CastEntry, CastList};
+use crate::copies::{boxed, copy_of_row, refused};
+use crate::written::form_type;
+use consistency::checks::consistent;
+use core_calc::terms::{Core, VarId};
+use grift_base::lists::OutOfMemory;
+use grift_base::places::{LabelId, LabelTable, Pos, TypeId};
+use grift_base::refusals::{FrontFault, RefusalKind};
+use std::alloc::Global;
+use surface_syntax::types::TypeExpr;
+use type_graph::rows::Row;
+use type_graph::tables::TypeTable;
+
+/// The most nodes of a type.
+const MOST_NODES: u64 = 1000;
+
+/// What the elaboration has so far.
+#[derive(Drop)]
+pub(crate) struct Progress {
+    pub types: TypeTable,
+    pub labels: LabelTable,
+    pub casts: CastList,
+    pub next: u32,
+}
+
+/// A term, its type, and where it is a cast the place of its entry in the list of casts.
+#[derive(Drop)]
+pub(crate) struct Typed {
+    pub core: Box<Core>,
+    pub ty: TypeId,
+    pub entry: Option<u32>,
+}
+
+impl Progress {
+    /// The type with this row.
+    pub fn form(&mut self, row: Row) -> Result<TypeId, OutOfMemory>
+        ensures { IfOk result (λ ty. form (intern (row_of row)) (work_of self.old) ≡ Makes ty.0 (work_of self.new)) }
+    {
+        if !self.types.fits(&row) {
+            return Err(OutOfMemory);
+        }
+        self.types.intern(row)
+    }
+
+    /// The row of a type.
+    pub fn row(&self, alloc: Global, ty: TypeId) -> Result<Row, OutOfMemory>
+        ensures { IfOk result (λ row. row_at self.now.types ty.0 ≡ Some (row_of row)) }
+    {
+        if ty.0 >= self.types.len() {
+            return Err(OutOfMemory);
+        }
+        copy_of_row(alloc, self.types.row(ty))
+    }
+
+    /// A variable that nothing else binds.
+    pub fn fresh(&mut self) -> Result<VarId, OutOfMemory>
+        ensures { IfOk result (λ variable. fresh (work_of self.old) ≡ Makes variable.0 (work_of self.new)) }
+    {
+        let variable = VarId(self.next);
+        if self.next == u32::MAX {
+            return Err(OutOfMemory);
+        }
+        self.next += 1;
+        Ok(variable)
+    }
+
+    /// The label of a place.
+    pub fn label(&mut self, pos: Pos) -> Result<LabelId, OutOfMemory>
+        ensures { IfOk result (λ label. label_at pos (work_of self.old) ≡ Makes label.0 (work_of self.new)) }
+    {
+        // No label stands twice.
+        self.labels.len();
+        let label = self.labels.intern(pos)?;
+        Ok(label)
+    }
+
+    /// The place of a new entry in the list of casts.
+    pub fn list(&mut self, entry: CastEntry) -> Result<u32, OutOfMemory>
+        ensures { IfOk result (λ place. list_entry (entry_of entry) (work_of self.old)
+            ≡ Makes place (work_of self.new)) }
+    {
+        let place = self.casts.len();
+        if place >= u64::from(u32::MAX) {
+            return Err(OutOfMemory);
+        }
+        self.casts.push(entry)?;
+        Ok(place as u32)
+    }
+
+    /// Refuses a type with too many nodes, at this place.
+    pub fn not_too_large(&self, pos: Pos, ty: TypeId) -> Result<(), FrontFault>
+        ensures { Answers result (λ done. true) (work_of self.now) (not_too_large pos ty.0 (work_of self.now)) }
+    {
+        if ty.0 >= self.types.len() {
+            return Err(FrontFault::OutOfMemory);
+        }
+        if self.types.size(ty) > MOST_NODES {
+            return refused(RefusalKind::TypeTooLarge, pos);
+        }
+        Ok(())
+    }
+
+    /// Refuses two types that aren't consistent, at this place.
+    pub fn are_consistent(
+        &self,
+        alloc: Global,
+        pos: Pos,
+        a: TypeId,
+        b: TypeId,
+    ) -> Result<(), FrontFault>
+        ensures { Answers result (λ done. true) (work_of self.now) (are_consistent pos a.0 b.0 (work_of self.now)) }
+    {
+        if a.0 >= self.types.len() || b.0 >= self.types.len() {
+            return Err(FrontFault::OutOfMemory);
+        }
+        if !consistent(alloc, &self.types, a, b)? {
+            return refused(RefusalKind::NotConsistent, pos);
+        }
+        Ok(())
+    }
+
+    /// The cast of a term to a type, with the label of this place.
+    pub fn cast_at(
+        &mut self,
+        alloc: Global,
+        pos: Pos,
+        e: Typed,
+        ty: TypeId,
+    ) -> Result<Typed, OutOfMemory>
+        ensures { IfOk result (λ cast. cast_at pos (typed_of e) ty.0 (work_of self.old)
+            ≡ Makes (typed_of cast) (work_of self.new)) }
+    {
+        let label = self.label(pos)?;
+        let entry = self.list(CastEntry::Cast {
+            label,
+            from: e.ty,
+            to: ty,
+            inside: e.entry,
+        })?;
+        let core = boxed(alloc, Core::Cast(e.core, e.ty, ty, label))?;
+        Ok(Typed {
+            core,
+            ty,
+            entry: Some(entry),
+        })
+    }
+
+    /// The term where it has this type, else its cast; refused at this place where the types aren't consistent.
+    pub fn cast_to(
+        &mut self,
+        alloc: Global,
+        pos: Pos,
+        ty: TypeId,
+        e: Typed,
+    ) -> Result<Typed, FrontFault>
+        ensures { Answers result typed_of (work_of self.new) (cast_to pos ty.0 (typed_of e) (work_of self.old)) }
+    {
+        if e.ty.0 == ty.0 {
+            return Ok(e);
+        }
+        self.are_consistent(alloc, pos, e.ty, ty)?;
+        Ok(self.cast_at(alloc, pos, e, ty)?)
+    }
+
+    /// The same where a type is wanted.
+    pub fn cast_if(
+        &mut self,
+        alloc: Global,
+        pos: Pos,
+        wanted: Option<TypeId>,
+        e: Typed,
+    ) -> Result<Typed, FrontFault>
+        ensures { Answers result typed_of (work_of self.new)
+            (cast_if pos (place_if wanted) (typed_of e) (work_of self.old)) }
+    {
+        match wanted {
+            Some(ty) => self.cast_to(alloc, pos, ty, e),
+            None => Ok(e),
+        }
+    }
+
+    /// The cast to the type with this row.
+    pub fn cast_to_row(
+        &mut self,
+        alloc: Global,
+        pos: Pos,
+        row: Row,
+        e: Typed,
+    ) -> Result<Typed, FrontFault>
+        ensures { Answers result typed_of (work_of self.new)
+            (cast_to_row pos (row_of row) (typed_of e) (work_of self.old)) }
+    {
+        let ty = self.form(row)?;
+        self.cast_to(alloc, pos, ty, e)
+    }
+
+    /// A written type, where the work comes to it.
+    pub fn written(&mut self, alloc: Global, t: &TypeExpr) -> Result<TypeId, FrontFault>
+        ensures { Answers result (λ ty. ty.0) (work_of self.new) (written (type_of t.now) (work_of self.old)) }
+    {
+        let ty = form_type(alloc, &mut self.types, t)?;
+        self.not_too_large(t.pos, ty)?;
+        Ok(ty)
+    }
+
+    /// A type where one is written.
+    pub fn written_if(
+        &mut self,
+        alloc: Global,
+        t: &Option<TypeExpr>,
+    ) -> Result<Option<TypeId>, FrontFault>
+        ensures { Answers result place_if (work_of self.new) (written_if (written_of t.now) (work_of self.old)) }
+    {
+        match t {
+            Some(t) => Ok(Some(self.written(alloc, t)?)),
+            None => Ok(None),
+        }
+    }
+}
