@@ -3,6 +3,8 @@
 #![tactic(auto)]
 
 #[cfg(test)]
+mod elaborations;
+#[cfg(test)]
 mod forms;
 #[cfg(test)]
 mod words;
