@@ -617,3 +617,31 @@ fn five_hundred_forms_are_read(rt: HostRuntime) -> Result<(), Fail> {
     );
     Ok(())
 }
+
+#[test]
+fn long_bodies_are_read_and_dropped(rt: HostRuntime) -> Result<(), Fail> {
+    let mut text = Vec::new(rt.alloc());
+    text.extend_from_slice(b"(begin")?;
+    for _ in 0..131068 {
+        text.extend_from_slice(b" 1")?;
+    }
+    text.push(b')')?;
+    assert_eq!(rt; refusal(rt.alloc(), text.as_slice())?, None);
+    Ok(())
+}
+
+#[test]
+fn two_hundred_brackets_are_expanded(rt: HostRuntime) -> Result<(), Fail> {
+    let table: [&[u8]; 2] = [b"(repeat (i 0 1) ", b"(or 1 2 3 4 5 6 7 "];
+    for head in table {
+        let mut text = Vec::new(rt.alloc());
+        for _ in 0..199 {
+            text.extend_from_slice(head)?;
+        }
+        text.extend_from_slice(b"(and)")?;
+        let closing = vec![in rt.alloc(); b')'; 199]?;
+        text.extend_from_slice(closing.as_slice())?;
+        assert_eq!(rt; refusal(rt.alloc(), text.as_slice())?, None);
+    }
+    Ok(())
+}
