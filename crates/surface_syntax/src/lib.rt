@@ -33,7 +33,6 @@ use grift_base::refusals::FrontFault;
 use sexpr_reader::sexps::SexpList;
 use std::alloc::Global;
 
-
 /// The program that these s-expressions are, or the first refusal on the way through them from left to right.
 pub fn parse_program(alloc: Global, forms: &SexpList) -> Result<Program, FrontFault>
     ensures program { IfOk result (λ program. AreExpr (all_marked (datums_of forms.now)) (expr_of program.body)) }
