@@ -27,6 +27,8 @@ use Rattle.cast_insert.specs.declared.heads.Head.{Head as RustHead}
 use Rattle.cast_insert.specs.Making.{Work, Made, Makes, Refuses, Making, then_make, ◌>>=◌, give}
 use Rattle.cast_insert.specs.Environments.{Environment, Meaning, Head, head_of, heads_of, names_of_heads, with_names}
 use Rattle.cast_insert.specs.Heads.{head_seen, heads_seen}
+use Rattle.cast_insert.proofs.Steps.{steps}
+use Rattle.cast_insert.proofs.Bodies.{body_steps}
 use Rattle.cast_insert.proofs.Scoping.{with_names_push}
 
 -- what was made, as something else
@@ -92,7 +94,7 @@ head_named done head environment now next so_far e =
     (sym (map-append (λ (h : Head). (h.name, h.meaning)) (heads_seen done) (head_seen head ∷ [])))
     ∙ ap (λ xs. with_names (names_of_heads xs) environment) (sym (map-append head_seen done (head ∷ [])))
 
-pub ruleset head_steps = (heads_refused, heads_done, heads_more, head_named)
+pub ruleset head_steps = (steps, heads_refused, heads_done, heads_more, head_named)
 
 -- ---- sequences
 
@@ -302,6 +304,8 @@ members_none done [] environment work whole so_far = sym so_far
 members_none done (head ∷ heads) environment work whole so_far = sym so_far
 
 pub ruleset loop_steps = (
+  steps,
+  body_steps,
   sequence_refused,
   sequence_last,
   sequence_none,

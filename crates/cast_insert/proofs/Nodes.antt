@@ -14,7 +14,8 @@ use Rattle.surface_syntax.specs.Trees.{AscribeNode, TupleNode, ProjNode}
 use Rattle.cast_insert.specs.Sources.{place_of, how_many}
 use Rattle.type_graph.specs.Forming.{intern}
 use Rattle.consistency.specs.Blending.{blend}
-use Rattle.cast_insert.specs.Making.{Work, Making, then_make, ◌>>=◌, give, form, row_of, Typed, typed, cast_to, blend_at}
+use Rattle.cast_insert.specs.Making.{Work, Making, then_make, ◌>>=◌, give, form, row_of, Typed, typed, cast_to}
+use Rattle.cast_insert.specs.Making.{blend_at}
 use Rattle.cast_insert.specs.Environments.{Environment, meaning_of}
 use Rattle.cast_insert.specs.Elaboration.{elaborate, elaborate_node, elaborate_all, elaborate_each}
 use Rattle.type_graph.proofs.Public.{row_stays, later_within}

@@ -18,7 +18,8 @@ use Rattle.surface_syntax.specs.Trees.{TypeExpr, TypeExprs, TypeThen}
 use Rattle.cast_insert.specs.WrittenTypes.{form_type, form_types}
 use Rattle.cast_insert.specs.Making.{Work, Makes, Refuses, Making, then_make, equal_places, label_at, test}
 
-pub makes_then : {A B : Type 0} (a : A) (work : Work) (next : A → Making B) → then_make (Makes a work) next ≡ next a work
+pub makes_then : {A B : Type 0} (a : A) (work : Work) (next : A → Making B) →
+    then_make (Makes a work) next ≡ next a work
 unfolding then_make
 makes_then a work next = refl
 
@@ -38,7 +39,9 @@ test_refuses true kind place work e = cc
 test_refuses false kind place work e = refl
 
 -- an entry that a table interned has the place that the definition gives it
-pub interned_place : {A : Type 0} (passes : A → Bool) (a : A) (old new : List A) (place : ℕ) → ((b : A) → passes b ≡ true → b ≡ a) → passes a ≡ true → HasNoRepeats old → Interns old a new → slice_get new place ≡ Some a → at_place_or_last (place_where passes old) a old ≡ (place, new)
+pub interned_place : {A : Type 0} (passes : A → Bool) (a : A) (old new : List A) (place : ℕ) → ((b : A) → passes b ≡
+    true → b ≡ a) → passes a ≡ true → HasNoRepeats old → Interns old a new → slice_get new place ≡ Some a →
+    at_place_or_last (place_where passes old) a old ≡ (place, new)
 interned_place passes a old new place exact itself apart interns at_place = one (place_where passes old) refl interns
   where
     found_old : new ≡ old → slice_get old place ≡ Some a

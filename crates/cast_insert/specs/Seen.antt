@@ -8,7 +8,8 @@ use Rattle.cast_insert.specs.declared.operands.OperatorAnswer.TheVariants.{Int a
 use Rattle.cast_insert.specs.declared.operands.OperatorAnswer.TheVariants.{Unit as UnitAnswer, Content as ContentAnswer}
 use Rattle.cast_insert.specs.declared.operands.OperatorAnswer.TheVariants.{BoxOf as BoxAnswer, VectorOf as VectorAnswer}
 use Rattle.cast_insert.specs.declared.operands.Held.{Held as RustHeld}
-use Rattle.cast_insert.specs.Operators.{Operand, As, Content, Box, Vector, AsContent, OperatorAnswer, Always, TheContent}
+use Rattle.cast_insert.specs.Operators.{Operand, As, Content, Box, Vector, AsContent, OperatorAnswer, Always}
+use Rattle.cast_insert.specs.Operators.{TheContent}
 use Rattle.cast_insert.specs.Operators.{BoxOf, VectorOf, Held}
 use Rattle.cast_insert.specs.Views.{typed_of, place_if}
 

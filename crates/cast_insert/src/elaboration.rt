@@ -1,5 +1,5 @@
 // The elaboration of expressions, form by form.
-#![tactic(auto, using(crate::proofs::Steps::steps, crate::proofs::Bodies::body_steps, crate::proofs::Loops::loop_steps), unfolding(crate::specs::Making::then_make))]
+#![tactic(auto, using(crate::proofs::Loops::loop_steps), unfolding(crate::specs::Making::then_make))]
 
 ghost use Rattle.std.specs.Prelude.{◌≡◌, ◌==◌, ◌∷◌, ◌++◌, [], None, IfOk, OnOk, map};
 ghost use Rattle.grift_base.specs.Types.{row_at};

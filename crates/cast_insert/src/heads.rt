@@ -1,12 +1,13 @@
 // The heads of a `letrec`.
-#![tactic(auto, using(crate::proofs::Steps::steps, crate::proofs::Loops::head_steps), unfolding(crate::specs::Making::then_make))]
+#![tactic(auto, using(crate::proofs::Loops::head_steps), unfolding(crate::specs::Making::then_make))]
 
 ghost use Rattle.std.specs.Prelude.{◌≡◌, ◌∷◌, ◌++◌, [], true, IfOk, OnOk};
 ghost use Rattle.type_graph.specs.Rows.{places_of};
 ghost use Rattle.surface_syntax.specs.Views.{lambda_of, letrecs_of, written_of};
 ghost use Rattle.cast_insert.specs.Environments.{head_of, heads_of, names_of_heads, with_names};
 ghost use Rattle.cast_insert.specs.Environments.{consistent_if};
-ghost use Rattle.cast_insert.specs.Heads.{head_of_types, head_seen, heads_seen, lambda_in, name_in, place_in, written_in};
+ghost use Rattle.cast_insert.specs.Heads.{head_of_types, head_seen, heads_seen, lambda_in, name_in, place_in};
+ghost use Rattle.cast_insert.specs.Heads.{written_in};
 ghost use Rattle.cast_insert.specs.Views.{Answers, place_if, work_of};
 
 use crate::copies::copy_of_name;

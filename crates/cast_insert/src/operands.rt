@@ -172,7 +172,8 @@ fn open_vector(
     }
 }
 
-/// An operand as its operator wants it, where the content's type is known if a box, a vector or the content came before.
+/// An operand as its operator wants it, where the content's type is known if a box, a vector or the content came
+/// before.
 pub(crate) fn fitted(
     alloc: Global,
     progress: &mut Progress,

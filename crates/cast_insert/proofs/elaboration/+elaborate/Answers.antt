@@ -123,7 +123,8 @@ if_form-returns-in_err-second-clause-answer t c =
     (work_of c.elaborate-3.new.progress) (elaborate on_false env (work_of c.elaborate-2.new.progress))
     (elaborate_node (IfNode condition on_true on_false) c.args.pos env (work_of c.args.progress.now))
     (search rules)
-    (rw (c.deref-4.ensures, c.in_ok-first.ensures.scopes, c.in_ok-test.ensures.scopes) at c.in_err-second.ensures.answer)
+    (rw (c.deref-4.ensures, c.in_ok-first.ensures.scopes, c.in_ok-test.ensures.scopes)
+    at c.in_err-second.ensures.answer)
     (λ kind at refused. if_second condition on_true on_false c.args.pos env (typed_of c.in_ok-test.test)
     (typed_of c.in_ok-truth.truth) (typed_of c.in_ok-first.first) (work_of c.args.progress.now)
     (work_of c.elaborate.new.progress) (work_of c.cast_to_row.new.self) (work_of c.elaborate-2.new.progress) kind at

@@ -15,7 +15,8 @@ use Rattle.cast_insert.proofs.elaboration.+elaborate.Given as goal
 -- the terms so far and what is made behind them are all that is made
 abbrev pub invariant-in_order-loop-left : goal.invariant-in_order-loop-left
 invariant-in_order-loop-left l =
-    (sequence_behind (term_list (terms_of l.terms)) (elaborate_sequence (exprs_of l.left) l.fn.scopes (work_of l.progress))
+    (sequence_behind (term_list (terms_of l.terms))
+    (elaborate_sequence (exprs_of l.left) l.fn.scopes (work_of l.progress))
     ≡ elaborate_sequence (exprs_of l.fn.list) l.fn.scopes (work_of l.fn.progress))
     × (l.scopes ≡ l.fn.scopes) × (size-ExprList l.left ≤ size-ExprList l.fn.list)
 
