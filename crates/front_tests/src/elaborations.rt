@@ -1,6 +1,8 @@
 // Texts that are read, parsed and elaborated: the type of a program and how many casts it has, or its first refusal.
 
+use cast_insert::casts::CastEntry;
 use cast_insert::insertion::{Elab, insert};
+use grift_base::places::{LabelId, Pos, TypeId};
 use grift_base::refusals::{FrontFault, Refusal};
 use sexpr_reader::read;
 use std::alloc::Global;
@@ -117,5 +119,32 @@ fn casts_stand_where_types_differ(rt: HostRuntime) -> Result<(), Fail> {
         let out = outcome(rt.alloc(), text)?;
         assert_eq!(rt; out.as_str(), expected);
     }
+    Ok(())
+}
+
+#[test]
+fn casts_stand_in_the_order_in_which_they_are_formed(rt: HostRuntime) -> Result<(), Fail> {
+    let alloc = rt.alloc();
+    let program = parse_program(alloc, &read(alloc, b"(: (: #t Dyn) Int)")?)?;
+    let mut types = TypeTable::new(alloc)?;
+    let Ok(elab) = insert(alloc, &program, &mut types) else {
+        return Err(Fail::from("the program is refused"));
+    };
+    let first = CastEntry::Cast {
+        label: LabelId(0),
+        from: TypeId(0),
+        to: TypeId(1),
+        inside: None,
+    };
+    let second = CastEntry::Cast {
+        label: LabelId(1),
+        from: TypeId(1),
+        to: TypeId(2),
+        inside: Some(0),
+    };
+    let labels = [Pos { line: 1, col: 4 }, Pos { line: 1, col: 1 }];
+    assert_eq!(rt; elab.ty, TypeId(2));
+    assert_eq!(rt; elab.labels.as_slice(), labels.as_slice());
+    assert_eq!(rt; elab.casts.as_slice(), [first, second].as_slice());
     Ok(())
 }
