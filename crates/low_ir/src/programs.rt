@@ -29,10 +29,12 @@ pub struct LowProgram {
 }
 
 impl LowProgram {
-    /// Whether each word that is read was set before, whatever path is taken; whether what is named by a number is
-    /// there; whether no procedure takes and no call hands on more than eight words, and each call of a numbered
-    /// procedure as many as it takes; whether no code comes to its end but behind a branch; whether what is built has
-    /// fewer than 256 words, and each offset is below 2,048; and whether the procedure that it begins with takes none.
+    /// Whether each word that is read was set before, whatever path is taken, where a branch that leaves counts as one
+    /// that goes on with what was set; whether what is named by a number is there; whether no procedure takes and no
+    /// call hands on more than eight words, a procedure has the words that it takes, and each call of a numbered
+    /// procedure hands on as many as that takes; whether no code comes to its end but behind a branch; whether what is
+    /// built has fewer than 256 words, and each offset is below 2,048; and whether the procedure that it begins with
+    /// takes none.
     pub fn is_closed(&self) -> bool
         ensures { result ≡ is_closed (procs_of self.now.procs) self.now.entry }
     {
