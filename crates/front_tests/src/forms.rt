@@ -1,5 +1,6 @@
 // Texts that are read and parsed: refusals with their kinds and places, and programs as they are shown.
 
+use grift_base::lists::Bytes;
 use grift_base::places::Pos;
 use grift_base::refusals::{FrontFault, Refusal, RefusalKind};
 use sexpr_reader::read;
@@ -444,6 +445,54 @@ fn forms_of_the_wrong_shape(rt: HostRuntime) -> Result<(), Fail> {
         let kind = RefusalKind::BadForm;
         let pos = Pos { line, col };
         assert_eq!(rt; refusal(rt.alloc(), text)?, Some(Refusal { kind, pos }));
+    }
+    Ok(())
+}
+
+// An operator with one operand too many, each of them 1.
+fn with_one_too_many(alloc: Global, operator: &[u8], operands: u64) -> Result<Bytes, Fail> {
+    let mut text = Bytes::new(alloc);
+    text.extend(b"(")?;
+    text.extend(operator)?;
+    for _ in 0..operands {
+        text.extend(b" 1")?;
+    }
+    text.extend(b" 1)")?;
+    Ok(text)
+}
+
+#[test]
+fn each_operator_has_its_number_of_operands(rt: HostRuntime) -> Result<(), Fail> {
+    let table: [(&[u8], u64); 20] = [
+        (b"+", 2),
+        (b"-", 2),
+        (b"*", 2),
+        (b"%/", 2),
+        (b"%%", 2),
+        (b"<", 2),
+        (b"<=", 2),
+        (b"=", 2),
+        (b">=", 2),
+        (b">", 2),
+        (b"not", 1),
+        (b"print-int", 1),
+        (b"newline", 0),
+        (b"box", 1),
+        (b"unbox", 1),
+        (b"box-set!", 2),
+        (b"make-vector", 2),
+        (b"vector-ref", 2),
+        (b"vector-set!", 3),
+        (b"vector-length", 1),
+    ];
+    for (operator, operands) in table {
+        let text = with_one_too_many(rt.alloc(), operator, operands)?;
+        let expected = Refusal {
+            kind: RefusalKind::BadForm,
+            pos: Pos { line: 1, col: 1 },
+        };
+        let refused = refusal(rt.alloc(), text.as_slice())?;
+        assert_eq!(rt; refused, Some(expected));
     }
     Ok(())
 }
