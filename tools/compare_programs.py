@@ -2,7 +2,8 @@
 
 usage: compare_programs.py GRIFT [COUNT [SEED]]
 
-A program sets the registers to random words, makes random instructions of RV64I without jumps, and stores all registers.
+A program sets the registers to random words, makes random instructions of RV64I without jumps, and stores all
+registers.
 GNU as assembles it. `grift exec` runs it as an image that prints them by environment calls; qemu runs it as an ELF file
 that writes them by a call of Linux. Both lie at the same addresses.
 """
@@ -62,7 +63,8 @@ def body(source: random.Random) -> tuple[list[str], bytes]:
 def epilogue_of_image() -> list[str]:
     lines = []
     for r in range(32):
-        lines += [f"ld x10, {1024 + 8 * r}(x30)", "addi x17, x0, 1", "ecall", "addi x10, x0, 10", "addi x17, x0, 2", "ecall"]
+        lines += [f"ld x10, {1024 + 8 * r}(x30)", "addi x17, x0, 1", "ecall"]
+        lines += ["addi x10, x0, 10", "addi x17, x0, 2", "ecall"]
     return lines + ["addi x10, x0, 0", "addi x11, x0, 0", "addi x17, x0, 0", "ecall"]
 
 
@@ -102,7 +104,8 @@ def agrees(grift: str, seed: int) -> bool:
         theirs = assembled(folder, lines + epilogue_of_linux())
         # the region begins at the same address in both
         room = REGION - BASE - len(constants)
-        status, printed, line = run(grift, image(ours.ljust(room, b"\0"), constants), "--region", "4096", "--stack", "0")
+        filled = image(ours.ljust(room, b"\0"), constants)
+        status, printed, line = run(grift, filled, "--region", "4096", "--stack", "0")
         name = os.path.join(folder, "a.elf")
         with open(name, "wb") as file:
             file.write(elf(constants + theirs, BASE + len(constants), REGION - BASE + 8192))

@@ -2,9 +2,9 @@
 
 usage: compare_words.py GRIFT [COUNT [SEED]]
 
-Each word is the first of an image that is run for one step: the machine calls it undefined, or not. objdump has to name
-an instruction of RV64I for exactly the words that aren't undefined. Words of the opcodes 0x73 and 0x0F are compared with
-a list instead, since objdump knows more of them than the machine does.
+Each word is the first of an image that is run for one step: the machine calls it undefined, or not. objdump has to
+name an instruction of RV64I for exactly the words that aren't undefined. Words of the opcodes 0x73 and 0x0F are
+compared with a list instead, since objdump knows more of them than the machine does.
 """
 
 import random
@@ -43,7 +43,8 @@ def named(words: list[int]) -> list[bool]:
                 file.write(word.to_bytes(4, "little"))
         file.flush()
         listing = subprocess.run(
-            ["riscv64-linux-gnu-objdump", "-D", "-b", "binary", "-m", "riscv:rv64", "-M", "no-aliases,numeric", file.name],
+            ["riscv64-linux-gnu-objdump", "-D", "-b", "binary", "-m", "riscv:rv64", "-M", "no-aliases,numeric",
+             file.name],
             capture_output=True, check=True, text=True,
         ).stdout
     names = {}
@@ -87,7 +88,8 @@ def main() -> int:
     with ThreadPoolExecutor(4) as pool:
         got = list(pool.map(is_instruction, words + special))
     wrong = [hex(word) for word, a, b in zip(words + special, wanted, got) if a != b]
-    print(f"{len(words)} words, {sum(wanted[:count])} of them instructions; {len(special)} of 0x73 and 0x0F; {len(wrong)} differ")
+    print(f"{len(words)} words, {sum(wanted[:count])} of them instructions; {len(special)} of 0x73 and 0x0F; "
+          f"{len(wrong)} differ")
     print("\n".join(wrong[:20]), end="\n" if wrong else "")
     return 1 if wrong else 0
 

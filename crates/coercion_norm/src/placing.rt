@@ -1,6 +1,7 @@
 // Types and coercions as objects that stand before the code.
 
-ghost use Rattle.std.specs.Prelude.{◌≡◌, ◌<◌, ◌≤◌, ◌%◌, ◌^◌, ◌∷◌, [], All, IfOk, Some, cond, length, map, slice_get, slice_index};
+ghost use Rattle.std.specs.Prelude.{◌≡◌, ◌<◌, ◌≤◌, ◌%◌, ◌^◌, ◌∷◌, [], All, IfOk, Some, cond, length};
+ghost use Rattle.std.specs.Prelude.{map, slice_get, slice_index};
 ghost use Rattle.grift_base.specs.Types.{parts_of};
 ghost use Rattle.type_graph.specs.Rows.{places_of, row_of};
 ghost use Rattle.type_graph.specs.Trees.{height};

@@ -140,7 +140,7 @@ impl<W: Write> Sink for StreamSink<W> {
 }
 
 /// A sink that writes to the file at a path. The first put makes the file, and empties one that is there; it fails
-/// where that fails, and then the next put tries it anew. A put that fails half-way leaves in the file what was written.
+/// where that fails, and then the next put tries it anew. A put that fails half-way leaves in the file what it wrote.
 #[derive(Drop)]
 pub struct FileSink<'a, F: Files> {
     files: F,
