@@ -1,7 +1,8 @@
 -- Which words are which command.
 use Rattle.std.proofs.Common.{ℕ, ◌<◌, ◌≡◌, List, [], ◌∷◌, ◌++◌, length, inl, inr, refl, sym, ap, subst, ◌∙◌, arith}
 use Rattle.std.specs.Prelude.{codes, ◌≢◌, Option, Some, None}
-use Rattle.grift_cli.specs.Commands.{AreNoCommand, Command, Exec, IsCommand, IsExec, IsNameOption, IsRun, Run}
+use Rattle.grift_cli.specs.Commands.{AreNoCommand, Command, Check, Exec, IsCommand, IsCheck, IsExec, IsNameOption}
+use Rattle.grift_cli.specs.Commands.{IsRun, Run}
 use Rattle.grift_cli.specs.declared.commands.Limits.{Limits}
 use Rattle.grift_cli.specs.ReadCommands.{GivesImage, LimitsAtFront}
 use Rattle.grift_cli.proofs.ReadingLimits.{differ_at, limit_words, limits_front, one_limits}
@@ -104,6 +105,12 @@ one_image words a b p q = elim p [
 pub run_is_not_exec : codes "run" ≢ codes "exec"
 run_is_not_exec = differ_at 0 (codes "run") (codes "exec") (omega arith)
 
+pub run_is_not_check : codes "run" ≢ codes "check"
+run_is_not_check = differ_at 0 (codes "run") (codes "check") (omega arith)
+
+pub exec_is_not_check : codes "exec" ≢ codes "check"
+exec_is_not_check = differ_at 0 (codes "exec") (codes "check") (omega arith)
+
 two_runs : (words : List (List ℕ)) (file other : List ℕ) (limits left : Limits) (image name : Option (List ℕ))
     → ReadsRun words file limits image → ReadsRun words other left name → Run file limits image ≡ Run other left name
 two_runs words file other limits left image name a b =
@@ -129,6 +136,23 @@ not_both_commands words file other limits left image a b =
     run_is_not_exec (same_words (codes "run") (codes "exec") file other (a.limit_words ++ a.image_words) b.limit_words
     (sym a.words_are ∙ b.words_are)).first
 
+run_and_check : (words : List (List ℕ)) (file other : List ℕ) (limits : Limits) (image : Option (List ℕ))
+    → IsRun words file limits image → IsCheck words other → ⊥
+run_and_check words file other limits image a b =
+    run_is_not_check (same_words (codes "run") (codes "check") file other (a.limit_words ++ a.image_words) []
+    (sym a.words_are ∙ b.words_are)).first
+
+exec_and_check : (words : List (List ℕ)) (file other : List ℕ) (limits : Limits) → IsExec words file limits
+    → IsCheck words other → ⊥
+exec_and_check words file other limits a b =
+    exec_is_not_check (same_words (codes "exec") (codes "check") file other a.limit_words []
+    (sym a.words_are ∙ b.words_are)).first
+
+two_checks : (words : List (List ℕ)) (file other : List ℕ) → IsCheck words file → IsCheck words other
+    → Check file ≡ Check other
+two_checks words file other a b =
+    ap Check (same_words (codes "check") (codes "check") file other [] [] (sym a.words_are ∙ b.words_are)).second
+
 pub one_command : (words : List (List ℕ)) (first second : Command) → IsCommand words first → IsCommand words second
     → first ≡ second
 one_command words (Run file limits image) (Run other left name) a b =
@@ -140,6 +164,13 @@ one_command words (Exec file limits) (Run other left name) a b =
     absurd (not_both_commands words other file left limits name b a)
 one_command words (Exec file limits) (Exec other left) a b =
     two_execs words file other limits left (reads_exec words file limits a) (reads_exec words other left b)
+one_command words (Check file) (Check other) a b = two_checks words file other a b
+one_command words (Run file limits image) (Check other) a b =
+    absurd (run_and_check words file other limits image a b)
+one_command words (Check file) (Run other limits image) a b =
+    absurd (run_and_check words other file limits image b a)
+one_command words (Exec file limits) (Check other) a b = absurd (exec_and_check words file other limits a b)
+one_command words (Check file) (Exec other limits) a b = absurd (exec_and_check words other file limits b a)
 
 -- ---- what is no command
 
@@ -150,6 +181,9 @@ few_words words h (Run file limits image) a =
 few_words words h (Exec file limits) a =
     (let e : length words ≡ length (codes "exec" ∷ file ∷ a.limit_words) = ap length a.words_are in
     let no : ⊥ = omega arith in no)
+few_words words h (Check file) a =
+    (let e : length words ≡ length (codes "check" ∷ file ∷ []) = ap length a.words_are in
+    let no : ⊥ = omega arith in no)
 
 pub no_file : (words options : List (List ℕ)) (command file : List ℕ) → words ≡ command ∷ file ∷ options → file ≡ []
     → AreNoCommand words
@@ -159,6 +193,8 @@ no_file words options command file e empty (Run other limits image) a =
 no_file words options command file e empty (Exec other limits) a =
     a.named (sym (same_words command (codes "exec") file other options a.limit_words (sym e ∙ a.words_are)).second
     ∙ empty)
+no_file words options command file e empty (Check other) a =
+    a.named (sym (same_words command (codes "check") file other options [] (sym e ∙ a.words_are)).second ∙ empty)
 
 run_front : (words options : List (List ℕ)) (command file other : List ℕ) (limits : Limits) (image : Option (List ℕ))
     → words ≡ command ∷ file ∷ options → (a : ReadsRun words other limits image)
@@ -173,31 +209,54 @@ exec_front words options command file other limits e a =
     subst (λ (ws : List (List ℕ)). LimitsAtFront ws limits [])
     (sym (same_words command (codes "exec") file other options a.options (sym e ∙ a.words_are)).others) a.front
 
+not_a_check : (words options : List (List ℕ)) (command file other : List ℕ) → words ≡ command ∷ file ∷ options
+    → command ≢ codes "check" → IsCheck words other → ⊥
+not_a_check words options command file other e differs a =
+    differs (same_words command (codes "check") file other options [] (sym e ∙ a.words_are)).first
+
 pub no_limits : (words options : List (List ℕ)) (command file : List ℕ) → words ≡ command ∷ file ∷ options
+    → command ≢ codes "check"
     → ((limits : Limits) (rest : List (List ℕ)) → LimitsAtFront options limits rest → ⊥) → AreNoCommand words
-no_limits words options command file e none (Run other limits image) a =
+no_limits words options command file e differs none (Run other limits image) a =
     let r = reads_run words other limits image a in
     none limits r.image_words (run_front words options command file other limits image e r)
-no_limits words options command file e none (Exec other limits) a =
+no_limits words options command file e differs none (Exec other limits) a =
     none limits [] (exec_front words options command file other limits e (reads_exec words other limits a))
+no_limits words options command file e differs none (Check other) a =
+    not_a_check words options command file other e differs a
 
 -- the words after the limits are no name of an image, or the command is not `run`; they aren't empty, or the command
--- is not `exec`
+-- is not `exec`; and it is not `check`
 pub nothing_fits : (words options left : List (List ℕ)) (command file : List ℕ) (found : Limits)
-    → words ≡ command ∷ file ∷ options → LimitsAtFront options found left
+    → words ≡ command ∷ file ∷ options → command ≢ codes "check" → LimitsAtFront options found left
     → (command ≡ codes "run" → (image : Option (List ℕ)) → IsNameOption (codes "--image") left image → ⊥)
     → (command ≡ codes "exec" → left ≡ [] → ⊥)
     → AreNoCommand words
-nothing_fits words options left command file found e front run exec (Run other limits image) a =
+nothing_fits words options left command file found e differs front run exec (Run other limits image) a =
     let r = reads_run words other limits image a in
     let l = one_limits options r.image_words left limits found
     (run_front words options command file other limits image e r) front in
     run (same_words command (codes "run") file other options r.options (sym e ∙ r.words_are)).first image
     (subst (λ (ws : List (List ℕ)). IsNameOption (codes "--image") ws image) l.1 r.image_is)
-nothing_fits words options left command file found e front run exec (Exec other limits) a =
+nothing_fits words options left command file found e differs front run exec (Exec other limits) a =
     let r = reads_exec words other limits a in
     let l = one_limits options [] left limits found (exec_front words options command file other limits e r) front in
     exec (same_words command (codes "exec") file other options r.options (sym e ∙ r.words_are)).first (sym l.1)
+nothing_fits words options left command file found e differs front run exec (Check other) a =
+    not_a_check words options command file other e differs a
+
+-- the first word is that of no command, or it is `check` and there are options
+pub no_command : (words options : List (List ℕ)) (command file : List ℕ) → words ≡ command ∷ file ∷ options
+    → command ≢ codes "run" → command ≢ codes "exec" → (command ≡ codes "check" → options ≡ [] → ⊥)
+    → AreNoCommand words
+no_command words options command file e run exec check (Run other limits image) a =
+    run (same_words command (codes "run") file other options (a.limit_words ++ a.image_words)
+    (sym e ∙ a.words_are)).first
+no_command words options command file e run exec check (Exec other limits) a =
+    exec (same_words command (codes "exec") file other options a.limit_words (sym e ∙ a.words_are)).first
+no_command words options command file e run exec check (Check other) a =
+    let same = same_words command (codes "check") file other options [] (sym e ∙ a.words_are) in
+    check same.first same.others
 
 -- ---- the name of an image
 

@@ -25,9 +25,11 @@ use Rattle.rv_machine.specs.State.{State, Region, Stack, Halt, Ended, Lacks, Goe
 use Rattle.rv_machine.specs.Start.{IsRegionSize, IsStackSize, start_of, fresh_world}
 use Rattle.rv_machine.specs.Mach.{mach, moment_of}
 use Rattle.rv_machine.proofs.Public.{run_is_its_turns-states}
+use Rattle.front_end.specs.Texts.{IsFault as IsFrontFault}
 use Rattle.grift_cli.specs.Answers.{IsFault}
 use Rattle.grift_cli.specs.Calls.{CallSeen, PutsNothing, AsksFor, FailsNoLoad, HasLoaded, size_limit}
-use Rattle.grift_cli.specs.Commands.{Command, Run, Exec, file_of, IsCommand}
+use Rattle.grift_cli.specs.Checking.{ElaboratesFile, PutsLines}
+use Rattle.grift_cli.specs.Commands.{Command, Run, Exec, Check, file_of, IsCommand}
 use Rattle.grift_cli.specs.Elaboration.{HasExprType, place_of}
 use Rattle.grift_cli.specs.Outcome.{IsCompiled, IsImageFile, HasEndedBy, ComesTo, Says}
 use Rattle.grift_cli.specs.Program.{FollowsProgram, IsTypedProgram, program_of}
@@ -37,7 +39,7 @@ use Rattle.grift_cli.specs.Runs.{run_within, printed, verdict_of_run}
 use Rattle.grift_cli.specs.declared.commands.Limits.{Limits}
 use Rattle.grift_cli.specs.declared.elaboration.ExprType.{ExprType}
 use Rattle.grift_cli.specs.declared.reports.Report.{Report}
-use Rattle.grift_cli.specs.declared.reports.Report.TheVariants.{HasVerdict, HasFault, Refused, ImageRefused}
+use Rattle.grift_cli.specs.declared.reports.Report.TheVariants.{HasVerdict, HasFault, Checked, Refused, ImageRefused}
 use Rattle.grift_cli.specs.declared.reports.Report.TheVariants.{WordsRefused, LoadFailed, PutFailed}
 use Rattle.grift_cli.specs.declared.reports.Report.TheVariants.{NoMemory, TooLong}
 use Rattle.grift_cli.proofs.ProgramTerms.{program_term}
@@ -159,7 +161,7 @@ says_no_memory call command bytes l p =
 pub says_source_fault : (call : CallSeen) (file : List ℕ) (limits : Limits) (name : Option (List ℕ)) (text : List ℕ)
     (fault : FrontFault) → HasLoaded call (Run file limits name) text → PutsNothing call → IsFault text fault
     → Says (source_report fault) call
-says_source_fault call file limits name text (SourceRefused refusal) l p f = (
+says_source_fault call file limits name text (SourceRefused refusal) l p f = inl (
   f.0,
   record { file = file; limits = limits; name = name; text = text; loaded = l; none = f.1; nothing = p },
 )
@@ -185,6 +187,7 @@ says_run call limits image PutFailed r k c x =
 says_run call limits image NoMemory r k c x =
     inr (inr (record { limits = limits; image = image; compiled = c; image_put = x.0; no_output = x.1 }))
 says_run call limits image (HasFault fault) r k c x = absurd x
+says_run call limits image Checked r k c x = absurd x
 says_run call limits image (Refused refusal) r k c x = absurd x
 says_run call limits image (ImageRefused fault) r k c x = absurd x
 says_run call limits image WordsRefused r k c x = absurd x
@@ -213,11 +216,36 @@ says_exec call limits image (HasVerdict verdict) i x =
 says_exec call limits image (HasFault fault) i x =
     record { limits = limits; image = image; image_file = i; fault_is = x.0; output_put = x.1 }
 says_exec call limits image PutFailed i x =
-    inr (record { limits = limits; image = image; image_file = i; fails = x })
+    inr (inl (record { limits = limits; image = image; image_file = i; fails = x }))
 says_exec call limits image NoMemory i x =
     says_no_memory call (Exec i.file limits) image i.loaded (record { out = x; img = i.no_image })
+says_exec call limits image Checked i x = absurd x.0
 says_exec call limits image (Refused refusal) i x = absurd x.0
 says_exec call limits image (ImageRefused fault) i x = absurd x.0
 says_exec call limits image WordsRefused i x = absurd x.0
 says_exec call limits image LoadFailed i x = absurd x.0
 says_exec call limits image TooLong i x = absurd x.0
+
+-- ---- a source that is elaborated
+
+-- the source of a check is refused
+pub says_check_fault : (call : CallSeen) (file text : List ℕ) (fault : FrontFault)
+    → HasLoaded call (Check file) text → PutsNothing call → IsFrontFault text fault → Says (source_report fault) call
+says_check_fault call file text (SourceRefused refusal) l p f =
+    inr (record { file = file; text = text; loaded = l; refused = f; nothing = p })
+says_check_fault call file text SourceMemory l p f = says_no_memory call (Check file) text l p
+
+-- the lines of a source are put
+pub says_check : (call : CallSeen) (lines : List ℕ) (report : Report) → ElaboratesFile call lines
+    → PutsLines lines call.out report → Says report call
+says_check call lines Checked e x = record { lines = lines; elaborates = e; lines_put = x }
+says_check call lines PutFailed e x = inr (inr (record { lines = lines; elaborates = e; fails = x }))
+says_check call lines NoMemory e x =
+    says_no_memory call (Check e.file) e.text e.loaded (record { out = x; img = e.no_image })
+says_check call lines (HasVerdict verdict) e x = absurd x
+says_check call lines (HasFault fault) e x = absurd x
+says_check call lines (Refused refusal) e x = absurd x
+says_check call lines (ImageRefused fault) e x = absurd x
+says_check call lines WordsRefused e x = absurd x
+says_check call lines LoadFailed e x = absurd x
+says_check call lines TooLong e x = absurd x

@@ -9,6 +9,7 @@ pub mod Commands
 pub mod ReadCommands
 pub mod Answers
 pub mod Calls
+pub mod Checking
 pub mod Outcome
 pub mod Running
 pub mod Reporting

@@ -15,11 +15,12 @@ use Rattle.grift_cli.specs.Runs.{run_within, printed, verdict_of_run, fault_of_r
 use Rattle.grift_cli.specs.Source.{IsSource, IsNoSource}
 use Rattle.grift_cli.specs.Commands.{Command, Run, Exec}
 use Rattle.grift_cli.specs.Calls.{CallSeen, PutsNothing, HasLoaded, HasNoCommand, HasNoFile, HasLongFile, LacksFile}
+use Rattle.grift_cli.specs.Checking.{HasChecked, FailsToPutLines, IsRefusedCheck}
 use Rattle.grift_cli.specs.Answers.{bad_form, image_fault}
 use Rattle.grift_cli.specs.declared.commands.Limits.{Limits}
 use Rattle.grift_cli.specs.declared.reports.BadImage.{BadImage}
 use Rattle.grift_cli.specs.declared.reports.Report.{Report}
-use Rattle.grift_cli.specs.declared.reports.Report.TheVariants.{HasVerdict, HasFault, Refused, ImageRefused}
+use Rattle.grift_cli.specs.declared.reports.Report.TheVariants.{HasVerdict, HasFault, Checked, Refused, ImageRefused}
 use Rattle.grift_cli.specs.declared.reports.Report.TheVariants.{WordsRefused, LoadFailed, PutFailed}
 use Rattle.grift_cli.specs.declared.reports.Report.TheVariants.{NoMemory, TooLong}
 
@@ -155,10 +156,11 @@ pub record LacksImage (call : CallSeen) : Type 0 where
 abbrev pub Says : Report → CallSeen → Type 0
 Says (HasVerdict verdict) call = HasRun call verdict ⊎ HasExecuted call verdict
 Says (HasFault fault) call = HasGoneWrong call fault
-Says (Refused refusal) call = (refusal ≡ bad_form) × IsRefused call
+Says Checked call = HasChecked call
+Says (Refused refusal) call = ((refusal ≡ bad_form) × IsRefused call) ⊎ IsRefusedCheck call refusal
 Says (ImageRefused fault) call = IsNoImageFile call fault
 Says WordsRefused call = HasNoCommand call
 Says LoadFailed call = HasNoFile call
 Says TooLong call = HasLongFile call
-Says PutFailed call = FailsToPut call ⊎ FailsToPutOutput call
+Says PutFailed call = FailsToPut call ⊎ (FailsToPutOutput call ⊎ FailsToPutLines call)
 Says NoMemory call = LacksFile call ⊎ (LacksImage call ⊎ LacksRun call)

@@ -26,7 +26,7 @@ use Rattle.grift_cli.specs.declared.reports.BadImage.TheVariants.{Magic, Length,
 use Rattle.grift_cli.specs.declared.reports.Line.{Line}
 use Rattle.grift_cli.specs.declared.reports.Line.TheVariants.{Fixed, Made}
 use Rattle.grift_cli.specs.declared.reports.Report.{Report}
-use Rattle.grift_cli.specs.declared.reports.Report.TheVariants.{HasVerdict, HasFault, Refused, ImageRefused}
+use Rattle.grift_cli.specs.declared.reports.Report.TheVariants.{HasVerdict, HasFault, Checked, Refused, ImageRefused}
 use Rattle.grift_cli.specs.declared.reports.Report.TheVariants.{WordsRefused, LoadFailed, PutFailed}
 use Rattle.grift_cli.specs.declared.reports.Report.TheVariants.{NoMemory, TooLong}
 
@@ -39,6 +39,7 @@ report_status (HasVerdict (Trap trap)) = 4
 report_status (HasVerdict RegionOut) = 5
 report_status (HasVerdict StackOut) = 6
 report_status (HasVerdict StepsSpent) = 7
+report_status Checked = 0
 report_status (Refused refusal) = 1
 report_status WordsRefused = 2
 report_status LoadFailed = 8
@@ -70,6 +71,8 @@ bad_image_line Section = codes "bad image section\n"
 abbrev pub report_line : Report → List ℕ
 report_line (HasVerdict verdict) = verdict_text verdict ++ codes "\n"
 report_line (HasFault fault) = fault_line fault
+-- a check that went well has none
+report_line Checked = codes ""
 report_line (Refused refusal) = refusal_line refusal
 report_line (ImageRefused fault) = bad_image_line fault
 report_line WordsRefused = codes "words refused\n"
@@ -99,8 +102,10 @@ IsMadeLine (HasFault fault) = Unit {0}
 IsMadeLine (Refused refusal) = Unit {0}
 IsMadeLine _ = ⊥
 
--- the report's line was put, or, where no memory was left to make it, that of want of memory
+-- a check that went well puts nothing; else the report's line was put, or, where no memory was left to make it, that
+-- of want of memory
 abbrev pub PutsReport : Report → SinkSeen → ℕ → Type 0
+PutsReport Checked err status = (status ≡ 0) × Untouched err
 PutsReport report err status =
     PutsLine (report_line report) (report_status report) err status
     ⊎ (IsMadeLine report × PutsLine (report_line NoMemory) (report_status NoMemory) err status)

@@ -1,6 +1,7 @@
 // The words of the command line.
 
-ghost use Rattle.std.specs.Prelude.{ℕ, ◌≡◌, ◌≤◌, ◌<◌, ◌%◌, List, Option, codes, map, string_bytes, MatchOption, IfSome};
+ghost use Rattle.std.specs.Prelude.{ℕ, ◌≡◌, ◌≢◌, ◌≤◌, ◌<◌, ◌%◌, ◌∷◌, [], List, Option, codes, map, string_bytes};
+ghost use Rattle.std.specs.Prelude.{MatchOption, IfSome};
 ghost use Rattle.grift_cli.specs.Commands.{Command as WordsCommand, IsNumber, IsNameOption, IsCommand, AreNoCommand};
 ghost use Rattle.grift_cli.specs.ReadCommands.{NumberAtFront, LimitsAtFront, IsWithin, TellsNoMore};
 ghost use Rattle.grift_cli.specs.ReadCommands.{GivesImage, GivesNoImage, command_of, name_bytes};
@@ -42,6 +43,8 @@ pub enum Command<'a> {
         steps: u64,
         input: Option<&'a str>,
     },
+    /// A file whose program's type and number of casts are put.
+    Check { file: &'a str },
 }
 
 /// The limits of a run: bytes of the region, bytes of the stack, and instructions.
@@ -134,6 +137,46 @@ fn image_in(words: &[String]) -> Option<Option<&str>>
     }
 }
 
+// The run command of a file with these options, if they are its options.
+fn run_of<'a>(file: &'a str, options: &'a [String]) -> Option<Command<'a>>
+    requires { file.now ≢ [] }
+    ensures command { (words : List (List ℕ)) → words ≡ codes "run" ∷ file.now ∷ map string_bytes options.now
+        → MatchOption result (AreNoCommand words) (λ command. IsCommand words (command_of command)) }
+    ensures rest { IfSome result TellsNoMore }
+{
+    let (limits, rest) = limits_after(options)?;
+    let image = image_in(rest)?;
+    Some(Command::Run {
+        file,
+        region: limits.region,
+        stack: limits.stack,
+        steps: limits.steps,
+        input: None,
+        space: false,
+        image,
+    })
+}
+
+// The exec command of a file with these options, if they are its options.
+fn exec_of<'a>(file: &'a str, options: &'a [String]) -> Option<Command<'a>>
+    requires { file.now ≢ [] }
+    ensures command { (words : List (List ℕ)) → words ≡ codes "exec" ∷ file.now ∷ map string_bytes options.now
+        → MatchOption result (AreNoCommand words) (λ command. IsCommand words (command_of command)) }
+    ensures rest { IfSome result TellsNoMore }
+{
+    let (limits, rest) = limits_after(options)?;
+    if !rest.is_empty() {
+        return None;
+    }
+    Some(Command::Exec {
+        file,
+        region: limits.region,
+        stack: limits.stack,
+        steps: limits.steps,
+        input: None,
+    })
+}
+
 /// The command that the words are; none exactly where they are none. Takes no memory.
 pub fn read_words(words: &[String]) -> Option<Command<'_>>
     ensures command { let texts = map string_bytes words.now in
@@ -147,32 +190,10 @@ pub fn read_words(words: &[String]) -> Option<Command<'_>>
     if file.is_empty() {
         return None;
     }
-    let (limits, rest) = limits_after(options)?;
     match command.as_str() {
-        "run" => {
-            let image = image_in(rest)?;
-            Some(Command::Run {
-                file,
-                region: limits.region,
-                stack: limits.stack,
-                steps: limits.steps,
-                input: None,
-                space: false,
-                image,
-            })
-        }
-        "exec" => {
-            if !rest.is_empty() {
-                return None;
-            }
-            Some(Command::Exec {
-                file,
-                region: limits.region,
-                stack: limits.stack,
-                steps: limits.steps,
-                input: None,
-            })
-        }
+        "run" => run_of(file, options),
+        "exec" => exec_of(file, options),
+        "check" if options.is_empty() => Some(Command::Check { file }),
         _ => None,
     }
 }

@@ -33,6 +33,8 @@ pub enum Report {
     HasVerdict(Verdict),
     /// The run of a stranger's image went wrong by this fault.
     HasFault(MachineFault),
+    /// The source was elaborated, and the lines of a check were put.
+    Checked,
     /// The source is no program.
     Refused(Refusal),
     /// The file holds no image.
@@ -73,7 +75,7 @@ pub fn status_of(report: Report) -> u8
     ensures { result ≡ report_status report }
 {
     match report {
-        Report::HasVerdict(Verdict::Answer(_)) => 0,
+        Report::HasVerdict(Verdict::Answer(_)) | Report::Checked => 0,
         Report::Refused(_) => 1,
         Report::WordsRefused => 2,
         Report::HasVerdict(Verdict::Blame(_)) => 3,
@@ -90,7 +92,7 @@ pub fn status_of(report: Report) -> u8
     }
 }
 
-/// The line of a report, with its line feed.
+/// The line of a report, with its line feed; a check that went well has none.
 pub fn line_of(alloc: Global, report: Report) -> Result<Line, OutOfMemory>
     ensures ok { IfOk result (λ line. bytes_of_line line ≡ report_line report) }
     ensures err { OnErr result (IsMadeLine report) }
@@ -98,6 +100,7 @@ pub fn line_of(alloc: Global, report: Report) -> Result<Line, OutOfMemory>
     match report {
         Report::HasVerdict(verdict) => verdict_line(alloc, &verdict).map(Line::Made),
         Report::HasFault(fault) => fault_line(alloc, fault).map(Line::Made),
+        Report::Checked => Ok(Line::Fixed(b"")),
         Report::Refused(refusal) => refusal_line(alloc, refusal).map(Line::Made),
         Report::ImageRefused(fault) => Ok(Line::Fixed(bad_image_line(fault))),
         Report::WordsRefused => Ok(Line::Fixed(b"words refused\n")),

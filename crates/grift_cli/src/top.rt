@@ -4,11 +4,11 @@ ghost use Rattle.std.specs.Prelude.{◌≡◌, ℕ, List, Option, map, string_by
 ghost use Rattle.grift_base.specs.Shelf.{shelf_seen};
 ghost use Rattle.grift_base.specs.Sink.{SinkSeen, Untouched, sink_seen};
 ghost use Rattle.rv_machine.specs.Start.{IsRegionSize, IsStackSize};
-ghost use Rattle.grift_cli.specs.Commands.{IsRun, IsExec, limits_of};
-ghost use Rattle.grift_cli.specs.ReadCommands.{command_of};
+ghost use Rattle.grift_cli.specs.Commands.{IsRun, IsExec, IsCheck};
 ghost use Rattle.grift_cli.specs.Outcome.{Says};
 ghost use Rattle.grift_cli.specs.Reporting.{PutsLine, PutsReport, IsAnswered, report_line, report_status};
 
+use crate::checks::put_lines;
 use crate::commands::{Command, Limits, read_words};
 use crate::compile::compile;
 use crate::reports::{
@@ -17,6 +17,7 @@ use crate::reports::{
 use crate::runner::{exec_image, run_image};
 use crate::source::program_of;
 use assembler::image::read_image;
+use front_end::elaborate_text;
 use grift_base::shelves::Shelf;
 use grift_base::sinks::Sink;
 use grift_base::sizes::{IMAGE_LIMIT, SOURCE_LIMIT};
@@ -63,38 +64,36 @@ fn report_of_call<S: Shelf, O: Sink, I: Sink>(
     let Some(command) = read_words(words) else {
         return Report::WordsRefused;
     };
-    let limits = limits_of(&command);
     match command {
-        Command::Run { file, .. } => report_of_run(alloc, file, limits, shelf, out, img),
-        Command::Exec { file, .. } => report_of_exec(alloc, file, limits, shelf, out),
-    }
-}
-
-// The limits of a command.
-fn limits_of(command: &Command<'_>) -> Limits
-    ensures { result ≡ limits_of (command_of command.now) }
-{
-    match *command {
         Command::Run {
+            file,
             region,
             stack,
             steps,
             ..
-        } => Limits {
-            region,
-            stack,
-            steps,
-        },
+        } => {
+            let limits = Limits {
+                region,
+                stack,
+                steps,
+            };
+            report_of_run(alloc, file, limits, shelf, out, img)
+        }
         Command::Exec {
+            file,
             region,
             stack,
             steps,
             ..
-        } => Limits {
-            region,
-            stack,
-            steps,
-        },
+        } => {
+            let limits = Limits {
+                region,
+                stack,
+                steps,
+            };
+            report_of_exec(alloc, file, limits, shelf, out)
+        }
+        Command::Check { file } => report_of_check(alloc, file, shelf, out),
     }
 }
 
@@ -158,10 +157,38 @@ fn report_of_exec<S: Shelf, O: Sink>(
     }
 }
 
-// Puts the line of a report, and answers the status.
+// The report of a call that elaborates the source in this file.
+fn report_of_check<S: Shelf, O: Sink>(
+    alloc: Global,
+    file: &str,
+    shelf: &mut S,
+    out: &mut O,
+) -> Report
+    ensures { (words : List (List ℕ)) (img : SinkSeen) → IsCheck words file.now → Untouched img
+        → Says result (record {
+          words = words;
+          shelf = shelf_seen S.holds S.asked S.fault_count shelf.old shelf.new;
+          out = sink_seen O.written O.fault_count out.old out.new;
+          img = img;
+        }) }
+{
+    let text = match shelf.load(alloc, file, SOURCE_LIMIT) {
+        Ok(text) => text,
+        Err(fault) => return report_of_load(fault),
+    };
+    match elaborate_text(alloc, text.as_slice()) {
+        Ok(done) => put_lines(alloc, &done, out),
+        Err(fault) => report_of_source(fault),
+    }
+}
+
+// Puts the line of a report, if it has one, and answers the status.
 fn put_report<E: Sink>(alloc: Global, err: &mut E, report: Report) -> u8
     ensures { PutsReport report (sink_seen E.written E.fault_count err.old err.new) result }
 {
+    if report == Report::Checked {
+        return 0;
+    }
     match line_of(alloc, report) {
         Ok(line) => put_line(err, line.as_slice(), status_of(report)),
         Err(_) => put_want_of_memory(err),

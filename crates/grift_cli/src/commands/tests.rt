@@ -49,7 +49,7 @@ fn words_of(alloc: Global, texts: &[&str]) -> Result<Vec<String>, AllocError> {
 
 #[test]
 fn words_and_commands(rt: HostRuntime) -> Result<(), AllocError> {
-    let rows: [(&[&str], Option<Command>); 35] = [
+    let rows: [(&[&str], Option<Command>); 39] = [
         (&["run", "a"], a_run(16777216, 1048576, 100000000)),
         (&["exec", "a"], an_exec(16777216, 1048576, 100000000)),
         (
@@ -109,7 +109,11 @@ fn words_and_commands(rt: HostRuntime) -> Result<(), AllocError> {
         (&["run", "a", "--space"], None),
         (&["run", ""], None),
         (&["exec", ""], None),
-        (&["check", "a"], None),
+        (&["check", "a"], Some(Command::Check { file: "a" })),
+        (&["check", ""], None),
+        (&["check", "a", "--steps", "5"], None),
+        (&["check"], None),
+        (&["casts", "a"], None),
         (&["run"], None),
         (&[], None),
     ];

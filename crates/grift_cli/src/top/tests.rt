@@ -37,6 +37,8 @@ const RUN: &[&str] = &["run", "a"];
 
 const EXEC: &[&str] = &["exec", "a"];
 
+const CHECK: &[&str] = &["check", "a"];
+
 // A run of a file where nothing fails.
 fn run_of(file: &[u8]) -> Case {
     call_of(RUN, file)
@@ -233,12 +235,13 @@ fn deep_programs(rt: HostRuntime) -> Result<(), NoMemory> {
 
 #[test]
 fn words(rt: HostRuntime) -> Result<(), NoMemory> {
-    let rows: [(&[&str], u8, &[u8]); 10] = [
+    let rows: [(&[&str], u8, &[u8]); 11] = [
         (&["run"], 2, b"words refused\n"),
         (&[], 2, b"words refused\n"),
         (&["run", "a", "a"], 2, b"words refused\n"),
         (&["run", ""], 2, b"words refused\n"),
-        (&["check", "a"], 2, b"words refused\n"),
+        (&["check", "a", "--steps", "5"], 2, b"words refused\n"),
+        (&["check", "b"], 8, b"load failed\n"),
         (
             &["run", "a", "--steps", "5", "--region", "8"],
             2,
@@ -610,5 +613,167 @@ fn long_loop(rt: HostRuntime) -> Result<(), NoMemory> {
     let output = vec![in alloc; b'.'; 100000]?;
     let case = call_of(EXEC, image.as_slice());
     assert!(rt; comes_to(alloc, &case, 0, output.as_slice(), b"answer ()\n")?);
+    Ok(())
+}
+
+#[test]
+fn checked_sources(rt: HostRuntime) -> Result<(), NoMemory> {
+    let rows: [(&[u8], &[u8]); 10] = [
+        (b"(: (: #t Dyn) Int)", b"type Int\ncasts 2\n"),
+        (b"(lambda (x) x)", b"type (Dyn -> Dyn)\ncasts 0\n"),
+        (b"42", b"type Int\ncasts 0\n"),
+        (b"(define x 3)", b"type Unit\ncasts 0\n"),
+        (b"(tuple 1 #t ())", b"type (Tuple Int Bool Unit)\ncasts 0\n"),
+        (b"(box (lambda () 1))", b"type (Ref (-> Int))\ncasts 0\n"),
+        (b"(make-vector 2 (: 1 Dyn))", b"type (Vect Dyn)\ncasts 1\n"),
+        (
+            b"(tuple-proj (: (tuple 1 #t) Dyn) 0)",
+            b"type Dyn\ncasts 2\n",
+        ),
+        (
+            b"(define (fib n) (if (< n 2) n (+ (fib (- n 1)) (fib (- n 2))))) (fib 15)",
+            b"type Dyn\ncasts 8\n",
+        ),
+        (
+            b"(repeat (i 0 5) (s : Int 0) (+ s i))",
+            b"type Int\ncasts 0\n",
+        ),
+    ];
+    for (file, output) in rows {
+        let case = call_of(CHECK, file);
+        assert!(rt; comes_to(rt.alloc(), &case, 0, output, b"")?, "{file:?}");
+    }
+    Ok(())
+}
+
+#[test]
+fn sources_that_a_check_refuses(rt: HostRuntime) -> Result<(), NoMemory> {
+    let rows: [(&[u8], &[u8]); 23] = [
+        (b"", b"refused empty 1:1\n"),
+        (b"; note", b"refused empty 1:1\n"),
+        (b"9223372036854775808", b"refused number-range 1:1\n"),
+        (b"{", b"refused bad-byte 1:1\n"),
+        (b"(+ 1 2", b"refused unclosed 1:1\n"),
+        (b"(+ 1 2]", b"refused unopened 1:7\n"),
+        (b"1.5", b"refused not-in-profile 1:1\n"),
+        (b"(if #t 1)", b"refused bad-form 1:1\n"),
+        (b"(lambda (x x) 1)", b"refused repeated-name 1:12\n"),
+        (b"(lambda (a b c d e f g) 1)", b"refused too-wide 1:22\n"),
+        (b"(let ([if 1]) 2)", b"refused reserved-name 1:8\n"),
+        (b"x", b"refused unbound 1:1\n"),
+        (b"(if 1 2 3)", b"refused not-consistent 1:5\n"),
+        (b"(1 2)", b"refused not-function 1:2\n"),
+        (b"((lambda (x) x) 1 2)", b"refused wrong-count 1:1\n"),
+        (b"(tuple-proj 5 0)", b"refused not-tuple 1:13\n"),
+        (b"(tuple-proj (tuple 1 2) 2)", b"refused no-such-part 1:25\n"),
+        (b"(unbox 5)", b"refused not-ref 1:8\n"),
+        (b"(vector-length 5)", b"refused not-vector 1:16\n"),
+        (
+            b"(define a (tuple 1 1 1 1 1 1 1 1))\n(define b (tuple a a a a a a a a))\n\
+              (define c (tuple b b b b b b b b))\n(define d (tuple c c c c c c c c))",
+            b"refused type-too-large 4:11\n",
+        ),
+        (b"(+ 1 #t) y", b"refused not-consistent 1:6\n"),
+        (b"y (+ 1 #t)", b"refused unbound 1:1\n"),
+        (b"\n  (define (f) 1", b"refused unclosed 2:3\n"),
+    ];
+    for (file, line) in rows {
+        let case = call_of(CHECK, file);
+        assert!(rt; comes_to(rt.alloc(), &case, 1, b"", line)?, "{file:?}");
+    }
+    Ok(())
+}
+
+// So many copies of a text.
+fn copies(alloc: Global, text: &[u8], count: u64) -> Result<Vec<u8>, NoMemory> {
+    let mut all = Vec::new(alloc);
+    for _ in 0..count {
+        all.extend_from_slice(text)?;
+    }
+    Ok(all)
+}
+
+#[test]
+fn limits_of_a_check(rt: HostRuntime) -> Result<(), NoMemory> {
+    let rows: [(&[u8], u64, u8, &[u8]); 4] = [
+        (b"(", 201, 1, b"refused too-deep 1:201\n"),
+        (b"(", 200, 1, b"refused unclosed 1:200\n"),
+        (b"1\n", 501, 1, b"refused too-many-forms 501:1\n"),
+        (b" ", 262_145, 12, b"file too long\n"),
+    ];
+    for (text, count, status, line) in rows {
+        let source = copies(rt.alloc(), text, count)?;
+        let case = call_of(CHECK, source.as_slice());
+        assert!(rt; comes_to(rt.alloc(), &case, status, b"", line)?, "{text:?}");
+    }
+    Ok(())
+}
+
+#[test]
+fn devices_that_fail_a_check(rt: HostRuntime) -> Result<(), NoMemory> {
+    let checked = call_of(CHECK, b"42");
+    let refused = call_of(CHECK, b"x");
+    let rows: [(Case, u8, &[u8], &[u8]); 6] = [
+        (
+            Case {
+                shelf_fails: &[0],
+                ..checked
+            },
+            8,
+            b"",
+            b"load failed\n",
+        ),
+        (
+            Case {
+                out_fails: &[0],
+                ..checked
+            },
+            9,
+            b"",
+            b"put failed\n",
+        ),
+        (
+            Case {
+                out_fails: &[1],
+                err_fails: &[0],
+                img_fails: &[0],
+                ..checked
+            },
+            0,
+            b"type Int\ncasts 0\n",
+            b"",
+        ),
+        (
+            Case {
+                out_fails: &[0],
+                img_fails: &[0],
+                ..refused
+            },
+            1,
+            b"",
+            b"refused unbound 1:1\n",
+        ),
+        (
+            Case {
+                err_fails: &[0],
+                ..refused
+            },
+            9,
+            b"",
+            b"",
+        ),
+        (
+            Case {
+                err_fails: &[1],
+                ..refused
+            },
+            1,
+            b"",
+            b"refused unbound 1:1\n",
+        ),
+    ];
+    for (case, status, output, line) in rows {
+        assert!(rt; comes_to(rt.alloc(), &case, status, output, line)?);
+    }
     Ok(())
 }

@@ -1,0 +1,5 @@
+mod TypePlaces
+mod ReadPrograms
+mod Sources
+mod Outcomes
+pub mod Public

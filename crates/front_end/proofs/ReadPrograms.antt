@@ -1,0 +1,116 @@
+-- What is known of the s-expressions that a text reads as: integers have 64 bits, and no more than 200 lists are open
+-- at once.
+use Rattle.std.proofs.Common.{◌≡◌, ◌≤◌, ◌+◌, ℕ, ℤ, pos, negsuc, max, Bool, true, false, List, refl, sym, ◌∙◌, ap, arith}
+use Rattle.std.proofs.Common.{subst}
+use Rattle.std.specs.Prelude.{◌^◌, if◌then◌else◌, bytes_eq, codes}
+use Rattle.std.specs.Str.Parse.{signed_digits_value}
+use Rattle.std.proofs.lemmas.Bool.{ltb-true}
+use Rattle.std.specs.Int.{w64}
+use Rattle.std.specs.Int.RustNames.{FitsSigned}
+use Rattle.grift_base.specs.Numbers.{is_integer, fits_in_64_bits}
+use Rattle.sexpr_reader.specs.Datum.{Datum, Datums, Leaf, integer, truth, symbol, leaf_datum, list_datum, no_datums}
+use Rattle.sexpr_reader.specs.Datum.{datum_then, depth, depth_of}
+use Rattle.sexpr_reader.specs.Token.{Token, Lexeme, open_bracket, close_bracket, atom, hash_atom, quote, other}
+use Rattle.sexpr_reader.specs.Meaning.{alone, meaning, atom_meaning, hash_meaning, integer_meaning}
+use Rattle.sexpr_reader.specs.Meaning.{begins_like_number}
+use Rattle.grift_base.specs.declared.refusals.RefusalKind.TheVariants.{NumberRange, NotInProfile}
+use Rattle.sexpr_reader.specs.declared.atoms.Meaning.TheVariants.{Int, Refused, Symbol, Bool as Truth}
+use Rattle.sexpr_reader.specs.Grammar.{Forms, FormsAll}
+use Rattle.surface_syntax.specs.declared.words.Mark.{Mark}
+use Rattle.surface_syntax.specs.declared.words.Mark.TheVariants.{Reserved, Free}
+use Rattle.surface_syntax.specs.Words.{mark_of}
+use Rattle.surface_syntax.specs.Marked.{Sexpr, Sexprs, number, truth_value, word, name, list, end, ◌▹◌, marked}
+use Rattle.surface_syntax.specs.Marked.{all_marked, marked_symbol}
+
+-- how many lists are open at once
+abbrev mutual
+  pub brackets : Sexpr → ℕ
+  brackets (number p n) = 0
+  brackets (truth_value p b) = 0
+  brackets (word p w) = 0
+  brackets (name p x t) = 0
+  brackets (list p ds) = 1 + brackets_of ds
+
+  pub brackets_of : Sexprs → ℕ
+  brackets_of end = 0
+  brackets_of (s ▹ rest) = max (brackets s) (brackets_of rest)
+
+-- each integer has 64 bits
+abbrev mutual
+  pub NumbersFit : Sexpr → Type 0
+  NumbersFit (number p n) = FitsSigned w64 n
+  NumbersFit (truth_value p b) = Unit {0}
+  NumbersFit (word p w) = Unit {0}
+  NumbersFit (name p x t) = Unit {0}
+  NumbersFit (list p ds) = AllFit ds
+
+  pub AllFit : Sexprs → Type 0
+  AllFit end = Unit {0}
+  AllFit (s ▹ rest) = NumbersFit s × AllFit rest
+
+-- ---- brackets
+
+symbol_brackets : (p : _) (x : List ℕ) (m : Mark) → brackets (marked_symbol p x m) ≡ 0
+symbol_brackets p x (Reserved w) = refl
+symbol_brackets p x (Free t) = refl
+
+mutual
+  brackets_are : (d : Datum) → brackets (marked d) ≡ depth d
+  brackets_are (leaf_datum p (integer n)) = refl
+  brackets_are (leaf_datum p (truth b)) = refl
+  brackets_are (leaf_datum p (symbol x)) = symbol_brackets p x (mark_of x)
+  brackets_are (list_datum p ds) = ap (λ n. 1 + n) (brackets_of_are ds)
+
+  pub brackets_of_are : (ds : Datums) → brackets_of (all_marked ds) ≡ depth_of ds
+  brackets_of_are no_datums = refl
+  brackets_of_are (datum_then d ds) = let a = brackets_are d in let b = brackets_of_are ds in omega arith
+
+-- ---- integers
+
+fits_from : (n : ℤ) → fits_in_64_bits n ≡ true → FitsSigned w64 n
+fits_from (pos n) h = let below = ltb-true n (2 ^ 63) h in omega arith
+fits_from (negsuc n) h = let below = ltb-true n (2 ^ 63) h in omega arith
+
+-- an integer that a token means has 64 bits
+integer_fits : (v : ℤ) (fits : Bool) (n : ℤ) → fits_in_64_bits v ≡ fits →
+    (if fits then Int v else Refused NumberRange) ≡ Int n → FitsSigned w64 n
+integer_fits v true n e h = let same : v ≡ n = cc in subst (FitsSigned w64) same (fits_from v e)
+integer_fits v false n e h = absurd (let z : ⊥ = cc in z)
+
+atom_fits : (is_int begins : Bool) (v : ℤ) (text : List ℕ) (n : ℤ) →
+    (if is_int then integer_meaning v else if begins then Refused NotInProfile else Symbol text) ≡ Int n →
+    FitsSigned w64 n
+atom_fits true begins v text n h = integer_fits v (fits_in_64_bits v) n refl h
+atom_fits false true v text n h = absurd (let z : ⊥ = cc in z)
+atom_fits false false v text n h = absurd (let z : ⊥ = cc in z)
+
+hash_fits : (is_true is_false : Bool) (n : ℤ) →
+    (if is_true then Truth true else if is_false then Truth false else Refused NotInProfile) ≡ Int n →
+    FitsSigned w64 n
+hash_fits true is_false n h = absurd (let z : ⊥ = cc in z)
+hash_fits false true n h = absurd (let z : ⊥ = cc in z)
+hash_fits false false n h = absurd (let z : ⊥ = cc in z)
+
+token_fits : (t : Lexeme) (n : ℤ) → meaning t ≡ Int n → FitsSigned w64 n
+token_fits (open_bracket shape) n h = absurd (let z : ⊥ = cc in z)
+token_fits (close_bracket shape) n h = absurd (let z : ⊥ = cc in z)
+token_fits quote n h = absurd (let z : ⊥ = cc in z)
+token_fits other n h = absurd (let z : ⊥ = cc in z)
+token_fits (atom text) n h =
+    atom_fits (is_integer text) (begins_like_number text) (signed_digits_value 10 text) text n h
+token_fits (hash_atom text) n h = hash_fits (bytes_eq text (codes "t")) (bytes_eq text (codes "f")) n h
+
+symbol_fits : (p : _) (x : List ℕ) (m : Mark) → NumbersFit (marked_symbol p x m)
+symbol_fits p x (Reserved w) = tt
+symbol_fits p x (Free t) = tt
+
+mutual
+  fits : (d : Datum) (ts : List Token) → Forms ts d → NumbersFit (marked d)
+  fits (leaf_datum p (integer n)) ts h = token_fits h.0.lexeme n h.3
+  fits (leaf_datum p (truth b)) ts h = tt
+  fits (leaf_datum p (symbol x)) ts h = symbol_fits p x (mark_of x)
+  fits (list_datum p ds) ts h = all_fit ds h.2 h.8
+
+  pub all_fit : (ds : Datums) (ts : List Token) → FormsAll ts ds → AllFit (all_marked ds)
+  all_fit no_datums ts h = tt
+  all_fit (datum_then d ds) ts h = (fits d h.0 h.3, all_fit ds h.1 h.4)

@@ -1,0 +1,48 @@
+// From the bytes of a source to its program with all casts.
+#![tactic(auto)]
+
+ghost use Rattle.std.specs.Prelude.{◌≡◌, ◌≤◌, ℕ, List, IfOk, IfErr, length};
+ghost use Rattle.grift_base.specs.Sizes.{source_limit};
+ghost use Rattle.core_calc.specs.Typing.{ProgramTermHasType};
+ghost use Rattle.core_calc.specs.Views.{term_of};
+ghost use Rattle.cast_insert.specs.Outcomes.{Outcome, Elaborates};
+ghost use Rattle.cast_insert.specs.Views.{entries_of};
+ghost use Rattle.front_end.specs.Texts.{HasOutcome, IsFault};
+
+use cast_insert::insertion::{Elab, insert};
+use grift_base::refusals::FrontFault;
+use sexpr_reader::read;
+use std::alloc::Global;
+use surface_syntax::parse_program;
+use type_graph::tables::TypeTable;
+
+/// A source that was elaborated: its types, and its program with all casts.
+#[derive(Drop)]
+pub struct Elaborated {
+    pub types: TypeTable,
+    pub elab: Elab,
+}
+
+/// Reads a source and elaborates its program. What is none is refused for the first fault: of its tokens, else of its
+/// forms, else of its elaboration. The answer's term is a program term of its type.
+pub fn elaborate_text(alloc: Global, text: &[u8]) -> Result<Elaborated, FrontFault>
+    requires { length text.now ≤ source_limit }
+    ensures outcome { IfOk result (λ done. HasOutcome text.now (Elaborates (term_of done.elab.core) done.elab.ty.0
+        done.types done.elab.labels (entries_of done.elab.casts))) }
+    ensures typed { IfOk result (λ done.
+        ProgramTermHasType done.types (length done.elab.labels) (term_of done.elab.core) done.elab.ty.0) }
+    ensures refused { IfErr result (IsFault text.now) }
+{
+    let forms = read(alloc, text)?;
+    let program = parse_program(alloc, &forms)?;
+    let mut types = TypeTable::new(alloc)?;
+    let elab = insert(alloc, &program, &mut types)?;
+    Ok(Elaborated { types, elab })
+}
+
+/// Each text has an outcome, and no more than one: it is elaborated in one way, or refused for one fault at one place.
+pub fn a_text_has_one_outcome()
+    ensures some { (text : List ℕ) → (outcome : Outcome) × HasOutcome text outcome }
+    ensures one { (text : List ℕ) (first second : Outcome) → HasOutcome text first → HasOutcome text second
+        → first ≡ second }
+{}
