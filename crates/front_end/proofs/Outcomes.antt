@@ -48,19 +48,24 @@ walked : (text : List ℕ) (datums : Datums) → Reads text datums → (w : Walk
     → walk_program (all_marked datums) ≡ w → (outcome : Outcome) × HasOutcome text outcome
 walked text datums reads (WalkReads tops) e =
     let program = the_walk_reads_the_table_of_programs-alone (all_marked datums) tops e in
-    let outcome = outcome_of (elaborate_program (expand_program tops)) in
-    (outcome, elaborated_outcome text outcome (record {
-      program = expand_program tops;
-      reads = record { datums = datums; reads = reads; forms = (tops, program, refl) };
-      outcome_is = refl;
-    }))
-walked text datums reads (Refuses kind place) e = (IsRefused kind place, inr (inl (record {
-  datums = datums;
-  reads = reads;
-  none = λ tops h.
-    let read = the_walk_reads_the_table_of_programs-each (all_marked datums) tops h in let z : ⊥ = cc in z;
-  first = e;
-})))
+    let outcome = outcome_of (elaborate_program (expand_program tops)) in (
+      outcome,
+      elaborated_outcome text outcome (record {
+        program = expand_program tops;
+        reads = record { datums = datums; reads = reads; forms = (tops, program, refl) };
+        outcome_is = refl;
+      }),
+    )
+walked text datums reads (Refuses kind place) e = (
+  IsRefused kind place,
+  inr (inl (record {
+    datums = datums;
+    reads = reads;
+    none = λ tops h.
+        let read = the_walk_reads_the_table_of_programs-each (all_marked datums) tops h in let z : ⊥ = cc in z;
+    first = e;
+  })),
+)
 
 pub a_text_has_one_outcome-some : (text : List ℕ) → (outcome : Outcome) × HasOutcome text outcome
 a_text_has_one_outcome-some text = by (a_text_reads_or_is_refused text)
@@ -91,7 +96,7 @@ no_forms_and_program : (text : List ℕ) (r : Refusal) (program : Expr) → HasR
 no_forms_and_program text r program h k =
     let same : k.datums ≡ h.datums = same_datums text k.datums h.datums k.reads h.reads in
     let other : AreExpr (all_marked h.datums) program =
-        subst (λ ds. AreExpr (all_marked ds) program) same k.forms in
+    subst (λ ds. AreExpr (all_marked ds) program) same k.forms in
     h.none other.0 other.1
 
 same_refused_forms : (text : List ℕ) (r s : Refusal) → HasRefusedForms text r → HasRefusedForms text s
@@ -99,7 +104,7 @@ same_refused_forms : (text : List ℕ) (r s : Refusal) → HasRefusedForms text 
 same_refused_forms text r s h k =
     let same : k.datums ≡ h.datums = same_datums text k.datums h.datums k.reads h.reads in
     let other : walk_program (all_marked h.datums) ≡ Refuses s.kind s.pos =
-        subst (λ ds. walk_program (all_marked ds) ≡ Refuses s.kind s.pos) same k.first in
+    subst (λ ds. walk_program (all_marked ds) ≡ Refuses s.kind s.pos) same k.first in
     one_refusal (sym h.first ∙ other)
   where
     one_refusal : Refuses {A = List Top} r.kind r.pos ≡ Refuses s.kind s.pos →

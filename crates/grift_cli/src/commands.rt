@@ -44,7 +44,9 @@ pub enum Command<'a> {
         input: Option<&'a str>,
     },
     /// A file whose program's type and number of casts are put.
-    Check { file: &'a str },
+    Check {
+        file: &'a str,
+    },
 }
 
 /// The limits of a run: bytes of the region, bytes of the stack, and instructions.

@@ -632,7 +632,7 @@ fn checked_sources(rt: HostRuntime) -> Result<(), NoMemory> {
         ),
         (
             b"(define (fib n) (if (< n 2) n (+ (fib (- n 1)) (fib (- n 2))))) (fib 15)",
-            b"type Dyn\ncasts 8\n",
+            b"type Dyn\ncasts 9\n",
         ),
         (
             b"(repeat (i 0 5) (s : Int 0) (+ s i))",
@@ -665,7 +665,10 @@ fn sources_that_a_check_refuses(rt: HostRuntime) -> Result<(), NoMemory> {
         (b"(1 2)", b"refused not-function 1:2\n"),
         (b"((lambda (x) x) 1 2)", b"refused wrong-count 1:1\n"),
         (b"(tuple-proj 5 0)", b"refused not-tuple 1:13\n"),
-        (b"(tuple-proj (tuple 1 2) 2)", b"refused no-such-part 1:25\n"),
+        (
+            b"(tuple-proj (tuple 1 2) 2)",
+            b"refused no-such-part 1:25\n",
+        ),
         (b"(unbox 5)", b"refused not-ref 1:8\n"),
         (b"(vector-length 5)", b"refused not-vector 1:16\n"),
         (
