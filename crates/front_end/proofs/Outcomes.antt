@@ -23,13 +23,13 @@ use Rattle.cast_insert.specs.Outcomes.{Outcome, Elaborates, IsRefused, outcome_o
 use Rattle.front_end.specs.Texts.{ReadsAs, ElaboratesTo, HasRefusedForms, refusal_at, HasOutcome}
 
 -- the three ways in which a text comes to its outcome
-OfTokens : List ℕ → Outcome → Type 0
+abbrev OfTokens : List ℕ → Outcome → Type 0
 OfTokens text outcome = (r : Refusal) × HasRefusedTokens text r × (outcome ≡ IsRefused r.kind r.pos)
 
-OfForms : List ℕ → Outcome → Type 0
+abbrev OfForms : List ℕ → Outcome → Type 0
 OfForms text outcome = (r : Refusal) × HasRefusedForms text r × (outcome ≡ IsRefused r.kind r.pos)
 
-Way : List ℕ → Outcome → Type 0
+abbrev Way : List ℕ → Outcome → Type 0
 Way text outcome = OfTokens text outcome ⊎ (OfForms text outcome ⊎ ElaboratesTo text outcome)
 
 way : (text : List ℕ) (outcome : Outcome) → HasOutcome text outcome → Way text outcome
@@ -107,7 +107,7 @@ same_refused_forms text r s h k =
     subst (λ ds. walk_program (all_marked ds) ≡ Refuses s.kind s.pos) same k.first in
     one_refusal (sym h.first ∙ other)
   where
-    one_refusal : Refuses {A = List Top} r.kind r.pos ≡ Refuses s.kind s.pos →
+    one_refusal : ◌≡◌ {A = Walked (List Top)} (Refuses r.kind r.pos) (Refuses s.kind s.pos) →
         IsRefused r.kind r.pos ≡ IsRefused s.kind s.pos
     one_refusal e = let kinds : r.kind ≡ s.kind = cc in let places : r.pos ≡ s.pos = cc in
         ap (λ k. IsRefused k r.pos) kinds ∙ ap (IsRefused s.kind) places

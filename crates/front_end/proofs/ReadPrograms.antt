@@ -84,10 +84,10 @@ atom_fits true begins v text n h = integer_fits v (fits_in_64_bits v) n refl h
 atom_fits false true v text n h = absurd (let z : ⊥ = cc in z)
 atom_fits false false v text n h = absurd (let z : ⊥ = cc in z)
 
-hash_fits : (is_true is_false : Bool) (n : ℤ) →
-    (if is_true then Truth true else if is_false then Truth false else Refused NotInProfile) ≡ Int n →
+hash_fits : (holds fails : Bool) (n : ℤ) →
+    (if holds then Truth true else if fails then Truth false else Refused NotInProfile) ≡ Int n →
     FitsSigned w64 n
-hash_fits true is_false n h = absurd (let z : ⊥ = cc in z)
+hash_fits true fails n h = absurd (let z : ⊥ = cc in z)
 hash_fits false true n h = absurd (let z : ⊥ = cc in z)
 hash_fits false false n h = absurd (let z : ⊥ = cc in z)
 

@@ -231,6 +231,10 @@ record MemberSource (type : Option TypeExpr) (lambda : LambdaExpr) : Type 0 wher
   written : MayBeWritten type
   source : IsSourceLambda lambda
 
+-- forms of which there is one at least are a body
+body_of_all : {e : Sexpr} {rest : Sexprs} (es : Exprs) → AllSources (e ▹ rest) es → IsSourceBody es
+body_of_all es all = let count = all.count in body_of es all.sources (omega arith)
+
 mutual
   unfolding ◌>>=◌
 
@@ -243,16 +247,16 @@ mutual
   form_source n (lambda_row h) fit low = lambda_source n h fit.1 (omega arith)
   form_source n (let_row {lets = lets} h new b) fit low =
       let l = lets_source n h fit.1.0 (omega arith) in
-      (l, body_source (expand_lets lets n).1 b fit.1.1 (omega arith))
+      (l, body_of_all _ (forms_source (expand_lets lets n).1 b fit.1.1 (omega arith)))
   form_source n (letrec_row {members = members} h new b) fit low =
       let l = letrecs_source n h fit.1.0 (omega arith) in
-      (l, body_source (expand_letrecs members n).1 b fit.1.1 (omega arith))
+      (l, body_of_all _ (forms_source (expand_letrecs members n).1 b fit.1.1 (omega arith)))
   form_source n (if_row {condition = condition} {on_true = on_true} c t e) fit low =
       let one = form_source n c fit.1.0 (omega arith) in
       let two = form_source (expand condition n).1 t fit.1.1.0 (omega arith) in
       let three = form_source (expand on_true (expand condition n).1).1 e fit.1.1.1.0 (omega arith) in
       (one, two, three)
-  form_source n (begin_row b) fit low = body_source n b fit.1 (omega arith)
+  form_source n (begin_row b) fit low = body_of_all _ (forms_source n b fit.1 (omega arith))
   form_source n (ascribe_row h t) fit low =
       (form_source n h fit.1.0 (omega arith), written t (omega arith))
   form_source n (and_row {p = p} {forms = forms} h few) fit low =
@@ -301,22 +305,15 @@ mutual
       let count = all.count in
       record { sources = (one, all.sources); count = omega arith }
 
-  body_source : (n : ℕ) {e : Sexpr} {rest : Sexprs} {forms : Forms} → AreForms (e ▹ rest) forms → AllFit (e ▹ rest)
-      → brackets_of (e ▹ rest) ≤ 200 → IsSourceBody (expand_all forms n).0
-  body_source n {forms = forms} h fit low =
-      let all = forms_source n h fit low in
-      let count = all.count in
-      body_of (expand_all forms n).0 all.sources (omega arith)
-
   lambda_source : (n : ℕ) {p : Pos} {ds : Sexprs} {lambda : LambdaWritten} → IsLambda p ds lambda → AllFit ds
       → brackets_of ds ≤ 200 → IsSourceLambda (expand_lambda lambda n).0
   lambda_source n (typed_lambda hp t b) fit low =
       let params = param_list_fits hp (omega arith) in
-      let body = body_source n b fit.1.1.1 (omega arith) in
+      let body = body_of_all _ (forms_source n b fit.1.1.1 (omega arith)) in
       (body, params.sources, params.few, written t (omega arith))
   lambda_source n (plain_lambda hp b) fit low =
       let params = param_list_fits hp (omega arith) in
-      let body = body_source n b fit.1 (omega arith) in
+      let body = body_of_all _ (forms_source n b fit.1 (omega arith)) in
       (body, params.sources, params.few, tt)
 
   binding_source : (n : ℕ) {s : Sexpr} {x : List ℕ} {type : Option TypeExpr} {form : Form} → IsBinding s x type form
@@ -349,12 +346,12 @@ mutual
 
 -- ---- forms of a program
 
-IsSourcePart : Part → Type 0
+abbrev IsSourcePart : Part → Type 0
 IsSourcePart (ExprPart p e) = IsSource e
 IsSourcePart (ValuePart p x t e) = IsSource e × MayBeWritten t
 IsSourcePart (FunctionPart p x t lambda) = IsSourceLambda lambda × MayBeWritten t
 
-AreSourceParts : List Part → Type 0
+abbrev AreSourceParts : List Part → Type 0
 AreSourceParts [] = Unit {0}
 AreSourceParts (part ∷ rest) = IsSourcePart part × AreSourceParts rest
 
@@ -382,7 +379,7 @@ tops_source n (top_then {top = top} h hs) fit low =
 
 -- ---- forms put together
 
-IsSourceRest : Rest → Type 0
+abbrev IsSourceRest : Rest → Type 0
 IsSourceRest (Alone e) = IsSource e
 IsSourceRest (Run p members body) = AreSourceMembers members × IsSource body
 

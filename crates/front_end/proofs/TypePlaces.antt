@@ -74,7 +74,7 @@ module _ (types : TypeRows) (table : IsTypeTable types) where
   operator_there VectorLength operands type h = there type _ h.2
 
   -- names with types that are there
-  AreThere : Context → Type 0
+  abbrev AreThere : Context → Type 0
   AreThere context = (name type : ℕ) → entry_of name context ≡ Some type → type < length types
 
   more_there : (type : ℕ) (name : ℕ) (context : Context) → type < length types → AreThere context
