@@ -17,7 +17,7 @@ use Rattle.grift_cli.specs.Reporting.{PutsLine, Fails, Lacks, fault_status}
 use Rattle.grift_cli.specs.Running.{RunsWell, PutsAll, Executes, Runs}
 use Rattle.grift_cli.specs.declared.commands.Limits.{Limits}
 use Rattle.grift_cli.specs.declared.reports.Report.{Report}
-use Rattle.grift_cli.specs.declared.reports.Report.TheVariants.{HasVerdict, HasFault, Refused, ImageRefused}
+use Rattle.grift_cli.specs.declared.reports.Report.TheVariants.{HasVerdict, HasFault, Checked, Refused, ImageRefused}
 use Rattle.grift_cli.specs.declared.reports.Report.TheVariants.{WordsRefused, LoadFailed, PutFailed}
 use Rattle.grift_cli.specs.declared.reports.Report.TheVariants.{NoMemory, TooLong}
 
@@ -65,6 +65,7 @@ runs_after_put limits image bytes out img (HasVerdict verdict) well b t x = (sub
 runs_after_put limits image bytes out img (HasFault fault) well b t x = no_fault limits image fault well x.0
 runs_after_put limits image bytes out img PutFailed well b t x = inr (subst (λ xs. Takes xs img) b t, x)
 runs_after_put limits image bytes out img NoMemory well b t x = (inr (subst (λ xs. Takes xs img) b t), x)
+runs_after_put limits image bytes out img Checked well b t x = absurd x.0
 runs_after_put limits image bytes out img (Refused refusal) well b t x = absurd x.0
 runs_after_put limits image bytes out img (ImageRefused fault) well b t x = absurd x.0
 runs_after_put limits image bytes out img WordsRefused well b t x = absurd x.0

@@ -1,5 +1,9 @@
-use Rattle.std.proofs.Common.{refl}
+use Rattle.std.proofs.Common.{refl, length}
+use Rattle.core_calc.specs.Views.{term_of}
+use Rattle.cast_insert.specs.Views.{entries_of}
+use Rattle.front_end.proofs.Public.{program_type_there}
 use Rattle.grift_cli.specs.Commands.{Check}
+use Rattle.grift_cli.specs.Checking.{checked_text}
 use Rattle.grift_cli.proofs.Saying.{has_loaded, says_load_fault, says_check_fault, says_check}
 use Rattle.grift_cli.proofs.top.report_of_check.Goals as goal
 
@@ -8,3 +12,35 @@ returns-in-Err g c words img is none =
     rw c.report_of_load.ensures (says_load_fault _ (Check c.args.file.now) c.in-Err.fault is
     (record { out = record { written = refl; faults = refl }; img = none })
     c.in-Err.ensures.loads c.in-Err.ensures.names c.in-Err.ensures.count)
+
+pub put_lines-requires : goal.put_lines-requires
+put_lines-requires g c =
+    let done = c.in-Ok-elaborate_text.done in
+    program_type_there done.types (length done.elab.labels) (term_of done.elab.core) done.elab.ty.0
+    c.in-Ok-elaborate_text.ensures.typed
+
+pub returns-in-Ok-elaborate_text : goal.returns-in-Ok-elaborate_text
+returns-in-Ok-elaborate_text g c words img is none =
+    let done = c.in-Ok-elaborate_text.done in
+    says_check _ (checked_text done.types done.elab.ty.0 (entries_of done.elab.casts)) c.put_lines.result (record {
+      file = c.args.file.now;
+      text = c.as_slice.result.now;
+      loaded = has_loaded _ (Check c.args.file.now) c.as_slice.result.now _ is c.in-Ok.ensures.names
+          c.in-Ok.ensures.count c.as_slice.ensures.value c.in-Ok.ensures.loads.0 c.in-Ok.ensures.loads.1;
+      term = term_of done.elab.core;
+      type = done.elab.ty.0;
+      types = done.types;
+      labels = done.elab.labels;
+      casts = entries_of done.elab.casts;
+      elaborated = c.in-Ok-elaborate_text.ensures.outcome;
+      lines_are = refl;
+      no_image = none;
+    }) c.put_lines.ensures
+
+pub returns : goal.returns
+returns g c words img is none =
+    rw c.report_of_source.ensures (says_check_fault _ c.args.file.now c.as_slice.result.now
+    c.in-Err-elaborate_text.fault (has_loaded _ (Check c.args.file.now) c.as_slice.result.now _ is
+    c.in-Ok.ensures.names c.in-Ok.ensures.count c.as_slice.ensures.value c.in-Ok.ensures.loads.0
+    c.in-Ok.ensures.loads.1)
+    (record { out = record { written = refl; faults = refl }; img = none }) c.in-Err-elaborate_text.ensures.refused)

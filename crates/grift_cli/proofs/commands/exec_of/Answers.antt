@@ -1,0 +1,9 @@
+use Rattle.std.proofs.Common.{map, string_bytes, codes, sym}
+use Rattle.grift_cli.proofs.ReadingCommands.{no_limits, nothing_fits, run_is_not_exec, exec_is_not_check}
+use Rattle.grift_cli.proofs.ReadingOptions.{some_texts}
+use Rattle.grift_cli.proofs.commands.exec_of.Goals as goal
+
+pub returns-in_err-limits-clause-command : goal.returns-in_err-limits-clause-command
+returns-in_err-limits-clause-command c words e = rw c.from_residual.ensures (
+    no_limits words (map string_bytes c.args.options.now) (codes "exec") c.args.file.now e exec_is_not_check
+    c.in_err-limits.ensures)
