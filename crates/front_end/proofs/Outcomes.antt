@@ -1,8 +1,6 @@
 -- Each text has one outcome.
-use Rattle.std.proofs.Common.{◌≡◌, ◌⊎◌, inl, inr, ⊎_elim, ℕ, List, refl, sym, ◌∙◌, ap, subst}
-use Rattle.grift_base.specs.declared.places.Pos.{Pos}
+use Rattle.std.proofs.Common.{◌≡◌, ◌⊎◌, inl, inr, ℕ, List, refl, sym, ◌∙◌, ap, subst}
 use Rattle.grift_base.specs.declared.refusals.Refusal.{Refusal}
-use Rattle.grift_base.specs.declared.refusals.RefusalKind.{RefusalKind}
 use Rattle.sexpr_reader.specs.Datum.{Datums}
 use Rattle.sexpr_reader.specs.Grammar.{Reads}
 use Rattle.sexpr_reader.specs.Refused.{IsRefused as HasRefusedTokens}
@@ -14,7 +12,7 @@ use Rattle.surface_syntax.specs.Written.{Top}
 use Rattle.surface_syntax.specs.Expansion.{expand_program}
 use Rattle.surface_syntax.specs.Walking.{Walked, Reads as WalkReads, Refuses}
 use Rattle.surface_syntax.specs.TopWalk.{walk_program}
-use Rattle.surface_syntax.specs.Programs.{AreExpr, AreNoProgram}
+use Rattle.surface_syntax.specs.Programs.{AreExpr}
 use Rattle.surface_syntax.proofs.Public.{the_walk_reads_the_table_of_programs-each}
 use Rattle.surface_syntax.proofs.Public.{the_walk_reads_the_table_of_programs-alone}
 use Rattle.surface_syntax.proofs.Public.{the_walk_reads_the_table_of_programs-one}

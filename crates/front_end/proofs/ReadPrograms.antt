@@ -1,6 +1,6 @@
 -- What is known of the s-expressions that a text reads as: integers have 64 bits, and no more than 200 lists are open
 -- at once.
-use Rattle.std.proofs.Common.{◌≡◌, ◌≤◌, ◌+◌, ℕ, ℤ, pos, negsuc, max, Bool, true, false, List, refl, sym, ◌∙◌, ap, arith}
+use Rattle.std.proofs.Common.{◌≡◌, ◌+◌, ℕ, ℤ, pos, negsuc, max, Bool, true, false, List, refl, ap, arith}
 use Rattle.std.proofs.Common.{subst}
 use Rattle.std.specs.Prelude.{◌^◌, if◌then◌else◌, bytes_eq, codes}
 use Rattle.std.specs.Str.Parse.{signed_digits_value}
@@ -8,10 +8,10 @@ use Rattle.std.proofs.lemmas.Bool.{ltb-true}
 use Rattle.std.specs.Int.{w64}
 use Rattle.std.specs.Int.RustNames.{FitsSigned}
 use Rattle.grift_base.specs.Numbers.{is_integer, fits_in_64_bits}
-use Rattle.sexpr_reader.specs.Datum.{Datum, Datums, Leaf, integer, truth, symbol, leaf_datum, list_datum, no_datums}
+use Rattle.sexpr_reader.specs.Datum.{Datum, Datums, integer, truth, symbol, leaf_datum, list_datum, no_datums}
 use Rattle.sexpr_reader.specs.Datum.{datum_then, depth, depth_of}
 use Rattle.sexpr_reader.specs.Token.{Token, Lexeme, open_bracket, close_bracket, atom, hash_atom, quote, other}
-use Rattle.sexpr_reader.specs.Meaning.{alone, meaning, atom_meaning, hash_meaning, integer_meaning}
+use Rattle.sexpr_reader.specs.Meaning.{meaning, integer_meaning}
 use Rattle.sexpr_reader.specs.Meaning.{begins_like_number}
 use Rattle.grift_base.specs.declared.refusals.RefusalKind.TheVariants.{NumberRange, NotInProfile}
 use Rattle.sexpr_reader.specs.declared.atoms.Meaning.TheVariants.{Int, Refused, Symbol, Bool as Truth}

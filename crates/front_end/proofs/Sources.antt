@@ -1,6 +1,6 @@
 -- A program that was read has what the elaboration asks of a program.
-use Rattle.std.proofs.Common.{◌≡◌, ◌≤◌, ◌<◌, ◌+◌, ℕ, ℤ, zero, suc, pos, max, Bool, true, false, List, [], ◌∷◌, length}
-use Rattle.std.proofs.Common.{Option, Some, None, refl, sym, ◌∙◌, ap, subst, arith}
+use Rattle.std.proofs.Common.{◌≡◌, ◌≤◌, ◌+◌, ℕ, pos, max, Bool, true, false, List, [], ◌∷◌, length}
+use Rattle.std.proofs.Common.{Option, Some, None, refl, sym, ◌∙◌, subst, arith}
 use Rattle.std.specs.Int.{w64}
 use Rattle.std.specs.Int.RustNames.{FitsSigned}
 use Rattle.grift_base.specs.declared.places.Pos.{Pos}
@@ -8,27 +8,27 @@ use Rattle.grift_base.specs.declared.operators.PrimOp.{PrimOp}
 use Rattle.grift_base.specs.declared.operators.PrimOp.TheVariants.{Add, Sub, Mul, Quot, Rem, Lt, Le, Eq, Ge, Gt, Not}
 use Rattle.grift_base.specs.declared.operators.PrimOp.TheVariants.{PrintInt, Newline, ReadInt, MakeBox, Unbox, BoxSet}
 use Rattle.grift_base.specs.declared.operators.PrimOp.TheVariants.{MakeVector, VectorRef, VectorSet, VectorLength}
-use Rattle.sexpr_reader.specs.Datum.{Datums, depth_of as depth_of_datums}
+use Rattle.sexpr_reader.specs.Datum.{Datums}
 use Rattle.sexpr_reader.specs.Token.{tokens}
 use Rattle.sexpr_reader.specs.Grammar.{Reads}
 use Rattle.surface_syntax.specs.declared.names.Ident.{Ident}
 use Rattle.surface_syntax.specs.declared.names.Ident.TheVariants.{Source, Fresh}
 use Rattle.surface_syntax.specs.declared.derived.LoopNames.{LoopNames}
 use Rattle.surface_syntax.specs.Words.{operand_count}
-use Rattle.surface_syntax.specs.Marked.{Sexpr, Sexprs, number, truth_value, word, name, list, end, ◌▹◌, all_marked}
+use Rattle.surface_syntax.specs.Marked.{Sexpr, Sexprs, ◌▹◌, all_marked}
 use Rattle.surface_syntax.specs.Marked.{how_many as how_many_sexprs}
-use Rattle.surface_syntax.specs.Trees.{TypeExpr, TypeExprs, NoTypes, TypeThen, Param, Expr, ExprAt, Exprs, NoExprs}
-use Rattle.surface_syntax.specs.Trees.{ExprThen, CallNode, LambdaExpr, LambdaAt, LetBindings, NoLets, LetThen}
+use Rattle.surface_syntax.specs.Trees.{TypeExpr, TypeExprs, Param, Expr, ExprAt, Exprs, NoExprs}
+use Rattle.surface_syntax.specs.Trees.{ExprThen, CallNode, LambdaExpr, LetBindings, NoLets, LetThen}
 use Rattle.surface_syntax.specs.Written.{Form, Forms, LambdaWritten, LetForms, LetrecForms, Top}
 use Rattle.surface_syntax.specs.Expansion.{◌>>=◌, chain_of, one_expr, two_exprs, name_at, int_at, goes_on, next_count}
 use Rattle.surface_syntax.specs.Expansion.{loop_of, counting, gathering, repeat_of, repeat_into_of, loop_names}
 use Rattle.surface_syntax.specs.Expansion.{type_or_dyn}
 use Rattle.surface_syntax.specs.Expansion.{expand, expand_all, expand_lambda, expand_lets, expand_letrecs, expand_top}
-use Rattle.surface_syntax.specs.Expansion.{expand_tops, expand_program, Part, ExprPart, ValuePart, FunctionPart, Rest}
+use Rattle.surface_syntax.specs.Expansion.{expand_tops, Part, ExprPart, ValuePart, FunctionPart, Rest}
 use Rattle.surface_syntax.specs.Expansion.{Alone, Run, closed, before, ending, joined, whole}
 use Rattle.surface_syntax.specs.Table.{IsType, is_int, is_bool, is_unit, is_dyn, is_empty, is_tuple, is_ref, is_vect}
 use Rattle.surface_syntax.specs.Table.{is_function, AreTypes, no_types, type_then, AreArrow, arrow_to, from_then}
-use Rattle.surface_syntax.specs.Table.{is_plain, is_typed, AreParams, no_params, param_then, IsParam}
+use Rattle.surface_syntax.specs.Table.{is_plain, is_typed, AreParams, no_params, param_then}
 use Rattle.surface_syntax.specs.Table.{IsParamList, is_param_list, IsForm, integer_row, truth_row, name_row, unit_row}
 use Rattle.surface_syntax.specs.Table.{lambda_row, let_row, letrec_row, if_row, begin_row, ascribe_row, and_row, or_row}
 use Rattle.surface_syntax.specs.Table.{repeat_row, repeat_into_row, tuple_row, proj_row, operator_row, call_row}

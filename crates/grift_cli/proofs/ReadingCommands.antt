@@ -1,5 +1,5 @@
 -- Which words are which command.
-use Rattle.std.proofs.Common.{ℕ, ◌<◌, ◌≡◌, List, [], ◌∷◌, ◌++◌, length, inl, inr, refl, sym, ap, subst, ◌∙◌, arith}
+use Rattle.std.proofs.Common.{ℕ, ◌≡◌, List, [], ◌∷◌, ◌++◌, inl, inr, refl, sym, ap, subst, ◌∙◌, arith}
 use Rattle.std.specs.Prelude.{codes, ◌≢◌, Option, Some, None}
 use Rattle.grift_cli.specs.Commands.{AreNoCommand, Command, Check, Exec, IsCommand, IsCheck, IsExec, IsNameOption}
 use Rattle.grift_cli.specs.Commands.{IsRun, Run}
@@ -174,28 +174,6 @@ one_command words (Check file) (Exec other limits) a b = absurd (exec_and_check 
 
 -- ---- what is no command
 
-pub few_words : (words : List (List ℕ)) → length words < 2 → AreNoCommand words
-few_words words h (Run file limits image) a =
-    (let e : length words ≡ length (codes "run" ∷ file ∷ a.limit_words ++ a.image_words) = ap length a.words_are in
-    let no : ⊥ = omega arith in no)
-few_words words h (Exec file limits) a =
-    (let e : length words ≡ length (codes "exec" ∷ file ∷ a.limit_words) = ap length a.words_are in
-    let no : ⊥ = omega arith in no)
-few_words words h (Check file) a =
-    (let e : length words ≡ length (codes "check" ∷ file ∷ []) = ap length a.words_are in
-    let no : ⊥ = omega arith in no)
-
-pub no_file : (words options : List (List ℕ)) (command file : List ℕ) → words ≡ command ∷ file ∷ options → file ≡ []
-    → AreNoCommand words
-no_file words options command file e empty (Run other limits image) a =
-    a.named (sym (same_words command (codes "run") file other options (a.limit_words ++ a.image_words)
-    (sym e ∙ a.words_are)).second ∙ empty)
-no_file words options command file e empty (Exec other limits) a =
-    a.named (sym (same_words command (codes "exec") file other options a.limit_words (sym e ∙ a.words_are)).second
-    ∙ empty)
-no_file words options command file e empty (Check other) a =
-    a.named (sym (same_words command (codes "check") file other options [] (sym e ∙ a.words_are)).second ∙ empty)
-
 run_front : (words options : List (List ℕ)) (command file other : List ℕ) (limits : Limits) (image : Option (List ℕ))
     → words ≡ command ∷ file ∷ options → (a : ReadsRun words other limits image)
     → LimitsAtFront options limits a.image_words
@@ -244,19 +222,6 @@ nothing_fits words options left command file found e differs front run exec (Exe
     exec (same_words command (codes "exec") file other options r.options (sym e ∙ r.words_are)).first (sym l.1)
 nothing_fits words options left command file found e differs front run exec (Check other) a =
     not_a_check words options command file other e differs a
-
--- the first word is that of no command, or it is `check` and there are options
-pub no_command : (words options : List (List ℕ)) (command file : List ℕ) → words ≡ command ∷ file ∷ options
-    → command ≢ codes "run" → command ≢ codes "exec" → (command ≡ codes "check" → options ≡ [] → ⊥)
-    → AreNoCommand words
-no_command words options command file e run exec check (Run other limits image) a =
-    run (same_words command (codes "run") file other options (a.limit_words ++ a.image_words)
-    (sym e ∙ a.words_are)).first
-no_command words options command file e run exec check (Exec other limits) a =
-    exec (same_words command (codes "exec") file other options a.limit_words (sym e ∙ a.words_are)).first
-no_command words options command file e run exec check (Check other) a =
-    let same = same_words command (codes "check") file other options [] (sym e ∙ a.words_are) in
-    check same.first same.others
 
 -- ---- the name of an image
 

@@ -139,11 +139,6 @@ two_and_others [] x y h e f = absurd (let p : ⊥ = omega arith in p)
 two_and_others (a ∷ []) x y h e f = absurd (let p : ⊥ = omega arith in p)
 two_and_others (a ∷ b ∷ xs) x y h e f = rw (e, f, take_all (length (a ∷ b ∷ xs) - 2) xs (omega arith)) refl
 
-pub command_words : {A : Type 0} (bytes : A → List ℕ) (words : List A) (x y : A) (file : List ℕ)
-    → 2 ≤ length words → x ≡ get_or words 0 x → y ≡ get_or words 1 y → file ≡ bytes y
-    → map bytes words ≡ bytes x ∷ file ∷ map bytes (take (length words - 2) (drop 2 words))
-command_words bytes words x y file h e f q = ap (map bytes) (two_and_others words x y h e f) ∙ (rw q refl)
-
 pub some_texts : {A : Type 0} (bytes : A → List ℕ) (words : List A) → false ≡ (length words == 0)
     → map bytes words ≡ [] → ⊥
 some_texts bytes [] h e = cc

@@ -1,6 +1,5 @@
-use Rattle.std.proofs.Common.{map, string_bytes, codes, sym}
-use Rattle.grift_cli.proofs.ReadingCommands.{no_limits, nothing_fits, run_is_not_exec, exec_is_not_check}
-use Rattle.grift_cli.proofs.ReadingOptions.{some_texts}
+use Rattle.std.proofs.Common.{map, string_bytes, codes}
+use Rattle.grift_cli.proofs.ReadingCommands.{no_limits, exec_is_not_check}
 use Rattle.grift_cli.proofs.commands.exec_of.Goals as goal
 
 pub returns-in_err-limits-clause-command : goal.returns-in_err-limits-clause-command

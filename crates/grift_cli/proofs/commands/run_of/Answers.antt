@@ -1,4 +1,4 @@
-use Rattle.std.proofs.Common.{map, string_bytes, codes, sym, ◌∙◌}
+use Rattle.std.proofs.Common.{map, string_bytes, codes}
 use Rattle.grift_cli.specs.ReadCommands.{name_bytes}
 use Rattle.grift_cli.proofs.ReadingCommands.{is_run, no_limits, nothing_fits, run_is_not_exec, run_is_not_check}
 use Rattle.grift_cli.proofs.commands.run_of.Goals as goal
