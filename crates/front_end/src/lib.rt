@@ -8,6 +8,7 @@ ghost use Rattle.core_calc.specs.Views.{term_of};
 ghost use Rattle.cast_insert.specs.Outcomes.{Outcome, Elaborates};
 ghost use Rattle.cast_insert.specs.Views.{entries_of};
 ghost use Rattle.front_end.specs.Texts.{HasOutcome, IsFault};
+ghost use Rattle.front_end.specs.Placed.{PlacesAll};
 
 use cast_insert::insertion::{Elab, insert};
 use grift_base::refusals::FrontFault;
@@ -45,4 +46,10 @@ pub fn a_text_has_one_outcome()
     ensures some { (text : List ℕ) → (outcome : Outcome) × HasOutcome text outcome }
     ensures one { (text : List ℕ) (first second : Outcome) → HasOutcome text first → HasOutcome text second
         → first ≡ second }
+{}
+
+/// What the elaboration makes of a program has an operator only where the program has it, and a cast, or a part of what
+/// Dyn holds, only where the list of casts has it.
+pub fn elaborated_programs_are_placed()
+    ensures { PlacesAll }
 {}
