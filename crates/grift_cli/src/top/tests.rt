@@ -780,3 +780,64 @@ fn devices_that_fail_a_check(rt: HostRuntime) -> Result<(), NoMemory> {
     }
     Ok(())
 }
+
+// Values of types of 9, 73, 585 and 48 nodes, and a tuple of these whose last part is told: 999 nodes and those of it.
+fn formed_type(alloc: Global, last: &[u8]) -> Result<Vec<u8>, NoMemory> {
+    let mut source = Vec::from_slice(
+        alloc,
+        b"(define a (tuple 1 1 1 1 1 1 1 1))\n(define b (tuple a a a a a a a a))\n\
+          (define c (tuple b b b b b b b b))\n(define d (tuple a a a a a 1 1))\n\
+          (begin (tuple c b b b b b d ",
+    )?;
+    source.extend_from_slice(last)?;
+    source.extend_from_slice(b") 1)")?;
+    Ok(source)
+}
+
+// The type of a tuple of so many parts, all the same, and of what is told.
+fn tuple_type(alloc: Global, part: &[u8], count: u64, rest: &[u8]) -> Result<Vec<u8>, NoMemory> {
+    let mut text = Vec::from_slice(alloc, b"(Tuple")?;
+    for _ in 0..count {
+        text.extend_from_slice(b" ")?;
+        text.extend_from_slice(part)?;
+    }
+    text.extend_from_slice(rest)?;
+    text.extend_from_slice(b")")?;
+    Ok(text)
+}
+
+// Dyn at a written type of 999 nodes and those of its last part.
+fn written_type(alloc: Global, last: &[u8]) -> Result<Vec<u8>, NoMemory> {
+    let a = tuple_type(alloc, b"Int", 8, b"")?;
+    let b = tuple_type(alloc, a.as_slice(), 8, b"")?;
+    let c = tuple_type(alloc, b.as_slice(), 8, b"")?;
+    let d = tuple_type(alloc, a.as_slice(), 5, b" Int Int")?;
+    let mut rest = Vec::from_slice(alloc, b" ")?;
+    rest.extend_from_slice(c.as_slice())?;
+    rest.extend_from_slice(b" ")?;
+    rest.extend_from_slice(d.as_slice())?;
+    rest.extend_from_slice(b" ")?;
+    rest.extend_from_slice(last)?;
+    let whole = tuple_type(alloc, b.as_slice(), 5, rest.as_slice())?;
+    let mut source = Vec::from_slice(alloc, b"(begin (: (: 1 Dyn)\n ")?;
+    source.extend_from_slice(whole.as_slice())?;
+    source.extend_from_slice(b") 1)")?;
+    Ok(source)
+}
+
+#[test]
+fn types_of_a_thousand_nodes(rt: HostRuntime) -> Result<(), NoMemory> {
+    let formed = formed_type(rt.alloc(), b"1")?;
+    let case = call_of(CHECK, formed.as_slice());
+    assert!(rt; comes_to(rt.alloc(), &case, 0, b"type Int\ncasts 0\n", b"")?);
+    let formed = formed_type(rt.alloc(), b"(box 1)")?;
+    let case = call_of(CHECK, formed.as_slice());
+    assert!(rt; comes_to(rt.alloc(), &case, 1, b"", b"refused type-too-large 5:8\n")?);
+    let written = written_type(rt.alloc(), b"Int")?;
+    let case = call_of(CHECK, written.as_slice());
+    assert!(rt; comes_to(rt.alloc(), &case, 0, b"type Int\ncasts 2\n", b"")?);
+    let written = written_type(rt.alloc(), b"(Ref Int)")?;
+    let case = call_of(CHECK, written.as_slice());
+    assert!(rt; comes_to(rt.alloc(), &case, 1, b"", b"refused type-too-large 2:2\n")?);
+    Ok(())
+}
