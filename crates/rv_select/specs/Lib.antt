@@ -1,0 +1,4 @@
+pub mod Run
+pub mod Fitting
+pub mod Holding
+pub mod Slots

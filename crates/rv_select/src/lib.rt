@@ -1,0 +1,5 @@
+//! Virtual code: code over the real registers that the calling convention names and numbered virtual ones, the run of
+//! it, and the code of a program over words.
+#![tactic(auto)]
+
+pub mod code;
