@@ -1,0 +1,6 @@
+pub mod PutWords
+pub mod Budgets
+pub mod Items
+pub mod Frames
+pub mod SlotWords
+pub mod SlotItems
