@@ -1,7 +1,8 @@
 -- The program logic of code with marks, told the address at which items stand in place of a state.
 use Rattle.std.proofs.Common.{ℕ, suc, ◌+◌, ◌%◌, ◌^◌, ◌<◌, ◌≤◌, ◌≡◌, Bool, true, false, List, [], ◌∷◌, ◌++◌, Some, drop}
-use Rattle.std.proofs.Common.{refl, sym, ◌∙◌, ap, subst, append_assoc}
-use Rattle.std.specs.Prelude.{pos, ◌==◌}
+use Rattle.std.proofs.Common.{refl, sym, ◌∙◌, ap, subst, append_assoc, arith}
+use Rattle.std.specs.Prelude.{pos, ◌==◌, length}
+use Rattle.std.proofs.lemmas.List.{length-drop}
 use Rattle.grift_base.specs.World.{WorldState}
 use Rattle.run_laws.specs.Machines.{Machine}
 use Rattle.rv_isa.specs.declared.inst.Inst.{Inst}
@@ -14,10 +15,15 @@ use Rattle.rv_machine.specs.Registers.{Registers, get_reg, set_reg}
 use Rattle.rv_machine.specs.State.{State, Halt, Turn, Next, reg}
 use Rattle.rv_machine.specs.Turn.{add, act_with}
 use Rattle.rv_machine.specs.Real.{address_from, mark_address, holds}
-use Rattle.rv_machine.proofs.Public.{Program, At, HasItem, at_small, at_aligned, behind_mark, MarkAt, mark_at}
+use Rattle.rv_machine.proofs.Public.{Program, At, HasItem, at_small, at_aligned, behind_mark, mark_at}
+use Rattle.rv_machine.proofs.Public.{drop_next}
 use Rattle.rv_machine.proofs.Public.{Comes, ComesOn, op, call, jump, falls_through, is_taken, puts_address, jumps_to}
 use Rattle.rv_select.proofs.PutWords.{OnlyIn, word_turns, puts_word}
 use Rattle.rv_select.specs.Slots.{word_items}
+
+items_some : (xs : List RealItem) → HasItem xs → 0 < length xs
+items_some [] h = absurd h
+items_some (x ∷ xs) h = omega arith
 
 module _ {V : Type 0} (program : Program V) where
   -- these items stand in the code from an address on, which is that of the first of them that isn't a mark
@@ -48,17 +54,33 @@ module _ {V : Type 0} (program : Program V) where
   pub past_mark : (s : State) {pc mark : ℕ} {xs : List RealItem} → Stands pc (Mark mark ∷ xs) → Stands pc xs
   past_mark s {pc} c = as_stands (behind_mark program (as_at (record s { pc = pc }) c))
 
-  -- the address of a mark, with what stands behind it
+  -- the address of a mark, where the mark stands with what is behind it
   pub record MarkStands (mark : ℕ) (xs : List RealItem) : Type 0 where
     pub pc : ℕ
     pub is_address : mark_address program.setting.address program.code mark ≡ Some pc
+    pub marked : Stands pc (Mark mark ∷ xs)
     pub stands : Stands pc xs
 
   pub mark_stands : (s : State) (k mark : ℕ) (xs : List RealItem) → drop k program.code ≡ Mark mark ∷ xs → HasItem xs
       → MarkStands mark xs
   mark_stands s k mark xs d h =
       let m = mark_at program k mark xs d h in
-      record { pc = m.pc; is_address = m.is_mark_address; stands = as_stands (m.at (record s { pc = m.pc }) refl) }
+      let c = m.at (record s { pc = m.pc }) refl in
+      let next = (drop_next program.code k (Mark mark) xs d).1 in
+      let here = sym (length-drop (suc k) program.code) ∙ ap length next in
+      let there = sym (length-drop c.place program.code) ∙ ap length c.stand in
+      let some = items_some xs h in
+      let same : c.place ≡ suc k = omega (arith, here, there, some) in
+      record {
+        pc = m.pc;
+        is_address = m.is_mark_address;
+        marked = record {
+          place = k;
+          stand = d;
+          address = subst (λ p. address_from program.setting.address p xs ≡ Some m.pc) same c.address;
+        };
+        stands = as_stands c;
+      }
 
   -- ---- steps
 

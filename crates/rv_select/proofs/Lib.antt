@@ -4,3 +4,4 @@ pub mod Items
 pub mod Frames
 pub mod SlotWords
 pub mod SlotItems
+pub mod SlotMarks

@@ -203,6 +203,13 @@ module _ {V : Type 0} (w : Slotting V) where
       (if c then Go t1 else Stop (w.reading (Lacks Stack)) t)) (sym fits)
       (suc k.later, inl (omega arith), k.few, k.reaches)
 
+  -- the machine is there already
+  pub sim_stay : (t t1 : VirtualState) (s : State) → Fits t1 → size t1 < size t → On w t1 s → Sim t s (Go t1)
+  sim_stay t t1 s fits less on =
+      subst (λ (c : Bool). DoesWithin (Same w) item_turns (M w) (N w) (On w) size t s
+      (if c then Go t1 else Stop (w.reading (Lacks Stack)) t)) (sym fits)
+      (0, inr less, omega arith, on)
+
   pub sim_puts : {most : ℕ} (t : VirtualState) (s : State) (rd : VReg) (word : ℕ) → Body w t s → most ≤ item_turns
       → (Permits t rd → Reached most t (wrote rd word t) s)
       → Sim t s (puts w.reading (virtual_setting w) rd word t)
