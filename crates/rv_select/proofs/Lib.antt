@@ -5,3 +5,4 @@ pub mod Frames
 pub mod SlotWords
 pub mod SlotItems
 pub mod SlotMarks
+pub mod SlotCalls

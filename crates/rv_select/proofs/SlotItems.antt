@@ -44,7 +44,7 @@ use Rattle.rv_select.proofs.SlotWords.{saved_slot, saved}
 
 -- the most turns in which the code of an item is done
 abbrev pub item_turns : ℕ
-item_turns = 42
+item_turns = 43
 
 -- ---- words of operations
 
