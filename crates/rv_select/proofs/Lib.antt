@@ -6,3 +6,4 @@ pub mod SlotWords
 pub mod SlotItems
 pub mod SlotMarks
 pub mod SlotCalls
+pub mod SlotReturns
