@@ -7,3 +7,4 @@ pub mod SlotItems
 pub mod SlotMarks
 pub mod SlotCalls
 pub mod SlotReturns
+pub mod SlotSteps

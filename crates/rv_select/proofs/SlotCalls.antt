@@ -354,7 +354,7 @@ module _ {V : Type 0} (w : Slotting V) where
       comes_there (program w) (Way w t t) (Out t) (no_room t s2 seen2 c2)))
 
   -- what is to be shown of an item that enters a procedure, whether its frame fits or not
-  unless : {P : Type 0} (e : Ending V) → P → UnlessWrong e P
+  pub unless : {P : Type 0} (e : Ending V) → P → UnlessWrong e P
   unless (Verdict v) p = p
   unless Exhausted p = p
   unless Wrong p = tt
