@@ -2,3 +2,5 @@ pub mod Run
 pub mod Fitting
 pub mod Holding
 pub mod Slots
+pub mod Select
+pub mod Selected

@@ -1,0 +1,6 @@
+pub mod Public
+pub mod Bounded
+pub mod Stretches
+pub mod Fetching
+pub mod Handing
+pub mod Selecting
