@@ -4,3 +4,6 @@ pub mod Stretches
 pub mod Fetching
 pub mod Handing
 pub mod Selecting
+pub mod Marks
+pub mod Laying
+pub mod Following

@@ -2,5 +2,6 @@ pub mod Run
 pub mod Fitting
 pub mod Holding
 pub mod Slots
+pub mod Marks
 pub mod Select
 pub mod Selected
