@@ -24,12 +24,15 @@ module _ {T B V : Type 0} (N : Machine T B V) (P Q : T → Type 0) where
   meter_on k n b (Stop (Verdict v) t) ih h r = r
   meter_on k n b (Stop Exhausted t) ih h r = (r, h)
   meter_on k n b (Stop Wrong t) ih h r = r
+
   pub meter : (k n b : ℕ) (t : T) → n + k ≤ b → Reaches N P Q k t
       → Reaches (metered each_one N) (Spent P b) (Spent Q b) k (record { spent = n; rest = t })
   meter zero n b t h r = (r, omega (arith, h))
-  meter (suc k) n b t h r =
-      ((r.0, omega (arith, h)), meter_on k n b (N.step t) (λ t1 r1. meter k (n + 1) b t1 (omega (arith, h)) r1)
-          (omega (arith, h)) r.1)
+  meter (suc k) n b t h r = (
+    (r.0, omega (arith, h)),
+    meter_on k n b (N.step t) (λ t1 r1. meter k (n + 1) b t1 (omega (arith, h)) r1)
+        (omega (arith, h)) r.1,
+  )
 
 -- what the target does, in at most c steps
 abbrev pub DoesWithin : {S T A B V : Type 0} → (K : B → A → Type 0) → ℕ → Machine S A V → Machine T B V
@@ -51,14 +54,20 @@ module _ {S T A B V : Type 0} (K : B → A → Type 0) (c : ℕ) (M : Machine S 
 
   pub within : (s : S) (t : T) (x : Next S V) → DoesWithin K c M N R size s t x
       → DoesOnBudget K M N each_one R size c s t x
-  within s t (Go s1) h =
-      (h.0, h.1, reaches_weaken (metered each_one N) _ _ _ _ (λ m p. on_budget s s1 c m p) (λ m q. q) h.0 (unspent t)
-          (meter N (OnTheWay K Any M N s s1) (R s1) h.0 0 c t (omega (arith, h.2)) h.3))
+  within s t (Go s1) h = (
+    h.0,
+    h.1,
+    reaches_weaken (metered each_one N) _ _ _ _ (λ m p. on_budget s s1 c m p) (λ m q. q) h.0 (unspent t)
+        (meter N (OnTheWay K Any M N s s1) (R s1) h.0 0 c t (omega (arith, h.2)) h.3),
+  )
   within s t (Stop e s1) h =
-      unless_wrong_map e (λ g. (g.0, reaches_weaken (metered each_one N) _ _ _ _
-          (λ m p. on_budget s s1 c m (p.0, omega (arith, p.1, g.1))) (λ m q.
-          stops_on_budget s s1 e c m (q.0, omega (arith, q.1, g.1))) g.0 (unspent t)
-          (meter N (OnTheWay K Any M N s s1) (StopsAt K Any M N s s1 e) g.0 0 g.0 t (omega arith) g.2))) h
+      unless_wrong_map e (λ g. (
+        g.0,
+        reaches_weaken (metered each_one N) _ _ _ _
+            (λ m p. on_budget s s1 c m (p.0, omega (arith, p.1, g.1))) (λ m q.
+            stops_on_budget s s1 e c m (q.0, omega (arith, q.1, g.1))) g.0 (unspent t)
+            (meter N (OnTheWay K Any M N s s1) (StopsAt K Any M N s s1 e) g.0 0 g.0 t (omega arith) g.2),
+      )) h
 
   pub does_at_all : (s : S) (t : T) (x : Next S V) → DoesWithin K c M N R size s t x → Does K Any M N R size s t x
   does_at_all s t (Go s1) h = (h.0, h.1, h.3)

@@ -51,7 +51,7 @@ pub kept_value : (t : VirtualState) (r : ℕ) (regs : Registers) (known : ℕ �
 kept_value t r regs known pc h (Virtual v) w n e = e
 kept_value t r regs known pc h (Real q) w n e =
     kept_word (may_read q) (is_fixed q) (t.known q) (known q) (get_reg t.regs q) (get_reg regs q) w
-        (ap (λ x. if q == 0 then 0 else x) (sym (h.same q n))) (h.still q) e
+    (ap (λ x. if q == 0 then 0 else x) (sym (h.same q n))) (h.still q) e
 
 still_known : (c d : Bool) → d ≡ true → (c || d) ≡ true
 still_known true d h = refl
@@ -123,10 +123,10 @@ module _ {V : Type 0} (reading : Halt → Ending V) (setting : Setting) where
         let same : suc n % 2 ^ 64 ≡ x = cc in
         let w : ℕ = suc n % 2 ^ 64 in
         does_item reading setting P Q k t (wrote_real r w t) _ s.0 (only_is t (may_write r) _ sc.0) p (
-          go (set_reg r w t.regs) (also_known r t.known) (record {
-            same = λ q h. ap (λ c. if c && not (r == 0) then w else t.regs q) h;
-            still = λ q h. still (q == r) (t.known q) h;
-          }) (written r w t.regs t.known sc ∙ ap Some same))
+        go (set_reg r w t.regs) (also_known r t.known) (record {
+          same = λ q h. ap (λ c. if c && not (r == 0) then w else t.regs q) h;
+          still = λ q h. still (q == r) (t.known q) h;
+        }) (written r w t.regs t.known sc ∙ ap Some same))
       where
         still : (c d : Bool) → d ≡ true → (c || d) ≡ true
         still true d h = refl
@@ -139,19 +139,31 @@ module _ {V : Type 0} (reading : Halt → Ending V) (setting : Setting) where
         → ((regs : Registers) (known : ℕ → Bool) (pc : ℕ) → SameFixed regs t.regs
         → P (record t { regs = regs; known = known; pc = pc })) → ((regs : Registers) (known : ℕ → Bool)
         → SameFixed regs t.regs
-        → value (record t { regs = regs; known = known; pc =
-        beyond (source_items 6 b) (beyond (source_items 5 a) t.pc) }) (source_reg t.active.found.first 5 a) ≡ Some x
-        → value (record t { regs = regs; known = known; pc =
-        beyond (source_items 6 b) (beyond (source_items 5 a) t.pc) }) (source_reg t.active.found.first 6 b) ≡ Some y
-        → Reaches N P Q k (record t { regs = regs; known = known; pc =
-        beyond (source_items 6 b) (beyond (source_items 5 a) t.pc) })) → Reaches N P Q (fetches a (fetches b k)) t
+        → value (record t {
+          regs = regs;
+          known = known;
+          pc =
+              beyond (source_items 6 b) (beyond (source_items 5 a) t.pc);
+        }) (source_reg t.active.found.first 5 a) ≡ Some x
+        → value (record t {
+          regs = regs;
+          known = known;
+          pc =
+              beyond (source_items 6 b) (beyond (source_items 5 a) t.pc);
+        }) (source_reg t.active.found.first 6 b) ≡ Some y
+        → Reaches N P Q k (record t {
+          regs = regs;
+          known = known;
+          pc =
+              beyond (source_items 6 b) (beyond (source_items 5 a) t.pc);
+        })) → Reaches N P Q (fetches a (fetches b k)) t
     fetch_both a b x y t rest k ae be f s p go =
         fetch 5 (refl, refl, refl, refl) a x t (source_items 6 b ++ rest) (fetches b k) ae f s
-            (p t.regs t.known t.pc (fixed_self t.regs)) (λ regs known kept va.
-          let u : VirtualState = record t { regs = regs; known = known; pc = beyond (source_items 5 a) t.pc } in
-          fetch 6 (refl, refl, refl, refl) b y u rest k be f (stands_past reading setting (source_items 5 a)
-              (source_items 6 b ++ rest) t.pc s) (p regs known u.pc (kept_fixed kept refl refl refl))
-                  (λ regs2 known2 kept2 vb.
-            go regs2 known2 (also_fixed (kept_fixed kept2 refl refl refl) (kept_fixed kept refl refl refl))
-                (kept_value u 6 regs2 known2 (beyond (source_items 6 b) u.pc) kept2
-                (source_reg t.active.found.first 5 a) x (source_apart t.active.found.first 5 6 a refl refl) va) vb))
+        (p t.regs t.known t.pc (fixed_self t.regs)) (λ regs known kept va.
+        let u : VirtualState = record t { regs = regs; known = known; pc = beyond (source_items 5 a) t.pc } in
+        fetch 6 (refl, refl, refl, refl) b y u rest k be f (stands_past reading setting (source_items 5 a)
+        (source_items 6 b ++ rest) t.pc s) (p regs known u.pc (kept_fixed kept refl refl refl))
+        (λ regs2 known2 kept2 vb.
+        go regs2 known2 (also_fixed (kept_fixed kept2 refl refl refl) (kept_fixed kept refl refl refl))
+        (kept_value u 6 regs2 known2 (beyond (source_items 6 b) u.pc) kept2
+        (source_reg t.active.found.first 5 a) x (source_apart t.active.found.first 5 6 a refl refl) va) vb))

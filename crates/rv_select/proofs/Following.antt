@@ -48,10 +48,15 @@ module _ {V : Type 0} (reading : Halt → Ending V) (low : LowSetting) (entry : 
   starts P h =
       let l = all.by_number entry p found in
       let f : Found = l.0 in
-      let t1 : VirtualState = record t0 { pc = f.home; active = record { found = f; locals = no_locals }; frames =
-          record { back = 1; active = t0.active } ∷ []; known = only_args 0 t0.known } in
+      let t1 : VirtualState = record t0 {
+        pc = f.home;
+        active = record { found = f; locals = no_locals };
+        frames =
+            record { back = 1; active = t0.active } ∷ [];
+        known = only_args 0 t0.known;
+      } in
       does_item reading (setting_of low items) P (On reading low items (regs 25) small s0) 0 t0 t1 (Call entry 0) refl
-          (given_is _ _ f _ l.1) h (record {
+      (given_is _ _ f _ l.1) h (record {
         active = record {
           mark = l.2.mark;
           out = l.2.out;
@@ -69,8 +74,18 @@ module _ {V : Type 0} (reading : Halt → Ending V) (low : LowSetting) (entry : 
       (run (low_machine reading low) s0)
   follows_select never =
       follows_from_start (selected reading low items (regs 25) small all) s0 1 t0
-          (starts _ (as_alike reading low items (regs 25) small s0 t0 ((λ at h. refl), alloc, omega arith, refl, fits,
-          refl, top), tt)) never
+      (starts _ (
+        as_alike reading low items (regs 25) small s0 t0 (
+          (λ at h. refl),
+          alloc,
+          omega arith,
+          refl,
+          fits,
+          refl,
+          top,
+        ),
+        tt,
+      )) never
 
   -- within so many items for each unit of work, and as many for the start
   pub costs_select : NeverWrong (run (low_machine reading low) s0)
@@ -79,11 +94,18 @@ module _ {V : Type 0} (reading : Halt → Ending V) (low : LowSetting) (entry : 
       (run (metered low_turns (low_machine reading low)) (record { spent = 1; rest = s0 }))
   costs_select never =
       follows_at_cost_from_start (selected_costs reading low items (regs 25) small all)
-          (record { spent = 1; rest = s0 }) 1 (unspent t0) (meter (virtual_machine reading (setting_of low items))
-          (λ t. Alike (SameRegion (regs 25) low.top) (low_machine reading low)
-          (virtual_machine reading (setting_of low items)) s0 t) (On reading low items (regs 25) small s0) 1 0 rate t0
-          (omega arith) (starts _ (as_alike reading low items (regs 25) small s0 t0 ((λ at h. refl), alloc, omega arith,
-          refl, fits, refl, top)))) never
+      (record { spent = 1; rest = s0 }) 1 (unspent t0) (meter (virtual_machine reading (setting_of low items))
+      (λ t. Alike (SameRegion (regs 25) low.top) (low_machine reading low)
+      (virtual_machine reading (setting_of low items)) s0 t) (On reading low items (regs 25) small s0) 1 0 rate t0
+      (omega arith) (starts _ (as_alike reading low items (regs 25) small s0 t0 (
+        (λ at h. refl),
+        alloc,
+        omega arith,
+        refl,
+        fits,
+        refl,
+        top,
+      )))) never
 
   pub turns_select : NeverWrong (run (low_machine reading low) s0)
       → EndsInTime rate (run (virtual_machine reading (setting_of low items)) t0)

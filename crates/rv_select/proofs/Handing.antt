@@ -27,7 +27,6 @@ words_cons None r ws e = absurd (cc)
 words_cons (Some x) None ws e = absurd (cc)
 words_cons (Some x) (Some xs) ws e = (x, xs, refl, refl, cc)
 
-
 -- ---- words in registers
 
 abbrev pub args_regs : ℕ → List ℕ → Registers → Registers
@@ -94,14 +93,14 @@ pub args_low : (ws : List ℕ) (from q : ℕ) (regs : Registers) → q < 10 + fr
 args_low [] from q regs h = refl
 args_low (w ∷ ws) from q regs h =
     args_low ws (suc from) q (set_reg (10 + from) w regs) (omega arith)
-        ∙ other_reg (10 + from) q w regs (differ q from h)
+    ∙ other_reg (10 + from) q w regs (differ q from h)
 
 pub args_high : (ws : List ℕ) (from q : ℕ) (regs : Registers) → from + length ws ≤ 8 → 18 ≤ q
     → args_regs from ws regs q ≡ regs q
 args_high [] from q regs h k = refl
 args_high (w ∷ ws) from q regs h k =
     args_high ws (suc from) q (set_reg (10 + from) w regs) (omega arith) k
-        ∙ other_reg (10 + from) q w regs (differ_high q from (length ws) h k)
+    ∙ other_reg (10 + from) q w regs (differ_high q from (length ws) h k)
 
 pub args_fixed : (ws : List ℕ) (regs : Registers) → length ws ≤ 8 → SameFixed (args_regs 0 ws regs) regs
 args_fixed ws regs h = record {
@@ -121,9 +120,9 @@ arg_fixed from word regs n h = record {
 pub has_args : (ws : List ℕ) (from : ℕ) (regs : Registers) → HasArgs (args_regs from ws regs) from ws
 has_args [] from regs = tt
 has_args (w ∷ ws) from regs = (
-    get_arg from (args_regs (suc from) ws (set_reg (10 + from) w regs))
-        ∙ (args_low ws (suc from) (10 + from) (set_reg (10 + from) w regs) (omega arith) ∙ same_reg from w regs),
-    has_args ws (suc from) (set_reg (10 + from) w regs),
+  get_arg from (args_regs (suc from) ws (set_reg (10 + from) w regs))
+      ∙ (args_low ws (suc from) (10 + from) (set_reg (10 + from) w regs) (omega arith) ∙ same_reg from w regs),
+  has_args ws (suc from) (set_reg (10 + from) w regs),
 )
 
 -- ---- words out of registers
@@ -148,8 +147,8 @@ bound [] first from (suc n) regs L l e h k i = absurd (omega (arith, e))
 bound (w ∷ ws) first from zero regs L l e h k i = absurd (omega (arith, e))
 bound (w ∷ ws) first from (suc n) regs L l e h k i =
     bound ws first (suc from) n regs (set_local (first + from) (get_reg regs (10 + from)) L) (set_local from w l)
-        (omega (arith, e)) (λ j. ap (λ x. set_local (first + from) x L (first + j)) k.0
-        ∙ set_shifted first from w j L l (h j)) k.1 i
+    (omega (arith, e)) (λ j. ap (λ x. set_local (first + from) x L (first + j)) k.0
+    ∙ set_shifted first from w j L l (h j)) k.1 i
 
 -- ---- the items
 
@@ -167,7 +166,7 @@ module _ {V : Type 0} (reading : Halt → Ending V) (setting : Setting) where
   put_local t l v (Word i) x e f h = move_local reading setting t v (Virtual (t.active.found.first + i)) x (f i ∙ e) h
   put_local t l v (Number n) x e f h =
       let same : n % 2 ^ 64 ≡ x = cc in ap (λ w. puts reading setting (Virtual v) w t) same
-          ∙ write_local reading setting t v x h
+      ∙ write_local reading setting t v x h
 
   pub put_real : (t : VirtualState) (l : Locals) (r : ℕ) (a : LowSource) (x : ℕ) → word_of l a ≡ Some x
       → ((i : ℕ) → t.active.locals (t.active.found.first + i) ≡ l i) → may_write r ≡ true
@@ -182,29 +181,40 @@ module _ {V : Type 0} (reading : Halt → Ending V) (setting : Setting) where
         → Stands reading setting t.pc (args_items t.active.found.first from args ++ rest)
         → ((regs : Registers) (known : ℕ → Bool) (pc : ℕ) → SameFixed regs t.regs
         → P (record t { regs = regs; known = known; pc = pc }))
-        → Reaches (virtual_machine reading setting) P Q k (record t { regs = args_regs from ws t.regs; known =
-        args_known from ws t.known; pc = beyond (args_items t.active.found.first from args) t.pc })
+        → Reaches (virtual_machine reading setting) P Q k (record t {
+          regs = args_regs from ws t.regs;
+          known =
+              args_known from ws t.known;
+          pc = beyond (args_items t.active.found.first from args) t.pc;
+        })
         → Reaches (virtual_machine reading setting) P Q (more args k) t
     hands [] ws from t e h f s p r =
         let same : [] ≡ ws = cc in
-            subst (λ xs. Reaches (virtual_machine reading setting) P Q k
-            (record t { regs = args_regs from xs t.regs; known = args_known from xs t.known })) (sym same) r
+        subst (λ xs. Reaches (virtual_machine reading setting) P Q k
+        (record t { regs = args_regs from xs t.regs; known = args_known from xs t.known })) (sym same) r
     hands (a ∷ args) ws from t e h f s p r =
         let c = words_cons (word_of l a) (words_of l args) ws e in
         let t1 : VirtualState = wrote_real (10 + from) c.0 t in
         let f1 : from + length (c.0 ∷ c.1) ≤ 8 = subst (λ xs. from + length xs ≤ 8) c.4 f in
-        let r1 : Reaches (virtual_machine reading setting) P Q k (record t { regs = args_regs from (c.0 ∷ c.1) t.regs;
-            known = args_known from (c.0 ∷ c.1) t.known; pc =
-            beyond (args_items t.active.found.first from (a ∷ args)) t.pc }) =
-            subst (λ xs. Reaches (virtual_machine reading setting) P Q k
-            (record t { regs = args_regs from xs t.regs; known = args_known from xs t.known; pc =
-            beyond (args_items t.active.found.first from (a ∷ args)) t.pc })) c.4 r in
+        let r1 : Reaches (virtual_machine reading setting) P Q k (record t {
+          regs = args_regs from (c.0 ∷ c.1) t.regs;
+          known = args_known from (c.0 ∷ c.1) t.known;
+          pc =
+              beyond (args_items t.active.found.first from (a ∷ args)) t.pc;
+        }) =
+        subst (λ xs. Reaches (virtual_machine reading setting) P Q k
+        (record t {
+          regs = args_regs from xs t.regs;
+          known = args_known from xs t.known;
+          pc =
+              beyond (args_items t.active.found.first from (a ∷ args)) t.pc;
+        })) c.4 r in
         let f2 : from + suc (length c.1) ≤ 8 = omega (arith, f1) in
         let f3 : suc from + length c.1 ≤ 8 = omega (arith, f1) in
         does_item reading setting P Q (more args k) t t1 _ s.0 (put_real t l (10 + from) a c.0 c.2 h
-            (writable from (length c.1) f2)) (p t.regs t.known t.pc (fixed_self t.regs)) (
-          hands args c.1 (suc from) t1 c.3 h f3 s.1 (λ regs known pc q.
-              p regs known pc (also_fixed q (arg_fixed from c.0 t.regs (length c.1) f2))) r1)
+        (writable from (length c.1) f2)) (p t.regs t.known t.pc (fixed_self t.regs)) (
+        hands args c.1 (suc from) t1 c.3 h f3 s.1 (λ regs known pc q.
+        p regs known pc (also_fixed q (arg_fixed from c.0 t.regs (length c.1) f2))) r1)
 
   abbrev pub plus_steps : ℕ → ℕ → ℕ
   plus_steps zero k = k
@@ -227,19 +237,22 @@ module _ {V : Type 0} (reading : Halt → Ending V) (setting : Setting) where
         → from + n ≤ 8 → from + n ≤ t.active.found.count
         → Stands reading setting t.pc (params_items t.active.found.first from n ++ rest)
         → ((L : Locals) (pc : ℕ) → P (record t { active = record t.active { locals = L }; pc = pc }))
-        → Reaches (virtual_machine reading setting) P Q k (record t { active =
-        record t.active { locals = params_locals t.active.found.first from n t.regs t.active.locals }; pc =
-        beyond (params_items t.active.found.first from n) t.pc })
+        → Reaches (virtual_machine reading setting) P Q k (record t {
+          active =
+              record t.active { locals = params_locals t.active.found.first from n t.regs t.active.locals };
+          pc =
+              beyond (params_items t.active.found.first from n) t.pc;
+        })
         → Reaches (virtual_machine reading setting) P Q (plus_steps n k) t
     takes zero from t kn f g s p r = r
     takes (suc n) from t kn f g s p r =
         let word : ℕ = get_reg t.regs (10 + from) in
         let t1 : VirtualState = wrote_local (t.active.found.first + from) word t in
         does_item reading setting P Q (plus_steps n k) t t1 _ s.0 (move_local reading setting t
-            (t.active.found.first + from) (Real (10 + from)) word
-            (ap (λ b. if b && (is_fixed (10 + from) || t.known (10 + from)) then Some word else None)
-            (readable from n f) ∙ ap (λ b. if b then Some word else None)
-            (or_known (is_fixed (10 + from)) (kn from (omega arith) (omega arith)))) (own t.active.found from n g))
-            (p t.active.locals t.pc) (
-          takes n (suc from) t1 (λ i h k. kn i (omega (arith, h)) (omega (arith, k))) (omega (arith, f))
-              (omega (arith, g)) s.1 (λ L pc. p L pc) r)
+        (t.active.found.first + from) (Real (10 + from)) word
+        (ap (λ b. if b && (is_fixed (10 + from) || t.known (10 + from)) then Some word else None)
+        (readable from n f) ∙ ap (λ b. if b then Some word else None)
+        (or_known (is_fixed (10 + from)) (kn from (omega arith) (omega arith)))) (own t.active.found from n g))
+        (p t.active.locals t.pc) (
+        takes n (suc from) t1 (λ i h k. kn i (omega (arith, h)) (omega (arith, k))) (omega (arith, f))
+        (omega (arith, g)) s.1 (λ L pc. p L pc) r)

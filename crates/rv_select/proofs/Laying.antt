@@ -107,9 +107,19 @@ module _ (first out : ℕ) where
   code_body (LowLoad d a offset rest) m = with_source 5 a _ (tt, code_body rest m)
   code_body (LowStore b a offset rest) m = with_source 5 a _ (with_source 6 b _ (tt, code_body rest m))
   code_body (LowCodeOf d k rest) m = (tt, code_body rest m)
-  code_body (Build d args rest) m =
-      (tt, (tt, (tt, body_append (stores_items first 0 args) _ (stores_body first 0 args) (tt,
-          (tt, code_body rest m)))))
+  code_body (Build d args rest) m = (
+    tt,
+    (
+      tt,
+      (
+        tt,
+        body_append (stores_items first 0 args) _ (stores_body first 0 args) (
+          tt,
+          (tt, code_body rest m),
+        ),
+      ),
+    ),
+  )
   code_body (Request d a rest) m = with_source 7 a _ (tt, (tt, (tt, (tt, code_body rest m))))
   code_body (Take a rest) m = with_source 7 a _ (tt, (tt, code_body rest m))
   code_body (LowEnvironment number a b d e rest) m =
@@ -117,11 +127,21 @@ module _ (first out : ℕ) where
   code_body (LowCall d k args rest) m = with_args args _ (tt, (tt, code_body rest m))
   code_body (LowCallAt d f args rest) m = with_source 7 f _ (with_args args _ (tt, (tt, code_body rest m)))
   code_body (If cond a b one other rest) m =
-      with_source 5 a _ (with_source 6 b _ (tt, body_append (code_items first out (suc (suc m)) other) _
-          (code_body other (suc (suc m))) (tt,
-          (tt, body_append (code_items first out (suc (suc m) + marks_in other) one) _
-          (code_body one (suc (suc m) + marks_in other)) (tt,
-          code_body rest (suc (suc m) + marks_in other + marks_in one))))))
+      with_source 5 a _ (with_source 6 b _ (
+        tt,
+        body_append (code_items first out (suc (suc m)) other) _
+            (code_body other (suc (suc m))) (
+              tt,
+              (
+                tt,
+                body_append (code_items first out (suc (suc m) + marks_in other) one) _
+                    (code_body one (suc (suc m) + marks_in other)) (
+                      tt,
+                      code_body rest (suc (suc m) + marks_in other + marks_in one),
+                    ),
+              ),
+            ),
+      ))
   code_body (LowReturn a) m = (put_body first (Real 10) a, (tt, tt))
   code_body (LowTailCall k args) m = with_args args _ (tt, tt)
   code_body (LowTailCallAt f args) m = with_source 7 f _ (with_args args _ (tt, tt))
@@ -174,9 +194,9 @@ module _ {V : Type 0} (reading : Halt → Ending V) (low : LowSetting) (items : 
       → Finds reading low items stack small home p xs
   all_found home [] tail p b d e = tt
   all_found home (Mark m ∷ xs) tail p b d e = (
-      e.0 ∙ ap (λ c. if c then Some p else mark_from m (suc p) (xs ++ tail)) (equal_self m),
-      all_found home xs tail (suc p) b.1 d.1 (each_with m _ (λ w. mark_place items home w ≡ mark_from w (suc p) (xs
-          ++ tail)) (marks xs) d.0 e.1 (λ w n h. pass_mark home m p w (xs ++ tail) n h)),
+    e.0 ∙ ap (λ c. if c then Some p else mark_from m (suc p) (xs ++ tail)) (equal_self m),
+    all_found home xs tail (suc p) b.1 d.1 (each_with m _ (λ w. mark_place items home w ≡ mark_from w (suc p) (xs
+        ++ tail)) (marks xs) d.0 e.1 (λ w n h. pass_mark home m p w (xs ++ tail) n h)),
   )
   all_found home (Procedure k first count ∷ xs) tail p b d e = absurd b.0
   all_found home (x ∷ xs) tail p b d e = (tt, all_found home xs tail (suc p) b.1 d e)
@@ -187,30 +207,31 @@ module _ {V : Type 0} (reading : Halt → Ending V) (low : LowSetting) (items : 
 
   body_is_body : (first mark : ℕ) (p : Proc) → AreBody (body_items first mark p)
   body_is_body first mark p =
-      let out : ℕ = mark + marks_in p.code in
       body_append (params_items first 0 p.params) _ (params_body first 0 p.params)
-          (body_append (code_items first out mark p.code) (out_items out) (code_body first out p.code mark) (tt,
-          (tt, (tt, (tt, (tt, (tt, tt)))))))
+      (body_append (code_items first mark (suc mark) p.code) (out_items mark)
+      (code_body first mark p.code (suc mark)) (tt, (tt, (tt, (tt, (tt, (tt, tt)))))))
 
   -- a procedure whose body lies from a place on
   entered : (p : Proc) (first mark home : ℕ) (tail : List VirtualItem) → From home (body_items first mark p ++ tail)
       → Entered reading low items stack small p (record { home = home; first = first; count = p.words })
   entered p first mark home tail e = record {
-    mark = mark;
-    out = out;
+    mark = suc mark;
+    out = mark;
     homed = record {
       count = refl;
-      room = (beyond code (beyond params home),
-          (finds_past reading low items stack small home code (out_items out) (beyond params home)
-          (finds_past reading low items stack small home params (code ++ out_items out) home finds)).0,
-          stands_past reading setting code (out_items out) (beyond params home)
-          (stands_past reading setting params (code ++ out_items out) home stands));
+      room = (
+        beyond code (beyond params home),
+        (finds_past reading low items stack small home code (out_items mark) (beyond params home)
+            (finds_past reading low items stack small home params (code ++ out_items mark) home finds)).0,
+        stands_past reading setting code (out_items mark) (beyond params home)
+            (stands_past reading setting params (code ++ out_items mark) home stands),
+      );
     };
     lies = record {
-      stands = stands_front reading setting (params ++ code) (out_items out) home
-          (subst (Here home) (sym (append_assoc params code (out_items out))) stands);
-      finds = finds_front reading low items stack small home (params ++ code) (out_items out) home
-          (subst (Finds reading low items stack small home home) (sym (append_assoc params code (out_items out)))
+      stands = stands_front reading setting (params ++ code) (out_items mark) home
+          (subst (Here home) (sym (append_assoc params code (out_items mark))) stands);
+      finds = finds_front reading low items stack small home (params ++ code) (out_items mark) home
+          (subst (Finds reading low items stack small home home) (sym (append_assoc params code (out_items mark)))
           finds);
       leads = tt;
     };
@@ -219,14 +240,11 @@ module _ {V : Type 0} (reading : Halt → Ending V) (low : LowSetting) (items : 
       setting : Setting
       setting = setting_of low items
 
-      out : ℕ
-      out = mark + marks_in p.code
-
       params : List VirtualItem
       params = params_items first 0 p.params
 
       code : List VirtualItem
-      code = code_items first out mark p.code
+      code = code_items first mark (suc mark) p.code
 
       stands : Here home (body_items first mark p)
       stands = from_stands (body_items first mark p) tail home e
@@ -234,10 +252,10 @@ module _ {V : Type 0} (reading : Halt → Ending V) (low : LowSetting) (items : 
       finds : Finds reading low items stack small home home (body_items first mark p)
       finds =
           all_found home (body_items first mark p) tail home (body_is_body first mark p) (body_fresh first mark p).1
-              (every _ (marks (body_items first mark p)) (λ w. ap (λ xs. mark_from w home xs) e))
+          (every _ (marks (body_items first mark p)) (λ w. ap (λ xs. mark_from w home xs) e))
 
   abbrev tail_of : ℕ → ℕ → ℕ → Proc → List Proc → List VirtualItem
-  tail_of k first mark p ps = procs_items (suc k) (first + p.words) (mark + marks_in p.code + 1) ps
+  tail_of k first mark p ps = procs_items (suc k) (first + p.words) (suc mark + marks_in p.code) ps
 
   proc_split : (k first mark at : ℕ) (p : Proc) (ps : List Proc) → From at (procs_items k first mark (p ∷ ps))
       → From (suc at) (body_items first mark p ++ tail_of k first mark p ps)
@@ -259,21 +277,23 @@ module _ {V : Type 0} (reading : Halt → Ending V) (low : LowSetting) (items : 
       let found : Found = record { home = suc at; first = first; count = q.words } in
       let test : (k == w) ≡ true = ap (λ x. x == w) (let h : k ≡ w = omega (arith, n) in h) ∙ equal_self w in
       let r : Entered reading low items stack small q found =
-          entered q first mark (suc at) (tail_of k first mark q ps) (proc_split k first mark at q ps e) in
-      (found,
+      entered q first mark (suc at) (tail_of k first mark q ps) (proc_split k first mark at q ps e) in (
+        found,
         ap (λ c. if c then Some found else procedure_from w (suc at) (body_items first mark q
             ++ tail_of k first mark q ps)) test,
-        subst (λ c. Entered reading low items stack small c found) same r)
+        subst (λ c. Entered reading low items stack small c found) same r,
+      )
   numbers (q ∷ ps) k first mark (suc j) at w p n g e =
       let body : List VirtualItem = body_items first mark q in
       let tail : List VirtualItem = tail_of k first mark q ps in
       let test : (k == w) ≡ false = grind arith in
-      let r = numbers ps (suc k) (first + q.words) (mark + marks_in q.code + 1) j (beyond body (suc at)) w p
-          (omega (arith, n)) g (proc_tail k first mark at q ps e) in
-      (r.0,
+      let r = numbers ps (suc k) (first + q.words) (suc mark + marks_in q.code) j (beyond body (suc at)) w p
+      (omega (arith, n)) g (proc_tail k first mark at q ps e) in (
+        r.0,
         ap (λ c. if c then Some (record { home = suc at; first = first; count = q.words }) else procedure_from w
             (suc at) (body ++ tail)) test ∙ (skip_numbers body tail w (suc at) (body_is_body first mark q) ∙ r.1),
-        r.2)
+        r.2,
+      )
 
   addresses : (ps : List Proc) (k first mark at to : ℕ) (p : Proc) → proc_from low.address to k ps ≡ Some p
       → From at (procs_items k first mark ps) → (f : Found)
@@ -281,7 +301,7 @@ module _ {V : Type 0} (reading : Halt → Ending V) (low : LowSetting) (items : 
       × Entered reading low items stack small p f
   addresses [] k first mark at to p g e = absurd (cc)
   addresses (q ∷ ps) k first mark at to p g e =
-      here (λ i. addresses ps (suc k) (first + q.words) (mark + marks_in q.code + 1)
+      here (λ i. addresses ps (suc k) (first + q.words) (suc mark + marks_in q.code)
       (beyond (body_items first mark q) (suc at)) to p i (proc_tail k first mark at q ps e)) (low.address k == to) refl
       g
     where
@@ -303,16 +323,18 @@ module _ {V : Type 0} (reading : Halt → Ending V) (low : LowSetting) (items : 
       here later true h i =
           let same : q ≡ p = cc in
           let r : Entered reading low items stack small q found =
-              entered q first mark (suc at) tail (proc_split k first mark at q ps e) in
-          (found,
+          entered q first mark (suc at) tail (proc_split k first mark at q ps e) in (
+            found,
             ap (λ c. if c then Some found else procedure_at low.address to (suc at) (body ++ tail)) h,
-            subst (λ c. Entered reading low items stack small c found) same r)
+            subst (λ c. Entered reading low items stack small c found) same r,
+          )
       here later false h i =
-          let r = later i in
-          (r.0,
+          let r = later i in (
+            r.0,
             ap (λ c. if c then Some found else procedure_at low.address to (suc at) (body ++ tail)) h
                 ∙ (skip_addresses body tail low.address to (suc at) (body_is_body first mark q) ∙ r.1),
-            r.2)
+            r.2,
+          )
 
 -- the code of `select` has all procedures
 pub laid : {V : Type 0} (reading : Halt → Ending V) (low : LowSetting) (stack : ℕ) (small : low.top < 2 ^ 64)

@@ -46,7 +46,6 @@ pub distinct_append : (xs ys : List ℕ) → Distinct xs → Distinct ys → Eac
 distinct_append [] ys h k e = k
 distinct_append (x ∷ xs) ys h k e = (not_in_append x xs ys h.0 e.0, distinct_append xs ys h.1 k e.1)
 
-
 -- distinct numbers with a property
 abbrev pub Fresh : (ℕ → Type 0) → List ℕ → Type 0
 Fresh P xs = Each P xs × Distinct xs
@@ -54,9 +53,9 @@ Fresh P xs = Each P xs × Distinct xs
 join : (P Q R : ℕ → Type 0) (xs ys : List ℕ) → Fresh P xs → Fresh Q ys → ((x y : ℕ) → P x → Q y → x ≢ y)
     → ((z : ℕ) → P z → R z) → ((z : ℕ) → Q z → R z) → Fresh R (xs ++ ys)
 join P Q R xs ys h k apart f g = (
-    each_append R xs ys (each_map P R xs f h.0) (each_map Q R ys g k.0),
-    distinct_append xs ys h.1 k.1 (each_map P (λ x. NotIn x ys) xs (λ x p.
-        each_not_in x ys (each_map Q (λ y. x ≢ y) ys (λ y q. apart x y p q) k.0)) h.0),
+  each_append R xs ys (each_map P R xs f h.0) (each_map Q R ys g k.0),
+  distinct_append xs ys h.1 k.1 (each_map P (λ x. NotIn x ys) xs (λ x p.
+      each_not_in x ys (each_map Q (λ y. x ≢ y) ys (λ y q. apart x y p q) k.0)) h.0),
 )
 
 add_one : (P R : ℕ → Type 0) (m : ℕ) (xs : List ℕ) → Fresh P xs → ((y : ℕ) → P y → m ≢ y) → R m → ((z : ℕ) → P z → R z)
@@ -133,13 +132,13 @@ module _ (first out : ℕ) where
       subst (Fresh (Between m (m + marks_in rest))) (sym (sources_marks 7 a _)) (code_fresh rest m)
   code_fresh (LowEnvironment number a b d e rest) m =
       subst (Fresh (Between m (m + marks_in rest))) (sym (put_none first (Real 10) a _ ∙ put_none first (Real 11) b _))
-          (code_fresh rest m)
+      (code_fresh rest m)
   code_fresh (LowCall d k args rest) m =
       subst (Fresh (Between m (m + marks_in rest))) (sym (after (args_items first 0 args) _ (args_none first 0 args)))
       (code_fresh rest m)
   code_fresh (LowCallAt d f args rest) m =
       subst (Fresh (Between m (m + marks_in rest))) (sym (sources_marks 7 f _
-          ∙ after (args_items first 0 args) _ (args_none first 0 args))) (code_fresh rest m)
+      ∙ after (args_items first 0 args) _ (args_none first 0 args))) (code_fresh rest m)
   code_fresh (If cond a b one other rest) m =
       let m1 : ℕ = suc (suc m) in
       let m2 : ℕ = m1 + marks_in other in
@@ -152,56 +151,59 @@ module _ (first out : ℕ) where
       let k = code_fresh one m2 in
       let l = code_fresh rest m3 in
       let a1 : Fresh (λ z. (z ≡ suc m) ⊎ Between m3 end z) (suc m ∷ marks zs) =
-          add_one (Between m3 end) (λ z. (z ≡ suc m) ⊎ Between m3 end z) (suc m) (marks zs) l (λ y q e. let z : ⊥ =
-          omega (arith, q.0, e) in z) (inl refl) (λ z q. inr q) in
+      add_one (Between m3 end) (λ z. (z ≡ suc m) ⊎ Between m3 end z) (suc m) (marks zs) l (λ y q e. let z : ⊥ =
+      omega (arith, q.0, e) in z) (inl refl) (λ z q. inr q) in
       let a2 : Fresh (λ z. (z ≡ suc m) ⊎ Between m2 end z) (marks ys ++ (suc m ∷ marks zs)) =
-          join (Between m2 m3) (λ z. (z ≡ suc m) ⊎ Between m3 end z) (λ z. (z ≡ suc m)
-          ⊎ Between m2 end z) (marks ys) (suc m ∷ marks zs) k a1 (λ x y p q e.
-          ⊎_elim (λ i. let z : ⊥ = omega (arith, p.0, i, e) in z) (λ i. let z : ⊥ = omega (arith, p.1, i.0, e) in z) q)
-          (λ z p. inr (p.0, (let y = p.1 in omega (arith, y)))) (λ z q.
-          ⊎_elim (λ i. inl i) (λ i. inr ((let y = i.0 in omega (arith, y)), i.1)) q) in
+      join (Between m2 m3) (λ z. (z ≡ suc m) ⊎ Between m3 end z) (λ z. (z ≡ suc m)
+      ⊎ Between m2 end z) (marks ys) (suc m ∷ marks zs) k a1 (λ x y p q e.
+      ⊎_elim (λ i. let z : ⊥ = omega (arith, p.0, i, e) in z) (λ i. let z : ⊥ = omega (arith, p.1, i.0, e) in z) q)
+      (λ z p. inr (p.0, (let y = p.1 in omega (arith, y)))) (λ z q.
+      ⊎_elim (λ i. inl i) (λ i. inr ((let y = i.0 in omega (arith, y)), i.1)) q) in
       let a3 : Fresh (λ z. (z ≡ m) ⊎ ((z ≡ suc m) ⊎ Between m2 end z)) (m ∷ (marks ys ++ (suc m ∷ marks zs))) =
-          add_one (λ z. (z ≡ suc m) ⊎ Between m2 end z) (λ z. (z ≡ m) ⊎ ((z ≡ suc m) ⊎ Between m2 end z)) m (marks ys
-          ++ (suc m ∷ marks zs)) a2 (λ y q e. ⊎_elim (λ i. let z : ⊥ = omega (arith, i, e) in z) (λ i. let z : ⊥ =
-          omega (arith, i.0, e) in z) q) (inl refl) (λ z q. inr q) in
+      add_one (λ z. (z ≡ suc m) ⊎ Between m2 end z) (λ z. (z ≡ m) ⊎ ((z ≡ suc m) ⊎ Between m2 end z)) m (marks ys
+      ++ (suc m ∷ marks zs)) a2 (λ y q e. ⊎_elim (λ i. let z : ⊥ = omega (arith, i, e) in z) (λ i. let z : ⊥ =
+      omega (arith, i.0, e) in z) q) (inl refl) (λ z q. inr q) in
       let whole : m + (suc (suc (marks_in other)) + marks_in one + marks_in rest) ≡ end = omega arith in
       let a4 : Fresh (Between m (m + (suc (suc (marks_in other)) + marks_in one + marks_in rest))) (marks xs
-          ++ (m ∷ (marks ys ++ (suc m ∷ marks zs)))) = join (Between m1 m2) (λ z. (z ≡ m)
-          ⊎ ((z ≡ suc m) ⊎ Between m2 end z))
-          (Between m (m + (suc (suc (marks_in other)) + marks_in one + marks_in rest))) (marks xs) (m
-          ∷ (marks ys ++ (suc m ∷ marks zs))) h a3 (λ x y p q e. ⊎_elim (λ i. let z : ⊥ = omega (arith, p.0, i, e) in
-          z) (λ j. ⊎_elim (λ i. let z : ⊥ = omega (arith, p.0, i, e) in z) (λ i. let z : ⊥ =
-          omega (arith, p.1, i.0, e) in z) j) q) (λ z p. ((let y = p.0 in omega (arith, y)), (let y =
-          p.1 in omega (arith, y)))) (λ z q. ⊎_elim (λ i. (omega (arith, i), omega (arith, i)))
-          (λ j. ⊎_elim (λ i. (omega (arith, i), omega (arith, i))) (λ i.
-          ((let y = i.0 in omega (arith, y)), (let y = i.1 in omega (arith, y, whole)))) j) q) in
+      ++ (m ∷ (marks ys ++ (suc m ∷ marks zs)))) = join (Between m1 m2) (λ z. (z ≡ m)
+      ⊎ ((z ≡ suc m) ⊎ Between m2 end z))
+      (Between m (m + (suc (suc (marks_in other)) + marks_in one + marks_in rest))) (marks xs) (m
+      ∷ (marks ys ++ (suc m ∷ marks zs))) h a3 (λ x y p q e. ⊎_elim (λ i. let z : ⊥ = omega (arith, p.0, i, e) in
+      z) (λ j. ⊎_elim (λ i. let z : ⊥ = omega (arith, p.0, i, e) in z) (λ i. let z : ⊥ =
+      omega (arith, p.1, i.0, e) in z) j) q) (λ z p. (
+        (let y = p.0 in omega (arith, y)),
+        (let y =
+            p.1 in omega (arith, y)),
+      )) (λ z q. ⊎_elim (λ i. (omega (arith, i), omega (arith, i)))
+      (λ j. ⊎_elim (λ i. (omega (arith, i), omega (arith, i))) (λ i.
+      ((let y = i.0 in omega (arith, y)), (let y = i.1 in omega (arith, y, whole)))) j) q) in
       let behind : List VirtualItem = Jump (suc m) ∷ Mark m ∷ (ys ++ (Mark (suc m) ∷ zs)) in
       let tested : List VirtualItem = Branch cond (source_reg first 5 a) (source_reg first 6 b) m ∷ (xs ++ behind) in
       let parts : marks (code_items first out m (If cond a b one other rest)) ≡ marks xs
-          ++ (m ∷ (marks ys ++ (suc m ∷ marks zs))) = sources_marks 5 a (source_items 6 b ++ tested)
-          ∙ (sources_marks 6 b tested
-          ∙ (marks_append xs behind ∙ ap (λ r. marks xs ++ (m ∷ r)) (marks_append ys (Mark (suc m) ∷ zs)))) in
+      ++ (m ∷ (marks ys ++ (suc m ∷ marks zs))) = sources_marks 5 a (source_items 6 b ++ tested)
+      ∙ (sources_marks 6 b tested
+      ∙ (marks_append xs behind ∙ ap (λ r. marks xs ++ (m ∷ r)) (marks_append ys (Mark (suc m) ∷ zs)))) in
       subst (Fresh (Between m (m + (suc (suc (marks_in other)) + marks_in one + marks_in rest)))) (sym parts) a4
   code_fresh (LowReturn a) m = subst (Fresh (Between m (m + 0))) (sym (put_none first (Real 10) a _)) (tt, tt)
   code_fresh (LowTailCall k args) m =
       subst (Fresh (Between m (m + 0))) (sym (after (args_items first 0 args) _ (args_none first 0 args))) (tt, tt)
   code_fresh (LowTailCallAt f args) m =
       subst (Fresh (Between m (m + 0))) (sym (sources_marks 7 f _
-          ∙ after (args_items first 0 args) _ (args_none first 0 args))) (tt, tt)
+      ∙ after (args_items first 0 args) _ (args_none first 0 args))) (tt, tt)
 
 -- a procedure's marks
-pub body_fresh : (first mark : ℕ) (p : Proc) → Fresh (Between mark (mark + marks_in p.code + 1))
+pub body_fresh : (first mark : ℕ) (p : Proc) → Fresh (Between mark (suc mark + marks_in p.code))
     (marks (body_items first mark p))
 body_fresh first mark p =
-    let out : ℕ = mark + marks_in p.code in
-    let code : List VirtualItem = code_items first out mark p.code in
-    let parts : marks (body_items first mark p) ≡ marks code ++ (out ∷ []) =
-        after (params_items first 0 p.params) (code ++ out_items out) (params_none first 0 p.params)
-        ∙ marks_append code (out_items out) in
-    subst (Fresh (Between mark (mark + marks_in p.code + 1))) (sym parts)
-        (join (Between mark out) (λ z. z ≡ out) _ (marks code) (out ∷ []) (code_fresh first out p.code mark)
-        ((refl, tt), (tt, tt)) (λ x y h e i. let z : ⊥ = omega (arith, h.1, e, i) in
-        z) (λ z h. (h.0, (let y = h.1 in omega (arith, y)))) (λ z e. (omega (arith, e), omega (arith, e))))
+    let code : List VirtualItem = code_items first mark (suc mark) p.code in
+    let parts : marks (body_items first mark p) ≡ marks code ++ (mark ∷ []) =
+    after (params_items first 0 p.params) (code ++ out_items mark) (params_none first 0 p.params)
+    ∙ marks_append code (out_items mark) in
+    subst (Fresh (Between mark (suc mark + marks_in p.code))) (sym parts)
+    (join (Between (suc mark) (suc mark + marks_in p.code)) (λ z. z ≡ mark) _ (marks code) (mark ∷ [])
+    (code_fresh first mark p.code (suc mark)) ((refl, tt), (tt, tt))
+    (λ x y h e i. let z : ⊥ = omega (arith, h.0, e, i) in z)
+    (λ z h. ((let y = h.0 in omega (arith, y)), h.1)) (λ z e. (omega (arith, e), omega (arith, e))))
 
 -- those of procedures and of their codes
 procs_fresh : (ps : List Proc) (k first mark : ℕ) → k + length ps ≤ mark
@@ -209,20 +211,20 @@ procs_fresh : (ps : List Proc) (k first mark : ℕ) → k + length ps ≤ mark
 procs_fresh [] k first mark h = (tt, tt)
 procs_fresh (p ∷ ps) k first mark h =
     let body : List VirtualItem = body_items first mark p in
-    let tail : List VirtualItem = procs_items (suc k) (first + p.words) (mark + marks_in p.code + 1) ps in
-    let later = procs_fresh ps (suc k) (first + p.words) (mark + marks_in p.code + 1) (omega (arith, h)) in
+    let tail : List VirtualItem = procs_items (suc k) (first + p.words) (suc mark + marks_in p.code) ps in
+    let later = procs_fresh ps (suc k) (first + p.words) (suc mark + marks_in p.code) (omega (arith, h)) in
     let both : Fresh (λ x. Between (suc k) (suc k + length ps) x ⊎ (mark ≤ x)) (marks body ++ marks tail) =
-        join (Between mark (mark + marks_in p.code + 1)) (λ x. Between (suc k) (suc k + length ps) x
-        ⊎ (mark + marks_in p.code + 1 ≤ x)) _ (marks body) (marks tail) (body_fresh first mark p) later
-        (λ x y i j e. ⊎_elim (λ q. let z : ⊥ = omega (arith, h, i.0, q.1, e) in z) (λ q. let z : ⊥ =
-        omega (arith, i.1, q, e) in z) j) (λ z i. inr i.0) (λ z j. ⊎_elim (λ q. inl q) (λ q. inr (omega (arith, q)))
-        j) in
+    join (Between mark (suc mark + marks_in p.code)) (λ x. Between (suc k) (suc k + length ps) x
+    ⊎ (suc mark + marks_in p.code ≤ x)) _ (marks body) (marks tail) (body_fresh first mark p) later
+    (λ x y i j e. ⊎_elim (λ q. let z : ⊥ = omega (arith, h, i.0, q.1, e) in z) (λ q. let z : ⊥ =
+    omega (arith, i.1, q, e) in z) j) (λ z i. inr i.0) (λ z j. ⊎_elim (λ q. inl q) (λ q. inr (omega (arith, q)))
+    j) in
     let parts : marks (body ++ tail) ≡ marks body ++ marks tail = marks_append body tail in
     add_one (λ x. Between (suc k) (suc k + length ps) x ⊎ (mark ≤ x)) (λ x. Between k (k + suc (length ps)) x
-        ⊎ (mark ≤ x)) k (marks (body ++ tail)) (subst (Fresh (λ x. Between (suc k) (suc k + length ps) x ⊎ (mark ≤ x)))
-        (sym parts) both) (λ y q e. ⊎_elim (λ i. let z : ⊥ = omega (arith, i.0, e) in z) (λ i. let z : ⊥ =
-        omega (arith, h, i, e) in z) q) (inl (omega arith, omega arith))
-        (λ z q. ⊎_elim (λ i. inl ((let y = i.0 in omega (arith, y)), (let y = i.1 in omega (arith, y)))) (λ i. inr i) q)
+    ⊎ (mark ≤ x)) k (marks (body ++ tail)) (subst (Fresh (λ x. Between (suc k) (suc k + length ps) x ⊎ (mark ≤ x)))
+    (sym parts) both) (λ y q e. ⊎_elim (λ i. let z : ⊥ = omega (arith, i.0, e) in z) (λ i. let z : ⊥ =
+    omega (arith, h, i, e) in z) q) (inl (omega arith, omega arith))
+    (λ z q. ⊎_elim (λ i. inl ((let y = i.0 in omega (arith, y)), (let y = i.1 in omega (arith, y)))) (λ i. inr i) q)
 
 pub select_distinct : (entry : ℕ) (procs : List Proc) → Distinct (marks (select_items entry procs))
 select_distinct entry procs = (procs_fresh procs 0 0 (length procs) (omega arith)).1

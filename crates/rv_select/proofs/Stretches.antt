@@ -26,8 +26,11 @@ abbrev pub wrote_real : ℕ → ℕ → VirtualState → VirtualState
 wrote_real r word t = record t { regs = set_reg r word t.regs; known = also_known r t.known; pc = suc t.pc }
 
 abbrev pub wrote_local : ℕ → ℕ → VirtualState → VirtualState
-wrote_local v word t = record t { active = record t.active { locals = set_local v word t.active.locals }; pc =
-    suc t.pc }
+wrote_local v word t = record t {
+  active = record t.active { locals = set_local v word t.active.locals };
+  pc =
+      suc t.pc;
+}
 
 -- the same words stand in x25, x26 and x27, which tell of stack and region
 pub record SameFixed (regs old : Registers) : Type 0 where
@@ -98,4 +101,3 @@ pub more_is : {A : Type 0} (xs : List A) (k : ℕ) → more xs k ≡ length xs +
 more_is [] k = let e : k ≡ 0 + k = omega arith in e
 more_is (x ∷ xs) k = let i : more xs k ≡ length xs + k = more_is xs k in
     let e : suc (length xs + k) ≡ suc (length xs) + k = omega arith in ap suc i ∙ e
-
