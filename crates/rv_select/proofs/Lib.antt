@@ -8,3 +8,12 @@ pub mod SlotMarks
 pub mod SlotCalls
 pub mod SlotReturns
 pub mod SlotSteps
+pub mod Public
+pub mod Bounded
+pub mod Stretches
+pub mod Fetching
+pub mod Handing
+pub mod Selecting
+pub mod Marks
+pub mod Laying
+pub mod Following

@@ -4,3 +4,6 @@ pub mod Holding
 pub mod Slots
 pub mod Stacks
 pub mod Slotted
+pub mod Marks
+pub mod Select
+pub mod Selected
