@@ -1,5 +1,4 @@
 pub mod PutWords
-pub mod Budgets
 pub mod Items
 pub mod Frames
 pub mod SlotWords
@@ -8,6 +7,7 @@ pub mod SlotMarks
 pub mod SlotCalls
 pub mod SlotReturns
 pub mod SlotSteps
+pub mod InStack
 pub mod Public
 pub mod Bounded
 pub mod Stretches

@@ -25,7 +25,7 @@ use Rattle.rv_select.specs.Run.{back_to, framed, procedure_from, procedure_at, i
 use Rattle.rv_select.specs.Slots.{frame_size, register_for, fetch_items, save_items, word_items, leave_items}
 use Rattle.rv_select.specs.Slots.{expand_all, final_items}
 use Rattle.rv_select.specs.Stacks.{stack_of}
-use Rattle.rv_select.proofs.Budgets.{DoesWithin}
+use Rattle.rv_select.proofs.Bounded.{DoesWithin}
 use Rattle.rv_select.proofs.PutWords.{OnlyIn}
 use Rattle.rv_select.proofs.Items.{Then, ThenOn, as_at, regrouped, stands_small, stands_aligned, past_mark, mark_stands}
 use Rattle.rv_select.proofs.Items.{does, jumps, falls, taken, addresses, lands, words}

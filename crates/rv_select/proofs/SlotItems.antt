@@ -32,7 +32,7 @@ use Rattle.rv_select.specs.Run.{item_step}
 use Rattle.rv_select.specs.Slots.{op_inst, op_with, slot_offset, register_for, fetch_items, save_items, settle_items}
 use Rattle.rv_select.specs.Slots.{word_items, slot_save, expand, expand_all, final_items}
 use Rattle.rv_select.specs.Stacks.{stack_of, if_room}
-use Rattle.rv_select.proofs.Budgets.{DoesWithin}
+use Rattle.rv_select.proofs.Bounded.{DoesWithin}
 use Rattle.rv_select.proofs.PutWords.{OnlyIn, word_turns, quotient_fits}
 use Rattle.rv_select.proofs.Items.{Then, ThenOn, Stands, regrouped, does, words}
 use Rattle.rv_select.proofs.Frames.{Slotting, readable_low, low_reg, unset, get_only, set_same, set_fits, fits_only}

@@ -29,7 +29,7 @@ use Rattle.rv_select.specs.declared.code.VirtualItem.TheVariants.{Constant, Move
 use Rattle.rv_select.specs.declared.code.VirtualItem.TheVariants.{CodeOf, Mark, Procedure, Jump, Branch, Call, CallAt}
 use Rattle.rv_select.specs.declared.code.VirtualItem.TheVariants.{TailCall, TailCallAt, Return, Environment}
 use Rattle.rv_select.specs.Run.{VirtualState, also_known, value, item_step, step_here}
-use Rattle.rv_select.proofs.Budgets.{within_budget}
+use Rattle.rv_select.proofs.Bounded.{within}
 use Rattle.rv_select.proofs.Items.{as_at, as_stands}
 use Rattle.rv_select.proofs.Frames.{Slotting, set_same, set_fits, program, virtual_setting, M, N, Stand, rest_of, has_rest}
 use Rattle.rv_select.proofs.Frames.{Body, On, has_room, Same, seen_of, as_alike, Way, way_first}
@@ -232,6 +232,6 @@ module _ {V : Type 0} (w : Slotting V) where
   pub slots_simulate : CostSimulation (Same w) item_turns (M w) (N w) each_one each_one (On w) (size w)
   slots_simulate = record {
     alike = λ t s on. as_alike w t s (seen_of w t s on.body);
-    does = λ t s on. within_budget (Same w) item_turns (M w) (N w) (On w) (size w) t s _
+    does = λ t s on. within (Same w) item_turns (M w) (N w) (On w) (size w) t s _
         (do_here t s on (slice_get w.items t.pc) refl);
   }
