@@ -8,6 +8,8 @@ pub mod SlotCalls
 pub mod SlotReturns
 pub mod SlotSteps
 pub mod InStack
+pub mod SlotDistinct
+pub mod SlotRuns
 pub mod Public
 pub mod Bounded
 pub mod Stretches
