@@ -9,6 +9,7 @@ pub mod SlotReturns
 pub mod SlotSteps
 pub mod InStack
 pub mod SlotDistinct
+pub mod SlotConditions
 pub mod SlotRuns
 pub mod Public
 pub mod Bounded
