@@ -102,6 +102,12 @@ abbrev pub settle_items : ℕ → VReg → List RealItem
 settle_items first (Real r) = Op (Addi r 28 (pos 0)) ∷ []
 settle_items first (Virtual v) = slot_save (slot_offset first v)
 
+-- a frame is made where it fits above x25, told the mark behind which the stack has no room; the link goes into it
+abbrev pub enter_items : ℕ → ℕ → List RealItem
+enter_items out count =
+    word_items 28 (frame_size count)
+    ++ (Op (SubInst 29 2 25) ∷ RealBranch Ltu 29 28 out ∷ Op (SubInst 2 2 28) ∷ Op (Sd 1 2 (pos 0)) ∷ [])
+
 -- the link is loaded, and the frame is given up
 abbrev pub leave_items : ℕ → List RealItem
 leave_items count = Op (Ld 1 2 (pos 0)) ∷ (word_items 28 (frame_size count) ++ (Op (AddInst 2 2 28) ∷ []))
@@ -127,9 +133,7 @@ expand out first count (Store b a offset) =
     ++ (Op (Sd (register_for 29 b) (register_for 28 a) (pos offset)) ∷ []))
 expand out first count (CodeOf rd k) = Address (register_for 28 rd) k ∷ save_items first rd
 expand out first count (Mark mark) = RealMark mark ∷ []
-expand out first count (Procedure k first' count') =
-    RealMark k ∷ (word_items 28 (frame_size count')
-    ++ (Op (SubInst 29 2 25) ∷ RealBranch Ltu 29 28 out ∷ Op (SubInst 2 2 28) ∷ Op (Sd 1 2 (pos 0)) ∷ []))
+expand out first count (Procedure k first' count') = RealMark k ∷ enter_items out count'
 expand out first count (Jump mark) = RealJump 0 mark ∷ []
 expand out first count (Branch cond a b mark) =
     fetch_items first 28 a ++ (fetch_items first 29 b

@@ -3,3 +3,5 @@
 #![tactic(auto)]
 
 pub mod code;
+mod slot_parts;
+pub mod slots;
