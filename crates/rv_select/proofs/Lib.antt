@@ -11,6 +11,7 @@ pub mod InStack
 pub mod SlotDistinct
 pub mod SlotConditions
 pub mod SlotRuns
+pub mod SlotClaims
 pub mod Public
 pub mod Bounded
 pub mod Stretches

@@ -35,6 +35,17 @@ above n (m ∷ ms) = above (max n (suc m)) ms
 abbrev pub free_mark : List VirtualItem → ℕ
 free_mark items = above 0 (marks items)
 
+-- ---- sizes of frames
+
+-- a procedure has fewer than 2^32 registers
+abbrev pub HasFew : VirtualItem → Type 0
+HasFew (Procedure k first count) = count < 2 ^ 32
+HasFew item = Unit {0}
+
+abbrev pub EachHasFew : List VirtualItem → Type 0
+EachHasFew [] = Unit {0}
+EachHasFew (item ∷ items) = HasFew item × EachHasFew items
+
 -- ---- what is asked of a virtual code
 
 -- the marks that an item names

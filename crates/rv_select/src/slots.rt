@@ -5,7 +5,7 @@ ghost use Rattle.rv_select.specs.Run.{fits_item};
 ghost use Rattle.rv_select.specs.Fitting.{fits, each_fits};
 ghost use Rattle.rv_select.specs.Slots.{op_inst, op_with, expand, expand_all, fetch_items, save_items};
 ghost use Rattle.rv_select.specs.Marks.{marks};
-ghost use Rattle.rv_select.specs.Slotted.{above, free_mark, IsSlotsOf};
+ghost use Rattle.rv_select.specs.Slotted.{above, free_mark, HasFew, EachHasFew, IsSlotsOf};
 ghost use Rattle.rv_isa.specs.declared.real.RealItem.TheVariants.{Op};
 
 use crate::code::{VReg, VirtualCode, VirtualItem};
@@ -179,7 +179,8 @@ fn put_return(items: &mut RealItems, count: u32) -> Result<(), OutOfMemory>
 
 // Adds what the mark of a procedure with so many slots becomes, told the mark behind which the stack lacks room.
 fn put_procedure(items: &mut RealItems, out: u32, k: u32, count: u32) -> Result<(), OutOfMemory>
-    ensures { OnOk result (items.new ≡ items.old ++ expand out 0 0 (VirtualItem.Procedure k 0 count)) }
+    ensures items { OnOk result (items.new ≡ items.old ++ expand out 0 0 (VirtualItem.Procedure k 0 count)) }
+    ensures few { count < 2 ^ 32 }
 {
     put_real(items, RealItem::Mark(k))?;
     put_enter(items, out, count)
@@ -188,7 +189,8 @@ fn put_procedure(items: &mut RealItems, out: u32, k: u32, count: u32) -> Result<
 // Adds what an item becomes, told that mark, and the first register of the procedure and how many it has.
 fn put_item(items: &mut RealItems, out: u32, first: u32, count: u32, item: &VirtualItem) -> Result<(), OutOfMemory>
     requires { fits item.now ≡ true }
-    ensures { OnOk result (items.new ≡ items.old ++ expand out first count item.now) }
+    ensures items { OnOk result (items.new ≡ items.old ++ expand out first count item.now) }
+    ensures few { HasFew item.now }
 {
     match item {
         VirtualItem::Constant(rd, word) => put_constant(items, first, rd, *word),
@@ -242,7 +244,8 @@ fn free_mark(items: &[VirtualItem]) -> Result<u32, OutOfMemory>
 // Adds what items become one after another.
 fn put_items(real: &mut RealItems, out: u32, items: &[VirtualItem]) -> Result<(), OutOfMemory>
     requires { each_fits items.now ≡ true }
-    ensures { OnOk result (real.new ≡ real.old ++ expand_all out 0 0 items.now) }
+    ensures items { OnOk result (real.new ≡ real.old ++ expand_all out 0 0 items.now) }
+    ensures few { OnOk result (EachHasFew items.now) }
 {
     let mut first = 0;
     let mut count = 0;
