@@ -7,3 +7,5 @@ pub mod Selecting
 pub mod Marks
 pub mod Laying
 pub mod Following
+mod Emitting
+mod Closedness

@@ -3,3 +3,5 @@
 #![tactic(auto)]
 
 pub mod code;
+mod parts;
+pub mod selection;
