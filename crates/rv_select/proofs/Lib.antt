@@ -9,3 +9,4 @@ pub mod Laying
 pub mod Following
 mod Emitting
 mod Closedness
+mod Procs
