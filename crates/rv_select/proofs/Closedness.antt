@@ -1,13 +1,13 @@
 -- A closed program has small numbers.
 use Rattle.std.proofs.Common.{Bool, true, false, ◌&&◌, ℕ, zero, suc, ◌<◌, ◌≤◌, ◌≡◌, List, [], ◌∷◌, Option, Some, None}
-use Rattle.std.proofs.Common.{length, refl, sym, ◌∙◌, ap, subst, arith}
+use Rattle.std.proofs.Common.{length, refl, subst, arith}
 use Rattle.std.specs.Prelude.{nat_lt, nat_le, ◌==◌, slice_get}
 use Rattle.low_ir.specs.declared.code.LowSource.{LowSource}
 use Rattle.low_ir.specs.Procedures.{Code, Done, Set, Compute, Load, Store, CodeOf, Build, Request, Take, Environment}
 use Rattle.low_ir.specs.Procedures.{Call, CallAt, If, Return, TailCall, TailCallAt, Proc}
 use Rattle.low_ir.specs.Closed.{Knowledge, go_if, then_known, reads, takes_words, names_fit, are_read, meet, behind}
 use Rattle.low_ir.specs.Closed.{is_there, leaves, all_words, proc_closed, each_closed, takes_none, is_closed}
-use Rattle.rv_select.specs.Sizes.{HasSmallNumbers, IsSmall, AreSmall}
+use Rattle.rv_select.specs.Sizes.{HasSmallNumbers, AreSmall}
 
 both : (a b : Bool) → (a && b) ≡ true → (a ≡ true) × (b ≡ true)
 both true b e = (refl, e)

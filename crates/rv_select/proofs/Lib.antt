@@ -10,3 +10,4 @@ pub mod Following
 mod Emitting
 mod Closedness
 mod Procs
+mod Claims

@@ -1,5 +1,5 @@
 -- The items of procedures, put one after another.
-use Rattle.std.proofs.Common.{append_assoc, ℕ, zero, suc, ◌+◌, ◌<◌, ◌≡◌, List, [], ◌∷◌, ◌++◌, refl, sym, ◌∙◌, ap, subst}
+use Rattle.std.proofs.Common.{append_assoc, ℕ, suc, ◌+◌, ◌<◌, ◌≡◌, List, [], ◌∷◌, ◌++◌, refl, sym, ◌∙◌, ap, subst}
 use Rattle.std.proofs.Common.{arith, get_or, length, drop}
 use Rattle.std.proofs.Math.Seq.{drop-cons, drop-length}
 use Rattle.std.proofs.lemmas.List.{length-map}
@@ -49,7 +49,7 @@ module _ (i : ℕ) (procs : List LowProc) (p : LowProc) (h : i < length procs) (
       → more + registers_of (procs_of (drop (i + 1) procs)) ≡ all
   registers_more r more all m e =
       let now : r + (p.words + registers_of (procs_of (drop (i + 1) procs))) ≡ all =
-          sym (ap (λ ps. r + registers_of ps) here) ∙ e in
+      sym (ap (λ ps. r + registers_of ps) here) ∙ e in
       omega (arith, m, now)
 
   pub procs_more : (r more m after : ℕ) (items before all : List VirtualItem) → more ≡ r + p.words

@@ -3,13 +3,14 @@
 ghost use Rattle.std.specs.Prelude.{◌≡◌, ◌+◌, ◌++◌, OnOk, IfOk, IsTrue};
 ghost use Rattle.low_ir.specs.Views.{code_of, proc_of, procs_of};
 ghost use Rattle.low_ir.specs.Closed.{is_closed};
+ghost use Rattle.rv_select.specs.Selected.{IsCodeOf};
 ghost use Rattle.rv_select.specs.Sizes.{HasSmallNumbers, IsSmall};
-ghost use Rattle.rv_select.specs.Select.{code_items, marks_in, proc_items, select_items, registers_of};
+ghost use Rattle.rv_select.specs.Select.{code_items, marks_in, proc_items};
 
 use crate::code::{VirtualCode, VirtualItem, VirtualItems};
 use crate::parts::{
     local, put_args, put_branch, put_build, put_call, put_call_at, put_compute, put_environment,
-    put_item, put_load, put_out, put_head, put_request, put_return, put_start, put_store,
+    put_head, put_item, put_load, put_out, put_request, put_return, put_start, put_store,
     put_tail_call_at, put_take,
 };
 use grift_base::lists::OutOfMemory;
@@ -136,8 +137,7 @@ fn put_proc(
 /// procedures, or procedures and branches, are more than 2^32 - 1 numbers can tell apart.
 pub fn select(alloc: Global, low: &LowProgram) -> Result<VirtualCode, OutOfMemory>
     requires { IsTrue (is_closed (procs_of low.now.procs) low.now.entry) }
-    ensures items { IfOk result (λ code. code.items ≡ select_items low.now.entry (procs_of low.now.procs)) }
-    ensures registers { IfOk result (λ code. code.registers ≡ registers_of (procs_of low.now.procs)) }
+    ensures { IfOk result (λ code. IsCodeOf code.items code.registers (procs_of low.now.procs) low.now.entry) }
 {
     let mut items = VirtualItems::new(alloc);
     put_start(&mut items, low.entry)?;

@@ -1,4 +1,3 @@
-use Rattle.std.proofs.Common.{◌∷◌, []}
 use Rattle.rv_select.proofs.Emitting.{params_more}
 use Rattle.rv_select.proofs.parts.put_head.Goals as goal
 

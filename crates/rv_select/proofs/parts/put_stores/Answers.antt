@@ -1,4 +1,3 @@
-use Rattle.std.proofs.Common.{◌∷◌, []}
 use Rattle.low_ir.specs.declared.code.LowSource.TheVariants.{Word}
 use Rattle.rv_select.proofs.Emitting.{stores_more}
 use Rattle.rv_select.proofs.parts.put_stores.Goals as goal
