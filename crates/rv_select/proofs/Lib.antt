@@ -11,3 +11,5 @@ mod Emitting
 mod Closedness
 mod Procs
 mod Claims
+mod Walking
+mod Goods
