@@ -1,11 +1,10 @@
 -- A simulation that answers each step by at most c steps is one at a cost of c for each step.
-use Rattle.std.proofs.Common.{ℕ, zero, suc, ◌+◌, ◌*◌, ◌<◌, ◌≤◌, ◌≡◌, ◌⊎◌, inl, inr, ⊎_elim, refl, sym, ◌∙◌, ap, subst}
+use Rattle.std.proofs.Common.{ℕ, zero, suc, ◌+◌, ◌<◌, ◌≤◌, ◌⊎◌}
 use Rattle.std.proofs.Common.{arith}
 use Rattle.run_laws.specs.Runs.{Ending, Verdict, Exhausted, Wrong, Any}
-use Rattle.run_laws.specs.Machines.{Next, Go, Stop, Machine, Reaches, Onward, Alike, OnTheWay, StopsAt, UnlessWrong}
+use Rattle.run_laws.specs.Machines.{Next, Go, Stop, Machine, Reaches, Onward, OnTheWay, StopsAt, UnlessWrong}
 use Rattle.run_laws.specs.Machines.{Does}
 use Rattle.run_laws.specs.Meters.{Metered, unspent, charge, metered, each_one, OnBudget, StopsOnBudget, DoesOnBudget}
-use Rattle.run_laws.specs.Meters.{CostSimulation}
 use Rattle.run_laws.proofs.Public.{unless_wrong_map, reaches_weaken}
 
 module _ {T B V : Type 0} (N : Machine T B V) (P Q : T → Type 0) where

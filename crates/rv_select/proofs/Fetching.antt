@@ -1,21 +1,20 @@
 -- Sources that an item reads: numbers are put into scratch registers first.
-use Rattle.std.proofs.Common.{ℕ, zero, suc, ◌+◌, ◌%◌, ◌^◌, ◌<◌, ◌≤◌, ◌≡◌, true, false, Bool, List, [], ◌∷◌, ◌++◌}
-use Rattle.std.proofs.Common.{Option, Some, None, refl, sym, ◌∙◌, ap, subst, arith}
-use Rattle.std.specs.Prelude.{◌==◌, ◌&&◌, ◌||◌, not, if◌then◌else◌, slice_get}
+use Rattle.std.proofs.Common.{ℕ, zero, suc, ◌+◌, ◌%◌, ◌^◌, ◌≤◌, ◌≡◌, true, false, Bool, List, ◌++◌}
+use Rattle.std.proofs.Common.{Some, None, refl, sym, ◌∙◌, ap, arith}
+use Rattle.std.specs.Prelude.{◌==◌, ◌&&◌, ◌||◌, not, if◌then◌else◌}
 use Rattle.run_laws.specs.Runs.{Ending}
-use Rattle.run_laws.specs.Machines.{Next, Go, Machine, Reaches}
+use Rattle.run_laws.specs.Machines.{Machine, Reaches}
 use Rattle.rv_machine.specs.Registers.{Registers, get_reg, set_reg}
 use Rattle.rv_machine.specs.State.{Halt}
-use Rattle.low_ir.specs.Steps.{Locals, given, only_if}
+use Rattle.low_ir.specs.Steps.{Locals}
 use Rattle.low_ir.specs.declared.code.LowSource.{LowSource}
 use Rattle.low_ir.specs.declared.code.LowSource.TheVariants.{Word, Number}
 use Rattle.low_ir.specs.Run.{word_of}
 use Rattle.rv_select.specs.declared.code.VReg.{VReg}
 use Rattle.rv_select.specs.declared.code.VReg.TheVariants.{Real, Virtual}
 use Rattle.rv_select.specs.declared.code.VirtualItem.{VirtualItem}
-use Rattle.rv_select.specs.declared.code.VirtualItem.TheVariants.{Constant}
-use Rattle.rv_select.specs.Run.{Setting, Found, Active, VirtualState, Shown, may_read, may_write, is_fixed, also_known}
-use Rattle.rv_select.specs.Run.{value, item_step, virtual_machine}
+use Rattle.rv_select.specs.Run.{Setting, VirtualState, Shown, may_read, may_write, is_fixed, also_known}
+use Rattle.rv_select.specs.Run.{value, virtual_machine}
 use Rattle.rv_select.specs.Select.{source_reg, source_items}
 use Rattle.rv_select.proofs.Stretches.{SameFixed, fixed_self, also_fixed, wrote_real, Stands, stands_past, does_item}
 use Rattle.rv_select.proofs.Stretches.{only_is}

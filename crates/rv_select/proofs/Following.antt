@@ -1,11 +1,11 @@
 -- The virtual run of a selected code follows the run over words.
-use Rattle.std.proofs.Common.{false, ℕ, zero, suc, ◌+◌, ◌%◌, ◌^◌, ◌<◌, ◌≤◌, ◌≡◌, List, [], ◌∷◌, ◌++◌, Option, Some}
-use Rattle.std.proofs.Common.{None, refl, sym, ◌∙◌, ap, subst, arith, inl}
-use Rattle.std.specs.Prelude.{length, slice_get}
+use Rattle.std.proofs.Common.{ℕ, ◌%◌, ◌^◌, ◌<◌, ◌≤◌, ◌≡◌, List, [], ◌∷◌, ◌++◌, Some}
+use Rattle.std.proofs.Common.{refl, subst, arith}
+use Rattle.std.specs.Prelude.{slice_get}
 use Rattle.grift_base.specs.World.{WorldState}
 use Rattle.run_laws.specs.Runs.{Ending, NeverWrong, FollowsBy, Any}
-use Rattle.run_laws.specs.Machines.{Next, Go, Machine, Reaches, Alike, run}
-use Rattle.run_laws.specs.Meters.{Metered, unspent, metered, each_one, OfRest, Spends, EndsInTime}
+use Rattle.run_laws.specs.Machines.{Reaches, Alike, run}
+use Rattle.run_laws.specs.Meters.{unspent, metered, each_one, OfRest, Spends, EndsInTime}
 use Rattle.run_laws.proofs.Public.{follows_at_cost_from_start}
 use Rattle.run_laws.proofs.Public.{bounded_spending_bounds_turns-ends}
 use Rattle.run_laws.proofs.Public.{follows_from_start}
@@ -18,11 +18,11 @@ use Rattle.low_ir.specs.Procedures.{Proc}
 use Rattle.low_ir.specs.Run.{Setting as LowSetting, LowState, low_machine, low_turns, low_start}
 use Rattle.rv_select.specs.declared.code.VirtualItem.{VirtualItem}
 use Rattle.rv_select.specs.declared.code.VirtualItem.TheVariants.{Call}
-use Rattle.rv_select.specs.Run.{Setting, Found, VirtualState, only_args, item_step, virtual_machine, virtual_start}
+use Rattle.rv_select.specs.Run.{Found, VirtualState, only_args, virtual_machine, virtual_start}
 use Rattle.rv_select.specs.Select.{select_items, code_items, params_items}
 use Rattle.rv_select.specs.Selected.{setting_of, SameRegion}
-use Rattle.rv_select.proofs.Stretches.{Stands, does_item, given_is}
-use Rattle.rv_select.proofs.Selecting.{On, size, rate, selected, selected_costs, Laid, Lies, Entered, Body, seen}
+use Rattle.rv_select.proofs.Stretches.{does_item, given_is}
+use Rattle.rv_select.proofs.Selecting.{On, rate, selected, selected_costs, Laid, Lies}
 use Rattle.rv_select.proofs.Selecting.{as_alike}
 use Rattle.rv_select.proofs.Laying.{laid}
 

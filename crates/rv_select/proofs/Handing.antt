@@ -1,21 +1,19 @@
 -- Words that a call hands on: moved into registers by the caller, and out of them by the procedure.
-use Rattle.std.proofs.Common.{ℕ, zero, suc, ◌+◌, ◌<◌, ◌≤◌, ◌≡◌, ◌≢◌, ◌⊎◌, inl, inr, true, false, Bool, List, [], ◌∷◌}
+use Rattle.std.proofs.Common.{ℕ, zero, suc, ◌+◌, ◌<◌, ◌≤◌, ◌≡◌, true, false, Bool, List, [], ◌∷◌}
 use Rattle.std.proofs.Common.{◌++◌, Option, Some, None, refl, sym, ◌∙◌, ap, subst, arith}
-use Rattle.std.specs.Prelude.{◌%◌, ◌^◌, ◌==◌, nat_lt, nat_le, ◌&&◌, ◌||◌, not, if◌then◌else◌, length, slice_get}
+use Rattle.std.specs.Prelude.{◌%◌, ◌^◌, ◌==◌, ◌&&◌, ◌||◌, if◌then◌else◌, length}
 use Rattle.run_laws.specs.Runs.{Ending}
-use Rattle.run_laws.specs.Machines.{Next, Go, Reaches}
+use Rattle.run_laws.specs.Machines.{Go, Reaches}
 use Rattle.rv_machine.specs.Registers.{Registers, get_reg, set_reg}
 use Rattle.rv_machine.specs.State.{Halt}
-use Rattle.low_ir.specs.Steps.{Locals, set_local, given, only_if}
+use Rattle.low_ir.specs.Steps.{Locals, set_local}
 use Rattle.low_ir.specs.declared.code.LowSource.{LowSource}
 use Rattle.low_ir.specs.declared.code.LowSource.TheVariants.{Word, Number}
 use Rattle.low_ir.specs.Run.{word_of, words_of, and_more, bind}
-use Rattle.rv_select.specs.declared.code.VReg.{VReg}
 use Rattle.rv_select.specs.declared.code.VReg.TheVariants.{Real, Virtual}
 use Rattle.rv_select.specs.declared.code.VirtualItem.{VirtualItem}
-use Rattle.rv_select.specs.declared.code.VirtualItem.TheVariants.{Move, Constant}
-use Rattle.rv_select.specs.Run.{Setting, Found, Active, VirtualState, may_read, may_write, is_fixed, also_known, is_own}
-use Rattle.rv_select.specs.Run.{value, puts, item_step, virtual_machine}
+use Rattle.rv_select.specs.Run.{Setting, Found, VirtualState, may_read, may_write, is_fixed, also_known, is_own}
+use Rattle.rv_select.specs.Run.{puts, item_step, virtual_machine}
 use Rattle.rv_select.specs.Select.{put_item, args_items, params_items}
 use Rattle.rv_select.proofs.Stretches.{SameFixed, fixed_self, also_fixed, wrote_real, wrote_local, Stands, does_item}
 use Rattle.rv_select.proofs.Stretches.{move_local, write_local, given_is}

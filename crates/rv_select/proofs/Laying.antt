@@ -1,10 +1,8 @@
 -- Where the code of `select` has its procedures and blocks.
-use Rattle.std.proofs.Common.{append_assoc, ℕ, zero, suc, ◌+◌, ◌^◌, ◌<◌, ◌≤◌, ◌≡◌, ◌≢◌, true, false, Bool, List, []}
-use Rattle.std.proofs.Common.{◌∷◌, ◌++◌, Option, Some, None, refl, sym, ◌∙◌, ap, subst, arith}
+use Rattle.std.proofs.Common.{append_assoc, ℕ, zero, suc, ◌+◌, ◌^◌, ◌<◌, ◌≡◌, ◌≢◌, true, false, Bool, List, []}
+use Rattle.std.proofs.Common.{◌∷◌, ◌++◌, Some, refl, sym, ◌∙◌, ap, subst, arith}
 use Rattle.std.specs.Prelude.{◌==◌, if◌then◌else◌, length, slice_get, drop}
-use Rattle.run_laws.specs.Runs.{Ending, NeverWrong, FollowsBy, Any}
-use Rattle.run_laws.specs.Machines.{Next, Go, Machine, Reaches, run}
-use Rattle.run_laws.proofs.Public.{follows_from_start}
+use Rattle.run_laws.specs.Runs.{Ending}
 use Rattle.rv_machine.specs.State.{Halt}
 use Rattle.low_ir.specs.declared.code.LowSource.{LowSource}
 use Rattle.low_ir.specs.declared.code.LowSource.TheVariants.{Word, Number}
@@ -17,26 +15,23 @@ use Rattle.low_ir.specs.Run.{Setting as LowSetting, proc_from}
 use Rattle.rv_select.specs.declared.code.VReg.{VReg}
 use Rattle.rv_select.specs.declared.code.VReg.TheVariants.{Real, Virtual}
 use Rattle.rv_select.specs.declared.code.VirtualItem.{VirtualItem}
-use Rattle.rv_select.specs.declared.code.VirtualItem.TheVariants.{Constant, Move, Compute, ComputeWith, Load, Store}
-use Rattle.rv_select.specs.declared.code.VirtualItem.TheVariants.{CodeOf, Mark, Procedure, Jump, Branch, Call, CallAt}
-use Rattle.rv_select.specs.declared.code.VirtualItem.TheVariants.{TailCall, TailCallAt, Return, Environment}
+use Rattle.rv_select.specs.declared.code.VirtualItem.TheVariants.{Mark, Procedure}
 use Rattle.rv_select.specs.Run.{Setting, Found, procedure_from, procedure_at, mark_from, mark_place}
 use Rattle.rv_select.specs.Select.{is_small, second_items, compute_item, put_item, source_items, args_items}
-use Rattle.rv_select.specs.Select.{params_items, stores_items, marks_in, code_items, out_items, body_items, proc_items}
-use Rattle.rv_select.specs.Select.{procs_items, answer_items, select_items}
+use Rattle.rv_select.specs.Select.{params_items, stores_items, marks_in, code_items, out_items, body_items}
+use Rattle.rv_select.specs.Select.{procs_items, select_items}
 use Rattle.rv_select.specs.Marks.{NotIn, Distinct, marks}
 use Rattle.rv_select.proofs.Marks.{Each, body_fresh}
 use Rattle.rv_select.proofs.Stretches.{Stands, stands_front, stands_past, beyond}
-use Rattle.rv_select.proofs.Selecting.{Finds, finds_front, finds_past, Homed, Entered, Laid}
+use Rattle.rv_select.proofs.Selecting.{Finds, finds_front, finds_past, Entered, Laid}
 use Rattle.rv_select.specs.Selected.{setting_of}
-use Rattle.rv_select.proofs.Selecting.{size, selected}
 
 -- items that are no procedures
-abbrev IsBody : VirtualItem → Type 0
+abbrev pub IsBody : VirtualItem → Type 0
 IsBody (Procedure k first count) = ⊥
 IsBody item = Unit {0}
 
-abbrev AreBody : List VirtualItem → Type 0
+abbrev pub AreBody : List VirtualItem → Type 0
 AreBody [] = Unit {0}
 AreBody (x ∷ xs) = IsBody x × AreBody xs
 
@@ -146,6 +141,13 @@ module _ (first out : ℕ) where
   code_body (LowTailCall k args) m = with_args args _ (tt, tt)
   code_body (LowTailCallAt f args) m = with_source 7 f _ (with_args args _ (tt, tt))
 
+-- nothing in the body of a procedure begins another
+pub body_is_body : (first mark : ℕ) (p : Proc) → AreBody (body_items first mark p)
+body_is_body first mark p =
+    body_append (params_items first 0 p.params) _ (params_body first 0 p.params)
+    (body_append (code_items first mark (suc mark) p.code) (out_items mark)
+    (code_body first mark p.code (suc mark)) (tt, (tt, (tt, (tt, (tt, (tt, tt)))))))
+
 -- ---- what lies from a place on
 
 drop_nil : (p : ℕ) → drop p (let xs : List VirtualItem = [] in xs) ≡ []
@@ -204,12 +206,6 @@ module _ {V : Type 0} (reading : Halt → Ending V) (low : LowSetting) (items : 
   every : (P : ℕ → Type 0) (xs : List ℕ) → ((x : ℕ) → P x) → Each P xs
   every P [] f = tt
   every P (x ∷ xs) f = (f x, every P xs f)
-
-  body_is_body : (first mark : ℕ) (p : Proc) → AreBody (body_items first mark p)
-  body_is_body first mark p =
-      body_append (params_items first 0 p.params) _ (params_body first 0 p.params)
-      (body_append (code_items first mark (suc mark) p.code) (out_items mark)
-      (code_body first mark p.code (suc mark)) (tt, (tt, (tt, (tt, (tt, (tt, tt)))))))
 
   -- a procedure whose body lies from a place on
   entered : (p : Proc) (first mark home : ℕ) (tail : List VirtualItem) → From home (body_items first mark p ++ tail)

@@ -21,3 +21,9 @@ pub mod Selecting
 pub mod Marks
 pub mod Laying
 pub mod Following
+mod Emitting
+mod Closedness
+mod Procs
+mod Claims
+mod Walking
+mod Goods

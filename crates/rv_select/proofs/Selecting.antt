@@ -1,30 +1,29 @@
 -- The run of the code that `select` makes follows the run over words.
-use Rattle.std.proofs.Common.{append_assoc, ℕ, zero, suc, ◌+◌, ◌-◌, ◌*◌, ◌/◌, ◌%◌, ◌^◌, ◌<◌, ◌≤◌, ◌≡◌, ◌⊎◌, inl, inr}
+use Rattle.std.proofs.Common.{append_assoc, ℕ, suc, ◌+◌, ◌-◌, ◌*◌, ◌/◌, ◌%◌, ◌^◌, ◌<◌, ◌≤◌, ◌≡◌, ◌⊎◌, inl, inr}
 use Rattle.std.proofs.Common.{true, false, Bool, List, [], ◌∷◌, ◌++◌, Option, Some, None, refl, sym, ◌∙◌, ap, subst}
 use Rattle.std.proofs.Common.{arith}
 use Rattle.std.specs.Prelude.{◌==◌, nat_lt, nat_le, ◌&&◌, if◌then◌else◌, length, slice_get, pos}
 use Rattle.std.specs.Int.{w64, cast_signed}
 use Rattle.grift_base.specs.World.{WorldState}
 use Rattle.grift_base.specs.EnvironmentCall.{Called, environment_call}
-use Rattle.grift_base.specs.declared.places.Pos.{Pos}
 use Rattle.grift_base.specs.declared.verdicts.Verdict.TheVariants.{Answer}
 use Rattle.grift_base.specs.declared.verdicts.AnswerKind.TheVariants.{Int as IntKind}
 use Rattle.run_laws.specs.Runs.{Ending, Verdict, Exhausted, Wrong, Any}
-use Rattle.run_laws.specs.Machines.{Next, Go, Stop, Machine, Reaches, Alike, OnTheWay, StopsAt, UnlessWrong, Does}
+use Rattle.run_laws.specs.Machines.{Next, Go, Stop, Machine, Reaches, Alike, OnTheWay, StopsAt, UnlessWrong}
 use Rattle.run_laws.specs.Machines.{Simulation}
 use Rattle.run_laws.specs.Meters.{CostSimulation, each_one}
 use Rattle.rv_isa.specs.declared.inst.Cond.{Cond}
 use Rattle.rv_isa.specs.declared.inst.Cond.TheVariants.{Ltu}
 use Rattle.rv_machine.specs.Memory.{Memory, load_bytes, store_bytes}
 use Rattle.rv_machine.proofs.Public.{stored_outside}
-use Rattle.rv_machine.specs.Registers.{Registers, get_reg, set_reg}
+use Rattle.rv_machine.specs.Registers.{Registers, set_reg}
 use Rattle.rv_machine.specs.State.{Halt, Lacks, Region, Ended}
 use Rattle.rv_machine.specs.Turn.{plus}
 use Rattle.rv_machine.specs.Real.{holds}
 use Rattle.low_ir.specs.declared.code.WordOp.{WordOp}
 use Rattle.low_ir.specs.declared.code.WordOp.TheVariants.{Add, Sub, And, Or, Xor, Sll, Srl, Sra, Slt, Sltu}
 use Rattle.low_ir.specs.Operations.{compute}
-use Rattle.low_ir.specs.Steps.{Locals, no_locals, set_local, given, only_if, Effect, Goes, Halts, Lost, effect_of}
+use Rattle.low_ir.specs.Steps.{no_locals, set_local, given, only_if, Effect, Goes, Halts, Lost, effect_of}
 use Rattle.low_ir.specs.Steps.{settle, may_load, may_store, store_words}
 use Rattle.low_ir.specs.declared.code.LowSource.{LowSource}
 use Rattle.low_ir.specs.declared.code.LowSource.TheVariants.{Word, Number}
@@ -33,26 +32,26 @@ use Rattle.low_ir.specs.Procedures.{CodeOf as LowCodeOf, Build, Request, Take, E
 use Rattle.low_ir.specs.Procedures.{Call as LowCall, CallAt as LowCallAt, If, Return as LowReturn}
 use Rattle.low_ir.specs.Procedures.{TailCall as LowTailCall, TailCallAt as LowTailCallAt, Proc}
 use Rattle.low_ir.specs.Run.{Setting as LowSetting, Active as LowActive, Waiting, LowState, LowShown, word_of, words_of}
-use Rattle.low_ir.specs.Run.{and_more, with_local, bind, goes_on, sets, proc_from, enter, answers, waits, falls}
+use Rattle.low_ir.specs.Run.{and_more, with_local, bind, goes_on, sets, proc_from, answers, waits, falls}
 use Rattle.low_ir.specs.Run.{low_machine, code_step, code_turns, low_turns}
 use Rattle.rv_select.specs.declared.code.VReg.{VReg}
 use Rattle.rv_select.specs.declared.code.VReg.TheVariants.{Real, Virtual}
 use Rattle.rv_select.specs.declared.code.VirtualItem.{VirtualItem}
-use Rattle.rv_select.specs.declared.code.VirtualItem.TheVariants.{Constant, Move, Compute, ComputeWith, Load, Store}
-use Rattle.rv_select.specs.declared.code.VirtualItem.TheVariants.{CodeOf, Mark, Procedure, Jump, Branch, Call, CallAt}
-use Rattle.rv_select.specs.declared.code.VirtualItem.TheVariants.{TailCall, TailCallAt, Return, Environment}
+use Rattle.rv_select.specs.declared.code.VirtualItem.TheVariants.{Move, Compute, ComputeWith, Load, Store}
+use Rattle.rv_select.specs.declared.code.VirtualItem.TheVariants.{Mark, Jump, Branch, Call, CallAt}
+use Rattle.rv_select.specs.declared.code.VirtualItem.TheVariants.{TailCall, TailCallAt, Environment}
 use Rattle.rv_select.specs.Run.{Setting, Found, Active, Frame, VirtualState, Shown, fits_item, also_known, only_args}
 use Rattle.rv_select.specs.Run.{only_answer, is_own, value, mark_place, procedure_from, procedure_at, puts, store}
-use Rattle.rv_select.specs.Run.{framed, back_to, goto, branch, item_step, step_here, virtual_machine}
-use Rattle.rv_select.specs.Select.{is_small, number_of, second_items, compute_item, put_item, source_reg, source_items}
+use Rattle.rv_select.specs.Run.{framed, back_to, branch, item_step, step_here, virtual_machine}
+use Rattle.rv_select.specs.Select.{is_small, number_of, second_items, compute_item, source_reg, source_items}
 use Rattle.rv_select.specs.Select.{args_items, params_items, stores_items, marks_in, code_items, out_items}
 use Rattle.rv_select.specs.Select.{answer_items}
 use Rattle.rv_select.specs.Selected.{setting_of, SameRegion}
-use Rattle.rv_select.proofs.Bounded.{DoesWithin, does_at_all, does_more, within}
+use Rattle.rv_select.proofs.Bounded.{DoesWithin, does_at_all, within}
 use Rattle.rv_select.proofs.Fetching.{NotIn, kept_value, kept_fixed, wrote_kept, source_apart, fetches, fetches_le}
 use Rattle.rv_select.proofs.Fetching.{fetches_ge, fetch, fetch_both}
-use Rattle.rv_select.proofs.Handing.{args_known, known_args, known_low, args_low, words_length, words_cons, args_regs}
-use Rattle.rv_select.proofs.Handing.{HasArgs, args_fixed, has_args, params_locals, set_shifted, bound, hands, takes}
+use Rattle.rv_select.proofs.Handing.{args_known, known_args, words_length, args_regs}
+use Rattle.rv_select.proofs.Handing.{HasArgs, args_fixed, has_args, set_shifted, bound, hands, takes}
 use Rattle.rv_select.proofs.Handing.{plus_steps, plus_is, put_local, put_real}
 use Rattle.rv_select.proofs.Stretches.{wrote_real, wrote_local, Stands, stands_front, stands_past, does_item}
 use Rattle.rv_select.proofs.Stretches.{move_local, write_local, given_is, only_is, more, more_is, beyond, beyond_append}

@@ -1,24 +1,18 @@
 -- Steps of virtual code, item by item.
-use Rattle.std.proofs.Common.{ℕ, suc, ◌+◌, ◌≡◌, true, false, Bool, List, [], ◌∷◌, ◌++◌, Option, Some, None, refl, ◌∙◌}
+use Rattle.std.proofs.Common.{ℕ, suc, ◌+◌, ◌≡◌, true, Bool, List, [], ◌∷◌, ◌++◌, Option, Some, refl, ◌∙◌}
 use Rattle.std.proofs.Common.{ap, arith}
 use Rattle.std.specs.Prelude.{slice_get, length}
 use Rattle.run_laws.specs.Runs.{Ending}
-use Rattle.run_laws.specs.Machines.{Next, Go, Stop, Reaches}
+use Rattle.run_laws.specs.Machines.{Next, Go, Reaches}
 use Rattle.run_laws.proofs.Public.{by_step}
-use Rattle.rv_machine.specs.Registers.{Registers, get_reg, set_reg}
+use Rattle.rv_machine.specs.Registers.{Registers, set_reg}
 use Rattle.rv_machine.specs.State.{Halt}
-use Rattle.low_ir.specs.declared.code.WordOp.{WordOp}
-use Rattle.low_ir.specs.Operations.{compute}
 use Rattle.low_ir.specs.Steps.{set_local, given, only_if}
-use Rattle.low_ir.specs.declared.code.LowSource.{LowSource}
-use Rattle.low_ir.specs.declared.code.LowSource.TheVariants.{Word, Number}
-use Rattle.low_ir.specs.Run.{word_of}
 use Rattle.rv_select.specs.declared.code.VReg.{VReg}
-use Rattle.rv_select.specs.declared.code.VReg.TheVariants.{Real, Virtual}
+use Rattle.rv_select.specs.declared.code.VReg.TheVariants.{Virtual}
 use Rattle.rv_select.specs.declared.code.VirtualItem.{VirtualItem}
-use Rattle.rv_select.specs.declared.code.VirtualItem.TheVariants.{Constant, Move, Compute}
-use Rattle.rv_select.specs.Select.{put_item, source_reg, source_items}
-use Rattle.rv_select.specs.Run.{Setting, Found, Active, VirtualState, may_read, may_write, also_known, is_own, value}
+use Rattle.rv_select.specs.declared.code.VirtualItem.TheVariants.{Move}
+use Rattle.rv_select.specs.Run.{Setting, VirtualState, also_known, is_own, value}
 use Rattle.rv_select.specs.Run.{puts, item_step, step_here, virtual_machine}
 
 -- the states after a register was written

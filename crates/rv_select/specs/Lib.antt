@@ -5,5 +5,6 @@ pub mod Slots
 pub mod Stacks
 pub mod Slotted
 pub mod Marks
+pub mod Sizes
 pub mod Select
 pub mod Selected

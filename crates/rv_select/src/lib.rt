@@ -5,3 +5,5 @@
 pub mod code;
 mod slot_parts;
 pub mod slots;
+mod parts;
+pub mod selection;
