@@ -9,7 +9,7 @@ use Rattle.low_ir.specs.Closed.{Knowledge, go_if, then_known, reads, takes_words
 use Rattle.low_ir.specs.Closed.{is_there, leaves, all_words, proc_closed, each_closed, takes_none, is_closed}
 use Rattle.rv_select.specs.Sizes.{HasSmallNumbers, AreSmall}
 
-pub both : (a b : Bool) → (a && b) ≡ true → (a ≡ true) × (b ≡ true)
+both : (a b : Bool) → (a && b) ≡ true → (a ≡ true) × (b ≡ true)
 both true b e = (refl, e)
 both false b e = absurd (let z : ⊥ = cc in z)
 
@@ -18,7 +18,7 @@ passed : {A : Type 0} (b : Bool) (o : Option A) → is_there (go_if b o) ≡ tru
 passed true o h = (refl, h)
 passed false o h = absurd (let z : ⊥ = cc in z)
 
-pub then_there : {A : Type 0} (o : Option A) (f : A → Option A) → is_there (then_known o f) ≡ true
+then_there : {A : Type 0} (o : Option A) (f : A → Option A) → is_there (then_known o f) ≡ true
     → (k : A) × (o ≡ Some k) × (is_there (f k) ≡ true)
 then_there None f h = absurd (let z : ⊥ = cc in z)
 then_there (Some k) f h = (k, refl, h)
@@ -34,7 +34,7 @@ is_as_many m n k h l = grind arith
 
 module _ {A : Type 0} (K : Knowledge A) (procs : List Proc) (n : ℕ)
     (few : (k : ℕ) (p : Proc) → slice_get procs k ≡ Some p → p.params ≤ 8) where
-  pub meet_there : (a b : Option A) (k : A) → meet K a b ≡ Some k → (is_there a ≡ true) × (is_there b ≡ true)
+  meet_there : (a b : Option A) (k : A) → meet K a b ≡ Some k → (is_there a ≡ true) × (is_there b ≡ true)
   meet_there None b k h = absurd (let z : ⊥ = cc in z)
   meet_there (Some x) None k h = absurd (let z : ⊥ = cc in z)
   meet_there (Some x) (Some y) k h = (refl, refl)
@@ -46,7 +46,7 @@ module _ {A : Type 0} (K : Knowledge A) (procs : List Proc) (n : ℕ)
   taken k args (Some p) e h = is_as_many (length args) p.params 8 h (few k p e)
 
   -- what a code names fits, and what is known behind it is there
-  pub fitting : (known : A) (c : Code) (o : Option A)
+  fitting : (known : A) (c : Code) (o : Option A)
       → is_there (go_if (are_read K n known (reads c) && names_fit procs n c) o) ≡ true
       → (names_fit procs n c ≡ true) × (is_there o ≡ true)
   fitting known c o h =

@@ -12,7 +12,6 @@ pub mod SlotDistinct
 pub mod SlotConditions
 pub mod SlotRuns
 pub mod SlotClaims
-pub mod SelectedWell
 pub mod Public
 pub mod Bounded
 pub mod Stretches

@@ -29,7 +29,8 @@ use Rattle.rv_select.specs.Holding.{reads, writes}
 use Rattle.rv_select.specs.Slots.{op_inst, op_with, slot_offset, frame_size, register_for, fetch_items, save_items}
 use Rattle.rv_select.specs.Slots.{settle_items, word_items, chunk_items, chunk_of, slot_fetch, slot_save, leave_items}
 use Rattle.rv_select.specs.Slots.{expand, expand_all, final_items, slots_items}
-use Rattle.rv_select.specs.Slotted.{free_mark, marks_named, IsReadable, IsWellFormed, SparesLast, ProceduresBegin}
+use Rattle.rv_select.specs.WellFormed.{marks_named, IsReadable, IsWellFormed}
+use Rattle.rv_select.specs.Slotted.{free_mark, SparesLast, ProceduresBegin}
 use Rattle.rv_select.proofs.SlotDistinct.{real_marks, slots_marks, slots_distinct, slots_once}
 
 -- ---- a fact of each element, by recursion

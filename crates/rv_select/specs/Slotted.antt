@@ -14,13 +14,11 @@ use Rattle.rv_machine.specs.Turn.{call_environment}
 use Rattle.rv_machine.specs.Real.{Setting as RealSetting, AreAddresses, is_mark, address_from, mark_address}
 use Rattle.rv_machine.specs.Real.{real_machine}
 use Rattle.assembler.specs.Conditions.{registers_named, CanBeAssembled}
-use Rattle.rv_select.specs.declared.code.VReg.{VReg}
-use Rattle.rv_select.specs.declared.code.VReg.TheVariants.{Real, Virtual}
 use Rattle.rv_select.specs.declared.code.VirtualItem.{VirtualItem}
-use Rattle.rv_select.specs.declared.code.VirtualItem.TheVariants.{CodeOf, Mark, Procedure, Jump, Branch, Call, TailCall}
-use Rattle.rv_select.specs.Run.{Setting, VirtualState, Shown, may_read, virtual_machine, virtual_start}
+use Rattle.rv_select.specs.declared.code.VirtualItem.TheVariants.{Procedure}
+use Rattle.rv_select.specs.Run.{Setting, VirtualState, Shown, virtual_machine, virtual_start}
 use Rattle.rv_select.specs.Marks.{marks, Distinct}
-use Rattle.rv_select.specs.Holding.{reads, writes}
+use Rattle.rv_select.specs.WellFormed.{IsWellFormed}
 use Rattle.rv_select.specs.Slots.{slots_items}
 use Rattle.rv_select.specs.Stacks.{stacked_machine}
 
@@ -45,28 +43,6 @@ HasFew item = Unit {0}
 abbrev pub EachHasFew : List VirtualItem → Type 0
 EachHasFew [] = Unit {0}
 EachHasFew (item ∷ items) = HasFew item × EachHasFew items
-
--- ---- what is asked of a virtual code
-
--- the marks that an item names
-abbrev pub marks_named : VirtualItem → List ℕ
-marks_named (CodeOf rd k) = k ∷ []
-marks_named (Jump mark) = mark ∷ []
-marks_named (Branch cond a b mark) = mark ∷ []
-marks_named (Call k n) = k ∷ []
-marks_named (TailCall k n) = k ∷ []
-marks_named item = []
-
--- a virtual register, or a real one that code may read
-abbrev pub IsReadable : VReg → Type 0
-IsReadable (Real r) = may_read r ≡ true
-IsReadable (Virtual v) = Unit {0}
-
--- each mark that is named stands, and real registers are those that code may read
-pub record IsWellFormed (items : List VirtualItem) : Type 0 where
-  pub distinct : Distinct (marks items)
-  pub named : All (λ item. All (λ mark. Contains (marks items) mark) (marks_named item)) items
-  pub registers : All (λ item. All IsReadable (writes item ++ reads item)) items
 
 -- ---- where a code with slots runs
 
