@@ -13,3 +13,4 @@ mod Procs
 mod Claims
 mod Walking
 mod Goods
+mod Standing

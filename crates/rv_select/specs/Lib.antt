@@ -3,6 +3,7 @@ pub mod Fitting
 pub mod Holding
 pub mod Slots
 pub mod Marks
+pub mod WellFormed
 pub mod Sizes
 pub mod Select
 pub mod Selected
