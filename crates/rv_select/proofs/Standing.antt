@@ -246,36 +246,74 @@ module _ (S : List ℕ) where
         with_source 5 a _ refl (with_source 6 b _ refl
         ((tt, (readable_source first 5 a refl, (readable_source first 6 b refl, tt))), code_well rest m h.1 t s))
     code_well (LowCodeOf d k rest) m h t s = (((there k t.0, tt), (tt, tt)), code_well rest m h t.1 s)
-    code_well (Build d args rest) m h t s =
-        ((tt, (refl, (refl, (refl, tt)))), ((tt, (refl, tt)), (((out_there, tt), (refl, (refl, tt))),
-        well_append (stores_items first 0 args) _ (stores_well first 0 args)
-        ((tt, (tt, (refl, tt))), ((tt, (refl, (refl, (refl, tt)))), code_well rest m h.1 t s)))))
+    code_well (Build d args rest) m h t s = (
+      (tt, (refl, (refl, (refl, tt)))),
+      (
+        (tt, (refl, tt)),
+        (
+          ((out_there, tt), (refl, (refl, tt))),
+          well_append (stores_items first 0 args) _ (stores_well first 0 args)
+              ((tt, (tt, (refl, tt))), ((tt, (refl, (refl, (refl, tt)))), code_well rest m h.1 t s)),
+        ),
+      ),
+    )
     code_well (Request d a rest) m h t s =
-        with_source 7 a _ refl ((tt, (refl, (refl, (refl, tt)))), ((tt, (refl, (refl, tt))),
-        (((out_there, tt), (refl, (readable_source first 7 a refl, tt))),
-        ((tt, (tt, (refl, tt))), code_well rest m h t s))))
+        with_source 7 a _ refl (
+          (tt, (refl, (refl, (refl, tt)))),
+          (
+            (tt, (refl, (refl, tt))),
+            (
+              ((out_there, tt), (refl, (readable_source first 7 a refl, tt))),
+              ((tt, (tt, (refl, tt))), code_well rest m h t s),
+            ),
+          ),
+        )
     code_well (Take a rest) m h t s =
-        with_source 7 a _ refl ((tt, (refl, (readable_source first 7 a refl, tt))),
-        ((tt, (refl, (refl, (refl, tt)))), code_well rest m h t s))
-    code_well (LowEnvironment number a b d e rest) m h t s =
-        (put_well first (Real 10) a refl, (put_well first (Real 11) b refl, ((tt, (refl, tt)),
-        ((tt, (refl, (refl, (refl, (refl, (refl, tt)))))), (answer_well d, ((tt, (tt, (refl, tt))),
-        code_well rest m h t s))))))
+        with_source 7 a _ refl (
+          (tt, (refl, (readable_source first 7 a refl, tt))),
+          ((tt, (refl, (refl, (refl, tt)))), code_well rest m h t s),
+        )
+    code_well (LowEnvironment number a b d e rest) m h t s = (
+      put_well first (Real 10) a refl,
+      (
+        put_well first (Real 11) b refl,
+        (
+          (tt, (refl, tt)),
+          (
+            (tt, (refl, (refl, (refl, (refl, (refl, tt)))))),
+            (
+              answer_well d,
+              (
+                (tt, (tt, (refl, tt))),
+                code_well rest m h t s,
+              ),
+            ),
+          ),
+        ),
+      ),
+    )
     code_well (LowCall d k args rest) m h t s =
         with_args args _ h.0 (((there k t.0, tt), (refl, handed args h.0)), (answer_well d, code_well rest m h.1 t.1 s))
     code_well (LowCallAt d f args rest) m h t s =
         with_source 7 f _ refl (with_args args _ h.0
         ((tt, (refl, (readable_source first 7 f refl, handed args h.0))), (answer_well d, code_well rest m h.1 t s)))
     code_well (If cond a b one other rest) m h t s =
-        with_source 5 a _ refl (with_source 6 b _ refl
-        (((s m (omega arith) (omega arith), tt), (readable_source first 5 a refl, (readable_source first 6 b refl, tt))),
-        well_append (code_items first out (suc (suc m)) other) _
-        (code_well other (suc (suc m)) h.1 t.1 (λ w p q. s w (omega (arith, p)) (omega (arith, q))))
-        (((s (suc m) (omega arith) (omega arith), tt), tt), ((tt, tt),
-        well_append (code_items first out (suc (suc m) + marks_in other) one) _
-        (code_well one (suc (suc m) + marks_in other) h.0 t.0 (λ w p q. s w (omega (arith, p)) (omega (arith, q))))
-        ((tt, tt), code_well rest (suc (suc m) + marks_in other + marks_in one) h.2 t.2
-        (λ w p q. s w (omega (arith, p)) (omega (arith, q))))))))
+        with_source 5 a _ refl (with_source 6 b _ refl (
+          ((s m (omega arith) (omega arith), tt), (readable_source first 5 a refl, (readable_source first 6 b refl, tt))),
+          well_append (code_items first out (suc (suc m)) other) _
+              (code_well other (suc (suc m)) h.1 t.1 (λ w p q. s w (omega (arith, p)) (omega (arith, q)))) (
+                ((s (suc m) (omega arith) (omega arith), tt), tt),
+                (
+                  (tt, tt),
+                  well_append (code_items first out (suc (suc m) + marks_in other) one) _
+                      (code_well one (suc (suc m) + marks_in other) h.0 t.0 (λ w p q. s w (omega (arith, p)) (omega (arith, q)))) (
+                        (tt, tt),
+                        code_well rest (suc (suc m) + marks_in other + marks_in one) h.2 t.2
+                            (λ w p q. s w (omega (arith, p)) (omega (arith, q))),
+                      ),
+                ),
+              ),
+        ))
     code_well (LowReturn a) m h t s = (put_well first (Real 10) a refl, ((tt, (refl, tt)), tt))
     code_well (LowTailCall k args) m h t s = with_args args _ h (((there k t, tt), handed args h), tt)
     code_well (LowTailCallAt f args) m h t s =
@@ -285,12 +323,14 @@ module _ (S : List ℕ) where
       → AllThere n ps → ((w : ℕ) → Has (procs_items k first mark ps) w → Contains S w)
       → AreWell (procs_items k first mark ps)
   procs_well n there [] k first mark h t s = tt
-  procs_well n there (p ∷ ps) k first mark h t s =
-      ((tt, tt), well_append body tail (well_append params (code ++ out_items mark)
-      (params_well first 0 p.params (let e = h.0.0 in omega (arith, e)))
-      (well_append code (out_items mark) (code_well n first mark there out_there p.code (suc mark) h.0.1 t.0 in_code)
-      outs)) (procs_well n there ps (suc k) (first + p.words) (suc mark + marks_in p.code) h.1 t.1
-      (λ w e. s w (later (Procedure k first p.words ∷ []) (body ++ tail) w (later body tail w e)))))
+  procs_well n there (p ∷ ps) k first mark h t s = (
+    (tt, tt),
+    well_append body tail (well_append params (code ++ out_items mark)
+        (params_well first 0 p.params (let e = h.0.0 in omega (arith, e)))
+        (well_append code (out_items mark) (code_well n first mark there out_there p.code (suc mark) h.0.1 t.0 in_code)
+        outs)) (procs_well n there ps (suc k) (first + p.words) (suc mark + marks_in p.code) h.1 t.1
+        (λ w e. s w (later (Procedure k first p.words ∷ []) (body ++ tail) w (later body tail w e)))),
+  )
     where
       params : List VirtualItem
       params = params_items first 0 p.params
@@ -316,8 +356,19 @@ module _ (S : List ℕ) where
           (code_has first mark p.code (suc mark) w l r)))
 
       outs : AreWell (out_items mark)
-      outs = ((tt, tt), ((tt, (refl, tt)), ((tt, (refl, tt)), ((tt, (refl, tt)),
-          ((tt, (refl, (refl, (refl, (refl, (refl, tt)))))), (((out_there, tt), tt), tt))))))
+      outs = (
+        (tt, tt),
+        (
+          (tt, (refl, tt)),
+          (
+            (tt, (refl, tt)),
+            (
+              (tt, (refl, tt)),
+              ((tt, (refl, (refl, (refl, (refl, (refl, tt)))))), (((out_there, tt), tt), tt)),
+            ),
+          ),
+        ),
+      )
 
 pub select_well : (entry : ℕ) (procs : List Proc) → is_closed procs entry ≡ true → IsWellFormed (select_items entry procs)
 select_well entry procs closed = record {
@@ -339,10 +390,26 @@ select_well entry procs closed = record {
     there k l = procs_have procs 0 0 (length procs) k (omega arith) (omega (arith, l))
 
     well : Every (IsWell S) items
-    well = (((there entry (closed_within procs entry closed), tt), (refl, tt)), ((tt, (refl, (refl, tt))),
-        ((tt, (refl, tt)), ((tt, (refl, tt)), ((tt, (refl, (refl, (refl, (refl, (refl, tt)))))), ((tt, (refl, tt)),
-        procs_well S (length procs) there procs 0 0 (length procs) (closed_small procs entry closed)
-        (closed_there procs entry closed) (λ w e. e)))))))
+    well = (
+      ((there entry (closed_within procs entry closed), tt), (refl, tt)),
+      (
+        (tt, (refl, (refl, tt))),
+        (
+          (tt, (refl, tt)),
+          (
+            (tt, (refl, tt)),
+            (
+              (tt, (refl, (refl, (refl, (refl, (refl, tt)))))),
+              (
+                (tt, (refl, tt)),
+                procs_well S (length procs) there procs 0 0 (length procs) (closed_small procs entry closed)
+                    (closed_there procs entry closed) (λ w e. e),
+              ),
+            ),
+          ),
+        ),
+      ),
+    )
 
     Named : VirtualItem → Type 0
     Named item = All (λ mark. Contains S mark) (marks_named item)

@@ -5,3 +5,5 @@
 pub mod code;
 mod parts;
 pub mod selection;
+#[cfg(test)]
+mod tests;
