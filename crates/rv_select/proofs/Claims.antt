@@ -25,7 +25,9 @@ use Rattle.rv_select.specs.Select.{stores_items, marks_in, code_items, out_items
 use Rattle.rv_select.specs.Select.{answer_items, select_items, registers_of}
 use Rattle.rv_select.specs.Selected.{IsCodeOf, Simulates, RunsAsWords}
 use Rattle.rv_select.proofs.Closedness.{closed_small}
-use Rattle.rv_select.proofs.Marks.{select_distinct}
+use Rattle.rv_select.proofs.Standing.{select_well}
+use Rattle.rv_select.proofs.Walking.{walk}
+use Rattle.rv_select.proofs.Goods.{program_sets, at_start, selected_holding}
 use Rattle.rv_select.proofs.Laying.{IsBody, AreBody, body_is_body}
 use Rattle.rv_select.proofs.Following.{follows_select, costs_select}
 
@@ -248,9 +250,10 @@ is_code procs entry closed = record {
   work = procs_work procs 0 0 (length procs);
   own = start_within (registers_of procs) entry (procs_items 0 0 (length procs) procs)
       (procs_within procs 0 0 (length procs) (registers_of procs) (omega arith));
-  distinct = select_distinct entry procs;
+  well_formed = select_well entry procs closed;
   fitting = all_fit (procs_items 0 0 (length procs) procs) (procs_fit procs 0 0 (length procs)
       (closed_small procs entry closed));
+  holding = (walk (program_sets procs) at_start (select_items entry procs), selected_holding entry procs closed);
   runs = λ reading. runs reading procs entry;
 }
 

@@ -2,6 +2,7 @@
 use Rattle.std.proofs.Common.{Bool, true, false, ◌&&◌, ℕ, zero, suc, ◌<◌, ◌≤◌, ◌≡◌, List, [], ◌∷◌, Option, Some, None}
 use Rattle.std.proofs.Common.{length, refl, subst, arith}
 use Rattle.std.specs.Prelude.{nat_lt, nat_le, ◌==◌, slice_get}
+use Rattle.std.proofs.lemmas.Option.{slice_get_within}
 use Rattle.low_ir.specs.declared.code.LowSource.{LowSource}
 use Rattle.low_ir.specs.Procedures.{Code, Done, Set, Compute, Load, Store, CodeOf, Build, Request, Take, Environment}
 use Rattle.low_ir.specs.Procedures.{Call, CallAt, If, Return, TailCall, TailCallAt, Proc}
@@ -31,6 +32,29 @@ is_at_most m n h = grind arith
 
 is_as_many : (m n k : ℕ) → (m == n) ≡ true → n ≤ k → m ≤ k
 is_as_many m n k h l = grind arith
+
+-- procedures that are named are among so many
+abbrev pub NamesThere : ℕ → Code → Type 0
+NamesThere n Done = Unit {0}
+NamesThere n (Set d a rest) = NamesThere n rest
+NamesThere n (Compute op d a b rest) = NamesThere n rest
+NamesThere n (Load d a offset rest) = NamesThere n rest
+NamesThere n (Store b a offset rest) = NamesThere n rest
+NamesThere n (CodeOf d k rest) = (k < n) × NamesThere n rest
+NamesThere n (Build d args rest) = NamesThere n rest
+NamesThere n (Request d a rest) = NamesThere n rest
+NamesThere n (Take a rest) = NamesThere n rest
+NamesThere n (Environment number a b d e rest) = NamesThere n rest
+NamesThere n (Call d k args rest) = (k < n) × NamesThere n rest
+NamesThere n (CallAt d f args rest) = NamesThere n rest
+NamesThere n (If cond a b one other rest) = NamesThere n one × NamesThere n other × NamesThere n rest
+NamesThere n (Return a) = Unit {0}
+NamesThere n (TailCall k args) = k < n
+NamesThere n (TailCallAt f args) = Unit {0}
+
+abbrev pub AllThere : ℕ → List Proc → Type 0
+AllThere n [] = Unit {0}
+AllThere n (p ∷ ps) = NamesThere n p.code × AllThere n ps
 
 module _ {A : Type 0} (K : Knowledge A) (procs : List Proc) (n : ℕ)
     (few : (k : ℕ) (p : Proc) → slice_get procs k ≡ Some p → p.params ≤ 8) where
@@ -92,6 +116,49 @@ module _ {A : Type 0} (K : Knowledge A) (procs : List Proc) (n : ℕ)
   behind_small (TailCallAt g args) known h =
       let f = fitting known (TailCallAt g args) _ h in is_at_most (length args) 8 f.0
 
+  -- a procedure that takes words is there
+  is_there_at : (k : ℕ) (args : List LowSource) (o : Option Proc) → slice_get procs k ≡ o → takes_words o args ≡ true
+      → k < length procs
+  is_there_at k args None e h = absurd (let z : ⊥ = cc in z)
+  is_there_at k args (Some p) e h = slice_get_within procs k p e
+
+  pub behind_there : (c : Code) (known : A) → is_there (behind K procs n known c) ≡ true
+      → NamesThere (length procs) c
+  behind_there Done known h = tt
+  behind_there (Set d a rest) known h =
+      let f = fitting known (Set d a rest) _ h in behind_there rest _ f.1
+  behind_there (Compute op d a b rest) known h =
+      let f = fitting known (Compute op d a b rest) _ h in behind_there rest _ f.1
+  behind_there (Load d a offset rest) known h =
+      let f = fitting known (Load d a offset rest) _ h in behind_there rest _ f.1
+  behind_there (Store b a offset rest) known h =
+      let f = fitting known (Store b a offset rest) _ h in behind_there rest _ f.1
+  behind_there (CodeOf d k rest) known h =
+      let f = fitting known (CodeOf d k rest) _ h in
+      (is_less k (length procs) (both (nat_lt d n) (nat_lt k (length procs)) f.0).1, behind_there rest _ f.1)
+  behind_there (Build d args rest) known h =
+      let f = fitting known (Build d args rest) _ h in behind_there rest _ f.1
+  behind_there (Request d a rest) known h =
+      let f = fitting known (Request d a rest) _ h in behind_there rest _ f.1
+  behind_there (Take a rest) known h = let f = fitting known (Take a rest) _ h in behind_there rest _ f.1
+  behind_there (Environment number a b d e rest) known h =
+      let f = fitting known (Environment number a b d e rest) _ h in behind_there rest _ f.1
+  behind_there (Call d k args rest) known h =
+      let f = fitting known (Call d k args rest) _ h in
+      let there = (both (nat_lt d n) (takes_words (slice_get procs k) args) f.0).1 in
+      (is_there_at k args (slice_get procs k) refl there, behind_there rest _ f.1)
+  behind_there (CallAt d g args rest) known h =
+      let f = fitting known (CallAt d g args rest) _ h in behind_there rest _ f.1
+  behind_there (If cond a b one other rest) known h =
+      let f = fitting known (If cond a b one other rest) _ h in
+      let k = then_there (meet K (behind K procs n known one) (behind K procs n known other)) _ f.1 in
+      let parts = meet_there (behind K procs n known one) (behind K procs n known other) k.0 k.1 in
+      (behind_there one known parts.0, behind_there other known parts.1, behind_there rest k.0 k.2)
+  behind_there (Return a) known h = tt
+  behind_there (TailCall k args) known h =
+      let f = fitting known (TailCall k args) _ h in is_there_at k args (slice_get procs k) refl f.0
+  behind_there (TailCallAt g args) known h = tt
+
 -- the parts of a closed procedure
 pub record ClosedParts (procs : List Proc) (p : Proc) : Type 0 where
   pub few : p.params ≤ 8
@@ -139,6 +206,21 @@ closed_small procs entry h = small procs (both (takes_none (slice_get procs entr
         let parts = closed_parts procs p x.0 in
         ((parts.few, behind_small all_words procs p.words few p.code _ parts.there), small ps x.1)
 
+pub closed_there : (procs : List Proc) (entry : ℕ) → is_closed procs entry ≡ true → AllThere (length procs) procs
+closed_there procs entry h = there procs all
+  where
+    all : each_closed procs procs ≡ true
+    all = (both (takes_none (slice_get procs entry)) (each_closed procs procs) h).1
+
+    few : (k : ℕ) (p : Proc) → slice_get procs k ≡ Some p → p.params ≤ 8
+    few k p e = (closed_parts procs p (closed_at procs procs k p all e)).few
+
+    there : (ps : List Proc) → each_closed procs ps ≡ true → AllThere (length procs) ps
+    there [] c = tt
+    there (p ∷ ps) c =
+        let x = both (proc_closed procs p) (each_closed procs ps) c in
+        (behind_there all_words procs p.words few p.code _ (closed_parts procs p x.0).there, there ps x.1)
+
 -- the procedure that a closed program begins with takes no words
 pub closed_entry : (procs : List Proc) (entry : ℕ) → is_closed procs entry ≡ true
     → (p : Proc) × (slice_get procs entry ≡ Some p) × (p.params ≡ 0)
@@ -152,3 +234,7 @@ closed_entry procs entry h =
       where
         none : (n : ℕ) → (n == 0) ≡ true → n ≡ 0
         none n c = grind arith
+
+pub closed_within : (procs : List Proc) (entry : ℕ) → is_closed procs entry ≡ true → entry < length procs
+closed_within procs entry h =
+    let found = closed_entry procs entry h in slice_get_within procs entry found.0 found.1

@@ -27,3 +27,4 @@ mod Procs
 mod Claims
 mod Walking
 mod Goods
+mod Standing

@@ -61,7 +61,7 @@ add_one : (P R : ℕ → Type 0) (m : ℕ) (xs : List ℕ) → Fresh P xs → ((
 add_one P R m xs h apart r f =
     ((r, each_map P R xs f h.0), (each_not_in m xs (each_map P (λ y. m ≢ y) xs apart h.0), h.1))
 
-marks_append : (xs ys : List VirtualItem) → marks (xs ++ ys) ≡ marks xs ++ marks ys
+pub marks_append : (xs ys : List VirtualItem) → marks (xs ++ ys) ≡ marks xs ++ marks ys
 marks_append [] ys = refl
 marks_append (Mark m ∷ xs) ys = ap (λ z. m ∷ z) (marks_append xs ys)
 marks_append (Procedure k first count ∷ xs) ys = ap (λ z. k ∷ z) (marks_append xs ys)

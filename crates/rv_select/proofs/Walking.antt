@@ -62,8 +62,8 @@ abbrev pub Good : (ℕ → VReg → Bool) → (VReg → Bool) → List VirtualIt
 Good M L [] = Unit {0}
 Good M L (x ∷ xs) =
     ReadsHeld x (before M x L) × (falls x ≡ true → NextOk M (after x (before M x L)) xs)
-        × ((m : ℕ) (a : VReg) → target x ≡ Some m → M m a ≡ true → after x (before M x L) a ≡ true)
-        × Good M (after x (before M x L)) xs
+    × ((m : ℕ) (a : VReg) → target x ≡ Some m → M m a ≡ true → after x (before M x L) a ≡ true)
+    × Good M (after x (before M x L)) xs
 
 pub is_reg_true : (a b : VReg) → is_reg a b ≡ true → a ≡ b
 is_reg_true (Real r) (Real q) e = let same : r ≡ q = grind arith in ap Real same
@@ -116,7 +116,7 @@ call_flow : (a : VReg) (L : VReg → Bool) → (is_reg (Real 10) a || (L a && is
     ⊎ ((L a ≡ true) × SparedByCall (place_of own a))
 call_flow a L e =
     ⊎_elim (λ h. inl (inl (is_reg_true (Real 10) a h))) (λ h. let k = and_split (L a) (is_spared a) h.1 in
-        inr (k.0, spared_true a k.1)) (or_split (is_reg (Real 10) a) (L a && is_spared a) e)
+    inr (k.0, spared_true a k.1)) (or_split (is_reg (Real 10) a) (L a && is_spared a) e)
 
 after_flow : (x : VirtualItem) (L : VReg → Bool) (a : VReg) → after x L a ≡ true → Flow x L a
 after_flow (Call k n) L a e = call_flow a L e
@@ -154,7 +154,7 @@ module _ (M : ℕ → VReg → Bool) where
   next_at (y ∷ ys) L zero x a g e f h =
       let same : y ≡ x = cc in
       subst (λ z. Among a (writes z) ⊎ ((before M y L a ≡ true) × SparedBy own z (place_of own a))) same
-          (after_flow y (before M y L) a (behind ys (g.1 (subst (λ z. falls z ≡ true) (sym same) f)) h))
+      (after_flow y (before M y L) a (behind ys (g.1 (subst (λ z. falls z ≡ true) (sym same) f)) h))
     where
       behind : (zs : List VirtualItem) → NextOk M (after y (before M y L)) zs
           → walk M (after y (before M y L)) zs zero a ≡ true → after y (before M y L) a ≡ true
@@ -170,7 +170,7 @@ module _ (M : ℕ → VReg → Bool) where
   target_at (y ∷ ys) L zero m x a g e f h =
       let same : y ≡ x = cc in
       subst (λ z. Among a (writes z) ⊎ ((before M y L a ≡ true) × SparedBy own z (place_of own a))) same
-          (after_flow y (before M y L) a (g.2 m a (subst (λ z. target z ≡ Some m) (sym same) f) h))
+      (after_flow y (before M y L) a (g.2 m a (subst (λ z. target z ≡ Some m) (sym same) f) h))
   target_at (y ∷ ys) L (suc p) m x a g e f h = target_at ys (after y (before M y L)) p m x a g.3 e f h
 
   mark_at : (xs : List VirtualItem) (L : VReg → Bool) (p m : ℕ) (a : VReg) → slice_get xs p ≡ Some (Mark m)

@@ -5,6 +5,7 @@ pub mod Slots
 pub mod Stacks
 pub mod Slotted
 pub mod Marks
+pub mod WellFormed
 pub mod Sizes
 pub mod Select
 pub mod Selected

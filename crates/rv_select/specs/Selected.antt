@@ -10,11 +10,14 @@ use Rattle.rv_machine.specs.Registers.{Registers}
 use Rattle.rv_machine.specs.State.{Halt}
 use Rattle.low_ir.specs.Procedures.{Proc}
 use Rattle.low_ir.specs.Run.{Setting as LowSetting, LowShown, low_machine, low_turns, low_start}
+use Rattle.rv_select.specs.declared.code.Place.TheVariants.{Slot}
 use Rattle.rv_select.specs.declared.code.VReg.TheVariants.{Real}
 use Rattle.rv_select.specs.declared.code.VirtualItem.{VirtualItem}
 use Rattle.rv_select.specs.declared.code.VirtualItem.TheVariants.{Constant, Move, Procedure, Call, Environment}
 use Rattle.rv_select.specs.Fitting.{each_fits}
-use Rattle.rv_select.specs.Marks.{marks, Distinct, procedures, numbers_from, each_has_work}
+use Rattle.rv_select.specs.Holding.{Sets, IsHolding}
+use Rattle.rv_select.specs.Marks.{procedures, numbers_from, each_has_work}
+use Rattle.rv_select.specs.WellFormed.{IsWellFormed}
 use Rattle.rv_select.specs.Run.{Setting, Shown, virtual_machine, virtual_start}
 use Rattle.rv_select.specs.Select.{select_items, registers_of}
 
@@ -84,8 +87,10 @@ pub record IsCodeOf (items : List VirtualItem) (registers : ℕ) (procs : List P
   pub work : each_has_work items ≡ true
   pub own : (place k first count : ℕ) → slice_get items place ≡ Some (Procedure k first count)
       → first + count ≤ registers
-  -- no mark stands twice, and each number fits its item
-  pub distinct : Distinct (marks items)
+  -- what is named is there, and each number fits its item
+  pub well_formed : IsWellFormed items
   pub fitting : each_fits items ≡ true
+  -- with a slot for each virtual register, each read finds the word that was written last, whatever path is taken
+  pub holding : (live : Sets) × IsHolding items (λ v. Slot v) live
   -- what it does, however stops are read as endings
   pub runs : (reading : Halt → Ending Verdict) → RunsAsWords reading items procs entry

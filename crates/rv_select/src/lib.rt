@@ -7,3 +7,5 @@ mod slot_parts;
 pub mod slots;
 mod parts;
 pub mod selection;
+#[cfg(test)]
+mod tests;
