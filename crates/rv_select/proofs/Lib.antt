@@ -12,6 +12,8 @@ pub mod SlotDistinct
 pub mod SlotConditions
 pub mod SlotRuns
 pub mod SlotClaims
+pub mod ImageBytes
+pub mod ImageRuns
 pub mod Public
 pub mod Bounded
 pub mod Stretches

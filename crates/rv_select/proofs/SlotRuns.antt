@@ -83,7 +83,7 @@ module _ {V : Type 0} (reading : Halt → Ending V) (items : List VirtualItem) (
     }
 
     pub follows_in_stack : reading (Lacks Stack) ≢ Wrong
-        → FollowsVirtual (real_machine reading code setting) bound s
+        → FollowsVirtual 43 (real_machine reading code setting) bound s
     follows_in_stack lacking =
         let never1 = stacked_never_wrong reading (setting_in items told s) (room_in s) lacking (start_in s) never in
         let turns = follows_at_cost (slots_simulate slotting) (start_in s) s at_start never1 in
@@ -94,7 +94,7 @@ module _ {V : Type 0} (reading : Halt → Ending V) (items : List VirtualItem) (
         }
 
     pub follows_virtual : reading (Lacks Stack) ≡ Exhausted
-        → FollowsVirtual (real_machine reading code setting) free s
+        → FollowsVirtual 43 (real_machine reading code setting) free s
     follows_virtual out =
         let lacking : reading (Lacks Stack) ≢ Wrong = (λ e. not_both (reading (Lacks Stack)) out e) in
         let upper = follows_at_cost (stacked_simulates reading (setting_in items told s) (room_in s) out) (start_in s)

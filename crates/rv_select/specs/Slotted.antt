@@ -95,11 +95,11 @@ pub record IsSeenAs (bound : ℕ) (s : State) (shown : Shown) : Type 0 where
   pub alloc : s.regs 26 ≡ shown.alloc
   pub top : s.regs 27 ≡ shown.top
 
--- from a state on the machine follows a virtual run, and takes at most 43 turns for each of its items
-pub record FollowsVirtual {V : Type 0} (X : Machine State State V) (Y : Machine VirtualState Shown V) (s : State) :
-    Type 0 where
+-- from a state on the machine follows a virtual run, and takes at most so many turns for each of its items
+pub record FollowsVirtual {V : Type 0} (rate : ℕ) (X : Machine State State V) (Y : Machine VirtualState Shown V)
+    (s : State) : Type 0 where
   pub follows : FollowsBy (IsSeenAs (s.regs 25)) Any (run X s) (run Y (start_in s))
-  pub turns : FollowsBy (OfRest (IsSeenAs (s.regs 25))) (Spends 43) (run (metered each_one X) (unspent s))
+  pub turns : FollowsBy (OfRest (IsSeenAs (s.regs 25))) (Spends rate) (run (metered each_one X) (unspent s))
       (run (metered each_one Y) (unspent (start_in s)))
 
 -- however stops are read, the machine follows the virtual run in a stack of so many bytes: so it stops for want of
@@ -108,7 +108,7 @@ abbrev pub DoesInStack : {V : Type 0} → (Halt → Ending V) → List VirtualIt
 DoesInStack reading items code =
     IsReading reading → (setting : RealSetting) (told : ℕ → ℕ) (s : State) → Starts code setting told s
     → NeverWrong (run (virtual_machine reading (setting_in items told s)) (start_in s))
-    → FollowsVirtual (real_machine reading code setting)
+    → FollowsVirtual 43 (real_machine reading code setting)
     (stacked_machine reading (setting_in items told s) (room_in s)) s
 
 -- where want of stack is read as exhausted, the machine follows the virtual run that has no bound on its stack
@@ -116,7 +116,7 @@ abbrev pub DoesAsVirtual : {V : Type 0} → (Halt → Ending V) → List Virtual
 DoesAsVirtual reading items code =
     reading (Lacks Stack) ≡ Exhausted → (setting : RealSetting) (told : ℕ → ℕ) (s : State)
     → Starts code setting told s → NeverWrong (run (virtual_machine reading (setting_in items told s)) (start_in s))
-    → FollowsVirtual (real_machine reading code setting) (virtual_machine reading (setting_in items told s)) s
+    → FollowsVirtual 43 (real_machine reading code setting) (virtual_machine reading (setting_in items told s)) s
 
 -- x30 and x31 are named by no item
 abbrev pub SparesLast : RealItem → Type 0

@@ -4,6 +4,7 @@
 
 pub mod code;
 mod slot_parts;
+pub mod images;
 pub mod slots;
 mod parts;
 pub mod selection;
