@@ -1,0 +1,32 @@
+pub mod PutWords
+pub mod Items
+pub mod Frames
+pub mod SlotWords
+pub mod SlotItems
+pub mod SlotMarks
+pub mod SlotCalls
+pub mod SlotReturns
+pub mod SlotSteps
+pub mod InStack
+pub mod SlotDistinct
+pub mod SlotConditions
+pub mod SlotRuns
+pub mod SlotClaims
+pub mod ImageBytes
+pub mod ImageRuns
+pub mod Public
+pub mod Bounded
+pub mod Stretches
+pub mod Fetching
+pub mod Handing
+pub mod Selecting
+pub mod Marks
+pub mod Laying
+pub mod Following
+mod Emitting
+mod Closedness
+mod Procs
+mod Claims
+mod Walking
+mod Goods
+mod Standing

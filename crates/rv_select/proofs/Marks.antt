@@ -1,0 +1,228 @@
+-- Each mark of a selected code stands once.
+use Rattle.std.proofs.Common.{ℕ, zero, suc, ◌+◌, ◌<◌, ◌≤◌, ◌≡◌, ◌≢◌, ◌⊎◌, inl, inr, ⊎_elim, true, false}
+use Rattle.std.proofs.Common.{Bool, List, [], ◌∷◌, ◌++◌, refl, sym, ◌∙◌, ap, subst, arith}
+use Rattle.std.specs.Prelude.{length}
+use Rattle.low_ir.specs.declared.code.LowSource.{LowSource}
+use Rattle.low_ir.specs.declared.code.LowSource.TheVariants.{Word, Number}
+use Rattle.low_ir.specs.Procedures.{Code, Done, Set, Compute as LowCompute, Load as LowLoad, Store as LowStore}
+use Rattle.low_ir.specs.Procedures.{CodeOf as LowCodeOf, Build, Request, Take, Environment as LowEnvironment}
+use Rattle.low_ir.specs.Procedures.{Call as LowCall, CallAt as LowCallAt, If, Return as LowReturn}
+use Rattle.low_ir.specs.Procedures.{TailCall as LowTailCall, TailCallAt as LowTailCallAt, Proc}
+use Rattle.low_ir.specs.declared.code.WordOp.{WordOp}
+use Rattle.rv_select.specs.declared.code.VReg.{VReg}
+use Rattle.rv_select.specs.declared.code.VReg.TheVariants.{Real, Virtual}
+use Rattle.rv_select.specs.declared.code.VirtualItem.{VirtualItem}
+use Rattle.rv_select.specs.declared.code.VirtualItem.TheVariants.{Mark, Procedure, Jump, Branch}
+use Rattle.rv_select.specs.Marks.{marks, NotIn, Distinct}
+use Rattle.rv_select.specs.Select.{source_reg, is_small, second_items, compute_item, put_item, source_items, args_items}
+use Rattle.rv_select.specs.Select.{params_items, stores_items, marks_in, code_items, out_items, body_items}
+use Rattle.rv_select.specs.Select.{procs_items, select_items}
+
+-- ---- distinct numbers
+
+abbrev pub Each : (ℕ → Type 0) → List ℕ → Type 0
+Each P [] = Unit {0}
+Each P (x ∷ xs) = P x × Each P xs
+
+each_not_in : (m : ℕ) (xs : List ℕ) → Each (λ x. m ≢ x) xs → NotIn m xs
+each_not_in m [] h = tt
+each_not_in m (x ∷ xs) h = (h.0, each_not_in m xs h.1)
+
+each_map : (P Q : ℕ → Type 0) (xs : List ℕ) → ((x : ℕ) → P x → Q x) → Each P xs → Each Q xs
+each_map P Q [] f h = tt
+each_map P Q (x ∷ xs) f h = (f x h.0, each_map P Q xs f h.1)
+
+each_append : (P : ℕ → Type 0) (xs ys : List ℕ) → Each P xs → Each P ys → Each P (xs ++ ys)
+each_append P [] ys h k = k
+each_append P (x ∷ xs) ys h k = (h.0, each_append P xs ys h.1 k)
+
+not_in_append : (m : ℕ) (xs ys : List ℕ) → NotIn m xs → NotIn m ys → NotIn m (xs ++ ys)
+not_in_append m [] ys h k = k
+not_in_append m (x ∷ xs) ys h k = (h.0, not_in_append m xs ys h.1 k)
+
+pub distinct_append : (xs ys : List ℕ) → Distinct xs → Distinct ys → Each (λ x. NotIn x ys) xs → Distinct (xs ++ ys)
+distinct_append [] ys h k e = k
+distinct_append (x ∷ xs) ys h k e = (not_in_append x xs ys h.0 e.0, distinct_append xs ys h.1 k e.1)
+
+-- distinct numbers with a property
+abbrev pub Fresh : (ℕ → Type 0) → List ℕ → Type 0
+Fresh P xs = Each P xs × Distinct xs
+
+join : (P Q R : ℕ → Type 0) (xs ys : List ℕ) → Fresh P xs → Fresh Q ys → ((x y : ℕ) → P x → Q y → x ≢ y)
+    → ((z : ℕ) → P z → R z) → ((z : ℕ) → Q z → R z) → Fresh R (xs ++ ys)
+join P Q R xs ys h k apart f g = (
+  each_append R xs ys (each_map P R xs f h.0) (each_map Q R ys g k.0),
+  distinct_append xs ys h.1 k.1 (each_map P (λ x. NotIn x ys) xs (λ x p.
+      each_not_in x ys (each_map Q (λ y. x ≢ y) ys (λ y q. apart x y p q) k.0)) h.0),
+)
+
+add_one : (P R : ℕ → Type 0) (m : ℕ) (xs : List ℕ) → Fresh P xs → ((y : ℕ) → P y → m ≢ y) → R m → ((z : ℕ) → P z → R z)
+    → Fresh R (m ∷ xs)
+add_one P R m xs h apart r f =
+    ((r, each_map P R xs f h.0), (each_not_in m xs (each_map P (λ y. m ≢ y) xs apart h.0), h.1))
+
+pub marks_append : (xs ys : List VirtualItem) → marks (xs ++ ys) ≡ marks xs ++ marks ys
+marks_append [] ys = refl
+marks_append (Mark m ∷ xs) ys = ap (λ z. m ∷ z) (marks_append xs ys)
+marks_append (Procedure k first count ∷ xs) ys = ap (λ z. k ∷ z) (marks_append xs ys)
+marks_append (x ∷ xs) ys = marks_append xs ys
+
+after : (xs ys : List VirtualItem) → marks xs ≡ [] → marks (xs ++ ys) ≡ marks ys
+after xs ys e = marks_append xs ys ∙ ap (λ z. z ++ marks ys) e
+
+-- ---- the marks of the virtual code
+
+args_none : (first from : ℕ) (args : List LowSource) → marks (args_items first from args) ≡ []
+args_none first from [] = refl
+args_none first from (Word i ∷ args) = args_none first (suc from) args
+args_none first from (Number n ∷ args) = args_none first (suc from) args
+
+params_none : (first from n : ℕ) → marks (params_items first from n) ≡ []
+params_none first from zero = refl
+params_none first from (suc n) = params_none first (suc from) n
+
+source_none : (r : ℕ) (a : LowSource) → marks (source_items r a) ≡ []
+source_none r (Word i) = refl
+source_none r (Number zero) = refl
+source_none r (Number (suc n)) = refl
+
+put_none : (first : ℕ) (rd : VReg) (a : LowSource) (xs : List VirtualItem) → marks (put_item first rd a ∷ xs) ≡ marks xs
+put_none first rd (Word i) xs = refl
+put_none first rd (Number n) xs = refl
+
+stores_none : (first offset : ℕ) (args : List LowSource) → marks (stores_items first offset args) ≡ []
+stores_none first offset [] = refl
+stores_none first offset (a ∷ args) = after (source_items 5 a) _ (source_none 5 a) ∙ stores_none first (offset + 8) args
+
+-- the numbers from one to below another
+abbrev pub Between : ℕ → ℕ → ℕ → Type 0
+Between a b x = (a ≤ x) × (x < b)
+
+module _ (first out : ℕ) where
+  sources_marks : (r : ℕ) (a : LowSource) (xs : List VirtualItem) → marks (source_items r a ++ xs) ≡ marks xs
+  sources_marks r a xs = after (source_items r a) xs (source_none r a)
+
+  compute_marks : (c : Bool) (op : WordOp) (rd : VReg) (a b : LowSource) (xs : List VirtualItem)
+      → marks (second_items c b ++ (compute_item c first op rd a b ∷ xs)) ≡ marks xs
+  compute_marks true op rd a b xs = refl
+  compute_marks false op rd a b xs = sources_marks 6 b _
+
+  code_fresh : (c : Code) (m : ℕ) → Fresh (Between m (m + marks_in c)) (marks (code_items first out m c))
+  code_fresh Done m = (tt, tt)
+  code_fresh (Set d a rest) m =
+      subst (Fresh (Between m (m + marks_in rest)))
+      (sym (put_none first (Virtual (first + d)) a (code_items first out m rest))) (code_fresh rest m)
+  code_fresh (LowCompute op d a b rest) m =
+      subst (Fresh (Between m (m + marks_in rest))) (sym (sources_marks 5 a _
+      ∙ compute_marks (is_small op b) op (Virtual (first + d)) a b (code_items first out m rest))) (code_fresh rest m)
+  code_fresh (LowLoad d a offset rest) m =
+      subst (Fresh (Between m (m + marks_in rest))) (sym (sources_marks 5 a _)) (code_fresh rest m)
+  code_fresh (LowStore b a offset rest) m =
+      subst (Fresh (Between m (m + marks_in rest))) (sym (sources_marks 5 a _ ∙ sources_marks 6 b _))
+      (code_fresh rest m)
+  code_fresh (LowCodeOf d k rest) m = code_fresh rest m
+  code_fresh (Build d args rest) m =
+      subst (Fresh (Between m (m + marks_in rest)))
+      (sym (after (stores_items first 0 args) _ (stores_none first 0 args))) (code_fresh rest m)
+  code_fresh (Request d a rest) m =
+      subst (Fresh (Between m (m + marks_in rest))) (sym (sources_marks 7 a _)) (code_fresh rest m)
+  code_fresh (Take a rest) m =
+      subst (Fresh (Between m (m + marks_in rest))) (sym (sources_marks 7 a _)) (code_fresh rest m)
+  code_fresh (LowEnvironment number a b d e rest) m =
+      subst (Fresh (Between m (m + marks_in rest))) (sym (put_none first (Real 10) a _ ∙ put_none first (Real 11) b _))
+      (code_fresh rest m)
+  code_fresh (LowCall d k args rest) m =
+      subst (Fresh (Between m (m + marks_in rest))) (sym (after (args_items first 0 args) _ (args_none first 0 args)))
+      (code_fresh rest m)
+  code_fresh (LowCallAt d f args rest) m =
+      subst (Fresh (Between m (m + marks_in rest))) (sym (sources_marks 7 f _
+      ∙ after (args_items first 0 args) _ (args_none first 0 args))) (code_fresh rest m)
+  code_fresh (If cond a b one other rest) m =
+      let m1 : ℕ = suc (suc m) in
+      let m2 : ℕ = m1 + marks_in other in
+      let m3 : ℕ = m2 + marks_in one in
+      let xs : List VirtualItem = code_items first out m1 other in
+      let ys : List VirtualItem = code_items first out m2 one in
+      let zs : List VirtualItem = code_items first out m3 rest in
+      let end : ℕ = m3 + marks_in rest in
+      let h = code_fresh other m1 in
+      let k = code_fresh one m2 in
+      let l = code_fresh rest m3 in
+      let a1 : Fresh (λ z. (z ≡ suc m) ⊎ Between m3 end z) (suc m ∷ marks zs) =
+      add_one (Between m3 end) (λ z. (z ≡ suc m) ⊎ Between m3 end z) (suc m) (marks zs) l (λ y q e. let z : ⊥ =
+      omega (arith, q.0, e) in z) (inl refl) (λ z q. inr q) in
+      let a2 : Fresh (λ z. (z ≡ suc m) ⊎ Between m2 end z) (marks ys ++ (suc m ∷ marks zs)) =
+      join (Between m2 m3) (λ z. (z ≡ suc m) ⊎ Between m3 end z) (λ z. (z ≡ suc m)
+      ⊎ Between m2 end z) (marks ys) (suc m ∷ marks zs) k a1 (λ x y p q e.
+      ⊎_elim (λ i. let z : ⊥ = omega (arith, p.0, i, e) in z) (λ i. let z : ⊥ = omega (arith, p.1, i.0, e) in z) q)
+      (λ z p. inr (p.0, (let y = p.1 in omega (arith, y)))) (λ z q.
+      ⊎_elim (λ i. inl i) (λ i. inr ((let y = i.0 in omega (arith, y)), i.1)) q) in
+      let a3 : Fresh (λ z. (z ≡ m) ⊎ ((z ≡ suc m) ⊎ Between m2 end z)) (m ∷ (marks ys ++ (suc m ∷ marks zs))) =
+      add_one (λ z. (z ≡ suc m) ⊎ Between m2 end z) (λ z. (z ≡ m) ⊎ ((z ≡ suc m) ⊎ Between m2 end z)) m (marks ys
+      ++ (suc m ∷ marks zs)) a2 (λ y q e. ⊎_elim (λ i. let z : ⊥ = omega (arith, i, e) in z) (λ i. let z : ⊥ =
+      omega (arith, i.0, e) in z) q) (inl refl) (λ z q. inr q) in
+      let whole : m + (suc (suc (marks_in other)) + marks_in one + marks_in rest) ≡ end = omega arith in
+      let a4 : Fresh (Between m (m + (suc (suc (marks_in other)) + marks_in one + marks_in rest))) (marks xs
+      ++ (m ∷ (marks ys ++ (suc m ∷ marks zs)))) = join (Between m1 m2) (λ z. (z ≡ m)
+      ⊎ ((z ≡ suc m) ⊎ Between m2 end z))
+      (Between m (m + (suc (suc (marks_in other)) + marks_in one + marks_in rest))) (marks xs) (m
+      ∷ (marks ys ++ (suc m ∷ marks zs))) h a3 (λ x y p q e. ⊎_elim (λ i. let z : ⊥ = omega (arith, p.0, i, e) in
+      z) (λ j. ⊎_elim (λ i. let z : ⊥ = omega (arith, p.0, i, e) in z) (λ i. let z : ⊥ =
+      omega (arith, p.1, i.0, e) in z) j) q) (λ z p. (
+        (let y = p.0 in omega (arith, y)),
+        (let y =
+            p.1 in omega (arith, y)),
+      )) (λ z q. ⊎_elim (λ i. (omega (arith, i), omega (arith, i)))
+      (λ j. ⊎_elim (λ i. (omega (arith, i), omega (arith, i))) (λ i.
+      ((let y = i.0 in omega (arith, y)), (let y = i.1 in omega (arith, y, whole)))) j) q) in
+      let behind : List VirtualItem = Jump (suc m) ∷ Mark m ∷ (ys ++ (Mark (suc m) ∷ zs)) in
+      let tested : List VirtualItem = Branch cond (source_reg first 5 a) (source_reg first 6 b) m ∷ (xs ++ behind) in
+      let parts : marks (code_items first out m (If cond a b one other rest)) ≡ marks xs
+      ++ (m ∷ (marks ys ++ (suc m ∷ marks zs))) = sources_marks 5 a (source_items 6 b ++ tested)
+      ∙ (sources_marks 6 b tested
+      ∙ (marks_append xs behind ∙ ap (λ r. marks xs ++ (m ∷ r)) (marks_append ys (Mark (suc m) ∷ zs)))) in
+      subst (Fresh (Between m (m + (suc (suc (marks_in other)) + marks_in one + marks_in rest)))) (sym parts) a4
+  code_fresh (LowReturn a) m = subst (Fresh (Between m (m + 0))) (sym (put_none first (Real 10) a _)) (tt, tt)
+  code_fresh (LowTailCall k args) m =
+      subst (Fresh (Between m (m + 0))) (sym (after (args_items first 0 args) _ (args_none first 0 args))) (tt, tt)
+  code_fresh (LowTailCallAt f args) m =
+      subst (Fresh (Between m (m + 0))) (sym (sources_marks 7 f _
+      ∙ after (args_items first 0 args) _ (args_none first 0 args))) (tt, tt)
+
+-- a procedure's marks
+pub body_fresh : (first mark : ℕ) (p : Proc) → Fresh (Between mark (suc mark + marks_in p.code))
+    (marks (body_items first mark p))
+body_fresh first mark p =
+    let code : List VirtualItem = code_items first mark (suc mark) p.code in
+    let parts : marks (body_items first mark p) ≡ marks code ++ (mark ∷ []) =
+    after (params_items first 0 p.params) (code ++ out_items mark) (params_none first 0 p.params)
+    ∙ marks_append code (out_items mark) in
+    subst (Fresh (Between mark (suc mark + marks_in p.code))) (sym parts)
+    (join (Between (suc mark) (suc mark + marks_in p.code)) (λ z. z ≡ mark) _ (marks code) (mark ∷ [])
+    (code_fresh first mark p.code (suc mark)) ((refl, tt), (tt, tt))
+    (λ x y h e i. let z : ⊥ = omega (arith, h.0, e, i) in z)
+    (λ z h. ((let y = h.0 in omega (arith, y)), h.1)) (λ z e. (omega (arith, e), omega (arith, e))))
+
+-- those of procedures and of their codes
+procs_fresh : (ps : List Proc) (k first mark : ℕ) → k + length ps ≤ mark
+    → Fresh (λ x. Between k (k + length ps) x ⊎ (mark ≤ x)) (marks (procs_items k first mark ps))
+procs_fresh [] k first mark h = (tt, tt)
+procs_fresh (p ∷ ps) k first mark h =
+    let body : List VirtualItem = body_items first mark p in
+    let tail : List VirtualItem = procs_items (suc k) (first + p.words) (suc mark + marks_in p.code) ps in
+    let later = procs_fresh ps (suc k) (first + p.words) (suc mark + marks_in p.code) (omega (arith, h)) in
+    let both : Fresh (λ x. Between (suc k) (suc k + length ps) x ⊎ (mark ≤ x)) (marks body ++ marks tail) =
+    join (Between mark (suc mark + marks_in p.code)) (λ x. Between (suc k) (suc k + length ps) x
+    ⊎ (suc mark + marks_in p.code ≤ x)) _ (marks body) (marks tail) (body_fresh first mark p) later
+    (λ x y i j e. ⊎_elim (λ q. let z : ⊥ = omega (arith, h, i.0, q.1, e) in z) (λ q. let z : ⊥ =
+    omega (arith, i.1, q, e) in z) j) (λ z i. inr i.0) (λ z j. ⊎_elim (λ q. inl q) (λ q. inr (omega (arith, q)))
+    j) in
+    let parts : marks (body ++ tail) ≡ marks body ++ marks tail = marks_append body tail in
+    add_one (λ x. Between (suc k) (suc k + length ps) x ⊎ (mark ≤ x)) (λ x. Between k (k + suc (length ps)) x
+    ⊎ (mark ≤ x)) k (marks (body ++ tail)) (subst (Fresh (λ x. Between (suc k) (suc k + length ps) x ⊎ (mark ≤ x)))
+    (sym parts) both) (λ y q e. ⊎_elim (λ i. let z : ⊥ = omega (arith, i.0, e) in z) (λ i. let z : ⊥ =
+    omega (arith, h, i, e) in z) q) (inl (omega arith, omega arith))
+    (λ z q. ⊎_elim (λ i. inl ((let y = i.0 in omega (arith, y)), (let y = i.1 in omega (arith, y)))) (λ i. inr i) q)
+
+pub select_distinct : (entry : ℕ) (procs : List Proc) → Distinct (marks (select_items entry procs))
+select_distinct entry procs = (procs_fresh procs 0 0 (length procs) (omega arith)).1
