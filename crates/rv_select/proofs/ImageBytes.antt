@@ -1,15 +1,14 @@
 -- Sizes and bytes of an image.
-use Rattle.std.proofs.Common.{ℕ, zero, suc, ◌+◌, ◌-◌, ◌*◌, ◌/◌, ◌%◌, ◌^◌, ◌<◌, ◌≤◌, ◌≡◌, Bool, true, false, List, []}
-use Rattle.std.proofs.Common.{◌∷◌, ◌++◌, length, take, drop, refl, sym, ◌∙◌, ap, subst, arith, length-append}
-use Rattle.std.specs.Prelude.{flat_map, map, slice_index, ◌==◌, nat_lt, if◌then◌else◌}
+use Rattle.std.proofs.Common.{ℕ, zero, suc, ◌+◌, ◌-◌, ◌*◌, ◌%◌, ◌^◌, ◌<◌, ◌≤◌, ◌≡◌, Bool, true, false, List, []}
+use Rattle.std.proofs.Common.{◌∷◌, ◌++◌, length, refl, sym, ◌∙◌, ap, subst, arith, length-append}
+use Rattle.std.specs.Prelude.{flat_map, slice_index, ◌==◌, nat_lt, if◌then◌else◌}
 use Rattle.std.specs.Int.{byte_at, bytes_low_first}
 use Rattle.std.proofs.lemmas.List.{length-map}
 use Rattle.grift_base.specs.declared.places.Pos.{Pos}
-use Rattle.rv_isa.specs.declared.inst.Inst.{Inst}
 use Rattle.rv_isa.specs.declared.real.RealItem.{RealItem}
 use Rattle.rv_isa.specs.declared.real.RealItem.TheVariants.{Op, Mark, Jump, Branch, Address}
 use Rattle.rv_isa.specs.Encoding.{encode_of}
-use Rattle.rv_machine.specs.Memory.{Memory, memory_of, from_base, first_address}
+use Rattle.rv_machine.specs.Memory.{memory_of, first_address}
 use Rattle.rv_machine.specs.Image.{IsImage, statics_len, code_len, label_count, loaded_part, labels_of}
 use Rattle.rv_machine.proofs.Public.{length-labels_from}
 use Rattle.assembler.specs.Expansion.{insts_of, item_insts, insts_from, code_insts}
@@ -51,8 +50,12 @@ length_labels (label ∷ rest) =
 length_image : (statics code : List ℕ) (labels : List Pos)
     → length (image_bytes statics code labels) ≡ 64 + length statics + length code + 8 * length labels
 length_image statics code labels =
-    omega (arith, length-append (statics ++ code) (flat_map label_bytes labels), length-append statics code,
-    length_labels labels)
+    omega (
+      arith,
+      length-append (statics ++ code) (flat_map label_bytes labels),
+      length-append statics code,
+      length_labels labels,
+    )
 
 -- ---- bytes
 

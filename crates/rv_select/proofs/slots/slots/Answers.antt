@@ -1,6 +1,6 @@
-use Rattle.std.proofs.Common.{rules, ◌≡◌, ◌++◌, ap, ◌∙◌, subst, sym}
-use Rattle.rv_select.specs.Slots.{slots_items, expand_all, final_items}
-use Rattle.rv_select.specs.Slotted.{free_mark, EachHasFew, IsSlotsOf}
+use Rattle.std.proofs.Common.{rules, ◌≡◌}
+use Rattle.rv_select.specs.Slots.{slots_items}
+use Rattle.rv_select.specs.Slotted.{free_mark, EachHasFew}
 use Rattle.rv_select.proofs.SlotClaims.{is_slots}
 use Rattle.rv_select.proofs.slots.slots.Goals as goal
 
