@@ -12,7 +12,8 @@ use Rattle.rv_machine.specs.Memory.{memory_of, first_address}
 use Rattle.rv_machine.specs.Image.{IsImage, statics_len, code_len, label_count, loaded_part, labels_of}
 use Rattle.rv_machine.proofs.Public.{length-labels_from}
 use Rattle.assembler.specs.Expansion.{insts_of, item_insts, insts_from, code_insts}
-use Rattle.assembler.specs.Imaging.{word_bytes, half_bytes, label_bytes, image_bytes, code_bytes, inst_words, code_start}
+use Rattle.assembler.specs.Imaging.{word_bytes, half_bytes, label_bytes, image_bytes, code_bytes, inst_words}
+use Rattle.assembler.specs.Imaging.{code_start}
 use Rattle.assembler.specs.Imaging.{AreSections}
 use Rattle.assembler.specs.Assembled.{IsImageOf}
 use Rattle.assembler.specs.Following.{image_memory}
@@ -159,7 +160,8 @@ module _ {image : List ℕ} {items : List RealItem} {statics : List ℕ} {labels
   memory_bytes at =
       let loaded : loaded_part image ≡ static_bytes ++ code =
       ap loaded_part is.bytes ∙ loaded_is static_bytes code labels sections in
-      let all = bytes_append static_bytes code (words_bytes statics) (codes_bytes (inst_words (code_insts items (code_start statics)))) in
+      let words = inst_words (code_insts items (code_start statics)) in
+      let all = bytes_append static_bytes code (words_bytes statics) (codes_bytes words) in
       let there : (i : ℕ) → slice_index (loaded_part image) i < 256 =
       (λ i. subst (λ xs. slice_index xs i < 256) (sym loaded) (byte_there (static_bytes ++ code) i all)) in
       pick (nat_lt at first_address) there

@@ -166,7 +166,8 @@ module _ {image : List 鈩晑 {procs : List Proc} {entry : 鈩晑 {statics : List 鈩
             follows = follows_by_weaken (IsSeenAs (s.regs 25)) Any (below_code (s.regs 25)) (位 a b h. tt)
                 (follows_by_trans below.follows middle.follows);
             turns = follows_by_weaken (OfRest (IsSeenAs (s.regs 25))) (Spends 516)
-                (位 a b h. below_code (s.regs 25) a.rest b.rest (h.0.rest, h.1, h.2)) (位 a b h. spends_through 12 43 a b h)
+                (位 a b h. below_code (s.regs 25) a.rest b.rest (h.0.rest, h.1, h.2))
+                (位 a b h. spends_through 12 43 a b h)
                 (follows_by_trans below.turns middle.turns);
           }
 
@@ -184,7 +185,8 @@ module _ {image : List 鈩晑 {procs : List Proc} {entry : 鈩晑 {statics : List 鈩
             follows = follows_by_weaken (HasRegionOf (s.regs 25)) Any (below_words (s.regs 25)) (位 a b h. tt)
                 (follows_by_trans follows upper.follows);
             turns = follows_by_weaken (OfRest (HasRegionOf (s.regs 25))) (Spends 4644)
-                (位 a b h. below_words (s.regs 25) a.rest b.rest (h.0.rest, h.1, h.2)) (位 a b h. spends_through 516 9 a b h)
+                (位 a b h. below_words (s.regs 25) a.rest b.rest (h.0.rest, h.1, h.2))
+                (位 a b h. spends_through 516 9 a b h)
                 (follows_by_trans turns upper.turns);
             never_wrong = follower_never_goes_wrong (follows_of follows);
           }

@@ -10,7 +10,8 @@ use Rattle.rv_isa.specs.declared.real.RealItem.TheVariants.{Op}
 use Rattle.rv_machine.specs.Registers.{Registers, get_reg, set_reg}
 use Rattle.rv_machine.specs.State.{State}
 use Rattle.rv_machine.specs.Turn.{plus, put, shift_left}
-use Rattle.rv_machine.proofs.Public.{Program, At, HasItem, has_item-append, Comes, ComesOn, comes_there, comes_on_later, op}
+use Rattle.rv_machine.proofs.Public.{Program, At, HasItem, has_item-append, Comes, ComesOn, comes_there}
+use Rattle.rv_machine.proofs.Public.{comes_on_later, op}
 use Rattle.rv_select.specs.Slots.{word_items, chunk_items, chunk_of}
 
 -- the next eleven bits are added

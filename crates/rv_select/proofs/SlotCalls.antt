@@ -1,5 +1,6 @@
 -- Calls, tail calls and returns: a frame is made where it fits into the stack, and given up.
-use Rattle.std.proofs.Common.{ℕ, suc, ◌+◌, ◌-◌, ◌*◌, ◌%◌, ◌^◌, ◌<◌, ◌≤◌, ◌≡◌, inl, inr, Bool, true, false, List, [], ◌∷◌}
+use Rattle.std.proofs.Common.{ℕ, suc, ◌+◌, ◌-◌, ◌*◌, ◌%◌, ◌^◌, ◌<◌, ◌≤◌, ◌≡◌, inl, inr, Bool, true, false, List, []}
+use Rattle.std.proofs.Common.{◌∷◌}
 use Rattle.std.proofs.Common.{◌++◌, Some, refl, sym, ◌∙◌, ap, subst, arith}
 use Rattle.std.specs.Prelude.{◌==◌, nat_lt, nat_le, if◌then◌else◌, length, slice_get, pos}
 use Rattle.grift_base.specs.EnvironmentCall.{environment_call}
@@ -169,7 +170,8 @@ module _ {V : Type 0} (w : Slotting V) where
           (next a.pc a.stands)
       tested n2 c2 false h next =
           let s2 : State = record s { regs = regs2; pc = n2 } in
-          falls (program w) (Way w t t1) Q s2 c2 tt (less false h) (way_first w t t1 s2 (seen2 n2)) (λ n3 c3. next n3 c3)
+          falls (program w) (Way w t t1) Q s2 c2 tt (less false h) (way_first w t t1 s2 (seen2 n2))
+          (λ n3 c3. next n3 c3)
 
   -- behind the test the frame is made, with the link
   makes_frame : (t u : VirtualState) (n back : ℕ) (f : Found) (s : State) → Seen w t s → Body w u s
@@ -297,7 +299,8 @@ module _ {V : Type 0} (w : Slotting V) where
       (λ q m. get_only 28 q regs s.regs only (low_reg q 28 (readable_low q m) (omega arith))) (only 2 refl)
       (fits_only 28 need regs s.regs only e1 (omega arith) small b.fits) in
       let test1 : nat_lt (regs 2 - w.top) need ≡ lacks = ap (λ x. nat_lt (x - w.top) need) (only 2 refl) ∙ test in
-      comes_there (program w) (Way w t t1) Q (stack_test t t1 u Q s1 need rest lacks (seen28 regs n1 only) b1 e1 test1 c1
+      comes_there (program w) (Way w t t1) Q (stack_test t t1 u Q s1 need rest lacks (seen28 regs n1 only) b1 e1 test1
+      c1
       (λ n2 c2.
       let free : ℕ = regs 2 - w.top in
       let s2 : State = record s { regs = set_reg 29 free regs; pc = n2 } in

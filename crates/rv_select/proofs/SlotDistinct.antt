@@ -13,7 +13,8 @@ use Rattle.rv_select.specs.declared.code.VirtualItem.TheVariants.{Constant, Move
 use Rattle.rv_select.specs.declared.code.VirtualItem.TheVariants.{CodeOf, Mark, Procedure, Jump, Branch, Call, CallAt}
 use Rattle.rv_select.specs.declared.code.VirtualItem.TheVariants.{TailCall, TailCallAt, Return, Environment}
 use Rattle.rv_select.specs.Marks.{marks, NotIn, Distinct}
-use Rattle.rv_select.specs.Slots.{slot_offset, frame_size, fetch_items, save_items, settle_items, word_items, chunk_items}
+use Rattle.rv_select.specs.Slots.{slot_offset, frame_size, fetch_items, save_items, settle_items, word_items}
+use Rattle.rv_select.specs.Slots.{chunk_items}
 use Rattle.rv_select.specs.Slots.{chunk_of, slot_fetch, slot_save, leave_items, expand, expand_all, final_items}
 use Rattle.rv_select.specs.Slots.{slots_items}
 use Rattle.rv_select.specs.Slotted.{above, free_mark}

@@ -54,7 +54,8 @@ module _ {V : Type 0} (w : Slotting V) where
       → Sim w t s (item_step w.reading (virtual_setting w) (Mark mark) t)
   do_mark t s on mark here =
       let t1 : VirtualState = record t { pc = suc t.pc } in
-      sim_stay w t t1 s (has_room w t s on.body) (fewer t.pc (length w.items) (slice_get_within w.items t.pc (Mark mark) here)) (record {
+      let inside = slice_get_within w.items t.pc (Mark mark) here in
+      sim_stay w t t1 s (has_room w t s on.body) (fewer t.pc (length w.items) inside) (record {
         body = body_at w t s (suc t.pc) t.known on.body;
         home = on.home;
         code = past_mark (program w) s (code_of w t s on (Mark mark) here tt);
@@ -262,8 +263,8 @@ module _ {V : Type 0} (w : Slotting V) where
       → RealFrom j (expand_all w.out first count xs ++ final_items w.out) → procedure_from k p xs ≡ Some f → Begins k f
   procedure_code [] k p j f first count d e g = absurd (let h : ⊥ = cc in h)
   procedure_code (Procedure i first1 count1 ∷ xs) k p j f first count d e g =
-      pick (i == k) refl g (λ h. procedure_code xs k (suc p) (beyond (RealMark i ∷ enter_items count1) j) f first1 count1
-      (drop_next w.items p (Procedure i first1 count1) xs d).1
+      pick (i == k) refl g (λ h. procedure_code xs k (suc p) (beyond (RealMark i ∷ enter_items count1) j) f first1
+      count1 (drop_next w.items p (Procedure i first1 count1) xs d).1
       (past_procedure p j i first1 count1 xs first count e) h)
     where
       here : Found
@@ -293,8 +294,8 @@ module _ {V : Type 0} (w : Slotting V) where
       → AddressCode at f
   address_code [] at p j f first count d e g = absurd (let h : ⊥ = cc in h)
   address_code (Procedure i first1 count1 ∷ xs) at p j f first count d e g =
-      pick (w.told i == at) refl g (λ h. address_code xs at (suc p) (beyond (RealMark i ∷ enter_items count1) j) f first1
-      count1 (drop_next w.items p (Procedure i first1 count1) xs d).1
+      pick (w.told i == at) refl g (λ h. address_code xs at (suc p) (beyond (RealMark i ∷ enter_items count1) j) f
+      first1 count1 (drop_next w.items p (Procedure i first1 count1) xs d).1
       (past_procedure p j i first1 count1 xs first count e) h)
     where
       pick : (c : Bool) → (w.told i == at) ≡ c

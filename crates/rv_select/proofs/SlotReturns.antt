@@ -110,7 +110,8 @@ module _ {V : Type 0} (w : Slotting V) where
       top_word : (sp + need) % 2 ^ 64 ≡ sp + need
       top_word = let x = high in omega arith
 
-      seen28 : (n1 : ℕ) (regs : Registers) (pc : ℕ) → OnlyIn 28 regs regs1 → Seen w t (record s { regs = regs; pc = pc })
+      seen28 : (n1 : ℕ) (regs : Registers) (pc : ℕ) → OnlyIn 28 regs regs1
+          → Seen w t (record s { regs = regs; pc = pc })
       seen28 n1 regs pc only =
           let s1 : State = record s { regs = regs1; pc = n1 } in
           seen_still w t s1 regs pc 28 (seen_still w t s regs1 n1 1 (seen_of w t s b) (λ q m. rw m refl) refl refl refl)

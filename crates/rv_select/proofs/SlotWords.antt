@@ -163,7 +163,8 @@ module _ {V : Type 0} (w : Slotting V) where
             comes_there (program w) (Way w t t1) Q (go (record s { regs = regs; pc = n }) (record {
               body = body_scratch w t s regs n b
                   (λ q m. get_only scratch q regs s.regs only (low_reg q scratch (readable_low q m) hi))
-                  (only 2 (low_reg 2 scratch (omega arith) hi)) (fits_only scratch word regs s.regs only e1 hi small b.fits);
+                  (only 2 (low_reg 2 scratch (omega arith) hi))
+                  (fits_only scratch word regs s.regs only e1 hi small b.fits);
               there = e1;
               others = λ q m. get_only scratch q regs s.regs only m;
             }) c1)
