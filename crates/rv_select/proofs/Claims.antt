@@ -1,5 +1,6 @@
 -- What the code of a closed program is to it.
-use Rattle.std.proofs.Common.{append_assoc, Bool, true, false, ◌&&◌, ℕ, zero, suc, ◌+◌, ◌*◌, ◌<◌, ◌≤◌, ◌≡◌, List, [], ◌∷◌}
+use Rattle.std.proofs.Common.{append_assoc, Bool, true, false, ◌&&◌, ℕ, zero, suc, ◌+◌, ◌*◌, ◌<◌, ◌≤◌, ◌≡◌, List, []}
+use Rattle.std.proofs.Common.{◌∷◌}
 use Rattle.std.proofs.Common.{◌++◌, Some, length, refl, sym, ◌∙◌, ap, subst, arith}
 use Rattle.std.specs.Prelude.{nat_lt, slice_get}
 use Rattle.run_laws.specs.Runs.{Ending}
@@ -18,9 +19,10 @@ use Rattle.rv_select.specs.declared.code.VirtualItem.{VirtualItem}
 use Rattle.rv_select.specs.declared.code.VirtualItem.TheVariants.{Mark, Procedure, Call}
 use Rattle.rv_select.specs.declared.code.VirtualItem.TheVariants.{Return}
 use Rattle.rv_select.specs.Fitting.{fits, each_fits}
-use Rattle.rv_select.specs.Marks.{procedures, numbers_from, begins_with_work, each_has_work}
+use Rattle.rv_select.specs.Marks.{procedures, numbers_from, begins_with_work, each_has_work, HaveOwn}
 use Rattle.rv_select.specs.Sizes.{HasSmallNumbers, AreSmall}
-use Rattle.rv_select.specs.Select.{put_item, source_items, is_small, second_items, compute_item, args_items, params_items}
+use Rattle.rv_select.specs.Select.{put_item, source_items, is_small, second_items, compute_item, args_items}
+use Rattle.rv_select.specs.Select.{params_items}
 use Rattle.rv_select.specs.Select.{stores_items, marks_in, code_items, out_items, body_items, procs_items}
 use Rattle.rv_select.specs.Select.{answer_items, select_items, registers_of}
 use Rattle.rv_select.specs.Selected.{IsCodeOf, Simulates, RunsAsWords}
@@ -125,7 +127,8 @@ module _ (first out : ℕ) where
               (
                 refl,
                 fit_append
-                    (code_items first out (suc (suc m) + marks_in other) one) _ (code_fits one (suc (suc m) + marks_in other) h.0)
+                    (code_items first out (suc (suc m) + marks_in other) one) _
+                    (code_fits one (suc (suc m) + marks_in other) h.0)
                     (refl, code_fits rest (suc (suc m) + marks_in other + marks_in one) h.2),
               ),
             ),
@@ -169,14 +172,16 @@ procs_order (p ∷ ps) k first mark =
     ap (λ xs. k ∷ xs) (behind_body (body_items first mark p) _ (body_is_body first mark p)
     ∙ procs_order ps (suc k) (first + p.words) (suc mark + marks_in p.code))
 
-body_works : (first mark : ℕ) (p : Proc) (ys : List VirtualItem) → begins_with_work (body_items first mark p ++ ys) ≡ true
+body_works : (first mark : ℕ) (p : Proc) (ys : List VirtualItem) → begins_with_work (body_items first mark p ++ ys)
+    ≡ true
 body_works first mark p ys =
     let params : List VirtualItem = params_items first 0 p.params in
     let code : List VirtualItem = code_items first mark (suc mark) p.code in
     let flat : (params ++ (code ++ out_items mark)) ++ ys ≡ (params ++ code) ++ (out_items mark ++ ys) =
     simp append_assoc refl in
     ap begins_with_work flat
-    ∙ work_later (params ++ code) (out_items mark ++ ys) (front params code (out_items mark) (body_is_body first mark p))
+    ∙ work_later (params ++ code) (out_items mark ++ ys) (front params code (out_items mark)
+    (body_is_body first mark p))
     refl
   where
     part : (xs ys : List VirtualItem) → AreBody (xs ++ ys) → AreBody xs
@@ -213,7 +218,8 @@ within_body n (x ∷ xs) ys h w = within_cons x h.0 (within_body n xs ys h.1 w)
         apart x b e = let same : x ≡ Procedure k first count = cc in subst IsBody same b
     within_cons x b v (suc place) k first count e = v place k first count e
 
-procs_within : (ps : List Proc) (k first mark n : ℕ) → first + registers_of ps ≤ n → Within n (procs_items k first mark ps)
+procs_within : (ps : List Proc) (k first mark n : ℕ) → first + registers_of ps ≤ n
+    → Within n (procs_items k first mark ps)
 procs_within [] k first mark n h zero k2 first2 count2 e = absurd (let z : ⊥ = cc in z)
 procs_within [] k first mark n h (suc place) k2 first2 count2 e = absurd (let z : ⊥ = cc in z)
 procs_within (p ∷ ps) k first mark n h zero k2 first2 count2 e =
@@ -222,11 +228,31 @@ procs_within (p ∷ ps) k first mark n h zero k2 first2 count2 e =
     omega (arith, h, one, two)
 procs_within (p ∷ ps) k first mark n h (suc place) k2 first2 count2 e =
     within_body n (body_items first mark p) _ (body_is_body first mark p)
-    (procs_within ps (suc k) (first + p.words) (suc mark + marks_in p.code) n (omega (arith, h))) place k2 first2 count2 e
+    (procs_within ps (suc k) (first + p.words) (suc mark + marks_in p.code) n (omega (arith, h))) place k2 first2 count2
+    e
 
 start_within : (n entry : ℕ) (xs : List VirtualItem) → Within n xs → Within n (Call entry 0 ∷ (answer_items ++ xs))
 start_within n entry xs w =
     within_body n (Call entry 0 ∷ answer_items) xs (tt, (tt, (tt, (tt, (tt, (tt, tt)))))) w
+
+own_behind : (xs ys : List VirtualItem) (from to : ℕ) → AreBody xs → HaveOwn from to ys → HaveOwn from to (xs ++ ys)
+own_behind [] ys from to h k = k
+own_behind (Procedure q first count ∷ xs) ys from to h k = absurd h.0
+own_behind (x ∷ xs) ys from to h k = own_behind xs ys from to h.1 k
+
+procs_own : (ps : List Proc) (k first mark to : ℕ) → first + registers_of ps ≡ to
+    → HaveOwn first to (procs_items k first mark ps)
+procs_own [] k first mark to h = omega (arith, h)
+procs_own (p ∷ ps) k first mark to h = (
+  refl,
+  own_behind (body_items first mark p) _ (first + p.words) to (body_is_body first mark p)
+      (procs_own ps (suc k) (first + p.words) (suc mark + marks_in p.code) to (omega (arith, h))),
+)
+
+start_own : (entry to : ℕ) (xs : List VirtualItem) → HaveOwn 0 to xs → HaveOwn 0 to (Call entry 0
+    ∷ (answer_items ++ xs))
+start_own entry to xs h =
+    own_behind (Call entry 0 ∷ answer_items) xs 0 to (tt, (tt, (tt, (tt, (tt, (tt, tt)))))) h
 
 -- ---- all of it
 
@@ -248,7 +274,9 @@ is_code procs entry closed = record {
   start = (Return ∷ procs_items 0 0 (length procs) procs, refl);
   order = procs_order procs 0 0 (length procs);
   work = procs_work procs 0 0 (length procs);
-  own = start_within (registers_of procs) entry (procs_items 0 0 (length procs) procs)
+  own = start_own entry (registers_of procs) (procs_items 0 0 (length procs) procs)
+      (procs_own procs 0 0 (length procs) (registers_of procs) (omega arith));
+  within = start_within (registers_of procs) entry (procs_items 0 0 (length procs) procs)
       (procs_within procs 0 0 (length procs) (registers_of procs) (omega arith));
   well_formed = select_well entry procs closed;
   fitting = all_fit (procs_items 0 0 (length procs) procs) (procs_fit procs 0 0 (length procs)

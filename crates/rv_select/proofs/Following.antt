@@ -5,9 +5,8 @@ use Rattle.std.specs.Prelude.{slice_get}
 use Rattle.grift_base.specs.World.{WorldState}
 use Rattle.run_laws.specs.Runs.{Ending, NeverWrong, FollowsBy, Any}
 use Rattle.run_laws.specs.Machines.{Reaches, Alike, run}
-use Rattle.run_laws.specs.Meters.{unspent, metered, each_one, OfRest, Spends, EndsInTime}
+use Rattle.run_laws.specs.Meters.{unspent, metered, each_one, OfRest, Spends}
 use Rattle.run_laws.proofs.Public.{follows_at_cost_from_start}
-use Rattle.run_laws.proofs.Public.{bounded_spending_bounds_turns-ends}
 use Rattle.run_laws.proofs.Public.{follows_from_start}
 use Rattle.rv_select.proofs.Bounded.{meter}
 use Rattle.rv_machine.specs.Memory.{Memory}
@@ -106,9 +105,3 @@ module _ {V : Type 0} (reading : Halt → Ending V) (low : LowSetting) (entry : 
         refl,
         top,
       )))) never
-
-  pub turns_select : NeverWrong (run (low_machine reading low) s0)
-      → EndsInTime rate (run (virtual_machine reading (setting_of low items)) t0)
-      (run (metered low_turns (low_machine reading low)) (record { spent = 1; rest = s0 }))
-  turns_select never = bounded_spending_bounds_turns-ends (virtual_machine reading (setting_of low items)) t0 rate
-      (costs_select never)

@@ -1,11 +1,10 @@
 -- Sets at the marks of a closed program's code, by which each item reads only what is held.
-use Rattle.std.proofs.Common.{append_assoc, ℕ, zero, suc, ◌+◌, ◌-◌, ◌*◌, ◌<◌, ◌≤◌, ◌≡◌, ◌≢◌, ◌⊎◌, inl, inr, ⊎_elim}
+use Rattle.std.proofs.Common.{append_assoc, ℕ, zero, suc, ◌+◌, ◌-◌, ◌*◌, ◌<◌, ◌≤◌, ◌≡◌, ⊎_elim}
 use Rattle.std.proofs.Common.{true, false, Bool, List, [], ◌∷◌, ◌++◌, Option, Some, None, refl, sym, ◌∙◌, ap, subst}
 use Rattle.std.proofs.Common.{arith}
 use Rattle.std.specs.Prelude.{◌==◌, ◌&&◌, ◌||◌, nat_lt, nat_le, length, slice_get, if◌then◌else◌}
 use Rattle.rv_isa.specs.declared.inst.Cond.{Cond}
 use Rattle.rv_isa.specs.declared.inst.Cond.TheVariants.{Ltu}
-use Rattle.low_ir.specs.declared.code.WordOp.{WordOp}
 use Rattle.low_ir.specs.declared.code.WordOp.TheVariants.{Add, Sub, Sll, Srl}
 use Rattle.low_ir.specs.declared.code.LowSource.{LowSource}
 use Rattle.low_ir.specs.declared.code.LowSource.TheVariants.{Word, Number}
@@ -13,9 +12,8 @@ use Rattle.low_ir.specs.Procedures.{Code, Done, Set, Compute as LowCompute, Load
 use Rattle.low_ir.specs.Procedures.{CodeOf as LowCodeOf, Build, Request, Take, Environment as LowEnvironment}
 use Rattle.low_ir.specs.Procedures.{Call as LowCall, CallAt as LowCallAt, If, Return as LowReturn}
 use Rattle.low_ir.specs.Procedures.{TailCall as LowTailCall, TailCallAt as LowTailCallAt, Proc}
-use Rattle.low_ir.specs.Closed.{all_words, go_if, meet, then_known, behind, leaves, is_there, proc_closed, each_closed}
+use Rattle.low_ir.specs.Closed.{all_words, go_if, meet, then_known, behind, is_there, proc_closed, each_closed}
 use Rattle.low_ir.specs.Closed.{takes_none, is_closed, fits, reads as code_reads, names_fit, is_read, are_read}
-use Rattle.low_ir.specs.Closed.{takes_words}
 use Rattle.rv_select.specs.declared.code.VReg.{VReg}
 use Rattle.rv_select.specs.declared.code.VReg.TheVariants.{Real, Virtual}
 use Rattle.rv_select.specs.declared.code.VirtualItem.{VirtualItem}
@@ -23,7 +21,7 @@ use Rattle.rv_select.specs.declared.code.VirtualItem.TheVariants.{Constant, Move
 use Rattle.rv_select.specs.declared.code.VirtualItem.TheVariants.{CodeOf, Mark, Procedure, Jump, Branch, Call, CallAt}
 use Rattle.rv_select.specs.declared.code.VirtualItem.TheVariants.{TailCall, TailCallAt, Return, Environment}
 use Rattle.rv_select.specs.Run.{is_fixed}
-use Rattle.rv_select.specs.Holding.{IsHolding, reads, writes, Among, falls, target, handed_on}
+use Rattle.rv_select.specs.Holding.{IsHolding, writes, Among, handed_on}
 use Rattle.rv_select.specs.Select.{put_item, source_reg, source_items, is_small, number_of, second_items, compute_item}
 use Rattle.rv_select.specs.Select.{args_items, params_items, stores_items, marks_in, code_items, out_items, body_items}
 use Rattle.rv_select.specs.Select.{procs_items, answer_items, select_items}

@@ -15,14 +15,14 @@ pub mod SlotClaims
 pub mod ImageBytes
 pub mod ImageRuns
 pub mod Public
-pub mod Bounded
-pub mod Stretches
-pub mod Fetching
-pub mod Handing
-pub mod Selecting
-pub mod Marks
-pub mod Laying
-pub mod Following
+mod Bounded
+mod Stretches
+mod Fetching
+mod Handing
+mod Selecting
+mod Marks
+mod Laying
+mod Following
 mod Emitting
 mod Closedness
 mod Procs

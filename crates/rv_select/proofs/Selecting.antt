@@ -900,7 +900,8 @@ module _ {V : Type 0} (reading : Halt → Ending V) (low : LowSetting) (items : 
             tested s1 (On s1) (suc (stores_more args 2)) (
                 does_item reading setting (Way s s1) (On s1) (stores_more args 2) t2 t3 _ lies.stands.1.1.0
                 (branched false lt) (way_first s s1 t2 on.body) (
-                stored s s1 bytes (On s1) 2 tail on.body.6 on.body.7 args ws 0 s.alloc t3 (omega arith) e on.active.locals
+                stored s s1 bytes (On s1) 2 tail on.body.6 on.body.7 args ws 0 s.alloc t3 (omega arith) e
+                on.active.locals
                 refl (let y = within_top (s.alloc + 8 * length ws) low.top h in
                 omega (arith, y)) (seen s t3 on.body) after.stands refl (λ regs known pc same place sn v6.
                 let u : VirtualState = record t3 {
@@ -1064,7 +1065,12 @@ module _ {V : Type 0} (reading : Halt → Ending V) (low : LowSetting) (items : 
                     locals = λ i. set_shifted t.active.found.first e a1 i (set_local (t.active.found.first + d) a0
                         t.active.locals) (set_local d a0 s.active.locals) (set_shifted t.active.found.first d a0 i
                         t.active.locals s.active.locals (on.active.locals i));
-                    lies = record { stands = lies.stands.1.1.1.1.1.1; finds = lies.finds.1.1.1.1.1.1; leads = lies.leads };
+                    lies = record {
+                      stands = lies.stands.1.1.1.1.1.1;
+                      finds = lies.finds.1.1.1.1.1.1;
+                      leads =
+                          lies.leads;
+                    };
                   };
                   behind = on.behind;
                   body = body;

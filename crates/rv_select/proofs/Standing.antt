@@ -1,7 +1,7 @@
 -- In the code of a closed program each mark that is named stands, and its real registers are those that code may read.
 use Rattle.std.proofs.Common.{Bool, true, false, ℕ, zero, suc, ◌+◌, ◌<◌, ◌≤◌, ◌≡◌, ◌⊎◌, inl, inr, List, [], ◌∷◌, ◌++◌}
-use Rattle.std.proofs.Common.{length, refl, sym, ◌∙◌, ap, subst, ⊎_elim, arith}
-use Rattle.std.specs.Prelude.{All, Contains, slice_get, Some}
+use Rattle.std.proofs.Common.{length, refl, sym, subst, arith}
+use Rattle.std.specs.Prelude.{All, Contains}
 use Rattle.std.proofs.lemmas.Bool.{cases_lt}
 use Rattle.std.proofs.lemmas.List.Elements.{All-nil, All-cons, Contains-append_left, Contains-append_right}
 use Rattle.low_ir.specs.declared.code.WordOp.{WordOp}
@@ -15,9 +15,8 @@ use Rattle.low_ir.specs.Closed.{is_closed}
 use Rattle.rv_select.specs.declared.code.VReg.{VReg}
 use Rattle.rv_select.specs.declared.code.VReg.TheVariants.{Real, Virtual}
 use Rattle.rv_select.specs.declared.code.VirtualItem.{VirtualItem}
-use Rattle.rv_select.specs.declared.code.VirtualItem.TheVariants.{Constant, Move, Compute, ComputeWith, Load, Store}
-use Rattle.rv_select.specs.declared.code.VirtualItem.TheVariants.{CodeOf, Mark, Procedure, Jump, Branch, Call, CallAt}
-use Rattle.rv_select.specs.declared.code.VirtualItem.TheVariants.{TailCall, TailCallAt, Return, Environment}
+use Rattle.rv_select.specs.declared.code.VirtualItem.TheVariants.{Move}
+use Rattle.rv_select.specs.declared.code.VirtualItem.TheVariants.{Mark, Procedure, Jump}
 use Rattle.rv_select.specs.Run.{may_read}
 use Rattle.rv_select.specs.Marks.{marks}
 use Rattle.rv_select.specs.WellFormed.{marks_named, IsReadable, IsWellFormed}
@@ -25,7 +24,7 @@ use Rattle.rv_select.specs.Holding.{reads, writes, handed_on}
 use Rattle.rv_select.specs.Sizes.{HasSmallNumbers, AreSmall}
 use Rattle.rv_select.specs.Select.{put_item, source_reg, source_items, is_small, second_items, compute_item, args_items}
 use Rattle.rv_select.specs.Select.{params_items, stores_items, marks_in, code_items, out_items, body_items, procs_items}
-use Rattle.rv_select.specs.Select.{answer_items, select_items}
+use Rattle.rv_select.specs.Select.{select_items}
 use Rattle.rv_select.proofs.Marks.{marks_append, select_distinct}
 use Rattle.rv_select.proofs.Closedness.{NamesThere, AllThere, closed_small, closed_there, closed_within}
 
@@ -35,10 +34,12 @@ abbrev Has : List VirtualItem → ℕ → Type 0
 Has xs w = Contains (marks xs) w
 
 front : (xs ys : List VirtualItem) (w : ℕ) → Has xs w → Has (xs ++ ys) w
-front xs ys w h = subst (λ ms. Contains ms w) (sym (marks_append xs ys)) (Contains-append_left (marks xs) (marks ys) w h)
+front xs ys w h = subst (λ ms. Contains ms w) (sym (marks_append xs ys))
+    (Contains-append_left (marks xs) (marks ys) w h)
 
 later : (xs ys : List VirtualItem) (w : ℕ) → Has ys w → Has (xs ++ ys) w
-later xs ys w h = subst (λ ms. Contains ms w) (sym (marks_append xs ys)) (Contains-append_right (marks xs) (marks ys) w h)
+later xs ys w h = subst (λ ms. Contains ms w) (sym (marks_append xs ys))
+    (Contains-append_right (marks xs) (marks ys) w h)
 
 first_one : (w : ℕ) (ms : List ℕ) → Contains (w ∷ ms) w
 first_one w ms = (0, omega arith, refl)
@@ -299,14 +300,21 @@ module _ (S : List ℕ) where
         ((tt, (refl, (readable_source first 7 f refl, handed args h.0))), (answer_well d, code_well rest m h.1 t s)))
     code_well (If cond a b one other rest) m h t s =
         with_source 5 a _ refl (with_source 6 b _ refl (
-          ((s m (omega arith) (omega arith), tt), (readable_source first 5 a refl, (readable_source first 6 b refl, tt))),
+          (
+            (s m (omega arith) (omega arith), tt),
+            (
+              readable_source first 5 a refl,
+              (readable_source first 6 b refl, tt),
+            ),
+          ),
           well_append (code_items first out (suc (suc m)) other) _
               (code_well other (suc (suc m)) h.1 t.1 (λ w p q. s w (omega (arith, p)) (omega (arith, q)))) (
                 ((s (suc m) (omega arith) (omega arith), tt), tt),
                 (
                   (tt, tt),
                   well_append (code_items first out (suc (suc m) + marks_in other) one) _
-                      (code_well one (suc (suc m) + marks_in other) h.0 t.0 (λ w p q. s w (omega (arith, p)) (omega (arith, q)))) (
+                      (code_well one (suc (suc m) + marks_in other) h.0 t.0
+                      (λ w p q. s w (omega (arith, p)) (omega (arith, q)))) (
                         (tt, tt),
                         code_well rest (suc (suc m) + marks_in other + marks_in one) h.2 t.2
                             (λ w p q. s w (omega (arith, p)) (omega (arith, q))),
@@ -370,7 +378,8 @@ module _ (S : List ℕ) where
         ),
       )
 
-pub select_well : (entry : ℕ) (procs : List Proc) → is_closed procs entry ≡ true → IsWellFormed (select_items entry procs)
+pub select_well : (entry : ℕ) (procs : List Proc) → is_closed procs entry ≡ true
+    → IsWellFormed (select_items entry procs)
 select_well entry procs closed = record {
   distinct = select_distinct entry procs;
   named = named_in items well;

@@ -1,6 +1,6 @@
 -- A holding with a slot for each virtual register, from sets that are given at the marks alone.
-use Rattle.std.proofs.Common.{ℕ, zero, suc, ◌+◌, ◌<◌, ◌≤◌, ◌≡◌, ◌≢◌, ◌⊎◌, inl, inr, ⊎_elim, true, false, Bool, List, []}
-use Rattle.std.proofs.Common.{◌∷◌, Option, Some, None, refl, sym, ◌∙◌, ap, subst, arith}
+use Rattle.std.proofs.Common.{ℕ, zero, suc, ◌≡◌, ◌≢◌, ◌⊎◌, inl, inr, ⊎_elim, true, false, Bool, List, []}
+use Rattle.std.proofs.Common.{◌∷◌, Some, refl, sym, ◌∙◌, ap, subst, arith}
 use Rattle.std.specs.Prelude.{◌==◌, ◌&&◌, ◌||◌, slice_get}
 use Rattle.rv_select.specs.declared.code.VReg.{VReg}
 use Rattle.rv_select.specs.declared.code.VReg.TheVariants.{Real, Virtual}
@@ -12,7 +12,7 @@ use Rattle.rv_select.specs.Run.{is_fixed}
 use Rattle.rv_select.specs.declared.code.Place.{Place}
 use Rattle.rv_select.specs.declared.code.Place.TheVariants.{InReg, Slot}
 use Rattle.rv_select.specs.Holding.{place_of, reads, writes, Among, NoneAt, SparedByCall, SparedBy, falls, target}
-use Rattle.rv_select.specs.Holding.{MayFollow, IsHolding}
+use Rattle.rv_select.specs.Holding.{IsHolding}
 
 abbrev pub own : ℕ → Place
 own v = Slot v

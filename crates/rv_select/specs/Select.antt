@@ -1,5 +1,5 @@
--- The code of a program over words. Each word of a procedure becomes a virtual register of its own; numbers that an item
--- can't hold go through x5, x6 and x7. A part of code is told what comes behind it.
+-- The code of a program over words. Each word of a procedure becomes a virtual register of its own; numbers that an
+-- item can't hold go through x5, x6 and x7. A part of code is told what comes behind it.
 use Rattle.std.specs.Prelude.{Bool, true, false, ℕ, zero, suc, ◌+◌, ◌*◌, List, [], ◌∷◌, ◌++◌, length}
 use Rattle.rv_isa.specs.declared.inst.Cond.{Cond}
 use Rattle.rv_isa.specs.declared.inst.Cond.TheVariants.{Ltu}
@@ -86,7 +86,8 @@ module _ (first : ℕ) where
   store_items b a offset more =
       source_items 5 a ++ (source_items 6 b ++ (Store (source_reg first 6 b) (source_reg first 5 a) offset ∷ more))
 
-  -- the test for room, the words, and then the allocation word moves past them; told the mark behind which there is none
+  -- the test for room, the words, and then the allocation word moves past them; told the mark behind which there is
+  -- no room
   abbrev pub build_items : ℕ → ℕ → List LowSource → List VirtualItem → List VirtualItem
   build_items out d args more =
       Compute Sub (Real 5) (Real 27) (Real 26) ∷ Constant (Real 6) (8 * length args) ∷ Branch Ltu (Real 5) (Real 6) out
@@ -177,7 +178,8 @@ module _ (first out : ℕ) where
 
 -- where a request finds no room; the jump is never reached
 abbrev pub out_items : ℕ → List VirtualItem
-out_items out = Mark out ∷ Constant (Real 10) 0 ∷ Constant (Real 11) 0 ∷ Constant (Real 17) 5 ∷ Environment ∷ Jump out ∷ []
+out_items out =
+    Mark out ∷ Constant (Real 10) 0 ∷ Constant (Real 11) 0 ∷ Constant (Real 17) 5 ∷ Environment ∷ Jump out ∷ []
 
 -- the code of a procedure behind its mark; its own marks are numbered from one on
 abbrev pub body_items : ℕ → ℕ → Proc → List VirtualItem

@@ -16,7 +16,7 @@ use Rattle.rv_select.specs.declared.code.VirtualItem.{VirtualItem}
 use Rattle.rv_select.specs.declared.code.VirtualItem.TheVariants.{Constant, Move, Procedure, Call, Environment}
 use Rattle.rv_select.specs.Fitting.{each_fits}
 use Rattle.rv_select.specs.Holding.{Sets, IsHolding}
-use Rattle.rv_select.specs.Marks.{procedures, numbers_from, each_has_work}
+use Rattle.rv_select.specs.Marks.{procedures, numbers_from, each_has_work, HaveOwn}
 use Rattle.rv_select.specs.WellFormed.{IsWellFormed}
 use Rattle.rv_select.specs.Run.{Setting, Shown, virtual_machine, virtual_start}
 use Rattle.rv_select.specs.Select.{select_items, registers_of}
@@ -49,8 +49,8 @@ pub record Begins (low : LowSetting) (entry : ℕ) (p : Proc) (regs : Registers)
   pub alloc : regs 26 ≡ low.region
   pub region_end : regs 27 ≡ low.top
 
--- from such a beginning the run of the items follows the run over words, and shows the same region; of its items it takes
--- at most nine for each turn of that run, and as many for the start
+-- from such a beginning the run of the items follows the run over words, and shows the same region; it takes at most
+-- nine items for each turn of that run, and as many for the start
 pub record Simulates {V : Type 0} (reading : Halt → Ending V) (low : LowSetting) (items : List VirtualItem) (p : Proc)
     (regs : Registers) (memory : Memory) (world : WorldState) : Type 0 where
   pub follows : FollowsBy (SameRegion (regs 25) low.top) Any
@@ -72,20 +72,21 @@ RunsAsWords reading items procs entry =
 -- a call of the first procedure, and then environment call 0 with kind 0 and its answer
 abbrev pub BeginsAsSaid : List VirtualItem → ℕ → Type 0
 BeginsAsSaid items entry =
-    (rest : List VirtualItem)
-    × (items ≡ Call entry 0 ∷ Move (Real 11) (Real 10) ∷ Constant (Real 10) 0 ∷ Constant (Real 17) 0 ∷ Environment ∷ rest)
+    (rest : List VirtualItem) × (items ≡ Call entry 0 ∷ Move (Real 11) (Real 10) ∷ Constant (Real 10) 0
+    ∷ Constant (Real 17) 0 ∷ Environment ∷ rest)
 
--- the items are the code of these procedures, which begins with the one of a number; they have so many virtual registers
+-- the items, with so many virtual registers, are the code of these procedures, which begins with the one of a number
 pub record IsCodeOf (items : List VirtualItem) (registers : ℕ) (procs : List Proc) (entry : ℕ) : Type 0 where
   -- what it is
   pub exactly : items ≡ select_items entry procs
   pub counted : registers ≡ registers_of procs
   -- how it begins
   pub start : BeginsAsSaid items entry
-  -- procedures stand in order of their numbers, each with an item that isn't a mark, and with registers that are counted
+  -- procedures stand in order of their numbers, each with an item that isn't a mark and with registers of its own
   pub order : procedures items ≡ numbers_from 0 (length procs)
   pub work : each_has_work items ≡ true
-  pub own : (place k first count : ℕ) → slice_get items place ≡ Some (Procedure k first count)
+  pub own : HaveOwn 0 registers items
+  pub within : (place k first count : ℕ) → slice_get items place ≡ Some (Procedure k first count)
       → first + count ≤ registers
   -- what is named is there, and each number fits its item
   pub well_formed : IsWellFormed items
