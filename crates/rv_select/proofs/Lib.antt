@@ -14,3 +14,4 @@ mod Claims
 mod Walking
 mod Goods
 mod Standing
+mod Samples
