@@ -31,3 +31,4 @@ mod Claims
 mod Walking
 mod Goods
 mod Standing
+mod Samples
