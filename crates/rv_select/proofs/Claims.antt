@@ -256,6 +256,7 @@ start_own entry to xs h =
 
 -- ---- all of it
 
+-- the run of the code follows the run over words
 pub runs : {V : Type 0} (reading : Halt → Ending V) (procs : List Proc) (entry : ℕ)
     → RunsAsWords reading (select_items entry procs) procs entry
 runs reading procs entry low p regs memory world same b never =
@@ -266,6 +267,7 @@ runs reading procs entry low p regs memory world same b never =
           b.region_end never;
     })
 
+-- the code of a closed program is all that is claimed
 pub is_code : (procs : List Proc) (entry : ℕ) → is_closed procs entry ≡ true
     → IsCodeOf (select_items entry procs) (registers_of procs) procs entry
 is_code procs entry closed = record {
@@ -285,6 +287,7 @@ is_code procs entry closed = record {
   runs = λ reading. runs reading procs entry;
 }
 
+-- what is equal to it is so too
 pub is_code_of : (procs : List Proc) (entry : ℕ) (items : List VirtualItem) (registers : ℕ)
     → is_closed procs entry ≡ true → items ≡ select_items entry procs → registers ≡ registers_of procs
     → IsCodeOf items registers procs entry

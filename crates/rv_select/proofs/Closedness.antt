@@ -52,6 +52,7 @@ NamesThere n (Return a) = Unit {0}
 NamesThere n (TailCall k args) = k < n
 NamesThere n (TailCallAt f args) = Unit {0}
 
+-- those of each procedure
 abbrev pub AllThere : ℕ → List Proc → Type 0
 AllThere n [] = Unit {0}
 AllThere n (p ∷ ps) = NamesThere n p.code × AllThere n ps
@@ -77,6 +78,7 @@ module _ {A : Type 0} (K : Knowledge A) (procs : List Proc) (n : ℕ)
       let p = passed (are_read K n known (reads c) && names_fit procs n c) o h in
       ((both (are_read K n known (reads c)) (names_fit procs n c) p.0).1, p.1)
 
+  -- code of which something is known behind it has small numbers
   pub behind_small : (c : Code) (known : A) → is_there (behind K procs n known c) ≡ true → HasSmallNumbers c
   behind_small Done known h = tt
   behind_small (Set d a rest) known h =
@@ -122,6 +124,7 @@ module _ {A : Type 0} (K : Knowledge A) (procs : List Proc) (n : ℕ)
   is_there_at k args None e h = absurd (let z : ⊥ = cc in z)
   is_there_at k args (Some p) e h = slice_get_within procs k p e
 
+  -- code of which something is known behind it names procedures that are there
   pub behind_there : (c : Code) (known : A) → is_there (behind K procs n known c) ≡ true
       → NamesThere (length procs) c
   behind_there Done known h = tt
@@ -166,6 +169,7 @@ pub record ClosedParts (procs : List Proc) (p : Proc) : Type 0 where
   pub leaves : leaves p.code ≡ true
   pub there : is_there (behind all_words procs p.words (λ i. nat_lt i p.params) p.code) ≡ true
 
+-- what it is for a procedure to be closed
 pub closed_parts : (procs : List Proc) (p : Proc) → proc_closed procs p ≡ true → ClosedParts procs p
 closed_parts procs p h =
     let there = is_there (behind all_words procs p.words (λ i. nat_lt i p.params) p.code) in
@@ -190,6 +194,7 @@ closed_at procs (q ∷ ps) zero p h e =
 closed_at procs (q ∷ ps) (suc k) p h e =
     closed_at procs ps k p (both (proc_closed procs q) (each_closed procs ps) h).1 e
 
+-- all numbers of a closed program are small
 pub closed_small : (procs : List Proc) (entry : ℕ) → is_closed procs entry ≡ true → AreSmall procs
 closed_small procs entry h = small procs (both (takes_none (slice_get procs entry)) (each_closed procs procs) h).1
   where
@@ -206,6 +211,7 @@ closed_small procs entry h = small procs (both (takes_none (slice_get procs entr
         let parts = closed_parts procs p x.0 in
         ((parts.few, behind_small all_words procs p.words few p.code _ parts.there), small ps x.1)
 
+-- all procedures that it names are there
 pub closed_there : (procs : List Proc) (entry : ℕ) → is_closed procs entry ≡ true → AllThere (length procs) procs
 closed_there procs entry h = there procs all
   where
@@ -235,6 +241,7 @@ closed_entry procs entry h =
         none : (n : ℕ) → (n == 0) ≡ true → n ≡ 0
         none n c = grind arith
 
+-- the procedure that it begins with is there
 pub closed_within : (procs : List Proc) (entry : ℕ) → is_closed procs entry ≡ true → entry < length procs
 closed_within procs entry h =
     let found = closed_entry procs entry h in slice_get_within procs entry found.0 found.1

@@ -22,6 +22,7 @@ args_next first from (suc i) (x ∷ xs) d h =
     ap (λ ys. put_item first (Real (10 + from)) x ∷ ys) (args_next first (suc from) i xs d (omega (arith, h))
     ∙ ap (λ n. args_items first (suc from) (take i xs) ++ (put_item first (Real (10 + n)) (get_or xs i d) ∷ [])) same)
 
+-- one more word is handed on
 pub args_more : (first i : ℕ) (xs : List LowSource) (d : LowSource) (item : VirtualItem)
     (items old before : List VirtualItem) → i < length xs → item ≡ put_item first (Real (10 + i)) (get_or xs i d)
     → before ≡ old ++ args_items first 0 (take i xs) → items ≡ before ++ (item ∷ [])
@@ -45,6 +46,7 @@ params_next first from (suc n) =
     ap (λ ys. Move (Virtual (first + from)) (Real (10 + from)) ∷ ys) (params_next first (suc from) n
     ∙ ap (λ m. params_items first (suc from) n ++ (Move (Virtual (first + m)) (Real (10 + m)) ∷ [])) same)
 
+-- one more parameter is taken
 pub params_more : (first i : ℕ) (items old before : List VirtualItem) → before ≡ old ++ params_items first 0 i
     → items ≡ before ++ (Move (Virtual (first + i)) (Real (10 + i)) ∷ [])
     → items ≡ old ++ params_items first 0 (i + 1)
@@ -74,6 +76,7 @@ stores_next first offset (suc i) (x ∷ xs) d h =
     ∙ ap (λ n. later ++ (source_items 5 y ++ (Store (source_reg first 5 y) (Real 26) n ∷ []))) same)
     ∙ sym (append_assoc (source_items 5 x) (one ∷ later) _)
 
+-- one more word is stored
 pub stores_more : (first i : ℕ) (xs : List LowSource) (d : LowSource) (items old before middle : List VirtualItem)
     → i < length xs → before ≡ old ++ stores_items first 0 (take i xs)
     → middle ≡ before ++ source_items 5 (get_or xs i d)
@@ -102,6 +105,7 @@ joined i as_ bs cs ds rs x y z w = simp append_assoc refl
 
 module _ (first out m at_one m1 at_end m2 m3 m4 : ℕ) (cond : Cond) (a b : LowSource) (one other rest : Code)
     (i0 i1 i2 i3 i4 i5 i6 : List VirtualItem) where
+  -- a branch is put part by part
   pub if_more : at_one ≡ m → m1 ≡ m + 1 → at_end ≡ m1 → m2 ≡ m1 + 1 → m3 ≡ m2 + marks_in other
       → m4 ≡ m3 + marks_in one → i1 ≡ i0 ++ branch_items first cond a b at_one []
       → i2 ≡ i1 ++ code_items first out m2 other → i3 ≡ i2 ++ (Jump at_end ∷ []) → i4 ≡ i3 ++ (Mark at_one ∷ [])
@@ -116,6 +120,7 @@ module _ (first out m at_one m1 at_end m2 m3 m4 : ℕ) (cond : Cond) (a b : LowS
       (code_items first out (suc (suc m) + marks_in other + marks_in one) rest)
       (Branch cond (source_reg first 5 a) (source_reg first 6 b) m) (Jump (suc m)) (Mark m) (Mark (suc m)))
 
+-- and has so many marks
 pub marks_more : (m m1 m2 m3 m4 : ℕ) (cond : Cond) (a b : LowSource) (one other rest : Code) → m1 ≡ m + 1
     → m2 ≡ m1 + 1 → m3 ≡ m2 + marks_in other → m4 ≡ m3 + marks_in one
     → m4 + marks_in rest ≡ m + marks_in (If cond a b one other rest)

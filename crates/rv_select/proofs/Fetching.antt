@@ -24,6 +24,7 @@ use Rattle.rv_select.proofs.Stretches.{beyond}
 abbrev pub Scratch : ℕ → Type 0
 Scratch r = (may_write r ≡ true) × (may_read r ≡ true) × ((r == 0) ≡ false) × ((r == r) ≡ true)
 
+-- it is another register
 abbrev pub NotIn : ℕ → VReg → Type 0
 NotIn r (Real q) = (q == r) ≡ false
 NotIn r (Virtual v) = Unit {0}
@@ -33,6 +34,7 @@ pub record Kept (t : VirtualState) (r : ℕ) (regs : Registers) (known : ℕ →
   pub same : (q : ℕ) → (q == r) ≡ false → regs q ≡ t.regs q
   pub still : (q : ℕ) → t.known q ≡ true → known q ≡ true
 
+-- a register for numbers is none of x25, x26 and x27
 pub kept_fixed : {t : VirtualState} {r : ℕ} {regs : Registers} {known : ℕ → Bool} → Kept t r regs known
     → (25 == r) ≡ false → (26 == r) ≡ false → (27 == r) ≡ false → SameFixed regs t.regs
 kept_fixed kept h k l = record { stack = kept.same 25 h; alloc = kept.same 26 k; top = kept.same 27 l }
@@ -44,6 +46,7 @@ kept_word true false true k1 a b w e h f = ap (λ z. if z then Some b else None)
 kept_word true false false k1 a b w e h f = absurd (let z : ⊥ = cc in z)
 kept_word false d k k1 a b w e h f = f
 
+-- what is in other registers is known as before
 pub kept_value : (t : VirtualState) (r : ℕ) (regs : Registers) (known : ℕ → Bool) (pc : ℕ) → Kept t r regs known
     → (v : VReg) (w : ℕ) → NotIn r v → value t v ≡ Some w → value (record t { regs = regs; known = known; pc = pc }) v
     ≡ Some w
@@ -65,6 +68,7 @@ wrote_kept t r word v w n e =
       still = λ q h. still_known (q == r) (t.known q) h;
     }) v w n e
 
+-- a source is in no other register than that for numbers
 pub source_apart : (first r q : ℕ) (a : LowSource) → (r == q) ≡ false → (0 == q) ≡ false
     → NotIn q (source_reg first r a)
 source_apart first r q (Word i) h z = tt
@@ -77,11 +81,13 @@ fetches (Word i) k = k
 fetches (Number zero) k = k
 fetches (Number (suc n)) k = suc k
 
+-- one step more at most
 pub fetches_le : (a : LowSource) (k : ℕ) → fetches a k ≤ suc k
 fetches_le (Word i) k = omega arith
 fetches_le (Number zero) k = omega arith
 fetches_le (Number (suc n)) k = omega arith
 
+-- and none less
 pub fetches_ge : (a : LowSource) (k : ℕ) → k ≤ fetches a k
 fetches_ge (Word i) k = omega arith
 fetches_ge (Number zero) k = omega arith
@@ -106,6 +112,7 @@ module _ {V : Type 0} (reading : Halt → Ending V) (setting : Setting) where
   N = virtual_machine reading setting
 
   module _ (P Q : VirtualState → Type 0) (l : Locals) where
+    -- one source is fetched, and then go on
     pub fetch : (r : ℕ) → Scratch r → (a : LowSource) (x : ℕ) (t : VirtualState) (rest : List VirtualItem) (k : ℕ)
         → word_of l a ≡ Some x → ((i : ℕ) → t.active.locals (t.active.found.first + i) ≡ l i)
         → Stands reading setting t.pc (source_items r a ++ rest) → P t

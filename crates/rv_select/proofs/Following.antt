@@ -68,6 +68,7 @@ module _ {V : Type 0} (reading : Halt → Ending V) (low : LowSetting) (entry : 
         body = (refl, alloc, refl, refl, top, fits, even, omega arith, refl);
       })
 
+  -- the whole runs
   pub follows_select : NeverWrong (run (low_machine reading low) s0)
       → FollowsBy (SameRegion (regs 25) low.top) Any (run (virtual_machine reading (setting_of low items)) t0)
       (run (low_machine reading low) s0)

@@ -1,8 +1,8 @@
 -- What holds between a state of the virtual run and one of the machine that runs the code with slots: the registers and
 -- the region are the same, and the stack has a frame for each active procedure.
-use Rattle.std.proofs.Common.{ℕ, zero, suc, ◌+◌, ◌-◌, ◌*◌, ◌/◌, ◌%◌, ◌^◌, ◌<◌, ◌≤◌, ◌≡◌, ◌⊎◌, inl, inr, ⊎_elim, Bool}
+use Rattle.std.proofs.Common.{ℕ, ◌+◌, ◌-◌, ◌*◌, ◌/◌, ◌%◌, ◌^◌, ◌<◌, ◌≤◌, ◌≡◌, ◌⊎◌, inl, inr, ⊎_elim, Bool}
 use Rattle.std.proofs.Common.{true, false, List, [], ◌∷◌, ◌++◌, Some, None, drop, refl, sym, ◌∙◌, ap, subst, arith}
-use Rattle.std.specs.Prelude.{◌==◌, ◌&&◌, ◌||◌, not, nat_lt, nat_le, if◌then◌else◌, length, slice_get}
+use Rattle.std.specs.Prelude.{◌==◌, ◌&&◌, not, nat_lt, nat_le, if◌then◌else◌, slice_get}
 use Rattle.grift_base.specs.World.{WorldState}
 use Rattle.run_laws.specs.Runs.{Ending, Any}
 use Rattle.run_laws.specs.Machines.{Machine, Alike, OnTheWay}
@@ -17,7 +17,7 @@ use Rattle.rv_machine.proofs.Public.{has_item-append}
 use Rattle.low_ir.specs.Steps.{set_local}
 use Rattle.rv_select.specs.declared.code.VirtualItem.{VirtualItem}
 use Rattle.rv_select.specs.declared.code.VirtualItem.TheVariants.{Procedure}
-use Rattle.rv_select.specs.Run.{Setting, Found, Active, Frame, VirtualState, Shown, may_read, may_write, is_own}
+use Rattle.rv_select.specs.Run.{Setting, Found, Active, Frame, VirtualState, Shown, may_read, is_own}
 use Rattle.rv_select.specs.Slots.{slot_offset, frame_size, expand_all, final_items, slots_items}
 use Rattle.rv_select.specs.Stacks.{stack_of, stacked_machine}
 use Rattle.rv_select.specs.Slotted.{IsSeenAs, Lies}
@@ -272,16 +272,16 @@ module _ {V : Type 0} (w : Slotting V) where
       let at : ℕ = sp + slot_offset a.found.first v in
       let m1 : Memory = store_bytes 8 m at word in
       let inside = slot_inside a.found v own in (
-      record {
-        slots = λ u x e. slot u x (u == v) refl e;
-        aligned = k.0.aligned;
-        room = k.0.room;
-        back = subst (λ x. Stand x (rest_of f.active.found f.back))
-            (sym (load_other 8 8 m at word sp (inl (omega arith)))) k.0.back;
-        home = k.0.home;
-      },
-      stack_same m m1 (sp + frame_size a.found.count) f.active fs
-          (λ i h. sym (stored_outside 8 m at word i (inr (omega (arith, inside, h))))) k.1,
+        record {
+          slots = λ u x e. slot u x (u == v) refl e;
+          aligned = k.0.aligned;
+          room = k.0.room;
+          back = subst (λ x. Stand x (rest_of f.active.found f.back))
+              (sym (load_other 8 8 m at word sp (inl (omega arith)))) k.0.back;
+          home = k.0.home;
+        },
+        stack_same m m1 (sp + frame_size a.found.count) f.active fs
+            (λ i h. sym (stored_outside 8 m at word i (inr (omega (arith, inside, h))))) k.1,
       )
     where
       slot : (u x : ℕ) (c : Bool) → (u == v) ≡ c → (if u == v then Some word else a.locals u) ≡ Some x
@@ -291,17 +291,20 @@ module _ {V : Type 0} (w : Slotting V) where
       slot u x true h e =
           let at : ℕ = sp + slot_offset a.found.first v in
           let same : u ≡ v = equal_of u v h in
-          let is : word ≡ x = some_is word x (ap (λ c. if c then Some word else a.locals u) (sym h) ∙ e) in
-          (subst (λ z. is_own a.found z ≡ true) (sym same) own,
-          ap (λ z. load_bytes 8 (store_bytes 8 m at word) (sp + slot_offset a.found.first z)) same
-          ∙ (load_stored 8 m at word small ∙ is))
+          let is : word ≡ x = some_is word x (ap (λ c. if c then Some word else a.locals u) (sym h) ∙ e) in (
+            subst (λ z. is_own a.found z ≡ true) (sym same) own,
+            ap (λ z. load_bytes 8 (store_bytes 8 m at word) (sp + slot_offset a.found.first z)) same
+                ∙ (load_stored 8 m at word small ∙ is),
+          )
       slot u x false h e =
           let z = k.0.slots u x (ap (λ c. if c then Some word else a.locals u) (sym h) ∙ e) in
           let o = own_first a.found v own in
           let p = own_first a.found u z.0 in
-          let d = slots_apart a.found.first v u o.0 p.0 h in
-          (z.0, load_other 8 8 m (sp + slot_offset a.found.first v) word (sp + slot_offset a.found.first u)
-          (⊎_elim (λ y. inl (omega (arith, y))) (λ y. inr (omega (arith, y))) d) ∙ z.1)
+          let d = slots_apart a.found.first v u o.0 p.0 h in (
+            z.0,
+            load_other 8 8 m (sp + slot_offset a.found.first v) word (sp + slot_offset a.found.first u)
+                (⊎_elim (λ y. inl (omega (arith, y))) (λ y. inr (omega (arith, y))) d) ∙ z.1,
+          )
 
   -- ---- states
 

@@ -29,6 +29,10 @@ use Rattle.rv_select.proofs.Closedness.{closed_parts}
 use Rattle.rv_select.proofs.Walking.{own, walk, walked, is_reg, among, is_spared, before, after, ReadsHeld, NextOk}
 use Rattle.rv_select.proofs.Walking.{Good, and_split, or_split}
 
+-- the words of a procedure that are set
+abbrev pub Known : Type 0
+Known = ℕ → Bool
+
 or_right : (c d : Bool) → d ≡ true → (c || d) ≡ true
 or_right true d h = refl
 or_right false d h = h
@@ -49,18 +53,18 @@ is_self : (a : VReg) → is_reg a a ≡ true
 is_self (Real r) = equal_self r
 is_self (Virtual v) = equal_self v
 
-abbrev also : ℕ → (ℕ → Bool) → ℕ → Bool
+abbrev also : ℕ → Known → ℕ → Bool
 also d known i = (i == d) || known i
 
-abbrev both : (ℕ → Bool) → (ℕ → Bool) → ℕ → Bool
+abbrev both : Known → Known → ℕ → Bool
 both a b i = a i && b i
 
 -- a source has a word
-abbrev is_known : (ℕ → Bool) → LowSource → Bool
+abbrev is_known : Known → LowSource → Bool
 is_known known (Word i) = known i
 is_known known (Number n) = true
 
-abbrev are_known : (ℕ → Bool) → List LowSource → Bool
+abbrev are_known : Known → List LowSource → Bool
 are_known known [] = true
 are_known known (a ∷ args) = is_known known a && are_known known args
 
@@ -85,6 +89,7 @@ read_then : (n : ℕ) (known : ℕ → Bool) (a : LowSource) (args : List LowSou
     → are_read all_words n known (a ∷ args) ≡ true → are_read all_words n known args ≡ true
 read_then n known a args h = (and_split (is_read all_words n known a) (are_read all_words n known args) h).1
 
+-- a set of registers
 abbrev pub Held : Type 0
 Held = VReg → Bool
 
@@ -102,15 +107,16 @@ reg_there : (rd : VReg) (L : Held) → with_reg rd L rd ≡ true
 reg_there rd L = or_left (among rd (rd ∷ [])) (L rd) (or_left (is_reg rd rd) false (is_self rd))
 
 -- the fixed registers, and a procedure's words that are set
-abbrev pub lift : ℕ → (ℕ → Bool) → Held
+abbrev pub lift : ℕ → Known → Held
 lift first known (Real r) = is_fixed r
 lift first known (Virtual v) = nat_le first v && known (v - first)
 
-abbrev pub Has : Held → ℕ → (ℕ → Bool) → Type 0
+-- it has the fixed registers and the words that are known
+abbrev pub Has : Held → ℕ → Known → Type 0
 Has L first known = ((r : ℕ) → is_fixed r ≡ true → L (Real r) ≡ true) × ((i : ℕ) → known i ≡ true
     → L (Virtual (first + i)) ≡ true)
 
-lifted : (L : Held) (first : ℕ) (known : (ℕ → Bool)) → Has L first known → (a : VReg) → lift first known a ≡ true
+lifted : (L : Held) (first : ℕ) (known : Known) → Has L first known → (a : VReg) → lift first known a ≡ true
     → L a ≡ true
 lifted L first known h (Real r) e = h.0 r e
 lifted L first known h (Virtual v) e =
@@ -119,7 +125,7 @@ lifted L first known h (Virtual v) e =
     let same : first + (v - first) ≡ v = grind arith in
     subst (λ x. L (Virtual x) ≡ true) same (h.1 (v - first) k.1)
 
-lift_has : (L : Held) (first : ℕ) (known : (ℕ → Bool)) → ((a : VReg) → L a ≡ lift first known a) → Has L first known
+lift_has : (L : Held) (first : ℕ) (known : Known) → ((a : VReg) → L a ≡ lift first known a) → Has L first known
 lift_has L first known e = (
   λ r h. e (Real r) ∙ h,
   λ i h.
@@ -128,10 +134,10 @@ lift_has L first known e = (
       e (Virtual (first + i)) ∙ and_both (nat_le first (first + i)) (known (first + i - first)) le (ap known same ∙ h),
 )
 
-has_up : (L K : Held) (first : ℕ) (known : (ℕ → Bool)) → Up L K → Has L first known → Has K first known
+has_up : (L K : Held) (first : ℕ) (known : Known) → Up L K → Has L first known → Has K first known
 has_up L K first known u h = (λ r e. u (Real r) (h.0 r e), λ i e. u (Virtual (first + i)) (h.1 i e))
 
-has_also : (L : Held) (first d : ℕ) (known : (ℕ → Bool)) → Has L first known → L (Virtual (first + d)) ≡ true
+has_also : (L : Held) (first d : ℕ) (known : Known) → Has L first known → L (Virtual (first + d)) ≡ true
     → Has L first (also d known)
 has_also L first d known h k = (
   h.0,
@@ -139,22 +145,23 @@ has_also L first d known h k = (
       subst (λ x. L (Virtual (first + x)) ≡ true) (sym same) k) (λ s. h.1 i s.1) (or_split (i == d) (known i) e),
 )
 
-go_split : (b : Bool) (o : Option (ℕ → Bool)) (k : (ℕ → Bool)) → go_if b o ≡ Some k → (b ≡ true) × (o ≡ Some k)
+go_split : (b : Bool) (o : Option Known) (k : Known) → go_if b o ≡ Some k → (b ≡ true) × (o ≡ Some k)
 go_split true o k e = (refl, e)
 go_split false o k e = absurd (let z : ⊥ = cc in z)
 
 -- what is read is there, what is named fits, and what is known behind
-parted : (procs : List Proc) (n : ℕ) (known : ℕ → Bool) (c : Code) (o : Option (ℕ → Bool)) (k : ℕ → Bool)
+parted : (procs : List Proc) (n : ℕ) (known : ℕ → Bool) (c : Code) (o : Option Known) (k : ℕ → Bool)
     → go_if (fits all_words procs n known c) o ≡ Some k → (are_read all_words n known (code_reads c) ≡ true)
     × (o ≡ Some k)
 parted procs n known c o k e =
     let g = go_split (fits all_words procs n known c) o k e in
     ((and_split (are_read all_words n known (code_reads c)) (names_fit procs n c) g.0).0, g.1)
 
-some_known : (a b : (ℕ → Bool)) → Some a ≡ Some b → a ≡ b
+some_known : (a b : Known) → Some a ≡ Some b → a ≡ b
 some_known a b e = cc
 
 module _ (M : ℕ → Held) where
+  -- the items read what is held, from a set that may come before them
   pub record Ok (L : Held) (xs : List VirtualItem) : Type 0 where
     pub next : NextOk M L xs
     pub good : Good M L xs
@@ -233,13 +240,13 @@ module _ (M : ℕ → Held) where
   two_read L a b z h k i = ⊎_elim (λ e. subst (λ y. L y ≡ true) e h) (λ j. one_read L b z k j) i
 
   module _ (first out : ℕ) where
-    put_ok : (rd : VReg) (a : LowSource) (known : (ℕ → Bool)) (L : Held) (xs : List VirtualItem) → Has L first known
+    put_ok : (rd : VReg) (a : LowSource) (known : Known) (L : Held) (xs : List VirtualItem) → Has L first known
         → is_known known a ≡ true → Ok (with_reg rd L) xs → Ok L (put_item first rd a ∷ xs)
     put_ok rd (Word i) known L xs h e k =
         plain_ok (Move rd (Virtual (first + i))) L xs tt (λ z r. one_read L (Virtual (first + i)) z (h.1 i e) r) k
     put_ok rd (Number n) known L xs h e k = plain_ok (Constant rd n) L xs tt (λ z r. absurd r) k
 
-    source_ok : (r : ℕ) (a : LowSource) (known : (ℕ → Bool)) (L : Held) (xs : List VirtualItem) → Has L first known
+    source_ok : (r : ℕ) (a : LowSource) (known : Known) (L : Held) (xs : List VirtualItem) → Has L first known
         → is_known known a ≡ true → ((K : Held) → Up L K → K (source_reg first r a) ≡ true → Ok K xs)
         → Ok L (source_items r a ++ xs)
     source_ok r (Word i) known L xs h e go = go L (λ z y. y) (h.1 i e)
@@ -248,7 +255,7 @@ module _ (M : ℕ → Held) where
         plain_ok (Constant (Real r) (suc n)) L xs tt (λ z y. absurd y)
         (go (with_reg (Real r) L) (up_reg (Real r) L) (reg_there (Real r) L))
 
-    args_ok : (args : List LowSource) (from : ℕ) (known : (ℕ → Bool)) (L : Held) (xs : List VirtualItem)
+    args_ok : (args : List LowSource) (from : ℕ) (known : Known) (L : Held) (xs : List VirtualItem)
         → Has L first known → are_known known args ≡ true → ((K : Held) → Up L K
         → ((i : ℕ) → from ≤ i → i < from + length args → K (Real (10 + i)) ≡ true) → Ok K xs)
         → Ok L (args_items first from args ++ xs)
@@ -279,7 +286,7 @@ module _ (M : ℕ → Held) where
     abbrev behind_call : Held → Held
     behind_call L a = is_reg (Real 10) a || (L a && is_spared a)
 
-    call_has : (L : Held) (known : (ℕ → Bool)) → Has L first known → Has (behind_call L) first known
+    call_has : (L : Held) (known : Known) → Has L first known → Has (behind_call L) first known
     call_has L known h = (
       λ r e. or_right (10 == r) (L (Real r) && is_fixed r) (and_both (L (Real r)) (is_fixed r) (h.0 r e) e),
       λ i e. and_both (L (Virtual (first + i))) true (h.1 i e) refl,
@@ -310,7 +317,7 @@ module _ (M : ℕ → Held) where
           );
         }
 
-    stores_ok : (args : List LowSource) (offset : ℕ) (known : (ℕ → Bool)) (L : Held) (xs : List VirtualItem)
+    stores_ok : (args : List LowSource) (offset : ℕ) (known : Known) (L : Held) (xs : List VirtualItem)
         → Has L first known → are_known known args ≡ true → ((K : Held) → Up L K → Ok K xs)
         → Ok L (stores_items first offset args ++ xs)
     stores_ok [] offset known L xs h e go = go L (λ z y. y)
@@ -329,7 +336,7 @@ module _ (M : ℕ → Held) where
 module _ (M : ℕ → Held) (procs : List Proc) (n first out : ℕ) (fixed_out : (a : VReg) → M out a ≡ true
     → lift first (λ i. false) a ≡ true) where
   -- the sets at a code's marks are those of its words
-  abbrev pub Sets : ℕ → (ℕ → Bool) → Code → Type 0
+  abbrev pub Sets : ℕ → Known → Code → Type 0
   Sets m known Done = Unit {0}
   Sets m known (Set d a rest) = Sets m (also d known) rest
   Sets m known (LowCompute op d a b rest) = Sets m (also d known) rest
@@ -344,45 +351,46 @@ module _ (M : ℕ → Held) (procs : List Proc) (n first out : ℕ) (fixed_out :
   Sets m known (LowCallAt d f args rest) = Sets m (also d known) rest
   Sets m known (If cond a b one other rest) =
       ((z : VReg) → M m z ≡ lift first known z) × Sets (suc (suc m)) known other
-      × Sets (suc (suc m) + marks_in other) known one × ((k : (ℕ → Bool))
+      × Sets (suc (suc m) + marks_in other) known one × ((k : Known)
       → meet all_words (behind all_words procs n known one) (behind all_words procs n known other) ≡ Some k
       → ((z : VReg) → M (suc m) z ≡ lift first k z) × Sets (suc (suc m) + marks_in other + marks_in one) k rest)
   Sets m known (LowReturn a) = Unit {0}
   Sets m known (LowTailCall k args) = Unit {0}
   Sets m known (LowTailCallAt f args) = Unit {0}
 
-  out_held : (L : Held) (known : (ℕ → Bool)) → Has L first known → (z : VReg) → M out z ≡ true → L z ≡ true
+  out_held : (L : Held) (known : Known) → Has L first known → (z : VReg) → M out z ≡ true → L z ≡ true
   out_held L known h z e = lifted L first (λ i. false) (h.0, λ i k. absurd (let y : ⊥ = cc in y)) z (fixed_out z e)
 
-  meet_split : (a b : Option (ℕ → Bool)) (k : (ℕ → Bool)) → meet all_words a b ≡ Some k → (x : (ℕ → Bool))
-      × (y : (ℕ → Bool)) × (a ≡ Some x) × (b ≡ Some y) × (both x y ≡ k)
+  meet_split : (a b : Option Known) (k : Known) → meet all_words a b ≡ Some k → (x : Known)
+      × (y : Known) × (a ≡ Some x) × (b ≡ Some y) × (both x y ≡ k)
   meet_split None b k e = absurd (let z : ⊥ = cc in z)
   meet_split (Some a) None k e = absurd (let z : ⊥ = cc in z)
   meet_split (Some a) (Some b) k e = (a, b, refl, refl, some_known (both a b) k e)
 
-  then_split : (o : Option (ℕ → Bool)) (go : (ℕ → Bool) → Option (ℕ → Bool)) (k : (ℕ → Bool)) → then_known o go ≡ Some k
-      → (x : (ℕ → Bool)) × (o ≡ Some x) × (go x ≡ Some k)
+  then_split : (o : Option Known) (go : Known → Option Known) (k : Known) → then_known o go ≡ Some k
+      → (x : Known) × (o ≡ Some x) × (go x ≡ Some k)
   then_split None go k e = absurd (let z : ⊥ = cc in z)
   then_split (Some x) go k e = (x, refl, e)
 
-  has_left : (L : Held) (x y : (ℕ → Bool)) → Has L first x → Has L first (both x y)
+  has_left : (L : Held) (x y : Known) → Has L first x → Has L first (both x y)
   has_left L x y h = (h.0, λ i e. h.1 i (and_split (x i) (y i) e).0)
 
-  has_right : (L : Held) (x y : (ℕ → Bool)) → Has L first y → Has L first (both x y)
+  has_right : (L : Held) (x y : Known) → Has L first y → Has L first (both x y)
   has_right L x y h = (h.0, λ i e. h.1 i (and_split (x i) (y i) e).1)
 
   -- a word is set by an item
-  abbrev Then : (ℕ → Bool) → List VirtualItem → Type 0
+  abbrev Then : Known → List VirtualItem → Type 0
   Then known ys = (K : Held) → Has K first known → Ok M K ys
 
-  set_has : (L : Held) (known : (ℕ → Bool)) (d : ℕ) → Has L first known
+  set_has : (L : Held) (known : Known) (d : ℕ) → Has L first known
       → Has (with_reg (Virtual (first + d)) L) first (also d known)
   set_has L known d h =
       let K : Held = with_reg (Virtual (first + d)) L in
       has_also K first d known (has_up L K first known (up_reg (Virtual (first + d)) L) h)
       (reg_there (Virtual (first + d)) L)
 
-  pub good_code : (c : Code) (m : ℕ) (known k : (ℕ → Bool)) (L : Held) (ys : List VirtualItem) → Has L first known
+  -- code of which something is known behind it reads what is held
+  pub good_code : (c : Code) (m : ℕ) (known k : Known) (L : Held) (ys : List VirtualItem) → Has L first known
       → behind all_words procs n known c ≡ Some k → Sets m known c → Then k ys → Ok M L (code_items first out m c ++ ys)
   good_code Done m known k L ys h e s go = go L (let same : known ≡ k = cc in subst (Has L first) same h)
   good_code (Set d a rest) m known k L ys h e s go =
@@ -626,12 +634,14 @@ module _ (M : ℕ → Held) (procs : List Proc) (n first out : ℕ) (fixed_out :
 
 -- ---- the sets of a program
 
-abbrev pub known_or : Option (ℕ → Bool) → (ℕ → Bool)
+-- what is known, or nothing
+abbrev pub known_or : Option Known → Known
 known_or None i = false
 known_or (Some k) i = k i
 
 module _ (procs : List Proc) where
-  abbrev pub sets_at : ℕ → ℕ → ℕ → (ℕ → Bool) → Code → ℕ → Held
+  -- the sets at the marks of a code, told the first register, the first mark and what is known before it
+  abbrev pub sets_at : ℕ → ℕ → ℕ → Known → Code → ℕ → Held
   sets_at n first m known Done w z = false
   sets_at n first m known (Set d a rest) w z = sets_at n first m (also d known) rest w z
   sets_at n first m known (LowCompute op d a b rest) w z = sets_at n first m (also d known) rest w z
@@ -667,13 +677,13 @@ module _ (procs : List Proc) where
 
   module _ (M : ℕ → Held) (n first out : ℕ) (fixed_out : (a : VReg) → M out a ≡ true
       → lift first (λ i. false) a ≡ true) where
-    abbrev In : ℕ → (ℕ → Bool) → Code → Type 0
+    abbrev In : ℕ → Known → Code → Type 0
     In m known c = (w : ℕ) → m ≤ w → w < m + marks_in c → (z : VReg) → M w z ≡ sets_at n first m known c w z
 
-    abbrev Has_sets : ℕ → (ℕ → Bool) → Code → Type 0
+    abbrev Has_sets : ℕ → Known → Code → Type 0
     Has_sets m known c = Sets M procs n first out fixed_out m known c
 
-    sets_hold : (c : Code) (m : ℕ) (known : (ℕ → Bool)) → In m known c → Has_sets m known c
+    sets_hold : (c : Code) (m : ℕ) (known : Known) → In m known c → Has_sets m known c
     sets_hold Done m known h = tt
     sets_hold (Set d a rest) m known h = sets_hold rest m (also d known) h
     sets_hold (LowCompute op d a b rest) m known h = sets_hold rest m (also d known) h
@@ -711,7 +721,7 @@ module _ (procs : List Proc) where
         m4 : ℕ
         m4 = suc (suc m) + marks_in other + marks_in one
 
-        end : Option (ℕ → Bool)
+        end : Option Known
         end = meet all_words (behind all_words procs n known one) (behind all_words procs n known other)
 
         later : ℕ → Held
@@ -778,7 +788,7 @@ module _ (procs : List Proc) where
         jump_ok M out L4 xs (λ z y. or_right (among z (Real 10 ∷ Real 11 ∷ [])) (L3 z)
         (up_reg (Real 17) L2 z (up_reg (Real 11) L1 z (up_reg (Real 10) (M out) z y)))) (more L4))))))
 
-    there : (o : Option (ℕ → Bool)) → is_there o ≡ true → (k : (ℕ → Bool)) × (o ≡ Some k)
+    there : (o : Option Known) → is_there o ≡ true → (k : Known) × (o ≡ Some k)
     there None e = absurd (let z : ⊥ = cc in z)
     there (Some k) e = (k, refl)
 
@@ -792,7 +802,7 @@ module _ (procs : List Proc) where
         out : ℕ
         out = mark
 
-        known : (ℕ → Bool)
+        known : Known
         known = λ j. nat_lt j p.params
 
         code_closed : (k : ℕ → Bool) × (behind all_words procs p.words known p.code ≡ Some k)
@@ -840,6 +850,7 @@ abbrev pub at_start : Held
 at_start (Real r) = is_fixed r
 at_start (Virtual v) = false
 
+-- those of a program
 abbrev pub program_sets : List Proc → ℕ → Held
 program_sets procs = all_sets procs 0 (length procs) procs
 

@@ -19,6 +19,7 @@ use Rattle.rv_select.proofs.Stretches.{SameFixed, fixed_self, also_fixed, wrote_
 use Rattle.rv_select.proofs.Stretches.{move_local, write_local, given_is}
 use Rattle.rv_select.proofs.Stretches.{SameFixed, fixed_self, also_fixed, only_is, more, beyond}
 
+-- the words of some sources are those of the first and of the rest
 pub words_cons : (o : Option ℕ) (r : Option (List ℕ)) (ws : List ℕ) → and_more o r ≡ Some ws → (x : ℕ) × (xs : List ℕ)
     × (o ≡ Some x) × (r ≡ Some xs) × (ws ≡ x ∷ xs)
 words_cons None r ws e = absurd (cc)
@@ -27,14 +28,17 @@ words_cons (Some x) (Some xs) ws e = (x, xs, refl, refl, cc)
 
 -- ---- words in registers
 
+-- the registers after words were handed on
 abbrev pub args_regs : ℕ → List ℕ → Registers → Registers
 args_regs from [] regs = regs
 args_regs from (w ∷ ws) regs = args_regs (suc from) ws (set_reg (10 + from) w regs)
 
+-- and those that are known then
 abbrev pub args_known : ℕ → List ℕ → (ℕ → Bool) → ℕ → Bool
 args_known from [] known = known
 args_known from (w ∷ ws) known = args_known (suc from) ws (also_known (10 + from) known)
 
+-- what was known stays known
 pub known_low : (ws : List ℕ) (from q : ℕ) (known : ℕ → Bool) → known q ≡ true → args_known from ws known q ≡ true
 known_low [] from q known h = h
 known_low (w ∷ ws) from q known h = known_low ws (suc from) q (also_known (10 + from) known) (kept (q == 10 + from))
@@ -58,6 +62,7 @@ known_args (w ∷ ws) from i known h k =
         known_low ws (suc from) (10 + i) (also_known (10 + from) known) (ap (λ c. c || known (10 + i)) same)
     pick false e ih = let later : suc from ≤ i = grind arith in ih later
 
+-- as many words as sources
 pub words_length : (l : Locals) (args : List LowSource) (ws : List ℕ) → words_of l args ≡ Some ws
     → length ws ≡ length args
 words_length l [] ws e = let same : ws ≡ [] = cc in ap length same
@@ -87,12 +92,14 @@ differ q from h = grind arith
 differ_high : (q from n : ℕ) → from + suc n ≤ 8 → 18 ≤ q → (q == 10 + from) ≡ false
 differ_high q from n h k = grind arith
 
+-- registers below those stay
 pub args_low : (ws : List ℕ) (from q : ℕ) (regs : Registers) → q < 10 + from → args_regs from ws regs q ≡ regs q
 args_low [] from q regs h = refl
 args_low (w ∷ ws) from q regs h =
     args_low ws (suc from) q (set_reg (10 + from) w regs) (omega arith)
     ∙ other_reg (10 + from) q w regs (differ q from h)
 
+-- registers above those stay
 pub args_high : (ws : List ℕ) (from q : ℕ) (regs : Registers) → from + length ws ≤ 8 → 18 ≤ q
     → args_regs from ws regs q ≡ regs q
 args_high [] from q regs h k = refl
@@ -100,6 +107,7 @@ args_high (w ∷ ws) from q regs h k =
     args_high ws (suc from) q (set_reg (10 + from) w regs) (omega arith) k
     ∙ other_reg (10 + from) q w regs (differ_high q from (length ws) h k)
 
+-- and so do x25, x26 and x27
 pub args_fixed : (ws : List ℕ) (regs : Registers) → length ws ≤ 8 → SameFixed (args_regs 0 ws regs) regs
 args_fixed ws regs h = record {
   stack = args_high ws 0 25 regs (omega (arith, h)) (omega arith);
@@ -115,6 +123,7 @@ arg_fixed from word regs n h = record {
   top = other_reg (10 + from) 27 word regs (differ_high 27 from n h (omega arith));
 }
 
+-- the words stand where they are handed on
 pub has_args : (ws : List ℕ) (from : ℕ) (regs : Registers) → HasArgs (args_regs from ws regs) from ws
 has_args [] from regs = tt
 has_args (w ∷ ws) from regs = (
@@ -125,6 +134,7 @@ has_args (w ∷ ws) from regs = (
 
 -- ---- words out of registers
 
+-- the words of a procedure after it took some from the registers
 abbrev pub params_locals : ℕ → ℕ → ℕ → Registers → Locals → Locals
 params_locals first from zero regs L = L
 params_locals first from (suc n) regs L =
@@ -133,10 +143,12 @@ params_locals first from (suc n) regs L =
 shifted : (first i d : ℕ) → (first + i == first + d) ≡ (i == d)
 shifted first i d = grind arith
 
+-- a word is set in both
 pub set_shifted : (first d word i : ℕ) (L l : Locals) → L (first + i) ≡ l i
     → set_local (first + d) word L (first + i) ≡ set_local d word l i
 set_shifted first d word i L l e = rw (shifted first i d, e) refl
 
+-- a procedure has the words that it was handed
 pub bound : (ws : List ℕ) (first from n : ℕ) (regs : Registers) (L l : Locals) → n ≡ length ws
     → ((i : ℕ) → L (first + i) ≡ l i) → HasArgs regs from ws → (i : ℕ)
     → params_locals first from n regs L (first + i) ≡ bind from ws l i
@@ -166,6 +178,7 @@ module _ {V : Type 0} (reading : Halt → Ending V) (setting : Setting) where
       let same : n % 2 ^ 64 ≡ x = cc in ap (λ w. puts reading setting (Virtual v) w t) same
       ∙ write_local reading setting t v x h
 
+  -- a source is put into a real register
   pub put_real : (t : VirtualState) (l : Locals) (r : ℕ) (a : LowSource) (x : ℕ) → word_of l a ≡ Some x
       → ((i : ℕ) → t.active.locals (t.active.found.first + i) ≡ l i) → may_write r ≡ true
       → item_step reading setting (put_item t.active.found.first (Real r) a) t ≡ Go (wrote_real r x t)
@@ -174,6 +187,7 @@ module _ {V : Type 0} (reading : Halt → Ending V) (setting : Setting) where
       let same : n % 2 ^ 64 ≡ x = cc in ap (λ w. puts reading setting (Real r) w t) same ∙ only_is t (may_write r) _ h
 
   module _ (P Q : VirtualState → Type 0) (rest : List VirtualItem) (l : Locals) (k : ℕ) where
+    -- words are handed on, one step each
     pub hands : (args : List LowSource) (ws : List ℕ) (from : ℕ) (t : VirtualState) → words_of l args ≡ Some ws
         → ((i : ℕ) → t.active.locals (t.active.found.first + i) ≡ l i) → from + length ws ≤ 8
         → Stands reading setting t.pc (args_items t.active.found.first from args ++ rest)
@@ -214,10 +228,12 @@ module _ {V : Type 0} (reading : Halt → Ending V) (setting : Setting) where
         hands args c.1 (suc from) t1 c.3 h f3 s.1 (λ regs known pc q.
         p regs known pc (also_fixed q (arg_fixed from c.0 t.regs (length c.1) f2))) r1)
 
+  -- so many steps more
   abbrev pub plus_steps : ℕ → ℕ → ℕ
   plus_steps zero k = k
   plus_steps (suc n) k = suc (plus_steps n k)
 
+  -- which is their sum
   pub plus_is : (n k : ℕ) → plus_steps n k ≡ n + k
   plus_is zero k = let e : k ≡ 0 + k = omega arith in e
   plus_is (suc n) k = let i : plus_steps n k ≡ n + k = plus_is n k in let e : suc (n + k) ≡ suc n + k = omega arith in
@@ -231,6 +247,7 @@ module _ {V : Type 0} (reading : Halt → Ending V) (setting : Setting) where
   own f from n h = grind arith
 
   module _ (P Q : VirtualState → Type 0) (rest : List VirtualItem) (k : ℕ) where
+    -- parameters are taken, one step each
     pub takes : (n from : ℕ) (t : VirtualState) → ((i : ℕ) → from ≤ i → i < from + n → t.known (10 + i) ≡ true)
         → from + n ≤ 8 → from + n ≤ t.active.found.count
         → Stands reading setting t.pc (params_items t.active.found.first from n ++ rest)

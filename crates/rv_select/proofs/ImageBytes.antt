@@ -1,19 +1,19 @@
 -- Sizes and bytes of an image.
-use Rattle.std.proofs.Common.{ℕ, zero, suc, ◌+◌, ◌-◌, ◌*◌, ◌/◌, ◌%◌, ◌^◌, ◌<◌, ◌≤◌, ◌≡◌, Bool, true, false, List, []}
-use Rattle.std.proofs.Common.{◌∷◌, ◌++◌, length, take, drop, refl, sym, ◌∙◌, ap, subst, arith, length-append}
-use Rattle.std.specs.Prelude.{flat_map, map, slice_index, ◌==◌, nat_lt, if◌then◌else◌}
+use Rattle.std.proofs.Common.{ℕ, zero, suc, ◌+◌, ◌-◌, ◌*◌, ◌%◌, ◌^◌, ◌<◌, ◌≤◌, ◌≡◌, Bool, true, false, List, []}
+use Rattle.std.proofs.Common.{◌∷◌, ◌++◌, length, refl, sym, ◌∙◌, ap, subst, arith, length-append}
+use Rattle.std.specs.Prelude.{flat_map, slice_index, ◌==◌, nat_lt, if◌then◌else◌}
 use Rattle.std.specs.Int.{byte_at, bytes_low_first}
 use Rattle.std.proofs.lemmas.List.{length-map}
 use Rattle.grift_base.specs.declared.places.Pos.{Pos}
-use Rattle.rv_isa.specs.declared.inst.Inst.{Inst}
 use Rattle.rv_isa.specs.declared.real.RealItem.{RealItem}
 use Rattle.rv_isa.specs.declared.real.RealItem.TheVariants.{Op, Mark, Jump, Branch, Address}
 use Rattle.rv_isa.specs.Encoding.{encode_of}
-use Rattle.rv_machine.specs.Memory.{Memory, memory_of, from_base, first_address}
+use Rattle.rv_machine.specs.Memory.{memory_of, first_address}
 use Rattle.rv_machine.specs.Image.{IsImage, statics_len, code_len, label_count, loaded_part, labels_of}
 use Rattle.rv_machine.proofs.Public.{length-labels_from}
 use Rattle.assembler.specs.Expansion.{insts_of, item_insts, insts_from, code_insts}
-use Rattle.assembler.specs.Imaging.{word_bytes, half_bytes, label_bytes, image_bytes, code_bytes, inst_words, code_start}
+use Rattle.assembler.specs.Imaging.{word_bytes, half_bytes, label_bytes, image_bytes, code_bytes, inst_words}
+use Rattle.assembler.specs.Imaging.{code_start}
 use Rattle.assembler.specs.Imaging.{AreSections}
 use Rattle.assembler.specs.Assembled.{IsImageOf}
 use Rattle.assembler.specs.Following.{image_memory}
@@ -51,8 +51,12 @@ length_labels (label ∷ rest) =
 length_image : (statics code : List ℕ) (labels : List Pos)
     → length (image_bytes statics code labels) ≡ 64 + length statics + length code + 8 * length labels
 length_image statics code labels =
-    omega (arith, length-append (statics ++ code) (flat_map label_bytes labels), length-append statics code,
-    length_labels labels)
+    omega (
+      arith,
+      length-append (statics ++ code) (flat_map label_bytes labels),
+      length-append statics code,
+      length_labels labels,
+    )
 
 -- ---- bytes
 
@@ -156,7 +160,8 @@ module _ {image : List ℕ} {items : List RealItem} {statics : List ℕ} {labels
   memory_bytes at =
       let loaded : loaded_part image ≡ static_bytes ++ code =
       ap loaded_part is.bytes ∙ loaded_is static_bytes code labels sections in
-      let all = bytes_append static_bytes code (words_bytes statics) (codes_bytes (inst_words (code_insts items (code_start statics)))) in
+      let words = inst_words (code_insts items (code_start statics)) in
+      let all = bytes_append static_bytes code (words_bytes statics) (codes_bytes words) in
       let there : (i : ℕ) → slice_index (loaded_part image) i < 256 =
       (λ i. subst (λ xs. slice_index xs i < 256) (sym loaded) (byte_there (static_bytes ++ code) i all)) in
       pick (nat_lt at first_address) there

@@ -1,38 +1,36 @@
 -- The image of a closed program over words follows it.
-use Rattle.std.proofs.Common.{ℕ, zero, suc, ◌+◌, ◌-◌, ◌*◌, ◌%◌, ◌^◌, ◌<◌, ◌≤◌, ◌≡◌, ◌≢◌, Bool, true, false, List, Some}
+use Rattle.std.proofs.Common.{ℕ, ◌+◌, ◌^◌, ◌<◌, ◌≡◌, true, List, Some}
 use Rattle.std.proofs.Common.{refl, sym, ◌∙◌, ap, subst, arith}
-use Rattle.std.specs.Prelude.{◌==◌, ◌&&◌, not, if◌then◌else◌, slice_get}
 use Rattle.grift_base.specs.World.{WorldState}
 use Rattle.grift_base.specs.declared.places.Pos.{Pos}
 use Rattle.grift_base.specs.declared.verdicts.Verdict.{Verdict}
-use Rattle.run_laws.specs.Runs.{Ending, Exhausted, NeverWrong, FollowsBy, Any, Through}
+use Rattle.run_laws.specs.Runs.{Ending, Exhausted, NeverWrong, Any, Through}
 use Rattle.run_laws.specs.Machines.{Machine, run}
-use Rattle.run_laws.specs.Meters.{Metered, unspent, metered, each_one, Spends, OfRest}
+use Rattle.run_laws.specs.Meters.{Spends, OfRest}
 use Rattle.run_laws.proofs.Public.{follows_of, follows_by_trans, follows_by_weaken, follower_never_goes_wrong}
 use Rattle.run_laws.proofs.Public.{spends_through}
 use Rattle.rv_isa.specs.declared.real.RealItem.{RealItem}
 use Rattle.rv_machine.specs.Memory.{first_address}
-use Rattle.rv_machine.specs.Registers.{Registers, set_reg, zero_regs}
+use Rattle.rv_machine.specs.Registers.{zero_regs}
 use Rattle.rv_machine.specs.Image.{IsImage, statics_len, code_len}
 use Rattle.rv_machine.specs.State.{State, Halt, Lacks, Stack}
-use Rattle.rv_machine.specs.Start.{start_of, start_regs, IsRegionSize, IsStackSize}
+use Rattle.rv_machine.specs.Start.{start_of, start_regs}
 use Rattle.rv_machine.specs.Mach.{machine_by, IsReading}
 use Rattle.rv_machine.specs.Real.{plain_setting, real_machine}
 use Rattle.low_ir.specs.Procedures.{Proc}
 use Rattle.low_ir.specs.Closed.{is_closed}
-use Rattle.low_ir.specs.Run.{LowState, LowShown, low_machine, low_turns, low_start}
+use Rattle.low_ir.specs.Run.{LowState, LowShown, low_machine, low_start}
 use Rattle.assembler.specs.Assembled.{item_address, IsImageOf}
 use Rattle.assembler.specs.Following.{IsLike, Simulates as AssembledSimulates}
 use Rattle.rv_select.specs.declared.code.VirtualItem.{VirtualItem}
-use Rattle.rv_select.specs.Run.{VirtualState, Shown, virtual_machine}
+use Rattle.rv_select.specs.Run.{Shown, virtual_machine}
 use Rattle.rv_select.specs.Select.{select_items}
 use Rattle.rv_select.specs.Selected.{SameRegion, Begins, Simulates, IsCodeOf}
-use Rattle.rv_select.specs.Slots.{slots_items}
 use Rattle.rv_select.specs.Stacks.{stacked_machine}
-use Rattle.rv_select.specs.Slotted.{free_mark, Lies, Starts, setting_in, room_in, start_in, IsSeenAs, FollowsVirtual}
+use Rattle.rv_select.specs.Slotted.{Starts, setting_in, room_in, start_in, IsSeenAs, FollowsVirtual}
 use Rattle.rv_select.specs.Slotted.{IsSlotsOf}
-use Rattle.rv_select.specs.Images.{words_code, words_setting, HasRegionOf, FollowsWords, RunsIn, RunsAsProgram}
-use Rattle.rv_select.specs.Images.{RunsInStack, IsImageOfWords}
+use Rattle.rv_select.specs.Images.{words_code, words_setting, HasRegionOf, FollowsWords, RunsIn}
+use Rattle.rv_select.specs.Images.{IsImageOfWords}
 use Rattle.rv_select.proofs.Frames.{set_fits}
 use Rattle.rv_select.proofs.Closedness.{closed_entry}
 use Rattle.rv_select.proofs.ImageBytes.{parts_small, memory_bytes}
@@ -168,7 +166,8 @@ module _ {image : List ℕ} {procs : List Proc} {entry : ℕ} {statics : List �
             follows = follows_by_weaken (IsSeenAs (s.regs 25)) Any (below_code (s.regs 25)) (λ a b h. tt)
                 (follows_by_trans below.follows middle.follows);
             turns = follows_by_weaken (OfRest (IsSeenAs (s.regs 25))) (Spends 516)
-                (λ a b h. below_code (s.regs 25) a.rest b.rest (h.0.rest, h.1, h.2)) (λ a b h. spends_through 12 43 a b h)
+                (λ a b h. below_code (s.regs 25) a.rest b.rest (h.0.rest, h.1, h.2))
+                (λ a b h. spends_through 12 43 a b h)
                 (follows_by_trans below.turns middle.turns);
           }
 
@@ -186,7 +185,8 @@ module _ {image : List ℕ} {procs : List Proc} {entry : ℕ} {statics : List �
             follows = follows_by_weaken (HasRegionOf (s.regs 25)) Any (below_words (s.regs 25)) (λ a b h. tt)
                 (follows_by_trans follows upper.follows);
             turns = follows_by_weaken (OfRest (HasRegionOf (s.regs 25))) (Spends 4644)
-                (λ a b h. below_words (s.regs 25) a.rest b.rest (h.0.rest, h.1, h.2)) (λ a b h. spends_through 516 9 a b h)
+                (λ a b h. below_words (s.regs 25) a.rest b.rest (h.0.rest, h.1, h.2))
+                (λ a b h. spends_through 516 9 a b h)
                 (follows_by_trans turns upper.turns);
             never_wrong = follower_never_goes_wrong (follows_of follows);
           }

@@ -1,23 +1,21 @@
 -- The program logic of code with marks, told the address at which items stand in place of a state.
-use Rattle.std.proofs.Common.{ℕ, suc, ◌+◌, ◌%◌, ◌^◌, ◌<◌, ◌≤◌, ◌≡◌, Bool, true, false, List, [], ◌∷◌, ◌++◌, Some, drop}
+use Rattle.std.proofs.Common.{ℕ, suc, ◌+◌, ◌%◌, ◌^◌, ◌<◌, ◌≡◌, true, false, List, [], ◌∷◌, ◌++◌, Some, drop}
 use Rattle.std.proofs.Common.{refl, sym, ◌∙◌, ap, subst, append_assoc, arith}
 use Rattle.std.specs.Prelude.{pos, ◌==◌, length}
 use Rattle.std.proofs.lemmas.List.{length-drop}
-use Rattle.grift_base.specs.World.{WorldState}
-use Rattle.run_laws.specs.Machines.{Machine}
 use Rattle.rv_isa.specs.declared.inst.Inst.{Inst}
-use Rattle.rv_isa.specs.declared.inst.Inst.TheVariants.{Jalr, Ecall}
+use Rattle.rv_isa.specs.declared.inst.Inst.TheVariants.{Jalr}
 use Rattle.rv_isa.specs.declared.inst.Cond.{Cond}
 use Rattle.rv_isa.specs.declared.real.RealItem.{RealItem}
 use Rattle.rv_isa.specs.declared.real.RealItem.TheVariants.{Op, Mark, Jump, Branch, Address}
 use Rattle.rv_machine.specs.Memory.{Memory}
 use Rattle.rv_machine.specs.Registers.{Registers, get_reg, set_reg}
-use Rattle.rv_machine.specs.State.{State, Halt, Turn, Next, reg}
+use Rattle.rv_machine.specs.State.{State, Turn, Next, reg}
 use Rattle.rv_machine.specs.Turn.{add, act_with}
 use Rattle.rv_machine.specs.Real.{address_from, mark_address, holds}
 use Rattle.rv_machine.proofs.Public.{Program, At, HasItem, at_small, at_aligned, behind_mark, mark_at}
 use Rattle.rv_machine.proofs.Public.{drop_next}
-use Rattle.rv_machine.proofs.Public.{Comes, ComesOn, op, call, jump, falls_through, is_taken, puts_address, jumps_to}
+use Rattle.rv_machine.proofs.Public.{Comes, ComesOn, op, jump, falls_through, is_taken, puts_address, jumps_to}
 use Rattle.rv_select.proofs.PutWords.{OnlyIn, word_turns, puts_word}
 use Rattle.rv_select.specs.Slots.{word_items}
 

@@ -31,6 +31,7 @@ abbrev pub IsBody : VirtualItem → Type 0
 IsBody (Procedure k first count) = ⊥
 IsBody item = Unit {0}
 
+-- nor is any of these
 abbrev pub AreBody : List VirtualItem → Type 0
 AreBody [] = Unit {0}
 AreBody (x ∷ xs) = IsBody x × AreBody xs

@@ -8,6 +8,7 @@ pub mod SlotCalls
 pub mod SlotReturns
 pub mod SlotSteps
 pub mod InStack
+pub mod StackSizes
 pub mod SlotDistinct
 pub mod SlotConditions
 pub mod SlotRuns
@@ -30,3 +31,4 @@ mod Claims
 mod Walking
 mod Goods
 mod Standing
+mod Samples

@@ -20,6 +20,7 @@ use Rattle.rv_select.specs.Select.{procs_items, select_items}
 
 -- ---- distinct numbers
 
+-- each number has a property
 abbrev pub Each : (ℕ → Type 0) → List ℕ → Type 0
 Each P [] = Unit {0}
 Each P (x ∷ xs) = P x × Each P xs
@@ -40,6 +41,7 @@ not_in_append : (m : ℕ) (xs ys : List ℕ) → NotIn m xs → NotIn m ys → N
 not_in_append m [] ys h k = k
 not_in_append m (x ∷ xs) ys h k = (h.0, not_in_append m xs ys h.1 k)
 
+-- numbers apart are distinct together
 pub distinct_append : (xs ys : List ℕ) → Distinct xs → Distinct ys → Each (λ x. NotIn x ys) xs → Distinct (xs ++ ys)
 distinct_append [] ys h k e = k
 distinct_append (x ∷ xs) ys h k e = (not_in_append x xs ys h.0 e.0, distinct_append xs ys h.1 k e.1)
@@ -61,6 +63,7 @@ add_one : (P R : ℕ → Type 0) (m : ℕ) (xs : List ℕ) → Fresh P xs → ((
 add_one P R m xs h apart r f =
     ((r, each_map P R xs f h.0), (each_not_in m xs (each_map P (λ y. m ≢ y) xs apart h.0), h.1))
 
+-- the marks of items behind others
 pub marks_append : (xs ys : List VirtualItem) → marks (xs ++ ys) ≡ marks xs ++ marks ys
 marks_append [] ys = refl
 marks_append (Mark m ∷ xs) ys = ap (λ z. m ∷ z) (marks_append xs ys)
@@ -97,6 +100,61 @@ stores_none first offset (a ∷ args) = after (source_items 5 a) _ (source_none 
 -- the numbers from one to below another
 abbrev pub Between : ℕ → ℕ → ℕ → Type 0
 Between a b x = (a ≤ x) × (x < b)
+
+-- the marks of both branches, and of what stands behind them
+branch_fresh : (xs ys zs : List ℕ) (m b c d : ℕ) → suc (suc m) ≤ b → b ≤ c → c ≤ d
+    → Fresh (Between (suc (suc m)) b) xs → Fresh (Between b c) ys → Fresh (Between c d) zs
+    → Fresh (Between m d) (xs ++ (m ∷ (ys ++ (suc m ∷ zs))))
+branch_fresh xs ys zs m b c d p q r h k l =
+    join (Between (suc (suc m)) b) FromMark (Between m d) xs (m ∷ (ys ++ (suc m ∷ zs))) h from_mark
+    (λ x y i j e. ⊎_elim (λ f. omega (arith, i.0, f, e)) (λ g. ⊎_elim (λ f. omega (arith, i.0, f, e))
+    (λ f. omega (arith, i.1, f.0, e)) g) j)
+    (λ z i. (omega (arith, i.0), omega (arith, q, r, i.1)))
+    (λ z j. ⊎_elim (λ f. (omega (arith, f), omega (arith, p, q, r, f)))
+    (λ g. ⊎_elim (λ f. (omega (arith, f), omega (arith, p, q, r, f))) (λ f. (omega (arith, p, f.0), f.1)) g) j)
+  where
+    AtEnd : ℕ → Type 0
+    AtEnd z = (z ≡ suc m) ⊎ Between c d z
+
+    FromOne : ℕ → Type 0
+    FromOne z = (z ≡ suc m) ⊎ Between b d z
+
+    FromMark : ℕ → Type 0
+    FromMark z = (z ≡ m) ⊎ FromOne z
+
+    at_end : Fresh AtEnd (suc m ∷ zs)
+    at_end =
+        add_one (Between c d) AtEnd (suc m) zs l (λ y i e. omega (arith, p, q, i.0, e)) (inl refl) (λ z i. inr i)
+
+    from_one : Fresh FromOne (ys ++ (suc m ∷ zs))
+    from_one =
+        join (Between b c) AtEnd FromOne ys (suc m ∷ zs) k at_end
+        (λ x y i j e. ⊎_elim (λ f. omega (arith, p, i.0, f, e)) (λ f. omega (arith, i.1, f.0, e)) j)
+        (λ z i. inr (i.0, omega (arith, r, i.1)))
+        (λ z j. ⊎_elim (λ f. inl f) (λ f. inr (omega (arith, q, f.0), f.1)) j)
+
+    from_mark : Fresh FromMark (m ∷ (ys ++ (suc m ∷ zs)))
+    from_mark =
+        add_one FromOne FromMark m (ys ++ (suc m ∷ zs)) from_one
+        (λ y i e. ⊎_elim (λ f. omega (arith, f, e)) (λ f. omega (arith, p, f.0, e)) i) (inl refl) (λ z i. inr i)
+
+-- those of a procedure, and of those behind it
+proc_fresh : (xs ys : List ℕ) (k n mark end : ℕ) → mark ≤ end → k + suc n ≤ mark → Fresh (Between mark end) xs
+    → Fresh (λ x. Between (suc k) (suc k + n) x ⊎ (end ≤ x)) ys
+    → Fresh (λ x. Between k (k + suc n) x ⊎ (mark ≤ x)) (k ∷ (xs ++ ys))
+proc_fresh xs ys k n mark end p q h l =
+    add_one Behind (λ x. Between k (k + suc n) x ⊎ (mark ≤ x)) k (xs ++ ys) both
+    (λ y i e. ⊎_elim (λ f. omega (arith, f.0, e)) (λ f. omega (arith, q, f, e)) i) (inl (omega arith, omega arith))
+    (λ z i. ⊎_elim (λ f. inl (omega (arith, f.0), omega (arith, f.1))) (λ f. inr f) i)
+  where
+    Behind : ℕ → Type 0
+    Behind x = Between (suc k) (suc k + n) x ⊎ (mark ≤ x)
+
+    both : Fresh Behind (xs ++ ys)
+    both =
+        join (Between mark end) (λ x. Between (suc k) (suc k + n) x ⊎ (end ≤ x)) Behind xs ys h l
+        (λ x y i j e. ⊎_elim (λ f. omega (arith, q, i.0, f.1, e)) (λ f. omega (arith, i.1, f, e)) j)
+        (λ z i. inr i.0) (λ z j. ⊎_elim (λ f. inl f) (λ f. inr (omega (arith, p, f))) j)
 
 module _ (first out : ℕ) where
   sources_marks : (r : ℕ) (a : LowSource) (xs : List VirtualItem) → marks (source_items r a ++ xs) ≡ marks xs
@@ -141,47 +199,21 @@ module _ (first out : ℕ) where
       let m1 : ℕ = suc (suc m) in
       let m2 : ℕ = m1 + marks_in other in
       let m3 : ℕ = m2 + marks_in one in
+      let end : ℕ = m3 + marks_in rest in
       let xs : List VirtualItem = code_items first out m1 other in
       let ys : List VirtualItem = code_items first out m2 one in
       let zs : List VirtualItem = code_items first out m3 rest in
-      let end : ℕ = m3 + marks_in rest in
-      let h = code_fresh other m1 in
-      let k = code_fresh one m2 in
-      let l = code_fresh rest m3 in
-      let a1 : Fresh (λ z. (z ≡ suc m) ⊎ Between m3 end z) (suc m ∷ marks zs) =
-      add_one (Between m3 end) (λ z. (z ≡ suc m) ⊎ Between m3 end z) (suc m) (marks zs) l (λ y q e. let z : ⊥ =
-      omega (arith, q.0, e) in z) (inl refl) (λ z q. inr q) in
-      let a2 : Fresh (λ z. (z ≡ suc m) ⊎ Between m2 end z) (marks ys ++ (suc m ∷ marks zs)) =
-      join (Between m2 m3) (λ z. (z ≡ suc m) ⊎ Between m3 end z) (λ z. (z ≡ suc m)
-      ⊎ Between m2 end z) (marks ys) (suc m ∷ marks zs) k a1 (λ x y p q e.
-      ⊎_elim (λ i. let z : ⊥ = omega (arith, p.0, i, e) in z) (λ i. let z : ⊥ = omega (arith, p.1, i.0, e) in z) q)
-      (λ z p. inr (p.0, (let y = p.1 in omega (arith, y)))) (λ z q.
-      ⊎_elim (λ i. inl i) (λ i. inr ((let y = i.0 in omega (arith, y)), i.1)) q) in
-      let a3 : Fresh (λ z. (z ≡ m) ⊎ ((z ≡ suc m) ⊎ Between m2 end z)) (m ∷ (marks ys ++ (suc m ∷ marks zs))) =
-      add_one (λ z. (z ≡ suc m) ⊎ Between m2 end z) (λ z. (z ≡ m) ⊎ ((z ≡ suc m) ⊎ Between m2 end z)) m (marks ys
-      ++ (suc m ∷ marks zs)) a2 (λ y q e. ⊎_elim (λ i. let z : ⊥ = omega (arith, i, e) in z) (λ i. let z : ⊥ =
-      omega (arith, i.0, e) in z) q) (inl refl) (λ z q. inr q) in
-      let whole : m + (suc (suc (marks_in other)) + marks_in one + marks_in rest) ≡ end = omega arith in
-      let a4 : Fresh (Between m (m + (suc (suc (marks_in other)) + marks_in one + marks_in rest))) (marks xs
-      ++ (m ∷ (marks ys ++ (suc m ∷ marks zs)))) = join (Between m1 m2) (λ z. (z ≡ m)
-      ⊎ ((z ≡ suc m) ⊎ Between m2 end z))
-      (Between m (m + (suc (suc (marks_in other)) + marks_in one + marks_in rest))) (marks xs) (m
-      ∷ (marks ys ++ (suc m ∷ marks zs))) h a3 (λ x y p q e. ⊎_elim (λ i. let z : ⊥ = omega (arith, p.0, i, e) in
-      z) (λ j. ⊎_elim (λ i. let z : ⊥ = omega (arith, p.0, i, e) in z) (λ i. let z : ⊥ =
-      omega (arith, p.1, i.0, e) in z) j) q) (λ z p. (
-        (let y = p.0 in omega (arith, y)),
-        (let y =
-            p.1 in omega (arith, y)),
-      )) (λ z q. ⊎_elim (λ i. (omega (arith, i), omega (arith, i)))
-      (λ j. ⊎_elim (λ i. (omega (arith, i), omega (arith, i))) (λ i.
-      ((let y = i.0 in omega (arith, y)), (let y = i.1 in omega (arith, y, whole)))) j) q) in
       let behind : List VirtualItem = Jump (suc m) ∷ Mark m ∷ (ys ++ (Mark (suc m) ∷ zs)) in
       let tested : List VirtualItem = Branch cond (source_reg first 5 a) (source_reg first 6 b) m ∷ (xs ++ behind) in
-      let parts : marks (code_items first out m (If cond a b one other rest)) ≡ marks xs
-      ++ (m ∷ (marks ys ++ (suc m ∷ marks zs))) = sources_marks 5 a (source_items 6 b ++ tested)
-      ∙ (sources_marks 6 b tested
-      ∙ (marks_append xs behind ∙ ap (λ r. marks xs ++ (m ∷ r)) (marks_append ys (Mark (suc m) ∷ zs)))) in
-      subst (Fresh (Between m (m + (suc (suc (marks_in other)) + marks_in one + marks_in rest)))) (sym parts) a4
+      let parts : marks (code_items first out m (If cond a b one other rest))
+      ≡ marks xs ++ (m ∷ (marks ys ++ (suc m ∷ marks zs))) =
+      sources_marks 5 a (source_items 6 b ++ tested) ∙ (sources_marks 6 b tested ∙ (marks_append xs behind
+      ∙ ap (λ r. marks xs ++ (m ∷ r)) (marks_append ys (Mark (suc m) ∷ zs)))) in
+      let whole : end ≡ m + (suc (suc (marks_in other)) + marks_in one + marks_in rest) = omega arith in
+      let fresh = branch_fresh (marks xs) (marks ys) (marks zs) m m2 m3 end (omega arith) (omega arith) (omega arith)
+      (code_fresh other m1) (code_fresh one m2) (code_fresh rest m3) in
+      subst (λ n. Fresh (Between m n) (marks (code_items first out m (If cond a b one other rest)))) whole
+      (subst (Fresh (Between m end)) (sym parts) fresh)
   code_fresh (LowReturn a) m = subst (Fresh (Between m (m + 0))) (sym (put_none first (Real 10) a _)) (tt, tt)
   code_fresh (LowTailCall k args) m =
       subst (Fresh (Between m (m + 0))) (sym (after (args_items first 0 args) _ (args_none first 0 args))) (tt, tt)
@@ -211,18 +243,10 @@ procs_fresh (p ∷ ps) k first mark h =
     let body : List VirtualItem = body_items first mark p in
     let tail : List VirtualItem = procs_items (suc k) (first + p.words) (suc mark + marks_in p.code) ps in
     let later = procs_fresh ps (suc k) (first + p.words) (suc mark + marks_in p.code) (omega (arith, h)) in
-    let both : Fresh (λ x. Between (suc k) (suc k + length ps) x ⊎ (mark ≤ x)) (marks body ++ marks tail) =
-    join (Between mark (suc mark + marks_in p.code)) (λ x. Between (suc k) (suc k + length ps) x
-    ⊎ (suc mark + marks_in p.code ≤ x)) _ (marks body) (marks tail) (body_fresh first mark p) later
-    (λ x y i j e. ⊎_elim (λ q. let z : ⊥ = omega (arith, h, i.0, q.1, e) in z) (λ q. let z : ⊥ =
-    omega (arith, i.1, q, e) in z) j) (λ z i. inr i.0) (λ z j. ⊎_elim (λ q. inl q) (λ q. inr (omega (arith, q)))
-    j) in
-    let parts : marks (body ++ tail) ≡ marks body ++ marks tail = marks_append body tail in
-    add_one (λ x. Between (suc k) (suc k + length ps) x ⊎ (mark ≤ x)) (λ x. Between k (k + suc (length ps)) x
-    ⊎ (mark ≤ x)) k (marks (body ++ tail)) (subst (Fresh (λ x. Between (suc k) (suc k + length ps) x ⊎ (mark ≤ x)))
-    (sym parts) both) (λ y q e. ⊎_elim (λ i. let z : ⊥ = omega (arith, i.0, e) in z) (λ i. let z : ⊥ =
-    omega (arith, h, i, e) in z) q) (inl (omega arith, omega arith))
-    (λ z q. ⊎_elim (λ i. inl ((let y = i.0 in omega (arith, y)), (let y = i.1 in omega (arith, y)))) (λ i. inr i) q)
+    subst (λ ms. Fresh (λ x. Between k (k + suc (length ps)) x ⊎ (mark ≤ x)) (k ∷ ms)) (sym (marks_append body tail))
+    (proc_fresh (marks body) (marks tail) k (length ps) mark (suc mark + marks_in p.code) (omega arith) (omega (arith, h))
+    (body_fresh first mark p) later)
 
+-- no mark of a selected code stands twice
 pub select_distinct : (entry : ℕ) (procs : List Proc) → Distinct (marks (select_items entry procs))
 select_distinct entry procs = (procs_fresh procs 0 0 (length procs) (omega arith)).1

@@ -99,15 +99,19 @@ rate = 9
 
 module _ {V : Type 0} (reading : Halt → Ending V) (low : LowSetting) (items : List VirtualItem) (stack : ℕ)
     (small : low.top < 2 ^ 64) where
+  -- what the run of the items is told
   abbrev pub setting : Setting
   setting = setting_of low items
 
+  -- the machine over words
   abbrev pub M : Machine LowState LowShown V
   M = low_machine reading low
 
+  -- that of the items
   abbrev pub N : Machine VirtualState Shown V
   N = virtual_machine reading setting
 
+  -- these items stand here
   abbrev pub Here : ℕ → List VirtualItem → Type 0
   Here p xs = Stands reading setting p xs
 
@@ -116,14 +120,17 @@ module _ {V : Type 0} (reading : Halt → Ending V) (low : LowSetting) (items : 
   IsFound home p (Mark m) = mark_place items home m ≡ Some p
   IsFound home p item = Unit {0}
 
+  -- each mark of these items, from a place on, is found
   abbrev pub Finds : ℕ → ℕ → List VirtualItem → Type 0
   Finds home p [] = Unit {0}
   Finds home p (x ∷ xs) = IsFound home p x × Finds home (suc p) xs
 
+  -- so is each of the first
   pub finds_front : (home : ℕ) (xs ys : List VirtualItem) (p : ℕ) → Finds home p (xs ++ ys) → Finds home p xs
   finds_front home [] ys p h = tt
   finds_front home (x ∷ xs) ys p h = (h.0, finds_front home xs ys (suc p) h.1)
 
+  -- and each of the last
   pub finds_past : (home : ℕ) (xs ys : List VirtualItem) (p : ℕ) → Finds home p (xs ++ ys) → Finds home (beyond xs p) ys
   finds_past home [] ys p h = h
   finds_past home (x ∷ xs) ys p h = finds_past home xs ys (suc p) h.1
@@ -194,9 +201,11 @@ module _ {V : Type 0} (reading : Halt → Ending V) (low : LowSetting) (items : 
       × (t.regs 27 ≡ low.top) × (s.alloc ≤ low.top) × (s.alloc % 8 ≡ 0) × (low.region ≤ s.alloc)
       × (t.regs 25 ≡ stack)
 
+  -- what is the same is seen so
   pub seen : (s : LowState) (t : VirtualState) → Body s t → SeenAs s t
   seen s t b = (λ at h. ap (λ (m : Memory). m at) b.0, b.1, (let e = b.2 in omega arith), b.3, b.5, b.8, b.4)
 
+  -- where both runs are after the same steps
   pub record On (s : LowState) (t : VirtualState) : Type 0 where
     pub active : ActiveOn [] s.active t.pc t.active
     pub behind : Behind s.waiting t.frames
@@ -205,6 +214,7 @@ module _ {V : Type 0} (reading : Halt → Ending V) (low : LowSetting) (items : 
   abbrev Way : LowState → LowState → VirtualState → Type 0
   Way s s1 t = OnTheWay (SameRegion stack low.top) Any M N s s1 t
 
+  -- what is seen of both is alike
   pub as_alike : (s : LowState) (t : VirtualState) → SeenAs s t → Alike (SameRegion stack low.top) M N s t
   as_alike s t h = record {
     output = ap (λ (w : WorldState). w.output) h.3;
@@ -239,6 +249,7 @@ module _ {V : Type 0} (reading : Halt → Ending V) (low : LowSetting) (items : 
         h.top ∙ v.6,
       )
 
+  -- no step of the run over words is without items
   abbrev pub size : LowState → ℕ
   size s = 0
 
@@ -1297,6 +1308,7 @@ module _ {V : Type 0} (reading : Halt → Ending V) (low : LowSetting) (items : 
   pub record Laid : Type 0 where
     pub by_number : (k : ℕ) (p : Proc) → slice_get low.procs k ≡ Some p → (f : Found)
         × (procedure_from k 0 items ≡ Some f) × Entered p f
+    -- and so is each code address
     pub by_address : (at : ℕ) (p : Proc) → proc_from low.address at 0 low.procs ≡ Some p → (f : Found)
         × (procedure_at low.address at 0 items ≡ Some f) × Entered p f
 
@@ -1768,6 +1780,7 @@ module _ {V : Type 0} (reading : Halt → Ending V) (low : LowSetting) (items : 
   do_code laid s t on (LowTailCall k args) lies = do_tail laid s t on k args lies
   do_code laid s t on (LowTailCallAt a args) lies = do_tail_at laid s t on a args lies
 
+  -- the code simulates the program
   pub selected : Laid → Simulation (SameRegion stack low.top) Any M N On size
   selected laid = record {
     alike = λ s t on. (as_alike s t (seen s t on.body), tt);

@@ -1,42 +1,40 @@
 -- Calls, tail calls and returns: a frame is made where it fits into the stack, and given up.
-use Rattle.std.proofs.Common.{ℕ, suc, ◌+◌, ◌-◌, ◌*◌, ◌%◌, ◌^◌, ◌<◌, ◌≤◌, ◌≡◌, inl, inr, Bool, true, false, List, [], ◌∷◌}
-use Rattle.std.proofs.Common.{◌++◌, Option, Some, None, drop, refl, sym, ◌∙◌, ap, subst, arith}
+use Rattle.std.proofs.Common.{ℕ, suc, ◌+◌, ◌-◌, ◌*◌, ◌%◌, ◌^◌, ◌<◌, ◌≤◌, ◌≡◌, inl, inr, Bool, true, false, List, []}
+use Rattle.std.proofs.Common.{◌∷◌}
+use Rattle.std.proofs.Common.{◌++◌, Some, refl, sym, ◌∙◌, ap, subst, arith}
 use Rattle.std.specs.Prelude.{◌==◌, nat_lt, nat_le, if◌then◌else◌, length, slice_get, pos}
 use Rattle.grift_base.specs.EnvironmentCall.{environment_call}
 use Rattle.run_laws.specs.Runs.{Ending, Verdict, Exhausted, Wrong, Any}
-use Rattle.run_laws.specs.Machines.{Next as Step, Go, Stop, StopsAt, UnlessWrong}
-use Rattle.rv_isa.specs.declared.inst.Inst.TheVariants.{Ld, Sd, Addi, Jalr, Ecall, Ebreak, Sub as SubInst, Add as AddInst}
+use Rattle.run_laws.specs.Machines.{Go, Stop, StopsAt, UnlessWrong}
+use Rattle.rv_isa.specs.declared.inst.Inst.TheVariants.{Sd, Addi, Jalr, Ecall, Ebreak, Sub as SubInst}
 use Rattle.rv_isa.specs.declared.inst.Cond.TheVariants.{Ltu}
 use Rattle.rv_isa.specs.declared.real.RealItem.{RealItem}
-use Rattle.rv_isa.specs.declared.real.RealItem.TheVariants.{Op, Jump as RealJump, Branch as RealBranch, Address}
-use Rattle.rv_machine.specs.Memory.{Memory, load_bytes, store_bytes}
+use Rattle.rv_isa.specs.declared.real.RealItem.TheVariants.{Op, Branch as RealBranch}
+use Rattle.rv_machine.specs.Memory.{Memory, store_bytes}
 use Rattle.rv_machine.specs.Registers.{Registers, get_reg, set_reg}
-use Rattle.rv_machine.specs.State.{State, Lacks, Stack, Turn, Stops, reg}
+use Rattle.rv_machine.specs.State.{State, Lacks, Stack, Turn, Stops}
 use Rattle.rv_machine.specs.Turn.{put, comes_to, call_environment}
-use Rattle.rv_machine.proofs.Public.{load_below, load_stored, stored_outside, HasItem, has_item-append, call_stops}
-use Rattle.rv_machine.proofs.Public.{ComesOn, comes_there, is_there, comes_on_later}
+use Rattle.rv_machine.proofs.Public.{load_stored, stored_outside, has_item-append, call_stops}
+use Rattle.rv_machine.proofs.Public.{comes_there, is_there, comes_on_later}
 use Rattle.low_ir.specs.Steps.{no_locals}
 use Rattle.rv_select.specs.declared.code.VReg.{VReg}
-use Rattle.rv_select.specs.declared.code.VReg.TheVariants.{Real, Virtual}
-use Rattle.rv_select.specs.declared.code.VirtualItem.{VirtualItem}
-use Rattle.rv_select.specs.declared.code.VirtualItem.TheVariants.{CodeOf, Call, CallAt, TailCall, TailCallAt, Return}
-use Rattle.rv_select.specs.Run.{Found, Active, Frame, VirtualState, may_read, only_args, only_answer, value, enter}
-use Rattle.rv_select.specs.Run.{back_to, framed, procedure_from, procedure_at, item_step}
-use Rattle.rv_select.specs.Slots.{frame_size, register_for, fetch_items, save_items, word_items, leave_items}
+use Rattle.rv_select.specs.declared.code.VirtualItem.TheVariants.{CodeOf, Call, CallAt}
+use Rattle.rv_select.specs.Run.{Found, VirtualState, may_read, only_args, value}
+use Rattle.rv_select.specs.Run.{procedure_from, procedure_at, item_step}
+use Rattle.rv_select.specs.Slots.{frame_size, register_for, fetch_items, save_items, word_items}
 use Rattle.rv_select.specs.Slots.{expand_all, final_items}
 use Rattle.rv_select.specs.Stacks.{stack_of}
 use Rattle.rv_select.proofs.Bounded.{DoesWithin}
 use Rattle.rv_select.proofs.PutWords.{OnlyIn}
-use Rattle.rv_select.proofs.Items.{Then, ThenOn, as_at, regrouped, stands_small, stands_aligned, past_mark, mark_stands}
+use Rattle.rv_select.proofs.Items.{Then, ThenOn, as_at, regrouped, stands_small, stands_aligned, mark_stands}
 use Rattle.rv_select.proofs.Items.{does, jumps, falls, taken, addresses, lands, words}
 use Rattle.rv_select.proofs.Frames.{Slotting, none_is, readable_low, low_reg, other_get, get_only, scratch_same}
 use Rattle.rv_select.proofs.Frames.{set_fits, fits_only, stored_fits, program, virtual_setting, M, N, Stand, rest_of}
-use Rattle.rv_select.proofs.Frames.{has_rest, HasHome, Framed, Stacked, stack_is, stack_high, stack_same, Body, On}
-use Rattle.rv_select.proofs.Frames.{has_room, Same, Seen, seen_of, seen_still, as_alike, Way, way_first, body_scratch}
-use Rattle.rv_select.proofs.Frames.{body_at}
-use Rattle.rv_select.proofs.SlotWords.{wrote, loads, stores, when_readable, Fetched, fetch, saved}
-use Rattle.rv_select.proofs.SlotItems.{item_turns, code_of, size, room, Sim, sim_given, sim_go, sim_puts}
-use Rattle.rv_select.proofs.SlotMarks.{zero_lost, zero_fits, beyond, drop_beyond, frame_items, enter_items, Begins}
+use Rattle.rv_select.proofs.Frames.{has_rest, HasHome, Stacked, stack_is, stack_high, stack_same, Body, On}
+use Rattle.rv_select.proofs.Frames.{Same, Seen, seen_of, seen_still, as_alike, Way, way_first, body_scratch}
+use Rattle.rv_select.proofs.SlotWords.{wrote, stores, fetch, saved}
+use Rattle.rv_select.proofs.SlotItems.{item_turns, code_of, size, room, Sim, sim_given, sim_puts}
+use Rattle.rv_select.proofs.SlotMarks.{beyond, drop_beyond, frame_items, enter_items, Begins}
 use Rattle.rv_select.proofs.SlotMarks.{found_number, found_address, begins_at}
 
 not_link : (q : ℕ) → may_read q ≡ true → (q == 1) ≡ false
@@ -172,7 +170,8 @@ module _ {V : Type 0} (w : Slotting V) where
           (next a.pc a.stands)
       tested n2 c2 false h next =
           let s2 : State = record s { regs = regs2; pc = n2 } in
-          falls (program w) (Way w t t1) Q s2 c2 tt (less false h) (way_first w t t1 s2 (seen2 n2)) (λ n3 c3. next n3 c3)
+          falls (program w) (Way w t t1) Q s2 c2 tt (less false h) (way_first w t t1 s2 (seen2 n2))
+          (λ n3 c3. next n3 c3)
 
   -- behind the test the frame is made, with the link
   makes_frame : (t u : VirtualState) (n back : ℕ) (f : Found) (s : State) → Seen w t s → Body w u s
@@ -300,7 +299,8 @@ module _ {V : Type 0} (w : Slotting V) where
       (λ q m. get_only 28 q regs s.regs only (low_reg q 28 (readable_low q m) (omega arith))) (only 2 refl)
       (fits_only 28 need regs s.regs only e1 (omega arith) small b.fits) in
       let test1 : nat_lt (regs 2 - w.top) need ≡ lacks = ap (λ x. nat_lt (x - w.top) need) (only 2 refl) ∙ test in
-      comes_there (program w) (Way w t t1) Q (stack_test t t1 u Q s1 need rest lacks (seen28 regs n1 only) b1 e1 test1 c1
+      comes_there (program w) (Way w t t1) Q (stack_test t t1 u Q s1 need rest lacks (seen28 regs n1 only) b1 e1 test1
+      c1
       (λ n2 c2.
       let free : ℕ = regs 2 - w.top in
       let s2 : State = record s { regs = set_reg 29 free regs; pc = n2 } in

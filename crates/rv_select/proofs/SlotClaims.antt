@@ -1,7 +1,6 @@
 -- The code with slots keeps what is claimed of it.
-use Rattle.std.proofs.Common.{ℕ, zero, suc, ◌+◌, ◌^◌, ◌<◌, ◌≡◌, List, [], ◌∷◌, ◌++◌, Option, Some, subst, sym, refl}
+use Rattle.std.proofs.Common.{ℕ, zero, suc, ◌^◌, ◌<◌, ◌≡◌, List, [], ◌∷◌, Some, subst, sym, refl}
 use Rattle.std.specs.Prelude.{slice_get}
-use Rattle.grift_base.specs.declared.verdicts.Verdict.{Verdict}
 use Rattle.rv_isa.specs.declared.real.RealItem.{RealItem}
 use Rattle.rv_select.specs.declared.code.VirtualItem.{VirtualItem}
 use Rattle.rv_select.specs.declared.code.VirtualItem.TheVariants.{Procedure}

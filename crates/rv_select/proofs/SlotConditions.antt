@@ -1,11 +1,11 @@
 -- The code with slots of a well-formed code can be assembled, names neither x30 nor x31, and has an item that isn't a
 -- mark right behind the mark of each procedure.
-use Rattle.std.proofs.Common.{ℕ, zero, suc, ◌+◌, ◌*◌, ◌<◌, ◌≤◌, ◌≡◌, ◌≢◌, ◌⊎◌, inl, inr, Bool, true, false, List, []}
-use Rattle.std.proofs.Common.{append_assoc, ◌∷◌, ◌++◌, Option, Some, None, drop, refl, sym, ◌∙◌, ap, subst, ⊎_elim, arith}
+use Rattle.std.proofs.Common.{ℕ, zero, suc, ◌+◌, ◌<◌, ◌≡◌, ◌≢◌, ◌⊎◌, inl, inr, Bool, true, false, List, []}
+use Rattle.std.proofs.Common.{append_assoc, ◌∷◌, ◌++◌, Some, drop, refl, sym, ◌∙◌, ap, subst, ⊎_elim, arith}
 use Rattle.std.specs.Prelude.{◌==◌, nat_lt, if◌then◌else◌, length, slice_get, pos, All, Any, Contains, slice_index_or}
 use Rattle.std.proofs.lemmas.List.Elements.{All-nil, All-cons, All-head, All-tail}
 use Rattle.rv_isa.specs.declared.inst.Inst.{Inst}
-use Rattle.rv_isa.specs.declared.inst.Inst.TheVariants.{Ld, Sd, Addi, Jalr, Ecall, Ebreak, Slli, Add as AddInst}
+use Rattle.rv_isa.specs.declared.inst.Inst.TheVariants.{Ld, Sd, Addi, Add as AddInst}
 use Rattle.rv_isa.specs.declared.inst.Inst.TheVariants.{Sub as SubInst}
 use Rattle.rv_isa.specs.declared.inst.Cond.TheVariants.{Ltu}
 use Rattle.rv_isa.specs.declared.real.RealItem.{RealItem}
@@ -13,7 +13,7 @@ use Rattle.rv_isa.specs.declared.real.RealItem.TheVariants.{Op, Mark as RealMark
 use Rattle.rv_isa.specs.declared.real.RealItem.TheVariants.{Branch as RealBranch, Address}
 use Rattle.rv_machine.specs.Real.{is_mark}
 use Rattle.rv_machine.proofs.Public.{drop_next}
-use Rattle.assembler.specs.Conditions.{registers_of, registers_named, is_relative, IsPlaced, times, NamesOne}
+use Rattle.assembler.specs.Conditions.{registers_named, IsPlaced, times, NamesOne}
 use Rattle.assembler.specs.Conditions.{CanBeAssembled}
 use Rattle.low_ir.specs.declared.code.WordOp.{WordOp}
 use Rattle.low_ir.specs.declared.code.WordOp.TheVariants.{Add, Sub, And, Or, Xor, Sll, Srl, Sra, Slt, Sltu}
@@ -27,7 +27,7 @@ use Rattle.rv_select.specs.Run.{may_read}
 use Rattle.rv_select.specs.Marks.{marks, NotIn, Distinct}
 use Rattle.rv_select.specs.Holding.{reads, writes}
 use Rattle.rv_select.specs.Slots.{op_inst, op_with, slot_offset, frame_size, register_for, fetch_items, save_items}
-use Rattle.rv_select.specs.Slots.{settle_items, word_items, chunk_items, chunk_of, slot_fetch, slot_save, leave_items}
+use Rattle.rv_select.specs.Slots.{settle_items, word_items, chunk_items, chunk_of, slot_save, leave_items}
 use Rattle.rv_select.specs.Slots.{expand, expand_all, final_items, slots_items}
 use Rattle.rv_select.specs.WellFormed.{marks_named, IsReadable, IsWellFormed}
 use Rattle.rv_select.specs.Slotted.{free_mark, SparesLast, ProceduresBegin}
@@ -222,7 +222,8 @@ module _ (ms : List ℕ) where
           ++ (Op (AddInst scratch scratch 2) ∷ Op (Ld scratch scratch (pos 0)) ∷ []))
       pick true = ((two_spared scratch 2 h stack_spared, tt, refl), tt)
       pick false = joined (word_items scratch (slot_offset first v)) _ (word_good scratch (slot_offset first v) h)
-          ((three_spared scratch scratch 2 h h stack_spared, tt, refl), ((two_spared scratch scratch h h, tt, refl), tt))
+          ((three_spared scratch scratch 2 h h stack_spared, tt, refl),
+          ((two_spared scratch scratch h h, tt, refl), tt))
 
   slot_save_good : (offset : ℕ) → Goods (slot_save offset)
   slot_save_good offset = pick (nat_lt offset 2048)
@@ -230,9 +231,10 @@ module _ (ms : List ℕ) where
       pick : (c : Bool) → Goods (if c then Op (Sd 28 2 (pos offset)) ∷ []
           else word_items 29 offset ++ (Op (AddInst 29 29 2) ∷ Op (Sd 28 29 (pos 0)) ∷ []))
       pick true = ((two_spared 28 2 first_spared stack_spared, tt, refl), tt)
-      pick false = joined (word_items 29 offset) _ (word_good 29 offset second_spared)
-          ((three_spared 29 29 2 second_spared second_spared stack_spared, tt, refl),
-          ((two_spared 28 29 first_spared second_spared, tt, refl), tt))
+      pick false = joined (word_items 29 offset) _ (word_good 29 offset second_spared) (
+        (three_spared 29 29 2 second_spared second_spared stack_spared, tt, refl),
+        ((two_spared 28 29 first_spared second_spared, tt, refl), tt),
+      )
 
   save_good : (first : ℕ) (a : VReg) → Goods (save_items first a)
   save_good first (Real r) = tt
@@ -243,11 +245,12 @@ module _ (ms : List ℕ) where
   settle_good first (Virtual v) h = slot_save_good (slot_offset first v)
 
   leave_good : (count : ℕ) (xs : List RealItem) → Goods xs → Goods (leave_items count ++ xs)
-  leave_good count xs h =
-      ((two_spared 1 2 link_spared stack_spared, tt, refl),
-      joined (word_items 28 (frame_size count) ++ (Op (AddInst 2 2 28) ∷ [])) xs
-      (joined (word_items 28 (frame_size count)) _ (word_good 28 (frame_size count) first_spared)
-      ((three_spared 2 2 28 stack_spared stack_spared first_spared, tt, refl), tt)) h)
+  leave_good count xs h = (
+    (two_spared 1 2 link_spared stack_spared, tt, refl),
+    joined (word_items 28 (frame_size count) ++ (Op (AddInst 2 2 28) ∷ [])) xs
+        (joined (word_items 28 (frame_size count)) _ (word_good 28 (frame_size count) first_spared)
+        ((three_spared 2 2 28 stack_spared stack_spared first_spared, tt, refl), tt)) h,
+  )
 
   for_spared : (scratch : ℕ) (a : VReg) → Spared scratch → SparesVirtual a → Spared (register_for scratch a)
   for_spared scratch (Real r) h k = k
@@ -265,41 +268,95 @@ module _ (ms : List ℕ) where
     expand_good (Constant rd word) h k =
         joined (word_items 28 _) (settle_items first rd) (word_good 28 _ first_spared) (settle_good first rd k.0)
     expand_good (Move rd a) h k =
-        fetched 28 a _ first_spared (((two_spared _ _ (for_spared 28 rd first_spared k.0)
-        (for_spared 28 a first_spared k.1.0), tt, refl), save_good first rd))
+        fetched 28 a _ first_spared ((
+          (
+            two_spared _ _ (for_spared 28 rd first_spared k.0)
+                (for_spared 28 a first_spared k.1.0),
+            tt,
+            refl,
+          ),
+          save_good first rd,
+        ))
     expand_good (Compute o rd a b) h k =
-        fetched 28 a _ first_spared (fetched 29 b _ second_spared (((op_good o _ _ _
-        (for_spared 28 rd first_spared k.0) (for_spared 28 a first_spared k.1.0)
-        (for_spared 29 b second_spared k.1.1.0)), save_good first rd)))
+        fetched 28 a _ first_spared (fetched 29 b _ second_spared ((
+          (op_good o _ _ _
+              (for_spared 28 rd first_spared k.0) (for_spared 28 a first_spared k.1.0)
+              (for_spared 29 b second_spared k.1.1.0)),
+          save_good first rd,
+        )))
     expand_good (ComputeWith o rd a n) h k =
-        fetched 28 a _ first_spared (((with_good o _ _ n (for_spared 28 rd first_spared k.0)
-        (for_spared 28 a first_spared k.1.0)), save_good first rd))
+        fetched 28 a _ first_spared ((
+          (with_good o _ _ n (for_spared 28 rd first_spared k.0)
+              (for_spared 28 a first_spared k.1.0)),
+          save_good first rd,
+        ))
     expand_good (Load rd a offset) h k =
-        fetched 28 a _ first_spared (((two_spared _ _ (for_spared 28 rd first_spared k.0)
-        (for_spared 28 a first_spared k.1.0), tt, refl), save_good first rd))
+        fetched 28 a _ first_spared ((
+          (
+            two_spared _ _ (for_spared 28 rd first_spared k.0)
+                (for_spared 28 a first_spared k.1.0),
+            tt,
+            refl,
+          ),
+          save_good first rd,
+        ))
     expand_good (Store b a offset) h k =
-        fetched 28 a _ first_spared (fetched 29 b _ second_spared (((two_spared _ _
-        (for_spared 29 b second_spared k.1.0) (for_spared 28 a first_spared k.0), tt, refl), tt)))
+        fetched 28 a _ first_spared (fetched 29 b _ second_spared ((
+          (
+            two_spared _ _
+                (for_spared 29 b second_spared k.1.0) (for_spared 28 a first_spared k.0),
+            tt,
+            refl,
+          ),
+          tt,
+        )))
     expand_good (CodeOf rd m) h k = (((for_spared 28 rd first_spared k.0, tt), h.0, tt), save_good first rd)
     expand_good (Mark mark) h k = ((tt, tt, tt), tt)
-    expand_good (Procedure m f c) h k =
-        ((tt, tt, tt), joined (word_items 28 (frame_size c)) _ (word_good 28 (frame_size c) first_spared)
-        ((three_spared 29 2 25 second_spared stack_spared (low_spared 25 (omega arith)), tt, refl),
-        ((two_spared 29 28 second_spared first_spared, out_in, tt),
-        ((three_spared 2 2 28 stack_spared stack_spared first_spared, tt, refl),
-        ((two_spared 1 2 link_spared stack_spared, tt, refl), tt)))))
+    expand_good (Procedure m f c) h k = (
+      (tt, tt, tt),
+      joined (word_items 28 (frame_size c)) _ (word_good 28 (frame_size c) first_spared) (
+        (three_spared 29 2 25 second_spared stack_spared (low_spared 25 (omega arith)), tt, refl),
+        (
+          (two_spared 29 28 second_spared first_spared, out_in, tt),
+          (
+            (three_spared 2 2 28 stack_spared stack_spared first_spared, tt, refl),
+            ((two_spared 1 2 link_spared stack_spared, tt, refl), tt),
+          ),
+        ),
+      ),
+    )
     expand_good (Jump mark) h k = (((zero_spared, tt), h.0, tt), tt)
     expand_good (Branch cond a b mark) h k =
-        fetched 28 a _ first_spared (fetched 29 b _ second_spared (((two_spared _ _
-        (for_spared 28 a first_spared k.0) (for_spared 29 b second_spared k.1.0), h.0, tt), tt)))
+        fetched 28 a _ first_spared (fetched 29 b _ second_spared ((
+          (
+            two_spared _ _
+                (for_spared 28 a first_spared k.0) (for_spared 29 b second_spared k.1.0),
+            h.0,
+            tt,
+          ),
+          tt,
+        )))
     expand_good (Call m n) h k = (((link_spared, tt), h.0, tt), tt)
     expand_good (CallAt f n) h k =
-        fetched 28 f _ first_spared (((two_spared _ _ link_spared (for_spared 28 f first_spared k.1.0), tt,
-        refl), tt))
+        fetched 28 f _ first_spared ((
+          (
+            two_spared _ _ link_spared (for_spared 28 f first_spared k.1.0),
+            tt,
+            refl,
+          ),
+          tt,
+        ))
     expand_good (TailCall m n) h k = leave_good count _ (((zero_spared, tt), h.0, tt), tt)
     expand_good (TailCallAt f n) h k =
-        fetched 29 f _ second_spared (leave_good count _ (((two_spared _ _ zero_spared
-        (for_spared 29 f second_spared k.0), tt, refl), tt)))
+        fetched 29 f _ second_spared (leave_good count _ ((
+          (
+            two_spared _ _ zero_spared
+                (for_spared 29 f second_spared k.0),
+            tt,
+            refl,
+          ),
+          tt,
+        )))
     expand_good Return h k = leave_good count _ (((two_spared _ _ zero_spared link_spared, tt, refl), tt))
     expand_good Environment h k = ((tt, tt, refl), tt)
 
@@ -315,9 +372,16 @@ module _ (ms : List ℕ) where
       (all_good out first count xs o h.1 k.1)
 
   final_good : (out : ℕ) → Goods (final_items out)
-  final_good out =
-      ((tt, tt, tt), ((two_spared 17 0 (low_spared 17 (omega arith)) zero_spared, tt, refl), ((tt, tt, refl),
-      ((tt, tt, refl), tt))))
+  final_good out = (
+    (tt, tt, tt),
+    (
+      (two_spared 17 0 (low_spared 17 (omega arith)) zero_spared, tt, refl),
+      (
+        (tt, tt, refl),
+        ((tt, tt, refl), tt),
+      ),
+    ),
+  )
 
 -- ---- the conditions
 
@@ -354,9 +418,10 @@ module _ (items : List VirtualItem) (well : IsWellFormed items) where
 
   no_last : (x : RealItem) → Good ms x → SparesLast x
   unfolding Spared
-  no_last x h =
-      (not_contained 30 (registers_named x) (first_of_each (registers_named x) h.0),
-      not_contained 31 (registers_named x) (second_of_each (registers_named x) h.0))
+  no_last x h = (
+    not_contained 30 (registers_named x) (first_of_each (registers_named x) h.0),
+    not_contained 31 (registers_named x) (second_of_each (registers_named x) h.0),
+  )
     where
       first_of_each : (rs : List ℕ) → Every Spared rs → Every (λ r. r ≢ 30) rs
       first_of_each [] k = tt
@@ -415,9 +480,13 @@ begins (Procedure m f1 c1 ∷ xs) zero k first count out f c rest e =
     let behind : List RealItem = expand_all out f1 c1 xs in
     let w = word_first 28 size (test ++ (behind ++ rest)) in
     let split : ((word_items 28 size ++ test) ++ behind) ++ rest ≡ word_items 28 size ++ (test ++ (behind ++ rest)) =
-    append_assoc (word_items 28 size ++ test) behind rest ∙ append_assoc (word_items 28 size) test (behind ++ rest) in
-    (0, w.0, w.1, ap (λ z. z ∷ (((word_items 28 size ++ test) ++ behind) ++ rest)) (ap RealMark same)
-    ∙ ap (λ z. RealMark k ∷ z) (split ∙ w.2))
+    append_assoc (word_items 28 size ++ test) behind rest ∙ append_assoc (word_items 28 size) test (behind ++ rest) in (
+      0,
+      w.0,
+      w.1,
+      ap (λ z. z ∷ (((word_items 28 size ++ test) ++ behind) ++ rest)) (ap RealMark same)
+          ∙ ap (λ z. RealMark k ∷ z) (split ∙ w.2),
+    )
 begins (Procedure m f1 c1 ∷ xs) (suc place) k first count out f c rest e =
     let ih = begins xs place k first count out f1 c1 rest e in
     subst (λ ys. BeginsIn ys k) (sym (append_assoc (expand out f c (Procedure m f1 c1)) (expand_all out f1 c1 xs) rest))

@@ -1,13 +1,11 @@
 -- The marks of the code with slots: those of the virtual code, and the one behind which the stack lacks room.
-use Rattle.std.proofs.Common.{ℕ, zero, suc, ◌+◌, ◌*◌, ◌/◌, ◌%◌, ◌^◌, ◌<◌, ◌≤◌, ◌≡◌, ◌≢◌, Bool, true, false, List, [], ◌∷◌}
-use Rattle.std.proofs.Common.{◌++◌, Option, Some, None, refl, sym, ◌∙◌, ap, subst, arith}
-use Rattle.std.specs.Prelude.{◌==◌, nat_lt, if◌then◌else◌, slice_get, pos, max}
+use Rattle.std.proofs.Common.{ℕ, zero, suc, ◌≤◌, ◌≡◌, ◌≢◌, Bool, true, false, List, [], ◌∷◌}
+use Rattle.std.proofs.Common.{◌++◌, Some, refl, sym, ◌∙◌, ap, subst, arith}
+use Rattle.std.specs.Prelude.{nat_lt, if◌then◌else◌, slice_get, pos, max}
 use Rattle.rv_isa.specs.declared.inst.Inst.TheVariants.{Ld, Sd, Addi, Add as AddInst}
 use Rattle.rv_isa.specs.declared.real.RealItem.{RealItem}
-use Rattle.rv_isa.specs.declared.real.RealItem.TheVariants.{Op, Mark as RealMark, Jump as RealJump}
-use Rattle.rv_isa.specs.declared.real.RealItem.TheVariants.{Branch as RealBranch, Address}
+use Rattle.rv_isa.specs.declared.real.RealItem.TheVariants.{Op, Mark as RealMark}
 use Rattle.rv_machine.specs.Real.{MarksStandOnce}
-use Rattle.assembler.specs.Conditions.{times}
 use Rattle.rv_select.specs.declared.code.VReg.{VReg}
 use Rattle.rv_select.specs.declared.code.VReg.TheVariants.{Real, Virtual}
 use Rattle.rv_select.specs.declared.code.VirtualItem.{VirtualItem}
@@ -15,7 +13,8 @@ use Rattle.rv_select.specs.declared.code.VirtualItem.TheVariants.{Constant, Move
 use Rattle.rv_select.specs.declared.code.VirtualItem.TheVariants.{CodeOf, Mark, Procedure, Jump, Branch, Call, CallAt}
 use Rattle.rv_select.specs.declared.code.VirtualItem.TheVariants.{TailCall, TailCallAt, Return, Environment}
 use Rattle.rv_select.specs.Marks.{marks, NotIn, Distinct}
-use Rattle.rv_select.specs.Slots.{slot_offset, frame_size, fetch_items, save_items, settle_items, word_items, chunk_items}
+use Rattle.rv_select.specs.Slots.{slot_offset, frame_size, fetch_items, save_items, settle_items, word_items}
+use Rattle.rv_select.specs.Slots.{chunk_items}
 use Rattle.rv_select.specs.Slots.{chunk_of, slot_fetch, slot_save, leave_items, expand, expand_all, final_items}
 use Rattle.rv_select.specs.Slots.{slots_items}
 use Rattle.rv_select.specs.Slotted.{above, free_mark}

@@ -1,12 +1,11 @@
 -- Items that compute, load and store: what their code with slots comes to.
-use Rattle.std.proofs.Common.{append_assoc, ℕ, zero, suc, ◌+◌, ◌-◌, ◌*◌, ◌/◌, ◌%◌, ◌^◌, ◌<◌, ◌≤◌, ◌≡◌, ◌⊎◌, inl, inr}
+use Rattle.std.proofs.Common.{append_assoc, ℕ, zero, suc, ◌+◌, ◌-◌, ◌%◌, ◌^◌, ◌<◌, ◌≤◌, ◌≡◌, inl, inr}
 use Rattle.std.proofs.Common.{Bool, true, false, List, [], ◌∷◌, ◌++◌, Option, Some, None, drop, refl, sym, ◌∙◌, ap}
 use Rattle.std.proofs.Common.{subst, arith}
 use Rattle.std.specs.Prelude.{◌==◌, nat_lt, nat_le, if◌then◌else◌, length, slice_get, ℤ, pos, negsuc}
 use Rattle.std.specs.Int.{w64, cast_signed, cast_unsigned, int_shr}
 use Rattle.std.proofs.lemmas.Int.{of_z-to_z}
 use Rattle.std.proofs.lemmas.Nat.{and_le_l, or_lt, xor_lt}
-use Rattle.run_laws.specs.Runs.{Ending, Any}
 use Rattle.run_laws.specs.Machines.{Next as Step, Go, Stop}
 use Rattle.rv_isa.specs.declared.inst.Inst.TheVariants.{Ld, Sd, Addi}
 use Rattle.rv_isa.specs.declared.real.RealItem.{RealItem}
@@ -14,9 +13,9 @@ use Rattle.rv_isa.specs.declared.real.RealItem.TheVariants.{Op}
 use Rattle.rv_machine.specs.Memory.{Memory, load_bytes, store_bytes, first_address}
 use Rattle.rv_machine.specs.Registers.{Registers, get_reg, set_reg}
 use Rattle.rv_machine.specs.State.{State, Lacks, Stack, Turn, Next, reg}
-use Rattle.rv_machine.specs.Turn.{add, put, plus, flag, signed_less, shift_left, shift_right, shift_right_signed}
+use Rattle.rv_machine.specs.Turn.{add, put, flag, signed_less, shift_left, shift_right, shift_right_signed}
 use Rattle.rv_machine.specs.Turn.{act_with}
-use Rattle.rv_machine.proofs.Public.{load_below, load_same, stored_outside, HasItem, has_item-append, comes_there}
+use Rattle.rv_machine.proofs.Public.{load_below, load_same, stored_outside, has_item-append, comes_there}
 use Rattle.rv_machine.proofs.Public.{is_there, comes_on_later}
 use Rattle.low_ir.specs.declared.code.WordOp.{WordOp}
 use Rattle.low_ir.specs.declared.code.WordOp.TheVariants.{Add, Sub, And, Or, Xor, Sll, Srl, Sra, Slt, Sltu}
@@ -27,19 +26,19 @@ use Rattle.rv_select.specs.declared.code.VReg.TheVariants.{Real, Virtual}
 use Rattle.rv_select.specs.declared.code.VirtualItem.{VirtualItem}
 use Rattle.rv_select.specs.declared.code.VirtualItem.TheVariants.{Constant, Move, Compute, ComputeWith, Load, Store}
 use Rattle.rv_select.specs.declared.code.VirtualItem.TheVariants.{Procedure}
-use Rattle.rv_select.specs.Run.{Found, Active, VirtualState, may_read, may_write, fits_item, is_own, value, puts}
+use Rattle.rv_select.specs.Run.{Found, VirtualState, may_read, may_write, fits_item, is_own, value, puts}
 use Rattle.rv_select.specs.Run.{item_step}
 use Rattle.rv_select.specs.Slots.{op_inst, op_with, slot_offset, register_for, fetch_items, save_items, settle_items}
 use Rattle.rv_select.specs.Slots.{word_items, slot_save, expand, expand_all, final_items}
 use Rattle.rv_select.specs.Stacks.{stack_of, if_room}
 use Rattle.rv_select.proofs.Bounded.{DoesWithin}
-use Rattle.rv_select.proofs.PutWords.{OnlyIn, word_turns, quotient_fits}
-use Rattle.rv_select.proofs.Items.{Then, ThenOn, Stands, regrouped, does, words}
-use Rattle.rv_select.proofs.Frames.{Slotting, readable_low, low_reg, unset, get_only, set_same, set_fits, fits_only}
+use Rattle.rv_select.proofs.PutWords.{OnlyIn, quotient_fits}
+use Rattle.rv_select.proofs.Items.{ThenOn, regrouped, does, words}
+use Rattle.rv_select.proofs.Frames.{Slotting, readable_low, low_reg, get_only, fits_only}
 use Rattle.rv_select.proofs.Frames.{stored_fits, stored_same, program, virtual_setting, M, N, Stand, rest_of, has_rest}
-use Rattle.rv_select.proofs.Frames.{Stacked, stack_same, Body, On, has_room, Same, Seen, seen_of, seen_still, Way}
+use Rattle.rv_select.proofs.Frames.{stack_same, Body, On, has_room, Same, seen_of, seen_still, Way}
 use Rattle.rv_select.proofs.Frames.{way_first, body_scratch}
-use Rattle.rv_select.proofs.SlotWords.{slot_turns, wrote, Permits, when_readable, loads, stores, Fetched, fetch}
+use Rattle.rv_select.proofs.SlotWords.{wrote, Permits, when_readable, loads, stores, Fetched, fetch}
 use Rattle.rv_select.proofs.SlotWords.{saved_slot, saved}
 
 -- the most turns in which the code of an item is done

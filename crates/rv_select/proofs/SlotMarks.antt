@@ -1,19 +1,19 @@
 -- Where the marks and procedures of a virtual code stand in the code with slots, and what jumps and branches come to.
-use Rattle.std.proofs.Common.{append_assoc, ℕ, zero, suc, ◌+◌, ◌-◌, ◌^◌, ◌<◌, ◌≤◌, ◌≡◌, inr, Bool, true, false, List}
-use Rattle.std.proofs.Common.{[], ◌∷◌, ◌++◌, Option, Some, None, drop, refl, sym, ◌∙◌, ap, subst, arith}
+use Rattle.std.proofs.Common.{append_assoc, ℕ, suc, ◌-◌, ◌^◌, ◌<◌, ◌≡◌, Bool, true, false, List}
+use Rattle.std.proofs.Common.{[], ◌∷◌, ◌++◌, Some, drop, refl, sym, ◌∙◌, ap, subst, arith}
 use Rattle.std.specs.Prelude.{◌==◌, ◌&&◌, if◌then◌else◌, length, slice_get, pos}
 use Rattle.std.proofs.lemmas.Option.{slice_get_within}
-use Rattle.run_laws.specs.Machines.{Next as Step, Go}
+use Rattle.run_laws.specs.Machines.{Go}
 use Rattle.rv_isa.specs.declared.inst.Inst.TheVariants.{Sd, Sub as SubInst}
 use Rattle.rv_isa.specs.declared.inst.Cond.{Cond}
 use Rattle.rv_isa.specs.declared.inst.Cond.TheVariants.{Ltu}
 use Rattle.rv_isa.specs.declared.real.RealItem.{RealItem}
-use Rattle.rv_isa.specs.declared.real.RealItem.TheVariants.{Op, Mark as RealMark, Jump as RealJump}
+use Rattle.rv_isa.specs.declared.real.RealItem.TheVariants.{Op, Mark as RealMark}
 use Rattle.rv_isa.specs.declared.real.RealItem.TheVariants.{Branch as RealBranch}
 use Rattle.rv_machine.specs.Registers.{Registers, get_reg, set_reg}
 use Rattle.rv_machine.specs.State.{State, reg}
 use Rattle.rv_machine.specs.Real.{holds, mark_address}
-use Rattle.rv_machine.proofs.Public.{drop_next, HasItem, has_item-append, is_there}
+use Rattle.rv_machine.proofs.Public.{drop_next, has_item-append, is_there}
 use Rattle.low_ir.specs.Steps.{given}
 use Rattle.rv_select.specs.declared.code.VReg.{VReg}
 use Rattle.rv_select.specs.declared.code.VirtualItem.{VirtualItem}
@@ -21,12 +21,12 @@ use Rattle.rv_select.specs.declared.code.VirtualItem.TheVariants.{Mark, Procedur
 use Rattle.rv_select.specs.Run.{Found, VirtualState, value, mark_from, mark_place, procedure_from, procedure_at}
 use Rattle.rv_select.specs.Run.{item_step}
 use Rattle.rv_select.specs.Slots.{frame_size, register_for, fetch_items, word_items, expand, expand_all, final_items}
-use Rattle.rv_select.proofs.Items.{Then, regrouped, past_mark, MarkStands, mark_stands, jumps, falls, taken}
-use Rattle.rv_select.proofs.Frames.{Slotting, none_is, some_is, equal_of, code, program, virtual_setting, M, N, Stand}
+use Rattle.rv_select.proofs.Items.{regrouped, past_mark, MarkStands, mark_stands, jumps, falls, taken}
+use Rattle.rv_select.proofs.Frames.{Slotting, none_is, some_is, equal_of, code, program, virtual_setting, Stand}
 use Rattle.rv_select.proofs.Frames.{rest_of, has_rest, HasHome, Body, On, has_room, seen_of, Way, way_first}
 use Rattle.rv_select.proofs.Frames.{body_scratch, body_at}
 use Rattle.rv_select.proofs.SlotWords.{fetch}
-use Rattle.rv_select.proofs.SlotItems.{drop_here, IsBody, expand_cons, kept, code_of, size, Sim, sim_given, Reached}
+use Rattle.rv_select.proofs.SlotItems.{drop_here, IsBody, expand_cons, kept, code_of, Sim, sim_given, Reached}
 use Rattle.rv_select.proofs.SlotItems.{sim_go, sim_stay}
 
 -- the place behind so many items
@@ -54,7 +54,8 @@ module _ {V : Type 0} (w : Slotting V) where
       → Sim w t s (item_step w.reading (virtual_setting w) (Mark mark) t)
   do_mark t s on mark here =
       let t1 : VirtualState = record t { pc = suc t.pc } in
-      sim_stay w t t1 s (has_room w t s on.body) (fewer t.pc (length w.items) (slice_get_within w.items t.pc (Mark mark) here)) (record {
+      let inside = slice_get_within w.items t.pc (Mark mark) here in
+      sim_stay w t t1 s (has_room w t s on.body) (fewer t.pc (length w.items) inside) (record {
         body = body_at w t s (suc t.pc) t.known on.body;
         home = on.home;
         code = past_mark (program w) s (code_of w t s on (Mark mark) here tt);
@@ -99,12 +100,13 @@ module _ {V : Type 0} (w : Slotting V) where
           → (mark_from m (suc p) xs ≡ Some q → MarkCode m q f) → MarkCode m q f
       pick true h i later =
           let same : p ≡ q = some_is p q i in
-          let number : n ≡ m = equal_of n m h in
-          (k,
-          e ∙ (ap (λ ys. expand_all w.out f.first f.count ys ++ final_items w.out) (sym d)
-          ∙ ap (λ r. rest_of w f r) same),
-          ap (λ r. slice_get w.items r) (sym same)
-          ∙ ((drop_next w.items p (Mark n) xs d).0 ∙ ap (λ z. Some (Mark z)) number))
+          let number : n ≡ m = equal_of n m h in (
+            k,
+            e ∙ (ap (λ ys. expand_all w.out f.first f.count ys ++ final_items w.out) (sym d)
+                ∙ ap (λ r. rest_of w f r) same),
+            ap (λ r. slice_get w.items r) (sym same)
+                ∙ ((drop_next w.items p (Mark n) xs d).0 ∙ ap (λ z. Some (Mark z)) number),
+          )
       pick false h i later = later i
   mark_code (x ∷ xs) m p q k f d e g =
       mark_code xs m (suc p) q (beyond (expand w.out f.first f.count x) k) f (drop_next w.items p x xs d).1
@@ -261,8 +263,8 @@ module _ {V : Type 0} (w : Slotting V) where
       → RealFrom j (expand_all w.out first count xs ++ final_items w.out) → procedure_from k p xs ≡ Some f → Begins k f
   procedure_code [] k p j f first count d e g = absurd (let h : ⊥ = cc in h)
   procedure_code (Procedure i first1 count1 ∷ xs) k p j f first count d e g =
-      pick (i == k) refl g (λ h. procedure_code xs k (suc p) (beyond (RealMark i ∷ enter_items count1) j) f first1 count1
-      (drop_next w.items p (Procedure i first1 count1) xs d).1
+      pick (i == k) refl g (λ h. procedure_code xs k (suc p) (beyond (RealMark i ∷ enter_items count1) j) f first1
+      count1 (drop_next w.items p (Procedure i first1 count1) xs d).1
       (past_procedure p j i first1 count1 xs first count e) h)
     where
       here : Found
@@ -292,8 +294,8 @@ module _ {V : Type 0} (w : Slotting V) where
       → AddressCode at f
   address_code [] at p j f first count d e g = absurd (let h : ⊥ = cc in h)
   address_code (Procedure i first1 count1 ∷ xs) at p j f first count d e g =
-      pick (w.told i == at) refl g (λ h. address_code xs at (suc p) (beyond (RealMark i ∷ enter_items count1) j) f first1
-      count1 (drop_next w.items p (Procedure i first1 count1) xs d).1
+      pick (w.told i == at) refl g (λ h. address_code xs at (suc p) (beyond (RealMark i ∷ enter_items count1) j) f
+      first1 count1 (drop_next w.items p (Procedure i first1 count1) xs d).1
       (past_procedure p j i first1 count1 xs first count e) h)
     where
       pick : (c : Bool) → (w.told i == at) ≡ c

@@ -1,9 +1,9 @@
 -- Frames that are given up: returns and tail calls.
-use Rattle.std.proofs.Common.{ℕ, suc, ◌+◌, ◌-◌, ◌*◌, ◌%◌, ◌^◌, ◌<◌, ◌≤◌, ◌≡◌, Bool, true, false, List, [], ◌∷◌, ◌++◌}
-use Rattle.std.proofs.Common.{Option, Some, None, drop, refl, sym, ◌∙◌, ap, subst, arith}
+use Rattle.std.proofs.Common.{ℕ, suc, ◌+◌, ◌%◌, ◌^◌, ◌<◌, ◌≤◌, ◌≡◌, true, false, List, [], ◌∷◌, ◌++◌}
+use Rattle.std.proofs.Common.{Some, refl, sym, ◌∙◌, ap, subst, arith}
 use Rattle.std.specs.Prelude.{◌==◌, slice_get, pos, nat_le}
 use Rattle.run_laws.specs.Machines.{Go}
-use Rattle.rv_isa.specs.declared.inst.Inst.TheVariants.{Ld, Jalr, Add as AddInst}
+use Rattle.rv_isa.specs.declared.inst.Inst.TheVariants.{Jalr, Add as AddInst}
 use Rattle.rv_isa.specs.declared.real.RealItem.{RealItem}
 use Rattle.rv_isa.specs.declared.real.RealItem.TheVariants.{Op, Jump as RealJump}
 use Rattle.rv_machine.specs.Memory.{load_bytes}
@@ -110,7 +110,8 @@ module _ {V : Type 0} (w : Slotting V) where
       top_word : (sp + need) % 2 ^ 64 ≡ sp + need
       top_word = let x = high in omega arith
 
-      seen28 : (n1 : ℕ) (regs : Registers) (pc : ℕ) → OnlyIn 28 regs regs1 → Seen w t (record s { regs = regs; pc = pc })
+      seen28 : (n1 : ℕ) (regs : Registers) (pc : ℕ) → OnlyIn 28 regs regs1
+          → Seen w t (record s { regs = regs; pc = pc })
       seen28 n1 regs pc only =
           let s1 : State = record s { regs = regs1; pc = n1 } in
           seen_still w t s1 regs pc 28 (seen_still w t s regs1 n1 1 (seen_of w t s b) (λ q m. rw m refl) refl refl refl)
@@ -206,8 +207,12 @@ module _ {V : Type 0} (w : Slotting V) where
   sim_tail : (t : VirtualState) (s : State) (f : Frame) (fs : List Frame) (n : ℕ) (g : Found) → t.frames ≡ f ∷ fs
       → Sim w t s (Go (entered w n (without t f fs) g f.back)) → Sim w t s (Go (taken_over n t g))
   sim_tail t s f fs n g e h =
-      subst (λ gs. Sim w t s (Go (record t { pc = g.home; active = record { found = g; locals = no_locals };
-      frames = gs; known = only_args n t.known }))) (sym e) h
+      subst (λ gs. Sim w t s (Go (record t {
+        pc = g.home;
+        active = record { found = g; locals = no_locals };
+        frames = gs;
+        known = only_args n t.known;
+      }))) (sym e) h
 
   pub do_tail : (t : VirtualState) (s : State) (on : On w t s) (k n : ℕ)
       → slice_get w.items t.pc ≡ Some (TailCall k n)

@@ -1,14 +1,13 @@
 -- The machine that runs the code with slots follows the virtual run.
-use Rattle.std.proofs.Common.{ℕ, suc, ◌+◌, ◌*◌, ◌^◌, ◌<◌, ◌≤◌, ◌≡◌, ◌≢◌, List, Some, refl, sym, ◌∙◌, ap, subst, arith}
+use Rattle.std.proofs.Common.{ℕ, ◌^◌, ◌<◌, ◌≤◌, ◌≡◌, ◌≢◌, List, Some, refl, sym, subst}
 use Rattle.std.specs.Prelude.{slice_get}
-use Rattle.run_laws.specs.Runs.{Ending, Wrong, Exhausted, NeverWrong, FollowsBy, Any, Same}
+use Rattle.run_laws.specs.Runs.{Ending, Wrong, Exhausted, NeverWrong, FollowsBy, Any}
 use Rattle.run_laws.specs.Machines.{Machine, run}
-use Rattle.run_laws.specs.Meters.{Metered, unspent, metered, each_one, Spends, OfRest}
+use Rattle.run_laws.specs.Meters.{unspent, metered, each_one, Spends, OfRest}
 use Rattle.run_laws.proofs.Public.{follows_at_cost, follows_of, follows_by_trans, follows_by_weaken, metered_follows}
 use Rattle.run_laws.proofs.Public.{follows_metered, unmetered_never_wrong, follower_never_goes_wrong, spends_through}
 use Rattle.rv_isa.specs.declared.real.RealItem.{RealItem}
 use Rattle.rv_machine.specs.State.{State, Halt, Lacks, Stack}
-use Rattle.rv_machine.specs.Mach.{IsReading}
 use Rattle.rv_machine.specs.Real.{Setting as RealSetting, real_machine}
 use Rattle.rv_select.specs.declared.code.VirtualItem.{VirtualItem}
 use Rattle.rv_select.specs.declared.code.VirtualItem.TheVariants.{Procedure}
@@ -18,7 +17,7 @@ use Rattle.rv_select.specs.Slots.{slots_items}
 use Rattle.rv_select.specs.Stacks.{stacked_machine}
 use Rattle.rv_select.specs.Slotted.{free_mark, Starts, setting_in, room_in, start_in, IsSeenAs, FollowsVirtual}
 use Rattle.rv_select.specs.Slotted.{DoesInStack, DoesAsVirtual}
-use Rattle.rv_select.proofs.Frames.{Slotting, On, M, N}
+use Rattle.rv_select.proofs.Frames.{Slotting, On}
 use Rattle.rv_select.proofs.SlotSteps.{slots_simulate}
 use Rattle.rv_select.proofs.SlotDistinct.{slots_once}
 use Rattle.rv_select.proofs.InStack.{stacked_never_wrong, stacked_simulates}

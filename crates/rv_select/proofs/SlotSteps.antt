@@ -1,6 +1,6 @@
 -- The code with slots does each step of the virtual run in its stack.
-use Rattle.std.proofs.Common.{ℕ, suc, ◌+◌, ◌*◌, ◌^◌, ◌<◌, ◌≤◌, ◌≡◌, inl, Bool, true, false, List, [], ◌∷◌, Option, Some, None}
-use Rattle.std.proofs.Common.{refl, sym, ◌∙◌, ap, subst, arith}
+use Rattle.std.proofs.Common.{ℕ, suc, ◌^◌, ◌<◌, ◌≡◌, Bool, true, false, List, [], ◌∷◌, Option, Some, None}
+use Rattle.std.proofs.Common.{refl, ◌∙◌, ap, subst, arith}
 use Rattle.std.specs.Prelude.{◌==◌, ◌%◌, nat_lt, if◌then◌else◌, length, slice_get}
 use Rattle.std.specs.Int.{w64, cast_signed}
 use Rattle.std.specs.Fmt.{signed_decimal}
@@ -12,16 +12,15 @@ use Rattle.grift_base.specs.declared.worlds.EnvEffect.{EnvEffect}
 use Rattle.grift_base.specs.declared.worlds.EnvEffect.TheVariants.{Next as GoesOn, Ended as Answers, Blamed as Blames}
 use Rattle.grift_base.specs.declared.worlds.EnvEffect.TheVariants.{Trapped as Traps, RegionOut as RegionEnds}
 use Rattle.grift_base.specs.declared.worlds.EnvEffect.TheVariants.{StackOut as StackEnds, Refused, OutOfMemory}
-use Rattle.run_laws.specs.Runs.{Ending, Verdict, Exhausted, Wrong}
-use Rattle.run_laws.specs.Machines.{Next as Step, Go, Stop}
+use Rattle.run_laws.specs.Machines.{Next as Step, Stop}
 use Rattle.run_laws.specs.Meters.{each_one, CostSimulation}
 use Rattle.rv_isa.specs.declared.inst.Inst.TheVariants.{Ecall}
 use Rattle.rv_isa.specs.declared.real.RealItem.{RealItem}
 use Rattle.rv_isa.specs.declared.real.RealItem.TheVariants.{Op}
 use Rattle.rv_machine.specs.Registers.{Registers, get_reg, set_reg}
-use Rattle.rv_machine.specs.State.{Layout, State, Halt, Room, Region, Stack, Ended, Lacks, Turn, Next, Stops}
-use Rattle.rv_machine.specs.Turn.{add, comes_to, blames, call_environment}
-use Rattle.rv_machine.proofs.Public.{At, HasItem, call, call_stops, is_there}
+use Rattle.rv_machine.specs.State.{Layout, State, Halt, Region, Stack, Ended, Lacks, Turn, Stops}
+use Rattle.rv_machine.specs.Turn.{comes_to, blames, call_environment}
+use Rattle.rv_machine.proofs.Public.{At, call, call_stops, is_there}
 use Rattle.low_ir.specs.Steps.{effect_of, blame_of, settle}
 use Rattle.rv_select.specs.declared.code.VReg.TheVariants.{Real}
 use Rattle.rv_select.specs.declared.code.VirtualItem.{VirtualItem}
@@ -31,8 +30,8 @@ use Rattle.rv_select.specs.declared.code.VirtualItem.TheVariants.{TailCall, Tail
 use Rattle.rv_select.specs.Run.{VirtualState, also_known, value, item_step, step_here}
 use Rattle.rv_select.proofs.Bounded.{within}
 use Rattle.rv_select.proofs.Items.{as_at, as_stands}
-use Rattle.rv_select.proofs.Frames.{Slotting, set_same, set_fits, program, virtual_setting, M, N, Stand, rest_of, has_rest}
-use Rattle.rv_select.proofs.Frames.{Body, On, has_room, Same, seen_of, as_alike, Way, way_first}
+use Rattle.rv_select.proofs.Frames.{Slotting, set_same, set_fits, program, virtual_setting, M, N, rest_of, has_rest}
+use Rattle.rv_select.proofs.Frames.{On, has_room, Same, seen_of, as_alike, Way, way_first}
 use Rattle.rv_select.proofs.SlotWords.{when_readable}
 use Rattle.rv_select.proofs.SlotItems.{item_turns, code_of, size, Sim, sim_given, sim_go, do_compute, do_compute_with}
 use Rattle.rv_select.proofs.SlotItems.{do_move, do_constant, do_load, do_store}

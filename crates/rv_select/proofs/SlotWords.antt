@@ -1,5 +1,5 @@
 -- Words that are fetched from slots, and put into them.
-use Rattle.std.proofs.Common.{ℕ, suc, ◌+◌, ◌*◌, ◌%◌, ◌^◌, ◌<◌, ◌≤◌, ◌≡◌, Bool, true, false, List, [], ◌∷◌, ◌++◌, Some, None}
+use Rattle.std.proofs.Common.{ℕ, suc, ◌+◌, ◌%◌, ◌^◌, ◌<◌, ◌≤◌, ◌≡◌, Bool, true, false, List, [], ◌∷◌, ◌++◌, Some, None}
 use Rattle.std.proofs.Common.{inl, refl, sym, ◌∙◌, ap, subst, arith}
 use Rattle.std.specs.Prelude.{◌==◌, ◌&&◌, ◌||◌, nat_lt, nat_le, if◌then◌else◌, pos}
 use Rattle.std.specs.Int.{w64}
@@ -15,14 +15,14 @@ use Rattle.rv_machine.proofs.Public.{comes_later}
 use Rattle.low_ir.specs.Steps.{set_local}
 use Rattle.rv_select.specs.declared.code.VReg.{VReg}
 use Rattle.rv_select.specs.declared.code.VReg.TheVariants.{Real, Virtual}
-use Rattle.rv_select.specs.Run.{Found, Active, VirtualState, may_read, may_write, is_fixed, also_known, is_own, value}
+use Rattle.rv_select.specs.Run.{Found, VirtualState, may_read, may_write, is_fixed, also_known, is_own, value}
 use Rattle.rv_select.specs.Slots.{slot_offset, frame_size, register_for, fetch_items, save_items, word_items, slot_save}
 use Rattle.rv_select.proofs.Items.{Then, ThenOn, regrouped, does, words}
 use Rattle.rv_select.proofs.PutWords.{OnlyIn}
-use Rattle.rv_select.proofs.Frames.{Slotting, some_is, none_is, readable_low, low_reg, not_zero, unset, other_get}
+use Rattle.rv_select.proofs.Frames.{Slotting, some_is, none_is, readable_low, low_reg, not_zero, unset}
 use Rattle.rv_select.proofs.Frames.{get_only, scratch_same, put_there, set_same, set_fits, fits_only, stored_fits}
 use Rattle.rv_select.proofs.Frames.{slot_inside, slot_aligned, program, rest_of, has_rest, HasHome, Stand, Stacked}
-use Rattle.rv_select.proofs.Frames.{slot_of, frame_fits, stack_written, Body, On, Seen, seen_of, seen_still, Way}
+use Rattle.rv_select.proofs.Frames.{slot_of, frame_fits, stack_written, Body, On, seen_of, seen_still, Way}
 use Rattle.rv_select.proofs.Frames.{way_first, body_scratch}
 
 -- the most turns in which a word is fetched from its slot, and in which it is put there
@@ -163,7 +163,8 @@ module _ {V : Type 0} (w : Slotting V) where
             comes_there (program w) (Way w t t1) Q (go (record s { regs = regs; pc = n }) (record {
               body = body_scratch w t s regs n b
                   (λ q m. get_only scratch q regs s.regs only (low_reg q scratch (readable_low q m) hi))
-                  (only 2 (low_reg 2 scratch (omega arith) hi)) (fits_only scratch word regs s.regs only e1 hi small b.fits);
+                  (only 2 (low_reg 2 scratch (omega arith) hi))
+                  (fits_only scratch word regs s.regs only e1 hi small b.fits);
               there = e1;
               others = λ q m. get_only scratch q regs s.regs only m;
             }) c1)

@@ -378,6 +378,7 @@ module _ (S : List ℕ) where
         ),
       )
 
+-- the code of a closed program is well-formed
 pub select_well : (entry : ℕ) (procs : List Proc) → is_closed procs entry ≡ true
     → IsWellFormed (select_items entry procs)
 select_well entry procs closed = record {

@@ -19,6 +19,7 @@ use Rattle.rv_select.specs.Run.{puts, item_step, step_here, virtual_machine}
 abbrev pub wrote_real : ℕ → ℕ → VirtualState → VirtualState
 wrote_real r word t = record t { regs = set_reg r word t.regs; known = also_known r t.known; pc = suc t.pc }
 
+-- or a virtual one
 abbrev pub wrote_local : ℕ → ℕ → VirtualState → VirtualState
 wrote_local v word t = record t {
   active = record t.active { locals = set_local v word t.active.locals };
@@ -32,9 +33,11 @@ pub record SameFixed (regs old : Registers) : Type 0 where
   pub alloc : regs 26 ≡ old 26
   pub top : regs 27 ≡ old 27
 
+-- they are the same as themselves
 pub fixed_self : (regs : Registers) → SameFixed regs regs
 fixed_self regs = record { stack = refl; alloc = refl; top = refl }
 
+-- and as those before
 pub also_fixed : {a b c : Registers} → SameFixed a b → SameFixed b c → SameFixed a c
 also_fixed h k = record { stack = h.stack ∙ k.stack; alloc = h.alloc ∙ k.alloc; top = h.top ∙ k.top }
 
@@ -43,6 +46,7 @@ abbrev pub beyond : List VirtualItem → ℕ → ℕ
 beyond [] p = p
 beyond (x ∷ xs) p = beyond xs (suc p)
 
+-- behind two stretches
 pub beyond_append : (xs ys : List VirtualItem) (p : ℕ) → beyond (xs ++ ys) p ≡ beyond ys (beyond xs p)
 beyond_append [] ys p = refl
 beyond_append (x ∷ xs) ys p = beyond_append xs ys (suc p)
@@ -53,10 +57,12 @@ module _ {V : Type 0} (reading : Halt → Ending V) (setting : Setting) where
   Stands p [] = Unit {0}
   Stands p (x ∷ xs) = (slice_get setting.items p ≡ Some x) × Stands (suc p) xs
 
+  -- the first of these items stand here
   pub stands_front : (xs ys : List VirtualItem) (p : ℕ) → Stands p (xs ++ ys) → Stands p xs
   stands_front [] ys p h = tt
   stands_front (x ∷ xs) ys p h = (h.0, stands_front xs ys (suc p) h.1)
 
+  -- and the others behind them
   pub stands_past : (xs ys : List VirtualItem) (p : ℕ) → Stands p (xs ++ ys) → Stands (beyond xs p) ys
   stands_past [] ys p h = h
   stands_past (x ∷ xs) ys p h = stands_past xs ys (suc p) h.1
@@ -69,6 +75,7 @@ module _ {V : Type 0} (reading : Halt → Ending V) (setting : Setting) where
     does_item k t t1 item here e p r =
         by_step (virtual_machine reading setting) P Q k t (Go t1) (ap (λ o. step_here reading setting o t) here ∙ e) p r
 
+  -- a word is put into a virtual register
   pub write_local : (t : VirtualState) (v word : ℕ) → is_own t.active.found v ≡ true
       → puts reading setting (Virtual v) word t ≡ Go (wrote_local v word t)
   write_local t v word h = ap (λ b. only_if t b (Go (wrote_local v word t))) h
@@ -83,6 +90,7 @@ module _ {V : Type 0} (reading : Halt → Ending V) (setting : Setting) where
 pub given_is : {S V A : Type 0} (s : S) (o : Option A) (x : A) (f : A → Next S V) → o ≡ Some x → given s o f ≡ f x
 given_is s o x f e = ap (λ p. given s p f) e
 
+-- where a test holds
 pub only_is : {S V : Type 0} (s : S) (b : Bool) (y : Next S V) → b ≡ true → only_if s b y ≡ y
 only_is s b y e = ap (λ c. only_if s c y) e
 
@@ -91,6 +99,7 @@ abbrev pub more : {A : Type 0} → List A → ℕ → ℕ
 more [] k = k
 more (x ∷ xs) k = suc (more xs k)
 
+-- which is their number
 pub more_is : {A : Type 0} (xs : List A) (k : ℕ) → more xs k ≡ length xs + k
 more_is [] k = let e : k ≡ 0 + k = omega arith in e
 more_is (x ∷ xs) k = let i : more xs k ≡ length xs + k = more_is xs k in

@@ -14,22 +14,27 @@ use Rattle.rv_select.specs.declared.code.Place.TheVariants.{InReg, Slot}
 use Rattle.rv_select.specs.Holding.{place_of, reads, writes, Among, NoneAt, SparedByCall, SparedBy, falls, target}
 use Rattle.rv_select.specs.Holding.{IsHolding}
 
+-- each virtual register has a slot of its own
 abbrev pub own : ℕ → Place
 own v = Slot v
 
+-- the same register
 abbrev pub is_reg : VReg → VReg → Bool
 is_reg (Real r) (Real q) = r == q
 is_reg (Virtual v) (Virtual u) = v == u
 is_reg a b = false
 
+-- one of these
 abbrev pub among : VReg → List VReg → Bool
 among a [] = false
 among a (x ∷ xs) = is_reg x a || among a xs
 
+-- a call leaves it
 abbrev pub is_spared : VReg → Bool
 is_spared (Real r) = is_fixed r
 is_spared (Virtual v) = true
 
+-- the real registers
 abbrev pub reals : VReg → Bool
 reals (Real r) = true
 reals (Virtual v) = false
@@ -40,11 +45,13 @@ before M (Mark m) L a = M m a
 before M (Procedure k first count) L a = reals a
 before M x L a = L a
 
+-- the set behind an item
 abbrev pub after : VirtualItem → (VReg → Bool) → VReg → Bool
 after (Call k n) L a = is_reg (Real 10) a || (L a && is_spared a)
 after (CallAt f n) L a = is_reg (Real 10) a || (L a && is_spared a)
 after x L a = among a (writes x) || L a
 
+-- the set before the item at a place
 abbrev pub walk : (ℕ → VReg → Bool) → (VReg → Bool) → List VirtualItem → ℕ → VReg → Bool
 walk M L [] p = L
 walk M L (x ∷ xs) zero = before M x L
@@ -54,10 +61,12 @@ walk M L (x ∷ xs) (suc p) = walk M (after x (before M x L)) xs p
 abbrev pub ReadsHeld : VirtualItem → (VReg → Bool) → Type 0
 ReadsHeld x L = (a : VReg) → Among a (reads x) → L a ≡ true
 
+-- the set may come before these items
 abbrev pub NextOk : (ℕ → VReg → Bool) → (VReg → Bool) → List VirtualItem → Type 0
 NextOk M L [] = Unit {0}
 NextOk M L (x ∷ xs) = (a : VReg) → before M x L a ≡ true → L a ≡ true
 
+-- each of these items reads what is held, and goes on where what is held is enough
 abbrev pub Good : (ℕ → VReg → Bool) → (VReg → Bool) → List VirtualItem → Type 0
 Good M L [] = Unit {0}
 Good M L (x ∷ xs) =
@@ -65,6 +74,7 @@ Good M L (x ∷ xs) =
     × ((m : ℕ) (a : VReg) → target x ≡ Some m → M m a ≡ true → after x (before M x L) a ≡ true)
     × Good M (after x (before M x L)) xs
 
+-- a test that holds tells that they are the same
 pub is_reg_true : (a b : VReg) → is_reg a b ≡ true → a ≡ b
 is_reg_true (Real r) (Real q) e = let same : r ≡ q = grind arith in ap Real same
 is_reg_true (Real r) (Virtual v) e = absurd (let z : ⊥ = cc in z)
@@ -77,10 +87,12 @@ is_reg_false (Real r) (Virtual v) e f = cc
 is_reg_false (Virtual v) (Real q) e f = cc
 is_reg_false (Virtual v) (Virtual u) e f = let same : v ≡ u = cc in let z : ⊥ = grind arith in z
 
+-- one of two tests holds
 pub or_split : (a b : Bool) → (a || b) ≡ true → (a ≡ true) ⊎ ((a ≡ false) × (b ≡ true))
 or_split true b e = inl refl
 or_split false b e = inr (refl, e)
 
+-- both hold
 pub and_split : (a b : Bool) → (a && b) ≡ true → (a ≡ true) × (b ≡ true)
 and_split true b e = (refl, e)
 and_split false b e = absurd (let z : ⊥ = cc in z)

@@ -47,6 +47,7 @@ pub record Frame : Type 0 where
   pub back : ℕ
   pub active : Active
 
+-- where a run has come to
 pub record VirtualState : Type 0 where
   -- the place of the item that is done next
   pub pc : ℕ
@@ -82,6 +83,7 @@ may_write r = may_read r && not ((r == 0) || ((r == 25) || (r == 27)))
 abbrev pub is_fixed : ℕ → Bool
 is_fixed r = (r == 0) || ((r == 25) || ((r == 26) || (r == 27)))
 
+-- one more register is known
 abbrev pub also_known : ℕ → (ℕ → Bool) → ℕ → Bool
 also_known r known i = (i == r) || known i
 
@@ -140,9 +142,11 @@ fits_item op n = nat_lt n 2048
 
 -- under a reading of stops as endings
 module _ {V : Type 0} (reading : Halt → Ending V) (setting : Setting) where
+  -- goes on at the next item
   abbrev pub next : VirtualState → VirtualState
   next t = record t { pc = suc t.pc }
 
+  -- goes on at a place
   abbrev pub at_place : VirtualState → ℕ → Next VirtualState V
   at_place t p = Go (record t { pc = p })
 
@@ -155,17 +159,21 @@ module _ {V : Type 0} (reading : Halt → Ending V) (setting : Setting) where
       only_if t (is_own t.active.found v)
       (Go (record t { active = record t.active { locals = set_local v word t.active.locals }; pc = suc t.pc }))
 
+  -- the word at an address is put into a register
   abbrev pub load : VReg → ℕ → VirtualState → Next VirtualState V
   load rd at t = only_if t (may_load setting.top at) (puts rd (load_bytes 8 t.memory at) t)
 
+  -- a word is stored at an address
   abbrev pub store : ℕ → ℕ → VirtualState → Next VirtualState V
   store at word t =
       only_if t (may_store setting.region setting.top at)
       (Go (record t { memory = store_bytes 8 t.memory at word; pc = suc t.pc }))
 
+  -- goes to a mark of the active procedure
   abbrev pub goto : ℕ → VirtualState → Next VirtualState V
   goto mark t = given t (mark_place setting.items t.active.found.home mark) (at_place t)
 
+  -- goes to a mark where it is taken, and else on
   abbrev pub branch : Bool → ℕ → VirtualState → Next VirtualState V
   branch taken mark t = if taken then goto mark t else Go (next t)
 
@@ -193,6 +201,7 @@ module _ {V : Type 0} (reading : Halt → Ending V) (setting : Setting) where
   framed [] t go = Stop Wrong t
   framed (f ∷ fs) t go = go
 
+  -- where the call goes on, its words stand in x10 and x11
   abbrev pub call_environment : VirtualState → Next VirtualState V
   call_environment t =
       given t (value t (Real 17)) (λ number. given t (value t (Real 10)) (λ x. given t (value t (Real 11)) (λ y.
@@ -231,10 +240,12 @@ module _ {V : Type 0} (reading : Halt → Ending V) (setting : Setting) where
   item_step Return t = given t (value t (Real 10)) (λ x. back_to t.frames t)
   item_step Environment t = call_environment t
 
+  -- the step of the item that stands here, if one does
   abbrev pub step_here : Option VirtualItem → VirtualState → Next VirtualState V
   step_here None t = Stop Wrong t
   step_here (Some item) t = item_step item t
 
+  -- the machine whose steps are items
   abbrev pub virtual_machine : Machine VirtualState Shown V
   virtual_machine = record {
     step = λ t. step_here (slice_get setting.items t.pc) t;

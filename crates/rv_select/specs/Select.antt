@@ -41,6 +41,7 @@ abbrev pub is_small : WordOp → LowSource → Bool
 is_small op (Word i) = false
 is_small op (Number n) = fits_item op n
 
+-- the number of a source that is one
 abbrev pub number_of : LowSource → ℕ
 number_of (Word i) = 0
 number_of (Number n) = n
@@ -50,6 +51,7 @@ abbrev pub second_items : Bool → LowSource → List VirtualItem
 second_items true b = []
 second_items false b = source_items 6 b
 
+-- the item of an operation, whose second source stands in it or not
 abbrev pub compute_item : Bool → ℕ → WordOp → VReg → LowSource → LowSource → VirtualItem
 compute_item true first op rd a b = ComputeWith op rd (source_reg first 5 a) (number_of b)
 compute_item false first op rd a b = Compute op rd (source_reg first 5 a) (source_reg first 6 b)
@@ -73,15 +75,18 @@ stores_items first offset (a ∷ args) =
 -- ---- the parts of a code, told the first register of the procedure
 
 module _ (first : ℕ) where
+  -- a word is set to what an operation gives
   abbrev pub compute_items : WordOp → ℕ → LowSource → LowSource → List VirtualItem → List VirtualItem
   compute_items op d a b more =
       source_items 5 a ++ (second_items (is_small op b) b
       ++ (compute_item (is_small op b) first op (Virtual (first + d)) a b ∷ more))
 
+  -- a word is loaded
   abbrev pub load_items : ℕ → LowSource → ℕ → List VirtualItem → List VirtualItem
   load_items d a offset more =
       source_items 5 a ++ (Load (Virtual (first + d)) (source_reg first 5 a) offset ∷ more)
 
+  -- the first source is stored at the address in the second
   abbrev pub store_items : LowSource → LowSource → ℕ → List VirtualItem → List VirtualItem
   store_items b a offset more =
       source_items 5 a ++ (source_items 6 b ++ (Store (source_reg first 6 b) (source_reg first 5 a) offset ∷ more))
@@ -94,25 +99,30 @@ module _ (first : ℕ) where
       ∷ (stores_items first 0 args
       ++ (Move (Virtual (first + d)) (Real 26) ∷ Compute Add (Real 26) (Real 26) (Real 6) ∷ more))
 
+  -- the test for room for so many words, and a word is set to where that begins
   abbrev pub request_items : ℕ → ℕ → LowSource → List VirtualItem → List VirtualItem
   request_items out d a more =
       source_items 7 a ++ (Compute Sub (Real 5) (Real 27) (Real 26) ∷ ComputeWith Srl (Real 5) (Real 5) 3
       ∷ Branch Ltu (Real 5) (source_reg first 7 a) out ∷ Move (Virtual (first + d)) (Real 26) ∷ more)
 
+  -- the allocation word moves past so many words
   abbrev pub take_items : LowSource → List VirtualItem → List VirtualItem
   take_items a more =
       source_items 7 a ++ (ComputeWith Sll (Real 5) (source_reg first 7 a) 3
       ∷ Compute Add (Real 26) (Real 26) (Real 5) ∷ more)
 
+  -- an environment call with two words, and where it goes on its two words are set
   abbrev pub environment_items : ℕ → LowSource → LowSource → ℕ → ℕ → List VirtualItem → List VirtualItem
   environment_items number a b d e more =
       put_item first (Real 10) a ∷ put_item first (Real 11) b ∷ Constant (Real 17) number ∷ Environment
       ∷ Move (Virtual (first + d)) (Real 10) ∷ Move (Virtual (first + e)) (Real 11) ∷ more
 
+  -- a procedure is called by its number, and a word is set to its answer
   abbrev pub call_items : ℕ → ℕ → List LowSource → List VirtualItem → List VirtualItem
   call_items d k args more =
       args_items first 0 args ++ (Call k (length args) ∷ Move (Virtual (first + d)) (Real 10) ∷ more)
 
+  -- one is called by its code address
   abbrev pub call_at_items : ℕ → LowSource → List LowSource → List VirtualItem → List VirtualItem
   call_at_items d f args more =
       source_items 7 f ++ (args_items first 0 args
@@ -124,9 +134,11 @@ module _ (first : ℕ) where
       source_items 5 a ++ (source_items 6 b
       ++ (Branch cond (source_reg first 5 a) (source_reg first 6 b) mark ∷ more))
 
+  -- a procedure goes on in place of this one, by its number
   abbrev pub tail_call_items : ℕ → List LowSource → List VirtualItem
   tail_call_items k args = args_items first 0 args ++ (TailCall k (length args) ∷ [])
 
+  -- one goes on by its code address
   abbrev pub tail_call_at_items : LowSource → List LowSource → List VirtualItem
   tail_call_at_items f args =
       source_items 7 f ++ (args_items first 0 args ++ (TailCallAt (source_reg first 7 f) (length args) ∷ []))
@@ -155,6 +167,7 @@ marks_in (LowTailCallAt f args) = 0
 -- told the first register of the procedure and the mark behind which a request finds no room; marks are numbered from
 -- one on
 module _ (first out : ℕ) where
+  -- the code of a branch stands behind that of the other branch, a jump past both and its mark
   abbrev pub code_items : ℕ → Code → List VirtualItem
   code_items m Done = []
   code_items m (Set d a rest) = put_item first (Virtual (first + d)) a ∷ code_items m rest
@@ -186,6 +199,7 @@ abbrev pub body_items : ℕ → ℕ → Proc → List VirtualItem
 body_items first mark p =
     params_items first 0 p.params ++ (code_items first mark (suc mark) p.code ++ out_items mark)
 
+-- a procedure with its mark
 abbrev pub proc_items : ℕ → ℕ → ℕ → Proc → List VirtualItem
 proc_items k first mark p = Procedure k first p.words ∷ body_items first mark p
 

@@ -26,6 +26,7 @@ HasSmallNumbers (TailCallAt f args) = length args ≤ 8
 abbrev pub IsSmall : Proc → Type 0
 IsSmall p = (p.params ≤ 8) × HasSmallNumbers p.code
 
+-- each procedure is so
 abbrev pub AreSmall : List Proc → Type 0
 AreSmall [] = Unit {0}
 AreSmall (p ∷ ps) = IsSmall p × AreSmall ps

@@ -1,6 +1,6 @@
 -- The run of a virtual code in a stack of so many bytes: where the frames of the active procedures and of the one that
 -- is entered don't fit into it, the run lacks stack. In all else it is the run in which no bound is set.
-use Rattle.std.specs.Prelude.{ℕ, ◌+◌, nat_le, if◌then◌else◌, List, [], ◌∷◌, slice_get}
+use Rattle.std.specs.Prelude.{ℕ, ◌+◌, ◌≤◌, nat_le, if◌then◌else◌, List, [], ◌∷◌, slice_get}
 use Rattle.run_laws.specs.Runs.{Ending}
 use Rattle.run_laws.specs.Machines.{Next, Go, Stop, Machine}
 use Rattle.rv_machine.specs.State.{Halt, Lacks, Stack}
@@ -12,6 +12,11 @@ use Rattle.rv_select.specs.Slots.{frame_size}
 abbrev pub stack_of : Found → List Frame → ℕ
 stack_of found [] = 0
 stack_of found (f ∷ fs) = frame_size found.count + stack_of f.active.found fs
+
+-- none of the frames is larger than one of so many registers
+abbrev pub HaveAtMost : ℕ → Found → List Frame → Type 0
+HaveAtMost most found [] = Unit {0}
+HaveAtMost most found (f ∷ fs) = (found.count ≤ most) × HaveAtMost most f.active.found fs
 
 -- the step of a state, if the frames then fit into so many bytes
 abbrev pub if_room : {V : Type 0} → (Halt → Ending V) → ℕ → VirtualState → Next VirtualState V → Next VirtualState V

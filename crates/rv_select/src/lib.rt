@@ -3,10 +3,10 @@
 #![tactic(auto)]
 
 pub mod code;
-mod slot_parts;
 pub mod images;
-pub mod slots;
 mod parts;
 pub mod selection;
+mod slot_parts;
+pub mod slots;
 #[cfg(test)]
 mod tests;

@@ -28,6 +28,7 @@ const STACK_END: u8 = 25;
 
 // The two registers of words that come from slots or go there.
 pub(crate) const FIRST: u8 = 28;
+
 pub(crate) const SECOND: u8 = 29;
 
 // A register, by its number.
@@ -149,13 +150,22 @@ fn put_slot_save(items: &mut RealItems, offset: u64) -> Result<(), OutOfMemory>
 }
 
 // Adds what loads a virtual register into a real one.
-pub(crate) fn put_fetch(items: &mut RealItems, first: u32, scratch: u8, a: &VReg) -> Result<(), OutOfMemory>
+pub(crate) fn put_fetch(
+    items: &mut RealItems,
+    first: u32,
+    scratch: u8,
+    a: &VReg,
+) -> Result<(), OutOfMemory>
     requires { scratch < 32 }
     ensures { OnOk result (items.new ≡ items.old ++ fetch_items first scratch a.now) }
 {
     match a {
         VReg::Real(_) => Ok(()),
-        VReg::Virtual(number) => put_slot_fetch(items, register(scratch), slot_offset(first, *number)),
+        VReg::Virtual(number) => put_slot_fetch(
+            items,
+            register(scratch),
+            slot_offset(first, *number),
+        ),
     }
 }
 
@@ -211,7 +221,10 @@ pub(crate) fn put_final(items: &mut RealItems, out: u32) -> Result<(), OutOfMemo
     ensures { OnOk result (items.new ≡ items.old ++ final_items out) }
 {
     put_real(items, RealItem::Mark(out))?;
-    put(items, Inst::Addi(register(CALL_NUMBER), register(0), small(6)))?;
+    put(
+        items,
+        Inst::Addi(register(CALL_NUMBER), register(0), small(6)),
+    )?;
     put(items, Inst::Ecall)?;
     put(items, Inst::Ebreak)
 }

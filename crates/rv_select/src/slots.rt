@@ -1,9 +1,10 @@
 // Real code in which each virtual register has a slot of its procedure's frame.
 
-ghost use Rattle.std.specs.Prelude.{◌≡◌, ◌+◌, ◌<◌, ◌≤◌, ◌^◌, ◌++◌, ◌∷◌, [], pos, max, suc, true, OnOk, IfOk, IsTrue};
-ghost use Rattle.rv_select.specs.Run.{fits_item};
+ghost use Rattle.std.specs.Prelude.{◌≡◌, ◌+◌, ◌*◌, ◌<◌, ◌≤◌, ◌^◌, ◌++◌, ◌∷◌, [], true, ℕ, List, length, OnOk, IfOk};
+ghost use Rattle.rv_select.specs.Run.{Found, Frame, fits_item};
 ghost use Rattle.rv_select.specs.Fitting.{fits, each_fits};
-ghost use Rattle.rv_select.specs.Slots.{op_inst, op_with, expand, expand_all, fetch_items, save_items};
+ghost use Rattle.rv_select.specs.Slots.{frame_size, op_inst, op_with, expand, expand_all, fetch_items, save_items};
+ghost use Rattle.rv_select.specs.Stacks.{stack_of, HaveAtMost};
 ghost use Rattle.rv_select.specs.Marks.{marks};
 ghost use Rattle.rv_select.specs.Slotted.{above, free_mark, HasFew, EachHasFew, IsSlotsOf};
 ghost use Rattle.rv_isa.specs.declared.real.RealItem.TheVariants.{Op};
@@ -60,19 +61,37 @@ fn op_with(op: WordOp, rd: Reg, a: Reg, number: u32) -> Inst
 // ---- items that compute, load and store
 
 // Adds what an operation on two registers becomes.
-fn put_compute(items: &mut RealItems, first: u32, op: WordOp, rd: &VReg, a: &VReg, b: &VReg) -> Result<(), OutOfMemory>
+fn put_compute(
+    items: &mut RealItems,
+    first: u32,
+    op: WordOp,
+    rd: &VReg,
+    a: &VReg,
+    b: &VReg,
+) -> Result<(), OutOfMemory>
     ensures { OnOk result (items.new ≡ items.old ++ expand 0 first 0 (VirtualItem.Compute op rd.now a.now b.now)) }
 {
     put_fetch(items, first, FIRST, a)?;
     put_fetch(items, first, SECOND, b)?;
-    let i = op_inst(op, register_for(FIRST, rd), register_for(FIRST, a), register_for(SECOND, b));
+    let i = op_inst(
+        op,
+        register_for(FIRST, rd),
+        register_for(FIRST, a),
+        register_for(SECOND, b),
+    );
     put(items, i)?;
     put_save(items, first, rd)
 }
 
 // Adds an instruction that puts a word into x28 or a real register by one that is found so, what loads that before, and
 // what stores the word.
-fn put_between(items: &mut RealItems, first: u32, rd: &VReg, a: &VReg, i: Inst) -> Result<(), OutOfMemory>
+fn put_between(
+    items: &mut RealItems,
+    first: u32,
+    rd: &VReg,
+    a: &VReg,
+    i: Inst,
+) -> Result<(), OutOfMemory>
     ensures { OnOk result (items.new ≡ items.old ++ (fetch_items first 28 a.now ++ (Op i ∷ save_items first rd.now))) }
 {
     put_fetch(items, first, FIRST, a)?;
@@ -97,7 +116,14 @@ fn put_move(items: &mut RealItems, first: u32, rd: &VReg, a: &VReg) -> Result<()
 }
 
 // Adds what an operation with a small number becomes.
-fn put_compute_with(items: &mut RealItems, first: u32, op: WordOp, rd: &VReg, a: &VReg, number: u32) -> Result<(), OutOfMemory>
+fn put_compute_with(
+    items: &mut RealItems,
+    first: u32,
+    op: WordOp,
+    rd: &VReg,
+    a: &VReg,
+    number: u32,
+) -> Result<(), OutOfMemory>
     requires { fits_item op number ≡ true }
     ensures { OnOk result (items.new ≡ items.old ++ expand 0 first 0 (VirtualItem.ComputeWith op rd.now a.now number)) }
 {
@@ -106,22 +132,42 @@ fn put_compute_with(items: &mut RealItems, first: u32, op: WordOp, rd: &VReg, a:
 }
 
 // Adds what a load becomes.
-fn put_load(items: &mut RealItems, first: u32, rd: &VReg, a: &VReg, offset: u32) -> Result<(), OutOfMemory>
+fn put_load(
+    items: &mut RealItems,
+    first: u32,
+    rd: &VReg,
+    a: &VReg,
+    offset: u32,
+) -> Result<(), OutOfMemory>
     requires { offset < 2048 }
     ensures { OnOk result (items.new ≡ items.old ++ expand 0 first 0 (VirtualItem.Load rd.now a.now offset)) }
 {
-    let i = Inst::Ld(register_for(FIRST, rd), register_for(FIRST, a), small(u64::from(offset)));
+    let i = Inst::Ld(
+        register_for(FIRST, rd),
+        register_for(FIRST, a),
+        small(u64::from(offset)),
+    );
     put_between(items, first, rd, a, i)
 }
 
 // Adds what a store becomes.
-fn put_store(items: &mut RealItems, first: u32, b: &VReg, a: &VReg, offset: u32) -> Result<(), OutOfMemory>
+fn put_store(
+    items: &mut RealItems,
+    first: u32,
+    b: &VReg,
+    a: &VReg,
+    offset: u32,
+) -> Result<(), OutOfMemory>
     requires { offset < 2048 }
     ensures { OnOk result (items.new ≡ items.old ++ expand 0 first 0 (VirtualItem.Store b.now a.now offset)) }
 {
     put_fetch(items, first, FIRST, a)?;
     put_fetch(items, first, SECOND, b)?;
-    let i = Inst::Sd(register_for(SECOND, b), register_for(FIRST, a), small(u64::from(offset)));
+    let i = Inst::Sd(
+        register_for(SECOND, b),
+        register_for(FIRST, a),
+        small(u64::from(offset)),
+    );
     put(items, i)
 }
 
@@ -136,12 +182,22 @@ fn put_address(items: &mut RealItems, first: u32, rd: &VReg, k: u32) -> Result<(
 // ---- items that go elsewhere
 
 // Adds what a branch becomes.
-fn put_branch(items: &mut RealItems, first: u32, cond: Cond, a: &VReg, b: &VReg, mark: u32) -> Result<(), OutOfMemory>
+fn put_branch(
+    items: &mut RealItems,
+    first: u32,
+    cond: Cond,
+    a: &VReg,
+    b: &VReg,
+    mark: u32,
+) -> Result<(), OutOfMemory>
     ensures { OnOk result (items.new ≡ items.old ++ expand 0 first 0 (VirtualItem.Branch cond a.now b.now mark)) }
 {
     put_fetch(items, first, FIRST, a)?;
     put_fetch(items, first, SECOND, b)?;
-    put_real(items, RealItem::Branch(cond, register_for(FIRST, a), register_for(SECOND, b), mark))
+    put_real(
+        items,
+        RealItem::Branch(cond, register_for(FIRST, a), register_for(SECOND, b), mark),
+    )
 }
 
 // Adds what a call of a code address becomes.
@@ -149,7 +205,10 @@ fn put_call_at(items: &mut RealItems, first: u32, f: &VReg) -> Result<(), OutOfM
     ensures { OnOk result (items.new ≡ items.old ++ expand 0 first 0 (VirtualItem.CallAt f.now 0)) }
 {
     put_fetch(items, first, FIRST, f)?;
-    put(items, Inst::Jalr(register(LINK), register_for(FIRST, f), small(0)))
+    put(
+        items,
+        Inst::Jalr(register(LINK), register_for(FIRST, f), small(0)),
+    )
 }
 
 // Adds what a tail call of a procedure with so many slots becomes.
@@ -161,12 +220,20 @@ fn put_tail_call(items: &mut RealItems, count: u32, k: u32) -> Result<(), OutOfM
 }
 
 // Adds what its tail call of a code address becomes.
-fn put_tail_call_at(items: &mut RealItems, first: u32, count: u32, f: &VReg) -> Result<(), OutOfMemory>
+fn put_tail_call_at(
+    items: &mut RealItems,
+    first: u32,
+    count: u32,
+    f: &VReg,
+) -> Result<(), OutOfMemory>
     ensures { OnOk result (items.new ≡ items.old ++ expand 0 first count (VirtualItem.TailCallAt f.now 0)) }
 {
     put_fetch(items, first, SECOND, f)?;
     put_leave(items, count)?;
-    put(items, Inst::Jalr(register(0), register_for(SECOND, f), small(0)))
+    put(
+        items,
+        Inst::Jalr(register(0), register_for(SECOND, f), small(0)),
+    )
 }
 
 // Adds what its return becomes.
@@ -187,7 +254,13 @@ fn put_procedure(items: &mut RealItems, out: u32, k: u32, count: u32) -> Result<
 }
 
 // Adds what an item becomes, told that mark, and the first register of the procedure and how many it has.
-fn put_item(items: &mut RealItems, out: u32, first: u32, count: u32, item: &VirtualItem) -> Result<(), OutOfMemory>
+fn put_item(
+    items: &mut RealItems,
+    out: u32,
+    first: u32,
+    count: u32,
+    item: &VirtualItem,
+) -> Result<(), OutOfMemory>
     requires { fits item.now ≡ true }
     ensures items { OnOk result (items.new ≡ items.old ++ expand out first count item.now) }
     ensures few { HasFew item.now }
@@ -196,7 +269,9 @@ fn put_item(items: &mut RealItems, out: u32, first: u32, count: u32, item: &Virt
         VirtualItem::Constant(rd, word) => put_constant(items, first, rd, *word),
         VirtualItem::Move(rd, a) => put_move(items, first, rd, a),
         VirtualItem::Compute(op, rd, a, b) => put_compute(items, first, *op, rd, a, b),
-        VirtualItem::ComputeWith(op, rd, a, number) => put_compute_with(items, first, *op, rd, a, *number),
+        VirtualItem::ComputeWith(op, rd, a, number) => put_compute_with(
+            items, first, *op, rd, a, *number,
+        ),
         VirtualItem::Load(rd, a, offset) => put_load(items, first, rd, a, *offset),
         VirtualItem::Store(b, a, offset) => put_store(items, first, b, a, *offset),
         VirtualItem::CodeOf(rd, k) => put_address(items, first, rd, *k),
@@ -272,3 +347,10 @@ pub fn slots(alloc: Global, code: &VirtualCode) -> Result<RealCode, OutOfMemory>
     put_final(&mut real, out)?;
     Ok(RealCode { items: real })
 }
+
+/// Frames, none of which is larger than one of so many registers, fill no more bytes than as many frames of that size.
+pub fn frames_fill_no_more_than_the_largest()
+    ensures bytes { (most : ℕ) (found : Found) (frames : List Frame) → HaveAtMost most found frames
+        → stack_of found frames ≤ length frames * frame_size most }
+    ensures size { (count : ℕ) → frame_size count ≡ 8 * (1 + count) }
+{}

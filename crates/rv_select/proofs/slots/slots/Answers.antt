@@ -1,11 +1,12 @@
-use Rattle.std.proofs.Common.{rules, ◌≡◌, ◌++◌, ap, ◌∙◌, subst, sym}
-use Rattle.rv_select.specs.Slots.{slots_items, expand_all, final_items}
-use Rattle.rv_select.specs.Slotted.{free_mark, EachHasFew, IsSlotsOf}
+use Rattle.std.proofs.Common.{rules, ◌≡◌}
+use Rattle.rv_select.specs.Slots.{slots_items}
+use Rattle.rv_select.specs.Slotted.{free_mark, EachHasFew}
 use Rattle.rv_select.proofs.SlotClaims.{is_slots}
 use Rattle.rv_select.proofs.slots.slots.Goals as goal
 
 pub returns : goal.returns
 returns c =
     let few : EachHasFew c.args.code.now.items = search rules in
-    let same : c.put_final.new.items ≡ slots_items (free_mark c.args.code.now.items) c.args.code.now.items = search rules in
+    let out = free_mark c.args.code.now.items in
+    let same : c.put_final.new.items ≡ slots_items out c.args.code.now.items = search rules in
     is_slots c.args.code.now.items c.put_final.new.items few same

@@ -1,0 +1,96 @@
+-- Small runs, by computation: they show that the definitions say something.
+use Rattle.std.proofs.Common.{ℕ, ◌+◌, ◌*◌, ◌≡◌, true, [], ◌∷◌, Some, refl}
+use Rattle.std.specs.Prelude.{pos}
+use Rattle.grift_base.specs.World.{WorldState}
+use Rattle.grift_base.specs.EnvironmentCall.{environment_call}
+use Rattle.grift_base.specs.declared.verdicts.AnswerKind.TheVariants.{Int as IntKind}
+use Rattle.grift_base.specs.declared.verdicts.Verdict.{Verdict as Outcome}
+use Rattle.grift_base.specs.declared.verdicts.Verdict.TheVariants.{Answer, RegionOut}
+use Rattle.run_laws.specs.Runs.{Verdict}
+use Rattle.run_laws.specs.Machines.{run}
+use Rattle.rv_isa.specs.declared.inst.Cond.TheVariants.{Ltu, Eq}
+use Rattle.rv_machine.specs.Mach.{stop_of}
+use Rattle.rv_machine.specs.Memory.{Memory, load_bytes, store_bytes}
+use Rattle.rv_machine.specs.Start.{start_regs}
+use Rattle.low_ir.specs.declared.code.WordOp.TheVariants.{Add}
+use Rattle.low_ir.specs.declared.code.LowSource.TheVariants.{Word, Number}
+use Rattle.low_ir.specs.Procedures.{Done, Set, Compute, Load, Build, Call, If, Return, TailCall, Proc}
+use Rattle.low_ir.specs.Closed.{is_closed}
+use Rattle.low_ir.specs.Run.{Setting as LowSetting, low_machine, low_start}
+use Rattle.rv_select.specs.Run.{virtual_machine, virtual_start}
+use Rattle.rv_select.specs.Select.{select_items}
+use Rattle.rv_select.specs.Selected.{setting_of}
+
+-- builds an object of 7 and 2, loads its second word and hands it to procedure 1, with 0; both branches of a test set
+-- word 1 or 0, and the answer is word 1
+main : Proc
+main = record {
+  params = 0;
+  words = 2;
+  code = Build 0 (Number 7 ∷ Number 2 ∷ []) (Load 1 (Word 0) 8 (Call 1 1 (Word 1 ∷ Number 0 ∷ [])
+      (If Eq (Word 1) (Number 0) (Set 1 (Number 9) Done) (Set 0 (Word 1) Done) (Return (Word 1)))));
+}
+
+-- counts to 3 by calls of itself, and adds what it was handed
+counts : Proc
+counts = record {
+  params = 2;
+  words = 3;
+  code = If Ltu (Word 1) (Number 3) (Compute Add 2 (Word 1) (Number 1) (TailCall 1 (Word 0 ∷ Word 2 ∷ []))) Done
+      (Compute Add 0 (Word 0) (Word 1) (Return (Word 0)));
+}
+
+closed : is_closed (main ∷ counts ∷ []) 0 ≡ true
+unfolding main counts
+closed = refl
+
+-- with a region from 67,000 to an end
+low_in : ℕ → LowSetting
+unfolding main counts
+low_in top = record {
+  procs = main ∷ counts ∷ [];
+  address = λ k. 66000 + 4 * k;
+  labels = [];
+  region = 67000;
+  top = top;
+}
+
+no_memory : Memory
+no_memory i = 0
+
+fresh : WorldState
+fresh = record { output = []; input = []; place = 0 }
+
+five : Outcome
+five = Answer (record { kind = IntKind; word = pos 5 })
+
+low_answers : (run (low_machine stop_of (low_in 67064)) (low_start (low_in 67064) main no_memory fresh) 40).ending
+    ≡ Some (Verdict five)
+unfolding low_in main counts no_memory fresh five load_bytes store_bytes environment_call
+low_answers = refl
+
+virtual_answers : (run (virtual_machine stop_of (setting_of (low_in 67064) (select_items 0 (main ∷ counts ∷ []))))
+    (virtual_start (start_regs 67000 64 4096) no_memory fresh) 90).ending ≡ Some (Verdict five)
+unfolding low_in main counts no_memory fresh five load_bytes store_bytes environment_call
+virtual_answers = refl
+
+-- where an object of two words just fits, and where it doesn't
+low_fits : (run (low_machine stop_of (low_in 67016)) (low_start (low_in 67016) main no_memory fresh) 40).ending
+    ≡ Some (Verdict five)
+unfolding low_in main counts no_memory fresh five load_bytes store_bytes environment_call
+low_fits = refl
+
+virtual_fits : (run (virtual_machine stop_of (setting_of (low_in 67016) (select_items 0 (main ∷ counts ∷ []))))
+    (virtual_start (start_regs 67000 16 4096) no_memory fresh) 90).ending ≡ Some (Verdict five)
+unfolding low_in main counts no_memory fresh five load_bytes store_bytes environment_call
+virtual_fits = refl
+
+low_lacks : (run (low_machine stop_of (low_in 67008)) (low_start (low_in 67008) main no_memory fresh) 40).ending
+    ≡ Some (Verdict RegionOut)
+unfolding low_in main counts no_memory fresh load_bytes store_bytes environment_call
+low_lacks = refl
+
+virtual_lacks : (run (virtual_machine stop_of (setting_of (low_in 67008) (select_items 0 (main ∷ counts ∷ []))))
+    (virtual_start (start_regs 67000 8 4096) no_memory fresh) 90).ending ≡ Some (Verdict RegionOut)
+unfolding low_in main counts no_memory fresh load_bytes store_bytes environment_call
+virtual_lacks = refl
