@@ -244,7 +244,8 @@ procs_fresh (p ∷ ps) k first mark h =
     let tail : List VirtualItem = procs_items (suc k) (first + p.words) (suc mark + marks_in p.code) ps in
     let later = procs_fresh ps (suc k) (first + p.words) (suc mark + marks_in p.code) (omega (arith, h)) in
     subst (λ ms. Fresh (λ x. Between k (k + suc (length ps)) x ⊎ (mark ≤ x)) (k ∷ ms)) (sym (marks_append body tail))
-    (proc_fresh (marks body) (marks tail) k (length ps) mark (suc mark + marks_in p.code) (omega arith) (omega (arith, h))
+    (proc_fresh (marks body) (marks tail) k (length ps) mark (suc mark + marks_in p.code) (omega arith)
+    (omega (arith, h))
     (body_fresh first mark p) later)
 
 -- no mark of a selected code stands twice
