@@ -224,8 +224,12 @@ module _ (allowed : PrimOp → Bool) where
         same w2.casts,
         (
           later work.casts w2.casts (on work.casts w1.casts w2.casts m m2) e.term h,
-          (length w1.casts, e.entry, subst (λ casts. slice_get casts (length w1.casts) ≡ Some entry) (sym is.1)
-          (get_last w1.casts entry (length w1.casts) refl)),
+          (
+            length w1.casts,
+            e.entry,
+            subst (λ casts. slice_get casts (length w1.casts) ≡ Some entry) (sym is.1)
+                (get_last w1.casts entry (length w1.casts) refl),
+          ),
         ),
       )))
 
@@ -299,8 +303,11 @@ module _ (allowed : PrimOp → Bool) where
       (on work.casts w1.casts w3.casts m1 (on w1.casts w2.casts w3.casts m2 m3)) function.term h))
       (λ called w4 m4 cast. (
         same w4.casts,
-        (cast, all_later w1.casts w4.casts (on w1.casts w3.casts w4.casts (on w1.casts w2.casts w3.casts m2 m3) m4)
-        arguments.terms placed),
+        (
+          cast,
+          all_later w1.casts w4.casts (on w1.casts w3.casts w4.casts (on w1.casts w2.casts w3.casts m2 m3) m4)
+              arguments.terms placed,
+        ),
       )))))
   call_places place function_place function number each all he ha (Some IntRow) work h = tt
   call_places place function_place function number each all he ha (Some BoolRow) work h = tt
@@ -329,8 +336,11 @@ module _ (allowed : PrimOp → Bool) where
         same w2.casts,
         (
           later work.casts w2.casts (on work.casts w1.casts w2.casts m m2) whole.term h,
-          (length w1.casts, subst (λ casts. slice_get casts (length w1.casts) ≡ Some entry) (sym is.1)
-          (get_last w1.casts entry (length w1.casts) refl)),
+          (
+            length w1.casts,
+            subst (λ casts. slice_get casts (length w1.casts) ≡ Some entry) (sym is.1)
+                (get_last w1.casts entry (length w1.casts) refl),
+          ),
         ),
       )))
   project_places place number_place whole k (Some IntRow) work h = tt

@@ -221,9 +221,10 @@ module _ (ms : List ℕ) where
           else word_items scratch (slot_offset first v)
           ++ (Op (AddInst scratch scratch 2) ∷ Op (Ld scratch scratch (pos 0)) ∷ []))
       pick true = ((two_spared scratch 2 h stack_spared, tt, refl), tt)
-      pick false = joined (word_items scratch (slot_offset first v)) _ (word_good scratch (slot_offset first v) h)
-          ((three_spared scratch scratch 2 h h stack_spared, tt, refl),
-          ((two_spared scratch scratch h h, tt, refl), tt))
+      pick false = joined (word_items scratch (slot_offset first v)) _ (word_good scratch (slot_offset first v) h) (
+        (three_spared scratch scratch 2 h h stack_spared, tt, refl),
+        ((two_spared scratch scratch h h, tt, refl), tt),
+      )
 
   slot_save_good : (offset : ℕ) → Goods (slot_save offset)
   slot_save_good offset = pick (nat_lt offset 2048)

@@ -109,10 +109,15 @@ fn deep(alloc: Global, calls: u64) -> Result<LowProgram, OutOfMemory> {
 
 // A frame has 24 bytes, and 170 of them fit into the stack.
 #[test]
-fn a_recursion_overflows_the_stack_where_its_frames_do_not_fit(rt: HostRuntime) -> Result<(), Fail> {
+fn a_recursion_overflows_the_stack_where_its_frames_do_not_fit(
+    rt: HostRuntime,
+) -> Result<(), Fail> {
     let alloc = rt.alloc();
     assert_eq!(rt; comes_to(alloc, &deep(alloc, 169)?, 0, 4096)?, answer(169));
-    assert_eq!(rt; comes_to(alloc, &deep(alloc, 170)?, 0, 4096)?, Some(Stop::StackOut));
+    assert_eq!(rt;
+        comes_to(alloc, &deep(alloc, 170)?, 0, 4096)?,
+        Some(Stop::StackOut)
+    );
     Ok(())
 }
 
@@ -146,7 +151,12 @@ fn calls_by_address(alloc: Global) -> Result<LowProc, OutOfMemory> {
         word(1),
         behind(alloc, LowCode::Return(word(1)))?,
     );
-    let calls = LowCode::CallAt(1, word(0), sources(alloc, &[number(20)])?, behind(alloc, adds)?);
+    let calls = LowCode::CallAt(
+        1,
+        word(0),
+        sources(alloc, &[number(20)])?,
+        behind(alloc, adds)?,
+    );
     Ok(procedure(0, 2, LowCode::CodeOf(0, 1, behind(alloc, calls)?)))
 }
 
@@ -181,7 +191,11 @@ fn a_frame_of_ten_thousand_words(rt: HostRuntime) -> Result<(), Fail> {
         behind(alloc, LowCode::Return(word(5000)))?,
     );
     let sets = LowCode::Set(0, number(1), behind(alloc, adds)?);
-    let low = alone(alloc, 10000, LowCode::Set(9999, number(7), behind(alloc, sets)?))?;
+    let low = alone(
+        alloc,
+        10000,
+        LowCode::Set(9999, number(7), behind(alloc, sets)?),
+    )?;
     assert_eq!(rt; comes_to(alloc, &low, 0, 80008)?, answer(8));
     assert_eq!(rt; comes_to(alloc, &low, 0, 80000)?, Some(Stop::StackOut));
     Ok(())

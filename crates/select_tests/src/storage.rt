@@ -27,7 +27,11 @@ fn requests_fill_a_region_exactly(rt: HostRuntime) -> Result<(), Fail> {
     let alloc = rt.alloc();
     let second = LowCode::Request(0, number(1), behind(alloc, LowCode::Return(number(9)))?);
     let takes = LowCode::Take(number(300), behind(alloc, second)?);
-    let low = alone(alloc, 1, LowCode::Request(0, number(300), behind(alloc, takes)?))?;
+    let low = alone(
+        alloc,
+        1,
+        LowCode::Request(0, number(300), behind(alloc, takes)?),
+    )?;
     assert_eq!(rt; comes_to(alloc, &low, 2408, 16)?, answer(9));
     assert_eq!(rt; comes_to(alloc, &low, 2400, 16)?, Some(Stop::RegionOut));
     assert_eq!(rt; comes_to(alloc, &low, 2392, 16)?, Some(Stop::RegionOut));
@@ -75,14 +79,7 @@ fn what_a_procedure_stores_is_read_back(rt: HostRuntime) -> Result<(), Fail> {
 
 // An environment call with two words, and the second word that it hands back.
 fn calls(alloc: Global, kind: u64, a: LowSource, b: LowSource) -> Result<LowProgram, OutOfMemory> {
-    let code = LowCode::Environment(
-        kind,
-        a,
-        b,
-        0,
-        1,
-        behind(alloc, LowCode::Return(word(1)))?,
-    );
+    let code = LowCode::Environment(kind, a, b, 0, 1, behind(alloc, LowCode::Return(word(1)))?);
     alone(alloc, 2, code)
 }
 
@@ -90,16 +87,34 @@ fn calls(alloc: Global, kind: u64, a: LowSource, b: LowSource) -> Result<LowProg
 fn environment_calls(rt: HostRuntime) -> Result<(), Fail> {
     let alloc = rt.alloc();
     let both = (number(2), number(5));
-    assert_eq!(rt; comes_to(alloc, &calls(alloc, 0, number(0), number(42))?, 0, 64)?, answer(42));
+    assert_eq!(rt;
+        comes_to(alloc, &calls(alloc, 0, number(0), number(42))?, 0, 64)?,
+        answer(42)
+    );
     let shows = calls(alloc, 1, number(u64::MAX), number(5))?;
-    assert_eq!(rt; prints(alloc, &shows, 0, 64, b"-1")?, answer(5).map(|stop| (stop, true)));
+    assert_eq!(rt;
+        prints(alloc, &shows, 0, 64, b"-1")?,
+        answer(5).map(|stop| (stop, true))
+    );
     let letter = calls(alloc, 2, number(65), number(5))?;
-    assert_eq!(rt; prints(alloc, &letter, 0, 64, b"A")?, answer(5).map(|stop| (stop, true)));
+    assert_eq!(rt;
+        prints(alloc, &letter, 0, 64, b"A")?,
+        answer(5).map(|stop| (stop, true))
+    );
     let blames = calls(alloc, 3, number(0), number(0))?;
     assert_eq!(rt; comes_to(alloc, &blames, 0, 64)?, Some(Stop::Blamed(LABEL)));
     let traps = calls(alloc, 4, both.0, both.1)?;
-    assert_eq!(rt; comes_to(alloc, &traps, 0, 64)?, Some(Stop::Trapped(Trap::Index)));
-    assert_eq!(rt; comes_to(alloc, &calls(alloc, 5, both.0, both.1)?, 0, 64)?, Some(Stop::RegionOut));
-    assert_eq!(rt; comes_to(alloc, &calls(alloc, 6, both.0, both.1)?, 0, 64)?, Some(Stop::StackOut));
+    assert_eq!(rt;
+        comes_to(alloc, &traps, 0, 64)?,
+        Some(Stop::Trapped(Trap::Index))
+    );
+    assert_eq!(rt;
+        comes_to(alloc, &calls(alloc, 5, both.0, both.1)?, 0, 64)?,
+        Some(Stop::RegionOut)
+    );
+    assert_eq!(rt;
+        comes_to(alloc, &calls(alloc, 6, both.0, both.1)?, 0, 64)?,
+        Some(Stop::StackOut)
+    );
     Ok(())
 }
