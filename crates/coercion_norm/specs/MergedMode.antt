@@ -7,7 +7,8 @@ use Rattle.coercion_norm.specs.Coercions.{Kind, FunKind, TupKind, RefKind, VecKi
 use Rattle.coercion_norm.specs.Coercions.{Middle, Inject, Project, NoCoercions, CoercionThen, is_id, rows_of}
 use Rattle.coercion_norm.specs.CoercionTables.{cast_of, composition_of}
 use Rattle.coercion_norm.specs.Modes.{Shape, Bare, Wrapped, Injected, Decision, Keeping, Wrapping, Rewrapping}
-use Rattle.coercion_norm.specs.Modes.{Unwrapping, Injecting, Opening, Making, Blaming, NoCast, Mode, TypeCast, kept_part}
+use Rattle.coercion_norm.specs.Modes.{Unwrapping, Injecting, Opening, Making, Blaming, NoCast, Mode, TypeCast}
+use Rattle.coercion_norm.specs.Modes.{kept_part}
 
 -- ---- parts of a coercion
 

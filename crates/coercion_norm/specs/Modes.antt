@@ -1,6 +1,6 @@
 -- What casts do to values, in a mode. A mode knows nothing of how values are made: of a value it sees its shape alone.
-use Rattle.std.specs.Prelude.{ℕ, nat_eq, ℤ, Bool, ◌&&◌, not, if◌then◌else◌, List, [], ◌∷◌, map, Option, option_map, Some}
-use Rattle.std.specs.Prelude.{None, slice_get}
+use Rattle.std.specs.Prelude.{ℕ, nat_eq, ℤ, Bool, ◌&&◌, not, if◌then◌else◌, List, [], ◌∷◌, map, Option, Some, None}
+use Rattle.std.specs.Prelude.{option_map, slice_get}
 use Rattle.grift_base.specs.Types.{TypeHead, equal_heads, head_of, TypeRow, FunRow, TypeRows, row_at, is_dyn, is_base}
 use Rattle.grift_base.specs.Types.{same_head, tuple_part, content_of, dyn_place}
 use Rattle.coercion_norm.specs.declared.cast_rows.CastRow.{CastRow}

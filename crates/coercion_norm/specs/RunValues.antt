@@ -1,4 +1,4 @@
--- Values of the languages whose casts are rows. They are over the type C of casts and the type K of what a function runs.
+-- Values of the languages whose casts are rows, over the type C of casts and the type K of what a function runs.
 use Rattle.std.specs.Prelude.{ℕ, ℤ, pos, Bool, if◌then◌else◌, List, [], ◌∷◌, length, Option, None, slice_get}
 use Rattle.grift_base.specs.Types.{IntHead, BoolHead, UnitHead, FunHead, TupleHead, RefHead, VectHead}
 use Rattle.grift_base.specs.declared.verdicts.Answer.{Answer}

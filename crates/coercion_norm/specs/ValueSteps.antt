@@ -16,7 +16,7 @@ use Rattle.grift_base.specs.declared.verdicts.Trap.{Trap}
 use Rattle.grift_base.specs.declared.verdicts.Trap.TheVariants.{ZeroDivisor, Index, Length, Input}
 use Rattle.coercion_norm.specs.Modes.{Decision, Keeping, Wrapping, Rewrapping, Unwrapping, Injecting, Opening, Making}
 use Rattle.coercion_norm.specs.Modes.{Blaming, DynPart, PartCast, NoPart, NoType, Mode}
-use Rattle.coercion_norm.specs.RunValues.{RunValue, RunInt, RunBool, RunUnit, RunFun, RunTuple, RunLoc}
+use Rattle.coercion_norm.specs.RunValues.{RunValue, RunValues, RunInt, RunBool, RunUnit, RunFun, RunTuple, RunLoc}
 use Rattle.coercion_norm.specs.RunValues.{RunWrap, RunInject, RunStore, Pending, plain, row_list, shape_of}
 use Rattle.coercion_norm.specs.RunValues.{run_cell_behind}
 
@@ -88,7 +88,8 @@ cast_all _ _ = None
 -- in a mode, over the number of parameters of what a function runs, and over where it goes on with its captured values
 -- and its arguments; none where their number is not that of its parameters
 module _ {C K F E : Type 0} (mode : Mode C) (arity : K → ℕ)
-    (entered : K → List (RunValue C K) → List (RunValue C K) → Option E) (store : RunStore C K) (world : WorldState) where
+    (entered : K → RunValues C K → List (RunValue C K) → Option E) (store : RunStore C K)
+    (world : WorldState) where
   abbrev pub goes : Focus C K E → List (Frame C K F) → After C K F E
   goes focus k = On focus k store world
 
@@ -116,7 +117,7 @@ module _ {C K F E : Type 0} (mode : Mode C) (arity : K → ℕ)
   -- the function's own code
   abbrev pub apply : RunValue C K → List (RunValue C K) → List (Frame C K F) → After C K F E
   apply (RunFun code captured) values k =
-      on_some (entered code (row_list captured) values) (λ place. goes (Own place) k)
+      on_some (entered code captured values) (λ place. goes (Own place) k)
   apply _ values k = NoNext
 
   -- a function inside a wrapper, with one cast more for each argument and one for the result
