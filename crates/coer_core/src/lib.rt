@@ -1,0 +1,2 @@
+//! Terms whose casts are numbers of rows.
+#![tactic(auto)]
