@@ -1,2 +1,4 @@
 mod Joining
 mod Unload
+mod Relation
+mod Plugging
