@@ -2,3 +2,5 @@ mod Joining
 mod Unload
 mod Relation
 mod Plugging
+mod Matching
+mod Operating
