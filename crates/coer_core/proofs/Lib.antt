@@ -4,3 +4,4 @@ mod Relation
 mod Plugging
 mod Matching
 mod Operating
+mod Moving

@@ -42,10 +42,10 @@ redex_terms terms = (focus_terms terms).redex
 abbrev pub redex_bindings : Bindings → Term
 redex_bindings bindings = (focus_bindings bindings).redex
 
-some_chosen : {A B : Type 0} (o : Option A) (a : A) (x y : Focus B) → o ≡ Some a → (where_some o x y).redex ≡ x.redex
+pub some_chosen : {A B : Type 0} (o : Option A) (a : A) (x y : Focus B) → o ≡ Some a → (where_some o x y).redex ≡ x.redex
 some_chosen o a x y e = rw e refl
 
-none_chosen : {A B : Type 0} (o : Option A) (x y : Focus B) → o ≡ None → (where_some o x y).redex ≡ y.redex
+pub none_chosen : {A B : Type 0} (o : Option A) (x y : Focus B) → o ≡ None → (where_some o x y).redex ≡ y.redex
 none_chosen o x y e = rw e refl
 
 module _ (rows : List TypeCast) where
@@ -265,7 +265,7 @@ module _ (rows : List TypeCast) where
         some_chosen (as_value function) f (where_some (all_values terms) whole inner)
         (below (λ next. Call next terms) (focus function)) e ∙ none_chosen (all_values terms) whole inner n
 
-    plain_redex : (f : PiledValue) (whole inner : Focus Term) → IsPlain f
+    pub plain_redex : (f : PiledValue) (whole inner : Focus Term) → IsPlain f
         → (enter_focus (Some (value_of rows f)) whole inner).redex ≡ inner.redex
     plain_redex (RunWrap v cast) whole inner p = absurd p
     plain_redex (RunFun (LambdaCode parameters body type names) captured) whole inner p = refl
