@@ -5,3 +5,5 @@ mod Plugging
 mod Matching
 mod Operating
 mod Moving
+mod Following
+mod Typed

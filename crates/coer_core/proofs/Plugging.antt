@@ -42,7 +42,8 @@ redex_terms terms = (focus_terms terms).redex
 abbrev pub redex_bindings : Bindings → Term
 redex_bindings bindings = (focus_bindings bindings).redex
 
-pub some_chosen : {A B : Type 0} (o : Option A) (a : A) (x y : Focus B) → o ≡ Some a → (where_some o x y).redex ≡ x.redex
+pub some_chosen : {A B : Type 0} (o : Option A) (a : A) (x y : Focus B) → o ≡ Some a
+    → (where_some o x y).redex ≡ x.redex
 some_chosen o a x y e = rw e refl
 
 pub none_chosen : {A B : Type 0} (o : Option A) (x y : Focus B) → o ≡ None → (where_some o x y).redex ≡ y.redex
