@@ -7,3 +7,5 @@ mod Operating
 mod Moving
 mod Following
 mod Typed
+mod Counting
+mod PiledRuns
