@@ -9,3 +9,5 @@ mod Following
 mod Typed
 mod Counting
 mod PiledRuns
+mod Merging
+mod MergeSteps

@@ -22,7 +22,6 @@ use Rattle.coercion_norm.specs.RunValues.{RunInt, RunBool, RunUnit, RunFun, RunT
 use Rattle.coercion_norm.specs.RunValues.{NoRunValues, RunValueThen, row_list, shape_of}
 use Rattle.coercion_norm.specs.ValueSteps.{CastFrame, ProjFrame, PrimFrame, EnterFrame, OwnFrame}
 use Rattle.coer_core.specs.Terms.{RowMembers, NoRowMembers, RowMemberThen, core_members, core_bindings}
-use Rattle.coer_core.specs.Counts.{others}
 use Rattle.coer_core.specs.Machine.{LambdaCode, MemberCode, member_width, code_arity, Calling, Tupling, Operating}
 use Rattle.coer_core.specs.Machine.{IfFrame, SeqFrame, FunFrame, ProjDynFrame, GatherFrame, LetFrame}
 use Rattle.coer_core.proofs.Following.{Keeps}

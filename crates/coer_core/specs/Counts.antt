@@ -26,9 +26,10 @@ use Rattle.coer_core.specs.Machine.{running, run_start, after_turn, turn}
 -- ---- free names: what a function captures
 
 -- the names that are not among these
-abbrev pub others : List ℕ → List ℕ → List ℕ
-others names [] = []
-others names (name ∷ rest) = cond (is_among name names) (others names rest) (name ∷ others names rest)
+abbrev pub names_besides : List ℕ → List ℕ → List ℕ
+names_besides names [] = []
+names_besides names (name ∷ rest) =
+    cond (is_among name names) (names_besides names rest) (name ∷ names_besides names rest)
 
 -- the names of a group's members
 abbrev pub row_member_names : RowMembers → List ℕ
@@ -47,11 +48,11 @@ abbrev mutual
   free_names (RowBool b) = []
   free_names RowUnit = []
   free_names (RowVar name) = name ∷ []
-  free_names (RowLambda parameters body type) = others parameters (free_names body)
+  free_names (RowLambda parameters body type) = names_besides parameters (free_names body)
   free_names (RowGroup members body) =
-      others (row_member_names members) (free_names_of_members members ++ free_names body)
+      names_besides (row_member_names members) (free_names_of_members members ++ free_names body)
   free_names (RowLet bindings body) =
-      free_names_of_bindings bindings ++ others (row_binding_names bindings) (free_names body)
+      free_names_of_bindings bindings ++ names_besides (row_binding_names bindings) (free_names body)
   free_names (RowCall function arguments) = free_names function ++ free_names_of_all arguments
   free_names (RowIf condition on_true on_false) =
       free_names condition ++ (free_names on_true ++ free_names on_false)
@@ -70,7 +71,7 @@ abbrev mutual
   pub free_names_of_members : RowMembers → List ℕ
   free_names_of_members NoRowMembers = []
   free_names_of_members (RowMemberThen name parameters body type rest) =
-      others parameters (free_names body) ++ free_names_of_members rest
+      names_besides parameters (free_names body) ++ free_names_of_members rest
 
   pub free_names_of_bindings : RowBindings → List ℕ
   free_names_of_bindings NoRowBindings = []
@@ -79,15 +80,15 @@ abbrev mutual
 -- each name once, where it stands first
 abbrev pub each_once : List ℕ → List ℕ
 each_once [] = []
-each_once (name ∷ rest) = name ∷ others (name ∷ []) (each_once rest)
+each_once (name ∷ rest) = name ∷ names_besides (name ∷ []) (each_once rest)
 
 -- the captured names of a group: those bound outside it that are free in one of its members
 abbrev pub group_captures : RowMembers → List ℕ
-group_captures members = each_once (others (row_member_names members) (free_names_of_members members))
+group_captures members = each_once (names_besides (row_member_names members) (free_names_of_members members))
 
 -- those of a lambda
 abbrev pub lambda_captures : List ℕ → RowTerm → List ℕ
-lambda_captures parameters body = each_once (others parameters (free_names body))
+lambda_captures parameters body = each_once (names_besides parameters (free_names body))
 
 abbrev pub row_member_count : RowMembers → ℕ
 row_member_count NoRowMembers = 0
