@@ -11,3 +11,4 @@ mod Counting
 mod PiledRuns
 mod Merging
 mod MergeSteps
+mod Merged
