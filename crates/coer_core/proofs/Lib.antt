@@ -12,3 +12,4 @@ mod PiledRuns
 mod Merging
 mod MergeSteps
 mod Merged
+mod Flat
