@@ -13,3 +13,4 @@ mod Merging
 mod MergeSteps
 mod Merged
 mod Flat
+mod MergedRuns
