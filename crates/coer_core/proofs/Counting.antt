@@ -6,10 +6,10 @@ use Rattle.run_laws.specs.Runs.{Reached}
 use Rattle.run_laws.specs.Runs.{Follows, FollowsBy, Any}
 use Rattle.run_laws.specs.Reductions.{Reduction, unless_ended, state_after, moment_at, reduction_run}
 use Rattle.run_laws.specs.Meters.{Metered, unspent, metered_reduction, SpendSame}
-use Rattle.grift_base.specs.declared.places.Pos.{Pos}
 use Rattle.grift_base.specs.declared.verdicts.Verdict.{Verdict}
 use Rattle.core_calc.specs.Calculus.{CalcState}
 use Rattle.coercion_norm.specs.Modes.{Mode}
+use Rattle.coercion_norm.specs.AnswerTypes.{Told}
 use Rattle.coer_core.specs.Machine.{RunState, running}
 use Rattle.coer_core.specs.Counts.{wraps_of_turn, Counts, Counted, uncounted, counting, SameWraps}
 
@@ -50,72 +50,72 @@ module _ {A B D V : Type 0} (X : Run A V) (Y : Run B V) (Z : Run D V) where
         );
   }
 
-module _ {C : Type 0} (mode : Mode C) (labels : List Pos) where
+module _ {C : Type 0} (mode : Mode C) (told : Told) where
   abbrev wrapping : Reduction (Metered (RunState C)) (Metered (RunState C)) Verdict
-  wrapping = metered_reduction (wraps_of_turn mode) (running mode labels)
+  wrapping = metered_reduction (wraps_of_turn mode) (running mode told)
 
   -- the wrap steps alone
   abbrev wraps_only : Counted C → Metered (RunState C)
   wraps_only s = record { spent = s.wraps; rest = s.state }
 
   same_step : (o : Option (Ending Verdict)) (s : Counted C)
-      → wraps_only (unless_ended o (counting mode labels).step s) ≡ unless_ended o wrapping.step (wraps_only s)
+      → wraps_only (unless_ended o (counting mode told).step s) ≡ unless_ended o wrapping.step (wraps_only s)
   same_step (Some e) s = refl
   same_step None s = refl
 
   pub counted_after : (n : ℕ) (s : Counted C)
-      → wraps_only (state_after (counting mode labels) s n) ≡ state_after wrapping (wraps_only s) n
+      → wraps_only (state_after (counting mode told) s n) ≡ state_after wrapping (wraps_only s) n
   counted_after zero s = refl
   counted_after (suc n) s =
-      let o : Option (Ending Verdict) = (running mode labels).ending s.state in
-      counted_after n (unless_ended o (counting mode labels).step s)
+      let o : Option (Ending Verdict) = (running mode told).ending s.state in
+      counted_after n (unless_ended o (counting mode told).step s)
       ∙ ap (λ t. state_after wrapping t n) (same_step o s)
 
   same_plain : (o : Option (Ending Verdict)) (s : Counted C)
-      → (unless_ended o (counting mode labels).step s).state ≡ unless_ended o (running mode labels).step s.state
+      → (unless_ended o (counting mode told).step s).state ≡ unless_ended o (running mode told).step s.state
   same_plain (Some e) s = refl
   same_plain None s = refl
 
   pub state_counted : (n : ℕ) (s : Counted C)
-      → (state_after (counting mode labels) s n).state ≡ state_after (running mode labels) s.state n
+      → (state_after (counting mode told) s n).state ≡ state_after (running mode told) s.state n
   state_counted zero s = refl
   state_counted (suc n) s =
-      let o : Option (Ending Verdict) = (running mode labels).ending s.state in
-      state_counted n (unless_ended o (counting mode labels).step s)
-      ∙ ap (λ t. state_after (running mode labels) t n) (same_plain o s)
+      let o : Option (Ending Verdict) = (running mode told).ending s.state in
+      state_counted n (unless_ended o (counting mode told).step s)
+      ∙ ap (λ t. state_after (running mode told) t n) (same_plain o s)
 
   pub counted_moments : (s : Counted C)
-      → SameMoments (reduction_run (counting mode labels) s) (reduction_run (running mode labels) s.state)
+      → SameMoments (reduction_run (counting mode told) s) (reduction_run (running mode told) s.state)
   counted_moments s n =
       let e = state_counted n s in
-      (ap (λ (t : RunState C). (running mode labels).output t) e, ap (λ (t : RunState C). (running mode labels).ending
+      (ap (λ (t : RunState C). (running mode told).output t) e, ap (λ (t : RunState C). (running mode told).ending
       t) e)
 
   backed_counted : (s : Counted C) (y : Moment (Metered CalcState) Verdict)
-      → Backed SpendSame (moment_at wrapping (wraps_only s)) y → Backed SameWraps (moment_at (counting mode labels) s) y
+      → Backed SpendSame (moment_at wrapping (wraps_only s)) y → Backed SameWraps (moment_at (counting mode told) s) y
   backed_counted s y b = (record { output = b.0.output; shown = b.0.shown }, b.1)
 
   reached_counted : (s : Counted C) (y : Moment (Metered CalcState) Verdict)
       → Reached SpendSame (moment_at wrapping (wraps_only s)) y
-      → Reached SameWraps (moment_at (counting mode labels) s) y
+      → Reached SameWraps (moment_at (counting mode told) s) y
   reached_counted s y (inl e) = inl e
   reached_counted s y (inr r) = inr (record { output = r.0.output; shown = r.0.shown }, r.1)
 
   pub follows_counted : (Y : Run (Metered CalcState) Verdict) (s : Counted C)
       → FollowsBy SpendSame Any (reduction_run wrapping (wraps_only s)) Y
-      → FollowsBy SameWraps Any (reduction_run (counting mode labels) s) Y
+      → FollowsBy SameWraps Any (reduction_run (counting mode told) s) Y
   follows_counted Y s f = record {
     back =
         λ m. let b = f.back m in (
           b.0,
-          backed_counted (state_after (counting mode labels) s m) (Y b.0)
+          backed_counted (state_after (counting mode told) s m) (Y b.0)
               (subst (λ t. Backed SpendSame (moment_at wrapping t) (Y b.0)) (sym (counted_after m s)) b.1),
         );
     forth =
         λ n. let b = f.forth n in (
           b.0,
           tt,
-          reached_counted (state_after (counting mode labels) s b.0) (Y n)
+          reached_counted (state_after (counting mode told) s b.0) (Y n)
               (subst (λ t. Reached SpendSame (moment_at wrapping t) (Y n)) (sym (counted_after b.0 s)) b.2),
         );
   }

@@ -16,6 +16,7 @@ use Rattle.coercion_norm.specs.MergedMode.{shape_has_head, applied, merging_by}
 use Rattle.coercion_norm.specs.RunValues.{RunInt, RunBool, RunUnit, RunFun, RunTuple, RunLoc, RunWrap, RunInject}
 use Rattle.coercion_norm.specs.RunValues.{row_list, shape_of}
 use Rattle.coercion_norm.specs.ValueSteps.{CastFrame, Return, onto, casts_onto, make}
+use Rattle.coercion_norm.specs.AnswerTypes.{Told}
 use Rattle.coer_core.specs.Terms.{RowTerm}
 use Rattle.coer_core.specs.Machine.{code_arity, CoerValue, CoerStore, CoerFrame, entered, operates, running, run_start}
 use Rattle.coer_core.proofs.Merged.{GoesAt, Laws, same_goes, merged_follows}
@@ -43,7 +44,7 @@ base_no_part : (row : TypeRow) (i : ℤ) → is_base row ≡ true → tuple_part
 base_no_part (TupleRow parts) i b = absurd (false_true b)
 base_no_part _ i b = refl
 
-module _ (types : TypeRows) (rows : List TypeCast) (labels : List Pos) (coerce : ℕ → ℕ → ℕ
+module _ (types : TypeRows) (rows : List TypeCast) (told : Told) (coerce : ℕ → ℕ → ℕ
     → Coercion) (compose : Coercion → Coercion → Coercion) where
   -- what is used of the coercions of flat types, of composition and of the table
   pub record FlatCoercions : Type 0 where
@@ -200,14 +201,14 @@ module _ (types : TypeRows) (rows : List TypeCast) (labels : List Pos) (coerce :
     flat_casts : (i : ℕ) (v : CoerValue TypeCast) (u : CoerValue Coercion) (c : TypeCast) (cs : List TypeCast)
         (d : Coercion) (k : List (CoerFrame TypeCast)) (k' : List (CoerFrame Coercion)) (store : CoerStore TypeCast)
         (store1 : CoerStore Coercion) (world : WorldState) → Carries flat v u → Stands d (c ∷ cs) → Frames flat k k'
-        → Stores flat store store1 → GoesAt flat m n labels i (Return v) (casts_onto (c ∷ cs) k) store world (Return u)
+        → Stores flat store store1 → GoesAt flat m n told i (Return v) (casts_onto (c ∷ cs) k) store world (Return u)
         (CastFrame d ∷ k') store1
     flat_casts i v u c [] d k k' store store1 world r s fr st =
-        same_goes flat m n labels i (Return v) (CastFrame c ∷ k) store world (Return u) (CastFrame d ∷ k') store1 refl
+        same_goes flat m n told i (Return v) (CastFrame c ∷ k) store world (Return u) (CastFrame d ∷ k') store1 refl
         refl (casts_same store store1 st world k k' fr v u c d r s)
     flat_casts i v u c (e ∷ cs) d k k' store store1 world r s fr st = absurd s
 
-    flat_laws : Laws flat m n labels
+    flat_laws : Laws flat m n told
     flat_laws = record {
       row = λ number. row_there number (slice_get rows number) refl;
       dyn_part = λ kept i label b. part_there kept i label b.0 b.1 b.3;
@@ -222,7 +223,7 @@ module _ (types : TypeRows) (rows : List TypeCast) (labels : List Pos) (coerce :
     }
 
     pub flat_follows : (term : RowTerm) (input : List ℕ)
-        → NeverWrong (reduction_run (running (piling types rows) labels) (run_start term input))
-        → Follows (reduction_run (running (merging_by coerce compose types rows) labels) (run_start term input))
-        (reduction_run (running (piling types rows) labels) (run_start term input))
-    flat_follows term input nw = merged_follows flat m n labels flat_laws term input nw
+        → NeverWrong (reduction_run (running (piling types rows) told) (run_start term input))
+        → Follows (reduction_run (running (merging_by coerce compose types rows) told) (run_start term input))
+        (reduction_run (running (piling types rows) told) (run_start term input))
+    flat_follows term input nw = merged_follows flat m n told flat_laws term input nw

@@ -1,8 +1,8 @@
 -- The run with environments and piled casts follows the calculus.
 use Rattle.std.proofs.Common.{◌≡◌, ◌⊎◌, inl, inr, ℕ, ◌<◌, List, [], ◌∷◌, map, Option, Some, None, refl, sym, ap, ◌∙◌}
 use Rattle.std.proofs.Common.{subst}
-use Rattle.std.specs.Prelude.{option_map}
-use Rattle.run_laws.specs.Runs.{Run, NeverWrong, Follows, FollowsBy, Any}
+use Rattle.std.specs.Prelude.{option_map, true, if◌then◌else◌}
+use Rattle.run_laws.specs.Runs.{Ending, Wrong, Run, NeverWrong, Follows, FollowsBy, Any}
 use Rattle.run_laws.specs.Meters.{Metered, unspent, metered_reduction, SpendSame}
 use Rattle.run_laws.proofs.Public.{Alone, Both, Over, Lockstep, paid, charged, lockstep_follows}
 use Rattle.run_laws.specs.Reductions.{Reduction, reduction_run}
@@ -19,9 +19,11 @@ use Rattle.core_calc.proofs.Public.{nothing_put_in}
 use Rattle.coercion_norm.specs.Modes.{TypeCast, piling}
 use Rattle.coercion_norm.specs.RunValues.{shown}
 use Rattle.coercion_norm.specs.ValueSteps.{CastFrame, Own, Return, Entering, On, BlameOf, TrapOf, NoNext, goes}
+use Rattle.coercion_norm.specs.AnswerTypes.{Told, fits_type}
 use Rattle.coer_core.specs.Terms.{RowTerm, core_of}
 use Rattle.coer_core.specs.Counts.{turn_wraps, wraps_of_turn, wraps_at, wraps_of_step}
-use Rattle.coer_core.specs.Machine.{Eval, turn, ended_at, state_at, after_turn, running, run_start}
+use Rattle.coer_core.specs.Machine.{code_arity, Eval, turn, ended_at, ending_at, state_at, after_turn, running}
+use Rattle.coer_core.specs.Machine.{run_start}
 use Rattle.coer_core.proofs.Plugging.{Steps, plug_step}
 use Rattle.coer_core.proofs.Relation.{cast_term, sub, Is, Plugged, TermOf, size_of}
 use Rattle.coer_core.proofs.Unload.{PiledValue, PiledStore, PiledFrame, PiledFocus, PiledAfter, PiledState, value_of}
@@ -30,15 +32,26 @@ use Rattle.coer_core.proofs.Matching.{Matched, Fit}
 use Rattle.coer_core.proofs.Moving.{Silently, Stepping, Moves, eval_moves, FitFrame, back_moves, enter_moves}
 
 -- what keeps every cast at a value that it fits, along the calculus: typing does
-pub record Keeps (types : TypeRows) (rows : List TypeCast) (labels : List Pos)
+pub record Keeps (types : TypeRows) (rows : List TypeCast) (labels : List Pos) (answer : ℕ)
     (Good : CalcState → Type 0) : Type 0 where
   pub steps : (c : CalcState) → Good c → c.ended ≡ None → Good ((calculus types labels).step c)
   pub casts : (k : List PiledFrame) (v : PiledValue) (cast : TypeCast) (h whole : Term) (store : PiledStore)
       (world : WorldState) → Good (state_of whole (store_of rows store) world) → Plugged rows k (cast_term h cast) whole
       → Is rows h v → Fit types rows store world v cast
+  pub answers : (v : PiledValue) (whole : Term) (store : PiledStore) (world : WorldState)
+      → Good (state_of whole (store_of rows store) world) → Is rows whole v
+      → fits_type code_arity types v answer ≡ true
 
-module _ (types : TypeRows) (rows : List TypeCast) (labels : List Pos) (Good : CalcState → Type 0)
-    (keeps : Keeps types rows labels Good) where
+-- an end without an answer
+abbrev pub IsBlank : CalcEnd → Type 0
+IsBlank (Answered shown) = ⊥
+IsBlank _ = Unit {0}
+
+module _ (types : TypeRows) (rows : List TypeCast) (labels : List Pos) (answer : ℕ) (Good : CalcState → Type 0)
+    (keeps : Keeps types rows labels answer Good) where
+  abbrev told : Told
+  told = record { labels = labels; types = types; answer = answer }
+
   -- both go on
   pub record Going (c : CalcState) (s : PiledState) : Type 0 where
     pub focus : PiledFocus
@@ -54,6 +67,7 @@ module _ (types : TypeRows) (rows : List TypeCast) (labels : List Pos) (Good : C
   -- both have ended without an answer
   pub record Ended (c : CalcState) (s : PiledState) : Type 0 where
     pub end : CalcEnd
+    pub blank : IsBlank end
     pub first : c.ended ≡ Some end
     pub second : s.ended ≡ Some end
     pub output : c.world.output ≡ s.world.output
@@ -68,7 +82,7 @@ module _ (types : TypeRows) (rows : List TypeCast) (labels : List Pos) (Good : C
   M = calculus types labels
 
   abbrev N : Reduction PiledState PiledState Verdict
-  N = running (piling types rows) labels
+  N = running (piling types rows) told
 
   abbrev work : CalcState → ℕ
   work = wraps_of_step types
@@ -79,12 +93,18 @@ module _ (types : TypeRows) (rows : List TypeCast) (labels : List Pos) (Good : C
   abbrev Does : CalcState → PiledState → Type 0
   Does c s = Alone M N work cost R size c s ⊎ (Both M N work cost R size c s ⊎ Over M N work cost R size c s)
 
-  no_ending : (o : Option CalcEnd) → o ≡ None → option_map (ending_of labels) o ≡ None
-  no_ending o e = ap (option_map (ending_of labels)) e
+  no_ending : (f : CalcEnd → Ending Verdict) (o : Option CalcEnd) → o ≡ None → option_map f o ≡ None
+  no_ending f o e = ap (option_map f) e
 
   ending_some : (o : Option CalcEnd) (end : CalcEnd) → o ≡ Some end
       → option_map (ending_of labels) o ≡ Some (ending_of labels end)
   ending_some o end e = ap (option_map (ending_of labels)) e
+
+  blank_ending : (end : CalcEnd) (focus : PiledFocus) → IsBlank end → ending_at told end focus ≡ ending_of labels end
+  blank_ending (Answered shown) focus b = absurd b
+  blank_ending (Blamed label) focus b = refl
+  blank_ending (Trapped trap) focus b = refl
+  blank_ending NoStep focus b = refl
 
   module _ (focus : PiledFocus) (frames : List PiledFrame) (store : PiledStore) (world : WorldState) (whole : Term)
       (unended : ended_at focus frames ≡ None) (fine : Good (state_of whole (store_of rows store) world)) where
@@ -99,7 +119,7 @@ module _ (types : TypeRows) (rows : List TypeCast) (labels : List Pos) (Good : C
         (size_of focus frames) k h after → Does c s
     alone k h (On focus1 frames1 store1 world1) e p m =
         inl (record {
-          running = no_ending (ended_at focus frames) unended;
+          running = no_ending (λ end. ending_at told end focus) (ended_at focus frames) unended;
           free = m.0;
           next = inl (record {
             focus = focus1;
@@ -139,11 +159,13 @@ module _ (types : TypeRows) (rows : List TypeCast) (labels : List Pos) (Good : C
           run_state = refl;
         })
     together k h (BlameOf label) (Blames other) put puts m gd =
-        inr (record { end = Blamed label; first = ap (λ l. Some (Blamed l)) m; second = refl; output = refl })
+        inr (record { end = Blamed label; blank = tt; first = ap (λ l. Some (Blamed l)) m; second = refl; output = refl
+        })
     together k h (TrapOf trap world1) (Traps other world2) put puts m gd =
-        inr (record { end = Trapped trap; first = ap (λ t. Some (Trapped t)) m.0; second = refl; output = ap
+        inr (record { end = Trapped trap; blank = tt; first = ap (λ t. Some (Trapped t)) m.0; second = refl; output = ap
         (λ (w : WorldState). w.output) m.1 })
-    together k h NoNext Stuck put puts m gd = inr (record { end = NoStep; first = refl; second = refl; output = refl })
+    together k h NoNext Stuck put puts m gd =
+        inr (record { end = NoStep; blank = tt; first = refl; second = refl; output = refl })
     together k h _ _ put puts m gd = absurd m
 
     both : (k : List PiledFrame) (h : Term) (after : PiledAfter) → turn (piling types rows) store world focus frames
@@ -153,8 +175,8 @@ module _ (types : TypeRows) (rows : List TypeCast) (labels : List Pos) (Good : C
         let st : Steps rows types (store_of rows store) world (Plugged rows k) h whole =
             plug_step rows types (store_of rows store) world k h whole m.0 p in
         inr (inl (record {
-          first = no_ending c.ended (ap (option_map (λ v. Answered (shown_value v))) st.none);
-          second = no_ending (ended_at focus frames) unended;
+          first = no_ending (ending_of labels) c.ended (ap (option_map (λ v. Answered (shown_value v))) st.none);
+          second = no_ending (λ end. ending_at told end focus) (ended_at focus frames) unended;
           same = sym (ap (wraps_at types) st.redexes ∙ m.1);
           next =
               subst (λ x. R x (N.step s)) (sym (ap (state_after_step c) st.goes))
@@ -173,15 +195,15 @@ module _ (types : TypeRows) (rows : List TypeCast) (labels : List Pos) (Good : C
 
   -- a value that nothing waits for
   answers : (v : PiledValue) (store : PiledStore) (world : WorldState) (whole : Term)
-      → as_value whole ≡ Some (value_of rows v)
+      → fits_type code_arity types v answer ≡ true → as_value whole ≡ Some (value_of rows v)
       → Does (state_of whole (store_of rows store) world) (state_at (Return v) [] store world)
-  answers v store world whole e =
+  answers v store world whole fit e =
       inr (inr (record {
         ending = ending_of labels (Answered (shown v));
         first =
             ap (λ o. option_map (ending_of labels) (option_map (λ x. Answered (shown_value x)) o)) e
             ∙ ap (λ a. Some (ending_of labels (Answered a))) (shown_same rows v);
-        second = refl;
+        second = ap (λ b. Some (if b then ending_of labels (Answered (shown v)) else Wrong)) fit;
       }))
 
   fit_frame : (v : PiledValue) (frame : PiledFrame) (k : List PiledFrame) (h whole : Term) (store : PiledStore)
@@ -198,7 +220,8 @@ module _ (types : TypeRows) (rows : List TypeCast) (labels : List Pos) (Good : C
       (turn (piling types rows) store world (Own (Eval term env)) frames) refl
       (subst (λ x. Plugged rows frames x whole) t.1 t.2) (eval_moves types rows store world term env frames)
   going_does (Return v) [] store world whole gd t =
-      answers v store world whole (subst (λ x. as_value x ≡ Some (value_of rows v)) t.2 t.1)
+      let e : as_value whole ≡ Some (value_of rows v) = subst (λ x. as_value x ≡ Some (value_of rows v)) t.2 t.1 in
+      answers v store world whole (keeps.answers v whole store world gd e) e
   going_does (Return v) (frame ∷ frames) store world whole gd t =
       let b =
           back_moves types rows store world v frame frames t.0 whole (fit_frame v frame frames t.0 whole store world gd
@@ -217,7 +240,7 @@ module _ (types : TypeRows) (rows : List TypeCast) (labels : List Pos) (Good : C
       (sym g.run_state) (going_does g.focus g.frames g.store g.world g.whole (subst Good g.calc_state g.good) g.stands))
   does c s (inr e) =
       inr (inr (record { ending = ending_of labels e.end; first = ending_some c.ended e.end e.first; second =
-      ending_some s.ended e.end e.second }))
+      ap (option_map (λ end. ending_at told end s.focus)) e.second ∙ ap Some (blank_ending e.end s.focus e.blank) }))
 
   alike : (c : CalcState) (s : PiledState) → R c s → s.world.output ≡ c.world.output
   alike c s (inl g) =

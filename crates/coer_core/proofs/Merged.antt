@@ -7,7 +7,7 @@ use Rattle.std.specs.Prelude.{◌-ℤ◌, ◌*ℤ◌}
 use Rattle.std.specs.Int.{int_wrapping_div, int_wrap, w64}
 use Rattle.std.specs.Fmt.{signed_decimal}
 use Rattle.std.specs.Ordering.{int_eq}
-use Rattle.run_laws.specs.Runs.{IsPrefix, Wrong, Follows, NeverWrong}
+use Rattle.run_laws.specs.Runs.{Ending, IsPrefix, Wrong, Follows, NeverWrong}
 use Rattle.run_laws.specs.Reductions.{Reduction, reduction_run, moment_at, state_after, unless_ended}
 use Rattle.run_laws.proofs.Public.{Along, Paths, Round, LastRound, WrongRound, Goes, rounds_follow, goes_after}
 use Rattle.grift_base.specs.World.{WorldState, printing}
@@ -26,13 +26,17 @@ use Rattle.coercion_norm.specs.RunValues.{RunInt, RunBool, RunUnit, RunFun, RunT
 use Rattle.coercion_norm.specs.ValueSteps.{CastFrame, ProjFrame, PrimFrame, EnterFrame, OwnFrame, Own, Return, Entering}
 use Rattle.coercion_norm.specs.ValueSteps.{On, BlameOf, TrapOf, NoNext, onto, casts_onto}
 use Rattle.coer_core.specs.Terms.{RowTerm, RowTerms, NoRowTerms, RowTermThen}
-use Rattle.coer_core.specs.Machine.{CoerValue, CoerStore, CoerPending, Env, Eval, Calling, Tupling, Operating, IfFrame}
+use Rattle.coercion_norm.specs.AnswerTypes.{Told, fits_type}
+use Rattle.coer_core.proofs.Joining.{ap2}
+use Rattle.coer_core.specs.Machine.{answer_ending, ending_at, CoerValue, CoerStore, CoerPending, Env, Eval, Calling}
+use Rattle.coer_core.specs.Machine.{Tupling, Operating, IfFrame}
 use Rattle.coer_core.specs.Machine.{SeqFrame, FunFrame, ProjDynFrame, GatherFrame, LetFrame, CoerFrame, CoerFocus}
 use Rattle.coer_core.specs.Machine.{CoerAfter, back, turn, RunState, ended_at, state_at, after_turn, running, run_start}
 use Rattle.coer_core.proofs.MergeSteps.{FirstIsBare, OperandIsBare, Same, FirstStood, Parts, plain_too, enters_plain}
 use Rattle.coer_core.proofs.MergeSteps.{s_enter, s_proj, s_proj_dyn, s_call, s_tuple, s_prim, s_bind, s_choose, s_eval}
 use Rattle.coer_core.proofs.Merging.{Both, IfThere, IsBare, AllFresh, Enterable, Likeness, Carries, EnvLike, Stores}
 use Rattle.coer_core.proofs.Merging.{Pends, PendingLike, groups_onto, AllDropped, Top, Frames, Foci, shown_carried}
+use Rattle.coer_core.proofs.Merging.{fits_carried}
 
 
 
@@ -70,7 +74,7 @@ IsLast {C = C} operator done frame =
     (frame ≡ PrimFrame operator done)
     ⊎ ((env : Env C) × (frame ≡ OwnFrame (GatherFrame (Operating operator) done NoRowTerms env)))
 
-module _ {C D : Type 0} (like : Likeness C D) (m : Mode C) (n : Mode D) (labels : List Pos) where
+module _ {C D : Type 0} (like : Likeness C D) (m : Mode C) (n : Mode D) (told : Told) where
   -- both states are running and related
   pub record Stand (s : RunState C) (t : RunState D) : Type 0 where
     pub focus : CoerFocus C
@@ -92,7 +96,7 @@ module _ {C D : Type 0} (like : Likeness C D) (m : Mode C) (n : Mode D) (labels 
   abbrev pub GoesAt : ℕ → CoerFocus C → List (CoerFrame C) → CoerStore C → WorldState → CoerFocus D → List (CoerFrame D)
       → CoerStore D → Type 0
   GoesAt i focus frames store world focus1 frames1 store1 =
-      Goes (running m labels) (running n labels) R i (state_at focus frames store world)
+      Goes (running m told) (running n told) R i (state_at focus frames store world)
       (state_at focus1 frames1 store1 world)
 
   abbrev pub Drops : Type 0
@@ -100,8 +104,8 @@ module _ {C D : Type 0} (like : Likeness C D) (m : Mode C) (n : Mode D) (labels 
       (i : ℕ) (v : CoerValue C) (u : CoerValue D) (casts : List C) (k : List (CoerFrame C)) (store : CoerStore C)
       (world : WorldState) (t : RunState D) → Carries like v u → like.drops casts
       → ((x : CoerValue C) → Carries like x u
-      → Goes (running m labels) (running n labels) R i (state_at (Return x) k store world) t)
-      → Goes (running m labels) (running n labels) R i (state_at (Return v) (casts_onto casts k) store world) t
+      → Goes (running m told) (running n told) R i (state_at (Return x) k store world) t)
+      → Goes (running m told) (running n told) R i (state_at (Return v) (casts_onto casts k) store world) t
 
   -- what is asked of the two modes: that casts of rows and parts stand for each other, and how a pile of casts and a
   -- wrapper go on
@@ -132,8 +136,8 @@ module _ {C D : Type 0} (like : Likeness C D) (m : Mode C) (n : Mode D) (labels 
         → onto (v ∷ done) [] ≡ RunWrap x c ∷ rest → Carries like v u → Both (Carries like) done done1 → Frames like k k'
         → Stores like store store1 → GoesAt i (Return v) (frame ∷ k) store world (Return u) (frame1 ∷ k') store1
 
-  no_end : (o : Option CalcEnd) → o ≡ None → option_map (ending_of labels) o ≡ None
-  no_end o e = ap (option_map (ending_of labels)) e
+  no_end : (f : CalcEnd → Ending Verdict) (o : Option CalcEnd) → o ≡ None → option_map f o ≡ None
+  no_end f o e = ap (option_map f) e
 
   -- a turn of both
   module _ (i : ℕ) (focus : CoerFocus C) (frames : List (CoerFrame C)) (store : CoerStore C) (world : WorldState)
@@ -154,8 +158,11 @@ module _ {C D : Type 0} (like : Likeness C D) (m : Mode C) (n : Mode D) (labels 
         second_steps = 1;
         s' = state_at f k st w;
         t' = state_at g k' st' w';
-        first = (no_end (ended_at focus frames) first, inl refl, ap (after_turn s) ea);
-        second = (no_end (ended_at focus1 frames1) second, inl refl, ap (after_turn t) eb);
+        first =
+            (no_end (λ end. ending_at told end focus) (ended_at focus frames) first, inl refl, ap (after_turn s) ea);
+        second =
+            (no_end (λ end. ending_at told end focus1) (ended_at focus1 frames1) second, inl refl, ap (after_turn t)
+            eb);
         start = refl;
         output = ap (λ (x : WorldState). x.output) r.3;
       };
@@ -183,14 +190,17 @@ module _ {C D : Type 0} (like : Likeness C D) (m : Mode C) (n : Mode D) (labels 
         second_steps = 1;
         s' = after_turn s (BlameOf label);
         t' = after_turn t (BlameOf other);
-        first = (no_end (ended_at focus frames) first, inl refl, ap (after_turn s) ea);
-        second = (no_end (ended_at focus1 frames1) second, inl refl, ap (after_turn t) eb);
+        first =
+            (no_end (λ end. ending_at told end focus) (ended_at focus frames) first, inl refl, ap (after_turn s) ea);
+        second =
+            (no_end (λ end. ending_at told end focus1) (ended_at focus1 frames1) second, inl refl, ap (after_turn t)
+            eb);
         start = refl;
         output = refl;
       };
-      ending = ending_of labels (Blamed label);
+      ending = ending_of told.labels (Blamed label);
       first_ends = refl;
-      second_ends = ap (λ l. Some (ending_of labels (Blamed l))) r;
+      second_ends = ap (λ l. Some (ending_of told.labels (Blamed l))) r;
     }))
     one_turn (TrapOf trap w) (TrapOf other w') ea eb r = inr (inl (record {
       paths = record {
@@ -198,20 +208,24 @@ module _ {C D : Type 0} (like : Likeness C D) (m : Mode C) (n : Mode D) (labels 
         second_steps = 1;
         s' = after_turn s (TrapOf trap w);
         t' = after_turn t (TrapOf other w');
-        first = (no_end (ended_at focus frames) first, inl refl, ap (after_turn s) ea);
-        second = (no_end (ended_at focus1 frames1) second, inl refl, ap (after_turn t) eb);
+        first =
+            (no_end (λ end. ending_at told end focus) (ended_at focus frames) first, inl refl, ap (after_turn s) ea);
+        second =
+            (no_end (λ end. ending_at told end focus1) (ended_at focus1 frames1) second, inl refl, ap (after_turn t)
+            eb);
         start = refl;
         output = ap (λ (x : WorldState). x.output) r.1;
       };
-      ending = ending_of labels (Trapped trap);
+      ending = ending_of told.labels (Trapped trap);
       first_ends = refl;
-      second_ends = ap (λ l. Some (ending_of labels (Trapped l))) r.0;
+      second_ends = ap (λ l. Some (ending_of told.labels (Trapped l))) r.0;
     }))
     one_turn NoNext b ea eb r = inr (inr (record {
       steps = 1;
       wrong =
-          ap (λ o. (moment_at (running m labels) (unless_ended o (running m labels).step s)).ending)
-          (no_end (ended_at focus frames) first) ∙ ap (λ x. option_map (ending_of labels) (after_turn s x).ended) ea;
+          ap (λ o. (moment_at (running m told) (unless_ended o (running m told).step s)).ending)
+          (no_end (λ end. ending_at told end focus) (ended_at focus frames) first)
+          ∙ ap (λ x. option_map (λ end. ending_at told end (after_turn s x).focus) (after_turn s x).ended) ea;
     }))
     one_turn (On f k st w) (BlameOf other) ea eb r = absurd r
     one_turn (On f k st w) (TrapOf other w') ea eb r = absurd r
@@ -253,7 +267,7 @@ module _ {C D : Type 0} (like : Likeness C D) (m : Mode C) (n : Mode D) (labels 
             state_at (Entering f done (record { value = v; casts = cast ∷ casts } ∷ todo)) k store world in
         let s1 : RunState C = state_at (Return v) (casts_onto (cast ∷ casts) k1) store world in
         let t0 : RunState D = state_at (Entering g done1 (record { value = u; casts = [] } ∷ todo1)) k' store1 world in
-        goes_after (running m labels) (running n labels) R i 1 s0 s1 t0 refl
+        goes_after (running m told) (running n told) R i 1 s0 s1 t0 refl
         (refl, refl, ap (after_turn s0) (enters_plain like m n store store1 stores world k k' fr f done
         (record { value = v; casts = cast ∷ casts } ∷ todo) q))
         (drop i v u (cast ∷ casts) k1 store world t0 e d (λ x h. same_goes i (Return x) k1 store world
@@ -295,9 +309,11 @@ module _ {C D : Type 0} (like : Likeness C D) (m : Mode C) (n : Mode D) (labels 
       paths =
           record { first_steps = 0; second_steps = 0; s' = state_at (Return v) [] store world; t' = state_at (Return u)
           [] store1 world; first = refl; second = refl; start = refl; output = refl };
-      ending = ending_of labels (Answered (shown v));
+      ending = answer_ending told (shown v) (let f : CoerFocus C = Return v in f);
       first_ends = refl;
-      second_ends = ap (λ a. Some (ending_of labels (Answered a))) (shown_carried like v [] u c);
+      second_ends =
+          ap2 (λ a b. Some (if b then ending_of told.labels (Answered a) else Wrong)) (shown_carried like v [] u c)
+          (fits_carried like told.types v [] u told.answer c);
     }))
 
     -- a value comes back to a frame that takes it as it is
@@ -474,20 +490,20 @@ module _ {C D : Type 0} (like : Likeness C D) (m : Mode C) (n : Mode D) (labels 
         subst (λ z. GoesAt i z k store world (Entering g done todo) k' store1) (sym f.3)
         (enters f.0 g f.1 done f.2 todo k k' fr f.4 f.5 f.6 f.7 (view f.0))
 
-  goes : Laws → (i : ℕ) (s : RunState C) (t : RunState D) → R i s t → Goes (running m labels) (running n labels) R i s t
+  goes : Laws → (i : ℕ) (s : RunState C) (t : RunState D) → R i s t → Goes (running m told) (running n told) R i s t
   goes laws i s t r =
-      subst (λ x. Goes (running m labels) (running n labels) R i x t) (sym r.first)
-      (subst (λ x. Goes (running m labels) (running n labels) R i (state_at r.focus r.frames r.store r.world) x)
+      subst (λ x. Goes (running m told) (running n told) R i x t) (sym r.first)
+      (subst (λ x. Goes (running m told) (running n told) R i (state_at r.focus r.frames r.store r.world) x)
       (sym r.second) (goes_at laws i r.store r.store1 r.stores r.world r.focus r.focus1 r.frames r.frames1 r.foci
       r.all_frames))
 
   -- where the laws hold, the run in the second mode follows that in the first
   pub merged_follows : Laws → (term : RowTerm) (input : List ℕ)
-      → NeverWrong (reduction_run (running m labels) (run_start term input))
-      → Follows (reduction_run (running n labels) (run_start term input))
-      (reduction_run (running m labels) (run_start term input))
+      → NeverWrong (reduction_run (running m told) (run_start term input))
+      → Follows (reduction_run (running n told) (run_start term input))
+      (reduction_run (running m told) (run_start term input))
   merged_follows laws term input nw =
-      rounds_follow (running m labels) (running n labels) R (goes laws) 0 (run_start term input) (run_start term input)
+      rounds_follow (running m told) (running n told) R (goes laws) 0 (run_start term input) (run_start term input)
       (record {
         focus = Own (Eval term []);
         frames = [];

@@ -20,9 +20,10 @@ use Rattle.coercion_norm.specs.CoercionTables.{cast_of, composition_of}
 use Rattle.coercion_norm.specs.Modes.{TypeCast, piling}
 use Rattle.coercion_norm.specs.MergedMode.{merging}
 use Rattle.coercion_norm.proofs.Public.{row_is, id_behind, coerce_normal}
+use Rattle.coercion_norm.specs.AnswerTypes.{Told}
 use Rattle.coer_core.specs.Terms.{RowTerm, core_of}
 use Rattle.coer_core.specs.Machine.{run_start, running}
-use Rattle.coer_core.specs.Counts.{run_in, uncounted}
+use Rattle.coer_core.specs.Counts.{run_in, told_of, uncounted}
 use Rattle.coer_core.specs.FlatCasts.{HasNoParts, AreFlatCasts}
 use Rattle.coer_core.proofs.Joining.{ap2}
 use Rattle.coer_core.proofs.Counting.{SameMoments, counted_moments, follows_as, followed_as}
@@ -88,8 +89,8 @@ module _ (types : TypeRows) (table : IsTypeTable types) where
       ⊎_flat row (inl e) = inl e
       ⊎_flat row (inr e) = inr (base_not_dyn row e, e)
 
-  module _ (casts : List TypeCast) (labels : List Pos) (flat : AreFlatCasts types casts) where
-    flat_coercions : FlatCoercions types casts labels (cast_of types) (composition_of types)
+  module _ (casts : List TypeCast) (told : Told) (flat : AreFlatCasts types casts) where
+    flat_coercions : FlatCoercions types casts told (cast_of types) (composition_of types)
     flat_coercions = record {
       same = λ a label. same a label (is_dyn (rows_of types a)) refl;
       from_dyn =
@@ -111,19 +112,19 @@ module _ (types : TypeRows) (table : IsTypeTable types) where
 
     -- the merged run follows the piled one
     pub merged_follows_piled : (term : RowTerm) (input : List ℕ)
-        → NeverWrong (run_in (piling types casts) labels term input)
-        → Follows (run_in (merging types casts) labels term input) (run_in (piling types casts) labels term input)
+        → NeverWrong (run_in (piling types casts) told term input)
+        → Follows (run_in (merging types casts) told term input) (run_in (piling types casts) told term input)
     merged_follows_piled term input nw =
-        let merged = counted_moments (merging types casts) labels (uncounted (run_start term input)) in
-        let piled = counted_moments (piling types casts) labels (uncounted (run_start term input)) in
-        follows_as (run_in (merging types casts) labels term input)
-        (reduction_run (running (merging types casts) labels) (run_start term input))
-        (run_in (piling types casts) labels term input) merged
-        (followed_as (reduction_run (running (piling types casts) labels) (run_start term input))
-        (run_in (piling types casts) labels term input)
-        (reduction_run (running (merging types casts) labels) (run_start term input))
+        let merged = counted_moments (merging types casts) told (uncounted (run_start term input)) in
+        let piled = counted_moments (piling types casts) told (uncounted (run_start term input)) in
+        follows_as (run_in (merging types casts) told term input)
+        (reduction_run (running (merging types casts) told) (run_start term input))
+        (run_in (piling types casts) told term input) merged
+        (followed_as (reduction_run (running (piling types casts) told) (run_start term input))
+        (run_in (piling types casts) told term input)
+        (reduction_run (running (merging types casts) told) (run_start term input))
         (λ n. (sym (piled n).0, sym (piled n).1))
-        (flat_follows types casts labels (cast_of types) (composition_of types) flat_coercions term input
+        (flat_follows types casts told (cast_of types) (composition_of types) flat_coercions term input
         (λ n e. nw n ((piled n).1 ∙ e))))
 
 module _ (casts : List TypeCast) (program : Program) (term : RowTerm) (input : List ℕ) (type : ℕ)
@@ -131,13 +132,13 @@ module _ (casts : List TypeCast) (program : Program) (term : RowTerm) (input : L
     (typed : ProgramTermHasType program.types (length program.labels) program.term type)
     (flat : AreFlatCasts program.types casts) where
   pub merged_runs_follow_the_calculus-follows : Follows
-      (run_in (merging program.types casts) program.labels term input) (calc program input)
+      (run_in (merging program.types casts) (told_of program type) term input) (calc program input)
   merged_runs_follow_the_calculus-follows =
       follows_is_transitive
-      (merged_follows_piled program.types typed.0 casts program.labels flat term input
+      (merged_follows_piled program.types typed.0 casts (told_of program type) flat term input
       (piled_runs_follow_the_calculus-never_wrong casts program term input type reads typed))
       (piled_runs_follow_the_calculus-follows casts program term input type reads typed)
 
   pub merged_runs_follow_the_calculus-never_wrong : NeverWrong
-      (run_in (merging program.types casts) program.labels term input)
+      (run_in (merging program.types casts) (told_of program type) term input)
   merged_runs_follow_the_calculus-never_wrong = follower_never_goes_wrong merged_runs_follow_the_calculus-follows

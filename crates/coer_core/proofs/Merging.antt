@@ -2,7 +2,8 @@
 use Rattle.std.proofs.Common.{◌≡◌, ◌⊎◌, inl, inr, ⊎_elim, ℕ, zero, suc, ◌+◌, ◌<◌, ◌≤◌, ℤ, pos, negsuc, Bool, true}
 use Rattle.std.proofs.Common.{false, List, [], ◌∷◌, ◌++◌, map, length, Option, Some, None, refl, sym, ap, ◌∙◌, subst}
 use Rattle.std.proofs.Common.{arith, slice_get, if◌then◌else◌}
-use Rattle.std.specs.Prelude.{option_map, replicate, slice_set, codes, not, nat_eq, cond, int_lt, int_le, int_rem, ◌+ℤ◌}
+use Rattle.std.specs.Prelude.{◌&&◌, option_map, replicate, slice_set, codes, not, nat_eq, cond, int_lt, int_le, int_rem}
+use Rattle.std.specs.Prelude.{◌+ℤ◌}
 use Rattle.std.specs.Prelude.{◌-ℤ◌, ◌*ℤ◌}
 use Rattle.std.specs.Int.{int_wrapping_div, int_wrap, w64}
 use Rattle.std.specs.Fmt.{signed_decimal}
@@ -18,6 +19,9 @@ use Rattle.grift_base.specs.declared.operators.PrimOp.TheVariants.{PrintInt, New
 use Rattle.grift_base.specs.declared.operators.PrimOp.TheVariants.{MakeVector, VectorRef, VectorSet, VectorLength}
 use Rattle.grift_base.specs.declared.verdicts.Trap.TheVariants.{ZeroDivisor, Index, Length}
 use Rattle.grift_base.specs.declared.verdicts.Verdict.{Verdict}
+use Rattle.grift_base.specs.Types.{TypeHead, IntHead, BoolHead, UnitHead, DynHead, FunHead, TupleHead, RefHead}
+use Rattle.grift_base.specs.Types.{VectHead, TypeRows, row_at}
+use Rattle.coercion_norm.specs.AnswerTypes.{fits_type, row_has_head, run_head}
 use Rattle.core_calc.specs.Substitution.{bind, entry_of}
 use Rattle.core_calc.specs.Terms.{both_in_front}
 use Rattle.core_calc.specs.Calculus.{CalcEnd, Answered, Blamed, Trapped, NoStep, ending_of}
@@ -26,7 +30,8 @@ use Rattle.coercion_norm.specs.RunValues.{NoRunValues, RunValueThen, in_row, row
 use Rattle.coercion_norm.specs.ValueSteps.{CastFrame, ProjFrame, PrimFrame, EnterFrame, OwnFrame, Own, Return, Entering}
 use Rattle.coercion_norm.specs.ValueSteps.{onto, casts_onto}
 use Rattle.coer_core.specs.Terms.{RowMembers, NoRowMembers, RowMemberThen}
-use Rattle.coer_core.specs.Machine.{CoerValue, CoerValues, CoerStore, CoerPending, Env, env_names, env_values}
+use Rattle.coer_core.specs.Machine.{code_arity, CoerValue, CoerValues, CoerStore, CoerPending, Env, env_names}
+use Rattle.coer_core.specs.Machine.{env_values}
 use Rattle.coer_core.specs.Machine.{captured_env, members_in, Eval, Job, Calling, Tupling, Operating, IfFrame, SeqFrame}
 use Rattle.coer_core.specs.Machine.{FunFrame, ProjDynFrame, GatherFrame, LetFrame, CoerFrame, CoerFocus}
 
@@ -331,3 +336,56 @@ module _ {C D : Type 0} (like : Likeness C D) where
   shown_carried (RunLoc cell is_vector) casts u c = sealed_shown casts u _ _ (λ x e. ap shown e) c
   shown_carried (RunWrap v cast) casts u c = shown_carried v (cast ∷ casts) u c
   shown_carried (RunInject v kept) casts u c = ap shown c.1 ∙ shown_carried v [] c.0 c.3
+
+  -- a value that is in Dyn neither itself nor inside wrappers
+  sealed_fits : (types : TypeRows) (type : ℕ) (casts : List C) (u : CoerValue D) (P : CoerValue D → Type 0)
+      (h : TypeHead) → ((x : CoerValue D) → P x → run_head code_arity x ≡ h)
+      → ((x : CoerValue D) → P x → fits_type code_arity types x type ≡ row_has_head (row_at types type) h)
+      → Sealed casts u P → fits_type code_arity types u type ≡ row_has_head (row_at types type) h
+  sealed_fits types type [] u P h head fit c = fit u c
+  sealed_fits types type (d ∷ casts) u P h head fit (inl c) = fit u c.1
+  sealed_fits types type (d ∷ casts) u P h head fit (inr c) =
+      ap (λ z. fits_type code_arity types z type) c.2 ∙ ap (row_has_head (row_at types type)) (head c.0 c.4)
+
+  wrapped_fits : (types : TypeRows) (type : ℕ) (v : CoerValue C) (cast : C) (casts : List C) (u : CoerValue D)
+      → Carried v (cast ∷ casts) u
+      → fits_type code_arity types v type ≡ row_has_head (row_at types type) (run_head code_arity v)
+  wrapped_fits types type (RunInject v kept) cast casts u c = absurd (cc c.4)
+  wrapped_fits types type (RunInt a) cast casts u c = refl
+  wrapped_fits types type (RunBool b) cast casts u c = refl
+  wrapped_fits types type RunUnit cast casts u c = refl
+  wrapped_fits types type (RunFun code captured) cast casts u c = refl
+  wrapped_fits types type (RunTuple values) cast casts u c = refl
+  wrapped_fits types type (RunLoc cell is_vector) cast casts u c = refl
+  wrapped_fits types type (RunWrap v old) cast casts u c = refl
+
+  -- a value and what carries it fit the same types
+  pub fits_carried : (types : TypeRows) (v : CoerValue C) (casts : List C) (u : CoerValue D) (type : ℕ)
+      → Carried v casts u → fits_type code_arity types u type ≡ fits_type code_arity types v type
+  fits_carried types (RunInt a) casts u type c =
+      sealed_fits types type casts u _ IntHead (λ x e. ap (run_head code_arity) e)
+      (λ x e. ap (λ z. fits_type code_arity types z type) e) c
+  fits_carried types (RunBool b) casts u type c =
+      sealed_fits types type casts u _ BoolHead (λ x e. ap (run_head code_arity) e)
+      (λ x e. ap (λ z. fits_type code_arity types z type) e) c
+  fits_carried types RunUnit casts u type c =
+      sealed_fits types type casts u _ UnitHead (λ x e. ap (run_head code_arity) e)
+      (λ x e. ap (λ z. fits_type code_arity types z type) e) c
+  fits_carried types (RunFun code captured) casts u type c =
+      sealed_fits types type casts u _ (FunHead (code_arity code)) (λ x e. ap (run_head code_arity) e.1)
+      (λ x e. ap (λ z. fits_type code_arity types z type) e.1) c
+  fits_carried types (RunTuple values) casts u type c =
+      let width = λ (others : CoerValues D) (r : CarriedAll values others).
+      ap TupleHead (both_length Carries (row_list values) (row_list others) (list_like values others r)) in
+      sealed_fits types type casts u _ (TupleHead (length (row_list values)))
+      (λ x e. ap (run_head code_arity) e.1 ∙ width e.0 e.2)
+      (λ x e. ap (λ z. fits_type code_arity types z type) e.1 ∙ ap (row_has_head (row_at types type)) (width e.0 e.2)) c
+  fits_carried types (RunLoc cell is_vector) casts u type c =
+      sealed_fits types type casts u _ (if is_vector then VectHead else RefHead) (λ x e. ap (run_head code_arity) e)
+      (λ x e. ap (λ z. fits_type code_arity types z type) e) c
+  fits_carried types (RunWrap v cast) casts u type c =
+      fits_carried types v (cast ∷ casts) u type c ∙ wrapped_fits types type v cast casts u c
+  fits_carried types (RunInject v kept) casts u type c =
+      ap (λ z. fits_type code_arity types z type) c.1
+      ∙ ap (λ b. row_has_head (row_at types type) DynHead && (not (row_has_head (row_at types kept) DynHead) && b))
+      (fits_carried types v [] c.0 kept c.3)

@@ -1,13 +1,17 @@
 -- Typing keeps every cast at a value that it fits.
 use Rattle.std.proofs.Common.{◌≡◌, ℕ, zero, suc, Bool, true, false, List, [], ◌∷◌, ◌++◌, map, length, Option, Some}
 use Rattle.std.proofs.Common.{None, refl, sym, ap, ◌∙◌, subst}
-use Rattle.std.specs.Prelude.{nat_eq, option_map}
+use Rattle.std.specs.Prelude.{nat_eq, option_map, ◌&&◌, not, if◌then◌else◌}
 use Rattle.std.proofs.lemmas.Bool.{eq-eqb}
 use Rattle.grift_base.specs.World.{WorldState}
 use Rattle.grift_base.specs.Types.{TypeRow, IntRow, BoolRow, UnitRow, DynRow, FunRow, TupleRow, RefRow, VectRow}
 use Rattle.grift_base.specs.Types.{TypeHead, IntHead, BoolHead, UnitHead, FunHead, TupleHead, RefHead, VectHead}
 use Rattle.grift_base.specs.Types.{TypeRows, row_at, head_of, equal_heads, is_dyn}
 use Rattle.grift_base.specs.declared.places.Pos.{Pos}
+use Rattle.grift_base.specs.Types.{DynHead}
+use Rattle.coercion_norm.specs.AnswerTypes.{fits_type, row_has_head, run_head}
+use Rattle.coercion_norm.proofs.Public.{heads_exact}
+use Rattle.coer_core.proofs.Joining.{ap2}
 use Rattle.core_calc.specs.Terms.{Term, Terms, Members, Bindings, Value, NoTerms, TermThen, NoMembers, MemberThen}
 use Rattle.core_calc.specs.Terms.{NoBindings, BindingThen, If, Seq, Call, Proj, ProjDyn, Tuple, Prim, Let, Enter}
 use Rattle.core_calc.specs.Terms.{binding_names, member_names, as_value}
@@ -140,17 +144,80 @@ module _ (types : TypeRows) (labels : ℕ) (cells : List CellType) (rows : List 
   value_fits (RunInject v kept) cast row h e =
       subst (λ r. is_dyn r ≡ true) (both_row DynRow row (row_at types cast.from) h.4 e) refl
 
--- the state is typed
-abbrev pub IsTyped : TypeRows → List Pos → CalcState → Type 0
-IsTyped types labels c = (type : ℕ) × Stands types (length labels) c type
+  -- ---- answers
 
-pub typing_keeps : (types : TypeRows) (rows : List TypeCast) (labels : List Pos)
-    → Keeps types rows labels (IsTyped types labels)
-typing_keeps types rows labels = record {
-  steps = λ c g e. (g.0, stands_on types (length labels) c g.0 g.1 e);
-  casts = λ k v cast h whole store world g p e row there.
-      let t = hole_typed types (length labels) g.1.0.1 rows (CastFrame cast ∷ k) h whole g.0 p g.1.0.3 in
-      let c = hole_typed types (length labels) g.1.0.1 rows k (cast_term h cast) whole g.0 p g.1.0.3 in
-      value_fits types (length labels) g.1.0.1 rows v cast row (value_of_term types (length labels) g.1.0.1 h []
-      cast.from (value_of rows v) c.1.1 e) there;
+  dyn_heads : (row : TypeRow) → equal_heads DynHead (head_of row) ≡ is_dyn row
+  dyn_heads IntRow = refl
+  dyn_heads BoolRow = refl
+  dyn_heads UnitRow = refl
+  dyn_heads DynRow = refl
+  dyn_heads (FunRow parameters answer) = refl
+  dyn_heads (TupleRow parts) = refl
+  dyn_heads (RefRow content) = refl
+  dyn_heads (VectRow content) = refl
+
+  true_false : true ≡ false → ⊥
+  true_false e = cc
+
+  and_first : (a b : Bool) → (a && b) ≡ true → a ≡ true
+  and_first true b e = refl
+  and_first false b e = e
+
+  -- a value inside a wrapper has the head of its type
+  inner_head : (v : PiledValue) (type : ℕ) (row : TypeRow) → row_at types type ≡ Some row → is_dyn row ≡ false
+      → fits_type code_arity types v type ≡ true → equal_heads (run_head code_arity v) (head_of row) ≡ true
+  inner_head (RunInject v kept) type row e d f =
+      let there : Bool = not (row_has_head (row_at types kept) DynHead) && fits_type code_arity types v kept in
+      absurd (true_false (sym (and_first (equal_heads DynHead (head_of row)) there
+      (ap (λ o. row_has_head o DynHead && there) (sym e) ∙ f)) ∙ dyn_heads row ∙ d))
+  inner_head (RunInt n) type row e d f = ap (λ o. row_has_head o IntHead) (sym e) ∙ f
+  inner_head (RunBool b) type row e d f = ap (λ o. row_has_head o BoolHead) (sym e) ∙ f
+  inner_head RunUnit type row e d f = ap (λ o. row_has_head o UnitHead) (sym e) ∙ f
+  inner_head (RunFun code captured) type row e d f = ap (λ o. row_has_head o (FunHead (code_arity code))) (sym e) ∙ f
+  inner_head (RunTuple values) type row e d f =
+      ap (λ o. row_has_head o (TupleHead (length (row_list values)))) (sym e) ∙ f
+  inner_head (RunLoc cell is_vector) type row e d f =
+      ap (λ o. row_has_head o (if is_vector then VectHead else RefHead)) (sym e) ∙ f
+  inner_head (RunWrap v cast) type row e d f = ap (λ o. row_has_head o (run_head code_arity v)) (sym e) ∙ f
+
+  -- a value of a type has its head, and so has what it holds in Dyn
+  pub value_answers : (v : PiledValue) (type : ℕ) → ValueHasType types labels cells (value_of rows v) type
+      → fits_type code_arity types v type ≡ true
+  value_answers (RunInt n) type h = ap (λ o. row_has_head o IntHead) h.1
+  value_answers (RunBool b) type h = ap (λ o. row_has_head o BoolHead) h
+  value_answers RunUnit type h = ap (λ o. row_has_head o UnitHead) h
+  value_answers (RunFun (LambdaCode parameters body written names) captured) type h =
+      ap (λ o. row_has_head o (FunHead (length parameters))) h.1.3
+      ∙ width_is (length parameters) (length h.1.0) (sym (bind_length parameters h.1.0 h.1.2 h.1.4))
+  value_answers (RunFun (MemberCode group place names) captured) type h =
+      let m = member_length _ group _ place type h.0 h.1 in
+      ap (λ o. row_has_head o (FunHead (member_width group place))) m.2
+      ∙ width_is (member_width group place) (length m.0) m.3
+  value_answers (RunTuple values) type h =
+      ap (λ o. row_has_head o (TupleHead (length (row_list values)))) h.2
+      ∙ width_is (length (row_list values)) (length h.0) (tuple_length values h.0 h.1)
+  value_answers (RunLoc cell true) type h = ap (λ o. row_has_head o VectHead) h.3
+  value_answers (RunLoc cell false) type h = ap (λ o. row_has_head o RefHead) h.2
+  value_answers (RunWrap v cast) type h =
+      let inner = inner_head v cast.from h.0 h.4 h.8 (value_answers v cast.from h.3) in
+      ap (λ o. row_has_head o (run_head code_arity v)) (ap (row_at types) (sym h.2) ∙ h.5)
+      ∙ ap (λ x. equal_heads (run_head code_arity v) x) (sym (heads_exact (head_of h.0) (head_of h.1) h.6)) ∙ inner
+  value_answers (RunInject v kept) type h =
+      ap (λ o. row_has_head o DynHead && (not (row_has_head (row_at types kept) DynHead)
+      && fits_type code_arity types v kept)) h.4
+      ∙ ap2 (λ a b. not a && b) (ap (λ o. row_has_head o DynHead) h.2 ∙ dyn_heads h.0 ∙ h.3) (value_answers v kept h.1)
+
+-- along the calculus states keep the program's type
+pub typing_keeps : (types : TypeRows) (rows : List TypeCast) (labels : List Pos) (type : ℕ)
+    → Keeps types rows labels type (λ c. Stands types (length labels) c type)
+typing_keeps types rows labels type = record {
+  steps = λ c g e. stands_on types (length labels) c type g e;
+  casts =
+      λ k v cast h whole store world g p e row there.
+      let c = hole_typed types (length labels) g.0.1 rows k (cast_term h cast) whole type p g.0.3 in
+      value_fits types (length labels) g.0.1 rows v cast row
+      (value_of_term types (length labels) g.0.1 h [] cast.from (value_of rows v) c.1.1 e) there;
+  answers =
+      λ v whole store world g e. value_answers types (length labels) g.0.1 rows v type
+      (value_of_term types (length labels) g.0.1 whole [] type (value_of rows v) g.0.3 e);
 }

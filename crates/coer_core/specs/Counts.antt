@@ -6,7 +6,6 @@ use Rattle.run_laws.specs.Runs.{Run}
 use Rattle.run_laws.specs.Reductions.{Reduction, reduction_run}
 use Rattle.run_laws.specs.Meters.{Metered, metered_reduction, unspent}
 use Rattle.grift_base.specs.Types.{TypeRow, TypeRows, row_at, is_dyn, is_base, same_head}
-use Rattle.grift_base.specs.declared.places.Pos.{Pos}
 use Rattle.grift_base.specs.declared.verdicts.Verdict.{Verdict}
 use Rattle.core_calc.specs.Terms.{Term, Cast, as_value}
 use Rattle.core_calc.specs.Substitution.{is_among}
@@ -16,6 +15,7 @@ use Rattle.coercion_norm.specs.Modes.{Mode}
 use Rattle.coercion_norm.specs.RunValues.{shape_of}
 use Rattle.coercion_norm.specs.ValueSteps.{Frame, CastFrame, PrimFrame, OwnFrame, Focus, Own, Return, onto}
 use Rattle.coercion_norm.specs.ValueSteps.{decision_words, operator_words, decision_wraps}
+use Rattle.coercion_norm.specs.AnswerTypes.{Told}
 use Rattle.coer_core.specs.Terms.{RowTerm, RowTerms, RowMembers, RowBindings, RowInt, RowBool, RowUnit, RowVar}
 use Rattle.coer_core.specs.Terms.{RowLambda, RowGroup, RowLet, RowCall, RowIf, RowSeq, RowCast, RowProj, RowProjDyn}
 use Rattle.coer_core.specs.Terms.{RowTuple, RowPrim, NoRowTerms, RowTermThen, NoRowMembers, RowMemberThen}
@@ -166,22 +166,26 @@ uncounted state = record { words = 0; turns = 0; wraps = 0; state = state }
 abbrev pub counts_of : {C : Type 0} → Counted C → Counts
 counts_of s = record { words = s.words; turns = s.turns; frames = length s.state.frames; wraps = s.wraps }
 
-abbrev pub counting : {C : Type 0} → Mode C → List Pos → Reduction (Counted C) Counts Verdict
-counting mode labels = record {
+abbrev pub counting : {C : Type 0} → Mode C → Told → Reduction (Counted C) Counts Verdict
+counting mode told = record {
   step = λ s. record {
     words = s.words + words_of_turn mode s.state;
     turns = suc s.turns;
     wraps = s.wraps + wraps_of_turn mode s.state;
-    state = (running mode labels).step s.state;
+    state = (running mode told).step s.state;
   };
-  ending = λ s. (running mode labels).ending s.state;
-  output = λ s. (running mode labels).output s.state;
+  ending = λ s. (running mode told).ending s.state;
+  output = λ s. (running mode told).output s.state;
   shown = λ s. counts_of s;
 }
 
--- the run of a term in a mode, told these labels, on an input
-abbrev pub run_in : {C : Type 0} → Mode C → List Pos → RowTerm → List ℕ → Run Counts Verdict
-run_in mode labels term input = reduction_run (counting mode labels) (uncounted (run_start term input))
+-- the run of a term in a mode, told these, on an input
+abbrev pub run_in : {C : Type 0} → Mode C → Told → RowTerm → List ℕ → Run Counts Verdict
+run_in mode told term input = reduction_run (counting mode told) (uncounted (run_start term input))
+
+-- what the run of a program of this type is told
+abbrev pub told_of : Program → ℕ → Told
+told_of program type = record { labels = program.labels; types = program.types; answer = type }
 
 -- the run of a program of the calculus, with its wrap steps so far
 abbrev pub calc_with_wraps : Program → List ℕ → Run (Metered CalcState) Verdict

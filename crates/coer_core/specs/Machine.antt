@@ -1,9 +1,11 @@
 -- The run with environments: terms are evaluated, and never substituted into. Casts are made as a mode says.
-use Rattle.std.specs.Prelude.{ℕ, zero, suc, ℤ, Bool, true, false, List, [], ◌∷◌, ◌++◌, length, Option, option_map, Some}
+use Rattle.std.specs.Prelude.{ℕ, zero, suc, ℤ, Bool, true, false, if◌then◌else◌, List, [], ◌∷◌, ◌++◌, length, Option}
+use Rattle.std.specs.Prelude.{option_map, Some}
 use Rattle.std.specs.Prelude.{None}
+use Rattle.run_laws.specs.Runs.{Ending, Wrong}
 use Rattle.run_laws.specs.Reductions.{Reduction}
 use Rattle.grift_base.specs.World.{WorldState}
-use Rattle.grift_base.specs.declared.places.Pos.{Pos}
+use Rattle.grift_base.specs.declared.verdicts.Answer.{Answer}
 use Rattle.grift_base.specs.declared.operators.PrimOp.{PrimOp}
 use Rattle.grift_base.specs.declared.verdicts.Verdict.{Verdict}
 use Rattle.core_calc.specs.Substitution.{bind, entry_of}
@@ -15,6 +17,7 @@ use Rattle.coercion_norm.specs.ValueSteps.{Frame, CastFrame, ProjFrame, PrimFram
 use Rattle.coercion_norm.specs.ValueSteps.{Return, Entering, After, On, BlameOf, TrapOf, NoNext, on_some, onto}
 use Rattle.coercion_norm.specs.ValueSteps.{run_cast}
 use Rattle.coercion_norm.specs.ValueSteps.{enter, run_proj, run_proj_dyn, operate}
+use Rattle.coercion_norm.specs.AnswerTypes.{Told, fits_type}
 use Rattle.coer_core.specs.Terms.{RowTerm, RowTerms, RowMembers, RowBindings, RowInt, RowBool, RowUnit, RowVar}
 use Rattle.coer_core.specs.Terms.{RowLambda, RowGroup, RowLet, RowCall, RowIf, RowSeq, RowCast, RowProj, RowProjDyn}
 use Rattle.coer_core.specs.Terms.{RowTuple, RowPrim, NoRowTerms, RowTermThen, NoRowMembers, RowMemberThen}
@@ -248,11 +251,23 @@ after_turn state (BlameOf label) = record state { ended = Some (Blamed label) }
 after_turn state (TrapOf trap world) = record state { world = world; ended = Some (Trapped trap) }
 after_turn state NoNext = record state { ended = Some NoStep }
 
--- the run in a mode, told these labels; it shows its states
-abbrev pub running : {C : Type 0} → Mode C → List Pos → Reduction (RunState C) (RunState C) Verdict
-running mode labels = record {
+-- how a run ends with an answer: a value that isn't of the program's type is none
+abbrev pub answer_ending : {C : Type 0} → Told → Answer → CoerFocus C → Ending Verdict
+answer_ending told answer (Return v) =
+    if fits_type code_arity told.types v told.answer then ending_of told.labels (Answered answer) else Wrong
+answer_ending told answer _ = Wrong
+
+abbrev pub ending_at : {C : Type 0} → Told → CalcEnd → CoerFocus C → Ending Verdict
+ending_at told (Answered answer) focus = answer_ending told answer focus
+ending_at told (Blamed label) focus = ending_of told.labels (Blamed label)
+ending_at told (Trapped trap) focus = ending_of told.labels (Trapped trap)
+ending_at told NoStep focus = ending_of told.labels NoStep
+
+-- the run in a mode, told these; it shows its states
+abbrev pub running : {C : Type 0} → Mode C → Told → Reduction (RunState C) (RunState C) Verdict
+running mode told = record {
   step = λ s. after_turn s (turn mode s.store s.world s.focus s.frames);
-  ending = λ s. option_map (ending_of labels) s.ended;
+  ending = λ s. option_map (λ end. ending_at told end s.focus) s.ended;
   output = λ s. s.world.output;
   shown = λ s. s;
 }

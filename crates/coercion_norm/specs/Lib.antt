@@ -14,3 +14,4 @@ pub mod Modes
 pub mod MergedMode
 pub mod RunValues
 pub mod ValueSteps
+pub mod AnswerTypes
