@@ -14,3 +14,4 @@ mod MergeSteps
 mod Merged
 mod Flat
 mod MergedRuns
+mod CastNumbers

@@ -1,4 +1,7 @@
 //! Terms with environments in place of substitution, whose casts are numbers of rows.
 #![tactic(auto)]
 
+mod casts;
+mod conversion;
 pub mod laws;
+pub mod terms;
