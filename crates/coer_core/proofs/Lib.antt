@@ -15,3 +15,4 @@ mod Merged
 mod Flat
 mod MergedRuns
 mod CastNumbers
+mod Converting

@@ -5,3 +5,4 @@ pub mod FlatCasts
 pub mod TermLists
 pub mod Views
 pub mod Conversion
+pub mod Uses
