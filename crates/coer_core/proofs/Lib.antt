@@ -16,3 +16,4 @@ mod Flat
 mod MergedRuns
 mod CastNumbers
 mod Converting
+mod FreshRows

@@ -6,3 +6,4 @@ pub mod TermLists
 pub mod Views
 pub mod Conversion
 pub mod Uses
+pub mod Programs

@@ -4,4 +4,5 @@
 mod casts;
 mod conversion;
 pub mod laws;
+mod rows;
 pub mod terms;
