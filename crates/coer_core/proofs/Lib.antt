@@ -17,3 +17,4 @@ mod MergedRuns
 mod CastNumbers
 mod Converting
 mod FreshRows
+mod CastTypes
