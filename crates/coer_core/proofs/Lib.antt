@@ -18,3 +18,4 @@ mod CastNumbers
 mod Converting
 mod FreshRows
 mod CastTypes
+mod ToCoercions

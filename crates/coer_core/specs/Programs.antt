@@ -1,7 +1,11 @@
 -- What a program of terms with numbers has beside its body.
-use Rattle.std.specs.Prelude.{◌≡◌, ℕ, max, All, List, [], ◌∷◌}
+use Rattle.std.specs.Prelude.{ℕ, max, All, List, [], ◌∷◌}
 use Rattle.grift_base.specs.Types.{TypeRows}
 use Rattle.type_graph.specs.Trees.{height}
+use Rattle.grift_base.specs.declared.places.Pos.{Pos}
+use Rattle.core_calc.specs.Terms.{Term}
+use Rattle.core_calc.specs.Calculus.{Program}
+use Rattle.core_calc.specs.Typing.{ProgramTermHasType}
 use Rattle.coercion_norm.specs.declared.cast_rows.CastRow.{CastRow}
 use Rattle.coercion_norm.specs.CoercionTables.{cast_of}
 use Rattle.coercion_norm.specs.Heights.{coercion_height}
@@ -21,3 +25,11 @@ cast_height types cast = coercion_height (height types) (cast_of types cast.from
 abbrev pub tallest_of : TypeRows → List TypeCast → ℕ
 tallest_of types [] = 0
 tallest_of types (cast ∷ rest) = max (cast_height types cast) (tallest_of types rest)
+
+-- the term is a program term over these types, with some labels and of some type
+abbrev pub IsProgramTerm : TypeRows → Term → Type 0
+IsProgramTerm types term = (labels : ℕ) × (type : ℕ) × ProgramTermHasType types labels term type
+
+-- the program of a term over these types, with these labels
+abbrev pub program_of : TypeRows → Term → List Pos → Program
+program_of types term labels = record { term = term; types = types; labels = labels }

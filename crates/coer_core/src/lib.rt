@@ -4,5 +4,6 @@
 mod casts;
 mod conversion;
 pub mod laws;
+pub mod program;
 mod rows;
 pub mod terms;
