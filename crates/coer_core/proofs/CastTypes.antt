@@ -1,12 +1,12 @@
 -- The casts of a program term are between types of the table.
 use Rattle.std.proofs.Common.{◌≡◌, ℕ, zero, suc, ◌<◌, Bool, true, false, List, [], ◌∷◌, ◌++◌, length, Option, Some}
 use Rattle.std.proofs.Common.{None, refl, sym, ap}
-use Rattle.std.proofs.Common.{◌∙◌, subst, if◌then◌else◌, All, Contains, slice_get}
+use Rattle.std.proofs.Common.{◌∙◌, subst, if◌then◌else◌, All, slice_get}
 use Rattle.std.specs.Prelude.{cond, nat_eq, ℤ, pos, negsuc}
 use Rattle.std.specs.List.{list_any}
 use Rattle.std.proofs.lemmas.Option.{slice_get_within, get_or_from_slice_get}
 use Rattle.std.proofs.lemmas.List.Elements.{All-head, All-tail, All-nil, All-cons}
-use Rattle.grift_base.specs.Types.{TypeRow, IntRow, BoolRow, UnitRow, DynRow, FunRow, TupleRow, RefRow, VectRow}
+use Rattle.grift_base.specs.Types.{TypeRow, IntRow, BoolRow, UnitRow, FunRow, TupleRow, RefRow, VectRow}
 use Rattle.grift_base.specs.Types.{TypeRows, row_at, parts_of, tuple_part}
 use Rattle.grift_base.specs.declared.operators.PrimOp.{PrimOp}
 use Rattle.grift_base.specs.declared.operators.PrimOp.TheVariants.{Add, Sub, Mul, Quot, Rem, Lt, Le, Eq, Ge, Gt, Not}
@@ -25,7 +25,7 @@ use Rattle.coercion_norm.specs.CoercionTables.{IsCast}
 use Rattle.coercion_norm.specs.Modes.{TypeCast, type_cast}
 use Rattle.coer_core.specs.Conversion.{casts_in, casts_in_all, casts_in_members, casts_in_bindings, same_cast}
 use Rattle.coer_core.specs.Conversion.{with_cast}
-use Rattle.coer_core.specs.Conversion.{with_casts, cast_view, cast_views}
+use Rattle.coer_core.specs.Conversion.{with_casts, cast_views}
 
 module _ (types : TypeRows) where
   -- the type is one of the table
@@ -187,37 +187,45 @@ module _ (types : TypeRows) (labels : ℕ) (cells : List CellType) (table : IsTy
     term_in context (BoolLit b) type c w h = (row_in type BoolRow h, tt)
     term_in context UnitLit type c w h = (row_in type UnitRow h, tt)
     term_in context (Var name) type c w h = (entry_in types name type context c h, tt)
-    term_in context (Lambda parameters body written) type c w h =
-        (row_in type (FunRow h.1.0 h.1.1) h.1.3,
-        (term_in (h.1.2 ++ context) body h.1.1 (body_names context parameters type _ c h.1) w h.1.5).1)
+    term_in context (Lambda parameters body written) type c w h = (
+      row_in type (FunRow h.1.0 h.1.1) h.1.3,
+      (term_in (h.1.2 ++ context) body h.1.1 (body_names context parameters type _ c h.1) w h.1.5).1,
+    )
     term_in context (Group members body) type c w h =
         let inner = names_append types (member_types members) context
-            (members_in_table (member_types members ++ context) members h.0) c in
-        let r = term_in (member_types members ++ context) body type inner w.1 h.1 in
-        (r.0, casts_append types (casts_in_members members) (casts_in body)
-        (all_members_in (member_types members ++ context) members inner w.0 h.0) r.1)
+        (members_in_table (member_types members ++ context) members h.0) c in
+        let r = term_in (member_types members ++ context) body type inner w.1 h.1 in (
+          r.0,
+          casts_append types (casts_in_members members) (casts_in body)
+              (all_members_in (member_types members ++ context) members inner w.0 h.0) r.1,
+        )
     term_in context (Let bindings body) type c w h =
         let b = bindings_in context bindings h.0 c w.0 h.1 in
         let r = term_in (h.0 ++ context) body type (names_append types h.0 context b.0 c) w.1 h.2 in
         (r.0, casts_append types (casts_in_bindings bindings) (casts_in body) b.1 r.1)
     term_in context (Call function arguments) type c w h =
-        let f = term_in context function h.0 c w.0 h.2 in
-        (last_in types h.1 type (parts_in h.0 (FunRow h.1 type) h.3),
-        casts_append types (casts_in function) (casts_in_all arguments) f.1
-        (all_in context arguments h.1 c w.1 h.4))
+        let f = term_in context function h.0 c w.0 h.2 in (
+          last_in types h.1 type (parts_in h.0 (FunRow h.1 type) h.3),
+          casts_append types (casts_in function) (casts_in_all arguments) f.1
+              (all_in context arguments h.1 c w.1 h.4),
+        )
     term_in context (Enter function arguments) type c w h = absurd w
     term_in context (If condition on_true on_false) type c w h =
         let x = term_in context condition h.0 c w.0 h.1 in
         let y = term_in context on_true type c w.1 h.3 in
-        let z = term_in context on_false type c w.2 h.4 in
-        (y.0, casts_append types (casts_in condition) (casts_in on_true ++ casts_in on_false) x.1
-        (casts_append types (casts_in on_true) (casts_in on_false) y.1 z.1))
+        let z = term_in context on_false type c w.2 h.4 in (
+          y.0,
+          casts_append types (casts_in condition) (casts_in on_true ++ casts_in on_false) x.1
+              (casts_append types (casts_in on_true) (casts_in on_false) y.1 z.1),
+        )
     term_in context (Seq terms) type c w h = last_term_in context terms type c w h
     term_in context (Cast term from to label) type c w h =
         let r = term_in context term from c w h.1 in
-        let there = row_in to h.2.0 (ap (row_at types) h.0 ∙ h.2.1) in
-        (row_in type h.2.0 h.2.1, casts_append types (casts_in term) (type_cast from label to ∷ []) r.1
-        ((r.0, there), tt))
+        let there = row_in to h.2.0 (ap (row_at types) h.0 ∙ h.2.1) in (
+          row_in type h.2.0 h.2.1,
+          casts_append types (casts_in term) (type_cast from label to ∷ []) r.1
+              ((r.0, there), tt),
+        )
     term_in context (Proj term k) type c w h =
         let r = term_in context term h.0 c w h.2 in
         (part_in h.1 k h.0 type h.3 (parts_in h.0 (TupleRow h.1) h.3) h.4, r.1)
@@ -240,9 +248,11 @@ module _ (types : TypeRows) (labels : ℕ) (cells : List CellType) (table : IsTy
     last_term_in context (TermThen term NoTerms) type c w h =
         let r = term_in context term type c w.0 h in (r.0, casts_append types (casts_in term) [] r.1 tt)
     last_term_in context (TermThen term (TermThen second rest)) type c w h =
-        let r = last_term_in context (TermThen second rest) type c w.1 h.1 in
-        (r.0, casts_append types (casts_in term) (casts_in_all (TermThen second rest))
-        (term_in context term h.0.0 c w.0 h.0.1).1 r.1)
+        let r = last_term_in context (TermThen second rest) type c w.1 h.1 in (
+          r.0,
+          casts_append types (casts_in term) (casts_in_all (TermThen second rest))
+              (term_in context term h.0.0 c w.0 h.0.1).1 r.1,
+        )
 
     all_members_in : (context : Context) (members : Members) → NamesIn types context → AreWrittenMembers members
         → MembersHaveTypes types labels cells context members → CastsIn types (casts_in_members members)
@@ -258,6 +268,8 @@ module _ (types : TypeRows) (labels : ℕ) (cells : List CellType) (table : IsTy
     bindings_in context NoBindings bound c w h = (subst (NamesIn types) (sym h) tt, tt)
     bindings_in context (BindingThen name term rest) bound c w h =
         let t = term_in context term h.0 c w.0 h.3 in
-        let r = bindings_in context rest h.1 c w.1 h.4 in
-        (subst (NamesIn types) (sym h.2) (t.0, r.0), casts_append types (casts_in term) (casts_in_bindings rest) t.1
-        r.1)
+        let r = bindings_in context rest h.1 c w.1 h.4 in (
+          subst (NamesIn types) (sym h.2) (t.0, r.0),
+          casts_append types (casts_in term) (casts_in_bindings rest) t.1
+              r.1,
+        )

@@ -1,8 +1,8 @@
 -- Terms with numbers read back to the terms that they were made of; casts are met in order of first use.
-use Rattle.std.proofs.Common.{◌≡◌, ℕ, zero, suc, ◌+◌, arith, Bool, true, false, List, [], ◌∷◌, ◌++◌, Option, Some, None}
+use Rattle.std.proofs.Common.{◌≡◌, ℕ, zero, suc, ◌+◌, arith, Bool, true, false, List, [], ◌∷◌, ◌++◌, Some}
 use Rattle.std.proofs.Common.{refl, sym}
 use Rattle.std.proofs.Common.{ap}
-use Rattle.std.proofs.Common.{◌∙◌, subst}
+use Rattle.std.proofs.Common.{◌∙◌}
 use Rattle.std.proofs.Common.{if◌then◌else◌, slice_get}
 use Rattle.std.specs.Prelude.{nat_eq, ◌&&◌}
 use Rattle.std.specs.List.{list_any}
@@ -16,7 +16,7 @@ use Rattle.coer_core.specs.Terms.{cast_by, core_of, core_terms, core_members, co
 use Rattle.coer_core.specs.Conversion.{casts_in, casts_in_all, casts_in_members, casts_in_bindings, same_cast}
 use Rattle.coer_core.specs.Conversion.{number_of, with_cast, with_casts, converted, converted_all, converted_members}
 use Rattle.coer_core.specs.Conversion.{converted_bindings}
-use Rattle.coer_core.specs.Uses.{Use, OperatorUse, DynPartUse, CastUse, uses_in, uses_in_all, uses_in_members}
+use Rattle.coer_core.specs.Uses.{OperatorUse, DynPartUse, CastUse, uses_in, uses_in_all, uses_in_members}
 use Rattle.coer_core.specs.Uses.{uses_in_bindings, row_uses, row_uses_of_all, row_uses_of_members}
 use Rattle.coer_core.specs.Uses.{row_uses_of_bindings}
 use Rattle.coer_core.proofs.Joining.{ap2, ap3}
@@ -174,7 +174,7 @@ mutual
       let inner = converted casts term in
       let cast = type_cast from label to in
       let there =
-          get_first (with_cast inner.casts cast) b.more (number_of inner.casts cast) cast (placed inner.casts cast) in
+      get_first (with_cast inner.casts cast) b.more (number_of inner.casts cast) cast (placed inner.casts cast) in
       ap2 cast_by (ap (λ l. slice_get l (number_of inner.casts cast)) b.is ∙ there)
       (reads term casts later w (begins_trans (begins_with inner.casts cast) b))
   reads (Proj term k) casts later w b = ap (λ x. Proj x k) (reads term casts later w b)

@@ -1,17 +1,17 @@
 -- A counted run is the run itself, with what was counted beside it.
-use Rattle.std.proofs.Common.{◌≡◌, ◌⊎◌, inl, inr, ⊎_elim, ℕ, zero, suc, List, Option, Some, None, refl, sym, ap, ◌∙◌}
+use Rattle.std.proofs.Common.{◌≡◌, inl, inr, ⊎_elim, ℕ, zero, suc, Option, Some, None, refl, sym, ap, ◌∙◌}
 use Rattle.std.proofs.Common.{subst}
-use Rattle.run_laws.specs.Runs.{Ending, Moment, Run, IsPrefix, EndsAs, IsExhausted, HasVerdictOf, Agrees, Backed}
+use Rattle.run_laws.specs.Runs.{Ending, Moment, Run, IsPrefix, EndsAs, HasVerdictOf, Backed}
 use Rattle.run_laws.specs.Runs.{Reached}
 use Rattle.run_laws.specs.Runs.{Follows, FollowsBy, Any}
 use Rattle.run_laws.specs.Reductions.{Reduction, unless_ended, state_after, moment_at, reduction_run}
-use Rattle.run_laws.specs.Meters.{Metered, unspent, metered_reduction, SpendSame}
+use Rattle.run_laws.specs.Meters.{Metered, metered_reduction, SpendSame}
 use Rattle.grift_base.specs.declared.verdicts.Verdict.{Verdict}
 use Rattle.core_calc.specs.Calculus.{CalcState}
 use Rattle.coercion_norm.specs.Modes.{Mode}
 use Rattle.coercion_norm.specs.AnswerTypes.{Told}
 use Rattle.coer_core.specs.Machine.{RunState, running}
-use Rattle.coer_core.specs.Counts.{wraps_of_turn, Counts, Counted, uncounted, counting, SameWraps}
+use Rattle.coer_core.specs.Counts.{wraps_of_turn, Counted, counting, SameWraps}
 
 -- two runs have the same output and the same ending after each number of steps
 abbrev pub SameMoments : {A B V : Type 0} → Run A V → Run B V → Type 0
@@ -87,9 +87,11 @@ module _ {C : Type 0} (mode : Mode C) (told : Told) where
   pub counted_moments : (s : Counted C)
       → SameMoments (reduction_run (counting mode told) s) (reduction_run (running mode told) s.state)
   counted_moments s n =
-      let e = state_counted n s in
-      (ap (λ (t : RunState C). (running mode told).output t) e, ap (λ (t : RunState C). (running mode told).ending
-      t) e)
+      let e = state_counted n s in (
+        ap (λ (t : RunState C). (running mode told).output t) e,
+        ap (λ (t : RunState C). (running mode told).ending
+            t) e,
+      )
 
   backed_counted : (s : Counted C) (y : Moment (Metered CalcState) Verdict)
       → Backed SpendSame (moment_at wrapping (wraps_only s)) y → Backed SameWraps (moment_at (counting mode told) s) y

@@ -1,12 +1,11 @@
 -- Where all casts are between types without parts, the run with coercions follows the piled run.
-use Rattle.std.proofs.Common.{◌≡◌, ◌⊎◌, inl, inr, ⊎_elim, ℕ, ℤ, Bool, true, false, List, [], ◌∷◌, map, Option, Some}
+use Rattle.std.proofs.Common.{◌≡◌, ◌⊎◌, inl, inr, ℕ, ℤ, Bool, true, false, List, [], ◌∷◌, Option, Some}
 use Rattle.std.proofs.Common.{None, refl, sym, ap, ◌∙◌, subst, slice_get}
-use Rattle.std.specs.Prelude.{option_map, pos, negsuc}
+use Rattle.std.specs.Prelude.{option_map}
 use Rattle.run_laws.specs.Runs.{Follows, NeverWrong}
 use Rattle.grift_base.specs.World.{WorldState}
-use Rattle.grift_base.specs.Types.{TypeRow, IntRow, BoolRow, UnitRow, DynRow, FunRow, TupleRow, RefRow, VectRow}
+use Rattle.grift_base.specs.Types.{TypeRow, IntRow, BoolRow, UnitRow, DynRow, TupleRow}
 use Rattle.grift_base.specs.Types.{TypeRows, row_at, is_dyn, is_base, same_head, tuple_part, head_of}
-use Rattle.grift_base.specs.declared.places.Pos.{Pos}
 use Rattle.run_laws.specs.Reductions.{reduction_run}
 use Rattle.coercion_norm.specs.Coercions.{Coercion, Id, Fail, Project, Inject, rows_of}
 use Rattle.coercion_norm.proofs.Public.{row_is}
@@ -18,7 +17,7 @@ use Rattle.coercion_norm.specs.RunValues.{row_list, shape_of}
 use Rattle.coercion_norm.specs.ValueSteps.{CastFrame, Return, onto, casts_onto, make}
 use Rattle.coercion_norm.specs.AnswerTypes.{Told}
 use Rattle.coer_core.specs.Terms.{RowTerm}
-use Rattle.coer_core.specs.Machine.{code_arity, CoerValue, CoerStore, CoerFrame, entered, operates, running, run_start}
+use Rattle.coer_core.specs.Machine.{code_arity, CoerValue, CoerStore, CoerFrame, entered, running, run_start}
 use Rattle.coer_core.proofs.Merged.{GoesAt, Laws, same_goes, merged_follows}
 use Rattle.coer_core.proofs.MergeSteps.{Same, Parts}
 use Rattle.coer_core.proofs.Merging.{Both, IfThere, both_length, both_onto, Likeness, Carried, Carries, Stores, Frames}
@@ -110,84 +109,115 @@ module _ (types : TypeRows) (rows : List TypeCast) (told : Told) (coerce : ℕ �
   module _ (f : FlatCoercions) where
     module _ (store : CoerStore TypeCast) (store1 : CoerStore Coercion) (stores : Stores flat store store1)
         (world : WorldState) (k : List (CoerFrame TypeCast)) (k' : List (CoerFrame Coercion)) (fr : Frames flat k k')
-        where
-      abbrev Made : Decision TypeCast → CoerValue TypeCast → Coercion → CoerValue Coercion → Type 0
-      Made d v c u =
-          Same flat (make m code_arity entered store world d v k)
-          (make n code_arity entered store1 world (applied coerce compose types c (shape_of code_arity u)) u k')
+      where
+        abbrev Made : Decision TypeCast → CoerValue TypeCast → Coercion → CoerValue Coercion → Type 0
+        Made d v c u =
+            Same flat (make m code_arity entered store world d v k)
+            (make n code_arity entered store1 world (applied coerce compose types c (shape_of code_arity u)) u k')
 
-      opens : (v : CoerValue TypeCast) (u : CoerValue Coercion) (cast : TypeCast) → FlatType cast.to → Carries flat v u
-          → Made (opening (shape_of code_arity v) cast) v (Project cast.to cast.label Id) u
-      opens (RunInject x kept) u cast t c =
-          subst (λ z. Made (opening (Injected kept) cast) (RunInject x kept) (Project cast.to cast.label Id) z)
-          (sym c.1)
-          ((x, refl, c.3), ([], CastFrame (type_cast kept cast.label cast.to) ∷ k, refl, tt,
-          (type_cast kept cast.label cast.to, [], k, refl, ((c.2.0, c.2.1, inr (c.2.2, c.2.3)), t, f.compose_id kept
-          cast.to cast.label), fr)), stores, refl)
-      opens _ u cast t c = tt
+        opens : (v : CoerValue TypeCast) (u : CoerValue Coercion) (cast : TypeCast) → FlatType cast.to
+            → Carries flat v u
+            → Made (opening (shape_of code_arity v) cast) v (Project cast.to cast.label Id) u
+        opens (RunInject x kept) u cast t c =
+            subst (λ z. Made (opening (Injected kept) cast) (RunInject x kept) (Project cast.to cast.label Id) z)
+            (sym c.1) (
+              (x, refl, c.3),
+              (
+                [],
+                CastFrame (type_cast kept cast.label cast.to) ∷ k,
+                refl,
+                tt,
+                (
+                  type_cast kept cast.label cast.to,
+                  [],
+                  k,
+                  refl,
+                  (
+                    (c.2.0, c.2.1, inr (c.2.2, c.2.3)),
+                    t,
+                    f.compose_id kept
+                        cast.to cast.label,
+                  ),
+                  fr,
+                ),
+              ),
+              stores,
+              refl,
+            )
+        opens _ u cast t c = tt
 
-      by_head : (v : CoerValue TypeCast) (u : CoerValue Coercion) (cast : TypeCast) (row other : TypeRow) (b : Bool)
-          → same_head row other ≡ b → row_at types cast.from ≡ Some row → row_at types cast.to ≡ Some other
-          → is_dyn row ≡ false → is_base row ≡ true → is_dyn other ≡ false → Carries flat v u
-          → Made (decide row other cast (shape_of code_arity v)) v (coerce cast.from cast.to cast.label) u
-      by_head v u cast row other true h e1 e2 d1 b1 d2 c =
-          let here : cast.from ≡ cast.to =
-              f.distinct cast.from cast.to row e1 (e2 ∙ ap Some (base_same row other b1 h)) in
-          rw (d1, d2, h, b1, subst (λ x. coerce cast.from x cast.label ≡ Id) here (f.same cast.from cast.label))
-          ((v, refl, c), fr, stores, refl)
-      by_head v u cast row other false h e1 e2 d1 b1 d2 c =
-          rw (d1, d2, h, f.differ cast.from cast.to cast.label row other e1 e2 b1 d2 h) refl
+        by_head : (v : CoerValue TypeCast) (u : CoerValue Coercion) (cast : TypeCast) (row other : TypeRow) (b : Bool)
+            → same_head row other ≡ b → row_at types cast.from ≡ Some row → row_at types cast.to ≡ Some other
+            → is_dyn row ≡ false → is_base row ≡ true → is_dyn other ≡ false → Carries flat v u
+            → Made (decide row other cast (shape_of code_arity v)) v (coerce cast.from cast.to cast.label) u
+        by_head v u cast row other true h e1 e2 d1 b1 d2 c =
+            let here : cast.from ≡ cast.to =
+            f.distinct cast.from cast.to row e1 (e2 ∙ ap Some (base_same row other b1 h)) in
+            rw (d1, d2, h, b1, subst (λ x. coerce cast.from x cast.label ≡ Id) here (f.same cast.from cast.label))
+            ((v, refl, c), fr, stores, refl)
+        by_head v u cast row other false h e1 e2 d1 b1 d2 c =
+            rw (d1, d2, h, f.differ cast.from cast.to cast.label row other e1 e2 b1 d2 h) refl
 
-      -- a bare value that fits has the head that the coercion asks for
-      has_head : (v : CoerValue TypeCast) (u : CoerValue Coercion) (cast : TypeCast) (row : TypeRow)
-          → row_at types cast.from ≡ Some row → is_dyn row ≡ false → Carries flat v u
-          → fits row cast (shape_of code_arity v) ≡ true
-          → shape_has_head (shape_of code_arity u) (head_of (rows_of types cast.from)) ≡ true
-      has_head (RunInt a) u cast row e d c q = rw (c, row_is types cast.from row e) q
-      has_head (RunBool a) u cast row e d c q = rw (c, row_is types cast.from row e) q
-      has_head RunUnit u cast row e d c q = rw (c, row_is types cast.from row e) q
-      has_head (RunFun code captured) u cast row e d c q = rw (c.1, row_is types cast.from row e) q
-      has_head (RunTuple values) u cast row e d c q =
-          rw (c.1, row_is types cast.from row e, both_length (Carries flat) (row_list values) (row_list c.0)
-          (list_like flat values c.0 c.2)) q
-      has_head (RunLoc cell is_vector) u cast row e d c q = rw (c, row_is types cast.from row e) q
-      has_head (RunWrap x old) u cast row e d c q = absurd (no_wrapper x old [] u c)
-      has_head (RunInject x kept) u cast row e d c q = absurd (false_true (sym d ∙ q))
+        -- a bare value that fits has the head that the coercion asks for
+        has_head : (v : CoerValue TypeCast) (u : CoerValue Coercion) (cast : TypeCast) (row : TypeRow)
+            → row_at types cast.from ≡ Some row → is_dyn row ≡ false → Carries flat v u
+            → fits row cast (shape_of code_arity v) ≡ true
+            → shape_has_head (shape_of code_arity u) (head_of (rows_of types cast.from)) ≡ true
+        has_head (RunInt a) u cast row e d c q = rw (c, row_is types cast.from row e) q
+        has_head (RunBool a) u cast row e d c q = rw (c, row_is types cast.from row e) q
+        has_head RunUnit u cast row e d c q = rw (c, row_is types cast.from row e) q
+        has_head (RunFun code captured) u cast row e d c q = rw (c.1, row_is types cast.from row e) q
+        has_head (RunTuple values) u cast row e d c q =
+            rw (
+              c.1,
+              row_is types cast.from row e,
+              both_length (Carries flat) (row_list values) (row_list c.0)
+                  (list_like flat values c.0 c.2),
+            ) q
+        has_head (RunLoc cell is_vector) u cast row e d c q = rw (c, row_is types cast.from row e) q
+        has_head (RunWrap x old) u cast row e d c q = absurd (no_wrapper x old [] u c)
+        has_head (RunInject x kept) u cast row e d c q = absurd (false_true (sym d ∙ q))
 
-      decided : (v : CoerValue TypeCast) (u : CoerValue Coercion) (cast : TypeCast) (row other : TypeRow)
-          → row_at types cast.from ≡ Some row → row_at types cast.to ≡ Some other → IsFlat row → IsFlat other
-          → fits row cast (shape_of code_arity v) ≡ true → Carries flat v u
-          → Made (decide row other cast (shape_of code_arity v)) v (coerce cast.from cast.to cast.label) u
-      decided v u cast row other e1 e2 (inl p) (inl q) g c =
-          let here : cast.from ≡ cast.to = f.distinct cast.from cast.to DynRow (e1 ∙ ap Some p) (e2 ∙ ap Some q) in
-          rw (p, q, subst (λ x. coerce cast.from x cast.label ≡ Id) here (f.same cast.from cast.label))
-          ((v, refl, c), fr, stores, refl)
-      decided v u cast row other e1 e2 (inl p) (inr q) g c =
-          rw (p, q.0, f.from_dyn cast.from cast.to cast.label other (e1 ∙ ap Some p) e2 q.0)
-          (opens v u cast (other, e2, inr q) c)
-      decided v u cast row other e1 e2 (inr p) (inl q) g c =
-          rw (p.0, q, f.to_dyn cast.from cast.to cast.label row e1 p.0 (e2 ∙ ap Some q), has_head v u cast row e1 p.0 c
-          g) ((RunInject v cast.from, refl, (u, refl, (row, e1, p.0, p.1), c, refl)), fr, stores, refl)
-      decided v u cast row other e1 e2 (inr p) (inr q) g c =
-          by_head v u cast row other (same_head row other) refl e1 e2 p.0 p.1 q.0 c
+        decided : (v : CoerValue TypeCast) (u : CoerValue Coercion) (cast : TypeCast) (row other : TypeRow)
+            → row_at types cast.from ≡ Some row → row_at types cast.to ≡ Some other → IsFlat row → IsFlat other
+            → fits row cast (shape_of code_arity v) ≡ true → Carries flat v u
+            → Made (decide row other cast (shape_of code_arity v)) v (coerce cast.from cast.to cast.label) u
+        decided v u cast row other e1 e2 (inl p) (inl q) g c =
+            let here : cast.from ≡ cast.to = f.distinct cast.from cast.to DynRow (e1 ∙ ap Some p) (e2 ∙ ap Some q) in
+            rw (p, q, subst (λ x. coerce cast.from x cast.label ≡ Id) here (f.same cast.from cast.label))
+            ((v, refl, c), fr, stores, refl)
+        decided v u cast row other e1 e2 (inl p) (inr q) g c =
+            rw (p, q.0, f.from_dyn cast.from cast.to cast.label other (e1 ∙ ap Some p) e2 q.0)
+            (opens v u cast (other, e2, inr q) c)
+        decided v u cast row other e1 e2 (inr p) (inl q) g c =
+            rw (
+              p.0,
+              q,
+              f.to_dyn cast.from cast.to cast.label row e1 p.0 (e2 ∙ ap Some q),
+              has_head v u cast row e1 p.0 c
+                  g,
+            ) ((RunInject v cast.from, refl, (u, refl, (row, e1, p.0, p.1), c, refl)), fr, stores, refl)
+        decided v u cast row other e1 e2 (inr p) (inr q) g c =
+            by_head v u cast row other (same_head row other) refl e1 e2 p.0 p.1 q.0 c
 
-      fitting : (v : CoerValue TypeCast) (u : CoerValue Coercion) (cast : TypeCast) (row other : TypeRow) (b : Bool)
-          → fits row cast (shape_of code_arity v) ≡ b
-          → (fits row cast (shape_of code_arity v) ≡ true
-          → Made (decide row other cast (shape_of code_arity v)) v (coerce cast.from cast.to cast.label) u)
-          → Made (decide_fitting row other cast (shape_of code_arity v)) v (coerce cast.from cast.to cast.label) u
-      fitting v u cast row other true e made = rw e (made e)
-      fitting v u cast row other false e made = rw e tt
+        fitting : (v : CoerValue TypeCast) (u : CoerValue Coercion) (cast : TypeCast) (row other : TypeRow) (b : Bool)
+            → fits row cast (shape_of code_arity v) ≡ b
+            → (fits row cast (shape_of code_arity v) ≡ true
+            → Made (decide row other cast (shape_of code_arity v)) v (coerce cast.from cast.to cast.label) u)
+            → Made (decide_fitting row other cast (shape_of code_arity v)) v (coerce cast.from cast.to cast.label) u
+        fitting v u cast row other true e made = rw e (made e)
+        fitting v u cast row other false e made = rw e tt
 
-      casts_same : (v : CoerValue TypeCast) (u : CoerValue Coercion) (cast : TypeCast) (d : Coercion) → Carries flat v u
-          → Stands d (cast ∷ []) → Same flat
-          (make m code_arity entered store world
-          (or_none (of_both types cast.from cast.to
-          (λ row other. Some (decide_fitting row other cast (shape_of code_arity v))))) v k)
-          (make n code_arity entered store1 world (applied coerce compose types d (shape_of code_arity u)) u k')
-      casts_same v u cast d c s =
-          rw (s.0.1, s.1.1, s.2) (fitting v u cast s.0.0 s.1.0 (fits s.0.0 cast (shape_of code_arity v)) refl
-          (λ g. decided v u cast s.0.0 s.1.0 s.0.1 s.1.1 s.0.2 s.1.2 g c))
+        casts_same : (v : CoerValue TypeCast) (u : CoerValue Coercion) (cast : TypeCast) (d : Coercion)
+            → Carries flat v u
+            → Stands d (cast ∷ []) → Same flat
+            (make m code_arity entered store world
+            (or_none (of_both types cast.from cast.to
+            (λ row other. Some (decide_fitting row other cast (shape_of code_arity v))))) v k)
+            (make n code_arity entered store1 world (applied coerce compose types d (shape_of code_arity u)) u k')
+        casts_same v u cast d c s =
+            rw (s.0.1, s.1.1, s.2) (fitting v u cast s.0.0 s.1.0 (fits s.0.0 cast (shape_of code_arity v)) refl
+            (λ g. decided v u cast s.0.0 s.1.0 s.0.1 s.1.1 s.0.2 s.1.2 g c))
 
     row_there : (number : ℕ) (o : Option TypeCast) → slice_get rows number ≡ o
         → IfThere (λ c d. Stands d (c ∷ [])) o (option_map (λ cast. coerce cast.from cast.to cast.label) o)

@@ -1,24 +1,24 @@
 -- The run with environments and piled casts follows the calculus.
-use Rattle.std.proofs.Common.{◌≡◌, ◌⊎◌, inl, inr, ℕ, ◌<◌, List, [], ◌∷◌, map, Option, Some, None, refl, sym, ap, ◌∙◌}
+use Rattle.std.proofs.Common.{◌≡◌, ◌⊎◌, inl, inr, ℕ, ◌<◌, List, [], ◌∷◌, Option, Some, None, refl, sym, ap, ◌∙◌}
 use Rattle.std.proofs.Common.{subst}
 use Rattle.std.specs.Prelude.{option_map, true, if◌then◌else◌}
-use Rattle.run_laws.specs.Runs.{Ending, Wrong, Run, NeverWrong, Follows, FollowsBy, Any}
-use Rattle.run_laws.specs.Meters.{Metered, unspent, metered_reduction, SpendSame}
+use Rattle.run_laws.specs.Runs.{Ending, Wrong, Run, NeverWrong, FollowsBy, Any}
+use Rattle.run_laws.specs.Meters.{Metered, unspent, SpendSame}
 use Rattle.run_laws.proofs.Public.{Alone, Both, Over, Lockstep, paid, charged, lockstep_follows}
 use Rattle.run_laws.specs.Reductions.{Reduction, reduction_run}
 use Rattle.grift_base.specs.World.{WorldState}
 use Rattle.grift_base.specs.Types.{TypeRows}
 use Rattle.grift_base.specs.declared.places.Pos.{Pos}
 use Rattle.grift_base.specs.declared.verdicts.Verdict.{Verdict}
-use Rattle.core_calc.specs.Terms.{Term, Value, as_value}
-use Rattle.core_calc.specs.Outcome.{Store, Outcome, Goes, Blames, Traps, Stuck, inside}
+use Rattle.core_calc.specs.Terms.{Term, as_value}
+use Rattle.core_calc.specs.Outcome.{Outcome, Goes, Blames, Traps, Stuck, inside}
 use Rattle.core_calc.specs.Step.{step}
 use Rattle.core_calc.specs.Calculus.{shown_value, CalcEnd, Answered, Blamed, Trapped, NoStep, CalcState, start}
-use Rattle.core_calc.specs.Calculus.{state_of, state_after_step, ending_of, Program, calculus, calc}
+use Rattle.core_calc.specs.Calculus.{state_of, state_after_step, ending_of, calculus}
 use Rattle.core_calc.proofs.Public.{nothing_put_in}
 use Rattle.coercion_norm.specs.Modes.{TypeCast, piling}
 use Rattle.coercion_norm.specs.RunValues.{shown}
-use Rattle.coercion_norm.specs.ValueSteps.{CastFrame, Own, Return, Entering, On, BlameOf, TrapOf, NoNext, goes}
+use Rattle.coercion_norm.specs.ValueSteps.{CastFrame, Own, Return, Entering, On, BlameOf, TrapOf, NoNext}
 use Rattle.coercion_norm.specs.AnswerTypes.{Told, fits_type}
 use Rattle.coer_core.specs.Terms.{RowTerm, core_of}
 use Rattle.coer_core.specs.Counts.{turn_wraps, wraps_of_turn, wraps_at, wraps_of_step}
@@ -159,11 +159,22 @@ module _ (types : TypeRows) (rows : List TypeCast) (labels : List Pos) (answer :
           run_state = refl;
         })
     together k h (BlameOf label) (Blames other) put puts m gd =
-        inr (record { end = Blamed label; blank = tt; first = ap (λ l. Some (Blamed l)) m; second = refl; output = refl
+        inr (record {
+          end = Blamed label;
+          blank = tt;
+          first = ap (λ l. Some (Blamed l)) m;
+          second = refl;
+          output = refl;
         })
     together k h (TrapOf trap world1) (Traps other world2) put puts m gd =
-        inr (record { end = Trapped trap; blank = tt; first = ap (λ t. Some (Trapped t)) m.0; second = refl; output = ap
-        (λ (w : WorldState). w.output) m.1 })
+        inr (record {
+          end = Trapped trap;
+          blank = tt;
+          first = ap (λ t. Some (Trapped t)) m.0;
+          second = refl;
+          output = ap
+              (λ (w : WorldState). w.output) m.1;
+        })
     together k h NoNext Stuck put puts m gd =
         inr (record { end = NoStep; blank = tt; first = refl; second = refl; output = refl })
     together k h _ _ put puts m gd = absurd m
@@ -173,7 +184,7 @@ module _ (types : TypeRows) (rows : List TypeCast) (labels : List Pos) (answer :
         k h after → Does c s
     both k h after e p m =
         let st : Steps rows types (store_of rows store) world (Plugged rows k) h whole =
-            plug_step rows types (store_of rows store) world k h whole m.0 p in
+        plug_step rows types (store_of rows store) world k h whole m.0 p in
         inr (inl (record {
           first = no_ending (ending_of labels) c.ended (ap (option_map (λ v. Answered (shown_value v))) st.none);
           second = no_ending (λ end. ending_at told end focus) (ended_at focus frames) unended;
@@ -224,8 +235,8 @@ module _ (types : TypeRows) (rows : List TypeCast) (labels : List Pos) (answer :
       answers v store world whole (keeps.answers v whole store world gd e) e
   going_does (Return v) (frame ∷ frames) store world whole gd t =
       let b =
-          back_moves types rows store world v frame frames t.0 whole (fit_frame v frame frames t.0 whole store world gd
-          t.2 t.1) t.1 t.2 in
+      back_moves types rows store world v frame frames t.0 whole (fit_frame v frame frames t.0 whole store world gd
+      t.2 t.1) t.1 t.2 in
       moves_do (Return v) (frame ∷ frames) store world whole refl gd frames b.0
       (turn (piling types rows) store world (Return v) (frame ∷ frames)) refl b.1 b.2
   going_does (Entering f done todo) frames store world whole gd t =
@@ -239,8 +250,12 @@ module _ (types : TypeRows) (rows : List TypeCast) (labels : List Pos) (answer :
       subst (λ x. Does x s) (sym g.calc_state) (subst (Does (state_of g.whole (store_of rows g.store) g.world))
       (sym g.run_state) (going_does g.focus g.frames g.store g.world g.whole (subst Good g.calc_state g.good) g.stands))
   does c s (inr e) =
-      inr (inr (record { ending = ending_of labels e.end; first = ending_some c.ended e.end e.first; second =
-      ap (option_map (λ end. ending_at told end s.focus)) e.second ∙ ap Some (blank_ending e.end s.focus e.blank) }))
+      inr (inr (record {
+        ending = ending_of labels e.end;
+        first = ending_some c.ended e.end e.first;
+        second =
+            ap (option_map (λ end. ending_at told end s.focus)) e.second ∙ ap Some (blank_ending e.end s.focus e.blank);
+      }))
 
   alike : (c : CalcState) (s : PiledState) → R c s → s.world.output ≡ c.world.output
   alike c s (inl g) =
@@ -276,4 +291,3 @@ module _ (types : TypeRows) (rows : List TypeCast) (labels : List Pos) (answer :
         good = fine;
         run_state = refl;
       })) nw
-

@@ -1,5 +1,5 @@
 -- Distinct casts make distinct rows.
-use Rattle.std.proofs.Common.{◌≡◌, ◌⊎◌, inl, inr, ℕ, zero, suc, ◌+◌, ◌<◌, List, [], ◌∷◌, ◌++◌, map, length, take}
+use Rattle.std.proofs.Common.{◌≡◌, inl, inr, ℕ, zero, suc, ◌+◌, ◌<◌, List, [], ◌∷◌, ◌++◌, length, take}
 use Rattle.std.proofs.Common.{Option}
 use Rattle.std.proofs.Common.{Some, None}
 use Rattle.std.proofs.Common.{refl, sym, ap, ◌∙◌, subst, arith, slice_get, Contains}
@@ -53,24 +53,26 @@ pub fresh : (casts : List Cast) (i : ℕ) (cast : Cast) → HasNoRepeats casts �
     → ¬ Contains (cast_views (take i casts)) (cast_view cast)
 fresh casts i cast apart here (k, lt, e) =
     let at : slice_get (cast_views (take i casts)) k ≡ Some (cast_view cast) =
-        slice_get_read (cast_views (take i casts)) (length (cast_views (take i casts))) k (cast_view cast) refl lt
-        (sym e) in
+    slice_get_read (cast_views (take i casts)) (length (cast_views (take i casts))) k (cast_view cast) refl lt
+    (sym e) in
     let before : slice_get (take i casts) k ≡ slice_get (take i casts) k = refl in
     let other = was_some (slice_get (take i casts) k) (cast_view cast)
-        (sym (slice_get-map cast_view (take i casts) k) ∙ at) in
+    (sym (slice_get-map cast_view (take i casts) k) ∙ at) in
     let less : k < i = within_take i casts k (slice_get_within (take i casts) k other.0 other.1) in
     let first : slice_get casts k ≡ Some cast =
-        sym (get_take i casts k less) ∙ other.1 ∙ ap Some (same_view other.0 cast other.2) in
+    sym (get_take i casts k less) ∙ other.1 ∙ ap Some (same_view other.0 cast other.2) in
     let one : k ≡ i = apart k i (slice_get_within casts k cast first) (first ∙ sym here) in
     omega (arith, less, one)
 
 contains_cast : (rows : List CastRow) (row : CastRow) → Contains rows row → Contains (row_casts rows) (row_cast row)
 contains_cast rows row (k, lt, e) =
     let at : slice_get (row_casts rows) k ≡ Some (row_cast row) =
-        slice_get-map row_cast rows k ∙ ap (option_map row_cast) (slice_get_read rows (length rows) k row refl lt
-        (sym e)) in
-    (k, slice_get_within (row_casts rows) k (row_cast row) at,
-    get_or_from_slice_get (row_casts rows) k (row_cast row) (row_cast row) at)
+    slice_get-map row_cast rows k ∙ ap (option_map row_cast) (slice_get_read rows (length rows) k row refl lt
+    (sym e)) in (
+      k,
+      slice_get_within (row_casts rows) k (row_cast row) at,
+      get_or_from_slice_get (row_casts rows) k (row_cast row) (row_cast row) at,
+    )
 
 -- a row whose cast is new goes last
 pub goes_last : (old : List CastRow) (row : CastRow) (new : List CastRow) → ¬ Contains (row_casts old) (row_cast row)

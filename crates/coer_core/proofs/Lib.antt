@@ -19,3 +19,4 @@ mod Converting
 mod FreshRows
 mod CastTypes
 mod ToCoercions
+mod Examples

@@ -1,18 +1,17 @@
 -- Steps on values: casts, parts of tuples and calls do in both runs the same.
 use Rattle.std.proofs.Common.{◌≡◌, ℕ, zero, suc, ℤ, pos, negsuc, Bool, true, false, List, [], ◌∷◌, ◌++◌, map, Option}
-use Rattle.std.proofs.Common.{Some, None, refl, sym, ap, ◌∙◌, subst, append-nil, if◌then◌else◌, slice_get}
+use Rattle.std.proofs.Common.{Some, None, refl, sym, ap, ◌∙◌, append-nil, if◌then◌else◌, slice_get}
 use Rattle.std.specs.Prelude.{option_map, not, ◌&&◌}
 use Rattle.std.proofs.lemmas.Option.{slice_get-map}
 use Rattle.grift_base.specs.World.{WorldState}
-use Rattle.grift_base.specs.Types.{TypeRow, IntRow, BoolRow, UnitRow, DynRow, FunRow, TupleRow, RefRow, VectRow}
+use Rattle.grift_base.specs.Types.{TypeRow, FunRow}
 use Rattle.grift_base.specs.Types.{TypeRows, row_at, is_dyn, is_base, same_head, tuple_part, dyn_place}
-use Rattle.grift_base.specs.declared.verdicts.Trap.{Trap}
-use Rattle.core_calc.specs.Terms.{Term, Terms, Members, Value, Enter, Cast, Proj, ProjDyn, ValueTerm, NoTerms, TermThen}
-use Rattle.core_calc.specs.Terms.{as_value, value_list, member_names}
-use Rattle.core_calc.specs.Substitution.{Substitution, without, substitute, substitute_members, bind, members_from}
+use Rattle.core_calc.specs.Terms.{Term, Terms, Members, Enter, Cast, Proj, ValueTerm, NoTerms, TermThen}
+use Rattle.core_calc.specs.Terms.{value_list, member_names}
+use Rattle.core_calc.specs.Substitution.{Substitution, without, substitute, substitute_members, bind}
 use Rattle.core_calc.specs.Substitution.{group_values}
-use Rattle.core_calc.specs.Outcome.{Store, Outcome, Goes, Blames, Traps, Stuck, if_some, with_some}
-use Rattle.core_calc.specs.Casts.{with_rows, with_part_of_both, cast_out, cast_between, cast_step}
+use Rattle.core_calc.specs.Outcome.{Outcome, Goes, Blames, Traps, Stuck, if_some, with_some}
+use Rattle.core_calc.specs.Casts.{with_rows, with_part_of_both, cast_out, cast_step}
 use Rattle.core_calc.specs.Calls.{cast_arguments, enter_wrapped, enter_body, enter_member, value_at, proj_step}
 use Rattle.core_calc.specs.Calls.{proj_to_dyn, proj_dyn_step}
 use Rattle.coercion_norm.specs.Modes.{Decision, Keeping, Wrapping, Blaming, and_some, or_none, TypeCast, type_cast}
@@ -355,9 +354,15 @@ module _ (types : TypeRows) (rows : List TypeCast) (store : PiledStore) (world :
       (CastFrame (record { from = answer; label = label; to = wanted }) ∷ k) store world))
       (with_some q (λ casts. Goes (Cast (Enter (ValueTerm (value_of rows f)) casts) answer wanted label)
       (store_of rows store) world))
-  m_wrapped_on k f answer wanted label (Some pendings) (Some terms) b =
-      (refl, refl, λ whole p. (Enter (ValueTerm (value_of rows f)) terms,
-      (ValueTerm (value_of rows f), refl, (NoTerms, tt, (terms, b, refl))), p))
+  m_wrapped_on k f answer wanted label (Some pendings) (Some terms) b = (
+    refl,
+    refl,
+    λ whole p. (
+      Enter (ValueTerm (value_of rows f)) terms,
+      (ValueTerm (value_of rows f), refl, (NoTerms, tt, (terms, b, refl))),
+      p,
+    ),
+  )
   m_wrapped_on k f answer wanted label None None b = tt
   m_wrapped_on k f answer wanted label (Some pendings) None b = absurd b
   m_wrapped_on k f answer wanted label None (Some terms) b = absurd b

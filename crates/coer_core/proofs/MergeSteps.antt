@@ -1,27 +1,20 @@
 -- Turns that do not touch a wrapper are the same in both modes.
-use Rattle.std.proofs.Common.{◌≡◌, ◌⊎◌, inl, inr, ⊎_elim, ℕ, zero, suc, ◌+◌, ◌<◌, ◌≤◌, ℤ, pos, negsuc, Bool, true}
-use Rattle.std.proofs.Common.{false, List, [], ◌∷◌, ◌++◌, map, length, Option, Some, None, refl, sym, ap, ◌∙◌, subst}
-use Rattle.std.proofs.Common.{arith, slice_get, if◌then◌else◌}
-use Rattle.std.specs.Prelude.{option_map, replicate, slice_set, codes, not, nat_eq, cond, int_lt, int_le, int_rem, ◌+ℤ◌}
+use Rattle.std.proofs.Common.{◌≡◌, inl, inr, ℕ, zero, suc, ℤ, pos, negsuc, Bool, true}
+use Rattle.std.proofs.Common.{false, List, [], ◌∷◌, ◌++◌, length, Option, Some, None, refl, sym, ap, subst}
+use Rattle.std.proofs.Common.{slice_get, if◌then◌else◌}
+use Rattle.std.specs.Prelude.{option_map, replicate, slice_set, codes, not, int_lt, int_le, int_rem, ◌+ℤ◌}
 use Rattle.std.specs.Prelude.{◌-ℤ◌, ◌*ℤ◌}
 use Rattle.std.specs.Int.{int_wrapping_div, int_wrap, w64}
 use Rattle.std.specs.Fmt.{signed_decimal}
 use Rattle.std.specs.Ordering.{int_eq}
-use Rattle.run_laws.specs.Runs.{IsPrefix, Wrong, Follows, NeverWrong}
-use Rattle.run_laws.specs.Reductions.{Reduction, reduction_run, moment_at, state_after, unless_ended}
-use Rattle.run_laws.proofs.Public.{prefix_refl}
 use Rattle.grift_base.specs.World.{WorldState, printing}
-use Rattle.grift_base.specs.declared.places.Pos.{Pos}
 use Rattle.grift_base.specs.declared.operators.PrimOp.{PrimOp}
 use Rattle.grift_base.specs.declared.operators.PrimOp.TheVariants.{Add, Sub, Mul, Quot, Rem, Lt, Le, Eq, Ge, Gt, Not}
 use Rattle.grift_base.specs.declared.operators.PrimOp.TheVariants.{PrintInt, Newline, ReadInt, MakeBox, Unbox, BoxSet}
 use Rattle.grift_base.specs.declared.operators.PrimOp.TheVariants.{MakeVector, VectorRef, VectorSet, VectorLength}
-use Rattle.grift_base.specs.declared.verdicts.Trap.TheVariants.{ZeroDivisor, Index, Length}
-use Rattle.grift_base.specs.declared.verdicts.Verdict.{Verdict}
+use Rattle.grift_base.specs.declared.verdicts.Trap.TheVariants.{ZeroDivisor}
 use Rattle.grift_base.specs.Reading.{next_number}
 use Rattle.core_calc.specs.Substitution.{bind, entry_of}
-use Rattle.core_calc.specs.Terms.{both_in_front}
-use Rattle.core_calc.specs.Calculus.{CalcEnd, Answered, Blamed, Trapped, NoStep, ending_of}
 use Rattle.coercion_norm.specs.Modes.{DynPart, PartCast, NoPart, NoType, Mode}
 use Rattle.coercion_norm.specs.RunValues.{RunInt, RunBool, RunUnit, RunFun, RunTuple, RunLoc, RunWrap, RunInject}
 use Rattle.coercion_norm.specs.RunValues.{in_row, row_list, all_plain}
@@ -46,7 +39,6 @@ use Rattle.coer_core.proofs.Merging.{both_replicate, both_onto, IsBare, AllFresh
 use Rattle.coer_core.proofs.Merging.{CarriesEntry, EnvLike, Stores, Stood, PendingLike, Frames, Foci, find_like}
 use Rattle.coer_core.proofs.Merging.{members_like, captured_like, names_like, env_values_like, values_like, list_like}
 use Rattle.coer_core.proofs.Merging.{bind_like}
-
 
 abbrev pub FirstIsBare : {C : Type 0} → List (CoerValue C) → Type 0
 FirstIsBare [] = Unit {0}
@@ -182,10 +174,25 @@ module _ {C D : Type 0} (like : Likeness C D) where
           ((f, v ∷ done, todo, refl, c, (e, b), t, inl q), frames, stores, refl)
       s_next f g done done1 v u (cast ∷ casts) ds todo todo1 q c b e p t =
           subst (λ x. Same (On (Return v) (CastFrame cast ∷ casts_onto casts (EnterFrame f done todo ∷ k)) store world)
-          (next_argument n code_arity entered other world g done1 u x todo1 k')) (sym p.1)
-          ((v, refl, e), ([], CastFrame cast ∷ casts_onto casts (EnterFrame f done todo ∷ k), refl, tt,
-          (cast, casts, EnterFrame f done todo ∷ k, refl, p.2,
-          ([], EnterFrame f done todo ∷ k, refl, tt, (f, done, todo, k, refl, c, b, t, frames, q)))), stores, refl)
+          (next_argument n code_arity entered other world g done1 u x todo1 k')) (sym p.1) (
+            (v, refl, e),
+            (
+              [],
+              CastFrame cast ∷ casts_onto casts (EnterFrame f done todo ∷ k),
+              refl,
+              tt,
+              (
+                cast,
+                casts,
+                EnterFrame f done todo ∷ k,
+                refl,
+                p.2,
+                ([], EnterFrame f done todo ∷ k, refl, tt, (f, done, todo, k, refl, c, b, t, frames, q)),
+              ),
+            ),
+            stores,
+            refl,
+          )
 
       s_plain : (f : CoerValue C) (g : CoerValue D) (done : List (CoerValue C)) (done1 : List (CoerValue D))
           (todo : List (CoerPending C)) (todo1 : List (CoerPending D)) → IsBare f → Carries like f g
@@ -265,9 +272,18 @@ module _ {C D : Type 0} (like : Likeness C D) where
       s_dyn_part : (v : CoerValue C) (u : CoerValue D) (i : ℤ) (label : ℕ) (part : DynPart C) (part1 : DynPart D)
           → Carries like v u → Parts part part1 → Same (blame_or_proj m code_arity entered store world part v i label k)
           (blame_or_proj n code_arity entered other world part1 u i label k')
-      s_dyn_part v u i label (PartCast c) (PartCast d) e p =
-          ((v, refl, e), ([], ProjFrame i ∷ CastFrame c ∷ k, refl, tt,
-          (CastFrame c ∷ k, refl, ([], CastFrame c ∷ k, refl, tt, (c, [], k, refl, p, frames)))), stores, refl)
+      s_dyn_part v u i label (PartCast c) (PartCast d) e p = (
+        (v, refl, e),
+        (
+          [],
+          ProjFrame i ∷ CastFrame c ∷ k,
+          refl,
+          tt,
+          (CastFrame c ∷ k, refl, ([], CastFrame c ∷ k, refl, tt, (c, [], k, refl, p, frames))),
+        ),
+        stores,
+        refl,
+      )
       s_dyn_part v u i label (PartCast c) NoPart e p = absurd p
       s_dyn_part v u i label (PartCast c) NoType e p = absurd p
       s_dyn_part v u i label NoPart NoPart e p = refl
@@ -358,10 +374,18 @@ module _ {C D : Type 0} (like : Likeness C D) where
           → Both (Carries like) cell cell1
           → Same (On (Return (RunLoc (length store) is_vector)) k (store ++ cell ∷ []) world)
           (On (Return (RunLoc (length other) is_vector)) k' (other ++ cell1 ∷ []) world)
-      s_new_cell cell cell1 is_vector b =
-          ((RunLoc (length store) is_vector, refl, ap (λ i. RunLoc i is_vector)
-          (both_length (Both (Carries like)) store other stores)), frames, both_append (Both (Carries like)) store other
-          (cell ∷ []) (cell1 ∷ []) stores (b, tt), refl)
+      s_new_cell cell cell1 is_vector b = (
+        (
+          RunLoc (length store) is_vector,
+          refl,
+          ap (λ i. RunLoc i is_vector)
+              (both_length (Both (Carries like)) store other stores),
+        ),
+        frames,
+        both_append (Both (Carries like)) store other
+            (cell ∷ []) (cell1 ∷ []) stores (b, tt),
+        refl,
+      )
 
       s_writes : (place : ℕ) (cell : List (CoerValue C)) (cell1 : List (CoerValue D)) → Both (Carries like) cell cell1
           → Same (On (Return RunUnit) k (slice_set store place cell) world)
@@ -550,23 +574,57 @@ module _ {C D : Type 0} (like : Likeness C D) where
           (rest : RowTerms) (env : Env C) (e : Env D) → Carries like f g → Both (Carries like) done done1
           → EnvLike like env e → Same (gather m store world (Calling f) done rest env k)
           (gather n other world (Calling g) done1 rest e k')
-      s_call f g done done1 NoRowTerms env e c b r =
-          ((f, [], all_plain (onto done []), refl, c, tt, pend_all (onto done []) (onto done1 [])
-          (both_onto (Carries like) done done1 [] [] b tt), inr (refl, all_fresh (onto done []))), frames, stores, refl)
-      s_call f g done done1 (RowTermThen term rest) env e c b r =
-          ((env, refl, r), ([], OwnFrame (GatherFrame (Calling f) done rest env) ∷ k, refl, tt,
-          (Calling f, done, env, k, refl, (f, refl, c), b, r, frames)), stores, refl)
+      s_call f g done done1 NoRowTerms env e c b r = (
+        (
+          f,
+          [],
+          all_plain (onto done []),
+          refl,
+          c,
+          tt,
+          pend_all (onto done []) (onto done1 [])
+              (both_onto (Carries like) done done1 [] [] b tt),
+          inr (refl, all_fresh (onto done [])),
+        ),
+        frames,
+        stores,
+        refl,
+      )
+      s_call f g done done1 (RowTermThen term rest) env e c b r = (
+        (env, refl, r),
+        (
+          [],
+          OwnFrame (GatherFrame (Calling f) done rest env) ∷ k,
+          refl,
+          tt,
+          (Calling f, done, env, k, refl, (f, refl, c), b, r, frames),
+        ),
+        stores,
+        refl,
+      )
 
       pub s_tuple : (done : List (CoerValue C)) (done1 : List (CoerValue D)) (rest : RowTerms) (env : Env C) (e : Env D)
           → Both (Carries like) done done1 → EnvLike like env e
           → Same (gather m store world Tupling done rest env k) (gather n other world Tupling done1 rest e k')
       s_tuple done done1 NoRowTerms env e b r =
-          s_gives (RunTuple (in_row (onto done []))) (RunTuple (in_row (onto done1 [])))
-          (in_row (onto done1 []), refl, values_like like (onto done []) (onto done1 [])
-          (both_onto (Carries like) done done1 [] [] b tt))
-      s_tuple done done1 (RowTermThen term rest) env e b r =
-          ((env, refl, r), ([], OwnFrame (GatherFrame Tupling done rest env) ∷ k, refl, tt,
-          (Tupling, done, env, k, refl, refl, b, r, frames)), stores, refl)
+          s_gives (RunTuple (in_row (onto done []))) (RunTuple (in_row (onto done1 []))) (
+            in_row (onto done1 []),
+            refl,
+            values_like like (onto done []) (onto done1 [])
+                (both_onto (Carries like) done done1 [] [] b tt),
+          )
+      s_tuple done done1 (RowTermThen term rest) env e b r = (
+        (env, refl, r),
+        (
+          [],
+          OwnFrame (GatherFrame Tupling done rest env) ∷ k,
+          refl,
+          tt,
+          (Tupling, done, env, k, refl, refl, b, r, frames),
+        ),
+        stores,
+        refl,
+      )
 
       pub s_prim : (operator : PrimOp) (done : List (CoerValue C)) (done1 : List (CoerValue D)) (rest : RowTerms)
           (env : Env C) (e : Env D) → LastIsBare operator done rest → Both (Carries like) done done1
@@ -574,19 +632,45 @@ module _ {C D : Type 0} (like : Likeness C D) where
           (gather n other world (Operating operator) done1 rest e k')
       s_prim operator done done1 NoRowTerms env e p b r =
           s_operate operator (onto done []) (onto done1 []) p (both_onto (Carries like) done done1 [] [] b tt)
-      s_prim operator done done1 (RowTermThen term rest) env e p b r =
-          ((env, refl, r), ([], OwnFrame (GatherFrame (Operating operator) done rest env) ∷ k, refl, tt,
-          (Operating operator, done, env, k, refl, refl, b, r, frames)), stores, refl)
+      s_prim operator done done1 (RowTermThen term rest) env e p b r = (
+        (env, refl, r),
+        (
+          [],
+          OwnFrame (GatherFrame (Operating operator) done rest env) ∷ k,
+          refl,
+          tt,
+          (Operating operator, done, env, k, refl, refl, b, r, frames),
+        ),
+        stores,
+        refl,
+      )
 
       pub s_bind : (bound : Env C) (bound1 : Env D) (rest : RowBindings) (body : RowTerm) (env : Env C) (e : Env D)
           → Both (CarriesEntry like) bound bound1 → EnvLike like env e
           → Same (bind_next m store world bound rest body env k) (bind_next n other world bound1 rest body e k')
-      s_bind bound bound1 NoRowBindings body env e b r =
-          ((onto bound [] ++ env, refl, both_append (CarriesEntry like) (onto bound []) (onto bound1 []) env e
-          (both_onto (CarriesEntry like) bound bound1 [] [] b tt) r), frames, stores, refl)
-      s_bind bound bound1 (RowBindingThen name term rest) body env e b r =
-          ((env, refl, r), ([], OwnFrame (LetFrame bound name rest body env) ∷ k, refl, tt,
-          (bound, env, k, refl, b, r, frames)), stores, refl)
+      s_bind bound bound1 NoRowBindings body env e b r = (
+        (
+          onto bound [] ++ env,
+          refl,
+          both_append (CarriesEntry like) (onto bound []) (onto bound1 []) env e
+              (both_onto (CarriesEntry like) bound bound1 [] [] b tt) r,
+        ),
+        frames,
+        stores,
+        refl,
+      )
+      s_bind bound bound1 (RowBindingThen name term rest) body env e b r = (
+        (env, refl, r),
+        (
+          [],
+          OwnFrame (LetFrame bound name rest body env) ∷ k,
+          refl,
+          tt,
+          (bound, env, k, refl, b, r, frames),
+        ),
+        stores,
+        refl,
+      )
 
       pub s_choose : (v : CoerValue C) (u : CoerValue D) (on_true on_false : RowTerm) (env : Env C) (e : Env D)
           → Carries like v u → EnvLike like env e
@@ -609,30 +693,51 @@ module _ {C D : Type 0} (like : Likeness C D) where
           s_options (Carries like) (entry_of name env) (entry_of name e) _ _ (find_like like name env e r)
           (λ v u c. s_gives v u c)
       s_eval law (RowLambda parameters body type) env e r =
-          s_gives (closure parameters body type env) (closure parameters body type e)
-          (in_row (env_values e), ap (λ l. RunFun (LambdaCode parameters body type l) (in_row (env_values e)))
-          (names_like like env e r), env_values_like like env e r)
+          s_gives (closure parameters body type env) (closure parameters body type e) (
+            in_row (env_values e),
+            ap (λ l. RunFun (LambdaCode parameters body type l) (in_row (env_values e)))
+                (names_like like env e r),
+            env_values_like like env e r,
+          )
       s_eval law (RowGroup members body) env e r =
           let captured : CoerValues C = in_row (env_values env) in
-          let captured1 : CoerValues D = in_row (env_values e) in
-          ((members_in members (env_names env) captured members 0 ++ env, refl, both_append (CarriesEntry like)
-          (members_in members (env_names env) captured members 0) (members_in members (env_names e) captured1 members 0)
-          env e (subst (λ l. EnvLike like (members_in members (env_names env) captured members 0)
-          (members_in members l captured1 members 0)) (sym (names_like like env e r))
-          (members_like like members (env_names env) captured captured1 members 0 (env_values_like like env e r))) r),
-          frames, stores, refl)
+          let captured1 : CoerValues D = in_row (env_values e) in (
+            (
+              members_in members (env_names env) captured members 0 ++ env,
+              refl,
+              both_append (CarriesEntry like)
+                  (members_in members (env_names env) captured members 0)
+                  (members_in members (env_names e) captured1 members 0)
+                  env e (subst (λ l. EnvLike like (members_in members (env_names env) captured members 0)
+                  (members_in members l captured1 members 0)) (sym (names_like like env e r))
+                  (members_like like members (env_names env) captured captured1 members 0
+                  (env_values_like like env e r))) r,
+            ),
+            frames,
+            stores,
+            refl,
+          )
       s_eval law (RowLet bindings body) env e r = s_bind [] [] bindings body env e tt r
-      s_eval law (RowCall function arguments) env e r =
-          ((env, refl, r), ([], OwnFrame (FunFrame arguments env) ∷ k, refl, tt, (env, k, refl, r, frames)), stores,
-          refl)
-      s_eval law (RowIf condition on_true on_false) env e r =
-          ((env, refl, r), ([], OwnFrame (IfFrame on_true on_false env) ∷ k, refl, tt, (env, k, refl, r, frames)),
-          stores, refl)
+      s_eval law (RowCall function arguments) env e r = (
+        (env, refl, r),
+        ([], OwnFrame (FunFrame arguments env) ∷ k, refl, tt, (env, k, refl, r, frames)),
+        stores,
+        refl,
+      )
+      s_eval law (RowIf condition on_true on_false) env e r = (
+        (env, refl, r),
+        ([], OwnFrame (IfFrame on_true on_false env) ∷ k, refl, tt, (env, k, refl, r, frames)),
+        stores,
+        refl,
+      )
       s_eval law (RowSeq NoRowTerms) env e r = tt
       s_eval law (RowSeq (RowTermThen term NoRowTerms)) env e r = ((env, refl, r), frames, stores, refl)
-      s_eval law (RowSeq (RowTermThen term (RowTermThen second rest))) env e r =
-          ((env, refl, r), ([], OwnFrame (SeqFrame second rest env) ∷ k, refl, tt, (env, k, refl, r, frames)), stores,
-          refl)
+      s_eval law (RowSeq (RowTermThen term (RowTermThen second rest))) env e r = (
+        (env, refl, r),
+        ([], OwnFrame (SeqFrame second rest env) ∷ k, refl, tt, (env, k, refl, r, frames)),
+        stores,
+        refl,
+      )
       s_eval law (RowCast term number) env e r =
           s_there (λ c d. like.stands d (c ∷ [])) (m.row number) (n.row number) _ _ (law number)
           (λ c d p. ((env, refl, r), ([], CastFrame c ∷ k, refl, tt, (c, [], k, refl, p, frames)), stores, refl))

@@ -1,32 +1,23 @@
 -- The run in one mode follows the run in another where laws of their casts hold.
-use Rattle.std.proofs.Common.{◌≡◌, ◌⊎◌, inl, inr, ⊎_elim, ℕ, zero, suc, ◌+◌, ◌<◌, ◌≤◌, ℤ, pos, negsuc, Bool, true}
-use Rattle.std.proofs.Common.{false, List, [], ◌∷◌, ◌++◌, map, length, Option, Some, None, refl, sym, ap, ◌∙◌, subst}
-use Rattle.std.proofs.Common.{arith, slice_get, if◌then◌else◌}
-use Rattle.std.specs.Prelude.{option_map, replicate, slice_set, codes, not, nat_eq, cond, int_lt, int_le, int_rem, ◌+ℤ◌}
-use Rattle.std.specs.Prelude.{◌-ℤ◌, ◌*ℤ◌}
-use Rattle.std.specs.Int.{int_wrapping_div, int_wrap, w64}
-use Rattle.std.specs.Fmt.{signed_decimal}
-use Rattle.std.specs.Ordering.{int_eq}
-use Rattle.run_laws.specs.Runs.{Ending, IsPrefix, Wrong, Follows, NeverWrong}
-use Rattle.run_laws.specs.Reductions.{Reduction, reduction_run, moment_at, state_after, unless_ended}
-use Rattle.run_laws.proofs.Public.{Along, Paths, Round, LastRound, WrongRound, Goes, rounds_follow, goes_after}
-use Rattle.grift_base.specs.World.{WorldState, printing}
-use Rattle.grift_base.specs.declared.places.Pos.{Pos}
+use Rattle.std.proofs.Common.{◌≡◌, ◌⊎◌, inl, inr, ℕ, ℤ}
+use Rattle.std.proofs.Common.{List, [], ◌∷◌, Option, Some, None, refl, sym, ap, ◌∙◌, subst}
+use Rattle.std.proofs.Common.{arith, if◌then◌else◌}
+use Rattle.std.specs.Prelude.{option_map}
+use Rattle.run_laws.specs.Runs.{Ending, Wrong, Follows, NeverWrong}
+use Rattle.run_laws.specs.Reductions.{reduction_run, moment_at, unless_ended}
+use Rattle.run_laws.proofs.Public.{Goes, rounds_follow, goes_after}
+use Rattle.grift_base.specs.World.{WorldState}
 use Rattle.grift_base.specs.declared.operators.PrimOp.{PrimOp}
-use Rattle.grift_base.specs.declared.operators.PrimOp.TheVariants.{Add, Sub, Mul, Quot, Rem, Lt, Le, Eq, Ge, Gt, Not}
-use Rattle.grift_base.specs.declared.operators.PrimOp.TheVariants.{PrintInt, Newline, ReadInt, MakeBox, Unbox, BoxSet}
-use Rattle.grift_base.specs.declared.operators.PrimOp.TheVariants.{MakeVector, VectorRef, VectorSet, VectorLength}
-use Rattle.grift_base.specs.declared.verdicts.Trap.TheVariants.{ZeroDivisor, Index, Length}
+use Rattle.grift_base.specs.declared.operators.PrimOp.TheVariants.{Unbox, BoxSet}
+use Rattle.grift_base.specs.declared.operators.PrimOp.TheVariants.{VectorRef, VectorSet, VectorLength}
 use Rattle.grift_base.specs.declared.verdicts.Verdict.{Verdict}
-use Rattle.core_calc.specs.Substitution.{bind}
-use Rattle.core_calc.specs.Terms.{both_in_front}
-use Rattle.core_calc.specs.Calculus.{CalcEnd, Answered, Blamed, Trapped, NoStep, ending_of}
+use Rattle.core_calc.specs.Calculus.{CalcEnd, Answered, Blamed, Trapped, ending_of}
 use Rattle.coercion_norm.specs.Modes.{Mode}
 use Rattle.coercion_norm.specs.RunValues.{RunInt, RunBool, RunUnit, RunFun, RunTuple, RunLoc, RunWrap, RunInject, shown}
 use Rattle.coercion_norm.specs.ValueSteps.{CastFrame, ProjFrame, PrimFrame, EnterFrame, OwnFrame, Own, Return, Entering}
 use Rattle.coercion_norm.specs.ValueSteps.{On, BlameOf, TrapOf, NoNext, onto, casts_onto}
 use Rattle.coer_core.specs.Terms.{RowTerm, RowTerms, NoRowTerms, RowTermThen}
-use Rattle.coercion_norm.specs.AnswerTypes.{Told, fits_type}
+use Rattle.coercion_norm.specs.AnswerTypes.{Told}
 use Rattle.coer_core.proofs.Joining.{ap2}
 use Rattle.coer_core.specs.Machine.{answer_ending, ending_at, CoerValue, CoerStore, CoerPending, Env, Eval, Calling}
 use Rattle.coer_core.specs.Machine.{Tupling, Operating, IfFrame}
@@ -37,8 +28,6 @@ use Rattle.coer_core.proofs.MergeSteps.{s_enter, s_proj, s_proj_dyn, s_call, s_t
 use Rattle.coer_core.proofs.Merging.{Both, IfThere, IsBare, AllFresh, Enterable, Likeness, Carries, EnvLike, Stores}
 use Rattle.coer_core.proofs.Merging.{Pends, PendingLike, groups_onto, AllDropped, Top, Frames, Foci, shown_carried}
 use Rattle.coer_core.proofs.Merging.{fits_carried}
-
-
 
 -- a wrapper, or none
 data View {C : Type 0} (v : CoerValue C) : Type 0 where
@@ -160,9 +149,12 @@ module _ {C D : Type 0} (like : Likeness C D) (m : Mode C) (n : Mode D) (told : 
         t' = state_at g k' st' w';
         first =
             (no_end (λ end. ending_at told end focus) (ended_at focus frames) first, inl refl, ap (after_turn s) ea);
-        second =
-            (no_end (λ end. ending_at told end focus1) (ended_at focus1 frames1) second, inl refl, ap (after_turn t)
-            eb);
+        second = (
+          no_end (λ end. ending_at told end focus1) (ended_at focus1 frames1) second,
+          inl refl,
+          ap (after_turn t)
+              eb,
+        );
         start = refl;
         output = ap (λ (x : WorldState). x.output) r.3;
       };
@@ -192,9 +184,12 @@ module _ {C D : Type 0} (like : Likeness C D) (m : Mode C) (n : Mode D) (told : 
         t' = after_turn t (BlameOf other);
         first =
             (no_end (λ end. ending_at told end focus) (ended_at focus frames) first, inl refl, ap (after_turn s) ea);
-        second =
-            (no_end (λ end. ending_at told end focus1) (ended_at focus1 frames1) second, inl refl, ap (after_turn t)
-            eb);
+        second = (
+          no_end (λ end. ending_at told end focus1) (ended_at focus1 frames1) second,
+          inl refl,
+          ap (after_turn t)
+              eb,
+        );
         start = refl;
         output = refl;
       };
@@ -210,9 +205,12 @@ module _ {C D : Type 0} (like : Likeness C D) (m : Mode C) (n : Mode D) (told : 
         t' = after_turn t (TrapOf other w');
         first =
             (no_end (λ end. ending_at told end focus) (ended_at focus frames) first, inl refl, ap (after_turn s) ea);
-        second =
-            (no_end (λ end. ending_at told end focus1) (ended_at focus1 frames1) second, inl refl, ap (after_turn t)
-            eb);
+        second = (
+          no_end (λ end. ending_at told end focus1) (ended_at focus1 frames1) second,
+          inl refl,
+          ap (after_turn t)
+              eb,
+        );
         start = refl;
         output = ap (λ (x : WorldState). x.output) r.1;
       };
@@ -264,12 +262,15 @@ module _ {C D : Type 0} (like : Likeness C D) (m : Mode C) (n : Mode D) (told : 
     argument_dropped f g done done1 v u cast casts todo todo1 k k' fr q c b e d p =
         let k1 : List (CoerFrame C) = EnterFrame f done todo ∷ k in
         let s0 : RunState C =
-            state_at (Entering f done (record { value = v; casts = cast ∷ casts } ∷ todo)) k store world in
+        state_at (Entering f done (record { value = v; casts = cast ∷ casts } ∷ todo)) k store world in
         let s1 : RunState C = state_at (Return v) (casts_onto (cast ∷ casts) k1) store world in
         let t0 : RunState D = state_at (Entering g done1 (record { value = u; casts = [] } ∷ todo1)) k' store1 world in
-        goes_after (running m told) (running n told) R i 1 s0 s1 t0 refl
-        (refl, refl, ap (after_turn s0) (enters_plain like m n store store1 stores world k k' fr f done
-        (record { value = v; casts = cast ∷ casts } ∷ todo) q))
+        goes_after (running m told) (running n told) R i 1 s0 s1 t0 refl (
+          refl,
+          refl,
+          ap (after_turn s0) (enters_plain like m n store store1 stores world k k' fr f done
+              (record { value = v; casts = cast ∷ casts } ∷ todo) q),
+        )
         (drop i v u (cast ∷ casts) k1 store world t0 e d (λ x h. same_goes i (Return x) k1 store world
         (Entering g done1 (record { value = u; casts = [] } ∷ todo1)) k' store1 refl refl
         (subst (Same like (On (Entering f (x ∷ done) todo) k store world))
@@ -307,8 +308,17 @@ module _ {C D : Type 0} (like : Likeness C D) (m : Mode C) (n : Mode D) (told : 
         → GoesAt i (Return v) [] store world (Return u) [] store1
     answered v u c = inr (inl (record {
       paths =
-          record { first_steps = 0; second_steps = 0; s' = state_at (Return v) [] store world; t' = state_at (Return u)
-          [] store1 world; first = refl; second = refl; start = refl; output = refl };
+          record {
+            first_steps = 0;
+            second_steps = 0;
+            s' = state_at (Return v) [] store world;
+            t' = state_at (Return u)
+                [] store1 world;
+            first = refl;
+            second = refl;
+            start = refl;
+            output = refl;
+          };
       ending = answer_ending told (shown v) (let f : CoerFocus C = Return v in f);
       first_ends = refl;
       second_ends =

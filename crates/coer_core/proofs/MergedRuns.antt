@@ -1,6 +1,6 @@
 -- The merged run follows the piled one, and the calculus, where casts are between types without parts.
-use Rattle.std.proofs.Common.{◌≡◌, ◌⊎◌, inl, inr, ℕ, Bool, true, false, List, length, Option, Some, None, refl, sym, ap}
-use Rattle.std.proofs.Common.{◌∙◌, subst, slice_get}
+use Rattle.std.proofs.Common.{◌≡◌, ◌⊎◌, inl, inr, ℕ, Bool, true, false, List, length, Some, refl, sym, ap}
+use Rattle.std.proofs.Common.{◌∙◌, subst}
 use Rattle.std.specs.Prelude.{cond, nat_eq, max}
 use Rattle.std.proofs.lemmas.Bool.{eqb-true, eq-eqb}
 use Rattle.run_laws.specs.Runs.{NeverWrong, Follows}
@@ -8,12 +8,11 @@ use Rattle.run_laws.specs.Reductions.{reduction_run}
 use Rattle.run_laws.proofs.Public.{follower_never_goes_wrong, follows_is_transitive}
 use Rattle.grift_base.specs.Types.{TypeRow, IntRow, BoolRow, UnitRow, DynRow, TypeRows, row_at, is_dyn, is_base}
 use Rattle.grift_base.specs.Types.{same_head}
-use Rattle.grift_base.specs.declared.places.Pos.{Pos}
 use Rattle.type_graph.specs.Trees.{height}
 use Rattle.core_calc.specs.Calculus.{Program, calc}
 use Rattle.core_calc.specs.Typing.{IsTypeTable, ProgramTermHasType}
 use Rattle.core_calc.proofs.Public.{same_type, both_row}
-use Rattle.coercion_norm.specs.Coercions.{Coercion, Id, Fail, Project, Inject, rows_of, kind_of}
+use Rattle.coercion_norm.specs.Coercions.{Coercion, Id, Fail, rows_of, kind_of}
 use Rattle.coercion_norm.specs.Composition.{coerce_by, coerce_below, coerce_middle}
 use Rattle.coercion_norm.specs.Heights.{coercion_height}
 use Rattle.coercion_norm.specs.CoercionTables.{cast_of, composition_of}
@@ -26,7 +25,7 @@ use Rattle.coer_core.specs.Machine.{run_start, running}
 use Rattle.coer_core.specs.Counts.{run_in, told_of, uncounted}
 use Rattle.coer_core.specs.FlatCasts.{HasNoParts, AreFlatCasts}
 use Rattle.coer_core.proofs.Joining.{ap2}
-use Rattle.coer_core.proofs.Counting.{SameMoments, counted_moments, follows_as, followed_as}
+use Rattle.coer_core.proofs.Counting.{counted_moments, follows_as, followed_as}
 use Rattle.coer_core.proofs.PiledRuns.{piled_runs_follow_the_calculus-follows}
 use Rattle.coer_core.proofs.PiledRuns.{piled_runs_follow_the_calculus-never_wrong}
 use Rattle.coer_core.proofs.Flat.{IsFlat, FlatCoercions, flat_follows}

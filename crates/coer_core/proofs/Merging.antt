@@ -1,30 +1,13 @@
 -- The run in one mode follows the run in another, where laws of their casts hold: all steps but those on wrappers.
-use Rattle.std.proofs.Common.{◌≡◌, ◌⊎◌, inl, inr, ⊎_elim, ℕ, zero, suc, ◌+◌, ◌<◌, ◌≤◌, ℤ, pos, negsuc, Bool, true}
-use Rattle.std.proofs.Common.{false, List, [], ◌∷◌, ◌++◌, map, length, Option, Some, None, refl, sym, ap, ◌∙◌, subst}
-use Rattle.std.proofs.Common.{arith, slice_get, if◌then◌else◌}
-use Rattle.std.specs.Prelude.{◌&&◌, option_map, replicate, slice_set, codes, not, nat_eq, cond, int_lt, int_le, int_rem}
-use Rattle.std.specs.Prelude.{◌+ℤ◌}
-use Rattle.std.specs.Prelude.{◌-ℤ◌, ◌*ℤ◌}
-use Rattle.std.specs.Int.{int_wrapping_div, int_wrap, w64}
-use Rattle.std.specs.Fmt.{signed_decimal}
-use Rattle.std.specs.Ordering.{int_eq}
-use Rattle.run_laws.specs.Runs.{IsPrefix, Wrong, Follows, NeverWrong}
-use Rattle.run_laws.specs.Reductions.{Reduction, reduction_run, moment_at, state_after, unless_ended}
-use Rattle.run_laws.proofs.Public.{prefix_refl}
-use Rattle.grift_base.specs.World.{WorldState, printing}
-use Rattle.grift_base.specs.declared.places.Pos.{Pos}
-use Rattle.grift_base.specs.declared.operators.PrimOp.{PrimOp}
-use Rattle.grift_base.specs.declared.operators.PrimOp.TheVariants.{Add, Sub, Mul, Quot, Rem, Lt, Le, Eq, Ge, Gt, Not}
-use Rattle.grift_base.specs.declared.operators.PrimOp.TheVariants.{PrintInt, Newline, ReadInt, MakeBox, Unbox, BoxSet}
-use Rattle.grift_base.specs.declared.operators.PrimOp.TheVariants.{MakeVector, VectorRef, VectorSet, VectorLength}
-use Rattle.grift_base.specs.declared.verdicts.Trap.TheVariants.{ZeroDivisor, Index, Length}
-use Rattle.grift_base.specs.declared.verdicts.Verdict.{Verdict}
+use Rattle.std.proofs.Common.{◌≡◌, ◌⊎◌, inl, inr, ℕ, zero, suc, Bool, true}
+use Rattle.std.proofs.Common.{false, List, [], ◌∷◌, ◌++◌, length, Option, Some, None, refl, sym, ap, ◌∙◌, subst}
+use Rattle.std.proofs.Common.{slice_get, if◌then◌else◌}
+use Rattle.std.specs.Prelude.{◌&&◌, replicate, slice_set, not, nat_eq, cond}
 use Rattle.grift_base.specs.Types.{TypeHead, IntHead, BoolHead, UnitHead, DynHead, FunHead, TupleHead, RefHead}
 use Rattle.grift_base.specs.Types.{VectHead, TypeRows, row_at}
 use Rattle.coercion_norm.specs.AnswerTypes.{fits_type, row_has_head, run_head}
 use Rattle.core_calc.specs.Substitution.{bind, entry_of}
 use Rattle.core_calc.specs.Terms.{both_in_front}
-use Rattle.core_calc.specs.Calculus.{CalcEnd, Answered, Blamed, Trapped, NoStep, ending_of}
 use Rattle.coercion_norm.specs.RunValues.{RunInt, RunBool, RunUnit, RunFun, RunTuple, RunLoc, RunWrap, RunInject}
 use Rattle.coercion_norm.specs.RunValues.{NoRunValues, RunValueThen, in_row, row_list, shown}
 use Rattle.coercion_norm.specs.ValueSteps.{CastFrame, ProjFrame, PrimFrame, EnterFrame, OwnFrame, Own, Return, Entering}

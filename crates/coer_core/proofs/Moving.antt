@@ -4,15 +4,14 @@ use Rattle.std.proofs.Common.{Option, Some, None, refl, sym, ap, ◌∙◌, subs
 use Rattle.std.specs.Prelude.{option_map, cond, if◌then◌else◌, not, ◌&&◌}
 use Rattle.grift_base.specs.World.{WorldState}
 use Rattle.grift_base.specs.Types.{TypeRow, TypeRows, row_at, is_dyn, is_base, same_head}
-use Rattle.core_calc.specs.Terms.{Term, Terms, Members, Bindings, Value, FunValue, Var, Let, Call, Enter, If, Seq, Cast}
+use Rattle.core_calc.specs.Terms.{Term, Terms, Members, Bindings, Value, FunValue, Let, Call, Enter, If, Seq}
 use Rattle.core_calc.specs.Terms.{Proj, ProjDyn, Tuple, Prim, ValueTerm, NoTerms, TermThen, NoBindings, BindingThen}
 use Rattle.core_calc.specs.Terms.{TupleValue, WrapValue, as_value, all_values, values_from, bound_values, binding_names}
 use Rattle.core_calc.specs.Terms.{member_names}
-use Rattle.core_calc.specs.Substitution.{Substitution, entry_of, without, value_or_name, substitute, bind, group_values}
-use Rattle.core_calc.specs.Outcome.{Store, Outcome, Goes, Blames, Traps, Stuck, inside, if_some, with_some}
-use Rattle.core_calc.specs.Calls.{enter_step}
+use Rattle.core_calc.specs.Substitution.{entry_of, without, value_or_name, substitute, group_values}
+use Rattle.core_calc.specs.Outcome.{Outcome, Goes, inside}
 use Rattle.core_calc.specs.Redex.{Focus, here, below, where_some, enter_focus, focus_terms, redex}
-use Rattle.core_calc.specs.Step.{step, step_terms, step_bindings, let_step, if_step}
+use Rattle.core_calc.specs.Step.{step, step_terms, if_step}
 use Rattle.coercion_norm.specs.Modes.{Shape, Bare, Wrapped, Injected, Decision, Keeping, Wrapping, Injecting, Blaming}
 use Rattle.coercion_norm.specs.Modes.{and_some, or_none, TypeCast, opening, fits, decide_fitting, piling}
 use Rattle.coercion_norm.specs.RunValues.{RunBool, RunFun, RunWrap, plain, all_plain, shape_of}
@@ -74,16 +73,32 @@ module _ (types : TypeRows) (rows : List TypeCast) (store : PiledStore) (world :
   finish_moves : (job : PiledJob) (function : Term) (values : List PiledValue) (terms : Terms) (k : List PiledFrame)
       → Ready job function → all_values terms ≡ Some (map (value_of rows) values) → Pended rows (all_plain values) terms
       → Stepping 0 k (JobTerm job function terms) (finish (piling types rows) store world job values k)
-  finish_moves (Calling f) function values terms k r e p =
-      (refl, ap (wraps_at types) (some_chosen (as_value function) _ _ _ r ∙ some_chosen (all_values terms) _ _ _ e), rw
-      (r, e) (refl, refl, λ whole q. (Enter function terms, (function, r, (NoTerms, tt, (terms, p, refl))), q)))
-  finish_moves Tupling function values terms k r e p =
-      (refl, ap (wraps_at types) (some_chosen (all_values terms) _ _ _ e), rw e
-      (refl, refl, λ whole q. (ValueTerm (TupleValue (values_from (map (value_of rows) values))), ap
-      (λ x. Some (TupleValue x)) (sym (in_row_of rows values)), q)))
-  finish_moves (Operating operator) function values terms k r e p =
-      (refl, ap (wraps_at types) (some_chosen (all_values terms) _ _ _ e), rw e
-      (m_operator types rows store world k operator values))
+  finish_moves (Calling f) function values terms k r e p = (
+    refl,
+    ap (wraps_at types) (some_chosen (as_value function) _ _ _ r ∙ some_chosen (all_values terms) _ _ _ e),
+    rw
+        (r, e) (refl, refl, λ whole q. (Enter function terms, (function, r, (NoTerms, tt, (terms, p, refl))), q)),
+  )
+  finish_moves Tupling function values terms k r e p = (
+    refl,
+    ap (wraps_at types) (some_chosen (all_values terms) _ _ _ e),
+    rw e (
+      refl,
+      refl,
+      λ whole q. (
+        ValueTerm (TupleValue (values_from (map (value_of rows) values))),
+        ap
+            (λ x. Some (TupleValue x)) (sym (in_row_of rows values)),
+        q,
+      ),
+    ),
+  )
+  finish_moves (Operating operator) function values terms k r e p = (
+    refl,
+    ap (wraps_at types) (some_chosen (all_values terms) _ _ _ e),
+    rw e
+        (m_operator types rows store world k operator values),
+  )
 
   pend_onto : (done : List PiledValue) (acc : List PiledValue) (terms rest : Terms) → Spelled rows done terms
       → Pended rows (all_plain acc) rest → Pended rows (all_plain (onto done acc)) (terms_onto terms rest)
@@ -111,8 +126,18 @@ module _ (types : TypeRows) (rows : List TypeCast) (store : PiledStore) (world :
       inr (finish_moves job function (onto done []) (terms_onto terms NoTerms) k r
       (all_onto rows done [] terms NoTerms s refl) (pend_onto done [] terms NoTerms s tt))
   gather_moves n job function done terms (RowTermThen term rest) env k r s le =
-      inl (refl, refl, refl, omega (arith, le), λ whole p. (sub rows term env, refl, plug_gathered job function done
-      terms (sub rows term env) rest env k whole r s p))
+      inl (
+        refl,
+        refl,
+        refl,
+        omega (arith, le),
+        λ whole p. (
+          sub rows term env,
+          refl,
+          plug_gathered job function done
+              terms (sub rows term env) rest env k whole r s p,
+        ),
+      )
 
   -- ---- binding names
 
@@ -133,13 +158,24 @@ module _ (types : TypeRows) (rows : List TypeCast) (store : PiledStore) (world :
       let names : List ℕ = names_onto bound [] in
       let written : Term = substitute (core_of rows body) (without names (entries_of rows env)) in
       let e =
-          let_values (bindings_onto bindings NoBindings) written pairs (all_bound rows bound [] bindings NoBindings s
-          ([], refl, refl)) in
-      inr (refl, let_wraps (bindings_onto bindings NoBindings) written pairs
-      (all_bound rows bound [] bindings NoBindings s ([], refl, refl)), subst
-      (Matched types rows store world k (On (Own (Eval body (pairs ++ env))) k store world)) (sym e)
-      (refl, refl, λ whole p. (substitute written (entries_of rows pairs), body_of types rows store world body env names
-      pairs (entries_of rows pairs) refl (names_onto_of rows bound []), p)))
+      let_values (bindings_onto bindings NoBindings) written pairs (all_bound rows bound [] bindings NoBindings s
+      ([], refl, refl)) in
+      inr (
+        refl,
+        let_wraps (bindings_onto bindings NoBindings) written pairs
+            (all_bound rows bound [] bindings NoBindings s ([], refl, refl)),
+        subst
+            (Matched types rows store world k (On (Own (Eval body (pairs ++ env))) k store world)) (sym e) (
+              refl,
+              refl,
+              λ whole p. (
+                substitute written (entries_of rows pairs),
+                body_of types rows store world body env names
+                    pairs (entries_of rows pairs) refl (names_onto_of rows bound []),
+                p,
+              ),
+            ),
+      )
   bind_moves n bound bindings (RowBindingThen name term rest) body env k s le =
       inl (refl, refl, refl, omega (arith, le), λ whole p. (sub rows term env, refl, (bindings, s, p)))
 
@@ -169,20 +205,33 @@ module _ (types : TypeRows) (rows : List TypeCast) (store : PiledStore) (world :
   eval_moves (RowVar name) env k =
       rw (find_entry rows name env) (var_moves _ name env k (entry_of name env) refl (omega arith))
   eval_moves (RowLambda parameters body type) env k =
-      inr (refl, refl, subst (λ z. Matched types rows store world k (On (Return (closure parameters body type env)) k
-      store world) (Goes (ValueTerm (FunValue parameters (substitute (core_of rows body) (without parameters z)) type))
-      (store_of rows store) world)) (entries_again rows env)
-      (m_gives types rows store world k (closure parameters body type env)))
+      inr (
+        refl,
+        refl,
+        subst (λ z. Matched types rows store world k (On (Return (closure parameters body type env)) k
+            store world) (Goes (ValueTerm (FunValue parameters (substitute (core_of rows body) (without parameters z))
+            type))
+            (store_of rows store) world)) (entries_again rows env)
+            (m_gives types rows store world k (closure parameters body type env)),
+      )
   eval_moves (RowGroup members body) env k =
       let group : Members = group_with rows members (entries_of rows env) in
       let names : List ℕ = member_names (core_members rows members) in
-      inr (refl, refl, (refl, refl, λ whole p. (
-        substitute (substitute (core_of rows body) (without names (entries_of rows env))) (group_values group),
-        put_in_bound (core_of rows body) names (entries_of rows env) (group_values group)
-        (group_names types rows store world members (entries_of rows env))
-        ∙ ap (substitute (core_of rows body)) (sym (group_entries types rows store world members env)),
-        p,
-      )))
+      inr (
+        refl,
+        refl,
+        (
+          refl,
+          refl,
+          λ whole p. (
+            substitute (substitute (core_of rows body) (without names (entries_of rows env))) (group_values group),
+            put_in_bound (core_of rows body) names (entries_of rows env) (group_values group)
+                (group_names types rows store world members (entries_of rows env))
+                ∙ ap (substitute (core_of rows body)) (sym (group_entries types rows store world members env)),
+            p,
+          ),
+        ),
+      )
   eval_moves (RowLet bindings body) env k = bind_moves _ [] NoBindings bindings body env k tt (omega arith)
   eval_moves (RowCall function arguments) env k =
       inl (refl, refl, refl, omega arith, λ whole p. (sub rows function env, refl, p))
@@ -255,44 +304,96 @@ module _ (types : TypeRows) (rows : List TypeCast) (store : PiledStore) (world :
 
   pub back_moves : (v : PiledValue) (frame : PiledFrame) (k : List PiledFrame) (h whole : Term) → FitFrame v frame
       → Is rows h v → Plugged rows (frame ∷ k) h whole → BackMoves v frame k whole
-  back_moves v (OwnFrame (IfFrame on_true on_false env)) k h whole fit e p =
-      (If h (sub rows on_true env) (sub rows on_false env), p, inr
-      (refl, ap (wraps_at types) (some_chosen (as_value h) _ _ _ e), rw e (choose_matched v on_true on_false env k)))
-  back_moves v (OwnFrame (SeqFrame term rest env)) k h whole fit e p =
-      (Seq (TermThen h (TermThen (sub rows term env) (sub_terms rows rest env))), p, inr
-      (refl, ap (wraps_at types) (some_chosen (as_value h) _ _ _ e), rw e
-      (refl, refl, λ other q. (Seq (TermThen (sub rows term env) (sub_terms rows rest env)), refl, q))))
-  back_moves v (OwnFrame (FunFrame arguments env)) k h whole fit e p =
-      (Call h (sub_terms rows arguments env), p, gather_moves _ (Calling v) h [] NoTerms arguments env k e tt
-      (omega arith))
+  back_moves v (OwnFrame (IfFrame on_true on_false env)) k h whole fit e p = (
+    If h (sub rows on_true env) (sub rows on_false env),
+    p,
+    inr
+        (refl, ap (wraps_at types) (some_chosen (as_value h) _ _ _ e), rw e (choose_matched v on_true on_false env k)),
+  )
+  back_moves v (OwnFrame (SeqFrame term rest env)) k h whole fit e p = (
+    Seq (TermThen h (TermThen (sub rows term env) (sub_terms rows rest env))),
+    p,
+    inr (
+      refl,
+      ap (wraps_at types) (some_chosen (as_value h) _ _ _ e),
+      rw e
+          (refl, refl, λ other q. (Seq (TermThen (sub rows term env) (sub_terms rows rest env)), refl, q)),
+    ),
+  )
+  back_moves v (OwnFrame (FunFrame arguments env)) k h whole fit e p = (
+    Call h (sub_terms rows arguments env),
+    p,
+    gather_moves _ (Calling v) h [] NoTerms arguments env k e tt
+        (omega arith),
+  )
   back_moves v (CastFrame cast) k h whole fit e p =
       (cast_term h cast, p, inr (refl, cast_wraps h v cast fit e, rw e (m_cast types rows store world k v cast fit)))
-  back_moves v (ProjFrame i) k h whole fit e p =
-      (Proj h i, p, inr (refl, ap (wraps_at types) (some_chosen (as_value h) _ _ _ e), rw e
-      (m_proj types rows store world k v i)))
-  back_moves v (OwnFrame (ProjDynFrame i label)) k h whole fit e p =
-      (ProjDyn h i label, p, inr (refl, ap (wraps_at types) (some_chosen (as_value h) _ _ _ e), rw e
-      (m_proj_dyn types rows store world k v i label)))
-  back_moves v (OwnFrame (GatherFrame (Calling f) done todo env)) k h whole fit e p =
-      (Call p.0 (terms_onto p.2.0 (TermThen h (sub_terms rows todo env))), p.2.2, gather_moves _ (Calling f) p.0
-      (v ∷ done) (TermThen h p.2.0) todo env k p.1 (e, p.2.1) (omega arith))
-  back_moves v (OwnFrame (GatherFrame Tupling done todo env)) k h whole fit e p =
-      (Tuple (terms_onto p.0 (TermThen h (sub_terms rows todo env))), p.2, gather_moves _ Tupling h (v ∷ done)
-      (TermThen h p.0) todo env k tt (e, p.1) (omega arith))
-  back_moves v (OwnFrame (GatherFrame (Operating operator) done todo env)) k h whole fit e p =
-      (Prim operator (terms_onto p.0 (TermThen h (sub_terms rows todo env))), p.2, gather_moves _ (Operating operator) h
-      (v ∷ done) (TermThen h p.0) todo env k tt (e, p.1) (omega arith))
-  back_moves v (PrimFrame operator done) k h whole fit e p =
-      (Prim operator (terms_onto p.0 (TermThen h NoTerms)), p.2, gather_moves _ (Operating operator) h (v ∷ done)
-      (TermThen h p.0) NoRowTerms [] k tt (e, p.1) (omega arith))
-  back_moves v (OwnFrame (LetFrame bound name todo body env)) k h whole fit e p =
-      (let_term rows p.0 (names_onto bound (name ∷ binding_names (core_bindings rows todo)))
-      (BindingThen name h (sub_bindings rows todo env)) body env, p.2, bind_moves _ ((name, v) ∷ bound)
-      (BindingThen name h p.0) todo body env k (refl, e, p.1) (omega arith))
-  back_moves v (EnterFrame f done todo) k h whole fit e p =
-      (Enter p.0 (terms_onto p.3.0 (TermThen h p.3.2.0)), p.3.2.2, inl
-      (refl, refl, refl, omega arith, λ other q. (Enter p.0 (terms_onto p.3.0 (TermThen h p.3.2.0)),
-      (p.0, p.1, (TermThen h p.3.0, (e, p.3.1), (p.3.2.0, p.3.2.1, refl))), q)))
+  back_moves v (ProjFrame i) k h whole fit e p = (
+    Proj h i,
+    p,
+    inr (
+      refl,
+      ap (wraps_at types) (some_chosen (as_value h) _ _ _ e),
+      rw e
+          (m_proj types rows store world k v i),
+    ),
+  )
+  back_moves v (OwnFrame (ProjDynFrame i label)) k h whole fit e p = (
+    ProjDyn h i label,
+    p,
+    inr (
+      refl,
+      ap (wraps_at types) (some_chosen (as_value h) _ _ _ e),
+      rw e
+          (m_proj_dyn types rows store world k v i label),
+    ),
+  )
+  back_moves v (OwnFrame (GatherFrame (Calling f) done todo env)) k h whole fit e p = (
+    Call p.0 (terms_onto p.2.0 (TermThen h (sub_terms rows todo env))),
+    p.2.2,
+    gather_moves _ (Calling f) p.0
+        (v ∷ done) (TermThen h p.2.0) todo env k p.1 (e, p.2.1) (omega arith),
+  )
+  back_moves v (OwnFrame (GatherFrame Tupling done todo env)) k h whole fit e p = (
+    Tuple (terms_onto p.0 (TermThen h (sub_terms rows todo env))),
+    p.2,
+    gather_moves _ Tupling h (v ∷ done)
+        (TermThen h p.0) todo env k tt (e, p.1) (omega arith),
+  )
+  back_moves v (OwnFrame (GatherFrame (Operating operator) done todo env)) k h whole fit e p = (
+    Prim operator (terms_onto p.0 (TermThen h (sub_terms rows todo env))),
+    p.2,
+    gather_moves _ (Operating operator) h
+        (v ∷ done) (TermThen h p.0) todo env k tt (e, p.1) (omega arith),
+  )
+  back_moves v (PrimFrame operator done) k h whole fit e p = (
+    Prim operator (terms_onto p.0 (TermThen h NoTerms)),
+    p.2,
+    gather_moves _ (Operating operator) h (v ∷ done)
+        (TermThen h p.0) NoRowTerms [] k tt (e, p.1) (omega arith),
+  )
+  back_moves v (OwnFrame (LetFrame bound name todo body env)) k h whole fit e p = (
+    let_term rows p.0 (names_onto bound (name ∷ binding_names (core_bindings rows todo)))
+        (BindingThen name h (sub_bindings rows todo env)) body env,
+    p.2,
+    bind_moves _ ((name, v) ∷ bound)
+        (BindingThen name h p.0) todo body env k (refl, e, p.1) (omega arith),
+  )
+  back_moves v (EnterFrame f done todo) k h whole fit e p = (
+    Enter p.0 (terms_onto p.3.0 (TermThen h p.3.2.0)),
+    p.3.2.2,
+    inl (
+      refl,
+      refl,
+      refl,
+      omega arith,
+      λ other q. (
+        Enter p.0 (terms_onto p.3.0 (TermThen h p.3.2.0)),
+        (p.0, p.1, (TermThen h p.3.0, (e, p.3.1), (p.3.2.0, p.3.2.1, refl))),
+        q,
+      ),
+    ),
+  )
 
   -- ---- a function is entered
 
@@ -312,12 +413,31 @@ module _ (types : TypeRows) (rows : List TypeCast) (store : PiledStore) (world :
       (Enter function (terms_onto terms (TermThen (casts_term t casts) rest)))
       (next_argument (piling types rows) code_arity entered store world f done v casts todo k)
   next_moves f done v [] todo k function terms t rest plain i s it p =
-      inl (refl, refl, refl, omega arith, λ whole q. (Enter function (terms_onto terms (TermThen t rest)),
-      (function, i, (TermThen t terms, (it, s), (rest, p, refl))), q))
+      inl (
+        refl,
+        refl,
+        refl,
+        omega arith,
+        λ whole q. (
+          Enter function (terms_onto terms (TermThen t rest)),
+          (function, i, (TermThen t terms, (it, s), (rest, p, refl))),
+          q,
+        ),
+      )
   next_moves f done v (cast ∷ casts) todo k function terms t rest plain i s it p =
       let e = casts_size casts (EnterFrame f done todo ∷ k) in
-      inl (refl, refl, refl, omega (arith, e), λ whole q. (t, it, plug_casts casts (EnterFrame f done todo ∷ k)
-      (cast_term t cast) whole (function, i, plain, (terms, s, (rest, p, q)))))
+      inl (
+        refl,
+        refl,
+        refl,
+        omega (arith, e),
+        λ whole q. (
+          t,
+          it,
+          plug_casts casts (EnterFrame f done todo ∷ k)
+              (cast_term t cast) whole (function, i, plain, (terms, s, (rest, p, q))),
+        ),
+      )
 
   -- neither entering a function nor a wrapper is a wrap step
   enter_wraps : (f : PiledValue) (function : Term) (terms : Terms) (values : List Value) → IsPlain f
@@ -342,11 +462,18 @@ module _ (types : TypeRows) (rows : List TypeCast) (store : PiledStore) (world :
       → Pended rows todo rest → Moves 0 (size_of (Entering f done todo) k) k (Enter function (terms_onto terms rest))
       (enter_plain (piling types rows) code_arity entered store world f done todo k)
   plain_moves f done [] k function terms NoTerms plain i s p =
-      inr (refl, enter_wraps f function (terms_onto terms NoTerms) (map (value_of rows) (onto done [])) plain i
-      (all_onto rows done [] terms NoTerms s refl), rw (i, plain_applies rows types (store_of rows store) world f
-      (terms_onto terms NoTerms) (inside (Enter function) (step_terms types (store_of rows store) world
-      (terms_onto terms NoTerms))) (map (value_of rows) (onto done [])) plain
-      (all_onto rows done [] terms NoTerms s refl)) (m_apply types rows store world k f (onto done [])))
+      inr (
+        refl,
+        enter_wraps f function (terms_onto terms NoTerms) (map (value_of rows) (onto done [])) plain i
+            (all_onto rows done [] terms NoTerms s refl),
+        rw (
+          i,
+          plain_applies rows types (store_of rows store) world f
+              (terms_onto terms NoTerms) (inside (Enter function) (step_terms types (store_of rows store) world
+              (terms_onto terms NoTerms))) (map (value_of rows) (onto done [])) plain
+              (all_onto rows done [] terms NoTerms s refl),
+        ) (m_apply types rows store world k f (onto done [])),
+      )
   plain_moves f done [] k function terms (TermThen term rest) plain i s p = absurd p
   plain_moves f done (pending ∷ todo) k function terms NoTerms plain i s p = absurd p
   plain_moves f done (pending ∷ todo) k function terms (TermThen term rest) plain i s p =
@@ -360,7 +487,11 @@ module _ (types : TypeRows) (rows : List TypeCast) (store : PiledStore) (world :
       → Moves 0 (size_of (Entering f done todo) k) k (Enter function (terms_onto terms rest))
       (enter (piling types rows) code_arity entered store world f done todo k)
   enter_moves (RunWrap f cast) done todo k function terms rest i s p =
-      inr (refl, wrapper_wraps function (terms_onto terms rest) (value_of rows f) cast i, rw i
-      (m_wrapped types rows store world k f cast (pendings_onto done todo) (terms_onto terms rest)
-      (pended_onto types rows store world done todo terms rest s p)))
+      inr (
+        refl,
+        wrapper_wraps function (terms_onto terms rest) (value_of rows f) cast i,
+        rw i
+            (m_wrapped types rows store world k f cast (pendings_onto done todo) (terms_onto terms rest)
+            (pended_onto types rows store world done todo terms rest s p)),
+      )
   enter_moves f done todo k function terms rest i s p = plain_moves f done todo k function terms rest tt i s p

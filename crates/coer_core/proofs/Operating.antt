@@ -1,6 +1,6 @@
 -- Operators do in both runs the same.
-use Rattle.std.proofs.Common.{◌≡◌, ℕ, zero, suc, ℤ, pos, negsuc, Bool, true, false, List, [], ◌∷◌, ◌++◌, map, length}
-use Rattle.std.proofs.Common.{Option, Some, None, refl, sym, ap, ◌∙◌, subst, if◌then◌else◌, slice_get}
+use Rattle.std.proofs.Common.{◌≡◌, ℕ, zero, suc, ℤ, pos, negsuc, Bool, true, false, List, [], ◌∷◌, map, length}
+use Rattle.std.proofs.Common.{Option, Some, None, refl, sym, ap, subst, slice_get}
 use Rattle.std.specs.Prelude.{option_map, replicate, codes, slice_set, not, int_lt, int_le, int_rem, ◌+ℤ◌, ◌-ℤ◌, ◌*ℤ◌}
 use Rattle.std.specs.Int.{int_wrapping_div, int_wrap, w64}
 use Rattle.std.specs.Fmt.{signed_decimal}
@@ -8,7 +8,7 @@ use Rattle.std.specs.Ordering.{int_eq}
 use Rattle.std.proofs.lemmas.Option.{slice_get-map}
 use Rattle.std.proofs.lemmas.List.{map-append, length-map, map-set}
 use Rattle.grift_base.specs.World.{WorldState, printing}
-use Rattle.grift_base.specs.Types.{TypeRow, TypeRows, content_of}
+use Rattle.grift_base.specs.Types.{TypeRows, content_of}
 use Rattle.grift_base.specs.declared.operators.PrimOp.{PrimOp}
 use Rattle.grift_base.specs.declared.operators.PrimOp.TheVariants.{Add, Sub, Mul, Quot, Rem, Lt, Le, Eq, Ge, Gt, Not}
 use Rattle.grift_base.specs.declared.operators.PrimOp.TheVariants.{PrintInt, Newline, ReadInt, MakeBox, Unbox, BoxSet}
@@ -17,8 +17,8 @@ use Rattle.grift_base.specs.declared.verdicts.Trap.TheVariants.{ZeroDivisor, Ind
 use Rattle.grift_base.specs.Reading.{next_number}
 use Rattle.core_calc.specs.Terms.{Term, Value, Cast, Prim, ValueTerm, IntValue, LocValue, UnitValue, NoTerms, TermThen}
 use Rattle.core_calc.specs.Terms.{terms_from}
-use Rattle.core_calc.specs.Outcome.{Store, Outcome, Goes, Traps, Stuck, if_some, with_some}
-use Rattle.core_calc.specs.Operators.{cell_behind, gives, on_int, on_ints, on_bool, divides, newline_step, read_step}
+use Rattle.core_calc.specs.Outcome.{Store, Outcome, Goes, Traps, if_some, with_some}
+use Rattle.core_calc.specs.Operators.{cell_behind, on_int, on_ints, on_bool, divides, newline_step, read_step}
 use Rattle.core_calc.specs.Operators.{reads, with_element, new_cell, writes_cell, make_box_step, unbox_cell, unbox_step}
 use Rattle.core_calc.specs.Operators.{box_set_step, make_vector_step, vector_ref_step, vector_set_step}
 use Rattle.core_calc.specs.Operators.{vector_length_step, operator_step}
@@ -110,10 +110,16 @@ module _ (types : TypeRows) (rows : List TypeCast) (store : PiledStore) (world :
   m_new_cell : (k : List PiledFrame) (cell : List PiledValue) (is_vector : Bool)
       → M k (run_new_cell (piling types rows) code_arity entered store world cell is_vector k)
       (new_cell types cells world (all cell) is_vector)
-  m_new_cell k cell is_vector =
-      (sym (map-append (map (value_of rows)) store (cell ∷ [])), refl, λ whole p.
-      (ValueTerm (LocValue (length cells) is_vector), ap (λ n. Some (LocValue n is_vector))
-      (length-map store (map (value_of rows))), p))
+  m_new_cell k cell is_vector = (
+    sym (map-append (map (value_of rows)) store (cell ∷ [])),
+    refl,
+    λ whole p. (
+      ValueTerm (LocValue (length cells) is_vector),
+      ap (λ n. Some (LocValue n is_vector))
+          (length-map store (map (value_of rows))),
+      p,
+    ),
+  )
 
   m_writes : (k : List PiledFrame) (place : ℕ) (cell : List PiledValue)
       → M k (run_writes_cell (piling types rows) code_arity entered store world place cell k)
@@ -184,8 +190,12 @@ module _ (types : TypeRows) (rows : List TypeCast) (store : PiledStore) (world :
       (λ part. On (Return v) (CastFrame part ∷ PrimFrame BoxSet (box ∷ []) ∷ k) store world)
       (λ inner outer. Goes (Prim BoxSet
       (terms_from (ValueTerm (value_of rows box) ∷ Cast (ValueTerm (value_of rows v)) outer inner cast.label ∷ [])))
-      cells world) (λ inner outer. (refl, refl, λ whole p.
-      (ValueTerm (value_of rows v), refl, (TermThen (ValueTerm (value_of rows box)) NoTerms, (refl, tt), p))))
+      cells world) (λ inner outer. (
+        refl,
+        refl,
+        λ whole p.
+            (ValueTerm (value_of rows v), refl, (TermThen (ValueTerm (value_of rows box)) NoTerms, (refl, tt), p)),
+      ))
   m_box_set k (RunFun (LambdaCode parameters body type names) captured ∷ rest) = tt
   m_box_set k (RunFun (MemberCode group place names) captured ∷ rest) = tt
   m_box_set k _ = tt
@@ -211,8 +221,13 @@ module _ (types : TypeRows) (rows : List TypeCast) (store : PiledStore) (world :
       (λ part. On (Return index) (PrimFrame VectorRef (vector ∷ []) ∷ CastFrame part ∷ k) store world)
       (λ inner outer. Goes (Cast (Prim VectorRef
       (terms_from (ValueTerm (value_of rows vector) ∷ ValueTerm (value_of rows index) ∷ []))) inner outer cast.label)
-      cells world) (λ inner outer. (refl, refl, λ whole p.
-      (ValueTerm (value_of rows index), refl, (TermThen (ValueTerm (value_of rows vector)) NoTerms, (refl, tt), p))))
+      cells world) (λ inner outer. (
+        refl,
+        refl,
+        λ whole p.
+            (ValueTerm (value_of rows index), refl, (TermThen (ValueTerm (value_of rows vector)) NoTerms, (refl, tt),
+            p)),
+      ))
   m_vector_ref k (RunFun (LambdaCode parameters body type names) captured ∷ rest) = tt
   m_vector_ref k (RunFun (MemberCode group place names) captured ∷ rest) = tt
   m_vector_ref k (RunLoc cell true ∷ RunFun (LambdaCode parameters body type names) captured ∷ rest) = tt
@@ -231,10 +246,19 @@ module _ (types : TypeRows) (rows : List TypeCast) (store : PiledStore) (world :
       (λ inner outer. Goes (Prim VectorSet
       (terms_from (ValueTerm (value_of rows vector) ∷ ValueTerm (IntValue i) ∷ Cast (ValueTerm (value_of rows v)) outer
       inner cast.label ∷ []))) cells world)
-      (λ inner outer. (refl, refl, λ whole p.
-      (ValueTerm (value_of rows v), refl,
-      (TermThen (ValueTerm (IntValue i)) (TermThen (ValueTerm (value_of rows vector)) NoTerms), (refl, (refl, tt)),
-      p)))))))
+      (λ inner outer. (
+        refl,
+        refl,
+        λ whole p. (
+          ValueTerm (value_of rows v),
+          refl,
+          (
+            TermThen (ValueTerm (IntValue i)) (TermThen (ValueTerm (value_of rows vector)) NoTerms),
+            (refl, (refl, tt)),
+            p,
+          ),
+        ),
+      )))))
 
   m_vector_set : (k : List PiledFrame) (values : List PiledValue)
       → M k (run_vector_set (piling types rows) code_arity entered store world values k)

@@ -1,7 +1,6 @@
 -- The piled run of a program term follows the calculus.
-use Rattle.std.proofs.Common.{◌≡◌, ℕ, List, length, Option, Some, None, refl, sym, ap, ◌∙◌, subst}
+use Rattle.std.proofs.Common.{◌≡◌, ℕ, List, length, sym, subst}
 use Rattle.run_laws.specs.Runs.{NeverWrong, Follows, FollowsBy, Any}
-use Rattle.run_laws.specs.Reductions.{reduction_run}
 use Rattle.run_laws.specs.Meters.{unspent}
 use Rattle.run_laws.proofs.Public.{metered_reduction_never_wrong, meter_changes_nothing_else-reductions, follows_of}
 use Rattle.run_laws.proofs.Public.{follower_never_goes_wrong}

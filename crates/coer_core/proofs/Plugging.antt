@@ -2,10 +2,10 @@
 use Rattle.std.proofs.Common.{◌≡◌, ℕ, List, [], ◌∷◌, map, Option, Some, None, refl, sym, ap, ◌∙◌, subst}
 use Rattle.grift_base.specs.World.{WorldState}
 use Rattle.grift_base.specs.Types.{TypeRows}
-use Rattle.core_calc.specs.Terms.{Term, Terms, Bindings, Value, Let, Call, Enter, If, Seq, Cast, Proj, ProjDyn, Tuple}
+use Rattle.core_calc.specs.Terms.{Term, Terms, Bindings, Value, Let, Call, Enter, If, Seq, Proj, ProjDyn, Tuple}
 use Rattle.core_calc.specs.Terms.{Prim, NoTerms, TermThen, NoBindings, BindingThen, FunValue, MemberValue, as_value}
-use Rattle.core_calc.specs.Terms.{all_values, both_in_front, bound_values, binding_names}
-use Rattle.core_calc.specs.Substitution.{Substitution, bind, group_values}
+use Rattle.core_calc.specs.Terms.{all_values, bound_values, binding_names}
+use Rattle.core_calc.specs.Substitution.{bind, group_values}
 use Rattle.core_calc.specs.Outcome.{Store, Outcome, Goes, Blames, Traps, Stuck, inside}
 use Rattle.core_calc.specs.Calls.{enter_body, enter_member, enter_step}
 use Rattle.core_calc.specs.Redex.{Focus, here, below, along, where_some, enter_focus, focus, focus_terms}
@@ -79,9 +79,12 @@ module _ (rows : List TypeCast) where
 
   all_bound_next : (name : ℕ) (term : Term) (rest : Bindings) (entry : ℕ × PiledValue) (acc : PiledEnv) → name ≡ entry.0
       → Is rows term entry.1 → AllBound rest acc → AllBound (BindingThen name term rest) (entry ∷ acc)
-  all_bound_next name term rest entry acc n e b =
-      (value_of rows entry.1 ∷ b.0, rw (e, b.1) refl, rw b.2
-      (ap (λ x. Some ((x, value_of rows entry.1) ∷ entries_of rows acc)) n))
+  all_bound_next name term rest entry acc n e b = (
+    value_of rows entry.1 ∷ b.0,
+    rw (e, b.1) refl,
+    rw b.2
+        (ap (λ x. Some ((x, value_of rows entry.1) ∷ entries_of rows acc)) n),
+  )
 
   pub all_bound : (bound acc : PiledEnv) (bindings rest : Bindings) → SpelledBindings rows bound bindings
       → AllBound rest acc → AllBound (bindings_onto bindings rest) (onto bound acc)

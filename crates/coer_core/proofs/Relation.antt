@@ -1,6 +1,5 @@
 -- How a state of the run with environments stands for a term of the calculus.
-use Rattle.std.proofs.Common.{◌≡◌, ℕ, suc, ◌+◌, ◌<◌, List, [], ◌∷◌, Option, Some, None, refl}
-use Rattle.grift_base.specs.World.{WorldState}
+use Rattle.std.proofs.Common.{◌≡◌, ℕ, suc, ◌+◌, List, [], ◌∷◌, Some}
 use Rattle.core_calc.specs.Terms.{Term, Terms, Bindings, Let, Call, Enter, If, Seq, Cast, Proj, ProjDyn, Tuple, Prim}
 use Rattle.core_calc.specs.Terms.{NoTerms, TermThen, NoBindings, BindingThen, as_value, binding_names}
 use Rattle.core_calc.specs.Substitution.{without, substitute, substitute_terms, substitute_bindings}

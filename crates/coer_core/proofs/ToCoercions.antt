@@ -1,5 +1,5 @@
 -- What the program of a term keeps.
-use Rattle.std.proofs.Common.{◌≡◌, ℕ, List, [], length, refl, sym, ap, ◌∙◌, subst, All}
+use Rattle.std.proofs.Common.{◌≡◌, ℕ, List, [], length, sym, ap, ◌∙◌, subst, All}
 use Rattle.run_laws.specs.Runs.{Follows, FollowsBy, Any}
 use Rattle.grift_base.specs.Types.{TypeRows}
 use Rattle.grift_base.specs.declared.places.Pos.{Pos}
@@ -9,7 +9,7 @@ use Rattle.core_calc.specs.Typing.{ProgramTermHasType}
 use Rattle.coercion_norm.specs.declared.casts.Cast.{Cast}
 use Rattle.coercion_norm.specs.declared.cast_rows.CastRow.{CastRow}
 use Rattle.coercion_norm.specs.CoercionTables.{IsCast}
-use Rattle.coercion_norm.specs.Modes.{TypeCast, piling, row_casts}
+use Rattle.coercion_norm.specs.Modes.{piling, row_casts}
 use Rattle.coercion_norm.specs.MergedMode.{merging}
 use Rattle.coer_core.specs.Terms.{RowTerm, core_of}
 use Rattle.coer_core.specs.Conversion.{casts_in, with_casts, cast_views, converted}

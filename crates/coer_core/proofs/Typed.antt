@@ -1,9 +1,8 @@
 -- Typing keeps every cast at a value that it fits.
-use Rattle.std.proofs.Common.{◌≡◌, ℕ, zero, suc, Bool, true, false, List, [], ◌∷◌, ◌++◌, map, length, Option, Some}
-use Rattle.std.proofs.Common.{None, refl, sym, ap, ◌∙◌, subst}
-use Rattle.std.specs.Prelude.{nat_eq, option_map, ◌&&◌, not, if◌then◌else◌}
+use Rattle.std.proofs.Common.{◌≡◌, ℕ, zero, suc, Bool, true, false, List, [], ◌∷◌, length, Some}
+use Rattle.std.proofs.Common.{refl, sym, ap, ◌∙◌, subst}
+use Rattle.std.specs.Prelude.{nat_eq, ◌&&◌, not, if◌then◌else◌}
 use Rattle.std.proofs.lemmas.Bool.{eq-eqb}
-use Rattle.grift_base.specs.World.{WorldState}
 use Rattle.grift_base.specs.Types.{TypeRow, IntRow, BoolRow, UnitRow, DynRow, FunRow, TupleRow, RefRow, VectRow}
 use Rattle.grift_base.specs.Types.{TypeHead, IntHead, BoolHead, UnitHead, FunHead, TupleHead, RefHead, VectHead}
 use Rattle.grift_base.specs.Types.{TypeRows, row_at, head_of, equal_heads, is_dyn}
@@ -12,13 +11,12 @@ use Rattle.grift_base.specs.Types.{DynHead}
 use Rattle.coercion_norm.specs.AnswerTypes.{fits_type, row_has_head, run_head}
 use Rattle.coercion_norm.proofs.Public.{heads_exact}
 use Rattle.coer_core.proofs.Joining.{ap2}
-use Rattle.core_calc.specs.Terms.{Term, Terms, Members, Bindings, Value, NoTerms, TermThen, NoMembers, MemberThen}
-use Rattle.core_calc.specs.Terms.{NoBindings, BindingThen, If, Seq, Call, Proj, ProjDyn, Tuple, Prim, Let, Enter}
-use Rattle.core_calc.specs.Terms.{binding_names, member_names, as_value}
-use Rattle.core_calc.specs.Substitution.{Substitution, bind, without, substitute, substitute_members}
-use Rattle.core_calc.specs.Calculus.{CalcState, state_of, calculus}
+use Rattle.core_calc.specs.Terms.{Term, Terms, Bindings, NoTerms, TermThen}
+use Rattle.core_calc.specs.Terms.{NoBindings, BindingThen, If, Seq, Call, Proj, ProjDyn, Tuple, Prim, Enter}
+use Rattle.core_calc.specs.Terms.{binding_names}
+use Rattle.core_calc.specs.Substitution.{Substitution, substitute_members}
 use Rattle.core_calc.specs.Typing.{Context, CellType, HasType, HaveTypes, BindingsHaveTypes, MembersHaveTypes}
-use Rattle.core_calc.specs.Typing.{MemberHasType, ValueHasType, ValuesHaveTypes, IsFunction, Stands}
+use Rattle.core_calc.specs.Typing.{MemberHasType, ValueHasType, ValuesHaveTypes, Stands}
 use Rattle.core_calc.proofs.Public.{both_row, value_of_term, bind_length}
 use Rattle.core_calc.proofs.Public.{stands_on}
 use Rattle.coercion_norm.specs.Modes.{TypeCast, fits}
@@ -65,8 +63,8 @@ module _ (types : TypeRows) (labels : ℕ) (cells : List CellType) (rows : List 
       let r = hole_typed k (If h (sub rows on_true env) (sub rows on_false env)) whole type p w in (r.1.0, r.1.1)
   hole_typed (OwnFrame (SeqFrame term rest env) ∷ k) h whole type p w =
       let r =
-          hole_typed k (Seq (TermThen h (TermThen (sub rows term env) (sub_terms rows rest env)))) whole type p w in
-          r.1.0
+      hole_typed k (Seq (TermThen h (TermThen (sub rows term env) (sub_terms rows rest env)))) whole type p w in
+      r.1.0
   hole_typed (OwnFrame (FunFrame arguments env) ∷ k) h whole type p w =
       let r = hole_typed k (Call h (sub_terms rows arguments env)) whole type p w in (r.1.0, r.1.2)
   hole_typed (CastFrame cast ∷ k) h whole type p w =
@@ -88,8 +86,8 @@ module _ (types : TypeRows) (labels : ℕ) (cells : List CellType) (rows : List 
       first_typed p.0 h NoTerms r.1.0 r.1.1
   hole_typed (OwnFrame (LetFrame bound name todo body env) ∷ k) h whole type p w =
       let r =
-          hole_typed k (let_term rows p.0 (names_onto bound (name ∷ binding_names (core_bindings rows todo)))
-          (BindingThen name h (sub_bindings rows todo env)) body env) whole type p.2 w in
+      hole_typed k (let_term rows p.0 (names_onto bound (name ∷ binding_names (core_bindings rows todo)))
+      (BindingThen name h (sub_bindings rows todo env)) body env) whole type p.2 w in
       let q = last_bound p.0 (BindingThen name h (sub_bindings rows todo env)) r.1.0 r.1.1 in
       (q.1.0, q.1.3)
   hole_typed (EnterFrame f done todo ∷ k) h whole type p w =

@@ -1,10 +1,10 @@
 -- The values of the run with environments, where casts pile up, as values of the calculus: a function is its body with
 -- what it has captured put in.
-use Rattle.std.proofs.Common.{◌≡◌, ℕ, suc, Bool, true, false, List, [], ◌∷◌, ◌++◌, map, Option, Some, None, refl, sym}
+use Rattle.std.proofs.Common.{◌≡◌, ℕ, suc, Bool, true, false, List, [], ◌∷◌, ◌++◌, map, Option, Some, None, refl}
 use Rattle.std.proofs.Common.{ap}
-use Rattle.std.proofs.Common.{◌∙◌, subst}
+use Rattle.std.proofs.Common.{◌∙◌}
 use Rattle.std.specs.Prelude.{cond, nat_eq, option_map}
-use Rattle.core_calc.specs.Terms.{Term, Members, Value, Values, IntValue, BoolValue, UnitValue, FunValue, MemberValue}
+use Rattle.core_calc.specs.Terms.{Members, Value, Values, IntValue, BoolValue, UnitValue, FunValue, MemberValue}
 use Rattle.core_calc.specs.Terms.{TupleValue, LocValue, WrapValue, InjectValue, NoValues, ValueThen, NoMembers}
 use Rattle.core_calc.specs.Terms.{MemberThen, member_names, value_list, values_from, both_in_front}
 use Rattle.core_calc.specs.Substitution.{Substitution, entry_of, without, substitute, substitute_members, bind}
@@ -17,8 +17,7 @@ use Rattle.coercion_norm.specs.RunValues.{NoRunValues, RunValueThen, in_row, row
 use Rattle.coer_core.specs.Terms.{RowMembers, NoRowMembers, RowMemberThen, core_of, core_members}
 use Rattle.coer_core.specs.Machine.{Code, LambdaCode, MemberCode, CoerValue, CoerValues, CoerStore, CoerPending, Env}
 use Rattle.coer_core.specs.Machine.{CoerFrame, CoerFocus, CoerAfter, Job, RunState, env_names, env_values, paired}
-use Rattle.coer_core.specs.Machine.{captured_env, members_in, group_env}
-use Rattle.coer_core.proofs.Joining.{ap2}
+use Rattle.coer_core.specs.Machine.{captured_env, members_in}
 
 -- ---- the run in the piled mode
 

@@ -1,9 +1,9 @@
 -- The numbers that casts get, in order of first use, and the terms with them.
 use Rattle.std.specs.Prelude.{ℕ, nat_eq, ◌&&◌, Bool, if◌then◌else◌, List, [], ◌∷◌, ◌++◌, map}
 use Rattle.std.specs.List.{list_any, position_or_len}
-use Rattle.grift_base.specs.declared.operators.PrimOp.{PrimOp}
 use Rattle.core_calc.specs.Terms.{Term, Terms, Members, Bindings, IntLit, BoolLit, UnitLit, Var, Lambda, Group, Let}
-use Rattle.core_calc.specs.Terms.{Call, Enter, If, Seq, Cast as CastTerm, Proj, ProjDyn, Tuple, Prim, ValueTerm, NoTerms, TermThen}
+use Rattle.core_calc.specs.Terms.{Call, Enter, If, Seq, Cast as CastTerm, Proj, ProjDyn, Tuple, Prim, ValueTerm}
+use Rattle.core_calc.specs.Terms.{NoTerms, TermThen}
 use Rattle.core_calc.specs.Terms.{NoMembers, MemberThen, NoBindings, BindingThen}
 use Rattle.coercion_norm.specs.declared.casts.Cast.{Cast}
 use Rattle.coercion_norm.specs.Modes.{TypeCast, type_cast}

@@ -1,7 +1,6 @@
 -- What runs are counted by: words asked for, turns, pending frames and wrap steps.
-use Rattle.std.specs.Prelude.{◌≡◌, ℕ, suc, ◌+◌, ◌*◌, true, false, cond, not, ◌&&◌, List, [], ◌∷◌, ◌++◌, length, Option}
+use Rattle.std.specs.Prelude.{◌≡◌, ℕ, suc, ◌+◌, ◌*◌, cond, not, ◌&&◌, List, [], ◌∷◌, ◌++◌, length, Option}
 use Rattle.std.specs.Prelude.{Some}
-use Rattle.std.specs.Prelude.{None, option_map}
 use Rattle.run_laws.specs.Runs.{Run}
 use Rattle.run_laws.specs.Reductions.{Reduction, reduction_run}
 use Rattle.run_laws.specs.Meters.{Metered, metered_reduction, unspent}
@@ -10,10 +9,10 @@ use Rattle.grift_base.specs.declared.verdicts.Verdict.{Verdict}
 use Rattle.core_calc.specs.Terms.{Term, Cast, as_value}
 use Rattle.core_calc.specs.Substitution.{is_among}
 use Rattle.core_calc.specs.Redex.{redex, where_some}
-use Rattle.core_calc.specs.Calculus.{CalcState, Program, calculus, start, ending_of}
+use Rattle.core_calc.specs.Calculus.{CalcState, Program, calculus, start}
 use Rattle.coercion_norm.specs.Modes.{Mode}
 use Rattle.coercion_norm.specs.RunValues.{shape_of}
-use Rattle.coercion_norm.specs.ValueSteps.{Frame, CastFrame, PrimFrame, OwnFrame, Focus, Own, Return, onto}
+use Rattle.coercion_norm.specs.ValueSteps.{CastFrame, PrimFrame, OwnFrame, Own, Return, onto}
 use Rattle.coercion_norm.specs.ValueSteps.{decision_words, operator_words, decision_wraps}
 use Rattle.coercion_norm.specs.AnswerTypes.{Told}
 use Rattle.coer_core.specs.Terms.{RowTerm, RowTerms, RowMembers, RowBindings, RowInt, RowBool, RowUnit, RowVar}
@@ -21,7 +20,7 @@ use Rattle.coer_core.specs.Terms.{RowLambda, RowGroup, RowLet, RowCall, RowIf, R
 use Rattle.coer_core.specs.Terms.{RowTuple, RowPrim, NoRowTerms, RowTermThen, NoRowMembers, RowMemberThen}
 use Rattle.coer_core.specs.Terms.{NoRowBindings, RowBindingThen}
 use Rattle.coer_core.specs.Machine.{code_arity, Eval, Tupling, Operating, GatherFrame, CoerFocus, CoerFrame, RunState}
-use Rattle.coer_core.specs.Machine.{running, run_start, after_turn, turn}
+use Rattle.coer_core.specs.Machine.{running, run_start}
 
 -- ---- free names: what a function captures
 

@@ -1,5 +1,5 @@
 -- The run with environments: terms are evaluated, and never substituted into. Casts are made as a mode says.
-use Rattle.std.specs.Prelude.{ℕ, zero, suc, ℤ, Bool, true, false, if◌then◌else◌, List, [], ◌∷◌, ◌++◌, length, Option}
+use Rattle.std.specs.Prelude.{ℕ, zero, suc, ℤ, true, false, if◌then◌else◌, List, [], ◌∷◌, ◌++◌, length, Option}
 use Rattle.std.specs.Prelude.{option_map, Some}
 use Rattle.std.specs.Prelude.{None}
 use Rattle.run_laws.specs.Runs.{Ending, Wrong}

@@ -1,5 +1,5 @@
 -- Terms whose casts are numbers of rows, and these terms as terms of the calculus.
-use Rattle.std.specs.Prelude.{ℕ, suc, ◌+◌, ℤ, Bool, List, Option, Some, None, slice_get}
+use Rattle.std.specs.Prelude.{ℕ, ℤ, Bool, List, Option, Some, None, slice_get}
 use Rattle.grift_base.specs.declared.operators.PrimOp.{PrimOp}
 use Rattle.core_calc.specs.Terms.{Term, Terms, Members, Bindings, IntLit, BoolLit, UnitLit, Var, Lambda, Group, Let}
 use Rattle.core_calc.specs.Terms.{Call, If, Seq, Cast, Proj, ProjDyn, Tuple, Prim, NoTerms, TermThen, NoMembers}

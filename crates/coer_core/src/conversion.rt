@@ -16,11 +16,7 @@ use std::alloc::Global;
 // A term with the numbers of its casts, those that were not met before added to the casts. A program term has neither
 // `Enter` nor a value.
 #[cycle(conversion)]
-pub fn converted(
-    alloc: Global,
-    casts: &mut Casts,
-    core: &Core,
-) -> Result<CoerTerm, OutOfMemory>
+pub fn converted(alloc: Global, casts: &mut Casts, core: &Core) -> Result<CoerTerm, OutOfMemory>
     ensures term { IfOk result (λ t. row_term_of t ≡ (converted (cast_views casts.old) (term_of core.now)).term) }
     ensures casts { OnOk result (cast_views casts.new ≡ (converted (cast_views casts.old) (term_of core.now)).casts) }
 {

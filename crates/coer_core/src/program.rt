@@ -32,7 +32,6 @@ use grift_base::places::TypeId;
 use std::alloc::Global;
 use type_graph::tables::TypeTable;
 
-
 /// A program whose casts are numbers of rows.
 #[derive(Drop)]
 pub struct CoerProgram {
