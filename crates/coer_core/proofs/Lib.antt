@@ -1,3 +1,4 @@
+pub mod Public
 mod Joining
 mod Unload
 mod Relation

@@ -224,9 +224,15 @@ module _ (types : TypeRows) (rows : List TypeCast) (store : PiledStore) (world :
       cells world) (λ inner outer. (
         refl,
         refl,
-        λ whole p.
-            (ValueTerm (value_of rows index), refl, (TermThen (ValueTerm (value_of rows vector)) NoTerms, (refl, tt),
-            p)),
+        λ whole p. (
+          ValueTerm (value_of rows index),
+          refl,
+          (
+            TermThen (ValueTerm (value_of rows vector)) NoTerms,
+            (refl, tt),
+            p,
+          ),
+        ),
       ))
   m_vector_ref k (RunFun (LambdaCode parameters body type names) captured ∷ rest) = tt
   m_vector_ref k (RunFun (MemberCode group place names) captured ∷ rest) = tt

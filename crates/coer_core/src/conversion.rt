@@ -132,7 +132,7 @@ fn converted_members(
     ensures casts { OnOk result
         (cast_views casts.new ≡ (converted_members (cast_views casts.old) (members_of members.now)).casts) }
 {
-    let mut done = CoerMembers::new();
+    let mut functions = CoerMembers::new();
     let mut left = members;
     while let GroupMembers::Cons(first, rest) = left {
         let body = converted(alloc, casts, &first.body)?;
@@ -142,10 +142,10 @@ fn converted_members(
             body,
             ty: first.ty,
         };
-        done.push_front(alloc, member)?;
+        functions.push_front(alloc, member)?;
         left = rest;
     }
-    Ok(done.reversed())
+    Ok(functions.reversed())
 }
 
 // Bindings in order.
@@ -160,7 +160,7 @@ fn converted_bindings(
     ensures casts { OnOk result
         (cast_views casts.new ≡ (converted_bindings (cast_views casts.old) (bindings_of bindings.now)).casts) }
 {
-    let mut done = CoerBindings::new();
+    let mut bound = CoerBindings::new();
     let mut left = bindings;
     while let CoreBindings::Cons(first, rest) = left {
         let value = converted(alloc, casts, &first.value)?;
@@ -168,8 +168,8 @@ fn converted_bindings(
             name: first.name,
             value,
         };
-        done.push_front(alloc, binding)?;
+        bound.push_front(alloc, binding)?;
         left = rest;
     }
-    Ok(done.reversed())
+    Ok(bound.reversed())
 }

@@ -32,6 +32,9 @@ use grift_base::places::TypeId;
 use std::alloc::Global;
 use type_graph::tables::TypeTable;
 
+#[cfg(test)]
+mod tests;
+
 /// A program whose casts are numbers of rows.
 #[derive(Drop)]
 pub struct CoerProgram {
