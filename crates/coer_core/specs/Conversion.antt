@@ -67,6 +67,7 @@ with_casts casts (cast ∷ rest) = with_casts (with_cast casts cast) rest
 
 -- ---- the compiler's casts
 
+-- a cast by the numbers of its types and its label
 abbrev pub cast_view : Cast → TypeCast
 cast_view cast = type_cast cast.from.0 cast.label.0 cast.to.0
 
@@ -80,6 +81,7 @@ pub record Converted (A : Type 0) : Type 0 where
   pub term : A
   pub casts : List TypeCast
 
+-- a term with the casts
 abbrev pub conversion : {A : Type 0} → A → List TypeCast → Converted A
 conversion term casts = record { term = term; casts = casts }
 

@@ -89,6 +89,7 @@ group_captures members = each_once (names_besides (row_member_names members) (fr
 abbrev pub lambda_captures : List ℕ → RowTerm → List ℕ
 lambda_captures parameters body = each_once (names_besides parameters (free_names body))
 
+-- how many functions a group has
 abbrev pub row_member_count : RowMembers → ℕ
 row_member_count NoRowMembers = 0
 row_member_count (RowMemberThen name parameters body type rest) = suc (row_member_count rest)
@@ -113,6 +114,7 @@ module _ {C : Type 0} (mode : Mode C) where
       operator_words operator (onto (v ∷ done) [])
   turn_words _ k = 0
 
+  -- the words that the next turn from a state asks for
   abbrev pub words_of_turn : RunState C → ℕ
   words_of_turn state = turn_words state.focus state.frames
 
@@ -131,15 +133,18 @@ wrap_count row other =
     cond (is_dyn row && is_dyn other) 0
     (cond (is_dyn other) 0 (cond (is_dyn row) 0 (cond (not (same_head row other)) 0 (cond (is_base row) 0 1))))
 
+-- where the table has both types
 abbrev pub rows_count : Option TypeRow → Option TypeRow → ℕ
 rows_count (Some row) (Some other) = wrap_count row other
 rows_count _ _ = 0
 
+-- of a redex
 abbrev pub wraps_at : TypeRows → Term → ℕ
 wraps_at types (Cast term from to label) =
     where_some (as_value term) (rows_count (row_at types from) (row_at types to)) 0
 wraps_at types _ = 0
 
+-- of the next step from a state
 abbrev pub wraps_of_step : TypeRows → CalcState → ℕ
 wraps_of_step types state = wraps_at types (redex state.term)
 
@@ -159,12 +164,15 @@ pub record Counted (C : Type 0) : Type 0 where
   pub wraps : ℕ
   pub state : RunState C
 
+-- at first
 abbrev pub uncounted : {C : Type 0} → RunState C → Counted C
 uncounted state = record { words = 0; turns = 0; wraps = 0; state = state }
 
+-- what is shown of it
 abbrev pub counts_of : {C : Type 0} → Counted C → Counts
 counts_of s = record { words = s.words; turns = s.turns; frames = length s.state.frames; wraps = s.wraps }
 
+-- the run in a mode, with what is counted
 abbrev pub counting : {C : Type 0} → Mode C → Told → Reduction (Counted C) Counts Verdict
 counting mode told = record {
   step = λ s. record {

@@ -43,6 +43,7 @@ abbrev pub code_arity : Code → ℕ
 code_arity (LambdaCode parameters body type names) = length parameters
 code_arity (MemberCode group place names) = member_width group place
 
+-- values of this language
 abbrev pub CoerValue : Type 0 → Type 0
 CoerValue C = RunValue C Code
 
@@ -59,10 +60,12 @@ CoerPending C = Pending C Code
 abbrev pub Env : Type 0 → Type 0
 Env C = List (ℕ × CoerValue C)
 
+-- the names of an environment
 abbrev pub env_names : {A : Type 0} → List (ℕ × A) → List ℕ
 env_names [] = []
 env_names (entry ∷ rest) = entry.0 ∷ env_names rest
 
+-- and its values
 abbrev pub env_values : {A : Type 0} → List (ℕ × A) → List A
 env_values [] = []
 env_values (entry ∷ rest) = entry.1 ∷ env_values rest
@@ -77,6 +80,7 @@ paired (name ∷ names) (v ∷ values) = (name, v) ∷ paired names values
 abbrev pub captured_env : {C : Type 0} → List ℕ → CoerValues C → Env C
 captured_env names captured = paired names (row_list captured)
 
+-- the function of a lambda, which captures its environment
 abbrev pub closure : {C : Type 0} → List ℕ → RowTerm → ℕ → Env C → CoerValue C
 closure parameters body type env = RunFun (LambdaCode parameters body type (env_names env)) (in_row (env_values env))
 
@@ -117,6 +121,7 @@ pub data TermFrame (C : Type 0) : Type 0 where
   -- the names bound so far, the last one first; the name that the value is for; what follows
   LetFrame : Env C → ℕ → RowBindings → RowTerm → Env C → TermFrame C
 
+-- frames of this language, where it goes on, and what its steps come to
 abbrev pub CoerFrame : Type 0 → Type 0
 CoerFrame C = Frame C Code (TermFrame C)
 
@@ -130,6 +135,7 @@ CoerAfter C = After C Code (TermFrame C) (Evaluation C)
 abbrev pub entered_body : {C : Type 0} → List ℕ → RowTerm → Env C → List (CoerValue C) → Option (Evaluation C)
 entered_body parameters body env values = option_map (λ bound. Eval body (bound ++ env)) (bind parameters values)
 
+-- the body of the member at a place
 abbrev pub entered_member : {C : Type 0} → RowMembers → ℕ → Env C → List (CoerValue C) → Option (Evaluation C)
 entered_member NoRowMembers place env values = None
 entered_member (RowMemberThen name parameters body type rest) zero env values =
@@ -172,6 +178,7 @@ module _ {C : Type 0} (mode : Mode C) (store : CoerStore C) (world : WorldState)
   bind_next bound (RowBindingThen name term rest) body env k =
       runs (Own (Eval term env)) (OwnFrame (LetFrame bound name rest body env) ∷ k)
 
+  -- the branch of a truth value
   abbrev pub choose : CoerValue C → RowTerm → RowTerm → Env C → List (CoerFrame C) → CoerAfter C
   choose (RunBool true) on_true on_false env k = runs (Own (Eval on_true env)) k
   choose (RunBool false) on_true on_false env k = runs (Own (Eval on_false env)) k
@@ -240,6 +247,7 @@ abbrev pub ended_at : {C : Type 0} → CoerFocus C → List (CoerFrame C) → Op
 ended_at (Return v) [] = Some (Answered (shown v))
 ended_at _ _ = None
 
+-- the state there
 abbrev pub state_at : {C : Type 0} → CoerFocus C → List (CoerFrame C) → CoerStore C → WorldState → RunState C
 state_at focus frames store world =
     record { focus = focus; frames = frames; store = store; world = world; ended = ended_at focus frames }
@@ -257,6 +265,7 @@ answer_ending told answer (Return v) =
     if fits_type code_arity told.types v told.answer then ending_of told.labels (Answered answer) else Wrong
 answer_ending told answer _ = Wrong
 
+-- how a run ends, by where it has come to
 abbrev pub ending_at : {C : Type 0} → Told → CalcEnd → CoerFocus C → Ending Verdict
 ending_at told (Answered answer) focus = answer_ending told answer focus
 ending_at told (Blamed label) focus = ending_of told.labels (Blamed label)

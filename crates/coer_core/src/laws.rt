@@ -36,7 +36,8 @@ pub fn merged_runs_follow_piled_runs()
     ensures { (casts : List TypeCast) (told : Told) (term : RowTerm) (input : List ℕ)
         → IsTypeTable told.types → AreFlatCasts told.types casts
         → NeverWrong (run_in (piling told.types casts) told term input)
-        → Follows (run_in (merging told.types casts) told term input) (run_in (piling told.types casts) told term input) }
+        → Follows (run_in (merging told.types casts) told term input)
+        (run_in (piling told.types casts) told term input) }
 {}
 
 /// So it then follows the calculus, and never goes wrong.

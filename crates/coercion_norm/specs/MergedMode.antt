@@ -12,10 +12,12 @@ use Rattle.coercion_norm.specs.Modes.{kept_part}
 
 -- ---- parts of a coercion
 
+-- how many there are
 abbrev pub width : Coercions → ℕ
 width NoCoercions = 0
 width (CoercionThen c rest) = suc (width rest)
 
+-- the one at a place
 abbrev pub part_at : Coercions → ℕ → Option Coercion
 part_at NoCoercions k = None
 part_at (CoercionThen c rest) zero = Some c
@@ -28,10 +30,12 @@ split_parts (CoercionThen c NoCoercions) = Some ([], c)
 split_parts (CoercionThen c (CoercionThen d rest)) =
     option_map (λ parts. (c ∷ parts.0, parts.1)) (split_parts (CoercionThen d rest))
 
+-- the casts of the arguments and of the result, where it is one between functions
 abbrev pub function_parts : Coercion → Option (List Coercion × Coercion)
 function_parts (Middle FunKind parts) = split_parts parts
 function_parts _ = None
 
+-- the cast of a part, where it is one between tuples
 abbrev pub tuple_coercion : Coercion → ℤ → Option Coercion
 tuple_coercion (Middle TupKind parts) (pos k) = part_at parts k
 tuple_coercion _ k = None
@@ -61,6 +65,7 @@ abbrev pub proxy_head : Coercion → Option TypeHead
 proxy_head (Middle kind parts) = Some (middle_head kind (width parts))
 proxy_head _ = None
 
+-- whether there is a head, which is this one
 abbrev pub is_head : Option TypeHead → TypeHead → Bool
 is_head (Some head) other = equal_heads head other
 is_head None other = false
@@ -99,6 +104,7 @@ module _ (coerce : ℕ → ℕ → ℕ → Coercion) (compose : Coercion → Coe
   applied (Project wanted label i) (Injected kept) = Opening (compose (coerce kept wanted label) i)
   applied (Project wanted label i) shape = NoCast
 
+  -- the mode in which casts apply coercions
   abbrev pub merging_by : List TypeCast → Mode Coercion
   merging_by casts = record {
     row = λ number. option_map (λ cast. coerce cast.from cast.to cast.label) (slice_get casts number);

@@ -77,6 +77,7 @@ pub record TypeCast : Type 0 where
   pub label : ℕ
   pub to : ℕ
 
+-- the cast from a type, under a label, to a type
 abbrev pub type_cast : ℕ → ℕ → ℕ → TypeCast
 type_cast from label to = record { from = from; label = label; to = to }
 
@@ -84,6 +85,7 @@ type_cast from label to = record { from = from; label = label; to = to }
 abbrev pub row_cast : CastRow → TypeCast
 row_cast row = type_cast row.from.0 row.label.0 row.to.0
 
+-- the casts of rows
 abbrev pub row_casts : List CastRow → List TypeCast
 row_casts rows = map row_cast rows
 
@@ -109,6 +111,7 @@ fits row cast (Bare head) = equal_heads head (head_of row)
 fits row cast (Wrapped old) = nat_eq old.to cast.from
 fits row cast (Injected kept) = is_dyn row
 
+-- the case, where the value can have that type
 abbrev pub decide_fitting : TypeRow → TypeRow → TypeCast → Shape TypeCast → Decision TypeCast
 decide_fitting row other cast shape = if fits row cast shape then decide row other cast shape else NoCast
 

@@ -98,6 +98,7 @@ module _ {C K F E : Type 0} (mode : Mode C) (arity : K → ℕ)
 
   -- ---- casts
 
+  -- what a decision on a cast makes of a value
   abbrev pub make : Decision C → RunValue C K → List (Frame C K F) → After C K F E
   make Keeping v k = gives v k
   make (Wrapping cast) v k = gives (RunWrap v cast) k
@@ -109,6 +110,7 @@ module _ {C K F E : Type 0} (mode : Mode C) (arity : K → ℕ)
   make (Blaming label) v k = BlameOf label
   make _ v k = NoNext
 
+  -- a cast of a value
   abbrev pub run_cast : RunValue C K → C → List (Frame C K F) → After C K F E
   run_cast v cast k = make (mode.cast cast (shape_of arity v)) v k
 
@@ -132,6 +134,7 @@ module _ {C K F E : Type 0} (mode : Mode C) (arity : K → ℕ)
   next_argument f done v (cast ∷ casts) todo k =
       goes (Return v) (CastFrame cast ∷ casts_onto casts (EnterFrame f done todo ∷ k))
 
+  -- a function that is no wrapper: its arguments in order, and then its body
   abbrev pub enter_plain : RunValue C K → List (RunValue C K) → List (Pending C K) → List (Frame C K F)
       → After C K F E
   enter_plain f done [] k = apply f (onto done []) k
@@ -145,6 +148,7 @@ module _ {C K F E : Type 0} (mode : Mode C) (arity : K → ℕ)
 
   -- ---- parts of tuples
 
+  -- a part of a tuple, through its wrappers
   abbrev pub run_proj : RunValue C K → ℤ → List (Frame C K F) → After C K F E
   run_proj (RunTuple values) i k = on_some (element_at (row_list values) i) (λ v. gives v k)
   run_proj (RunWrap v cast) i k =
