@@ -10,3 +10,8 @@ pub mod Samples
 pub mod Texts
 pub mod StaticObjects
 pub mod Placed
+pub mod Modes
+pub mod MergedMode
+pub mod RunValues
+pub mod ValueSteps
+pub mod AnswerTypes

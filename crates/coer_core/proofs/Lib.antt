@@ -1,0 +1,23 @@
+pub mod Public
+mod Joining
+mod Unload
+mod Relation
+mod Plugging
+mod Matching
+mod Operating
+mod Moving
+mod Following
+mod Typed
+mod Counting
+mod PiledRuns
+mod Merging
+mod MergeSteps
+mod Merged
+mod Flat
+mod MergedRuns
+mod CastNumbers
+mod Converting
+mod FreshRows
+mod CastTypes
+mod ToCoercions
+mod Examples

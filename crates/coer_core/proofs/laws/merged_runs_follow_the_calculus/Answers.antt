@@ -1,0 +1,11 @@
+use Rattle.coer_core.proofs.MergedRuns.{merged_runs_follow_the_calculus-follows}
+use Rattle.coer_core.proofs.MergedRuns.{merged_runs_follow_the_calculus-never_wrong}
+use Rattle.coer_core.proofs.laws.merged_runs_follow_the_calculus.Goals as goal
+
+pub returns-clause-follows : goal.returns-clause-follows
+returns-clause-follows c = λ casts program term input type e h flat.
+    merged_runs_follow_the_calculus-follows casts program term input type e h flat
+
+pub returns-clause-never_wrong : goal.returns-clause-never_wrong
+returns-clause-never_wrong c = λ casts program term input type e h flat.
+    merged_runs_follow_the_calculus-never_wrong casts program term input type e h flat

@@ -1,0 +1,9 @@
+pub mod Terms
+pub mod Machine
+pub mod Counts
+pub mod FlatCasts
+pub mod TermLists
+pub mod Views
+pub mod Conversion
+pub mod Uses
+pub mod Programs
