@@ -123,7 +123,8 @@ ways text first second (inr (inr h)) (inl k) =
     absurd (no_tokens_and_reading text k.0 h.reads.datums k.1 h.reads.reads)
 ways text first second (inr (inr h)) (inr (inl k)) = absurd (no_forms_and_program text k.0 h.program k.1 h.reads)
 ways text first second (inr (inr h)) (inr (inr k)) =
-    sym h.outcome_is ∙ ap (λ e. outcome_of (elaborate_program e)) (same_program text h.program k.program h.reads k.reads)
+    sym h.outcome_is ∙ ap (λ e. outcome_of (elaborate_program e)) (same_program text h.program k.program h.reads
+    k.reads)
     ∙ k.outcome_is
 
 pub a_text_has_one_outcome-one : (text : List ℕ) (first second : Outcome) → HasOutcome text first

@@ -9,7 +9,8 @@ use Rattle.grift_base.specs.declared.operators.PrimOp.{PrimOp}
 use Rattle.grift_base.specs.declared.refusals.RefusalKind.{RefusalKind}
 use Rattle.grift_base.specs.declared.refusals.RefusalKind.TheVariants.{NotConsistent, TypeTooLarge, WrongCount}
 use Rattle.type_graph.specs.Forming.{intern}
-use Rattle.core_calc.specs.Terms.{Term, Terms, Members, Bindings, IntLit, BoolLit, UnitLit, Var, Lambda, Group, Let, Call}
+use Rattle.core_calc.specs.Terms.{Term, Terms, Members, Bindings, IntLit, BoolLit, UnitLit, Var, Lambda, Group, Let}
+use Rattle.core_calc.specs.Terms.{Call}
 use Rattle.core_calc.specs.Terms.{Enter, If, Seq, Cast, Proj, ProjDyn, Tuple, Prim, ValueTerm, NoTerms, TermThen}
 use Rattle.core_calc.specs.Terms.{NoMembers, MemberThen, NoBindings, BindingThen}
 use Rattle.core_calc.proofs.Public.{get_kept, get_last}
@@ -18,15 +19,18 @@ use Rattle.surface_syntax.specs.Trees.{ExprAt, IntNode, BoolNode, UnitNode, Name
 use Rattle.surface_syntax.specs.Trees.{LetrecNode, IfNode, BeginNode, AscribeNode, TupleNode, ProjNode, PrimNode}
 use Rattle.surface_syntax.specs.Trees.{LambdaAt, NoExprs, ExprThen, NoLets, LetThen, NoLetrecs, LetrecThen}
 use Rattle.cast_insert.specs.Sources.{place_of, how_many}
-use Rattle.cast_insert.specs.Making.{Entry, CastFrom, PartOf, Work, Made, Makes, Refuses, Making, then_make, ◌>>=◌, give}
+use Rattle.cast_insert.specs.Making.{Entry, CastFrom, PartOf, Work, Made, Makes, Refuses, Making, then_make, ◌>>=◌}
+use Rattle.cast_insert.specs.Making.{give}
 use Rattle.cast_insert.specs.Making.{refuse}
 use Rattle.cast_insert.specs.Making.{form, row_of, fresh, label_at, list_entry, test, not_too_large, are_consistent}
-use Rattle.cast_insert.specs.Making.{blend_at, Typed, typed, cast_at, cast_to, cast_if, cast_to_row, written, written_if}
+use Rattle.cast_insert.specs.Making.{blend_at, Typed, typed, cast_at, cast_to, cast_if, cast_to_row, written}
+use Rattle.cast_insert.specs.Making.{written_if}
 use Rattle.cast_insert.specs.Environments.{Meaning, Environment, meaning_of, use_as, use_at, type_or_dyn}
 use Rattle.cast_insert.specs.Environments.{parameter_types, bind_names, Head, consistent_if, head_of, heads_of}
 use Rattle.cast_insert.specs.Environments.{with_names, names_of_heads}
 use Rattle.cast_insert.specs.Calls.{Given, call_by, part_by, project_by}
-use Rattle.cast_insert.specs.Operators.{Operand, As, Content, Box, Vector, AsContent, OperatorAnswer, Always, TheContent}
+use Rattle.cast_insert.specs.Operators.{Operand, As, Content, Box, Vector, AsContent, OperatorAnswer, Always}
+use Rattle.cast_insert.specs.Operators.{TheContent}
 use Rattle.cast_insert.specs.Operators.{BoxOf, VectorOf, Held, box_by, vector_by, operand_by, answer_type, operands_of}
 use Rattle.cast_insert.specs.Operators.{answer_of}
 use Rattle.cast_insert.specs.Elaboration.{Sequence, Bound, MemberBody, Operands, elaborate, elaborate_node}
@@ -288,7 +292,8 @@ module _ (allowed : PrimOp → Bool) where
       by (nat_eq number (length parameters))
     where
       by : (same_number : Bool) → Keeps PlacedTerm work.casts
-          ((if same_number then (◌>>=◌ (each parameters) (λ arguments. give (typed (Call function.term arguments) answer)))
+          ((if same_number then (◌>>=◌ (each parameters) (λ arguments. give (typed (Call function.term arguments)
+          answer)))
           else refuse WrongCount place) work)
       by true =
           then_keeps PlacedTerms PlacedTerm work.casts _ _ (he parameters work) (λ arguments after m placed.
@@ -514,7 +519,8 @@ module _ (allowed : PrimOp → Bool) where
     sequence_places : (body : Exprs) → AreAllowed allowed body → (environment : Environment) (work : Work)
         → Keeps PlacedSequence work.casts (elaborate_sequence body environment work)
     sequence_places NoExprs fine environment work =
-        then_keeps Nothing PlacedSequence work.casts _ _ (same work.casts, tt) (λ type after m n. (same after.casts, tt))
+        then_keeps Nothing PlacedSequence work.casts _ _ (same work.casts, tt) (λ type after m n. (same after.casts,
+        tt))
     sequence_places (ExprThen expression NoExprs) fine environment work =
         then_keeps PlacedTerm PlacedSequence work.casts _ _ (places expression fine.0 environment work)
         (λ e after m placed. (same after.casts, (placed, tt)))

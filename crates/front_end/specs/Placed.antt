@@ -5,7 +5,8 @@ use Rattle.surface_syntax.specs.Trees.{Expr, ExprNode, LambdaExpr, Exprs, LetBin
 use Rattle.surface_syntax.specs.Trees.{BoolNode, UnitNode, NameNode, LambdaNode, CallNode, LetNode, LetrecNode, IfNode}
 use Rattle.surface_syntax.specs.Trees.{BeginNode, AscribeNode, TupleNode, ProjNode, PrimNode, LambdaAt, NoExprs}
 use Rattle.surface_syntax.specs.Trees.{ExprThen, NoLets, LetThen, NoLetrecs, LetrecThen}
-use Rattle.core_calc.specs.Terms.{Term, Terms, Members, Bindings, IntLit, BoolLit, UnitLit, Var, Lambda, Group, Let, Call}
+use Rattle.core_calc.specs.Terms.{Term, Terms, Members, Bindings, IntLit, BoolLit, UnitLit, Var, Lambda, Group, Let}
+use Rattle.core_calc.specs.Terms.{Call}
 use Rattle.core_calc.specs.Terms.{Enter, If, Seq, Cast, Proj, ProjDyn, Tuple, Prim, ValueTerm, NoTerms, TermThen}
 use Rattle.core_calc.specs.Terms.{NoMembers, MemberThen, NoBindings, BindingThen}
 use Rattle.cast_insert.specs.Making.{Entry, CastFrom, PartOf, Makes, Typed, Work}
