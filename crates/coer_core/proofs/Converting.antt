@@ -4,6 +4,9 @@ use Rattle.std.proofs.Common.{refl, sym}
 use Rattle.std.proofs.Common.{ap}
 use Rattle.std.proofs.Common.{◌∙◌}
 use Rattle.std.proofs.Common.{if◌then◌else◌, slice_get}
+use Rattle.std.proofs.Common.{◌<◌, length}
+use Rattle.std.proofs.lemmas.Option.{slice_get_within}
+use Rattle.coer_core.specs.Uses.{NumbersBelow, AllBelow, MembersBelow, BindingsBelow}
 use Rattle.std.specs.Prelude.{nat_eq, ◌&&◌}
 use Rattle.std.specs.List.{list_any}
 use Rattle.std.proofs.lemmas.Bool.{eqb-true}
@@ -329,3 +332,84 @@ mutual
   same_uses_bindings NoBindings casts w = refl
   same_uses_bindings (BindingThen name bound rest) casts w =
       ap2 (λ x y. x ++ y) (same_uses bound casts w.0) (same_uses_bindings rest (converted casts bound).casts w.1)
+
+-- ---- numbers
+
+-- the number of a cast that was met is a place among these casts or more
+placed_later : (casts : List TypeCast) (cast : TypeCast) (later : List TypeCast) → Begins (with_cast casts cast) later
+    → number_of casts cast < length later
+placed_later casts cast later b =
+    slice_get_within later (number_of casts cast) cast
+    (ap (λ l. slice_get l (number_of casts cast)) b.is
+    ∙ get_first (with_cast casts cast) b.more (number_of casts cast) cast (placed casts cast))
+
+mutual
+  pub numbers : (term : Term) (casts later : List TypeCast) → Begins (converted casts term).casts later
+      → NumbersBelow (length later) (converted casts term).term
+  numbers (IntLit n) casts later b = tt
+  numbers (BoolLit x) casts later b = tt
+  numbers UnitLit casts later b = tt
+  numbers (Var name) casts later b = tt
+  numbers (Lambda parameters body type) casts later b = numbers body casts later b
+  numbers (Group members body) casts later b =
+      let first = converted_members casts members in (
+        numbers_of_members members casts later (begins_trans (grows body first.casts) b),
+        numbers body first.casts later
+            b,
+      )
+  numbers (Let bindings body) casts later b =
+      let first = converted_bindings casts bindings in (
+        numbers_of_bindings bindings casts later (begins_trans (grows body first.casts) b),
+        numbers body first.casts later b,
+      )
+  numbers (Call function arguments) casts later b =
+      let first = converted casts function in (
+        numbers function casts later (begins_trans (grows_all arguments first.casts) b),
+        numbers_of_all arguments first.casts later b,
+      )
+  numbers (Enter function arguments) casts later b = tt
+  numbers (If condition on_true on_false) casts later b =
+      let first = converted casts condition in
+      let second = converted first.casts on_true in
+      let c = begins_trans (grows on_false second.casts) b in (
+        numbers condition casts later (begins_trans (grows on_true first.casts) c),
+        numbers on_true first.casts later c,
+        numbers on_false second.casts later b,
+      )
+  numbers (Seq terms) casts later b = numbers_of_all terms casts later b
+  numbers (Cast term from to label) casts later b =
+      let inner = converted casts term in
+      let cast = type_cast from label to in
+      (placed_later inner.casts cast later b, numbers term casts later (begins_trans (begins_with inner.casts cast) b))
+  numbers (Proj term k) casts later b = numbers term casts later b
+  numbers (ProjDyn term k label) casts later b = numbers term casts later b
+  numbers (Tuple parts) casts later b = numbers_of_all parts casts later b
+  numbers (Prim operator operands) casts later b = numbers_of_all operands casts later b
+  numbers (ValueTerm v) casts later b = tt
+
+  numbers_of_all : (terms : Terms) (casts later : List TypeCast) → Begins (converted_all casts terms).casts later
+      → AllBelow (length later) (converted_all casts terms).term
+  numbers_of_all NoTerms casts later b = tt
+  numbers_of_all (TermThen term rest) casts later b =
+      let first = converted casts term in
+      (numbers term casts later (begins_trans (grows_all rest first.casts) b), numbers_of_all rest first.casts later b)
+
+  numbers_of_members : (members : Members) (casts later : List TypeCast)
+      → Begins (converted_members casts members).casts later
+      → MembersBelow (length later) (converted_members casts members).term
+  numbers_of_members NoMembers casts later b = tt
+  numbers_of_members (MemberThen name parameters body type rest) casts later b =
+      let first = converted casts body in (
+        numbers body casts later (begins_trans (grows_members rest first.casts) b),
+        numbers_of_members rest first.casts later b,
+      )
+
+  numbers_of_bindings : (bindings : Bindings) (casts later : List TypeCast)
+      → Begins (converted_bindings casts bindings).casts later
+      → BindingsBelow (length later) (converted_bindings casts bindings).term
+  numbers_of_bindings NoBindings casts later b = tt
+  numbers_of_bindings (BindingThen name bound rest) casts later b =
+      let first = converted casts bound in (
+        numbers bound casts later (begins_trans (grows_bindings rest first.casts) b),
+        numbers_of_bindings rest first.casts later b,
+      )

@@ -143,7 +143,7 @@ module _ (types : TypeRows) (rows : List TypeCast) (store : PiledStore) (world :
 
   let_values : (bindings : Bindings) (body : Term) (bound : PiledEnv) → AllBound rows bindings bound
       → stepped (Let bindings body) ≡ Goes (substitute body (entries_of rows bound)) (store_of rows store) world
-  let_values bindings body bound b = rw (b.1, b.2) refl
+  let_values _ body bound b = rw (b.1, b.2) refl
 
   let_wraps : (bindings : Bindings) (body : Term) (bound : PiledEnv) → AllBound rows bindings bound
       → wraps_at types (redex (Let bindings body)) ≡ 0

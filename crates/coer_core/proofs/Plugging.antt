@@ -89,7 +89,7 @@ module _ (rows : List TypeCast) where
   pub all_bound : (bound acc : PiledEnv) (bindings rest : Bindings) → SpelledBindings rows bound bindings
       → AllBound rest acc → AllBound (bindings_onto bindings rest) (onto bound acc)
   all_bound [] acc NoBindings rest s b = b
-  all_bound [] acc (BindingThen name term bindings) rest s b = absurd s
+  all_bound [] acc (BindingThen name term _) rest s b = absurd s
   all_bound (entry ∷ bound) acc NoBindings rest s b = absurd s
   all_bound (entry ∷ bound) acc (BindingThen name term bindings) rest s b =
       all_bound bound (entry ∷ acc) bindings (BindingThen name term rest) s.2
@@ -103,7 +103,7 @@ module _ (rows : List TypeCast) where
   none_bound : (bound : PiledEnv) (bindings rest : Bindings) → SpelledBindings rows bound bindings
       → bound_values rest ≡ None → bound_values (bindings_onto bindings rest) ≡ None
   none_bound [] NoBindings rest s e = e
-  none_bound [] (BindingThen name term bindings) rest s e = absurd s
+  none_bound [] (BindingThen name term _) rest s e = absurd s
   none_bound (entry ∷ bound) NoBindings rest s e = absurd s
   none_bound (entry ∷ bound) (BindingThen name term bindings) rest s e =
       none_bound bound bindings (BindingThen name term rest) s.2 (rw (s.1, e) refl)
@@ -142,7 +142,7 @@ module _ (rows : List TypeCast) where
         → step_bindings types store world (bindings_onto bindings rest) ≡ inside (bindings_onto bindings)
         (step_bindings types store world rest)
     bindings_step_onto [] NoBindings rest s = inside_same (step_bindings types store world rest)
-    bindings_step_onto [] (BindingThen name term bindings) rest s = absurd s
+    bindings_step_onto [] (BindingThen name term _) rest s = absurd s
     bindings_step_onto (entry ∷ bound) NoBindings rest s = absurd s
     bindings_step_onto (entry ∷ bound) (BindingThen name term bindings) rest s =
         bindings_step_onto bound bindings (BindingThen name term rest) s.2
@@ -288,7 +288,7 @@ module _ (rows : List TypeCast) where
     bound_redex_onto : (bound : PiledEnv) (bindings rest : Bindings) → SpelledBindings rows bound bindings
         → redex_bindings (bindings_onto bindings rest) ≡ redex_bindings rest
     bound_redex_onto [] NoBindings rest s = refl
-    bound_redex_onto [] (BindingThen name term bindings) rest s = absurd s
+    bound_redex_onto [] (BindingThen name term _) rest s = absurd s
     bound_redex_onto (entry ∷ bound) NoBindings rest s = absurd s
     bound_redex_onto (entry ∷ bound) (BindingThen name term bindings) rest s =
         bound_redex_onto bound bindings (BindingThen name term rest) s.2

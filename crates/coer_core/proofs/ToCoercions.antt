@@ -1,5 +1,6 @@
 -- What the program of a term keeps.
 use Rattle.std.proofs.Common.{◌≡◌, ℕ, List, [], length, sym, ap, ◌∙◌, subst, All}
+use Rattle.std.proofs.lemmas.List.{length-map}
 use Rattle.run_laws.specs.Runs.{Follows, FollowsBy, Any}
 use Rattle.grift_base.specs.Types.{TypeRows}
 use Rattle.grift_base.specs.declared.places.Pos.{Pos}
@@ -9,15 +10,15 @@ use Rattle.core_calc.specs.Typing.{ProgramTermHasType}
 use Rattle.coercion_norm.specs.declared.casts.Cast.{Cast}
 use Rattle.coercion_norm.specs.declared.cast_rows.CastRow.{CastRow}
 use Rattle.coercion_norm.specs.CoercionTables.{IsCast}
-use Rattle.coercion_norm.specs.Modes.{piling, row_casts}
+use Rattle.coercion_norm.specs.Modes.{piling, row_cast, row_casts}
 use Rattle.coercion_norm.specs.MergedMode.{merging}
 use Rattle.coer_core.specs.Terms.{RowTerm, core_of}
 use Rattle.coer_core.specs.Conversion.{casts_in, with_casts, cast_views, converted}
 use Rattle.coer_core.specs.Counts.{run_in, told_of, calc_with_wraps, SameWraps}
 use Rattle.coer_core.specs.FlatCasts.{AreFlatCasts}
 use Rattle.coer_core.specs.Programs.{IsProgramTerm, program_of}
-use Rattle.coer_core.specs.Uses.{row_uses, uses_in}
-use Rattle.coer_core.proofs.Converting.{begins_itself, reads, in_order, same_uses}
+use Rattle.coer_core.specs.Uses.{row_uses, uses_in, NumbersBelow}
+use Rattle.coer_core.proofs.Converting.{begins_itself, reads, in_order, same_uses, numbers}
 use Rattle.coer_core.proofs.CastTypes.{CastsIn, term_in, all_with_in, casts_are_in}
 use Rattle.coer_core.proofs.PiledRuns.{piled_runs_follow_the_calculus-wraps}
 use Rattle.coer_core.proofs.MergedRuns.{merged_runs_follow_the_calculus-follows}
@@ -48,6 +49,14 @@ module _ (types : TypeRows) (core : Term) (start met : List Cast) (body : RowTer
 
     pub rows_in_order : row_casts rows ≡ with_casts [] (casts_in core)
     rows_in_order = are_rows ∙ casts_made ∙ in_order core []
+
+    pub numbers_below : NumbersBelow (length rows) body
+    numbers_below =
+        let all : length (converted [] core).casts ≡ length rows =
+        ap length (sym (are_rows ∙ casts_made)) ∙ length-map rows row_cast in
+        subst (λ b. NumbersBelow (length rows) b) (sym body_made)
+        (subst (λ n. NumbersBelow n (converted [] core).term) all
+        (numbers core [] (converted [] core).casts (begins_itself (converted [] core).casts)))
 
     pub uses_same : row_uses body ≡ uses_in core
     uses_same = ap row_uses body_made ∙ same_uses core [] program.2.1

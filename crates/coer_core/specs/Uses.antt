@@ -1,5 +1,6 @@
--- Which operators, parts of Dyn and casts stand in a term, in order and each as often as it stands there.
-use Rattle.std.specs.Prelude.{ℕ, ℤ, List, [], ◌∷◌, ◌++◌}
+-- Which operators, parts of Dyn and casts stand in a term, in order and each as often as it stands there; and which
+-- numbers its casts have.
+use Rattle.std.specs.Prelude.{ℕ, ◌<◌, ℤ, List, [], ◌∷◌, ◌++◌}
 use Rattle.grift_base.specs.declared.operators.PrimOp.{PrimOp}
 use Rattle.core_calc.specs.Terms.{Term, Terms, Members, Bindings, IntLit, BoolLit, UnitLit, Var, Lambda, Group, Let}
 use Rattle.core_calc.specs.Terms.{Call, Enter, If, Seq, Cast, Proj, ProjDyn, Tuple, Prim, ValueTerm, NoTerms, TermThen}
@@ -78,3 +79,35 @@ abbrev mutual
   pub row_uses_of_bindings : RowBindings → List Use
   row_uses_of_bindings NoRowBindings = []
   row_uses_of_bindings (RowBindingThen name bound rest) = row_uses bound ++ row_uses_of_bindings rest
+
+-- the numbers of a term's casts are below this one
+abbrev mutual
+  pub NumbersBelow : ℕ → RowTerm → Type 0
+  NumbersBelow many (RowInt n) = Unit {0}
+  NumbersBelow many (RowBool b) = Unit {0}
+  NumbersBelow many RowUnit = Unit {0}
+  NumbersBelow many (RowVar name) = Unit {0}
+  NumbersBelow many (RowLambda parameters body type) = NumbersBelow many body
+  NumbersBelow many (RowGroup members body) = MembersBelow many members × NumbersBelow many body
+  NumbersBelow many (RowLet bindings body) = BindingsBelow many bindings × NumbersBelow many body
+  NumbersBelow many (RowCall function arguments) = NumbersBelow many function × AllBelow many arguments
+  NumbersBelow many (RowIf condition on_true on_false) =
+      NumbersBelow many condition × NumbersBelow many on_true × NumbersBelow many on_false
+  NumbersBelow many (RowSeq terms) = AllBelow many terms
+  NumbersBelow many (RowCast term number) = (number < many) × NumbersBelow many term
+  NumbersBelow many (RowProj term k) = NumbersBelow many term
+  NumbersBelow many (RowProjDyn term k label) = NumbersBelow many term
+  NumbersBelow many (RowTuple parts) = AllBelow many parts
+  NumbersBelow many (RowPrim operator operands) = AllBelow many operands
+
+  pub AllBelow : ℕ → RowTerms → Type 0
+  AllBelow many NoRowTerms = Unit {0}
+  AllBelow many (RowTermThen term rest) = NumbersBelow many term × AllBelow many rest
+
+  pub MembersBelow : ℕ → RowMembers → Type 0
+  MembersBelow many NoRowMembers = Unit {0}
+  MembersBelow many (RowMemberThen name parameters body type rest) = NumbersBelow many body × MembersBelow many rest
+
+  pub BindingsBelow : ℕ → RowBindings → Type 0
+  BindingsBelow many NoRowBindings = Unit {0}
+  BindingsBelow many (RowBindingThen name bound rest) = NumbersBelow many bound × BindingsBelow many rest

@@ -16,7 +16,7 @@ ghost use Rattle.coer_core.specs.Counts.{SameWraps, calc_with_wraps, run_in, tol
 ghost use Rattle.coer_core.specs.FlatCasts.{AreFlatCasts};
 ghost use Rattle.coer_core.specs.Programs.{HaveCoercions, IsProgramTerm, program_of, tallest_of};
 ghost use Rattle.coer_core.specs.Terms.{core_of};
-ghost use Rattle.coer_core.specs.Uses.{row_uses, uses_in};
+ghost use Rattle.coer_core.specs.Uses.{NumbersBelow, row_uses, uses_in};
 ghost use Rattle.coer_core.specs.Views.{row_term_of};
 
 use crate::casts::Casts;
@@ -68,6 +68,7 @@ pub fn to_coercions(
     ensures coercions { IfOk result (λ p. HaveCoercions types.now p.coercions.nodes p.casts) }
     ensures fits { IfOk result (λ p. FitsTypes types.now p.coercions) }
     ensures tallest { IfOk result (λ p. p.tallest ≡ tallest_of types.now (row_casts p.casts)) }
+    ensures numbers { IfOk result (λ p. NumbersBelow (length p.casts) (row_term_of p.body)) }
     ensures uses { IfOk result (λ p. row_uses (row_term_of p.body) ≡ uses_in (term_of core.now)) }
     ensures answer { IfOk result (λ p. (labels : ℕ) → labels_end (term_of core.now) ≤ labels
         → ProgramTermHasType types.now labels (term_of core.now) p.answer.0) }

@@ -2,6 +2,7 @@ use Rattle.std.proofs.Common.{length}
 use Rattle.core_calc.specs.Views.{term_of}
 use Rattle.coer_core.specs.Views.{row_term_of}
 use Rattle.coer_core.proofs.ToCoercions.{casts_there, reads_back, rows_in_order, uses_same, piled_follows_core}
+use Rattle.coer_core.proofs.ToCoercions.{numbers_below}
 use Rattle.coer_core.proofs.ToCoercions.{merged_follows_core}
 use Rattle.coer_core.proofs.program.to_coercions.Goals as goal
 
@@ -19,6 +20,12 @@ returns-clause-reads c =
 pub returns-clause-order : goal.returns-clause-order
 returns-clause-order c =
     rows_in_order c.args.types.now (term_of c.args.core.now) c.new-met.result c.converted.new.casts
+    (row_term_of c.in_ok-body.body) c.requires c.new-met.ensures c.in_ok-body.ensures.term c.in_ok-body.ensures.casts
+    c.in_ok-casts.casts c.in_ok-casts.ensures.rows
+
+pub returns-clause-numbers : goal.returns-clause-numbers
+returns-clause-numbers c =
+    numbers_below c.args.types.now (term_of c.args.core.now) c.new-met.result c.converted.new.casts
     (row_term_of c.in_ok-body.body) c.requires c.new-met.ensures c.in_ok-body.ensures.term c.in_ok-body.ensures.casts
     c.in_ok-casts.casts c.in_ok-casts.ensures.rows
 
