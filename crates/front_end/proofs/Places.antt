@@ -519,8 +519,10 @@ module _ (allowed : PrimOp → Bool) where
     sequence_places : (body : Exprs) → AreAllowed allowed body → (environment : Environment) (work : Work)
         → Keeps PlacedSequence work.casts (elaborate_sequence body environment work)
     sequence_places NoExprs fine environment work =
-        then_keeps Nothing PlacedSequence work.casts _ _ (same work.casts, tt) (λ type after m n. (same after.casts,
-        tt))
+        then_keeps Nothing PlacedSequence work.casts _ _ (same work.casts, tt) (λ type after m n. (
+          same after.casts,
+          tt,
+        ))
     sequence_places (ExprThen expression NoExprs) fine environment work =
         then_keeps PlacedTerm PlacedSequence work.casts _ _ (places expression fine.0 environment work)
         (λ e after m placed. (same after.casts, (placed, tt)))
