@@ -117,7 +117,8 @@ DoesInStack reading items code =
 abbrev pub DoesAsVirtual : {V : Type 0} → (Halt → Ending V) → List VirtualItem → List RealItem → Type 0
 DoesAsVirtual reading items code =
     reading (Lacks Stack) ≡ Exhausted → (setting : RealSetting) (told : ℕ → ℕ) (s : State)
-    → Starts items code setting told s → NeverWrong (run (virtual_machine reading (setting_in items told s)) (start_in s))
+    → Starts items code setting told s
+    → NeverWrong (run (virtual_machine reading (setting_in items told s)) (start_in s))
     → FollowsVirtual 43 (real_machine reading code setting) (virtual_machine reading (setting_in items told s)) s
 
 -- x30 and x31 are named by no item

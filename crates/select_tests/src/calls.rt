@@ -1,6 +1,8 @@
 // Calls, tail calls and frames.
 
-use crate::machines::{alone, answer, behind, comes_to, number, procedure, program, sources, word};
+use crate::machines::{
+    alone, answer, call, change, comes_to, number, procedure, program, set, sources, unless, word,
+};
 use grift_base::lists::OutOfMemory;
 use low_ir::code::{LowCode, WordOp};
 use low_ir::programs::{LowProc, LowProcs, LowProgram};
@@ -20,17 +22,10 @@ fn begins_with(alloc: Global, numbers: &[u64]) -> Result<LowProc, OutOfMemory> {
 
 // Adds the numbers from 1 to a million to its second word, counting with its first.
 fn sums(alloc: Global) -> Result<LowProc, OutOfMemory> {
-    let again = LowCode::TailCall(1, sources(alloc, &[word(0), word(1)])?);
-    let adds = LowCode::Compute(WordOp::Add, 1, word(1), word(0), behind(alloc, again)?);
-    let counts = LowCode::Compute(WordOp::Add, 0, word(0), number(1), behind(alloc, adds)?);
-    let code = LowCode::If(
-        Cond::Ltu,
-        word(0),
-        number(1_000_000),
-        behind(alloc, counts)?,
-        behind(alloc, LowCode::Done)?,
-        behind(alloc, LowCode::Return(word(1)))?,
-    );
+    let code = LowCode::TailCall(1, sources(alloc, &[word(0), word(1)])?);
+    let code = change(alloc, WordOp::Add, 1, word(0), code)?;
+    let code = change(alloc, WordOp::Add, 0, number(1), code)?;
+    let code = unless(alloc, Cond::Eq, word(0), number(1_000_000), word(1), code)?;
     Ok(procedure(2, 2, code))
 }
 
@@ -47,18 +42,9 @@ fn a_loop_sums_to_a_million(rt: HostRuntime) -> Result<(), Fail> {
 
 // Answers a number where its word is 0, and else calls another procedure in its place with one less.
 fn counts_down(alloc: Global, other: u32, at_end: u64) -> Result<LowProc, OutOfMemory> {
-    let again = LowCode::TailCall(other, sources(alloc, &[word(0)])?);
-    let code = LowCode::If(
-        Cond::Eq,
-        word(0),
-        number(0),
-        behind(alloc, LowCode::Return(number(at_end)))?,
-        behind(alloc, LowCode::Done)?,
-        behind(
-            alloc,
-            LowCode::Compute(WordOp::Sub, 0, word(0), number(1), behind(alloc, again)?),
-        )?,
-    );
+    let code = LowCode::TailCall(other, sources(alloc, &[word(0)])?);
+    let code = change(alloc, WordOp::Sub, 0, number(1), code)?;
+    let code = unless(alloc, Cond::Eq, word(0), number(0), number(at_end), code)?;
     Ok(procedure(1, 1, code))
 }
 
@@ -77,25 +63,11 @@ fn a_million_tail_calls_take_no_stack(rt: HostRuntime) -> Result<(), Fail> {
 
 // Its word, by as many calls.
 fn counts_up(alloc: Global) -> Result<LowProc, OutOfMemory> {
-    let adds = LowCode::Compute(
-        WordOp::Add,
-        1,
-        word(1),
-        number(1),
-        behind(alloc, LowCode::Return(word(1)))?,
-    );
-    let calls = LowCode::Call(1, 1, sources(alloc, &[word(1)])?, behind(alloc, adds)?);
-    let code = LowCode::If(
-        Cond::Eq,
-        word(0),
-        number(0),
-        behind(alloc, LowCode::Return(number(0)))?,
-        behind(alloc, LowCode::Done)?,
-        behind(
-            alloc,
-            LowCode::Compute(WordOp::Sub, 1, word(0), number(1), behind(alloc, calls)?),
-        )?,
-    );
+    let code = change(alloc, WordOp::Add, 1, number(1), LowCode::Return(word(1)))?;
+    let code = call(alloc, 1, 1, &[word(1)], code)?;
+    let code = change(alloc, WordOp::Sub, 1, number(1), code)?;
+    let code = set(alloc, 1, word(0), code)?;
+    let code = unless(alloc, Cond::Eq, word(0), number(0), number(0), code)?;
     Ok(procedure(1, 2, code))
 }
 
@@ -120,8 +92,8 @@ fn a_recursion_overflows_the_stack_where_its_frames_do_not_fit(rt: HostRuntime) 
 fn digits(alloc: Global) -> Result<LowProc, OutOfMemory> {
     let mut code = LowCode::Return(word(0));
     for i in 0..7u32 {
-        let adds = LowCode::Compute(WordOp::Add, 0, word(0), word(7 - i), behind(alloc, code)?);
-        code = LowCode::Compute(WordOp::Sll, 0, word(0), number(4), behind(alloc, adds)?);
+        code = change(alloc, WordOp::Add, 0, word(7 - i), code)?;
+        code = change(alloc, WordOp::Sll, 0, number(4), code)?;
     }
     Ok(procedure(8, 8, code))
 }
@@ -137,24 +109,19 @@ fn eight_words_are_handed_on(rt: HostRuntime) -> Result<(), Fail> {
     Ok(())
 }
 
-// Calls the procedure whose code address it loads, and adds what it answers twice.
+// Calls the procedure whose code address it loads, and answers twice what that answers.
 fn calls_by_address(alloc: Global) -> Result<LowProc, OutOfMemory> {
-    let adds = LowCode::Compute(
-        WordOp::Add,
-        1,
-        word(1),
-        word(1),
-        behind(alloc, LowCode::Return(word(1)))?,
-    );
-    let calls = LowCode::CallAt(1, word(0), sources(alloc, &[number(20)])?, behind(alloc, adds)?);
-    Ok(procedure(0, 2, LowCode::CodeOf(0, 1, behind(alloc, calls)?)))
+    let code = change(alloc, WordOp::Add, 1, word(1), LowCode::Return(word(1)))?;
+    let words = sources(alloc, &[number(20)])?;
+    let code = LowCode::CallAt(1, word(0), words, Box::new(alloc, code)?);
+    Ok(procedure(0, 2, LowCode::CodeOf(0, 1, Box::new(alloc, code)?)))
 }
 
 // Calls procedure 2 in its place by its address, with one more than its word.
 fn goes_by_address(alloc: Global) -> Result<LowProc, OutOfMemory> {
-    let goes = LowCode::TailCallAt(word(1), sources(alloc, &[word(0)])?);
-    let adds = LowCode::Compute(WordOp::Add, 0, word(0), number(1), behind(alloc, goes)?);
-    Ok(procedure(1, 2, LowCode::CodeOf(1, 2, behind(alloc, adds)?)))
+    let code = LowCode::TailCallAt(word(1), sources(alloc, &[word(0)])?);
+    let code = change(alloc, WordOp::Add, 0, number(1), code)?;
+    Ok(procedure(1, 2, LowCode::CodeOf(1, 2, Box::new(alloc, code)?)))
 }
 
 #[test]
@@ -169,20 +136,17 @@ fn procedures_are_called_by_their_addresses(rt: HostRuntime) -> Result<(), Fail>
     Ok(())
 }
 
-// Slots lie far from the stack's register.
+// A program whose slots lie far from the stack's register.
+fn wide(alloc: Global) -> Result<LowProgram, OutOfMemory> {
+    let code = change(alloc, WordOp::Add, 5000, word(9999), LowCode::Return(word(5000)))?;
+    let code = set(alloc, 5000, number(1), code)?;
+    alone(alloc, 10000, set(alloc, 9999, number(7), code)?)
+}
+
 #[test]
 fn a_frame_of_ten_thousand_words(rt: HostRuntime) -> Result<(), Fail> {
-    let alloc = rt.alloc();
-    let adds = LowCode::Compute(
-        WordOp::Add,
-        5000,
-        word(9999),
-        word(0),
-        behind(alloc, LowCode::Return(word(5000)))?,
-    );
-    let sets = LowCode::Set(0, number(1), behind(alloc, adds)?);
-    let low = alone(alloc, 10000, LowCode::Set(9999, number(7), behind(alloc, sets)?))?;
-    assert_eq!(rt; comes_to(alloc, &low, 0, 80008)?, answer(8));
-    assert_eq!(rt; comes_to(alloc, &low, 0, 80000)?, Some(Stop::StackOut));
+    let low = wide(rt.alloc())?;
+    assert_eq!(rt; comes_to(rt.alloc(), &low, 0, 80008)?, answer(8));
+    assert_eq!(rt; comes_to(rt.alloc(), &low, 0, 80000)?, Some(Stop::StackOut));
     Ok(())
 }

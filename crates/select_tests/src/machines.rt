@@ -9,11 +9,12 @@ use grift_base::places::{LabelTable, Pos};
 use grift_base::verdicts::{Answer, AnswerKind};
 use grift_base::words::Statics;
 use grift_base::worlds::World;
-use low_ir::code::{LowCode, LowSource, LowSources};
+use low_ir::code::{LowCode, LowSource, LowSources, WordOp};
 use low_ir::programs::{LowProc, LowProcs, LowProgram};
 use rv_emulator::flat::FlatRam;
 use rv_emulator::machine::Machine;
 use rv_emulator::stops::Stop;
+use rv_isa::inst::Cond;
 use rv_select::images::image_of;
 use std::alloc::Global;
 
@@ -30,14 +31,65 @@ pub(crate) fn number(n: u64) -> LowSource {
     LowSource::Number(n)
 }
 
-// Code that comes behind.
-pub(crate) fn behind(alloc: Global, code: LowCode) -> Result<Box<LowCode>, OutOfMemory> {
-    Ok(Box::new(alloc, code)?)
-}
-
 // These sources.
 pub(crate) fn sources(alloc: Global, words: &[LowSource]) -> Result<LowSources, OutOfMemory> {
     LowSources::from_slice(alloc, words)
+}
+
+// Word d is set to a source, and then this is done.
+pub(crate) fn set(alloc: Global, d: u32, a: LowSource, rest: LowCode) -> Result<LowCode, OutOfMemory> {
+    Ok(LowCode::Set(d, a, Box::new(alloc, rest)?))
+}
+
+// Word d is set to what an operation gives of it and a source, and then this is done.
+pub(crate) fn change(
+    alloc: Global,
+    op: WordOp,
+    d: u32,
+    b: LowSource,
+    rest: LowCode,
+) -> Result<LowCode, OutOfMemory> {
+    let a = LowSource::Word(d);
+    Ok(LowCode::Compute(op, d, a, b, Box::new(alloc, rest)?))
+}
+
+// Word d is loaded from the address in a word and an offset, and then this is done.
+pub(crate) fn load(
+    alloc: Global,
+    d: u32,
+    from: u32,
+    offset: u32,
+    rest: LowCode,
+) -> Result<LowCode, OutOfMemory> {
+    let a = LowSource::Word(from);
+    Ok(LowCode::Load(d, a, offset, Box::new(alloc, rest)?))
+}
+
+// Word d is set to the answer of a procedure that takes these words, and then this is done.
+pub(crate) fn call(
+    alloc: Global,
+    d: u32,
+    k: u32,
+    words: &[LowSource],
+    rest: LowCode,
+) -> Result<LowCode, OutOfMemory> {
+    let words = sources(alloc, words)?;
+    Ok(LowCode::Call(d, k, words, Box::new(alloc, rest)?))
+}
+
+// A number is answered where the condition holds of two sources, and else this is done.
+pub(crate) fn unless(
+    alloc: Global,
+    cond: Cond,
+    a: LowSource,
+    b: LowSource,
+    answer: LowSource,
+    rest: LowCode,
+) -> Result<LowCode, OutOfMemory> {
+    let one = Box::new(alloc, LowCode::Return(answer))?;
+    let other = Box::new(alloc, LowCode::Done)?;
+    let rest = Box::new(alloc, rest)?;
+    Ok(LowCode::If(cond, a, b, one, other, rest))
 }
 
 // A procedure that takes so many words and has so many.

@@ -1,6 +1,6 @@
 // Long code.
 
-use crate::machines::{alone, answer, assembled, behind, comes_to, number, word};
+use crate::machines::{alone, answer, assembled, change, comes_to, number, set, word};
 use grift_base::lists::OutOfMemory;
 use low_ir::code::{LowCode, WordOp};
 use low_ir::programs::LowProgram;
@@ -12,24 +12,19 @@ use std::test::Fail;
 fn operations(alloc: Global, count: u64, last: LowCode) -> Result<LowCode, OutOfMemory> {
     let mut code = last;
     for _ in 0..count {
-        code = LowCode::Compute(WordOp::Add, 0, word(0), word(1), behind(alloc, code)?);
+        code = change(alloc, WordOp::Add, 0, word(1), code)?;
     }
     Ok(code)
 }
 
 // Two words, where the condition holds of 1 and 1 two thousand operations on them, and the first.
 fn branches(alloc: Global, cond: Cond) -> Result<LowProgram, OutOfMemory> {
-    let long = operations(alloc, 2000, LowCode::Done)?;
-    let test = LowCode::If(
-        cond,
-        word(1),
-        number(1),
-        behind(alloc, long)?,
-        behind(alloc, LowCode::Done)?,
-        behind(alloc, LowCode::Return(word(0)))?,
-    );
-    let second = LowCode::Set(1, number(1), behind(alloc, test)?);
-    alone(alloc, 2, LowCode::Set(0, number(5), behind(alloc, second)?))
+    let one = Box::new(alloc, operations(alloc, 2000, LowCode::Done)?)?;
+    let other = Box::new(alloc, LowCode::Done)?;
+    let rest = Box::new(alloc, LowCode::Return(word(0)))?;
+    let code = LowCode::If(cond, word(1), number(1), one, other, rest);
+    let code = set(alloc, 1, number(1), code)?;
+    alone(alloc, 2, set(alloc, 0, number(5), code)?)
 }
 
 #[test]
@@ -43,8 +38,8 @@ fn a_branch_over_many_bytes(rt: HostRuntime) -> Result<(), Fail> {
 // How many bytes the image of so many operations has.
 fn bytes_of(alloc: Global, count: u64) -> Result<Option<u64>, OutOfMemory> {
     let code = operations(alloc, count, LowCode::Return(word(0)))?;
-    let second = LowCode::Set(1, number(1), behind(alloc, code)?);
-    let low = alone(alloc, 2, LowCode::Set(0, number(5), behind(alloc, second)?))?;
+    let code = set(alloc, 1, number(1), code)?;
+    let low = alone(alloc, 2, set(alloc, 0, number(5), code)?)?;
     match assembled(alloc, &low)? {
         None => Ok(None),
         Some(image) => Ok(Some(image.bytes().len() as u64)),
