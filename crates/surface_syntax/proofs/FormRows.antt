@@ -299,6 +299,12 @@ pub no_number : (r : Pos) (x : List ℕ) (m : Mark) → part_number (marked_symb
 no_number r x (Reserved w) = refl
 no_number r x (Free t) = refl
 
+pub ruleset number_steps = (
+  number_at,
+  number_below,
+  no_number,
+)
+
 pub ruleset form_steps = (
   parse_steps,
   lambda_lacks,

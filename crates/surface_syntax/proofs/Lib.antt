@@ -13,6 +13,7 @@ mod TopsFound
 mod TopsRead
 mod ExprRows
 mod FormRows
+mod FormParts
 mod Shapes
 mod Loops
 mod Bridge

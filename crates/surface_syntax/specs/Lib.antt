@@ -10,8 +10,10 @@ pub mod TopWalk
 pub mod Expansion
 pub mod Pass
 pub mod Views
+pub mod Elements
 pub mod Claims
 pub mod Parts
+pub mod Forms
 pub mod Laws
 pub mod TopParts
 pub mod Programs

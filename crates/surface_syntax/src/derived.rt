@@ -1,14 +1,15 @@
 // Derived forms in terms of the others.
 
-ghost use Rattle.std.specs.Prelude.{◌≡◌, ◌∷◌, [], ℕ, List, IfOk, Some};
+ghost use Rattle.std.specs.Prelude.{◌≡◌, ◌∷◌, [], ℕ, List, IfOk, Some, None};
 ghost use Rattle.type_graph.specs.Rows.{row_of};
 ghost use Rattle.surface_syntax.specs.declared.names.Ident.TheVariants.{Source, Fresh};
-ghost use Rattle.surface_syntax.specs.Trees.{TypeAt, BaseType, ExprAt, PrimNode, IfNode, CallNode};
+ghost use Rattle.surface_syntax.specs.Trees.{TypeAt, BaseType, ExprAt, PrimNode, IfNode, BeginNode, CallNode};
+ghost use Rattle.surface_syntax.specs.Trees.{LetrecNode, ExprThen, LetThen, NoLetrecs, LetrecThen};
 ghost use Rattle.surface_syntax.specs.Expansion.{linked, one_expr, two_exprs, name_at, int_at, typed_param, goes_on};
 ghost use Rattle.surface_syntax.specs.Expansion.{next_count, loop_of, counting, gathering, repeat_of, repeat_into_of};
 ghost use Rattle.surface_syntax.specs.Expansion.{type_or_dyn};
-ghost use Rattle.surface_syntax.specs.Views.{type_of, written_of, param_of, expr_of, exprs_of, lets_of, lambda_of};
-ghost use Rattle.surface_syntax.specs.Views.{source_of};
+ghost use Rattle.surface_syntax.specs.Views.{type_of, written_of, param_of, params_of, expr_of, exprs_of, lets_of};
+ghost use Rattle.surface_syntax.specs.Views.{source_of, lambda_of};
 ghost use Rattle.surface_syntax.specs.Parts.{name_of_binding, type_of_binding, value_of_binding};
 
 use crate::exprs::{Binding, Bindings, Expr, ExprList, ExprNode, LambdaExpr, Member, Members};
@@ -87,11 +88,20 @@ fn int_at(pos: Pos) -> TypeExpr
     base_at(pos, Row::Int)
 }
 
+/// An expression in front of others.
+pub fn cons(alloc: Global, first: Expr, rest: ExprList) -> Result<ExprList, OutOfMemory>
+    ensures { IfOk result (λ list. exprs_of list ≡ ExprThen (expr_of first) (exprs_of rest)) }
+{
+    let first = boxed(alloc, first)?;
+    let rest = boxed(alloc, rest)?;
+    Ok(ExprList::Cons(first, rest))
+}
+
 /// One expression as a list.
 pub fn one(alloc: Global, expr: Expr) -> Result<ExprList, OutOfMemory>
     ensures { IfOk result (λ list. exprs_of list ≡ one_expr (expr_of expr)) }
 {
-    Ok(ExprList::Cons(boxed(alloc, expr)?, boxed(alloc, ExprList::Nil)?))
+    cons(alloc, expr, ExprList::Nil)
 }
 
 /// Two expressions as a list.
@@ -99,7 +109,7 @@ pub fn two(alloc: Global, first: Expr, second: Expr) -> Result<ExprList, OutOfMe
     ensures { IfOk result (λ list. exprs_of list ≡ two_exprs (expr_of first) (expr_of second)) }
 {
     let rest = one(alloc, second)?;
-    Ok(ExprList::Cons(boxed(alloc, first)?, boxed(alloc, rest)?))
+    cons(alloc, first, rest)
 }
 
 // The use of a source's name.
@@ -240,6 +250,62 @@ fn typed_binding(name: u32, ty: TypeExpr, value: Expr) -> Binding
     }
 }
 
+// A binding in front of others.
+fn bound_first(alloc: Global, first: Binding, rest: Bindings) -> Result<Bindings, OutOfMemory>
+    ensures { IfOk result (λ list. lets_of list ≡ LetThen (name_of_binding first) (type_of_binding first)
+        (value_of_binding first) (lets_of rest)) }
+{
+    let first = boxed(alloc, first)?;
+    let rest = boxed(alloc, rest)?;
+    Ok(Bindings::Cons(first, rest))
+}
+
+// The parameter that counts.
+fn counter_param(alloc: Global, pos: Pos, counter: &Name) -> Result<Param, OutOfMemory>
+    ensures { IfOk result (λ param. param_of param ≡ typed_param pos (Source counter.now) (int_at pos)) }
+{
+    let name = source(alloc, counter)?;
+    Ok(typed_param(pos, name, int_at(pos)))
+}
+
+// The body of a loop's function: a turn where the count is below the bound.
+fn loop_body(
+    alloc: Global,
+    pos: Pos,
+    bound: u32,
+    counter: &Name,
+    turn: Expr,
+    done: Expr,
+) -> Result<ExprList, OutOfMemory>
+    ensures { IfOk result (λ body. exprs_of body ≡ one_expr (ExprAt pos (IfNode (goes_on pos (Source counter.now)
+        (Fresh bound)) (expr_of turn) (expr_of done)))) }
+{
+    let test = goes_on(alloc, pos, counter, bound)?;
+    let body = if_at(alloc, pos, test, turn, done)?;
+    one(alloc, body)
+}
+
+// The turn of a loop that only counts: its body, and the call for the next count.
+fn counting_turn(
+    alloc: Global,
+    pos: Pos,
+    function: u32,
+    counter: &Name,
+    body: Expr,
+) -> Result<Expr, OutOfMemory>
+    ensures { IfOk result (λ e. expr_of e ≡ ExprAt pos (BeginNode (two_exprs (expr_of body) (ExprAt pos (CallNode
+        (name_at pos (Fresh function)) (one_expr (next_count pos (Source counter.now)))))))) }
+{
+    let next = next_count(alloc, pos, counter)?;
+    let next = one(alloc, next)?;
+    let call = call_at(alloc, pos, function, next)?;
+    let turn = two(alloc, body, call)?;
+    Ok(Expr {
+        pos,
+        node: ExprNode::Begin(turn),
+    })
+}
+
 // The function of a loop that only counts.
 fn counting(
     alloc: Global,
@@ -250,28 +316,75 @@ fn counting(
 ) -> Result<LambdaExpr, OutOfMemory>
     ensures { IfOk result (λ l. lambda_of l ≡ counting pos names (Source counter.now) (expr_of body)) }
 {
-    let next = one(alloc, next_count(alloc, pos, counter)?)?;
-    let turn = two(alloc, body, call_at(alloc, pos, names.function, next)?)?;
-    let turn = Expr {
-        pos,
-        node: ExprNode::Begin(turn),
-    };
+    let turn = counting_turn(alloc, pos, names.function, counter, body)?;
     let done = Expr {
         pos,
         node: ExprNode::Unit,
     };
-    let test = goes_on(alloc, pos, counter, names.bound)?;
-    let body = if_at(alloc, pos, test, turn, done)?;
-    let params = one_param(
-        alloc,
-        typed_param(pos, source(alloc, counter)?, int_at(pos)),
-    )?;
+    let body = loop_body(alloc, pos, names.bound, counter, turn, done)?;
+    let param = counter_param(alloc, pos, counter)?;
+    let params = one_param(alloc, param)?;
     Ok(LambdaExpr {
         pos,
         params,
         result: Some(base_at(pos, Row::Unit)),
-        body: one(alloc, body)?,
+        body,
     })
+}
+
+// An accumulator: its name, its type and its first value.
+#[derive(Drop)]
+struct Sum {
+    name: Name,
+    ty: TypeExpr,
+    value: Expr,
+}
+
+// The accumulator that is bound so; its type is Dyn where none is written.
+fn sum_of(alloc: Global, pos: Pos, start: Binding) -> Result<Sum, OutOfMemory>
+    ensures name { IfOk result (λ sum. sum.name ≡ source_of (name_of_binding start)) }
+    ensures written { IfOk result (λ sum. type_of sum.ty ≡ type_or_dyn pos (type_of_binding start)) }
+    ensures value { IfOk result (λ sum. expr_of sum.value ≡ value_of_binding start) }
+{
+    let name = bytes_of(alloc, &start.name)?;
+    Ok(Sum {
+        name,
+        ty: type_or_dyn(pos, start.ty),
+        value: start.value,
+    })
+}
+
+// The parameters of a loop's function: the counter and the accumulator.
+fn gathering_params(
+    alloc: Global,
+    pos: Pos,
+    counter: &Name,
+    sum: &Name,
+    ty: &TypeExpr,
+) -> Result<Params, OutOfMemory>
+    ensures { IfOk result (λ params. params_of params ≡ typed_param pos (Source counter.now) (int_at pos)
+        ∷ typed_param pos (Source sum.now) (type_of ty.now) ∷ []) }
+{
+    let first = counter_param(alloc, pos, counter)?;
+    let name = source(alloc, sum)?;
+    let ty = ty.duplicate(alloc)?;
+    two_params(alloc, first, typed_param(pos, name, ty))
+}
+
+// The turn of a loop with an accumulator: the call for the next count and the next sum.
+fn gathering_turn(
+    alloc: Global,
+    pos: Pos,
+    function: u32,
+    counter: &Name,
+    body: Expr,
+) -> Result<Expr, OutOfMemory>
+    ensures { IfOk result (λ e. expr_of e ≡ ExprAt pos (CallNode (name_at pos (Fresh function)) (two_exprs
+        (next_count pos (Source counter.now)) (expr_of body)))) }
+{
+    let next = next_count(alloc, pos, counter)?;
+    let next = two(alloc, next, body)?;
+    call_at(alloc, pos, function, next)
 }
 
 // The function of a loop that hands an accumulator on.
@@ -287,19 +400,74 @@ fn gathering(
     ensures { IfOk result (λ l. lambda_of l ≡ gathering pos names (Source counter.now) (Source sum.now)
         (type_of ty.now) (expr_of body)) }
 {
-    let next = two(alloc, next_count(alloc, pos, counter)?, body)?;
-    let turn = call_at(alloc, pos, names.function, next)?;
+    let turn = gathering_turn(alloc, pos, names.function, counter, body)?;
     let done = source_at(alloc, pos, sum)?;
-    let test = goes_on(alloc, pos, counter, names.bound)?;
-    let body = if_at(alloc, pos, test, turn, done)?;
-    let first = typed_param(pos, source(alloc, counter)?, int_at(pos));
-    let second = typed_param(pos, source(alloc, sum)?, ty.duplicate(alloc)?);
+    let body = loop_body(alloc, pos, names.bound, counter, turn, done)?;
+    let params = gathering_params(alloc, pos, counter, sum, ty)?;
+    let result = ty.duplicate(alloc)?;
     Ok(LambdaExpr {
         pos,
-        params: two_params(alloc, first, second)?,
-        result: Some(ty.duplicate(alloc)?),
-        body: one(alloc, body)?,
+        params,
+        result: Some(result),
+        body,
     })
+}
+
+// The first call of a loop's function.
+fn loop_call(
+    alloc: Global,
+    pos: Pos,
+    names: LoopNames,
+    arguments: ExprList,
+) -> Result<Expr, OutOfMemory>
+    ensures { IfOk result (λ e. expr_of e ≡ ExprAt pos (CallNode (name_at pos (Fresh names.function)) (ExprThen
+        (name_at pos (Fresh names.start)) (exprs_of arguments)))) }
+{
+    let arguments = cons(alloc, fresh_at(pos, names.start), arguments)?;
+    call_at(alloc, pos, names.function, arguments)
+}
+
+// One function under a fresh name, and an expression in its scope.
+fn with_function(
+    alloc: Global,
+    pos: Pos,
+    name: u32,
+    lambda: LambdaExpr,
+    body: Expr,
+) -> Result<Expr, OutOfMemory>
+    ensures { IfOk result (λ e. expr_of e ≡ ExprAt pos (LetrecNode (LetrecThen (Fresh name) None (lambda_of lambda)
+        NoLetrecs) (one_expr (expr_of body)))) }
+{
+    let member = Member {
+        name: Ident::Fresh(name),
+        ty: None,
+        fun: lambda,
+    };
+    let member = boxed(alloc, member)?;
+    let members = Members::Cons(member, boxed(alloc, Members::Nil)?);
+    let body = one(alloc, body)?;
+    Ok(Expr {
+        pos,
+        node: ExprNode::Letrec(members, body),
+    })
+}
+
+// The bindings of a loop: its first count, its bound and others.
+fn loop_bindings(
+    alloc: Global,
+    pos: Pos,
+    names: LoopNames,
+    bounds: (Expr, Expr),
+    others: Bindings,
+) -> Result<Bindings, OutOfMemory>
+    ensures { IfOk result (λ list. lets_of list ≡ LetThen (Fresh names.start) (Some (int_at pos)) (expr_of bounds.0)
+        (LetThen (Fresh names.bound) (Some (int_at pos)) (expr_of bounds.1) (lets_of others))) }
+{
+    let (first, bound) = bounds;
+    let bound = typed_binding(names.bound, int_at(pos), bound);
+    let bindings = bound_first(alloc, bound, others)?;
+    let start = typed_binding(names.start, int_at(pos), first);
+    bound_first(alloc, start, bindings)
 }
 
 // A loop: its names, its function and the call of it.
@@ -315,31 +483,13 @@ fn loop_of(
     ensures { IfOk result (λ e. expr_of e ≡ loop_of pos names (expr_of bounds.0) (expr_of bounds.1)
         (lets_of others) (lambda_of lambda) (exprs_of arguments)) }
 {
-    let start = boxed(alloc, fresh_at(pos, names.start))?;
-    let call = call_at(
-        alloc,
-        pos,
-        names.function,
-        ExprList::Cons(start, boxed(alloc, arguments)?),
-    )?;
-    let member = Member {
-        name: Ident::Fresh(names.function),
-        ty: None,
-        fun: lambda,
-    };
-    let members = Members::Cons(boxed(alloc, member)?, boxed(alloc, Members::Nil)?);
-    let body = Expr {
-        pos,
-        node: ExprNode::Letrec(members, one(alloc, call)?),
-    };
-    let (first, bound) = bounds;
-    let bound = typed_binding(names.bound, int_at(pos), bound);
-    let bindings = Bindings::Cons(boxed(alloc, bound)?, boxed(alloc, others)?);
-    let start = typed_binding(names.start, int_at(pos), first);
-    let bindings = Bindings::Cons(boxed(alloc, start)?, boxed(alloc, bindings)?);
+    let call = loop_call(alloc, pos, names, arguments)?;
+    let body = with_function(alloc, pos, names.function, lambda, call)?;
+    let body = one(alloc, body)?;
+    let bindings = loop_bindings(alloc, pos, names, bounds, others)?;
     Ok(Expr {
         pos,
-        node: ExprNode::Let(bindings, one(alloc, body)?),
+        node: ExprNode::Let(bindings, body),
     })
 }
 
@@ -390,11 +540,10 @@ pub fn gathering_loop(
         (expr_of range.first) (expr_of range.bound) (source_of (name_of_binding start))
         (type_or_dyn pos (type_of_binding start)) (value_of_binding start) (expr_of body)) }
 {
-    let sum = bytes_of(alloc, &start.name)?;
-    let ty = type_or_dyn(pos, start.ty);
-    let lambda = gathering(alloc, pos, names, &range.counter, &sum, &ty, body)?;
-    let binding = typed_binding(value, ty, start.value);
-    let others = Bindings::Cons(boxed(alloc, binding)?, boxed(alloc, Bindings::Nil)?);
+    let sum = sum_of(alloc, pos, start)?;
+    let lambda = gathering(alloc, pos, names, &range.counter, &sum.name, &sum.ty, body)?;
+    let binding = typed_binding(value, sum.ty, sum.value);
+    let others = bound_first(alloc, binding, Bindings::Nil)?;
     let arguments = one(alloc, fresh_at(pos, value))?;
     loop_of(
         alloc,

@@ -1,36 +1,40 @@
 // Expressions from s-expressions. `names` counts the fresh names so far.
-#![tactic(auto, using(crate::proofs::FormRows::form_steps), unfolding(crate::specs::Pass::then_with, crate::specs::Pass::with_names))]
+#![tactic(auto)]
 
 ghost use Rattle.std.specs.Prelude.{◌≡◌, ◌++◌, ◌∷◌, [], IfOk};
 ghost use Rattle.sexpr_reader.specs.View.{datum_of, datums_of};
 ghost use Rattle.surface_syntax.specs.declared.names.Ident.TheVariants.{Source};
-ghost use Rattle.surface_syntax.specs.declared.words.Word.TheVariants.{Let, Letrec, If, Begin, Colon, Repeat};
-ghost use Rattle.surface_syntax.specs.declared.words.Word.TheVariants.{Tuple, TupleProj, Operator};
-ghost use Rattle.surface_syntax.specs.Marked.{marked, all_marked, word as word_here, ◌▹◌};
-ghost use Rattle.surface_syntax.specs.TopWalk.{has_body};
-ghost use Rattle.surface_syntax.specs.Pass.{parse, parse_list, parse_each, parse_within, parse_lambda, parse_binding};
-ghost use Rattle.surface_syntax.specs.Pass.{parse_lets, parse_member, parse_lambda_form, parse_letrecs, parse_range};
+ghost use Rattle.surface_syntax.specs.Marked.{marked, all_marked, marked_symbol};
+ghost use Rattle.surface_syntax.specs.Words.{mark_of};
+ghost use Rattle.surface_syntax.specs.Walking.{Reads};
+ghost use Rattle.surface_syntax.specs.Pass.{parse, parse_list, parse_each, parse_within, parse_binding, parse_lets};
+ghost use Rattle.surface_syntax.specs.Pass.{parse_member, parse_lambda_form, parse_letrecs, parse_range};
 ghost use Rattle.surface_syntax.specs.Views.{params_of, source_of, expr_of, exprs_of, lets_of, letrecs_of};
 ghost use Rattle.surface_syntax.specs.Views.{lambda_of};
-ghost use Rattle.surface_syntax.specs.Parts.{parse_call, parse_chain, parse_behind, part_number};
-ghost use Rattle.surface_syntax.specs.Parts.{range_of, name_of_binding, bound_of, name_of_member, member_of};
+ghost use Rattle.surface_syntax.specs.Parts.{parse_call, parse_behind, part_number, range_of, name_of_binding, bound_of};
+ghost use Rattle.surface_syntax.specs.Parts.{name_of_member, member_of};
+ghost use Rattle.surface_syntax.specs.Forms.{let_of, letrec_of, if_of, ascribed, ascription_of, projected};
+ghost use Rattle.surface_syntax.specs.Forms.{projection_of, applied_of, parse_operands, repeat_form_of, headed_of};
+ghost use Rattle.surface_syntax.specs.Forms.{lambda_from};
 ghost use Rattle.surface_syntax.specs.Claims.{Answers, Parses};
 
 use crate::collect::{binding_list, expr_list, member_list, push};
-use crate::derived::{Range, if_at, source};
-use crate::exprs::{Binding, Bindings, Expr, ExprList, ExprNode, LambdaExpr, Member, Members};
-use crate::lists::{
-    bad_form, binder, boxed, has_length, is_colon_at, is_lambda_at, refused, some, word_at,
+use crate::derived::{Range, cons, if_at, source};
+use crate::elements::{
+    behind_lambda, bound_parts, lambda_parts, names_and_body, range_parts, repeat_parts, three_of,
+    two_of, typed_body,
 };
+use crate::exprs::{Binding, Bindings, Expr, ExprList, ExprNode, LambdaExpr, Member, Members};
+use crate::lists::{bad_form, boxed, refused, word_at};
 use crate::names::Ident;
-use crate::params::{param_list, typed_name};
+use crate::operands::{Head, applied_to, called, room};
+use crate::params::{bound_name, only_name, param_list};
 use crate::repeats::{counted_repeat, gathered_repeat};
 use crate::scopes::Scope;
 use crate::type_forms::type_expr;
 use crate::types::Params;
-use crate::words::{Mark, Word, mark_of, operand_count};
+use crate::words::{Mark, Word, mark_of};
 use grift_base::lists::{Name, OutOfMemory};
-use grift_base::operators::PrimOp;
 use grift_base::places::Pos;
 use grift_base::refusals::{FrontFault, RefusalKind};
 use sexpr_reader::sexps::{Sexp, SexpList, SexpNode};
@@ -38,9 +42,6 @@ use std::alloc::Global;
 
 /// The most arguments of a call.
 const MOST_ARGUMENTS: u64 = 6;
-
-/// The most parts of a tuple, and the most operands of `and` and `or`.
-const MOST_PARTS: u64 = 8;
 
 // The scope that binds this name alone.
 fn scope_of(alloc: Global, name: &Name) -> Result<Scope, OutOfMemory>
@@ -52,6 +53,7 @@ fn scope_of(alloc: Global, name: &Name) -> Result<Scope, OutOfMemory>
 }
 
 // The number of a tuple's part.
+#[tactic(auto, using(crate::proofs::FormRows::number_steps))]
 fn part_number(sexp: &Sexp) -> Result<i64, FrontFault>
     ensures { Answers result (λ k. k) (part_number (marked (datum_of sexp.now))) }
 {
@@ -61,20 +63,44 @@ fn part_number(sexp: &Sexp) -> Result<i64, FrontFault>
     }
 }
 
-/// Whether there is a body behind the parameters of a lambda.
-pub fn has_body(elements: &SexpList) -> bool
-    ensures { result ≡ has_body (all_marked (datums_of elements.now)) }
+// The part of a tuple with this number.
+#[tactic(auto, using(crate::proofs::Steps::walk_steps), unfolding(crate::specs::Walking::followed_by))]
+fn projected(alloc: Global, pos: Pos, tuple: Expr, number: &Sexp) -> Result<Expr, FrontFault>
+    ensures { Answers result expr_of (projected pos (expr_of tuple) (marked (datum_of number.now))) }
 {
-    let SexpList::Cons(first, rest) = elements else {
-        return false;
-    };
-    if !is_colon_at(first) {
-        return true;
+    let part = part_number(number)?;
+    let tuple = boxed(alloc, tuple)?;
+    Ok(Expr {
+        pos,
+        node: ExprNode::Proj(tuple, part, number.pos),
+    })
+}
+
+// An expression at the type that this writes.
+#[tactic(auto, using(crate::proofs::Steps::walk_steps), unfolding(crate::specs::Walking::followed_by))]
+fn ascribed(alloc: Global, pos: Pos, inner: Expr, written: &Sexp) -> Result<Expr, FrontFault>
+    ensures { Answers result expr_of (ascribed pos (expr_of inner) (marked (datum_of written.now))) }
+{
+    let ty = type_expr(alloc, written)?;
+    let inner = boxed(alloc, inner)?;
+    Ok(Expr {
+        pos,
+        node: ExprNode::Ascribe(inner, ty),
+    })
+}
+
+// The use of a name.
+fn symbol(alloc: Global, pos: Pos, name: &Name) -> Result<Expr, FrontFault>
+    ensures { (names : _) → Parses result expr_of names (parse (marked_symbol pos name.now (mark_of name.now)) names) }
+{
+    if let Mark::Reserved(_) = mark_of(name.as_slice()) {
+        return bad_form(pos);
     }
-    let SexpList::Cons(_, body) = &**rest else {
-        return false;
-    };
-    matches!(&**body, SexpList::Cons(..))
+    let name = source(alloc, name)?;
+    Ok(Expr {
+        pos,
+        node: ExprNode::Name(name),
+    })
 }
 
 /// The expression that an s-expression is.
@@ -92,13 +118,7 @@ pub fn expr(alloc: Global, names: &mut u32, sexp: &Sexp) -> Result<Expr, FrontFa
             pos,
             node: ExprNode::Bool(*truth),
         }),
-        SexpNode::Symbol(name) => match mark_of(name.as_slice()) {
-            Mark::Reserved(_) => bad_form(pos),
-            Mark::Free(_) => Ok(Expr {
-                pos,
-                node: ExprNode::Name(source(alloc, name)?),
-            }),
-        },
+        SexpNode::Symbol(name) => symbol(alloc, pos, name),
         SexpNode::List(elements) => list(alloc, names, pos, elements),
     }
 }
@@ -132,8 +152,7 @@ fn headed(
     word: Word,
     rest: &SexpList,
 ) -> Result<Expr, FrontFault>
-    ensures { Parses result expr_of names.new (parse_list pos (word_here pos word ▹ all_marked (datums_of rest.now))
-        names.old) }
+    ensures { Parses result expr_of names.new (headed_of word pos (all_marked (datums_of rest.now)) names.old) }
 {
     match word {
         Word::Lambda => {
@@ -146,14 +165,14 @@ fn headed(
         Word::Let => let_form(alloc, names, pos, rest),
         Word::Letrec => letrec_form(alloc, names, pos, rest),
         Word::If => if_form(alloc, names, pos, rest),
-        Word::Begin => begin(alloc, names, pos, rest),
+        Word::Begin => applied(alloc, names, pos, Head::Begin, rest),
         Word::Colon => ascription(alloc, names, pos, rest),
-        Word::And => chain(alloc, names, pos, true, rest),
-        Word::Or => chain(alloc, names, pos, false, rest),
+        Word::And => applied(alloc, names, pos, Head::And, rest),
+        Word::Or => applied(alloc, names, pos, Head::Or, rest),
         Word::Repeat => repeat(alloc, names, pos, rest),
-        Word::Tuple => tuple(alloc, names, pos, rest),
+        Word::Tuple => applied(alloc, names, pos, Head::Tuple, rest),
         Word::TupleProj => projection(alloc, names, pos, rest),
-        Word::Operator(operator) => operation(alloc, names, pos, operator, rest),
+        Word::Operator(operator) => applied(alloc, names, pos, Head::Operator(operator), rest),
         Word::Define | Word::Arrow | Word::ReadInt => bad_form(pos),
     }
 }
@@ -167,24 +186,14 @@ fn call(alloc: Global, names: &mut u32, pos: Pos, elements: &SexpList) -> Result
     };
     let function = expr(alloc, names, function)?;
     let arguments = within(alloc, names, MOST_ARGUMENTS, arguments)?;
-    Ok(Expr {
-        pos,
-        node: ExprNode::Call(boxed(alloc, function)?, arguments),
-    })
+    Ok(called(alloc, pos, function, arguments)?)
 }
 
 #[cycle(read_form)]
 fn let_form(alloc: Global, names: &mut u32, pos: Pos, rest: &SexpList) -> Result<Expr, FrontFault>
-    ensures { Parses result expr_of names.new (parse_list pos (word_here pos Let ▹ all_marked (datums_of rest.now))
-        names.old) }
+    ensures { Parses result expr_of names.new (let_of pos (all_marked (datums_of rest.now)) names.old) }
 {
-    let SexpList::Cons(second, body) = rest else {
-        return bad_form(pos);
-    };
-    some(pos, body)?;
-    let SexpNode::List(bindings) = &second.node else {
-        return bad_form(second.pos);
-    };
+    let (bindings, body) = names_and_body(pos, rest)?;
     let bindings = lets(alloc, names, bindings)?;
     let body = each(alloc, names, body)?;
     Ok(Expr {
@@ -200,16 +209,9 @@ fn letrec_form(
     pos: Pos,
     rest: &SexpList,
 ) -> Result<Expr, FrontFault>
-    ensures { Parses result expr_of names.new (parse_list pos (word_here pos Letrec ▹ all_marked (datums_of
-        rest.now)) names.old) }
+    ensures { Parses result expr_of names.new (letrec_of pos (all_marked (datums_of rest.now)) names.old) }
 {
-    let SexpList::Cons(second, body) = rest else {
-        return bad_form(pos);
-    };
-    some(pos, body)?;
-    let SexpNode::List(members) = &second.node else {
-        return bad_form(second.pos);
-    };
+    let (members, body) = names_and_body(pos, rest)?;
     let members = letrecs(alloc, names, members)?;
     let body = each(alloc, names, body)?;
     Ok(Expr {
@@ -220,160 +222,82 @@ fn letrec_form(
 
 #[cycle(read_form)]
 fn if_form(alloc: Global, names: &mut u32, pos: Pos, rest: &SexpList) -> Result<Expr, FrontFault>
-    ensures { Parses result expr_of names.new (parse_list pos (word_here pos If ▹ all_marked (datums_of rest.now))
-        names.old) }
+    ensures { Parses result expr_of names.new (if_of pos (all_marked (datums_of rest.now)) names.old) }
 {
-    let SexpList::Cons(condition, rest) = rest else {
-        return bad_form(pos);
-    };
-    let SexpList::Cons(on_true, rest) = &**rest else {
-        return bad_form(pos);
-    };
-    let SexpList::Cons(on_false, rest) = &**rest else {
-        return bad_form(pos);
-    };
-    let SexpList::Nil = &**rest else {
-        return bad_form(pos);
-    };
-    let condition = expr(alloc, names, condition)?;
-    let on_true = expr(alloc, names, on_true)?;
-    let on_false = expr(alloc, names, on_false)?;
+    let parts = three_of(pos, rest)?;
+    let condition = expr(alloc, names, parts.first)?;
+    let on_true = expr(alloc, names, parts.second)?;
+    let on_false = expr(alloc, names, parts.third)?;
     Ok(if_at(alloc, pos, condition, on_true, on_false)?)
 }
 
 #[cycle(read_form)]
-fn begin(alloc: Global, names: &mut u32, pos: Pos, rest: &SexpList) -> Result<Expr, FrontFault>
-    ensures { Parses result expr_of names.new (parse_list pos (word_here pos Begin ▹ all_marked (datums_of rest.now))
-        names.old) }
-{
-    some(pos, rest)?;
-    let body = each(alloc, names, rest)?;
-    Ok(Expr {
-        pos,
-        node: ExprNode::Begin(body),
-    })
-}
-
-#[cycle(read_form)]
 fn ascription(alloc: Global, names: &mut u32, pos: Pos, rest: &SexpList) -> Result<Expr, FrontFault>
-    ensures { Parses result expr_of names.new (parse_list pos (word_here pos Colon ▹ all_marked (datums_of rest.now))
-        names.old) }
+    ensures { Parses result expr_of names.new (ascription_of pos (all_marked (datums_of rest.now)) names.old) }
 {
-    let SexpList::Cons(inner, rest) = rest else {
-        return bad_form(pos);
-    };
-    let SexpList::Cons(written, rest) = &**rest else {
-        return bad_form(pos);
-    };
-    let SexpList::Nil = &**rest else {
-        return bad_form(pos);
-    };
+    let (inner, written) = two_of(pos, rest)?;
     let inner = expr(alloc, names, inner)?;
-    let ty = type_expr(alloc, written)?;
-    Ok(Expr {
-        pos,
-        node: ExprNode::Ascribe(boxed(alloc, inner)?, ty),
-    })
-}
-
-// An `and`, where all operands are to hold, or an `or`.
-#[cycle(read_form)]
-fn chain(
-    alloc: Global,
-    names: &mut u32,
-    pos: Pos,
-    all: bool,
-    rest: &SexpList,
-) -> Result<Expr, FrontFault>
-    ensures { Parses result expr_of names.new (parse_chain all pos (all_marked (datums_of rest.now)) names.old) }
-{
-    let operands = within(alloc, names, MOST_PARTS, rest)?;
-    Ok(operands.chain(alloc, all, pos)?)
-}
-
-#[cycle(read_form)]
-fn repeat(alloc: Global, names: &mut u32, pos: Pos, rest: &SexpList) -> Result<Expr, FrontFault>
-    ensures { Parses result expr_of names.new (parse_list pos (word_here pos Repeat ▹ all_marked (datums_of
-        rest.now)) names.old) }
-{
-    let SexpList::Cons(head, rest) = rest else {
-        return bad_form(pos);
-    };
-    let SexpList::Cons(second, rest) = &**rest else {
-        return bad_form(pos);
-    };
-    let SexpList::Cons(third, rest) = &**rest else {
-        let range = range(alloc, names, head)?;
-        let body = expr(alloc, names, second)?;
-        return Ok(counted_repeat(alloc, names, pos, range, body)?);
-    };
-    let SexpList::Nil = &**rest else {
-        return bad_form(pos);
-    };
-    let range = range(alloc, names, head)?;
-    let mut scope = scope_of(alloc, &range.counter)?;
-    let start = binding(alloc, names, &mut scope, second)?;
-    let body = expr(alloc, names, third)?;
-    Ok(gathered_repeat(alloc, names, pos, range, start, body)?)
-}
-
-#[cycle(read_form)]
-fn tuple(alloc: Global, names: &mut u32, pos: Pos, rest: &SexpList) -> Result<Expr, FrontFault>
-    ensures { Parses result expr_of names.new (parse_list pos (word_here pos Tuple ▹ all_marked (datums_of rest.now))
-        names.old) }
-{
-    some(pos, rest)?;
-    let parts = within(alloc, names, MOST_PARTS, rest)?;
-    Ok(Expr {
-        pos,
-        node: ExprNode::Tuple(parts),
-    })
+    ascribed(alloc, pos, inner, written)
 }
 
 #[cycle(read_form)]
 fn projection(alloc: Global, names: &mut u32, pos: Pos, rest: &SexpList) -> Result<Expr, FrontFault>
-    ensures { Parses result expr_of names.new (parse_list pos (word_here pos TupleProj ▹ all_marked (datums_of
-        rest.now)) names.old) }
+    ensures { Parses result expr_of names.new (projection_of pos (all_marked (datums_of rest.now)) names.old) }
 {
-    let SexpList::Cons(tuple, rest) = rest else {
-        return bad_form(pos);
-    };
-    let SexpList::Cons(number, rest) = &**rest else {
-        return bad_form(pos);
-    };
-    let SexpList::Nil = &**rest else {
-        return bad_form(pos);
-    };
+    let (tuple, number) = two_of(pos, rest)?;
     let tuple = expr(alloc, names, tuple)?;
-    let part = part_number(number)?;
-    Ok(Expr {
-        pos,
-        node: ExprNode::Proj(boxed(alloc, tuple)?, part, number.pos),
-    })
+    projected(alloc, pos, tuple, number)
 }
 
+// A form that is a head and operands.
 #[cycle(read_form)]
-fn operation(
+fn applied(
     alloc: Global,
     names: &mut u32,
     pos: Pos,
-    operator: PrimOp,
+    head: Head,
     rest: &SexpList,
 ) -> Result<Expr, FrontFault>
-    ensures { Parses result expr_of names.new (parse_list pos (word_here pos (Operator operator) ▹ all_marked
-        (datums_of rest.now)) names.old) }
+    ensures { Parses result expr_of names.new (applied_of head pos (all_marked (datums_of rest.now)) names.old) }
 {
-    if !has_length(rest, operand_count(operator)) {
-        return bad_form(pos);
-    }
-    let operands = each(alloc, names, rest)?;
-    Ok(Expr {
-        pos,
-        node: ExprNode::Prim(operator, operands),
-    })
+    let room = room(head, pos, rest)?;
+    let operands = operands(alloc, names, room, rest)?;
+    Ok(applied_to(alloc, head, pos, operands)?)
 }
 
-/// The expressions in a list.
+// Expressions of which there may be so many, or any number.
+#[cycle(read_form)]
+fn operands(
+    alloc: Global,
+    names: &mut u32,
+    room: Option<u64>,
+    rest: &SexpList,
+) -> Result<ExprList, FrontFault>
+    ensures { Parses result exprs_of names.new (parse_operands room (all_marked (datums_of rest.now)) names.old) }
+{
+    match room {
+        None => each(alloc, names, rest),
+        Some(room) => within(alloc, names, room, rest),
+    }
+}
+
+#[cycle(read_form)]
+fn repeat(alloc: Global, names: &mut u32, pos: Pos, rest: &SexpList) -> Result<Expr, FrontFault>
+    ensures { Parses result expr_of names.new (repeat_form_of pos (all_marked (datums_of rest.now)) names.old) }
+{
+    let parts = repeat_parts(pos, rest)?;
+    let range = range(alloc, names, parts.head)?;
+    let Some(start) = parts.start else {
+        let body = expr(alloc, names, parts.body)?;
+        return Ok(counted_repeat(alloc, names, pos, range, body)?);
+    };
+    let mut scope = scope_of(alloc, &range.counter)?;
+    let start = binding(alloc, names, &mut scope, start)?;
+    let body = expr(alloc, names, parts.body)?;
+    Ok(gathered_repeat(alloc, names, pos, range, start, body)?)
+}
+
+// Expressions one after another.
 #[cycle(read_form)]
 fn each(alloc: Global, names: &mut u32, list: &SexpList) -> Result<ExprList, FrontFault>
     ensures { Parses result exprs_of names.new (parse_each (all_marked (datums_of list.now)) names.old) }
@@ -388,7 +312,7 @@ fn each(alloc: Global, names: &mut u32, list: &SexpList) -> Result<ExprList, Fro
     Ok(expr_list(alloc, gathered)?)
 }
 
-// Expressions of which there may be so many: eight at most.
+// Expressions of which there may be so many.
 #[cycle(read_form)]
 fn within(
     alloc: Global,
@@ -404,9 +328,9 @@ fn within(
     if room == 0 {
         return refused(RefusalKind::TooWide, first.pos);
     }
-    let first = boxed(alloc, expr(alloc, names, first)?)?;
-    let rest = boxed(alloc, within(alloc, names, room - 1, rest)?)?;
-    Ok(ExprList::Cons(first, rest))
+    let first = expr(alloc, names, first)?;
+    let rest = within(alloc, names, room - 1, rest)?;
+    Ok(cons(alloc, first, rest)?)
 }
 
 // A lambda without its head.
@@ -417,14 +341,9 @@ fn lambda(
     pos: Pos,
     elements: &SexpList,
 ) -> Result<LambdaExpr, FrontFault>
-    ensures { Parses result lambda_of names.new (parse_lambda pos (all_marked (datums_of elements.now)) names.old) }
+    ensures { Parses result lambda_of names.new (lambda_from pos (all_marked (datums_of elements.now)) names.old) }
 {
-    let SexpList::Cons(params, rest) = elements else {
-        return bad_form(pos);
-    };
-    if !has_body(rest) {
-        return bad_form(pos);
-    }
+    let (params, rest) = lambda_parts(pos, elements)?;
     let params = param_list(alloc, params)?;
     lambda_with(alloc, names, pos, params, rest)
 }
@@ -441,10 +360,8 @@ pub fn lambda_with(
     ensures { Parses result lambda_of names.new (parse_behind pos (params_of params) (all_marked (datums_of
         rest.now)) names.old) }
 {
-    let SexpList::Cons(second, body) = rest else {
-        return bad_form(pos);
-    };
-    if !is_colon_at(second) {
+    let typed = typed_body(pos, rest)?;
+    let Some(typed) = typed else {
         let body = each(alloc, names, rest)?;
         return Ok(LambdaExpr {
             pos,
@@ -452,12 +369,9 @@ pub fn lambda_with(
             result: None,
             body,
         });
-    }
-    let SexpList::Cons(written, body) = &**body else {
-        return bad_form(pos);
     };
-    let result_type = type_expr(alloc, written)?;
-    let body = each(alloc, names, body)?;
+    let result_type = type_expr(alloc, typed.written)?;
+    let body = each(alloc, names, typed.body)?;
     Ok(LambdaExpr {
         pos,
         params,
@@ -479,35 +393,12 @@ fn binding(
     ensures bound { IfOk result (λ b. scope.new ≡ scope.old ++ source_of (name_of_binding b) ∷ []) }
     ensures source { IfOk result (λ b. name_of_binding b ≡ Source (source_of (name_of_binding b))) }
 {
-    let SexpNode::List(elements) = &sexp.node else {
-        return bad_form(sexp.pos);
-    };
-    let SexpList::Cons(name, rest) = elements else {
-        return bad_form(sexp.pos);
-    };
-    let SexpList::Cons(second, rest) = &**rest else {
-        return bad_form(sexp.pos);
-    };
-    let SexpList::Cons(third, rest) = &**rest else {
-        let name = Ident::Source(binder(alloc, scope, name)?);
-        let value = expr(alloc, names, second)?;
-        return Ok(Binding {
-            name,
-            ty: None,
-            value,
-        });
-    };
-    let SexpList::Cons(fourth, rest) = &**rest else {
-        return bad_form(sexp.pos);
-    };
-    let SexpList::Nil = &**rest else {
-        return bad_form(sexp.pos);
-    };
-    let typed = typed_name(alloc, scope, name, second, third)?;
-    let value = expr(alloc, names, fourth)?;
+    let parts = bound_parts(sexp)?;
+    let bound = bound_name(alloc, scope, parts.name, parts.written)?;
+    let value = expr(alloc, names, parts.value)?;
     Ok(Binding {
-        name: Ident::Source(typed.name),
-        ty: Some(typed.ty),
+        name: Ident::Source(bound.name),
+        ty: bound.ty,
         value,
     })
 }
@@ -541,35 +432,12 @@ fn member(
     ensures bound { IfOk result (λ m. scope.new ≡ scope.old ++ source_of (name_of_member m) ∷ []) }
     ensures source { IfOk result (λ m. name_of_member m ≡ Source (source_of (name_of_member m))) }
 {
-    let SexpNode::List(elements) = &sexp.node else {
-        return bad_form(sexp.pos);
-    };
-    let SexpList::Cons(name, rest) = elements else {
-        return bad_form(sexp.pos);
-    };
-    let SexpList::Cons(second, rest) = &**rest else {
-        return bad_form(sexp.pos);
-    };
-    let SexpList::Cons(third, rest) = &**rest else {
-        let name = Ident::Source(binder(alloc, scope, name)?);
-        let fun = function(alloc, names, second)?;
-        return Ok(Member {
-            name,
-            ty: None,
-            fun,
-        });
-    };
-    let SexpList::Cons(fourth, rest) = &**rest else {
-        return bad_form(sexp.pos);
-    };
-    let SexpList::Nil = &**rest else {
-        return bad_form(sexp.pos);
-    };
-    let typed = typed_name(alloc, scope, name, second, third)?;
-    let fun = function(alloc, names, fourth)?;
+    let parts = bound_parts(sexp)?;
+    let bound = bound_name(alloc, scope, parts.name, parts.written)?;
+    let fun = function(alloc, names, parts.value)?;
     Ok(Member {
-        name: Ident::Source(typed.name),
-        ty: Some(typed.ty),
+        name: Ident::Source(bound.name),
+        ty: bound.ty,
         fun,
     })
 }
@@ -595,16 +463,8 @@ fn letrecs(alloc: Global, names: &mut u32, list: &SexpList) -> Result<Members, F
 pub fn function(alloc: Global, names: &mut u32, sexp: &Sexp) -> Result<LambdaExpr, FrontFault>
     ensures { Parses result lambda_of names.new (parse_lambda_form (marked (datum_of sexp.now)) names.old) }
 {
-    let SexpNode::List(elements) = &sexp.node else {
-        return bad_form(sexp.pos);
-    };
-    let SexpList::Cons(head, rest) = elements else {
-        return bad_form(sexp.pos);
-    };
-    if !is_lambda_at(head) {
-        return bad_form(sexp.pos);
-    }
-    lambda(alloc, names, sexp.pos, rest)
+    let elements = behind_lambda(sexp)?;
+    lambda(alloc, names, sexp.pos, elements)
 }
 
 // The head of a `repeat`.
@@ -612,25 +472,10 @@ pub fn function(alloc: Global, names: &mut u32, sexp: &Sexp) -> Result<LambdaExp
 fn range(alloc: Global, names: &mut u32, sexp: &Sexp) -> Result<Range, FrontFault>
     ensures { Parses result range_of names.new (parse_range (marked (datum_of sexp.now)) names.old) }
 {
-    let SexpNode::List(elements) = &sexp.node else {
-        return bad_form(sexp.pos);
-    };
-    let SexpList::Cons(counter, rest) = elements else {
-        return bad_form(sexp.pos);
-    };
-    let SexpList::Cons(first, rest) = &**rest else {
-        return bad_form(sexp.pos);
-    };
-    let SexpList::Cons(bound, rest) = &**rest else {
-        return bad_form(sexp.pos);
-    };
-    let SexpList::Nil = &**rest else {
-        return bad_form(sexp.pos);
-    };
-    let mut scope = Scope::new(alloc);
-    let counter = binder(alloc, &mut scope, counter)?;
-    let first = expr(alloc, names, first)?;
-    let bound = expr(alloc, names, bound)?;
+    let parts = range_parts(sexp)?;
+    let counter = only_name(alloc, parts.first)?;
+    let first = expr(alloc, names, parts.second)?;
+    let bound = expr(alloc, names, parts.third)?;
     Ok(Range {
         counter,
         first,

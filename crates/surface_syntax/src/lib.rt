@@ -12,11 +12,13 @@ ghost use Rattle.surface_syntax.specs.Programs.{AreExpr, IsFault};
 
 mod collect;
 mod derived;
+mod elements;
 pub mod exprs;
 mod forms;
 pub mod laws;
 mod lists;
 pub mod names;
+mod operands;
 mod params;
 mod programs;
 mod repeats;

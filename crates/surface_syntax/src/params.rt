@@ -4,8 +4,11 @@
 ghost use Rattle.std.specs.Prelude.{◌≡◌, ◌++◌, ◌∷◌, [], IfOk};
 ghost use Rattle.sexpr_reader.specs.View.{datum_of, datums_of};
 ghost use Rattle.surface_syntax.specs.Marked.{marked, all_marked, list as list_at};
+ghost use Rattle.surface_syntax.specs.Walking.{binder};
 ghost use Rattle.surface_syntax.specs.Walk.{plain_param, walk_param, walk_params, walk_param_list};
-ghost use Rattle.surface_syntax.specs.Views.{type_of, source_of, named_param_of, params_of};
+ghost use Rattle.std.specs.Option.{option_map};
+ghost use Rattle.surface_syntax.specs.Forms.{written_type, bound_name};
+ghost use Rattle.surface_syntax.specs.Views.{type_of, written_of, source_of, named_param_of, params_of};
 ghost use Rattle.surface_syntax.specs.Parts.{typed_name};
 ghost use Rattle.surface_syntax.specs.Claims.{Answers};
 
@@ -59,6 +62,47 @@ pub fn typed_name(
     colon(sign)?;
     let ty = type_expr(alloc, written)?;
     Ok(TypedName { name, ty })
+}
+
+// `:` and a type, if they are written.
+fn written_type(
+    alloc: Global,
+    written: Option<(&Sexp, &Sexp)>,
+) -> Result<Option<TypeExpr>, FrontFault>
+    ensures { Answers result written_of (written_type (option_map (λ w. (
+      marked (datum_of w.0.now),
+      marked (datum_of w.1.now),
+    )) written.entry)) }
+{
+    let Some((sign, ty)) = written else {
+        return Ok(None);
+    };
+    colon(sign)?;
+    let ty = type_expr(alloc, ty)?;
+    Ok(Some(ty))
+}
+
+/// A name with its type, if one is written.
+#[derive(Drop)]
+pub struct BoundName {
+    pub name: Name,
+    pub ty: Option<TypeExpr>,
+}
+
+/// A name that a scope binds, and `:` and its type, if they are written.
+pub fn bound_name(
+    alloc: Global,
+    scope: &mut Scope,
+    name: &Sexp,
+    written: Option<(&Sexp, &Sexp)>,
+) -> Result<BoundName, FrontFault>
+    ensures name { Answers result (λ b. (b.name, written_of b.ty)) (bound_name scope.old (marked (datum_of name.now))
+        (option_map (λ w. (marked (datum_of w.0.now), marked (datum_of w.1.now))) written.entry)) }
+    ensures bound { IfOk result (λ b. scope.new ≡ scope.old ++ b.name ∷ []) }
+{
+    let name = binder(alloc, scope, name)?;
+    let ty = written_type(alloc, written)?;
+    Ok(BoundName { name, ty })
 }
 
 // A parameter between brackets: a name, `:` and a type.
@@ -124,6 +168,14 @@ pub fn params(alloc: Global, elements: &SexpList) -> Result<Params, FrontFault>
         list = rest;
     }
     Ok(params)
+}
+
+/// A name that is the only one of its scope.
+pub fn only_name(alloc: Global, sexp: &Sexp) -> Result<Name, FrontFault>
+    ensures { Answers result (λ name. name) (binder [] (marked (datum_of sexp.now))) }
+{
+    let mut scope = Scope::new(alloc);
+    binder(alloc, &mut scope, sexp)
 }
 
 /// The parameters between two brackets.

@@ -12,8 +12,9 @@ ghost use Rattle.surface_syntax.specs.TopParts.{part_of, parse_named, is_definit
 ghost use Rattle.surface_syntax.specs.Claims.{Parses};
 
 use crate::collect::push;
+use crate::elements::has_body;
 use crate::exprs::{Expr, LambdaExpr};
-use crate::forms::{expr, function, has_body, lambda_with};
+use crate::forms::{expr, function, lambda_with};
 use crate::lists::{bad_form, binder, is_define_at, is_lambda_at, refused};
 use crate::params::{params, typed_name};
 use crate::scopes::Scope;

@@ -1,172 +1,133 @@
 use Rattle.std.proofs.Common.{refl, ap, ap₂, sym, ◌∙◌, subst, rules, arith}
-use Rattle.std.specs.Prelude.{FitsSigned}
-use Rattle.std.specs.Int.{w64}
-use Rattle.std.proofs.lemmas.Int.{ints, to_z-of_z}
 use Rattle.std.proofs.lemmas.Result.{err_from_is_err_and}
-use Rattle.sexpr_reader.specs.declared.sexps.Sexp.{Sexp, out-Sexp}
+use Rattle.sexpr_reader.specs.declared.sexps.Sexp.{out-Sexp}
 use Rattle.sexpr_reader.specs.declared.sexps.SexpList.{the_lemmas}
 use Rattle.sexpr_reader.specs.View.{datum_of, datums_of}
-use Rattle.surface_syntax.specs.declared.words.Word.TheVariants.{Let, Letrec, If, Colon, Repeat, TupleProj}
-use Rattle.surface_syntax.specs.Marked.{marked, all_marked, word, ◌▹◌}
-use Rattle.surface_syntax.specs.Trees.{ExprAt, AscribeNode}
+use Rattle.surface_syntax.specs.Marked.{marked, all_marked}
 use Rattle.surface_syntax.specs.Walking.{Reads}
-use Rattle.surface_syntax.specs.Pass.{parse_list, parse_binding, parse_member, parse_lambda_form, parse_range}
-use Rattle.surface_syntax.specs.Views.{expr_of, type_of, params_of, lambda_of}
-use Rattle.surface_syntax.specs.Parts.{range_of, bound_of, member_of, parse_behind}
+use Rattle.surface_syntax.specs.Pass.{then_with, with_names, parse_list}
+use Rattle.surface_syntax.specs.Views.{expr_of, exprs_of, params_of, lambda_of}
+use Rattle.surface_syntax.specs.Parts.{range_of, bound_of, member_of}
+use Rattle.surface_syntax.specs.Forms.{headed_of, lambda_from}
 use Rattle.surface_syntax.specs.Claims.{Parses}
-use Rattle.surface_syntax.proofs.ExprRows.{function_found}
-use Rattle.surface_syntax.proofs.FormRows.{bind_reads, bind_ok, bind_err, plain_reads, plain_err, headed_by}
-use Rattle.surface_syntax.proofs.FormRows.{behind_typed, part_is, typed_binding, typed_member}
-use Rattle.surface_syntax.proofs.Shapes.{one_first, two_first, list_first, two_only, three_only, four_only, in_list}
-use Rattle.surface_syntax.proofs.Shapes.{same_part}
+use Rattle.surface_syntax.proofs.Steps.{place_marked}
+use Rattle.surface_syntax.proofs.FormRows.{bind_reads, bind_ok, bind_err, plain_reads, plain_err, form_steps}
+use Rattle.surface_syntax.proofs.FormParts.{list_row, behind_row, function_row, binding_row, member_row, range_row}
+use Rattle.surface_syntax.proofs.FormParts.{plain_answers, none_of, counted_here, gathered_here, plain_body, typed_here}
+use Rattle.surface_syntax.proofs.Shapes.{one_first}
 use Rattle.surface_syntax.proofs.Loops.{each_more, lets_more, letrecs_more}
 use Rattle.surface_syntax.proofs.forms.+read_form.Goals as goal
 
-pub ascription-returns-in_err-inner : goal.ascription-returns-in_err-inner
-ascription-returns-in_err-inner t c =
-    let shape = two_only c.args.rest.now c.in-Cons.is (sym c.deref.ensures ∙ c.in-Cons-deref.is)
-    (sym c.deref-2.ensures ∙ c.in-Nil.is) in
-    subst (λ ds. Parses c.from_residual.result expr_of c.expr.new.names (parse_list c.args.pos (word c.args.pos Colon ▹
-    ds) c.args.names.now)) (sym shape)
+pub applied-returns-in_err-room : goal.applied-returns-in_err-room
+applied-returns-in_err-room t c =
+    search (rules, plain_err)
+
+pub applied-returns-in_err-operands : goal.applied-returns-in_err-operands
+applied-returns-in_err-operands t c =
+    bind_ok _ _ _ _ _ _ _ (plain_reads _ _ _ c.in_ok-room.ensures)
     (search (rules, bind_err))
 
-pub ascription-returns-in_err-ty : goal.ascription-returns-in_err-ty
-ascription-returns-in_err-ty t c =
-    let shape = two_only c.args.rest.now c.in-Cons.is (sym c.deref.ensures ∙ c.in-Cons-deref.is)
-    (sym c.deref-2.ensures ∙ c.in-Nil.is) in
-    subst (λ ds. Parses c.from_residual-in_err-ty.result expr_of c.expr.new.names (parse_list c.args.pos (word
-    c.args.pos Colon ▹ ds) c.args.names.now)) (sym shape)
-    (bind_ok _ _ _ _ _ _ _ (rw c.deref-3.ensures at c.in_ok-inner.ensures) (search (rules, plain_err)))
+pub applied-returns : goal.applied-returns
+applied-returns t c =
+    bind_reads _ _ _ _ _ (plain_reads _ _ _ c.in_ok-room.ensures)
+    (bind_reads _ _ _ _ _ c.in_ok-operands.ensures
+    (ap (λ e. Reads (e, c.operands.new.names)) (sym c.in_ok-applied_to.ensures)))
+
+pub ascription-returns-in_err-inner : goal.ascription-returns-in_err-inner
+ascription-returns-in_err-inner t c =
+    search (rules, plain_err)
+
+pub ascription-returns-in_err-inner-2 : goal.ascription-returns-in_err-inner-2
+ascription-returns-in_err-inner-2 t c =
+    bind_ok _ _ _ _ _ _ _ (plain_reads _ _ _ c.in_ok-inner.ensures.elements)
+    (search (rules, bind_err))
 
 pub ascription-returns : goal.ascription-returns
 ascription-returns t c =
-    let shape = two_only c.args.rest.now c.in-Cons.is (sym c.deref.ensures ∙ c.in-Cons-deref.is)
-    (sym c.deref-2.ensures ∙ c.in-Nil.is) in
-    ap (λ ds. parse_list c.args.pos (word c.args.pos Colon ▹ ds) c.args.names.now) shape
-    ∙ bind_reads _ _ _ _ _ (rw c.deref-3.ensures at c.in_ok-inner.ensures)
-    (bind_reads _ _ _ _ _ (plain_reads _ _ _ (rw c.deref-4.ensures at c.in_ok-ty.ensures))
-    (ap (λ e. Reads (ExprAt c.args.pos (AscribeNode (expr_of e) (type_of c.in_ok-ty.ty)), c.expr.new.names))
-    (sym c.in_ok-boxed.ensures)))
+    bind_ok _ _ _ _ _ _ _ (plain_reads _ _ _ c.in_ok-inner.ensures.elements)
+    (bind_ok _ _ _ _ _ _ _ c.in_ok-inner-2.ensures
+    (plain_answers _ _ _ _ c.ascribed.ensures))
+
+pub projection-returns-in_err-tuple : goal.projection-returns-in_err-tuple
+projection-returns-in_err-tuple t c =
+    search (rules, plain_err)
+
+pub projection-returns-in_err-tuple-2 : goal.projection-returns-in_err-tuple-2
+projection-returns-in_err-tuple-2 t c =
+    bind_ok _ _ _ _ _ _ _ (plain_reads _ _ _ c.in_ok-tuple.ensures.elements)
+    (search (rules, bind_err))
+
+pub projection-returns : goal.projection-returns
+projection-returns t c =
+    bind_ok _ _ _ _ _ _ _ (plain_reads _ _ _ c.in_ok-tuple.ensures.elements)
+    (bind_ok _ _ _ _ _ _ _ c.in_ok-tuple-2.ensures
+    (plain_answers _ _ _ _ c.projected.ensures))
+
+pub binding-returns-in_err-bound-clause-binding : goal.binding-returns-in_err-bound-clause-binding
+binding-returns-in_err-bound-clause-binding t c =
+    let row = binding_row c.args.scope.now (marked (datum_of c.args.sexp.now)) c.args.names.now in
+    subst (λ w. Parses c.from_residual-in_err-bound.result bound_of c.args.names.now w) (sym row)
+    (bind_ok _ _ _ _ _ _ _ (plain_reads _ _ _ c.in_ok-parts.ensures.parts)
+    (search (rules, plain_err)))
 
 pub binding-returns-in_err-value-clause-binding : goal.binding-returns-in_err-value-clause-binding
 binding-returns-in_err-value-clause-binding t c =
-    let shape = in_list c.args.sexp.now c.in-List.is (two_only c.in-List.elements c.in-Cons.is
-    (sym c.deref.ensures ∙ c.in-Cons-deref.is) (sym c.deref-2.ensures ∙ c.in_default-deref-2.is)) in
-    let name = rw c.deref-in_default-deref-2.ensures at c.in_ok-binder.ensures.name in
-    subst (λ s. Parses c.from_residual-in_err-value.result bound_of c.expr.new.names (parse_binding c.args.scope.now s
-    c.args.names.now)) (sym shape)
-    (bind_ok _ _ _ _ _ _ _ (plain_reads _ _ _ name) (search (rules, bind_err)))
-
-pub binding-returns-in_default-deref-2-clause-binding : goal.binding-returns-in_default-deref-2-clause-binding
-binding-returns-in_default-deref-2-clause-binding t c =
-    let shape = in_list c.args.sexp.now c.in-List.is (two_only c.in-List.elements c.in-Cons.is
-    (sym c.deref.ensures ∙ c.in-Cons-deref.is) (sym c.deref-2.ensures ∙ c.in_default-deref-2.is)) in
-    let name = rw c.deref-in_default-deref-2.ensures at c.in_ok-binder.ensures.name in
-    ap (λ s. parse_binding c.args.scope.now s c.args.names.now) shape
-    ∙ bind_reads _ _ _ _ _ (plain_reads _ _ _ name)
-    (bind_reads _ _ _ _ _ (rw c.deref-in_default-deref-2-2.ensures at c.in_ok-value.ensures)
-    (refl))
-
-pub binding-returns-in_err-typed-clause-binding : goal.binding-returns-in_err-typed-clause-binding
-binding-returns-in_err-typed-clause-binding t c =
-    let shape = in_list c.args.sexp.now c.in-List.is (four_only c.in-List.elements c.in-Cons.is
-    (sym c.deref.ensures ∙ c.in-Cons-deref.is) (sym c.deref-2.ensures ∙ c.in-Cons-deref-2.is)
-    (sym c.deref-3.ensures ∙ c.in-Cons-deref-3.is) (sym c.deref-4.ensures ∙ c.in-Nil.is)) in
-    let row = ap (λ s. parse_binding c.args.scope.now s c.args.names.now) shape
-    ∙ typed_binding c.args.scope.now (out-Sexp c.args.sexp.now).pos (marked (datum_of c.in-Cons.name.value))
-    (marked (datum_of c.in-Cons-deref.second.value)) (marked (datum_of c.in-Cons-deref-2.third.value))
-    (marked (datum_of c.in-Cons-deref-3.fourth.value)) c.args.names.now in
-    subst (λ w. Parses c.from_residual-in_err-typed.result bound_of c.args.names.now w) (sym row)
-    (plain_err _ _ _ bound_of c.args.names.now c.args.names.now c.in_err-typed.field-0.0 c.typed_name.result
-    c.from_residual-in_err-typed.result (search rules) (search rules)
-    (rw (c.deref-5.ensures, c.deref-6.ensures, c.deref-7.ensures) at c.typed_name.ensures.name))
-
-pub binding-returns-in_err-value-2-clause-binding : goal.binding-returns-in_err-value-2-clause-binding
-binding-returns-in_err-value-2-clause-binding t c =
-    let shape = in_list c.args.sexp.now c.in-List.is (four_only c.in-List.elements c.in-Cons.is
-    (sym c.deref.ensures ∙ c.in-Cons-deref.is) (sym c.deref-2.ensures ∙ c.in-Cons-deref-2.is)
-    (sym c.deref-3.ensures ∙ c.in-Cons-deref-3.is) (sym c.deref-4.ensures ∙ c.in-Nil.is)) in
-    let row = ap (λ s. parse_binding c.args.scope.now s c.args.names.now) shape
-    ∙ typed_binding c.args.scope.now (out-Sexp c.args.sexp.now).pos (marked (datum_of c.in-Cons.name.value))
-    (marked (datum_of c.in-Cons-deref.second.value)) (marked (datum_of c.in-Cons-deref-2.third.value))
-    (marked (datum_of c.in-Cons-deref-3.fourth.value)) c.args.names.now in
-    let typed = rw (c.deref-5.ensures, c.deref-6.ensures, c.deref-7.ensures) at c.in_ok-typed.ensures.name in
-    subst (λ w. Parses c.from_residual-in_err-value-2.result bound_of c.expr-2.new.names w) (sym row)
-    (bind_ok _ _ _ _ _ _ _ (plain_reads _ _ _ typed) (search (rules, bind_err)))
+    let row = binding_row c.args.scope.now (marked (datum_of c.args.sexp.now)) c.args.names.now in
+    subst (λ w. Parses c.from_residual-in_err-value.result bound_of c.expr.new.names w) (sym row)
+    (bind_ok _ _ _ _ _ _ _ (plain_reads _ _ _ c.in_ok-parts.ensures.parts)
+    (bind_ok _ _ _ _ _ _ _ (plain_reads _ _ _ c.in_ok-bound.ensures.name)
+    (search (rules, bind_err))))
 
 pub binding-returns-clause-binding : goal.binding-returns-clause-binding
 binding-returns-clause-binding t c =
-    let shape = in_list c.args.sexp.now c.in-List.is (four_only c.in-List.elements c.in-Cons.is
-    (sym c.deref.ensures ∙ c.in-Cons-deref.is) (sym c.deref-2.ensures ∙ c.in-Cons-deref-2.is)
-    (sym c.deref-3.ensures ∙ c.in-Cons-deref-3.is) (sym c.deref-4.ensures ∙ c.in-Nil.is)) in
-    let row = ap (λ s. parse_binding c.args.scope.now s c.args.names.now) shape
-    ∙ typed_binding c.args.scope.now (out-Sexp c.args.sexp.now).pos (marked (datum_of c.in-Cons.name.value))
-    (marked (datum_of c.in-Cons-deref.second.value)) (marked (datum_of c.in-Cons-deref-2.third.value))
-    (marked (datum_of c.in-Cons-deref-3.fourth.value)) c.args.names.now in
-    let typed = rw (c.deref-5.ensures, c.deref-6.ensures, c.deref-7.ensures) at c.in_ok-typed.ensures.name in
-    row ∙ bind_reads _ _ _ _ _ (plain_reads _ _ _ typed)
-    (bind_reads _ _ _ _ _ (rw c.deref-8.ensures at c.in_ok-value-2.ensures)
-    (refl))
+    let row = binding_row c.args.scope.now (marked (datum_of c.args.sexp.now)) c.args.names.now in
+    row ∙ bind_reads _ _ _ _ _ (plain_reads _ _ _ c.in_ok-parts.ensures.parts)
+    (bind_reads _ _ _ _ _ (plain_reads _ _ _ c.in_ok-bound.ensures.name)
+    (bind_reads _ _ _ _ _ c.in_ok-value.ensures
+    (refl)))
+
+pub member-returns-in_err-bound-clause-member : goal.member-returns-in_err-bound-clause-member
+member-returns-in_err-bound-clause-member t c =
+    let row = member_row c.args.scope.now (marked (datum_of c.args.sexp.now)) c.args.names.now in
+    subst (λ w. Parses c.from_residual-in_err-bound.result member_of c.args.names.now w) (sym row)
+    (bind_ok _ _ _ _ _ _ _ (plain_reads _ _ _ c.in_ok-parts.ensures.parts)
+    (search (rules, plain_err)))
 
 pub member-returns-in_err-fun-clause-member : goal.member-returns-in_err-fun-clause-member
 member-returns-in_err-fun-clause-member t c =
-    let shape = in_list c.args.sexp.now c.in-List.is (two_only c.in-List.elements c.in-Cons.is
-    (sym c.deref.ensures ∙ c.in-Cons-deref.is) (sym c.deref-2.ensures ∙ c.in_default-deref-2.is)) in
-    let name = rw c.deref-in_default-deref-2.ensures at c.in_ok-binder.ensures.name in
-    subst (λ s. Parses c.from_residual-in_err-fun.result member_of c.function.new.names (parse_member c.args.scope.now
-    s c.args.names.now)) (sym shape)
-    (bind_ok _ _ _ _ _ _ _ (plain_reads _ _ _ name) (search (rules, bind_err)))
-
-pub member-returns-in_default-deref-2-clause-member : goal.member-returns-in_default-deref-2-clause-member
-member-returns-in_default-deref-2-clause-member t c =
-    let shape = in_list c.args.sexp.now c.in-List.is (two_only c.in-List.elements c.in-Cons.is
-    (sym c.deref.ensures ∙ c.in-Cons-deref.is) (sym c.deref-2.ensures ∙ c.in_default-deref-2.is)) in
-    let name = rw c.deref-in_default-deref-2.ensures at c.in_ok-binder.ensures.name in
-    ap (λ s. parse_member c.args.scope.now s c.args.names.now) shape
-    ∙ bind_reads _ _ _ _ _ (plain_reads _ _ _ name)
-    (bind_reads _ _ _ _ _ (rw c.deref-in_default-deref-2-2.ensures at c.in_ok-fun.ensures)
-    (refl))
-
-pub member-returns-in_err-typed-clause-member : goal.member-returns-in_err-typed-clause-member
-member-returns-in_err-typed-clause-member t c =
-    let shape = in_list c.args.sexp.now c.in-List.is (four_only c.in-List.elements c.in-Cons.is
-    (sym c.deref.ensures ∙ c.in-Cons-deref.is) (sym c.deref-2.ensures ∙ c.in-Cons-deref-2.is)
-    (sym c.deref-3.ensures ∙ c.in-Cons-deref-3.is) (sym c.deref-4.ensures ∙ c.in-Nil.is)) in
-    let row = ap (λ s. parse_member c.args.scope.now s c.args.names.now) shape
-    ∙ typed_member c.args.scope.now (out-Sexp c.args.sexp.now).pos (marked (datum_of c.in-Cons.name.value))
-    (marked (datum_of c.in-Cons-deref.second.value)) (marked (datum_of c.in-Cons-deref-2.third.value))
-    (marked (datum_of c.in-Cons-deref-3.fourth.value)) c.args.names.now in
-    subst (λ w. Parses c.from_residual-in_err-typed.result member_of c.args.names.now w) (sym row)
-    (plain_err _ _ _ member_of c.args.names.now c.args.names.now c.in_err-typed.field-0.0 c.typed_name.result
-    c.from_residual-in_err-typed.result (search rules) (search rules)
-    (rw (c.deref-5.ensures, c.deref-6.ensures, c.deref-7.ensures) at c.typed_name.ensures.name))
-
-pub member-returns-in_err-fun-2-clause-member : goal.member-returns-in_err-fun-2-clause-member
-member-returns-in_err-fun-2-clause-member t c =
-    let shape = in_list c.args.sexp.now c.in-List.is (four_only c.in-List.elements c.in-Cons.is
-    (sym c.deref.ensures ∙ c.in-Cons-deref.is) (sym c.deref-2.ensures ∙ c.in-Cons-deref-2.is)
-    (sym c.deref-3.ensures ∙ c.in-Cons-deref-3.is) (sym c.deref-4.ensures ∙ c.in-Nil.is)) in
-    let row = ap (λ s. parse_member c.args.scope.now s c.args.names.now) shape
-    ∙ typed_member c.args.scope.now (out-Sexp c.args.sexp.now).pos (marked (datum_of c.in-Cons.name.value))
-    (marked (datum_of c.in-Cons-deref.second.value)) (marked (datum_of c.in-Cons-deref-2.third.value))
-    (marked (datum_of c.in-Cons-deref-3.fourth.value)) c.args.names.now in
-    let typed = rw (c.deref-5.ensures, c.deref-6.ensures, c.deref-7.ensures) at c.in_ok-typed.ensures.name in
-    subst (λ w. Parses c.from_residual-in_err-fun-2.result member_of c.function-2.new.names w) (sym row)
-    (bind_ok _ _ _ _ _ _ _ (plain_reads _ _ _ typed) (search (rules, bind_err)))
+    let row = member_row c.args.scope.now (marked (datum_of c.args.sexp.now)) c.args.names.now in
+    subst (λ w. Parses c.from_residual-in_err-fun.result member_of c.function.new.names w) (sym row)
+    (bind_ok _ _ _ _ _ _ _ (plain_reads _ _ _ c.in_ok-parts.ensures.parts)
+    (bind_ok _ _ _ _ _ _ _ (plain_reads _ _ _ c.in_ok-bound.ensures.name)
+    (search (rules, bind_err))))
 
 pub member-returns-clause-member : goal.member-returns-clause-member
 member-returns-clause-member t c =
-    let shape = in_list c.args.sexp.now c.in-List.is (four_only c.in-List.elements c.in-Cons.is
-    (sym c.deref.ensures ∙ c.in-Cons-deref.is) (sym c.deref-2.ensures ∙ c.in-Cons-deref-2.is)
-    (sym c.deref-3.ensures ∙ c.in-Cons-deref-3.is) (sym c.deref-4.ensures ∙ c.in-Nil.is)) in
-    let row = ap (λ s. parse_member c.args.scope.now s c.args.names.now) shape
-    ∙ typed_member c.args.scope.now (out-Sexp c.args.sexp.now).pos (marked (datum_of c.in-Cons.name.value))
-    (marked (datum_of c.in-Cons-deref.second.value)) (marked (datum_of c.in-Cons-deref-2.third.value))
-    (marked (datum_of c.in-Cons-deref-3.fourth.value)) c.args.names.now in
-    let typed = rw (c.deref-5.ensures, c.deref-6.ensures, c.deref-7.ensures) at c.in_ok-typed.ensures.name in
-    row ∙ bind_reads _ _ _ _ _ (plain_reads _ _ _ typed)
-    (bind_reads _ _ _ _ _ (rw c.deref-8.ensures at c.in_ok-fun-2.ensures)
-    (refl))
+    let row = member_row c.args.scope.now (marked (datum_of c.args.sexp.now)) c.args.names.now in
+    row ∙ bind_reads _ _ _ _ _ (plain_reads _ _ _ c.in_ok-parts.ensures.parts)
+    (bind_reads _ _ _ _ _ (plain_reads _ _ _ c.in_ok-bound.ensures.name)
+    (bind_reads _ _ _ _ _ c.in_ok-fun.ensures
+    (refl)))
+
+pub call-returns-in_err-function : goal.call-returns-in_err-function
+unfolding then_with with_names
+call-returns-in_err-function t c =
+    grind (arith, form_steps)
+
+pub call-returns-in_err-arguments : goal.call-returns-in_err-arguments
+unfolding then_with with_names
+call-returns-in_err-arguments t c =
+    grind (arith, form_steps)
+
+pub call-returns : goal.call-returns
+unfolding then_with with_names
+call-returns t c =
+    grind (arith, form_steps)
+
+pub each-returns-in_err-first : goal.each-returns-in_err-first
+unfolding then_with with_names
+each-returns-in_err-first t c =
+    grind (arith, form_steps)
 
 pub each-loop-left-preserved : goal.each-loop-left-preserved
 each-loop-left-preserved t c = (
@@ -174,6 +135,211 @@ each-loop-left-preserved t c = (
       (rw c.deref.ensures at c.in_ok-first.ensures) (rw c.in-Cons.is at c.loop-left.invariant.0)),
   search (rules, the_lemmas),
 )
+
+pub function-returns : goal.function-returns
+function-returns t c =
+    let row = function_row (marked (datum_of c.args.sexp.now)) c.args.names.now in
+    let at = place_marked (out-Sexp c.args.sexp.now).pos (out-Sexp c.args.sexp.now).node in
+    subst (λ w. Parses c.lambda.result lambda_of c.lambda.new.names w) (sym row)
+    (bind_ok _ _ _ _ _ _ _ (plain_reads _ _ _ c.in_ok-elements.ensures.behind)
+    (subst (λ p. Parses c.lambda.result lambda_of c.lambda.new.names (lambda_from p (all_marked (datums_of
+    c.in_ok-elements.elements.now)) c.args.names.now)) (sym at) c.lambda.ensures))
+
+pub headed-returns-in_err-lambda-in-Lambda : goal.headed-returns-in_err-lambda-in-Lambda
+headed-returns-in_err-lambda-in-Lambda t c =
+    subst (λ w. Parses c.from_residual.result expr_of c.lambda.new.names (headed_of w c.args.pos (all_marked (datums_of
+    c.args.rest.now)) c.args.names.now)) (sym c.in-Lambda.is)
+    (search (rules, bind_err))
+
+pub headed-returns-in_ok-lambda-in-Lambda : goal.headed-returns-in_ok-lambda-in-Lambda
+headed-returns-in_ok-lambda-in-Lambda t c =
+    ap (λ w. headed_of w c.args.pos (all_marked (datums_of c.args.rest.now)) c.args.names.now) c.in-Lambda.is
+    ∙ bind_reads _ _ _ _ _ c.in_ok-lambda-in-Lambda.ensures refl
+
+pub if_form-returns-in_err-parts : goal.if_form-returns-in_err-parts
+if_form-returns-in_err-parts t c =
+    search (rules, plain_err)
+
+pub if_form-returns-in_err-condition : goal.if_form-returns-in_err-condition
+if_form-returns-in_err-condition t c =
+    bind_ok _ _ _ _ _ _ _ (plain_reads _ _ _ c.in_ok-parts.ensures.elements)
+    (search (rules, bind_err))
+
+pub if_form-returns-in_err-on_true : goal.if_form-returns-in_err-on_true
+if_form-returns-in_err-on_true t c =
+    bind_ok _ _ _ _ _ _ _ (plain_reads _ _ _ c.in_ok-parts.ensures.elements)
+    (bind_ok _ _ _ _ _ _ _ c.in_ok-condition.ensures
+    (search (rules, bind_err)))
+
+pub if_form-returns-in_err-on_false : goal.if_form-returns-in_err-on_false
+if_form-returns-in_err-on_false t c =
+    let exit = err_from_is_err_and c.from_residual-in_err-on_false.result c.from_residual-in_err-on_false.ensures.1 in
+    bind_ok _ _ _ _ _ _ _ (plain_reads _ _ _ c.in_ok-parts.ensures.elements)
+    (bind_ok _ _ _ _ _ _ _ c.in_ok-condition.ensures
+    (bind_ok _ _ _ _ _ _ _ c.in_ok-on_true.ensures
+    (bind_err _ _ expr_of expr_of _ _ c.in_err-on_false.field-0.0 c.expr-3.result
+    c.from_residual-in_err-on_false.result c.in_err-on_false.was (rw (exit.1, exit.2) refl) c.expr-3.ensures)))
+
+pub if_form-returns : goal.if_form-returns
+if_form-returns t c =
+    bind_reads _ _ _ _ _ (plain_reads _ _ _ c.in_ok-parts.ensures.elements)
+    (bind_reads _ _ _ _ _ c.in_ok-condition.ensures
+    (bind_reads _ _ _ _ _ c.in_ok-on_true.ensures
+    (bind_reads _ _ _ _ _ c.in_ok-on_false.ensures
+    (ap (λ e. Reads (e, c.expr-3.new.names)) (sym c.in_ok-if_at.ensures)))))
+
+pub lambda-returns-in_err-params : goal.lambda-returns-in_err-params
+lambda-returns-in_err-params t c =
+    search (rules, plain_err)
+
+pub lambda-returns-in_err-params-2 : goal.lambda-returns-in_err-params-2
+lambda-returns-in_err-params-2 t c =
+    bind_ok _ _ _ _ _ _ _ (plain_reads _ _ _ c.in_ok-params.ensures.parts)
+    (search (rules, plain_err))
+
+pub lambda-returns : goal.lambda-returns
+lambda-returns t c =
+    bind_ok _ _ _ _ _ _ _ (plain_reads _ _ _ c.in_ok-params.ensures.parts)
+    (bind_ok _ _ _ _ _ _ _ (plain_reads _ _ _ c.in_ok-params-2.ensures)
+    (c.lambda_with.ensures))
+
+pub lambda_with-returns-in_err-typed : goal.lambda_with-returns-in_err-typed
+lambda_with-returns-in_err-typed t c =
+    let row = behind_row c.args.pos (params_of c.args.params) (all_marked (datums_of c.args.rest.now)) c.args.names.now in
+    subst (λ w. Parses c.from_residual.result lambda_of c.args.names.now w) (sym row)
+    (search (rules, plain_err))
+
+pub lambda_with-returns-in_err-body : goal.lambda_with-returns-in_err-body
+lambda_with-returns-in_err-body t c =
+    let row = behind_row c.args.pos (params_of c.args.params) (all_marked (datums_of c.args.rest.now)) c.args.names.now in
+    let none = none_of c.in_ok-typed.typed c.in_default.not-Some in
+    let exit = err_from_is_err_and c.from_residual-in_err-body.result c.from_residual-in_err-body.ensures.1 in
+    subst (λ w. Parses c.from_residual-in_err-body.result lambda_of c.each.new.names w) (sym row)
+    (bind_ok _ _ _ _ _ _ _ (plain_reads _ _ _ c.in_ok-typed.ensures.parts)
+    (subst (λ w. Parses c.from_residual-in_err-body.result lambda_of c.each.new.names w)
+    (sym (plain_body _ _ _ _ _ _ none))
+    (bind_err _ _ exprs_of lambda_of _ _ c.in_err-body.field-0.0 c.each.result c.from_residual-in_err-body.result c.in_err-body.was
+    (rw (exit.1, exit.2) refl) c.each.ensures)))
+
+pub lambda_with-returns-in_default : goal.lambda_with-returns-in_default
+lambda_with-returns-in_default t c =
+    let row = behind_row c.args.pos (params_of c.args.params) (all_marked (datums_of c.args.rest.now)) c.args.names.now in
+    let none = none_of c.in_ok-typed.typed c.in_default.not-Some in
+    row ∙ bind_reads _ _ _ _ _ (plain_reads _ _ _ c.in_ok-typed.ensures.parts)
+    (plain_body _ _ _ _ _ _ none ∙ bind_reads _ _ _ _ _ c.in_ok-body.ensures refl)
+
+pub lambda_with-returns-in_err-result_type : goal.lambda_with-returns-in_err-result_type
+lambda_with-returns-in_err-result_type t c =
+    let row = behind_row c.args.pos (params_of c.args.params) (all_marked (datums_of c.args.rest.now)) c.args.names.now in
+    subst (λ w. Parses c.from_residual-in_err-result_type.result lambda_of c.args.names.now w) (sym row)
+    (bind_ok _ _ _ _ _ _ _ (plain_reads _ _ _ c.in_ok-typed.ensures.parts)
+    (subst (λ w. Parses c.from_residual-in_err-result_type.result lambda_of c.args.names.now w)
+    (sym (typed_here _ _ c.in-Some.typed _ _ _ _ c.in-Some.is))
+    (search (rules, plain_err))))
+
+pub lambda_with-returns-in_err-body-2 : goal.lambda_with-returns-in_err-body-2
+lambda_with-returns-in_err-body-2 t c =
+    let row = behind_row c.args.pos (params_of c.args.params) (all_marked (datums_of c.args.rest.now)) c.args.names.now in
+    let exit = err_from_is_err_and c.from_residual-in_err-body-2.result c.from_residual-in_err-body-2.ensures.1 in
+    subst (λ w. Parses c.from_residual-in_err-body-2.result lambda_of c.each-2.new.names w) (sym row)
+    (bind_ok _ _ _ _ _ _ _ (plain_reads _ _ _ c.in_ok-typed.ensures.parts)
+    (subst (λ w. Parses c.from_residual-in_err-body-2.result lambda_of c.each-2.new.names w)
+    (sym (typed_here _ _ c.in-Some.typed _ _ _ _ c.in-Some.is))
+    (bind_ok _ _ _ _ _ _ _ (plain_reads _ _ _ c.in_ok-result_type.ensures)
+    (bind_err _ _ exprs_of lambda_of _ _ c.in_err-body-2.field-0.0 c.each-2.result c.from_residual-in_err-body-2.result c.in_err-body-2.was
+    (rw (exit.1, exit.2) refl) c.each-2.ensures))))
+
+pub lambda_with-returns : goal.lambda_with-returns
+lambda_with-returns t c =
+    let row = behind_row c.args.pos (params_of c.args.params) (all_marked (datums_of c.args.rest.now)) c.args.names.now in
+    row ∙ bind_reads _ _ _ _ _ (plain_reads _ _ _ c.in_ok-typed.ensures.parts)
+    (typed_here _ _ c.in-Some.typed _ _ _ _ c.in-Some.is
+    ∙ bind_reads _ _ _ _ _ (plain_reads _ _ _ c.in_ok-result_type.ensures)
+    (bind_reads _ _ _ _ _ c.in_ok-body-2.ensures refl))
+
+pub let_form-returns-in_err-bindings : goal.let_form-returns-in_err-bindings
+let_form-returns-in_err-bindings t c =
+    search (rules, plain_err)
+
+pub let_form-returns-in_err-bindings-2 : goal.let_form-returns-in_err-bindings-2
+let_form-returns-in_err-bindings-2 t c =
+    bind_ok _ _ _ _ _ _ _ (plain_reads _ _ _ c.in_ok-bindings.ensures.elements)
+    (search (rules, bind_err))
+
+pub let_form-returns-in_err-body : goal.let_form-returns-in_err-body
+let_form-returns-in_err-body t c =
+    bind_ok _ _ _ _ _ _ _ (plain_reads _ _ _ c.in_ok-bindings.ensures.elements)
+    (bind_ok _ _ _ _ _ _ _ c.in_ok-bindings-2.ensures
+    (search (rules, bind_err)))
+
+pub let_form-returns : goal.let_form-returns
+let_form-returns t c =
+    bind_reads _ _ _ _ _ (plain_reads _ _ _ c.in_ok-bindings.ensures.elements)
+    (bind_reads _ _ _ _ _ c.in_ok-bindings-2.ensures
+    (bind_reads _ _ _ _ _ c.in_ok-body.ensures
+    (refl)))
+
+pub letrec_form-returns-in_err-members : goal.letrec_form-returns-in_err-members
+letrec_form-returns-in_err-members t c =
+    search (rules, plain_err)
+
+pub letrec_form-returns-in_err-members-2 : goal.letrec_form-returns-in_err-members-2
+letrec_form-returns-in_err-members-2 t c =
+    bind_ok _ _ _ _ _ _ _ (plain_reads _ _ _ c.in_ok-members.ensures.elements)
+    (search (rules, bind_err))
+
+pub letrec_form-returns-in_err-body : goal.letrec_form-returns-in_err-body
+letrec_form-returns-in_err-body t c =
+    bind_ok _ _ _ _ _ _ _ (plain_reads _ _ _ c.in_ok-members.ensures.elements)
+    (bind_ok _ _ _ _ _ _ _ c.in_ok-members-2.ensures
+    (search (rules, bind_err)))
+
+pub letrec_form-returns : goal.letrec_form-returns
+letrec_form-returns t c =
+    bind_reads _ _ _ _ _ (plain_reads _ _ _ c.in_ok-members.ensures.elements)
+    (bind_reads _ _ _ _ _ c.in_ok-members-2.ensures
+    (bind_reads _ _ _ _ _ c.in_ok-body.ensures
+    (refl)))
+
+pub letrecs-returns-in_err-first : goal.letrecs-returns-in_err-first
+unfolding then_with with_names
+letrecs-returns-in_err-first t c =
+    grind (arith, form_steps)
+
+pub lets-returns-in_err-first : goal.lets-returns-in_err-first
+unfolding then_with with_names
+lets-returns-in_err-first t c =
+    grind (arith, form_steps)
+
+pub list-returns-in_default-word_at : goal.list-returns-in_default-word_at
+unfolding then_with with_names
+list-returns-in_default-word_at t c =
+    grind (arith, form_steps)
+
+pub list-returns-then-is_arrow : goal.list-returns-then-is_arrow
+unfolding then_with with_names
+list-returns-then-is_arrow t c =
+    grind (arith, form_steps)
+
+pub within-returns-then-room-eq0 : goal.within-returns-then-room-eq0
+unfolding then_with with_names
+within-returns-then-room-eq0 t c =
+    grind (arith, form_steps)
+
+pub within-returns-in_err-first : goal.within-returns-in_err-first
+unfolding then_with with_names
+within-returns-in_err-first t c =
+    grind (arith, form_steps)
+
+pub within-returns-in_err-rest : goal.within-returns-in_err-rest
+unfolding then_with with_names
+within-returns-in_err-rest t c =
+    grind (arith, form_steps)
+
+pub within-returns : goal.within-returns
+unfolding then_with with_names
+within-returns t c =
+    grind (arith, form_steps)
 
 pub lets-loop-left-preserved : goal.lets-loop-left-preserved
 lets-loop-left-preserved t c = (
@@ -191,282 +357,117 @@ letrecs-loop-left-preserved t c = (
   search (rules, the_lemmas),
 )
 
-pub function-returns : goal.function-returns
-function-returns t c =
-    let shape = in_list c.args.sexp.now c.in-List.is (one_first c.in-List.elements c.in-Cons.is) in
-    let is = rw c.deref.ensures at (sym c.is_lambda_at.ensures ∙ c.if-not-is_lambda_at.false) in
-    let row = ap (λ s. parse_lambda_form s c.args.names.now) shape
-    ∙ function_found (out-Sexp c.args.sexp.now).pos (marked (datum_of c.in-Cons.head.value))
-    (all_marked (datums_of c.in-Cons.rest.value)) c.args.names.now is in
-    subst (λ w. Parses c.lambda.result lambda_of c.lambda.new.names w) (sym row)
-    (rw c.deref-2.ensures at c.lambda.ensures)
-
-pub if_form-returns-in_err-condition : goal.if_form-returns-in_err-condition
-if_form-returns-in_err-condition t c =
-    let shape = three_only c.args.rest.now c.in-Cons.is (sym c.deref.ensures ∙ c.in-Cons-deref.is)
-    (sym c.deref-2.ensures ∙ c.in-Cons-deref-2.is) (sym c.deref-3.ensures ∙ c.in-Nil.is) in
-    subst (λ ds. Parses c.from_residual.result expr_of c.expr.new.names (parse_list c.args.pos (word c.args.pos If ▹
-    ds) c.args.names.now)) (sym shape)
-    (search (rules, bind_err))
-
-pub if_form-returns-in_err-on_true : goal.if_form-returns-in_err-on_true
-if_form-returns-in_err-on_true t c =
-    let shape = three_only c.args.rest.now c.in-Cons.is (sym c.deref.ensures ∙ c.in-Cons-deref.is)
-    (sym c.deref-2.ensures ∙ c.in-Cons-deref-2.is) (sym c.deref-3.ensures ∙ c.in-Nil.is) in
-    subst (λ ds. Parses c.from_residual-in_err-on_true.result expr_of c.expr-2.new.names (parse_list c.args.pos (word
-    c.args.pos If ▹ ds) c.args.names.now)) (sym shape)
-    (bind_ok _ _ _ _ _ _ _ (rw c.deref-4.ensures at c.in_ok-condition.ensures) (search (rules, bind_err)))
-
-pub if_form-returns-in_err-on_false : goal.if_form-returns-in_err-on_false
-if_form-returns-in_err-on_false t c =
-    let shape = three_only c.args.rest.now c.in-Cons.is (sym c.deref.ensures ∙ c.in-Cons-deref.is)
-    (sym c.deref-2.ensures ∙ c.in-Cons-deref-2.is) (sym c.deref-3.ensures ∙ c.in-Nil.is) in
-    let exit = err_from_is_err_and c.from_residual-in_err-on_false.result c.from_residual-in_err-on_false.ensures.1 in
-    subst (λ ds. Parses c.from_residual-in_err-on_false.result expr_of c.expr-3.new.names (parse_list c.args.pos (word
-    c.args.pos If ▹ ds) c.args.names.now)) (sym shape)
-    (bind_ok _ _ _ _ _ _ _ (rw c.deref-4.ensures at c.in_ok-condition.ensures) (bind_ok _ _ _ _ _ _ _ (rw
-    c.deref-5.ensures at c.in_ok-on_true.ensures) (bind_err _ _ expr_of expr_of _ _ c.in_err-on_false.field-0.0
-    c.expr-3.result c.from_residual-in_err-on_false.result c.in_err-on_false.was
-    (rw (exit.1, exit.2) refl) (rw c.deref-6.ensures at c.expr-3.ensures))))
-
-pub if_form-returns : goal.if_form-returns
-if_form-returns t c =
-    let shape = three_only c.args.rest.now c.in-Cons.is (sym c.deref.ensures ∙ c.in-Cons-deref.is)
-    (sym c.deref-2.ensures ∙ c.in-Cons-deref-2.is) (sym c.deref-3.ensures ∙ c.in-Nil.is) in
-    ap (λ ds. parse_list c.args.pos (word c.args.pos If ▹ ds) c.args.names.now) shape
-    ∙ bind_reads _ _ _ _ _ (rw c.deref-4.ensures at c.in_ok-condition.ensures)
-    (bind_reads _ _ _ _ _ (rw c.deref-5.ensures at c.in_ok-on_true.ensures)
-    (bind_reads _ _ _ _ _ (rw c.deref-6.ensures at c.in_ok-on_false.ensures)
-    (ap (λ e. Reads (e, c.expr-3.new.names)) (sym c.in_ok-if_at.ensures))))
-
-pub lambda_with-returns-in_err-body-2 : goal.lambda_with-returns-in_err-body-2
-lambda_with-returns-in_err-body-2 t c =
-    let shape = two_first c.args.rest.now c.in-Cons.is (sym c.deref-2.ensures ∙ c.in-Cons-deref.is) in
-    let is = rw c.deref.ensures at (sym c.is_colon_at.ensures ∙ c.if-not-is_colon_at.false) in
-    let row = ap (λ ds. parse_behind c.args.pos (params_of c.args.params) ds c.args.names.now) shape
-    ∙ behind_typed c.args.pos (params_of c.args.params) (marked (datum_of c.in-Cons.second.value))
-    (marked (datum_of c.in-Cons-deref.written.value)) (all_marked (datums_of c.in-Cons-deref.body.value))
-    c.args.names.now is in
-    subst (λ w. Parses c.from_residual-in_err-body-2.result lambda_of c.each-2.new.names w) (sym row)
-    (bind_ok _ _ _ _ _ _ _ (plain_reads _ _ _ (rw c.deref-3.ensures at c.in_ok-result_type.ensures))
-    (search (rules, bind_err)))
-
-pub let_form-returns-in_err-bindings : goal.let_form-returns-in_err-bindings
-let_form-returns-in_err-bindings t c =
-    let second = ap (λ (s : Sexp). (out-Sexp s).node) (sym c.deref-2.ensures) ∙ c.in-List.is in
-    let shape = list_first c.args.rest.now c.in-Cons.is second in
-    let some = plain_reads _ _ c.args.names.now (rw c.deref.ensures at c.in_ok-some.ensures) in
-    subst (λ ds. Parses c.from_residual-in_err-bindings.result expr_of c.lets.new.names (parse_list c.args.pos (word
-    c.args.pos Let ▹ ds) c.args.names.now)) (sym shape)
-    (bind_ok _ _ _ _ _ _ _ (some) (search (rules, bind_err)))
-
-pub let_form-returns-in_err-body : goal.let_form-returns-in_err-body
-let_form-returns-in_err-body t c =
-    let second = ap (λ (s : Sexp). (out-Sexp s).node) (sym c.deref-2.ensures) ∙ c.in-List.is in
-    let shape = list_first c.args.rest.now c.in-Cons.is second in
-    let some = plain_reads _ _ c.args.names.now (rw c.deref.ensures at c.in_ok-some.ensures) in
-    subst (λ ds. Parses c.from_residual-in_err-body.result expr_of c.each.new.names (parse_list c.args.pos (word
-    c.args.pos Let ▹ ds) c.args.names.now)) (sym shape)
-    (bind_ok _ _ _ _ _ _ _ (some) (bind_ok _ _ _ _ _ _ _ (c.in_ok-bindings.ensures) (search (rules, bind_err))))
-
-pub let_form-returns : goal.let_form-returns
-let_form-returns t c =
-    let second = ap (λ (s : Sexp). (out-Sexp s).node) (sym c.deref-2.ensures) ∙ c.in-List.is in
-    let shape = list_first c.args.rest.now c.in-Cons.is second in
-    let some = plain_reads _ _ c.args.names.now (rw c.deref.ensures at c.in_ok-some.ensures) in
-    ap (λ ds. parse_list c.args.pos (word c.args.pos Let ▹ ds) c.args.names.now) shape
-    ∙ bind_reads _ _ _ _ _ (some)
-    (bind_reads _ _ _ _ _ (c.in_ok-bindings.ensures)
-    (bind_reads _ _ _ _ _ (rw c.deref-3.ensures at c.in_ok-body.ensures)
-    (refl)))
-
-pub letrec_form-returns-in_err-members : goal.letrec_form-returns-in_err-members
-letrec_form-returns-in_err-members t c =
-    let second = ap (λ (s : Sexp). (out-Sexp s).node) (sym c.deref-2.ensures) ∙ c.in-List.is in
-    let shape = list_first c.args.rest.now c.in-Cons.is second in
-    let some = plain_reads _ _ c.args.names.now (rw c.deref.ensures at c.in_ok-some.ensures) in
-    subst (λ ds. Parses c.from_residual-in_err-members.result expr_of c.letrecs.new.names (parse_list c.args.pos (word
-    c.args.pos Letrec ▹ ds) c.args.names.now)) (sym shape)
-    (bind_ok _ _ _ _ _ _ _ (some) (search (rules, bind_err)))
-
-pub letrec_form-returns-in_err-body : goal.letrec_form-returns-in_err-body
-letrec_form-returns-in_err-body t c =
-    let second = ap (λ (s : Sexp). (out-Sexp s).node) (sym c.deref-2.ensures) ∙ c.in-List.is in
-    let shape = list_first c.args.rest.now c.in-Cons.is second in
-    let some = plain_reads _ _ c.args.names.now (rw c.deref.ensures at c.in_ok-some.ensures) in
-    subst (λ ds. Parses c.from_residual-in_err-body.result expr_of c.each.new.names (parse_list c.args.pos (word
-    c.args.pos Letrec ▹ ds) c.args.names.now)) (sym shape)
-    (bind_ok _ _ _ _ _ _ _ (some) (bind_ok _ _ _ _ _ _ _ (c.in_ok-members.ensures) (search (rules, bind_err))))
-
-pub letrec_form-returns : goal.letrec_form-returns
-letrec_form-returns t c =
-    let second = ap (λ (s : Sexp). (out-Sexp s).node) (sym c.deref-2.ensures) ∙ c.in-List.is in
-    let shape = list_first c.args.rest.now c.in-Cons.is second in
-    let some = plain_reads _ _ c.args.names.now (rw c.deref.ensures at c.in_ok-some.ensures) in
-    ap (λ ds. parse_list c.args.pos (word c.args.pos Letrec ▹ ds) c.args.names.now) shape
-    ∙ bind_reads _ _ _ _ _ (some)
-    (bind_reads _ _ _ _ _ (c.in_ok-members.ensures)
-    (bind_reads _ _ _ _ _ (rw c.deref-3.ensures at c.in_ok-body.ensures)
-    (refl)))
-
 pub list-returns : goal.list-returns
 list-returns t c =
     let shape = one_first c.args.elements.now c.in-Cons.is in
     let found = rw c.deref.ensures at (sym c.word_at.ensures ∙ c.in-Some.is) in
+    let row = list_row c.args.pos (marked (datum_of c.in-Cons.head.value)) (all_marked (datums_of
+    c.in-Cons.rest.value)) c.in-Some.word c.args.names.now found (sym c.is_arrow.ensures ∙ c.if-is_arrow.false) in
     subst (λ ds. Parses c.headed.result expr_of c.headed.new.names (parse_list c.args.pos ds c.args.names.now))
-    (sym shape) (headed_by c.headed.result expr_of c.headed.new.names c.args.pos
-    (marked (datum_of c.in-Cons.head.value)) (all_marked (datums_of c.in-Cons.rest.value)) c.in-Some.word
-    c.args.names.now found (sym c.is_arrow.ensures ∙ c.if-is_arrow.false)
+    (sym shape) (subst (λ w. Parses c.headed.result expr_of c.headed.new.names w) (sym row)
     (rw c.deref-2.ensures at c.headed.ensures))
 
-pub projection-returns-in_err-tuple : goal.projection-returns-in_err-tuple
-projection-returns-in_err-tuple t c =
-    let shape = two_only c.args.rest.now c.in-Cons.is (sym c.deref.ensures ∙ c.in-Cons-deref.is)
-    (sym c.deref-2.ensures ∙ c.in-Nil.is) in
-    subst (λ ds. Parses c.from_residual.result expr_of c.expr.new.names (parse_list c.args.pos (word c.args.pos
-    TupleProj ▹ ds) c.args.names.now)) (sym shape)
-    (search (rules, bind_err))
+pub range-returns-in_err-parts : goal.range-returns-in_err-parts
+range-returns-in_err-parts t c =
+    let row = range_row (marked (datum_of c.args.sexp.now)) c.args.names.now in
+    subst (λ w. Parses c.from_residual.result range_of c.args.names.now w) (sym row)
+    (search (rules, plain_err))
 
-pub projection-returns-in_err-part : goal.projection-returns-in_err-part
-projection-returns-in_err-part t c =
-    let shape = two_only c.args.rest.now c.in-Cons.is (sym c.deref.ensures ∙ c.in-Cons-deref.is)
-    (sym c.deref-2.ensures ∙ c.in-Nil.is) in
-    let row = part_is c.args.pos (expr_of c.in_ok-tuple.tuple) (marked (datum_of c.in-Cons-deref.number.value))
-    c.expr.new.names in
-    subst (λ ds. Parses c.from_residual-in_err-part.result expr_of c.expr.new.names (parse_list c.args.pos (word
-    c.args.pos TupleProj ▹ ds) c.args.names.now)) (sym shape)
-    (bind_ok _ _ _ _ _ _ _ (rw c.deref-3.ensures at c.in_ok-tuple.ensures) (subst (λ w. Parses
-    c.from_residual-in_err-part.result expr_of c.expr.new.names w) (sym row)
-    (search (rules, plain_err))))
-
-pub projection-returns : goal.projection-returns
-projection-returns t c =
-    let shape = two_only c.args.rest.now c.in-Cons.is (sym c.deref.ensures ∙ c.in-Cons-deref.is)
-    (sym c.deref-2.ensures ∙ c.in-Nil.is) in
-    let row = part_is c.args.pos (expr_of c.in_ok-tuple.tuple) (marked (datum_of c.in-Cons-deref.number.value))
-    c.expr.new.names in
-    let fits : FitsSigned w64 c.in_ok-part.part = omega (arith, ints) in
-    ap (λ ds. parse_list c.args.pos (word c.args.pos TupleProj ▹ ds) c.args.names.now) shape
-    ∙ bind_reads _ _ _ _ _ (rw c.deref-3.ensures at c.in_ok-tuple.ensures)
-    (row ∙ bind_reads _ _ _ _ _ (plain_reads _ _ _ (rw c.deref-4.ensures at c.in_ok-part.ensures))
-    (same_part c.args.pos c.in_ok-boxed.field-0.value c.in_ok-tuple.tuple c.in_ok-part.part _
-    c.in-Cons-deref.number.value c.deref-5.result.now c.expr.new.names c.in_ok-boxed.ensures
-    (to_z-of_z w64 c.in_ok-part.part fits) c.deref-5.ensures))
+pub range-returns-in_err-counter : goal.range-returns-in_err-counter
+range-returns-in_err-counter t c =
+    let row = range_row (marked (datum_of c.args.sexp.now)) c.args.names.now in
+    subst (λ w. Parses c.from_residual-in_err-counter.result range_of c.args.names.now w) (sym row)
+    (bind_ok _ _ _ _ _ _ _ (plain_reads _ _ _ c.in_ok-parts.ensures.elements)
+    (search (rules, plain_err)))
 
 pub range-returns-in_err-first : goal.range-returns-in_err-first
 range-returns-in_err-first t c =
-    let shape = in_list c.args.sexp.now c.in-List.is (three_only c.in-List.elements c.in-Cons.is
-    (sym c.deref.ensures ∙ c.in-Cons-deref.is) (sym c.deref-2.ensures ∙ c.in-Cons-deref-2.is)
-    (sym c.deref-3.ensures ∙ c.in-Nil.is)) in
-    let counter = plain_reads _ _ c.args.names.now (rw (c.deref-4.ensures, c.new-scope.ensures) at
-    c.in_ok-counter.ensures.name) in
+    let row = range_row (marked (datum_of c.args.sexp.now)) c.args.names.now in
     let exit = err_from_is_err_and c.from_residual-in_err-first.result c.from_residual-in_err-first.ensures.1 in
-    subst (λ s. Parses c.from_residual-in_err-first.result range_of c.expr.new.names (parse_range s c.args.names.now))
-    (sym shape)
-    (bind_ok _ _ _ _ _ _ _ (counter) (bind_err _ _ expr_of range_of _ _ c.in_err-first.field-0.0 c.expr.result
-    c.from_residual-in_err-first.result c.in_err-first.was
-    (rw (exit.1, exit.2) refl) (rw c.deref-5.ensures at c.expr.ensures)))
+    subst (λ w. Parses c.from_residual-in_err-first.result range_of c.expr.new.names w) (sym row)
+    (bind_ok _ _ _ _ _ _ _ (plain_reads _ _ _ c.in_ok-parts.ensures.elements)
+    (bind_ok _ _ _ _ _ _ _ (plain_reads _ _ _ c.in_ok-counter.ensures)
+    (bind_err _ _ expr_of range_of _ _ c.in_err-first.field-0.0 c.expr.result c.from_residual-in_err-first.result c.in_err-first.was (rw (exit.1, exit.2) refl)
+    c.expr.ensures)))
 
 pub range-returns-in_err-bound : goal.range-returns-in_err-bound
 range-returns-in_err-bound t c =
-    let shape = in_list c.args.sexp.now c.in-List.is (three_only c.in-List.elements c.in-Cons.is
-    (sym c.deref.ensures ∙ c.in-Cons-deref.is) (sym c.deref-2.ensures ∙ c.in-Cons-deref-2.is)
-    (sym c.deref-3.ensures ∙ c.in-Nil.is)) in
-    let counter = plain_reads _ _ c.args.names.now (rw (c.deref-4.ensures, c.new-scope.ensures) at
-    c.in_ok-counter.ensures.name) in
+    let row = range_row (marked (datum_of c.args.sexp.now)) c.args.names.now in
     let exit = err_from_is_err_and c.from_residual-in_err-bound.result c.from_residual-in_err-bound.ensures.1 in
-    subst (λ s. Parses c.from_residual-in_err-bound.result range_of c.expr-2.new.names (parse_range s
-    c.args.names.now)) (sym shape)
-    (bind_ok _ _ _ _ _ _ _ (counter) (bind_ok _ _ _ _ _ _ _ (rw c.deref-5.ensures at c.in_ok-first.ensures) (bind_err _
-    _ expr_of range_of _ _ c.in_err-bound.field-0.0 c.expr-2.result c.from_residual-in_err-bound.result
-    c.in_err-bound.was
-    (rw (exit.1, exit.2) refl) (rw c.deref-6.ensures at c.expr-2.ensures))))
+    subst (λ w. Parses c.from_residual-in_err-bound.result range_of c.expr-2.new.names w) (sym row)
+    (bind_ok _ _ _ _ _ _ _ (plain_reads _ _ _ c.in_ok-parts.ensures.elements)
+    (bind_ok _ _ _ _ _ _ _ (plain_reads _ _ _ c.in_ok-counter.ensures)
+    (bind_ok _ _ _ _ _ _ _ c.in_ok-first.ensures
+    (bind_err _ _ expr_of range_of _ _ c.in_err-bound.field-0.0 c.expr-2.result c.from_residual-in_err-bound.result c.in_err-bound.was (rw (exit.1, exit.2) refl)
+    c.expr-2.ensures))))
 
 pub range-returns : goal.range-returns
 range-returns t c =
-    let shape = in_list c.args.sexp.now c.in-List.is (three_only c.in-List.elements c.in-Cons.is
-    (sym c.deref.ensures ∙ c.in-Cons-deref.is) (sym c.deref-2.ensures ∙ c.in-Cons-deref-2.is)
-    (sym c.deref-3.ensures ∙ c.in-Nil.is)) in
-    let counter = plain_reads _ _ c.args.names.now (rw (c.deref-4.ensures, c.new-scope.ensures) at
-    c.in_ok-counter.ensures.name) in
-    ap (λ s. parse_range s c.args.names.now) shape
-    ∙ bind_reads _ _ _ _ _ (counter)
-    (bind_reads _ _ _ _ _ (rw c.deref-5.ensures at c.in_ok-first.ensures)
-    (bind_reads _ _ _ _ _ (rw c.deref-6.ensures at c.in_ok-bound.ensures)
-    (refl)))
+    let row = range_row (marked (datum_of c.args.sexp.now)) c.args.names.now in
+    row ∙ bind_reads _ _ _ _ _ (plain_reads _ _ _ c.in_ok-parts.ensures.elements)
+    (bind_reads _ _ _ _ _ (plain_reads _ _ _ c.in_ok-counter.ensures)
+    (bind_reads _ _ _ _ _ c.in_ok-first.ensures
+    (bind_reads _ _ _ _ _ c.in_ok-bound.ensures
+    (refl))))
+
+pub repeat-returns-in_err-parts : goal.repeat-returns-in_err-parts
+repeat-returns-in_err-parts t c =
+    search (rules, plain_err)
 
 pub repeat-returns-in_err-range : goal.repeat-returns-in_err-range
 repeat-returns-in_err-range t c =
-    let shape = two_only c.args.rest.now c.in-Cons.is (sym c.deref.ensures ∙ c.in-Cons-deref.is)
-    (sym c.deref-2.ensures ∙ c.in_default-deref-2.is) in
-    subst (λ ds. Parses c.from_residual.result expr_of c.range.new.names (parse_list c.args.pos (word c.args.pos Repeat
-    ▹ ds) c.args.names.now)) (sym shape)
+    bind_ok _ _ _ _ _ _ _ (plain_reads _ _ _ c.in_ok-parts.ensures.parts)
     (search (rules, bind_err))
 
 pub repeat-returns-in_err-body : goal.repeat-returns-in_err-body
 repeat-returns-in_err-body t c =
-    let shape = two_only c.args.rest.now c.in-Cons.is (sym c.deref.ensures ∙ c.in-Cons-deref.is)
-    (sym c.deref-2.ensures ∙ c.in_default-deref-2.is) in
+    let none = none_of c.in_ok-parts.parts.start c.in_default.not-Some in
     let exit = err_from_is_err_and c.from_residual-in_err-body.result c.from_residual-in_err-body.ensures.1 in
-    subst (λ ds. Parses c.from_residual-in_err-body.result expr_of c.expr.new.names (parse_list c.args.pos (word
-    c.args.pos Repeat ▹ ds) c.args.names.now)) (sym shape)
-    (bind_ok _ _ _ _ _ _ _ (rw c.deref-in_default-deref-2.ensures at c.in_ok-range.ensures) (bind_err _ _ expr_of
-    expr_of _ _ c.in_err-body.field-0.0 c.expr.result c.from_residual-in_err-body.result c.in_err-body.was
-    (rw (exit.1, exit.2) refl) (rw c.deref-in_default-deref-2-2.ensures at c.expr.ensures)))
+    bind_ok _ _ _ _ _ _ _ (plain_reads _ _ _ c.in_ok-parts.ensures.parts)
+    (bind_ok _ _ _ _ _ _ _ c.in_ok-range.ensures
+    (subst (λ w. Parses c.from_residual-in_err-body.result expr_of c.expr.new.names w)
+    (sym (counted_here _ _ _ _ _ _ none))
+    (bind_err _ _ expr_of expr_of _ _ c.in_err-body.field-0.0 c.expr.result c.from_residual-in_err-body.result c.in_err-body.was (rw (exit.1, exit.2) refl)
+    c.expr.ensures)))
 
-pub repeat-returns-in_default-deref-2 : goal.repeat-returns-in_default-deref-2
-repeat-returns-in_default-deref-2 t c =
-    let shape = two_only c.args.rest.now c.in-Cons.is (sym c.deref.ensures ∙ c.in-Cons-deref.is)
-    (sym c.deref-2.ensures ∙ c.in_default-deref-2.is) in
-    ap (λ ds. parse_list c.args.pos (word c.args.pos Repeat ▹ ds) c.args.names.now) shape
-    ∙ bind_reads _ _ _ _ _ (rw c.deref-in_default-deref-2.ensures at c.in_ok-range.ensures)
-    (bind_reads _ _ _ _ _ (rw c.deref-in_default-deref-2-2.ensures at c.in_ok-body.ensures)
-    (bind_reads _ _ _ _ _ (refl)
+pub repeat-returns-in_default : goal.repeat-returns-in_default
+repeat-returns-in_default t c =
+    let none = none_of c.in_ok-parts.parts.start c.in_default.not-Some in
+    bind_reads _ _ _ _ _ (plain_reads _ _ _ c.in_ok-parts.ensures.parts)
+    (bind_reads _ _ _ _ _ c.in_ok-range.ensures
+    (counted_here _ _ _ _ _ _ none ∙ bind_reads _ _ _ _ _ c.in_ok-body.ensures
+    (bind_reads _ _ _ _ _ refl
     (ap₂ (λ e names. Reads (e, names)) (sym c.in_ok-counted_repeat.ensures.expr) (sym
-    c.in_ok-counted_repeat.ensures.next))))
-
-pub repeat-returns-in_err-range-2 : goal.repeat-returns-in_err-range-2
-repeat-returns-in_err-range-2 t c =
-    let shape = three_only c.args.rest.now c.in-Cons.is (sym c.deref.ensures ∙ c.in-Cons-deref.is)
-    (sym c.deref-2.ensures ∙ c.in-Cons-deref-2.is) (sym c.deref-3.ensures ∙ c.in-Nil.is) in
-    subst (λ ds. Parses c.from_residual-in_err-range-2.result expr_of c.range-2.new.names (parse_list c.args.pos (word
-    c.args.pos Repeat ▹ ds) c.args.names.now)) (sym shape)
-    (search (rules, bind_err))
+    c.in_ok-counted_repeat.ensures.next)))))
 
 pub repeat-returns-in_err-start : goal.repeat-returns-in_err-start
 repeat-returns-in_err-start t c =
-    let shape = three_only c.args.rest.now c.in-Cons.is (sym c.deref.ensures ∙ c.in-Cons-deref.is)
-    (sym c.deref-2.ensures ∙ c.in-Cons-deref-2.is) (sym c.deref-3.ensures ∙ c.in-Nil.is) in
     let exit = err_from_is_err_and c.from_residual-in_err-start.result c.from_residual-in_err-start.ensures.1 in
-    subst (λ ds. Parses c.from_residual-in_err-start.result expr_of c.binding.new.names (parse_list c.args.pos (word
-    c.args.pos Repeat ▹ ds) c.args.names.now)) (sym shape)
-    (bind_ok _ _ _ _ _ _ _ (rw c.deref-4.ensures at c.in_ok-range-2.ensures) (bind_err _ _ bound_of expr_of _ _
-    c.in_err-start.field-0.0 c.binding.result c.from_residual-in_err-start.result c.in_err-start.was
-    (rw (exit.1, exit.2) refl) (rw (c.deref-5.ensures, c.in_ok-scope.ensures) at c.binding.ensures.binding)))
+    bind_ok _ _ _ _ _ _ _ (plain_reads _ _ _ c.in_ok-parts.ensures.parts)
+    (bind_ok _ _ _ _ _ _ _ c.in_ok-range.ensures
+    (subst (λ w. Parses c.from_residual-in_err-start.result expr_of c.binding.new.names w)
+    (sym (gathered_here _ _ c.in-Some.start _ _ _ _ c.in-Some.is))
+    (bind_err _ _ bound_of expr_of _ _ c.in_err-start.field-0.0 c.binding.result c.from_residual-in_err-start.result c.in_err-start.was (rw (exit.1, exit.2) refl)
+    (rw c.in_ok-scope.ensures at c.binding.ensures.binding))))
 
 pub repeat-returns-in_err-body-2 : goal.repeat-returns-in_err-body-2
 repeat-returns-in_err-body-2 t c =
-    let shape = three_only c.args.rest.now c.in-Cons.is (sym c.deref.ensures ∙ c.in-Cons-deref.is)
-    (sym c.deref-2.ensures ∙ c.in-Cons-deref-2.is) (sym c.deref-3.ensures ∙ c.in-Nil.is) in
-    let start = rw (c.deref-5.ensures, c.in_ok-scope.ensures) at c.in_ok-start.ensures.binding in
     let exit = err_from_is_err_and c.from_residual-in_err-body-2.result c.from_residual-in_err-body-2.ensures.1 in
-    subst (λ ds. Parses c.from_residual-in_err-body-2.result expr_of c.expr-2.new.names (parse_list c.args.pos (word
-    c.args.pos Repeat ▹ ds) c.args.names.now)) (sym shape)
-    (bind_ok _ _ _ _ _ _ _ (rw c.deref-4.ensures at c.in_ok-range-2.ensures) (bind_ok _ _ _ _ _ _ _ (start) (bind_err _
-    _ expr_of expr_of _ _ c.in_err-body-2.field-0.0 c.expr-2.result c.from_residual-in_err-body-2.result
-    c.in_err-body-2.was
-    (rw (exit.1, exit.2) refl) (rw c.deref-6.ensures at c.expr-2.ensures))))
+    bind_ok _ _ _ _ _ _ _ (plain_reads _ _ _ c.in_ok-parts.ensures.parts)
+    (bind_ok _ _ _ _ _ _ _ c.in_ok-range.ensures
+    (subst (λ w. Parses c.from_residual-in_err-body-2.result expr_of c.expr-2.new.names w)
+    (sym (gathered_here _ _ c.in-Some.start _ _ _ _ c.in-Some.is))
+    (bind_ok _ _ _ _ _ _ _ (rw c.in_ok-scope.ensures at c.in_ok-start.ensures.binding)
+    (bind_err _ _ expr_of expr_of _ _ c.in_err-body-2.field-0.0 c.expr-2.result c.from_residual-in_err-body-2.result c.in_err-body-2.was (rw (exit.1, exit.2) refl)
+    c.expr-2.ensures))))
 
 pub repeat-returns : goal.repeat-returns
 repeat-returns t c =
-    let shape = three_only c.args.rest.now c.in-Cons.is (sym c.deref.ensures ∙ c.in-Cons-deref.is)
-    (sym c.deref-2.ensures ∙ c.in-Cons-deref-2.is) (sym c.deref-3.ensures ∙ c.in-Nil.is) in
-    let start = rw (c.deref-5.ensures, c.in_ok-scope.ensures) at c.in_ok-start.ensures.binding in
-    ap (λ ds. parse_list c.args.pos (word c.args.pos Repeat ▹ ds) c.args.names.now) shape
-    ∙ bind_reads _ _ _ _ _ (rw c.deref-4.ensures at c.in_ok-range-2.ensures)
-    (bind_reads _ _ _ _ _ (start)
-    (bind_reads _ _ _ _ _ (rw c.deref-6.ensures at c.in_ok-body-2.ensures)
-    (bind_reads _ _ _ _ _ (refl)
-    (bind_reads _ _ _ _ _ (refl)
+    bind_reads _ _ _ _ _ (plain_reads _ _ _ c.in_ok-parts.ensures.parts)
+    (bind_reads _ _ _ _ _ c.in_ok-range.ensures
+    (gathered_here _ _ c.in-Some.start _ _ _ _ c.in-Some.is ∙ bind_reads _ _ _ _ _ (rw c.in_ok-scope.ensures at c.in_ok-start.ensures.binding)
+    (bind_reads _ _ _ _ _ c.in_ok-body-2.ensures
+    (bind_reads _ _ _ _ _ refl
+    (bind_reads _ _ _ _ _ refl
     (ap₂ (λ e names. Reads (e, names)) (sym c.in_ok-gathered_repeat.ensures.expr) (sym
-    c.in_ok-gathered_repeat.ensures.next))))))
+    c.in_ok-gathered_repeat.ensures.next)))))))

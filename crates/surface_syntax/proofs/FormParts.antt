@@ -1,0 +1,305 @@
+-- The forms of the pass, by what their elements are.
+use Rattle.std.proofs.Common.{◌≡◌, ℕ, Bool, true, false, List, Some, None, refl, ap, sym, ◌∙◌}
+use Rattle.std.specs.Prelude.{pos, negsuc, nat_eq, Option, Result, Ok, Err}
+use Rattle.std.specs.Option.{option_map}
+use Rattle.grift_base.specs.declared.refusals.FrontFault.{FrontFault}
+use Rattle.grift_base.specs.declared.refusals.FrontFault.TheVariants.{Refused, OutOfMemory}
+use Rattle.grift_base.specs.declared.places.Pos.{Pos}
+use Rattle.grift_base.specs.declared.refusals.RefusalKind.TheVariants.{BadForm}
+use Rattle.surface_syntax.specs.declared.words.Word.{Word}
+use Rattle.surface_syntax.specs.declared.words.Word.TheVariants.{Lambda, Let, Letrec, If, Begin, And, Or, Repeat, Tuple}
+use Rattle.surface_syntax.specs.declared.words.Word.TheVariants.{TupleProj, Define, Colon, Arrow, ReadInt, Operator}
+use Rattle.surface_syntax.specs.declared.operands.Head.TheVariants.{Operator as OperatorHead}
+use Rattle.surface_syntax.specs.Words.{is_arrow_word, operand_count}
+use Rattle.surface_syntax.specs.Marked.{Sexpr, Sexprs, number, truth_value, word, name, list, end, ◌▹◌, place}
+use Rattle.surface_syntax.specs.Marked.{reserved_at, how_many}
+use Rattle.surface_syntax.specs.Trees.{TypeExpr, Param, ExprAt, LambdaNode, AscribeNode}
+use Rattle.surface_syntax.specs.Walking.{Walked, Reads, Refuses, followed_by, test, binder, colon}
+use Rattle.surface_syntax.specs.Walk.{walk_type, walk_param_list}
+use Rattle.surface_syntax.specs.TopWalk.{has_body}
+use Rattle.surface_syntax.specs.Pass.{Parsing, ParsedRange, then_with, with_names, parse, parse_list, parse_lambda}
+use Rattle.surface_syntax.specs.Pass.{parse_binding, parse_member, parse_lambda_form, parse_range}
+use Rattle.surface_syntax.specs.Parts.{parse_behind}
+use Rattle.surface_syntax.specs.Forms.{parse_operands, applied_to, headed_of, lambda_from}
+use Rattle.surface_syntax.specs.Forms.{body_from, behind_from, function_from, binding_from, member_from}
+use Rattle.surface_syntax.specs.Forms.{range_from, counted_of, gathered_of, repeat_behind}
+use Rattle.surface_syntax.specs.Claims.{Answers, Parses}
+use Rattle.surface_syntax.proofs.Steps.{reserved_is}
+use Rattle.surface_syntax.proofs.FormRows.{lambda_lacks, lambda_has}
+
+-- ---- lines without fresh names, one after another
+
+-- what is read, in another form
+plain_as : {A B C : Type 0} (w : Walked A) (f : A → B) (next : B → Parsing C) (names : ℕ)
+    → then_with (with_names w names) (λ a names. next (f a) names)
+    ≡ then_with (with_names (followed_by w (λ a. Reads (f a))) names) next
+unfolding then_with with_names followed_by
+plain_as (Reads a) f next names = refl
+plain_as (Refuses kind p) f next names = refl
+
+-- the last line
+plain_last : {A B C : Type 0} (first : Walked (A × ℕ)) (w : Walked C) (f : A → C → B)
+    → then_with first (λ a names. then_with (with_names w names) (λ c names. Reads (f a c, names)))
+    ≡ then_with first (λ a names. with_names (followed_by w (λ c. Reads (f a c))) names)
+unfolding then_with with_names followed_by
+plain_last (Refuses kind p) w f = refl
+plain_last (Reads done) (Refuses kind p) f = refl
+plain_last (Reads done) (Reads c) f = refl
+
+-- a test, and what is known where it holds
+plain_test : {A C : Type 0} (b : Bool) (p : Pos) (a : A) (next : A → Parsing C) (names : ℕ)
+    → then_with (with_names (test b BadForm p) names) (λ done. next a)
+    ≡ then_with (with_names (followed_by (test b BadForm p) (λ done. Reads a)) names) next
+unfolding then_with with_names followed_by
+plain_test true p a next names = refl
+plain_test false p a next names = refl
+
+-- a name and its written type
+plain_typed : {A : Type 0} (x : Walked (List ℕ)) (c : Walked Bool) (t : Walked TypeExpr)
+    (next : List ℕ → TypeExpr → Parsing A) (after : List ℕ × Option TypeExpr → Parsing A) (names : ℕ)
+    → ((bytes : List ℕ) (type : TypeExpr) → after (bytes, Some type) ≡ next bytes type)
+    → then_with (with_names x names) (λ bytes names. then_with (with_names c names) (λ done names.
+    then_with (with_names t names) (λ type names. next bytes type names)))
+    ≡ then_with (with_names (followed_by x (λ bytes. followed_by (followed_by c (λ done. followed_by t (λ type.
+    Reads (Some type)))) (λ type. Reads (bytes, type)))) names) after
+unfolding then_with with_names followed_by
+plain_typed (Refuses kind p) c t next after names e = refl
+plain_typed (Reads x) (Refuses kind p) t next after names e = refl
+plain_typed (Reads x) (Reads c) (Refuses kind p) next after names e = refl
+plain_typed (Reads x) (Reads c) (Reads t) next after names e = sym (ap (λ after. after names) (e x t))
+
+-- ---- lambdas
+
+lambda_parted : (p : Pos) (ps : Sexpr) (rest : Sexprs) (names : ℕ) (b : Bool) → has_body rest ≡ b
+    → parse_lambda p (ps ▹ rest) names
+    ≡ then_with {A = Sexpr × Sexprs} (with_names (followed_by (test b BadForm p) (λ done. Reads (ps, rest))) names)
+    (λ parts names. then_with (with_names (walk_param_list parts.0) names)
+    (λ params names. parse_behind p params parts.1 names))
+unfolding then_with with_names followed_by
+lambda_parted p ps rest names true e = lambda_has p ps rest names e
+lambda_parted p ps rest names false e = lambda_lacks p ps rest names e
+
+pub lambda_row : (p : Pos) (ds : Sexprs) (names : ℕ) → parse_lambda p ds names ≡ lambda_from p ds names
+unfolding then_with with_names
+lambda_row p end names = refl
+lambda_row p (ps ▹ rest) names = lambda_parted p ps rest names (has_body rest) refl
+
+pub behind_row : (p : Pos) (params : List Param) (ds : Sexprs) (names : ℕ)
+    → parse_behind p params ds names ≡ behind_from p params ds names
+unfolding then_with with_names followed_by
+behind_row p params end names = refl
+behind_row p params ((word q Lambda) ▹ rest) names = refl
+behind_row p params ((word q Let) ▹ rest) names = refl
+behind_row p params ((word q Letrec) ▹ rest) names = refl
+behind_row p params ((word q If) ▹ rest) names = refl
+behind_row p params ((word q Begin) ▹ rest) names = refl
+behind_row p params ((word q And) ▹ rest) names = refl
+behind_row p params ((word q Or) ▹ rest) names = refl
+behind_row p params ((word q Repeat) ▹ rest) names = refl
+behind_row p params ((word q Tuple) ▹ rest) names = refl
+behind_row p params ((word q TupleProj) ▹ rest) names = refl
+behind_row p params ((word q Define) ▹ rest) names = refl
+behind_row p params (word q Colon ▹ end) names = refl
+behind_row p params (word q Colon ▹ t ▹ body) names = refl
+behind_row p params ((word q Arrow) ▹ rest) names = refl
+behind_row p params ((word q ReadInt) ▹ rest) names = refl
+behind_row p params ((word q (Operator o)) ▹ rest) names = refl
+behind_row p params ((number q n) ▹ rest) names = refl
+behind_row p params ((truth_value q b) ▹ rest) names = refl
+behind_row p params ((name q x t) ▹ rest) names = refl
+behind_row p params ((list q ds) ▹ rest) names = refl
+
+pub function_row : (s : Sexpr) (names : ℕ) → parse_lambda_form s names ≡ function_from s names
+unfolding then_with with_names
+function_row (number r n) names = refl
+function_row (truth_value r b) names = refl
+function_row (word r w) names = refl
+function_row (name r x t) names = refl
+function_row (list r end) names = refl
+function_row (list r (word q Lambda ▹ rest)) names = lambda_row r rest names
+function_row (list r ((word q Let) ▹ rest)) names = refl
+function_row (list r ((word q Letrec) ▹ rest)) names = refl
+function_row (list r ((word q If) ▹ rest)) names = refl
+function_row (list r ((word q Begin) ▹ rest)) names = refl
+function_row (list r ((word q And) ▹ rest)) names = refl
+function_row (list r ((word q Or) ▹ rest)) names = refl
+function_row (list r ((word q Repeat) ▹ rest)) names = refl
+function_row (list r ((word q Tuple) ▹ rest)) names = refl
+function_row (list r ((word q TupleProj) ▹ rest)) names = refl
+function_row (list r ((word q Define) ▹ rest)) names = refl
+function_row (list r ((word q Colon) ▹ rest)) names = refl
+function_row (list r ((word q Arrow) ▹ rest)) names = refl
+function_row (list r ((word q ReadInt) ▹ rest)) names = refl
+function_row (list r ((word q (Operator o)) ▹ rest)) names = refl
+function_row (list r ((number q n) ▹ rest)) names = refl
+function_row (list r ((truth_value q b) ▹ rest)) names = refl
+function_row (list r ((name q x t) ▹ rest)) names = refl
+function_row (list r ((list q ds) ▹ rest)) names = refl
+
+-- ---- the forms of words
+
+-- the form that a word other than `->` heads
+headed_row : (p q : Pos) (w : Word) (rest : Sexprs) (names : ℕ) → is_arrow_word w ≡ false
+    → parse_list p (word q w ▹ rest) names ≡ headed_of w p rest names
+unfolding then_with with_names followed_by
+headed_row p q Lambda rest names e = ap (λ w. then_with w (λ lambda names. Reads (ExprAt p (LambdaNode lambda), names))) (lambda_row p rest names)
+headed_row p q Let end names e = refl
+headed_row p q Let ((number r n) ▹ end) names e = refl
+headed_row p q Let ((number r n) ▹ s ▹ more) names e = refl
+headed_row p q Let ((truth_value r b) ▹ end) names e = refl
+headed_row p q Let ((truth_value r b) ▹ s ▹ more) names e = refl
+headed_row p q Let ((word r v) ▹ end) names e = refl
+headed_row p q Let ((word r v) ▹ s ▹ more) names e = refl
+headed_row p q Let ((name r x t) ▹ end) names e = refl
+headed_row p q Let ((name r x t) ▹ s ▹ more) names e = refl
+headed_row p q Let ((list r ds) ▹ end) names e = refl
+headed_row p q Let ((list r ds) ▹ s ▹ more) names e = refl
+headed_row p q Letrec end names e = refl
+headed_row p q Letrec ((number r n) ▹ end) names e = refl
+headed_row p q Letrec ((number r n) ▹ s ▹ more) names e = refl
+headed_row p q Letrec ((truth_value r b) ▹ end) names e = refl
+headed_row p q Letrec ((truth_value r b) ▹ s ▹ more) names e = refl
+headed_row p q Letrec ((word r v) ▹ end) names e = refl
+headed_row p q Letrec ((word r v) ▹ s ▹ more) names e = refl
+headed_row p q Letrec ((name r x t) ▹ end) names e = refl
+headed_row p q Letrec ((name r x t) ▹ s ▹ more) names e = refl
+headed_row p q Letrec ((list r ds) ▹ end) names e = refl
+headed_row p q Letrec ((list r ds) ▹ s ▹ more) names e = refl
+headed_row p q If end names e = refl
+headed_row p q If (a ▹ end) names e = refl
+headed_row p q If (a ▹ b ▹ end) names e = refl
+headed_row p q If (a ▹ b ▹ c ▹ end) names e = refl
+headed_row p q If (a ▹ b ▹ c ▹ d ▹ more) names e = refl
+headed_row p q Begin end names e = refl
+headed_row p q Begin (s ▹ more) names e = refl
+headed_row p q And rest names e = refl
+headed_row p q Or rest names e = refl
+headed_row p q Repeat end names e = refl
+headed_row p q Repeat (a ▹ end) names e = refl
+headed_row p q Repeat (a ▹ b ▹ end) names e = refl
+headed_row p q Repeat (a ▹ b ▹ c ▹ end) names e = refl
+headed_row p q Repeat (a ▹ b ▹ c ▹ d ▹ more) names e = refl
+headed_row p q Tuple end names e = refl
+headed_row p q Tuple (s ▹ more) names e = refl
+headed_row p q TupleProj end names e = refl
+headed_row p q TupleProj (a ▹ end) names e = refl
+headed_row p q TupleProj (a ▹ (number r (pos k)) ▹ end) names e = refl
+headed_row p q TupleProj (a ▹ (number r (negsuc k)) ▹ end) names e = refl
+headed_row p q TupleProj (a ▹ (truth_value r b) ▹ end) names e = refl
+headed_row p q TupleProj (a ▹ (word r v) ▹ end) names e = refl
+headed_row p q TupleProj (a ▹ (name r x t) ▹ end) names e = refl
+headed_row p q TupleProj (a ▹ (list r ds) ▹ end) names e = refl
+headed_row p q TupleProj (a ▹ b ▹ c ▹ more) names e = refl
+headed_row p q Define rest names e = refl
+headed_row p q Colon end names e = refl
+headed_row p q Colon (a ▹ end) names e = refl
+headed_row p q Colon (a ▹ t ▹ end) names e =
+    plain_last (parse a names) (walk_type t) (λ expr type. ExprAt p (AscribeNode expr type))
+headed_row p q Colon (a ▹ b ▹ c ▹ more) names e = refl
+headed_row p q Arrow rest names e = absurd (let z : ⊥ = cc in z)
+headed_row p q ReadInt rest names e = refl
+headed_row p q (Operator o) rest names e =
+    plain_test (nat_eq (how_many rest) (operand_count o)) p None (λ room names. then_with (parse_operands room rest names)
+    (λ exprs names. Reads (applied_to (OperatorHead o) p exprs, names))) names
+
+-- a list that begins with a word other than `->`
+pub list_row : (p : Pos) (s : Sexpr) (rest : Sexprs) (w : Word) (names : ℕ) → reserved_at s ≡ Some w
+    → is_arrow_word w ≡ false → parse_list p (s ▹ rest) names ≡ headed_of w p rest names
+list_row p s rest w names e f =
+    ap (λ x. parse_list p (x ▹ rest) names) (reserved_is s w e) ∙ headed_row p (place s) w rest names f
+
+-- ---- names that are bound
+
+pub binding_row : (seen : List (List ℕ)) (s : Sexpr) (names : ℕ)
+    → parse_binding seen s names ≡ binding_from seen s names
+unfolding then_with with_names followed_by
+binding_row seen (number r n) names = refl
+binding_row seen (truth_value r b) names = refl
+binding_row seen (word r w) names = refl
+binding_row seen (name r x t) names = refl
+binding_row seen (list r end) names = refl
+binding_row seen (list r (x ▹ end)) names = refl
+binding_row seen (list r (x ▹ e ▹ end)) names =
+    plain_as (binder seen x) (λ bytes. (bytes, None)) (λ known names. then_with (parse e names)
+    (λ value names. Reads (record { name = known.0; written = known.1; value = value }, names))) names
+binding_row seen (list r (x ▹ c ▹ t ▹ end)) names = refl
+binding_row seen (list r (x ▹ c ▹ t ▹ e ▹ end)) names =
+    plain_typed (binder seen x) (colon c) (walk_type t) (λ bytes type names. then_with (parse e names)
+    (λ value names. Reads (record { name = bytes; written = Some type; value = value }, names)))
+    (λ known names. then_with (parse e names)
+    (λ value names. Reads (record { name = known.0; written = known.1; value = value }, names))) names
+    (λ bytes type. refl)
+binding_row seen (list r (x ▹ c ▹ t ▹ e ▹ f ▹ more)) names = refl
+
+pub member_row : (seen : List (List ℕ)) (s : Sexpr) (names : ℕ)
+    → parse_member seen s names ≡ member_from seen s names
+unfolding then_with with_names followed_by
+member_row seen (number r n) names = refl
+member_row seen (truth_value r b) names = refl
+member_row seen (word r w) names = refl
+member_row seen (name r x t) names = refl
+member_row seen (list r end) names = refl
+member_row seen (list r (x ▹ end)) names = refl
+member_row seen (list r (x ▹ e ▹ end)) names =
+    plain_as (binder seen x) (λ bytes. (bytes, None)) (λ known names. then_with (parse_lambda_form e names)
+    (λ value names. Reads (record { name = known.0; written = known.1; value = value }, names))) names
+member_row seen (list r (x ▹ c ▹ t ▹ end)) names = refl
+member_row seen (list r (x ▹ c ▹ t ▹ e ▹ end)) names =
+    plain_typed (binder seen x) (colon c) (walk_type t) (λ bytes type names. then_with (parse_lambda_form e names)
+    (λ value names. Reads (record { name = bytes; written = Some type; value = value }, names)))
+    (λ known names. then_with (parse_lambda_form e names)
+    (λ value names. Reads (record { name = known.0; written = known.1; value = value }, names))) names
+    (λ bytes type. refl)
+member_row seen (list r (x ▹ c ▹ t ▹ e ▹ f ▹ more)) names = refl
+
+-- ---- the head of a `repeat`
+
+pub range_row : (s : Sexpr) (names : ℕ) → parse_range s names ≡ range_from s names
+unfolding then_with with_names followed_by
+range_row (number r n) names = refl
+range_row (truth_value r b) names = refl
+range_row (word r w) names = refl
+range_row (name r x t) names = refl
+range_row (list r end) names = refl
+range_row (list r (a ▹ end)) names = refl
+range_row (list r (a ▹ b ▹ end)) names = refl
+range_row (list r (a ▹ b ▹ c ▹ end)) names = refl
+range_row (list r (a ▹ b ▹ c ▹ d ▹ more)) names = refl
+
+-- ---- what the readers answer
+
+-- a call without fresh names, as the last line
+pub plain_answers : {A R : Type 0} (result : Result R FrontFault) (view : R → A) (w : Walked A) (names : ℕ)
+    → Answers result view w → Parses result view names (with_names w names)
+unfolding with_names
+plain_answers (Ok r) view w names h = ap (λ w. with_names w names) h
+plain_answers (Err (Refused refusal)) view w names h = ap (λ w. with_names w names) h
+plain_answers (Err OutOfMemory) view w names h = tt
+
+pub none_of : {A : Type 0} (o : Option A) → ((a : A) → o ≡ Some a → ⊥) → o ≡ None
+none_of None f = refl
+none_of (Some a) f = absurd (f a refl)
+
+-- a `repeat` without an accumulator
+pub counted_here : {A : Type 0} (f : A → Sexpr) (o : Option A) (p : Pos) (range : ParsedRange) (body : Sexpr)
+    (names : ℕ) → o ≡ None
+    → repeat_behind p range (option_map f o) body names ≡ counted_of p range body names
+counted_here f o p range body names e = ap (λ o. repeat_behind p range (option_map f o) body names) e
+
+-- a `repeat` with an accumulator
+pub gathered_here : {A : Type 0} (f : A → Sexpr) (o : Option A) (a : A) (p : Pos) (range : ParsedRange) (body : Sexpr)
+    (names : ℕ) → o ≡ Some a
+    → repeat_behind p range (option_map f o) body names ≡ gathered_of p range (f a) body names
+gathered_here f o a p range body names e = ap (λ o. repeat_behind p range (option_map f o) body names) e
+
+-- a lambda without a written type of its result
+pub plain_body : {A : Type 0} (f : A → Sexpr × Sexprs) (o : Option A) (p : Pos) (params : List Param) (ds : Sexprs)
+    (names : ℕ) → o ≡ None
+    → body_from p params (option_map f o) ds names ≡ body_from p params None ds names
+plain_body f o p params ds names e = ap (λ o. body_from p params (option_map f o) ds names) e
+
+-- a lambda with the written type of its result
+pub typed_here : {A : Type 0} (f : A → Sexpr × Sexprs) (o : Option A) (a : A) (p : Pos) (params : List Param)
+    (ds : Sexprs) (names : ℕ) → o ≡ Some a
+    → body_from p params (option_map f o) ds names ≡ body_from p params (Some (f a)) ds names
+typed_here f o a p params ds names e = ap (λ o. body_from p params (option_map f o) ds names) e

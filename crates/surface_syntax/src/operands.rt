@@ -1,0 +1,96 @@
+// Forms that are a head and operands: how many there may be, and what they are then.
+#![tactic(auto, using(crate::proofs::Steps::walk_steps), unfolding(crate::specs::Walking::followed_by))]
+
+ghost use Rattle.std.specs.Prelude.{◌≡◌, IfOk};
+ghost use Rattle.sexpr_reader.specs.View.{datums_of};
+ghost use Rattle.surface_syntax.specs.Marked.{all_marked};
+ghost use Rattle.surface_syntax.specs.Trees.{ExprAt, CallNode};
+ghost use Rattle.surface_syntax.specs.Forms.{room_of, applied_to};
+ghost use Rattle.surface_syntax.specs.Views.{expr_of, exprs_of};
+ghost use Rattle.surface_syntax.specs.Claims.{Answers};
+
+use crate::exprs::{Expr, ExprList, ExprNode};
+use crate::lists::{bad_form, boxed, has_length, some};
+use crate::words::operand_count;
+use grift_base::lists::OutOfMemory;
+use grift_base::operators::PrimOp;
+use grift_base::places::Pos;
+use grift_base::refusals::FrontFault;
+use sexpr_reader::sexps::SexpList;
+use std::alloc::Global;
+
+/// The most parts of a tuple, and the most operands of `and` and `or`.
+const MOST_PARTS: u64 = 8;
+
+/// The head of a form whose other elements are operands.
+#[derive(Clone, Copy)]
+pub enum Head {
+    /// `begin`.
+    Begin,
+    /// `tuple`.
+    Tuple,
+    /// `and`.
+    And,
+    /// `or`.
+    Or,
+    /// An operator.
+    Operator(PrimOp),
+}
+
+/// How many operands there may be at most, where that is bounded; a refusal where their number is wrong.
+pub fn room(head: Head, pos: Pos, operands: &SexpList) -> Result<Option<u64>, FrontFault>
+    ensures { Answers result (λ room. room) (room_of head pos (all_marked (datums_of operands.now))) }
+{
+    match head {
+        Head::Begin => {
+            some(pos, operands)?;
+            Ok(None)
+        }
+        Head::Tuple => {
+            some(pos, operands)?;
+            Ok(Some(MOST_PARTS))
+        }
+        Head::And | Head::Or => Ok(Some(MOST_PARTS)),
+        Head::Operator(operator) => {
+            if !has_length(operands, operand_count(operator)) {
+                return bad_form(pos);
+            }
+            Ok(None)
+        }
+    }
+}
+
+/// The form with these operands.
+pub fn applied_to(
+    alloc: Global,
+    head: Head,
+    pos: Pos,
+    operands: ExprList,
+) -> Result<Expr, OutOfMemory>
+    ensures { IfOk result (λ e. expr_of e ≡ applied_to head pos (exprs_of operands)) }
+{
+    let node = match head {
+        Head::And => return operands.chain(alloc, true, pos),
+        Head::Or => return operands.chain(alloc, false, pos),
+        Head::Begin => ExprNode::Begin(operands),
+        Head::Tuple => ExprNode::Tuple(operands),
+        Head::Operator(operator) => ExprNode::Prim(operator, operands),
+    };
+    Ok(Expr { pos, node })
+}
+
+/// A call of what this expression is.
+pub fn called(
+    alloc: Global,
+    pos: Pos,
+    function: Expr,
+    arguments: ExprList,
+) -> Result<Expr, OutOfMemory>
+    ensures { IfOk result (λ e. expr_of e ≡ ExprAt pos (CallNode (expr_of function) (exprs_of arguments))) }
+{
+    let function = boxed(alloc, function)?;
+    Ok(Expr {
+        pos,
+        node: ExprNode::Call(function, arguments),
+    })
+}
