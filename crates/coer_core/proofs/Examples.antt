@@ -219,3 +219,34 @@ in_order = (refl, refl, refl, refl, refl, refl, refl, refl)
 
 by_zero : EndsAlike (Prim Quot (two (int 1) (int 0))) 0 (TrapVerdict ZeroDivisor) [] 0
 by_zero = (refl, refl, refl, refl, refl, refl, refl, refl)
+
+-- ---- words asked for
+
+-- the piled run of a term of this type asks for so many words
+abbrev Asks : Term → ℕ → ℕ → Type 0
+Asks term type words =
+    let made = converted [] term in
+    (run_in (piling types made.casts) (told_of (program term) type) made.term [] 150).shown.words ≡ words
+
+-- a header, a code address and the one name that is captured, though it stands twice
+asked_by_a_lambda : Asks
+    (let_one 0 (int 5) (Call (Lambda (1 ∷ []) (Prim Add (two (Var 0) (Prim Add (two (Var 0) (Var 1))))) 3)
+    (one (int 1)))) 0 3
+asked_by_a_lambda = refl
+
+-- two functions with a header and a code address each, and one captured name
+asked_by_a_group : Asks
+    (let_one 0 (int 5) (Group (MemberThen 1 (3 ∷ []) (Prim Add (two (Var 0) (Var 3))) 3
+    (MemberThen 2 (4 ∷ []) (Prim Add (two (Var 0) (Call (Var 1) (one (Var 4))))) 3 NoMembers))
+    (Call (Var 2) (one (int 1))))) 0 5
+asked_by_a_group = refl
+
+asked_by_a_tuple : Asks (Proj (Tuple (two (int 1) (BoolLit true))) (pos 0)) 0 3
+asked_by_a_tuple = refl
+
+-- a box, what it has in Dyn, and a proxy
+asked_by_a_box : Asks (Prim Unbox (one (Cast (Prim MakeBox (one (int 1))) 7 8 0))) 2 8
+asked_by_a_box = refl
+
+asked_by_a_vector : Asks (Prim VectorLength (one (Prim MakeVector (two (int 3) (int 8))))) 0 4
+asked_by_a_vector = refl
