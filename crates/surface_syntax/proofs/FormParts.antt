@@ -142,10 +142,8 @@ function_row (list r ((list q ds) ▹ rest)) names = refl
 headed_row : (p q : Pos) (w : Word) (rest : Sexprs) (names : ℕ) → is_arrow_word w ≡ false
     → parse_list p (word q w ▹ rest) names ≡ headed_of w p rest names
 unfolding then_with with_names followed_by
-headed_row p q Lambda rest names e = ap (λ w. then_with w (λ lambda names. Reads (
-  ExprAt p (LambdaNode lambda),
-  names,
-))) (lambda_row p rest names)
+headed_row p q Lambda rest names e =
+    ap (λ w. then_with w (λ lambda names. Reads (ExprAt p (LambdaNode lambda), names))) (lambda_row p rest names)
 headed_row p q Let end names e = refl
 headed_row p q Let ((number r n) ▹ end) names e = refl
 headed_row p q Let ((number r n) ▹ s ▹ more) names e = refl
@@ -202,8 +200,8 @@ headed_row p q Colon (a ▹ b ▹ c ▹ more) names e = refl
 headed_row p q Arrow rest names e = absurd (let z : ⊥ = cc in z)
 headed_row p q ReadInt rest names e = refl
 headed_row p q (Operator o) rest names e =
-    plain_test (nat_eq (how_many rest) (operand_count o)) p None (λ room names. then_with (parse_operands room rest
-    names)
+    plain_test (nat_eq (how_many rest) (operand_count o)) p None
+    (λ room names. then_with (parse_operands room rest names)
     (λ exprs names. Reads (applied_to (OperatorHead o) p exprs, names))) names
 
 -- a list that begins with a word other than `->`

@@ -81,59 +81,6 @@ plain_err {A} {B} {R} {S} walked next view wider names new fault given result e 
     (stops (with_names walked names) next view wider names new fault
     (plain_stops walked view view names names fault (subst (λ g. Answers g view walked) e h)))
 
--- ---- the place of a head matters for `->` alone
-
-pub head_moves : (p q : Pos) (w : Word) (rest : Sexprs) (names : ℕ) → is_arrow_word w ≡ false
-    → parse_list p (word q w ▹ rest) names ≡ parse_list p (word p w ▹ rest) names
-head_moves p q Lambda rest names e = refl
-head_moves p q Let end names e = refl
-head_moves p q Let (number r n ▹ body) names e = refl
-head_moves p q Let (truth_value r b ▹ body) names e = refl
-head_moves p q Let (word r v ▹ body) names e = refl
-head_moves p q Let (name r x t ▹ body) names e = refl
-head_moves p q Let (list r ds ▹ body) names e = refl
-head_moves p q Letrec end names e = refl
-head_moves p q Letrec (number r n ▹ body) names e = refl
-head_moves p q Letrec (truth_value r b ▹ body) names e = refl
-head_moves p q Letrec (word r v ▹ body) names e = refl
-head_moves p q Letrec (name r x t ▹ body) names e = refl
-head_moves p q Letrec (list r ds ▹ body) names e = refl
-head_moves p q If end names e = refl
-head_moves p q If (a ▹ end) names e = refl
-head_moves p q If (a ▹ b ▹ end) names e = refl
-head_moves p q If (a ▹ b ▹ c ▹ end) names e = refl
-head_moves p q If (a ▹ b ▹ c ▹ d ▹ more) names e = refl
-head_moves p q Begin rest names e = refl
-head_moves p q And rest names e = refl
-head_moves p q Or rest names e = refl
-head_moves p q Repeat end names e = refl
-head_moves p q Repeat (a ▹ end) names e = refl
-head_moves p q Repeat (a ▹ b ▹ end) names e = refl
-head_moves p q Repeat (a ▹ b ▹ c ▹ end) names e = refl
-head_moves p q Repeat (a ▹ b ▹ c ▹ d ▹ more) names e = refl
-head_moves p q Tuple rest names e = refl
-head_moves p q TupleProj end names e = refl
-head_moves p q TupleProj (a ▹ end) names e = refl
-head_moves p q TupleProj (a ▹ b ▹ end) names e = refl
-head_moves p q TupleProj (a ▹ b ▹ c ▹ more) names e = refl
-head_moves p q Define rest names e = refl
-head_moves p q Colon end names e = refl
-head_moves p q Colon (a ▹ end) names e = refl
-head_moves p q Colon (a ▹ b ▹ end) names e = refl
-head_moves p q Colon (a ▹ b ▹ c ▹ more) names e = refl
-head_moves p q Arrow rest names e = absurd (let z : ⊥ = cc in z)
-head_moves p q ReadInt rest names e = refl
-head_moves p q (Operator o) rest names e = refl
-
--- a list that begins with this word
-pub headed_by : {R : Type 0} (result : Result R FrontFault) (view : R → Expr) (new : ℕ) (p : Pos) (s : Sexpr)
-    (rest : Sexprs) (w : Word) (names : ℕ) → reserved_at s ≡ Some w → is_arrow_word w ≡ false
-    → Parses result view new (parse_list p (word p w ▹ rest) names)
-    → Parses result view new (parse_list p (s ▹ rest) names)
-headed_by result view new p s rest w names e f h =
-    subst (λ m. Parses result view new m)
-    (sym (ap (λ x. parse_list p (x ▹ rest) names) (reserved_is s w e) ∙ head_moves p (place s) w rest names f)) h
-
 -- ---- lambdas
 
 pub lambda_lacks : (p : Pos) (ps : Sexpr) (rest : Sexprs) (names : ℕ) → has_body rest ≡ false
@@ -189,61 +136,6 @@ lambda_has p ps (truth_value q b ▹ rest) names e = refl
 lambda_has p ps (name q x t ▹ rest) names e = refl
 lambda_has p ps (list q ds ▹ rest) names e = refl
 
--- where a colon stands, nothing else does
-colon_is : (s : Sexpr) → is_colon s ≡ true → s ≡ word (place s) Colon
-colon_is (word q Lambda) e = absurd (let z : ⊥ = cc in z)
-colon_is (word q Let) e = absurd (let z : ⊥ = cc in z)
-colon_is (word q Letrec) e = absurd (let z : ⊥ = cc in z)
-colon_is (word q If) e = absurd (let z : ⊥ = cc in z)
-colon_is (word q Begin) e = absurd (let z : ⊥ = cc in z)
-colon_is (word q And) e = absurd (let z : ⊥ = cc in z)
-colon_is (word q Or) e = absurd (let z : ⊥ = cc in z)
-colon_is (word q Repeat) e = absurd (let z : ⊥ = cc in z)
-colon_is (word q Tuple) e = absurd (let z : ⊥ = cc in z)
-colon_is (word q TupleProj) e = absurd (let z : ⊥ = cc in z)
-colon_is (word q Define) e = absurd (let z : ⊥ = cc in z)
-colon_is (word q Colon) e = refl
-colon_is (word q Arrow) e = absurd (let z : ⊥ = cc in z)
-colon_is (word q ReadInt) e = absurd (let z : ⊥ = cc in z)
-colon_is (word q (Operator o)) e = absurd (let z : ⊥ = cc in z)
-colon_is (number q n) e = absurd (let z : ⊥ = cc in z)
-colon_is (truth_value q b) e = absurd (let z : ⊥ = cc in z)
-colon_is (name q x t) e = absurd (let z : ⊥ = cc in z)
-colon_is (list q ds) e = absurd (let z : ⊥ = cc in z)
-
-pub behind_short : (p : Pos) (params : List Param) (s : Sexpr) (names : ℕ) → is_colon s ≡ true
-    → parse_behind p params (s ▹ end) names ≡ Refuses BadForm p
-behind_short p params s names e = ap (λ x. parse_behind p params (x ▹ end) names) (colon_is s e)
-
-pub behind_typed : (p : Pos) (params : List Param) (s t : Sexpr) (body : Sexprs) (names : ℕ) → is_colon s ≡ true
-    → parse_behind p params (s ▹ t ▹ body) names
-    ≡ then_with (with_names (walk_type t) names) (λ result names. then_with (parse_each body names)
-    (λ exprs names. Reads (LambdaAt p params (Some result) exprs, names)))
-behind_typed p params s t body names e = ap (λ x. parse_behind p params (x ▹ t ▹ body) names) (colon_is s e)
-
-pub behind_plain : (p : Pos) (params : List Param) (s : Sexpr) (rest : Sexprs) (names : ℕ) → is_colon s ≡ false
-    → parse_behind p params (s ▹ rest) names
-    ≡ then_with (parse_each (s ▹ rest) names) (λ exprs names. Reads (LambdaAt p params None exprs, names))
-behind_plain p params (word q Lambda) rest names e = refl
-behind_plain p params (word q Let) rest names e = refl
-behind_plain p params (word q Letrec) rest names e = refl
-behind_plain p params (word q If) rest names e = refl
-behind_plain p params (word q Begin) rest names e = refl
-behind_plain p params (word q And) rest names e = refl
-behind_plain p params (word q Or) rest names e = refl
-behind_plain p params (word q Repeat) rest names e = refl
-behind_plain p params (word q Tuple) rest names e = refl
-behind_plain p params (word q TupleProj) rest names e = refl
-behind_plain p params (word q Define) rest names e = refl
-behind_plain p params (word q Colon) rest names e = absurd (let z : ⊥ = cc in z)
-behind_plain p params (word q Arrow) rest names e = refl
-behind_plain p params (word q ReadInt) rest names e = refl
-behind_plain p params (word q (Operator o)) rest names e = refl
-behind_plain p params (number q n) rest names e = refl
-behind_plain p params (truth_value q b) rest names e = refl
-behind_plain p params (name q x t) rest names e = refl
-behind_plain p params (list q ds) rest names e = refl
-
 -- ---- names with written types
 
 pub typed_then : {A : Type 0} (x : Walked (List ℕ)) (c : Walked Bool) (t : Walked TypeExpr)
@@ -258,34 +150,7 @@ typed_then (Reads x) (Refuses kind p) t next names = refl
 typed_then (Reads x) (Reads c) (Refuses kind p) next names = refl
 typed_then (Reads x) (Reads c) (Reads t) next names = refl
 
-pub typed_binding : (seen : List (List ℕ)) (p : Pos) (x c t e : Sexpr) (names : ℕ)
-    → parse_binding seen (list p (x ▹ c ▹ t ▹ e ▹ end)) names
-    ≡ then_with (with_names (typed_name seen x c t) names) (λ named names. then_with (parse e names)
-    (λ value names. Reads (record { name = named.0; written = Some named.1; value = value }, names)))
-typed_binding seen p x c t e names =
-    typed_then (binder seen x) (colon c) (walk_type t) (λ bytes type names. then_with (parse e names)
-    (λ value names. Reads (record { name = bytes; written = Some type; value = value }, names))) names
-
-pub typed_member : (seen : List (List ℕ)) (p : Pos) (x c t e : Sexpr) (names : ℕ)
-    → parse_member seen (list p (x ▹ c ▹ t ▹ e ▹ end)) names
-    ≡ then_with (with_names (typed_name seen x c t) names) (λ named names. then_with (parse_lambda_form e names)
-    (λ value names. Reads (record { name = named.0; written = Some named.1; value = value }, names)))
-typed_member seen p x c t e names =
-    typed_then (binder seen x) (colon c) (walk_type t) (λ bytes type names. then_with (parse_lambda_form e names)
-    (λ value names. Reads (record { name = bytes; written = Some type; value = value }, names))) names
-
 -- ---- parts of tuples
-
-pub part_is : (p : Pos) (e : Expr) (s : Sexpr) (names : ℕ)
-    → parse_part p e s names
-    ≡ then_with (with_names (part_number s) names) (λ k names. Reads (ExprAt p (ProjNode e k (place s)), names))
-unfolding then_with with_names
-part_is p e (number r (pos k)) names = refl
-part_is p e (number r (negsuc k)) names = refl
-part_is p e (truth_value r b) names = refl
-part_is p e (word r w) names = refl
-part_is p e (name r x t) names = refl
-part_is p e (list r ds) names = refl
 
 pub number_at : (r : Pos) (k : ℤ) → pos 0 ≤ℤ k → part_number (number r k) ≡ Reads k
 number_at r (pos k) h = refl
@@ -300,21 +165,6 @@ no_number r x (Reserved w) = refl
 no_number r x (Free t) = refl
 
 pub ruleset number_steps = (
-  number_at,
-  number_below,
-  no_number,
-)
-
-pub ruleset form_steps = (
-  parse_steps,
-  lambda_lacks,
-  lambda_has,
-  behind_short,
-  behind_typed,
-  behind_plain,
-  typed_binding,
-  typed_member,
-  part_is,
   number_at,
   number_below,
   no_number,

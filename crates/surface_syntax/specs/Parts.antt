@@ -62,12 +62,6 @@ parse_call p (f ▹ arguments) = do
   exprs ← parse_within 6 arguments
   give (ExprAt p (CallNode function exprs))
 
--- an `and`, where all operands are to hold, or an `or`
-abbrev pub parse_chain : Bool → Pos → Sexprs → Parsing Expr
-parse_chain all p operands = do
-  exprs ← parse_within 8 operands
-  give (chain_of all p exprs)
-
 -- the number of a tuple's part
 abbrev pub part_number : Sexpr → Walked ℤ
 part_number (number r (pos k)) = Reads (pos k)

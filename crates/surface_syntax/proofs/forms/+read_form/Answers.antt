@@ -11,7 +11,8 @@ use Rattle.surface_syntax.specs.Parts.{range_of, bound_of, member_of}
 use Rattle.surface_syntax.specs.Forms.{headed_of, lambda_from}
 use Rattle.surface_syntax.specs.Claims.{Parses}
 use Rattle.surface_syntax.proofs.Steps.{place_marked}
-use Rattle.surface_syntax.proofs.FormRows.{bind_reads, bind_ok, bind_err, plain_reads, plain_err, form_steps}
+use Rattle.surface_syntax.proofs.FormRows.{bind_reads, bind_ok, bind_err, plain_reads, plain_err}
+use Rattle.surface_syntax.proofs.ExprRows.{form_steps}
 use Rattle.surface_syntax.proofs.FormParts.{list_row, behind_row, function_row, binding_row, member_row, range_row}
 use Rattle.surface_syntax.proofs.FormParts.{plain_answers, none_of, counted_here, gathered_here, plain_body, typed_here}
 use Rattle.surface_syntax.proofs.Shapes.{one_first}
@@ -220,8 +221,8 @@ lambda_with-returns-in_err-body t c =
     (bind_ok _ _ _ _ _ _ _ (plain_reads _ _ _ c.in_ok-typed.ensures.parts)
     (subst (λ w. Parses c.from_residual-in_err-body.result lambda_of c.each.new.names w)
     (sym (plain_body _ _ _ _ _ _ none))
-    (bind_err _ _ exprs_of lambda_of _ _ c.in_err-body.field-0.0 c.each.result c.from_residual-in_err-body.result
-    c.in_err-body.was
+    (bind_err _ _ exprs_of lambda_of _ _ c.in_err-body.field-0.0 c.each.result
+    c.from_residual-in_err-body.result c.in_err-body.was
     (rw (exit.1, exit.2) refl) c.each.ensures)))
 
 pub lambda_with-returns-in_default : goal.lambda_with-returns-in_default
@@ -395,8 +396,8 @@ range-returns-in_err-first t c =
     subst (λ w. Parses c.from_residual-in_err-first.result range_of c.expr.new.names w) (sym row)
     (bind_ok _ _ _ _ _ _ _ (plain_reads _ _ _ c.in_ok-parts.ensures.elements)
     (bind_ok _ _ _ _ _ _ _ (plain_reads _ _ _ c.in_ok-counter.ensures)
-    (bind_err _ _ expr_of range_of _ _ c.in_err-first.field-0.0 c.expr.result c.from_residual-in_err-first.result
-    c.in_err-first.was (rw (exit.1, exit.2) refl)
+    (bind_err _ _ expr_of range_of _ _ c.in_err-first.field-0.0 c.expr.result
+    c.from_residual-in_err-first.result c.in_err-first.was (rw (exit.1, exit.2) refl)
     c.expr.ensures)))
 
 pub range-returns-in_err-bound : goal.range-returns-in_err-bound
@@ -407,8 +408,8 @@ range-returns-in_err-bound t c =
     (bind_ok _ _ _ _ _ _ _ (plain_reads _ _ _ c.in_ok-parts.ensures.elements)
     (bind_ok _ _ _ _ _ _ _ (plain_reads _ _ _ c.in_ok-counter.ensures)
     (bind_ok _ _ _ _ _ _ _ c.in_ok-first.ensures
-    (bind_err _ _ expr_of range_of _ _ c.in_err-bound.field-0.0 c.expr-2.result c.from_residual-in_err-bound.result
-    c.in_err-bound.was (rw (exit.1, exit.2) refl)
+    (bind_err _ _ expr_of range_of _ _ c.in_err-bound.field-0.0 c.expr-2.result
+    c.from_residual-in_err-bound.result c.in_err-bound.was (rw (exit.1, exit.2) refl)
     c.expr-2.ensures))))
 
 pub range-returns : goal.range-returns
@@ -437,8 +438,8 @@ repeat-returns-in_err-body t c =
     (bind_ok _ _ _ _ _ _ _ c.in_ok-range.ensures
     (subst (λ w. Parses c.from_residual-in_err-body.result expr_of c.expr.new.names w)
     (sym (counted_here _ _ _ _ _ _ none))
-    (bind_err _ _ expr_of expr_of _ _ c.in_err-body.field-0.0 c.expr.result c.from_residual-in_err-body.result
-    c.in_err-body.was (rw (exit.1, exit.2) refl)
+    (bind_err _ _ expr_of expr_of _ _ c.in_err-body.field-0.0 c.expr.result
+    c.from_residual-in_err-body.result c.in_err-body.was (rw (exit.1, exit.2) refl)
     c.expr.ensures)))
 
 pub repeat-returns-in_default : goal.repeat-returns-in_default
@@ -458,8 +459,8 @@ repeat-returns-in_err-start t c =
     (bind_ok _ _ _ _ _ _ _ c.in_ok-range.ensures
     (subst (λ w. Parses c.from_residual-in_err-start.result expr_of c.binding.new.names w)
     (sym (gathered_here _ _ c.in-Some.start _ _ _ _ c.in-Some.is))
-    (bind_err _ _ bound_of expr_of _ _ c.in_err-start.field-0.0 c.binding.result c.from_residual-in_err-start.result
-    c.in_err-start.was (rw (exit.1, exit.2) refl)
+    (bind_err _ _ bound_of expr_of _ _ c.in_err-start.field-0.0 c.binding.result
+    c.from_residual-in_err-start.result c.in_err-start.was (rw (exit.1, exit.2) refl)
     (rw c.in_ok-scope.ensures at c.binding.ensures.binding))))
 
 pub repeat-returns-in_err-body-2 : goal.repeat-returns-in_err-body-2
@@ -470,16 +471,16 @@ repeat-returns-in_err-body-2 t c =
     (subst (λ w. Parses c.from_residual-in_err-body-2.result expr_of c.expr-2.new.names w)
     (sym (gathered_here _ _ c.in-Some.start _ _ _ _ c.in-Some.is))
     (bind_ok _ _ _ _ _ _ _ (rw c.in_ok-scope.ensures at c.in_ok-start.ensures.binding)
-    (bind_err _ _ expr_of expr_of _ _ c.in_err-body-2.field-0.0 c.expr-2.result c.from_residual-in_err-body-2.result
-    c.in_err-body-2.was (rw (exit.1, exit.2) refl)
+    (bind_err _ _ expr_of expr_of _ _ c.in_err-body-2.field-0.0 c.expr-2.result
+    c.from_residual-in_err-body-2.result c.in_err-body-2.was (rw (exit.1, exit.2) refl)
     c.expr-2.ensures))))
 
 pub repeat-returns : goal.repeat-returns
 repeat-returns t c =
     bind_reads _ _ _ _ _ (plain_reads _ _ _ c.in_ok-parts.ensures.parts)
     (bind_reads _ _ _ _ _ c.in_ok-range.ensures
-    (gathered_here _ _ c.in-Some.start _ _ _ _ c.in-Some.is ∙ bind_reads _ _ _ _ _ (rw c.in_ok-scope.ensures at
-    c.in_ok-start.ensures.binding)
+    (gathered_here _ _ c.in-Some.start _ _ _ _ c.in-Some.is ∙ bind_reads _ _ _ _ _
+    (rw c.in_ok-scope.ensures at c.in_ok-start.ensures.binding)
     (bind_reads _ _ _ _ _ c.in_ok-body-2.ensures
     (bind_reads _ _ _ _ _ refl
     (bind_reads _ _ _ _ _ refl
