@@ -24,7 +24,6 @@ use Rattle.surface_syntax.specs.Pass.{parse_lambda, parse_binding, parse_member,
 use Rattle.surface_syntax.specs.Parts.{part_number, typed_name, parse_behind}
 use Rattle.surface_syntax.specs.Claims.{Answers, Parses}
 use Rattle.surface_syntax.proofs.Steps.{reserved_is}
-use Rattle.surface_syntax.proofs.ExprRows.{parse_steps}
 
 -- ---- one line after another, and the first that is refused
 
