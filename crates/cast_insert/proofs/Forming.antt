@@ -71,7 +71,7 @@ mutual
       FormedType types (form_node node types).0 (form_node node types).1
   node_formed (BaseType row) types widths table =
       intern_after types types row table (same_rows types)
-      (subst (λ parts. AreRows types parts) (sym widths) (no_rows types))
+      (subst (λ parts. AreRows types parts) (sym widths.0) (no_rows types))
   node_formed (FunType parameters answer) types widths table =
       let ps = types_formed parameters types widths.0 table in
       let one = (form_types parameters types) in

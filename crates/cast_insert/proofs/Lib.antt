@@ -18,5 +18,6 @@ pub mod Scoping
 pub mod Onto
 pub mod Loops
 pub mod Bodies
+pub mod Room
 pub mod Elaborated
 pub mod Public

@@ -9,6 +9,7 @@ pub mod Programs
 pub mod Claims
 pub mod Views
 pub mod Scoped
+pub mod Room
 pub mod Seen
 pub mod Gathered
 pub mod Heads

@@ -3,6 +3,7 @@ use Rattle.std.specs.Prelude.{◌≡◌, ◌≤◌, ℕ, suc, max, List, [], ◌
 use Rattle.std.specs.Int.{w64}
 use Rattle.std.specs.Int.RustNames.{FitsSigned}
 use Rattle.grift_base.specs.Types.{parts_of}
+use Rattle.type_graph.specs.TypeTables.{HasWidth}
 use Rattle.surface_syntax.specs.Trees.{TypeExpr, TypeNode, TypeExprs, TypeAt, BaseType, FunType, TupleType, RefType}
 use Rattle.surface_syntax.specs.Trees.{VectType, NoTypes, TypeThen}
 use Rattle.surface_syntax.specs.Trees.{Param, Expr, ExprNode, LambdaExpr, Exprs, LetBindings, LetrecMembers, ExprAt}
@@ -41,7 +42,7 @@ abbrev mutual
   HasTypeWidths (TypeAt place node) = NodeHasWidths node
 
   pub NodeHasWidths : TypeNode → Type 0
-  NodeHasWidths (BaseType row) = parts_of row ≡ []
+  NodeHasWidths (BaseType row) = (parts_of row ≡ []) × HasWidth row
   NodeHasWidths (FunType parameters answer) =
       HaveTypeWidths parameters × HasTypeWidths answer × (how_many_types parameters ≤ 6)
   NodeHasWidths (TupleType parts) = HaveTypeWidths parts × (1 ≤ how_many_types parts) × (how_many_types parts ≤ 8)

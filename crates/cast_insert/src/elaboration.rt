@@ -1,9 +1,10 @@
 // The elaboration of expressions, form by form.
-#![tactic(auto, using(crate::proofs::Loops::loop_steps), unfolding(crate::specs::Making::then_make))]
+#![tactic(auto, using(crate::proofs::Loops::loop_steps, crate::proofs::Room::room_steps), unfolding(crate::specs::Making::then_make))]
 
-ghost use Rattle.std.specs.Prelude.{◌≡◌, ◌==◌, ◌∷◌, ◌++◌, [], None, IfOk, OnOk, map};
+ghost use Rattle.std.specs.Prelude.{◌≡◌, ◌≤◌, ◌==◌, ◌∷◌, ◌++◌, [], None, IfOk, OnOk, length, map};
 ghost use Rattle.grift_base.specs.Types.{row_at};
 ghost use Rattle.type_graph.specs.Rows.{places_of};
+ghost use Rattle.type_graph.specs.TypeTables.{MayBePart};
 ghost use Rattle.core_calc.specs.Terms.{NoBindings, NoMembers, binding_list, member_list};
 ghost use Rattle.core_calc.specs.Views.{bindings_of, members_of, terms_of};
 ghost use Rattle.surface_syntax.specs.Views.{expr_of, exprs_of, lambda_of, lets_of, letrecs_of, node_of};
@@ -14,6 +15,9 @@ ghost use Rattle.cast_insert.specs.Calls.{call_by};
 ghost use Rattle.cast_insert.specs.Elaboration.{elaborate, elaborate_node, elaborate_all, elaborate_each};
 ghost use Rattle.cast_insert.specs.Elaboration.{elaborate_operands, elaborate_sequence, elaborate_bindings};
 ghost use Rattle.cast_insert.specs.Elaboration.{elaborate_lambda, elaborate_member, elaborate_members, seq};
+ghost use Rattle.cast_insert.specs.Programs.{AreSources, IsSource, IsSourceBody, IsSourceLambda, IsSourceNode};
+ghost use Rattle.cast_insert.specs.Programs.{AreSourceBindings, AreSourceMembers};
+ghost use Rattle.cast_insert.specs.Room.{AreParts, Grows, MayPart};
 ghost use Rattle.cast_insert.specs.Scoped.{env_of};
 ghost use Rattle.cast_insert.specs.Seen.{operand_seen};
 ghost use Rattle.cast_insert.specs.Heads.{head_seen, heads_seen};
@@ -111,8 +115,12 @@ fn function(
     types: &[TypeId],
     e: Typed,
 ) -> Result<Typed, OutOfMemory>
-    ensures { IfOk result (λ f. function_of (env_of names.now) (places_of types.now) (typed_of e)
+    requires types { AreParts progress.old.types (places_of types.now) }
+    requires few { length (places_of types.now) ≤ 6 }
+    requires answer { MayBePart progress.old.types e.ty.0 }
+    ensures made { IfOk result (λ f. function_of (env_of names.now) (places_of types.now) (typed_of e)
         (work_of progress.old) ≡ Makes (typed_of f) (work_of progress.new)) }
+    ensures grows { OnOk result (Grows progress.old.types progress.new.types) }
 {
     let variables = variables_of(alloc, names)?;
     let parameters = TypeIds::from_slice(alloc, types)?;
@@ -177,9 +185,12 @@ pub(crate) fn elaborate(
     scopes: &mut Scopes,
     e: &Expr,
 ) -> Result<Typed, FrontFault>
+    requires { IsSource (expr_of e.now) }
     ensures answer { Answers result typed_of (work_of progress.new)
         (elaborate (expr_of e.now) scopes.old (work_of progress.old)) }
     ensures scopes { OnOk result (scopes.new ≡ scopes.old) }
+    ensures grows { OnOk result (Grows progress.old.types progress.new.types) }
+    ensures part { IfOk result (λ e. MayBePart progress.new.types e.ty.0) }
 {
     let typed = node(alloc, progress, scopes, e.pos, &e.node)?;
     progress.not_too_large(e.pos, typed.ty)?;
@@ -195,9 +206,11 @@ fn node(
     pos: Pos,
     node: &ExprNode,
 ) -> Result<Typed, FrontFault>
+    requires { IsSourceNode (node_of node.now) }
     ensures answer { Answers result typed_of (work_of progress.new)
         (elaborate_node (node_of node.now) pos scopes.old (work_of progress.old)) }
     ensures scopes { OnOk result (scopes.new ≡ scopes.old) }
+    ensures grows { OnOk result (Grows progress.old.types progress.new.types) }
 {
     match node {
         ExprNode::Int(n) => Ok(literal(alloc, progress, Core::Int(*n), Row::Int)?),
@@ -256,9 +269,11 @@ fn if_form(
     pos: Pos,
     node: &ExprNode,
 ) -> Result<Typed, FrontFault>
+    requires { IsSourceNode (node_of node.now) }
     ensures answer { Answers result typed_of (work_of progress.new)
         (elaborate_node (node_of node.now) pos scopes.old (work_of progress.old)) }
     ensures scopes { OnOk result (scopes.new ≡ scopes.old) }
+    ensures grows { OnOk result (Grows progress.old.types progress.new.types) }
 {
     let ExprNode::If(condition, on_true, on_false) = node else {
         return Err(FrontFault::OutOfMemory);
@@ -289,11 +304,14 @@ fn call(
     function: Typed,
     arguments: &ExprList,
 ) -> Result<Typed, FrontFault>
+    requires arguments { AreSources (exprs_of arguments.now) }
+    requires few { how_many (exprs_of arguments.now) ≤ 6 }
     ensures answer { Answers result typed_of (work_of progress.new)
         (call_by pos function_pos (typed_of function) (how_many (exprs_of arguments.now))
         (elaborate_each (exprs_of arguments.now) scopes.old) (elaborate_all (exprs_of arguments.now) scopes.old)
         (row_at progress.old.types function.ty.0) (work_of progress.old)) }
     ensures scopes { OnOk result (scopes.new ≡ scopes.old) }
+    ensures grows { OnOk result (Grows progress.old.types progress.new.types) }
 {
     match progress.row(alloc, function.ty)? {
         Row::Fun(parameters, answer) => {
@@ -319,9 +337,13 @@ fn all(
     scopes: &mut Scopes,
     list: &ExprList,
 ) -> Result<Given, FrontFault>
+    requires { AreSources (exprs_of list.now) }
     ensures answer { Answers result given_of (work_of progress.new)
         (elaborate_all (exprs_of list.now) scopes.old (work_of progress.old)) }
     ensures scopes { OnOk result (scopes.new ≡ scopes.old) }
+    ensures grows { OnOk result (Grows progress.old.types progress.new.types) }
+    ensures parts { IfOk result (λ given. AreParts progress.new.types (given_of given).types) }
+    ensures count { IfOk result (λ given. length (given_of given).types ≡ how_many (exprs_of list.now)) }
 {
     let ExprList::Cons(first, rest) = list else {
         return Ok(Given {
@@ -343,9 +365,11 @@ fn each(
     list: &ExprList,
     wanted: &[TypeId],
 ) -> Result<CoreList, FrontFault>
+    requires { AreSources (exprs_of list.now) }
     ensures answer { Answers result terms_of (work_of progress.new)
         (elaborate_each (exprs_of list.now) scopes.old (places_of wanted.now) (work_of progress.old)) }
     ensures scopes { OnOk result (scopes.new ≡ scopes.old) }
+    ensures grows { OnOk result (Grows progress.old.types progress.new.types) }
 {
     let ExprList::Cons(first, rest) = list else {
         return Ok(CoreList::Nil);
@@ -369,10 +393,14 @@ fn operands(
     wanted: &[Operand],
     content: Option<TypeId>,
 ) -> Result<Gathered, FrontFault>
+    requires operands { AreSources (exprs_of list.now) }
+    requires content { MayPart progress.old.types (place_if content) }
     ensures answer { Answers result gathered_of (work_of progress.new)
         (elaborate_operands (exprs_of list.now) (map operand_seen wanted.now) (place_if content) scopes.old
         (work_of progress.old)) }
     ensures scopes { OnOk result (scopes.new ≡ scopes.old) }
+    ensures grows { OnOk result (Grows progress.old.types progress.new.types) }
+    ensures content { IfOk result (λ gathered. MayPart progress.new.types (place_if gathered.content)) }
 {
     let ExprList::Cons(first, rest) = list else {
         return Ok(Gathered {
@@ -403,9 +431,11 @@ fn lambda(
     scopes: &mut Scopes,
     l: &LambdaExpr,
 ) -> Result<Typed, FrontFault>
+    requires { IsSourceLambda (lambda_of l.now) }
     ensures answer { Answers result typed_of (work_of progress.new)
         (elaborate_lambda (lambda_of l.now) scopes.old (work_of progress.old)) }
     ensures scopes { OnOk result (scopes.new ≡ scopes.old) }
+    ensures grows { OnOk result (Grows progress.old.types progress.new.types) }
 {
     let types = parameter_types(alloc, progress, l.params.as_slice())?;
     let wanted = progress.written_if(alloc, &l.result)?;
@@ -440,10 +470,15 @@ fn lambda_body(
     wanted: Option<TypeId>,
     names: &[Named],
 ) -> Result<Typed, FrontFault>
+    requires body { IsSourceBody (exprs_of inner.now) }
+    requires types { AreParts progress.old.types (places_of types.now) }
+    requires few { length (places_of types.now) ≤ 6 }
+    requires wanted { MayPart progress.old.types (place_if wanted) }
     ensures answer { Answers result typed_of (work_of progress.new)
         (lambda_rest pos (exprs_of inner.now) (places_of types.now) (place_if wanted) (env_of names.now) scopes.old
         (work_of progress.old)) }
     ensures scopes { OnOk result (scopes.new ≡ scopes.old) }
+    ensures grows { OnOk result (Grows progress.old.types progress.new.types) }
 {
     let done = body(alloc, progress, scopes, names, inner)?.typed(alloc)?;
     let e = progress.cast_if(alloc, last_pos(pos, inner), wanted, done)?;
@@ -459,9 +494,12 @@ fn body(
     names: &[Named],
     inner: &ExprList,
 ) -> Result<Sequence, FrontFault>
+    requires { IsSourceBody (exprs_of inner.now) }
     ensures answer { Answers result sequence_of (work_of progress.new)
         (elaborate_sequence (exprs_of inner.now) (with_names (env_of names.now) scopes.old) (work_of progress.old)) }
     ensures scopes { OnOk result (scopes.new ≡ scopes.old) }
+    ensures grows { OnOk result (Grows progress.old.types progress.new.types) }
+    ensures part { IfOk result (λ sequence. MayBePart progress.new.types sequence.ty.0) }
 {
     scopes.enter(alloc, names)?;
     let done = in_order(alloc, progress, scopes, inner)?;
@@ -477,9 +515,12 @@ fn in_order(
     scopes: &mut Scopes,
     list: &ExprList,
 ) -> Result<Sequence, FrontFault>
+    requires { IsSourceBody (exprs_of list.now) }
     ensures answer { Answers result sequence_of (work_of progress.new)
         (elaborate_sequence (exprs_of list.now) scopes.old (work_of progress.old)) }
     ensures scopes { OnOk result (scopes.new ≡ scopes.old) }
+    ensures grows { OnOk result (Grows progress.old.types progress.new.types) }
+    ensures part { IfOk result (λ sequence. MayBePart progress.new.types sequence.ty.0) }
 {
     let mut terms = CoreList::new();
     let mut left = list;
@@ -513,9 +554,11 @@ fn bindings(
     scopes: &mut Scopes,
     list: &Bindings,
 ) -> Result<Bound, FrontFault>
+    requires { AreSourceBindings (lets_of list.now) }
     ensures answer { Answers result bound_of (work_of progress.new)
         (elaborate_bindings (lets_of list.now) scopes.old (work_of progress.old)) }
     ensures scopes { OnOk result (scopes.new ≡ scopes.old) }
+    ensures grows { OnOk result (Grows progress.old.types progress.new.types) }
 {
     let mut done = CoreBindings::new();
     let mut names = Vec::new(alloc);
@@ -552,9 +595,11 @@ fn members(
     list: &Members,
     heads: &[Head],
 ) -> Result<GroupMembers, FrontFault>
+    requires { AreSourceMembers (letrecs_of list.now) }
     ensures answer { Answers result members_of (work_of progress.new)
         (elaborate_members (letrecs_of list.now) (heads_seen heads.now) scopes.old (work_of progress.old)) }
     ensures scopes { OnOk result (scopes.new ≡ scopes.old) }
+    ensures grows { OnOk result (Grows progress.old.types progress.new.types) }
 {
     let mut done = GroupMembers::new();
     let mut left = list;
@@ -588,9 +633,11 @@ fn member(
     l: &LambdaExpr,
     head: &Head,
 ) -> Result<MemberBody, FrontFault>
+    requires { IsSourceLambda (lambda_of l.now) }
     ensures answer { Answers result body_of (work_of progress.new)
         (elaborate_member (lambda_of l.now) (head_seen head.now) scopes.old (work_of progress.old)) }
     ensures scopes { OnOk result (scopes.new ≡ scopes.old) }
+    ensures grows { OnOk result (Grows progress.old.types progress.new.types) }
 {
     let types = head.parameters.as_slice();
     let names = bind_names(alloc, progress, l.pos, l.params.as_slice(), types)?;

@@ -1,13 +1,16 @@
 // The heads of a `letrec`.
-#![tactic(auto, using(crate::proofs::Loops::head_steps), unfolding(crate::specs::Making::then_make))]
+#![tactic(auto, using(crate::proofs::Loops::head_steps, crate::proofs::Room::room_steps), unfolding(crate::specs::Making::then_make))]
 
-ghost use Rattle.std.specs.Prelude.{◌≡◌, ◌∷◌, ◌++◌, [], true, IfOk, OnOk};
+ghost use Rattle.std.specs.Prelude.{◌≡◌, ◌≤◌, ◌∷◌, ◌++◌, [], true, IfOk, OnOk, length};
 ghost use Rattle.type_graph.specs.Rows.{places_of};
+ghost use Rattle.type_graph.specs.TypeTables.{MayBePart};
 ghost use Rattle.surface_syntax.specs.Views.{lambda_of, letrecs_of, written_of};
 ghost use Rattle.cast_insert.specs.Environments.{head_of, heads_of, names_of_heads, with_names};
 ghost use Rattle.cast_insert.specs.Environments.{consistent_if};
 ghost use Rattle.cast_insert.specs.Heads.{head_of_types, head_seen, heads_seen, lambda_in, name_in, place_in};
 ghost use Rattle.cast_insert.specs.Heads.{written_in};
+ghost use Rattle.cast_insert.specs.Programs.{AreSourceMembers, IsSourceLambda, MayBeWritten};
+ghost use Rattle.cast_insert.specs.Room.{AreParts, Grows};
 ghost use Rattle.cast_insert.specs.Views.{Answers, place_if, work_of};
 
 use crate::copies::copy_of_name;
@@ -57,9 +60,13 @@ fn head_of_types(
     answer: TypeId,
     written: Option<TypeId>,
 ) -> Result<Head, FrontFault>
-    ensures { Answers result head_seen (work_of progress.new)
+    requires parameters { AreParts progress.old.types (places_of parameters.items) }
+    requires answer { MayBePart progress.old.types answer.0 }
+    requires few { length (places_of parameters.items) ≤ 6 }
+    ensures answer { Answers result head_seen (work_of progress.new)
         (head_of_types (name_in member.now) (place_in member.now) (places_of parameters.items) answer.0
         (place_if written) (work_of progress.old)) }
+    ensures grows { OnOk result (Grows progress.old.types progress.new.types) }
 {
     let pos = member.fun.pos;
     let types = TypeIds::from_slice(alloc, parameters.as_slice())?;
@@ -84,8 +91,11 @@ fn head_of_types(
 
 // The head of a member.
 fn member_head(alloc: Global, progress: &mut Progress, member: &Member) -> Result<Head, FrontFault>
-    ensures { Answers result head_seen (work_of progress.new)
+    requires lambda { IsSourceLambda (lambda_in member.now) }
+    requires written { MayBeWritten (written_in member.now) }
+    ensures answer { Answers result head_seen (work_of progress.new)
         (head_of (name_in member.now) (written_in member.now) (lambda_in member.now) (work_of progress.old)) }
+    ensures grows { OnOk result (Grows progress.old.types progress.new.types) }
 {
     let parameters = parameter_types(alloc, progress, member.fun.params.as_slice())?;
     let answer = type_or_dyn(alloc, progress, &member.fun.result)?;
@@ -107,10 +117,12 @@ pub(crate) fn heads(
     scopes: &mut Scopes,
     list: &Members,
 ) -> Result<Vec<Head>, FrontFault>
+    requires { AreSourceMembers (letrecs_of list.now) }
     ensures heads { Answers result (λ heads. heads_seen heads.items) (work_of progress.new)
         (heads_of (letrecs_of list.now) (work_of progress.old)) }
     ensures scopes { IfOk result (λ heads.
         scopes.new ≡ with_names (names_of_heads (heads_seen heads.items)) scopes.old) }
+    ensures grows { OnOk result (Grows progress.old.types progress.new.types) }
 {
     let mut done = Vec::new(alloc);
     let mut left = list;

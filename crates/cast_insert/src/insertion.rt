@@ -34,7 +34,8 @@ pub struct Elab {
 
 // The elaboration of a program from nothing on.
 fn run(alloc: Global, progress: &mut Progress, program: &Program) -> Result<Typed, FrontFault>
-    requires { work_of progress.old ≡ nothing_yet }
+    requires source { IsSource (expr_of program.now.body) }
+    requires start { work_of progress.old ≡ nothing_yet }
     ensures { Answers result typed_of (work_of progress.new) (elaborate_program (expr_of program.now.body)) }
 {
     let mut scopes = Scopes::new(alloc);
@@ -42,11 +43,13 @@ fn run(alloc: Global, progress: &mut Progress, program: &Program) -> Result<Type
 }
 
 /// The elaboration of a program, which fills an empty table of types; or its first refusal. After a refusal the table
-/// has the rows that were formed so far. `OutOfMemory` comes where no memory is left, or a table is full.
+/// has the rows that were formed so far. `OutOfMemory` comes where no memory is left, or a table is full: a row of a
+/// program that was read is never too wide or too high for its table.
 pub fn insert(alloc: Global, program: &Program, types: &mut TypeTable) -> Result<Elab, FrontFault>
-    requires { types.old ≡ [] }
+    requires source { IsSource (expr_of program.now.body) }
+    requires empty { types.old ≡ [] }
     ensures answer { Inserts result types.new (elaborate_program (expr_of program.now.body)) }
-    ensures typed { IsSource (expr_of program.now.body) → IfOk result (λ elab.
+    ensures typed { IfOk result (λ elab.
         ProgramTermHasType types.new (length elab.labels) (term_of elab.core) elab.ty.0) }
 {
     let mut progress = Progress {

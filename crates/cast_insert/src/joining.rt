@@ -1,9 +1,10 @@
 // Forms whose parts are elaborated.
-#![tactic(auto, using(crate::proofs::Steps::steps), unfolding(crate::specs::Making::then_make))]
+#![tactic(auto, using(crate::proofs::Steps::steps, crate::proofs::Room::room_steps), unfolding(crate::specs::Making::then_make))]
 
-ghost use Rattle.std.specs.Prelude.{◌≡◌, ◌∷◌, IfOk, None};
+ghost use Rattle.std.specs.Prelude.{◌≡◌, ◌≤◌, ◌∷◌, IfOk, None, OnOk, length};
 ghost use Rattle.grift_base.specs.Types.{TupleRow, row_at, tuple_part};
 ghost use Rattle.type_graph.specs.Rows.{places_of, row_of};
+ghost use Rattle.type_graph.specs.TypeTables.{FitsTable};
 ghost use Rattle.core_calc.specs.Terms.{NoTerms, TermThen, term_list};
 ghost use Rattle.core_calc.specs.Views.{term_of, terms_of};
 ghost use Rattle.cast_insert.specs.Making.{Makes, blend_at};
@@ -11,6 +12,7 @@ ghost use Rattle.cast_insert.specs.Environments.{use_at};
 ghost use Rattle.cast_insert.specs.Calls.{project_by};
 ghost use Rattle.cast_insert.specs.Views.{Answers, meaning_if, place_if, typed_of, work_of};
 ghost use Rattle.cast_insert.specs.Gathered.{call_of_dyn, given_of, if_of, literal_of, terms_onto, tuple_of};
+ghost use Rattle.cast_insert.specs.Room.{AreParts, Grows};
 
 use crate::casts::CastEntry;
 use crate::copies::{boxed, put_first, refused};
@@ -58,8 +60,10 @@ pub(crate) fn literal(
     core: Core,
     row: Row,
 ) -> Result<Typed, OutOfMemory>
-    ensures { IfOk result (λ e. literal_of (term_of core) (row_of row) (work_of progress.old)
+    requires { FitsTable progress.old.types (row_of row) }
+    ensures made { IfOk result (λ e. literal_of (term_of core) (row_of row) (work_of progress.old)
         ≡ Makes (typed_of e) (work_of progress.new)) }
+    ensures grows { OnOk result (Grows progress.old.types progress.new.types) }
 {
     let core = boxed(alloc, core)?;
     let ty = progress.form(row)?;
@@ -77,8 +81,9 @@ pub(crate) fn used(
     pos: Pos,
     meaning: Option<Meaning>,
 ) -> Result<Typed, FrontFault>
-    ensures { Answers result typed_of (work_of progress.new)
+    ensures answer { Answers result typed_of (work_of progress.new)
         (use_at pos (meaning_if meaning) (work_of progress.old)) }
+    ensures grows { OnOk result (Grows progress.old.types progress.new.types) }
 {
     let Some(meaning) = meaning else {
         return refused(RefusalKind::Unbound, pos);
@@ -103,8 +108,11 @@ pub(crate) fn called_dyn(
     function: Typed,
     given: Given,
 ) -> Result<Typed, OutOfMemory>
-    ensures { IfOk result (λ e. call_of_dyn function_pos (typed_of function) (given_of given) (work_of progress.old)
-        ≡ Makes (typed_of e) (work_of progress.new)) }
+    requires parts { AreParts progress.old.types (given_of given).types }
+    requires few { length (given_of given).types ≤ 6 }
+    ensures made { IfOk result (λ e. call_of_dyn function_pos (typed_of function) (given_of given)
+        (work_of progress.old) ≡ Makes (typed_of e) (work_of progress.new)) }
+    ensures grows { OnOk result (Grows progress.old.types progress.new.types) }
 {
     let dyn_type = progress.form(Row::Dyn)?;
     let parameters = TypeIds::from_slice(alloc, given.types.as_slice())?;
@@ -132,9 +140,10 @@ pub(crate) fn projected(
     whole: Typed,
     part: i64,
 ) -> Result<Typed, FrontFault>
-    ensures { Answers result typed_of (work_of progress.new)
+    ensures answer { Answers result typed_of (work_of progress.new)
         (project_by pos part_pos (typed_of whole) part (row_at progress.old.types whole.ty.0)
         (work_of progress.old)) }
+    ensures grows { OnOk result (Grows progress.old.types progress.new.types) }
 {
     match progress.row(alloc, whole.ty)? {
         Row::Tuple(parts) => {
@@ -158,8 +167,12 @@ pub(crate) fn tuple(
     progress: &mut Progress,
     given: Given,
 ) -> Result<Typed, OutOfMemory>
-    ensures { IfOk result (λ e. tuple_of (given_of given) (work_of progress.old)
+    requires parts { AreParts progress.old.types (given_of given).types }
+    requires least { 1 ≤ length (given_of given).types }
+    requires most { length (given_of given).types ≤ 8 }
+    ensures made { IfOk result (λ e. tuple_of (given_of given) (work_of progress.old)
         ≡ Makes (typed_of e) (work_of progress.new)) }
+    ensures grows { OnOk result (Grows progress.old.types progress.new.types) }
 {
     let parts = TypeIds::from_slice(alloc, given.types.as_slice())?;
     let ty = progress.form(Row::Tuple(parts))?;
@@ -174,7 +187,8 @@ fn blended(
     a: TypeId,
     b: TypeId,
 ) -> Result<TypeId, FrontFault>
-    ensures { Answers result (λ ty. ty.0) (work_of progress.new) (blend_at pos a.0 b.0 (work_of progress.old)) }
+    ensures answer { Answers result (λ ty. ty.0) (work_of progress.new) (blend_at pos a.0 b.0 (work_of progress.old)) }
+    ensures grows { OnOk result (Grows progress.old.types progress.new.types) }
 {
     if a.0 >= progress.types.len() || b.0 >= progress.types.len() {
         return Err(FrontFault::OutOfMemory);
@@ -194,9 +208,10 @@ pub(crate) fn joined(
     first: Placed,
     second: Placed,
 ) -> Result<Typed, FrontFault>
-    ensures { Answers result typed_of (work_of progress.new)
+    ensures answer { Answers result typed_of (work_of progress.new)
         (if_of pos (typed_of truth) first.pos (typed_of first.e) second.pos (typed_of second.e)
         (work_of progress.old)) }
+    ensures grows { OnOk result (Grows progress.old.types progress.new.types) }
 {
     let ty = blended(alloc, progress, pos, first.e.ty, second.e.ty)?;
     let one = progress.cast_to(alloc, first.pos, ty, first.e)?;

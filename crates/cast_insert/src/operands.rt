@@ -1,10 +1,12 @@
 // What operators do with their operands, and the types of their answers.
-#![tactic(auto, using(crate::proofs::Steps::steps), unfolding(crate::specs::Making::then_make))]
+#![tactic(auto, using(crate::proofs::Steps::steps, crate::proofs::Room::room_steps), unfolding(crate::specs::Making::then_make))]
 
-ghost use Rattle.std.specs.Prelude.{◌≡◌, IfOk, map};
+ghost use Rattle.std.specs.Prelude.{◌≡◌, IfOk, OnOk, map};
 ghost use Rattle.cast_insert.specs.Making.{Makes};
 ghost use Rattle.cast_insert.specs.Operators.{answer_of, answer_type, operand_by, operands_of, box_by, vector_by};
 ghost use Rattle.grift_base.specs.Types.{row_at};
+ghost use Rattle.type_graph.specs.TypeTables.{MayBePart};
+ghost use Rattle.cast_insert.specs.Room.{Grows, MayPart};
 ghost use Rattle.cast_insert.specs.Views.{Answers, place_if, typed_of, work_of};
 ghost use Rattle.cast_insert.specs.Seen.{answer_seen, held_of, operand_seen};
 
@@ -99,8 +101,10 @@ pub(crate) fn answer_type(
     operator: PrimOp,
     content: Option<TypeId>,
 ) -> Result<TypeId, OutOfMemory>
-    ensures { IfOk result (λ ty. answer_type (answer_of operator) (place_if content) (work_of progress.old)
+    requires { MayPart progress.old.types (place_if content) }
+    ensures made { IfOk result (λ ty. answer_type (answer_of operator) (place_if content) (work_of progress.old)
         ≡ Makes ty.0 (work_of progress.new)) }
+    ensures grows { OnOk result (Grows progress.old.types progress.new.types) }
 {
     let answer = answer_of(operator);
     match (answer, content) {
@@ -123,8 +127,11 @@ pub(crate) struct Held {
 
 // A term as a box.
 fn open_box(alloc: Global, progress: &mut Progress, pos: Pos, e: Typed) -> Result<Held, FrontFault>
-    ensures { Answers result held_of (work_of progress.new)
+    requires { MayBePart progress.old.types e.ty.0 }
+    ensures answer { Answers result held_of (work_of progress.new)
         (box_by pos (typed_of e) (row_at progress.old.types e.ty.0) (work_of progress.old)) }
+    ensures grows { OnOk result (Grows progress.old.types progress.new.types) }
+    ensures content { IfOk result (λ held. MayPart progress.new.types (place_if held.content)) }
 {
     match progress.row(alloc, e.ty)? {
         Row::Ref(content) => Ok(Held {
@@ -151,8 +158,11 @@ fn open_vector(
     pos: Pos,
     e: Typed,
 ) -> Result<Held, FrontFault>
-    ensures { Answers result held_of (work_of progress.new)
+    requires { MayBePart progress.old.types e.ty.0 }
+    ensures answer { Answers result held_of (work_of progress.new)
         (vector_by pos (typed_of e) (row_at progress.old.types e.ty.0) (work_of progress.old)) }
+    ensures grows { OnOk result (Grows progress.old.types progress.new.types) }
+    ensures content { IfOk result (λ held. MayPart progress.new.types (place_if held.content)) }
 {
     match progress.row(alloc, e.ty)? {
         Row::Vect(content) => Ok(Held {
@@ -182,8 +192,12 @@ pub(crate) fn fitted(
     e: Typed,
     operand: Operand,
 ) -> Result<Held, FrontFault>
-    ensures { Answers result held_of (work_of progress.new)
+    requires e { MayBePart progress.old.types e.ty.0 }
+    requires content { MayPart progress.old.types (place_if content) }
+    ensures answer { Answers result held_of (work_of progress.new)
         (operand_by pos (place_if content) (typed_of e) (operand_seen operand) (work_of progress.old)) }
+    ensures grows { OnOk result (Grows progress.old.types progress.new.types) }
+    ensures content { IfOk result (λ held. MayPart progress.new.types (place_if held.content)) }
 {
     match operand {
         Operand::Int => {

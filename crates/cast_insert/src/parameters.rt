@@ -1,12 +1,15 @@
 // Parameters: their types, and their variables.
-#![tactic(auto, using(crate::proofs::Steps::steps), unfolding(crate::specs::Making::then_make))]
+#![tactic(auto, using(crate::proofs::Steps::steps, crate::proofs::Room::room_steps), unfolding(crate::specs::Making::then_make))]
 
-ghost use Rattle.std.specs.Prelude.{◌≡◌, IfOk};
+ghost use Rattle.std.specs.Prelude.{◌≡◌, IfOk, OnOk, length};
 ghost use Rattle.type_graph.specs.Rows.{places_of};
+ghost use Rattle.type_graph.specs.TypeTables.{MayBePart};
 ghost use Rattle.surface_syntax.specs.Views.{params_of, written_of};
 ghost use Rattle.core_calc.specs.Views.{names_of};
 ghost use Rattle.cast_insert.specs.Making.{Makes};
 ghost use Rattle.cast_insert.specs.Environments.{bind_names, parameter_types, type_or_dyn, variables};
+ghost use Rattle.cast_insert.specs.Programs.{AreSourceParams, MayBeWritten};
+ghost use Rattle.cast_insert.specs.Room.{AreParts, Grows};
 ghost use Rattle.cast_insert.specs.Scoped.{env_of};
 ghost use Rattle.cast_insert.specs.Views.{Answers, work_of};
 
@@ -27,8 +30,11 @@ pub(crate) fn type_or_dyn(
     progress: &mut Progress,
     t: &Option<TypeExpr>,
 ) -> Result<TypeId, FrontFault>
-    ensures { Answers result (λ ty. ty.0) (work_of progress.new)
+    requires { MayBeWritten (written_of t.now) }
+    ensures answer { Answers result (λ ty. ty.0) (work_of progress.new)
         (type_or_dyn (written_of t.now) (work_of progress.old)) }
+    ensures grows { OnOk result (Grows progress.old.types progress.new.types) }
+    ensures part { IfOk result (λ ty. MayBePart progress.new.types ty.0) }
 {
     match t {
         Some(t) => progress.written(alloc, t),
@@ -42,8 +48,12 @@ pub(crate) fn parameter_types(
     progress: &mut Progress,
     params: &[Param],
 ) -> Result<Vec<TypeId>, FrontFault>
-    ensures { Answers result (λ types. places_of types.items) (work_of progress.new)
+    requires { AreSourceParams (params_of params.now) }
+    ensures answer { Answers result (λ types. places_of types.items) (work_of progress.new)
         (parameter_types (params_of params.now) (work_of progress.old)) }
+    ensures grows { OnOk result (Grows progress.old.types progress.new.types) }
+    ensures parts { IfOk result (λ types. AreParts progress.new.types (places_of types.items)) }
+    ensures count { IfOk result (λ types. length (places_of types.items) ≡ length (params_of params.now)) }
 {
     let [first, rest @ ..] = params else {
         return Ok(Vec::new(alloc));
@@ -62,8 +72,9 @@ pub(crate) fn bind_names(
     params: &[Param],
     types: &[TypeId],
 ) -> Result<Vec<Named>, OutOfMemory>
-    ensures { IfOk result (λ names. bind_names pos (params_of params.now) (places_of types.now) (work_of progress.old)
-        ≡ Makes (env_of names.items) (work_of progress.new)) }
+    ensures made { IfOk result (λ names. bind_names pos (params_of params.now) (places_of types.now)
+        (work_of progress.old) ≡ Makes (env_of names.items) (work_of progress.new)) }
+    ensures grows { OnOk result (Grows progress.old.types progress.new.types) }
 {
     let [first, others @ ..] = params else {
         return Ok(Vec::new(alloc));

@@ -1,18 +1,21 @@
 // What the elaboration has so far, and its small steps.
-#![tactic(auto, using(crate::proofs::Steps::steps), unfolding(crate::specs::Making::then_make))]
+#![tactic(auto, using(crate::proofs::Steps::steps, crate::proofs::Room::room_steps), unfolding(crate::specs::Making::then_make))]
 
-ghost use Rattle.std.specs.Prelude.{◌≡◌, Some, true, IfOk};
-ghost use Rattle.grift_base.specs.Types.{row_at};
+ghost use Rattle.std.specs.Prelude.{◌≡◌, ◌<◌, Some, true, IfOk, OnOk, [], length};
+ghost use Rattle.grift_base.specs.Types.{parts_of, row_at};
 ghost use Rattle.type_graph.specs.Forming.{intern};
 ghost use Rattle.type_graph.specs.Rows.{row_of};
+ghost use Rattle.type_graph.specs.TypeTables.{FitsTable, IsOrderedTable, MayBePart};
 ghost use Rattle.surface_syntax.specs.Views.{type_of, written_of};
 ghost use Rattle.cast_insert.specs.Making.{Makes, form, fresh, label_at, list_entry, not_too_large, are_consistent};
 ghost use Rattle.cast_insert.specs.Making.{cast_at, cast_to, cast_if, cast_to_row, written, written_if};
+ghost use Rattle.cast_insert.specs.Programs.{IsWrittenType, MayBeWritten};
+ghost use Rattle.cast_insert.specs.Room.{Grows, AreParts, MayPart};
 ghost use Rattle.cast_insert.specs.Views.{Answers, entry_of, place_if, typed_of, work_of};
 
 use crate::casts::{CastEntry, CastList};
 use crate::copies::{boxed, copy_of_row, refused};
-use crate::written::form_type;
+use crate::written::{form_type, put};
 use consistency::checks::consistent;
 use core_calc::terms::{Core, VarId};
 use grift_base::lists::OutOfMemory;
@@ -46,17 +49,19 @@ pub(crate) struct Typed {
 impl Progress {
     /// The type with this row.
     pub fn form(&mut self, row: Row) -> Result<TypeId, OutOfMemory>
-        ensures { IfOk result (λ ty. form (intern (row_of row)) (work_of self.old) ≡ Makes ty.0 (work_of self.new)) }
+        requires { FitsTable self.old.types (row_of row) }
+        ensures made { IfOk result (λ ty. form (intern (row_of row)) (work_of self.old)
+            ≡ Makes ty.0 (work_of self.new)) }
+        ensures grows { OnOk result (Grows self.old.types self.new.types) }
+        ensures leaf { parts_of (row_of row) ≡ [] → IfOk result (λ ty. MayBePart self.new.types ty.0) }
     {
-        if !self.types.fits(&row) {
-            return Err(OutOfMemory);
-        }
-        self.types.intern(row)
+        put(&mut self.types, row)
     }
 
     /// The row of a type.
     pub fn row(&self, alloc: Global, ty: TypeId) -> Result<Row, OutOfMemory>
-        ensures { IfOk result (λ row. row_at self.now.types ty.0 ≡ Some (row_of row)) }
+        ensures row { IfOk result (λ row. row_at self.now.types ty.0 ≡ Some (row_of row)) }
+        ensures table { IsOrderedTable self.now.types }
     {
         if ty.0 >= self.types.len() {
             return Err(OutOfMemory);
@@ -66,7 +71,8 @@ impl Progress {
 
     /// A variable that nothing else binds.
     pub fn fresh(&mut self) -> Result<VarId, OutOfMemory>
-        ensures { IfOk result (λ variable. fresh (work_of self.old) ≡ Makes variable.0 (work_of self.new)) }
+        ensures made { IfOk result (λ variable. fresh (work_of self.old) ≡ Makes variable.0 (work_of self.new)) }
+        ensures grows { OnOk result (Grows self.old.types self.new.types) }
     {
         let variable = VarId(self.next);
         if self.next == u32::MAX {
@@ -78,7 +84,8 @@ impl Progress {
 
     /// The label of a place.
     pub fn label(&mut self, pos: Pos) -> Result<LabelId, OutOfMemory>
-        ensures { IfOk result (λ label. label_at pos (work_of self.old) ≡ Makes label.0 (work_of self.new)) }
+        ensures made { IfOk result (λ label. label_at pos (work_of self.old) ≡ Makes label.0 (work_of self.new)) }
+        ensures grows { OnOk result (Grows self.old.types self.new.types) }
     {
         // No label stands twice.
         self.labels.len();
@@ -88,8 +95,9 @@ impl Progress {
 
     /// The place of a new entry in the list of casts.
     pub fn list(&mut self, entry: CastEntry) -> Result<u32, OutOfMemory>
-        ensures { IfOk result (λ place. list_entry (entry_of entry) (work_of self.old)
+        ensures made { IfOk result (λ place. list_entry (entry_of entry) (work_of self.old)
             ≡ Makes place (work_of self.new)) }
+        ensures grows { OnOk result (Grows self.old.types self.new.types) }
     {
         let place = self.casts.len();
         if place >= u64::from(u32::MAX) {
@@ -101,7 +109,8 @@ impl Progress {
 
     /// Refuses a type with too many nodes, at this place.
     pub fn not_too_large(&self, pos: Pos, ty: TypeId) -> Result<(), FrontFault>
-        ensures { Answers result (λ done. true) (work_of self.now) (not_too_large pos ty.0 (work_of self.now)) }
+        ensures answer { Answers result (λ done. true) (work_of self.now) (not_too_large pos ty.0 (work_of self.now)) }
+        ensures part { OnOk result (MayBePart self.now.types ty.0) }
     {
         if ty.0 >= self.types.len() {
             return Err(FrontFault::OutOfMemory);
@@ -139,8 +148,10 @@ impl Progress {
         e: Typed,
         ty: TypeId,
     ) -> Result<Typed, OutOfMemory>
-        ensures { IfOk result (λ cast. cast_at pos (typed_of e) ty.0 (work_of self.old)
+        ensures made { IfOk result (λ cast. cast_at pos (typed_of e) ty.0 (work_of self.old)
             ≡ Makes (typed_of cast) (work_of self.new)) }
+        ensures grows { OnOk result (Grows self.old.types self.new.types) }
+        ensures ty { IfOk result (λ cast. cast.ty ≡ ty) }
     {
         let label = self.label(pos)?;
         let entry = self.list(CastEntry::Cast {
@@ -165,7 +176,9 @@ impl Progress {
         ty: TypeId,
         e: Typed,
     ) -> Result<Typed, FrontFault>
-        ensures { Answers result typed_of (work_of self.new) (cast_to pos ty.0 (typed_of e) (work_of self.old)) }
+        ensures answer { Answers result typed_of (work_of self.new) (cast_to pos ty.0 (typed_of e) (work_of self.old)) }
+        ensures grows { OnOk result (Grows self.old.types self.new.types) }
+        ensures ty { IfOk result (λ cast. cast.ty.0 ≡ ty.0) }
     {
         if e.ty.0 == ty.0 {
             return Ok(e);
@@ -182,8 +195,12 @@ impl Progress {
         wanted: Option<TypeId>,
         e: Typed,
     ) -> Result<Typed, FrontFault>
-        ensures { Answers result typed_of (work_of self.new)
+        requires e { MayBePart self.old.types e.ty.0 }
+        requires wanted { MayPart self.old.types (place_if wanted) }
+        ensures answer { Answers result typed_of (work_of self.new)
             (cast_if pos (place_if wanted) (typed_of e) (work_of self.old)) }
+        ensures grows { OnOk result (Grows self.old.types self.new.types) }
+        ensures part { IfOk result (λ cast. MayBePart self.new.types cast.ty.0) }
     {
         match wanted {
             Some(ty) => self.cast_to(alloc, pos, ty, e),
@@ -199,8 +216,10 @@ impl Progress {
         row: Row,
         e: Typed,
     ) -> Result<Typed, FrontFault>
-        ensures { Answers result typed_of (work_of self.new)
+        requires { FitsTable self.old.types (row_of row) }
+        ensures answer { Answers result typed_of (work_of self.new)
             (cast_to_row pos (row_of row) (typed_of e) (work_of self.old)) }
+        ensures grows { OnOk result (Grows self.old.types self.new.types) }
     {
         let ty = self.form(row)?;
         self.cast_to(alloc, pos, ty, e)
@@ -208,7 +227,10 @@ impl Progress {
 
     /// A written type, where the work comes to it.
     pub fn written(&mut self, alloc: Global, t: &TypeExpr) -> Result<TypeId, FrontFault>
-        ensures { Answers result (λ ty. ty.0) (work_of self.new) (written (type_of t.now) (work_of self.old)) }
+        requires { IsWrittenType (type_of t.now) }
+        ensures answer { Answers result (λ ty. ty.0) (work_of self.new) (written (type_of t.now) (work_of self.old)) }
+        ensures grows { OnOk result (Grows self.old.types self.new.types) }
+        ensures part { IfOk result (λ ty. MayBePart self.new.types ty.0) }
     {
         let ty = form_type(alloc, &mut self.types, t)?;
         self.not_too_large(t.pos, ty)?;
@@ -221,7 +243,10 @@ impl Progress {
         alloc: Global,
         t: &Option<TypeExpr>,
     ) -> Result<Option<TypeId>, FrontFault>
-        ensures { Answers result place_if (work_of self.new) (written_if (written_of t.now) (work_of self.old)) }
+        requires { MayBeWritten (written_of t.now) }
+        ensures answer { Answers result place_if (work_of self.new) (written_if (written_of t.now) (work_of self.old)) }
+        ensures grows { OnOk result (Grows self.old.types self.new.types) }
+        ensures part { IfOk result (λ ty. MayPart self.new.types (place_if ty)) }
     {
         match t {
             Some(t) => Ok(Some(self.written(alloc, t)?)),

@@ -1,10 +1,15 @@
 // Written types as rows of a table.
-#![tactic(auto, using(crate::proofs::Steps::forms_more))]
+#![tactic(auto, using(crate::proofs::Steps::forms_more, crate::proofs::Room::written_steps))]
 
-ghost use Rattle.std.specs.Prelude.{◌≡◌, IfOk};
+ghost use Rattle.std.specs.Prelude.{◌≡◌, ◌≤◌, [], IfOk, OnOk, length};
+ghost use Rattle.grift_base.specs.Types.{parts_of};
 ghost use Rattle.type_graph.specs.Forming.{intern};
 ghost use Rattle.type_graph.specs.Rows.{places_of, row_of};
+ghost use Rattle.type_graph.specs.TypeTables.{FitsTable, MayBePart};
 ghost use Rattle.surface_syntax.specs.Views.{type_node_of, type_of, types_of};
+ghost use Rattle.cast_insert.specs.Programs.{HasTypeWidths, HaveTypeWidths, NodeHasWidths, depth_of, depth_of_all};
+ghost use Rattle.cast_insert.specs.Programs.{depth_of_node, how_many_types, most_brackets};
+ghost use Rattle.cast_insert.specs.Room.{AreWithin, Grows, IsWithin, StandsOn};
 ghost use Rattle.cast_insert.specs.WrittenTypes.{form_node, form_type, form_types};
 
 use crate::copies::copy_of_row;
@@ -15,14 +20,19 @@ use surface_syntax::types::{TypeExpr, TypeExprs, TypeNode};
 use type_graph::rows::{Row, TypeIds};
 use type_graph::tables::TypeTable;
 
-// The type with this row.
-fn put(types: &mut TypeTable, row: Row) -> Result<TypeId, OutOfMemory>
-    ensures { IfOk result (λ ty. intern (row_of row) types.old ≡ (ty.0, types.new)) }
+/// The type with this row.
+pub(crate) fn put(types: &mut TypeTable, row: Row) -> Result<TypeId, OutOfMemory>
+    requires { FitsTable types.old (row_of row) }
+    ensures formed { IfOk result (λ ty. intern (row_of row) types.old ≡ (ty.0, types.new)) }
+    ensures grows { OnOk result (Grows types.old types.new) }
+    ensures stands { IfOk result (λ ty. StandsOn types.old (parts_of (row_of row)) types.new ty.0) }
+    ensures leaf { parts_of (row_of row) ≡ [] → IfOk result (λ ty. MayBePart types.new ty.0) }
 {
-    if !types.fits(&row) {
-        return Err(OutOfMemory);
-    }
-    types.intern(row)
+    // The table is one: `len` says that parts stand before wholes.
+    types.len();
+    let ty = types.intern(row)?;
+    types.len();
+    Ok(ty)
 }
 
 /// The place of a written type, whose rows go last in the table where they are not there yet, parts first, from left
@@ -33,14 +43,22 @@ pub(crate) fn form_type(
     types: &mut TypeTable,
     t: &TypeExpr,
 ) -> Result<TypeId, OutOfMemory>
-    ensures { IfOk result (λ ty. form_type (type_of t.now) types.old ≡ (ty.0, types.new)) }
+    requires widths { HasTypeWidths (type_of t.now) }
+    requires shallow { depth_of (type_of t.now) ≤ most_brackets }
+    ensures formed { IfOk result (λ ty. form_type (type_of t.now) types.old ≡ (ty.0, types.new)) }
+    ensures grows { OnOk result (Grows types.old types.new) }
+    ensures within { IfOk result (λ ty. IsWithin types.new (depth_of (type_of t.now)) ty.0) }
 {
     form_node(alloc, types, &t.node)
 }
 
 #[cycle(form)]
 fn form_node(alloc: Global, types: &mut TypeTable, node: &TypeNode) -> Result<TypeId, OutOfMemory>
-    ensures { IfOk result (λ ty. form_node (type_node_of node.now) types.old ≡ (ty.0, types.new)) }
+    requires widths { NodeHasWidths (type_node_of node.now) }
+    requires shallow { depth_of_node (type_node_of node.now) ≤ most_brackets }
+    ensures formed { IfOk result (λ ty. form_node (type_node_of node.now) types.old ≡ (ty.0, types.new)) }
+    ensures grows { OnOk result (Grows types.old types.new) }
+    ensures within { IfOk result (λ ty. IsWithin types.new (depth_of_node (type_node_of node.now)) ty.0) }
 {
     match node {
         TypeNode::Base(row) => put(types, copy_of_row(alloc, row)?),
@@ -70,7 +88,12 @@ fn form_types(
     types: &mut TypeTable,
     list: &TypeExprs,
 ) -> Result<TypeIds, OutOfMemory>
-    ensures { IfOk result (λ ids. form_types (types_of list.now) types.old ≡ (places_of ids, types.new)) }
+    requires widths { HaveTypeWidths (types_of list.now) }
+    requires shallow { depth_of_all (types_of list.now) ≤ most_brackets }
+    ensures formed { IfOk result (λ ids. form_types (types_of list.now) types.old ≡ (places_of ids, types.new)) }
+    ensures grows { OnOk result (Grows types.old types.new) }
+    ensures within { IfOk result (λ ids. AreWithin types.new (depth_of_all (types_of list.now)) (places_of ids)) }
+    ensures count { IfOk result (λ ids. length (places_of ids) ≡ how_many_types (types_of list.now)) }
 {
     let mut ids = TypeIds::new(alloc);
     let mut left = list;

@@ -64,11 +64,11 @@ record ArrowFits (ds : Sexprs) (types : TypeExprs) (result : TypeExpr) : Type 0 
 
 mutual
   type_fits : {s : Sexpr} {type : TypeExpr} → IsType s type → TypeFits s type
-  type_fits is_int = record { widths = refl; shallow = omega arith }
-  type_fits is_bool = record { widths = refl; shallow = omega arith }
-  type_fits is_unit = record { widths = refl; shallow = omega arith }
-  type_fits is_dyn = record { widths = refl; shallow = omega arith }
-  type_fits is_empty = record { widths = refl; shallow = omega arith }
+  type_fits is_int = record { widths = (refl, tt); shallow = omega arith }
+  type_fits is_bool = record { widths = (refl, tt); shallow = omega arith }
+  type_fits is_unit = record { widths = (refl, tt); shallow = omega arith }
+  type_fits is_dyn = record { widths = (refl, tt); shallow = omega arith }
+  type_fits is_empty = record { widths = (refl, tt); shallow = omega arith }
   type_fits (is_tuple h few) =
       let all = types_fit h in
       record { widths = (all.widths, omega arith, omega arith); shallow = omega arith }

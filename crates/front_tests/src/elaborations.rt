@@ -1,15 +1,12 @@
 // Texts that are read, parsed and elaborated: the type of a program and how many casts it has, or its first refusal.
 
 use cast_insert::casts::CastEntry;
-use cast_insert::insertion::{Elab, insert};
+use front_end::{Elaborated, elaborate_text};
 use grift_base::places::{LabelId, Pos, TypeId};
 use grift_base::refusals::{FrontFault, Refusal};
-use sexpr_reader::read;
 use std::alloc::Global;
 use std::fmt::Write;
 use std::test::Fail;
-use surface_syntax::parse_program;
-use type_graph::tables::TypeTable;
 use type_graph::texts::show_type;
 
 fn show_refusal(out: &mut String, refusal: Refusal) -> Result<(), Fail> {
@@ -21,13 +18,13 @@ fn show_refusal(out: &mut String, refusal: Refusal) -> Result<(), Fail> {
 }
 
 // Writes a program's type, and how many casts and parts it has.
-fn show_elab(alloc: Global, out: &mut String, types: &TypeTable, elab: &Elab) -> Result<(), Fail> {
-    if elab.ty.0 >= types.len() {
+fn show_elaborated(alloc: Global, out: &mut String, done: &Elaborated) -> Result<(), Fail> {
+    if done.elab.ty.0 >= done.types.len() {
         return Err(Fail::from("no such type"));
     }
-    let ty = show_type(alloc, types, elab.ty)?;
+    let ty = show_type(alloc, &done.types, done.elab.ty)?;
     let ty = str::from_utf8(ty.as_slice())?;
-    let casts = elab.casts.len();
+    let casts = done.elab.casts.len();
     write!(out, "{ty}, {casts}")?;
     Ok(())
 }
@@ -38,11 +35,8 @@ fn outcome(alloc: Global, text: &[u8]) -> Result<String, Fail> {
         return Err(Fail::from("too long"));
     }
     let mut out = String::new(alloc);
-    let forms = read(alloc, text)?;
-    let program = parse_program(alloc, &forms)?;
-    let mut types = TypeTable::new(alloc)?;
-    match insert(alloc, &program, &mut types) {
-        Ok(elab) => show_elab(alloc, &mut out, &types, &elab)?,
+    match elaborate_text(alloc, text) {
+        Ok(done) => show_elaborated(alloc, &mut out, &done)?,
         Err(FrontFault::Refused(refusal)) => show_refusal(&mut out, refusal)?,
         Err(FrontFault::OutOfMemory) => return Err(Fail::from("no memory")),
     }

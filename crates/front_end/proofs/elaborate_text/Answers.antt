@@ -21,7 +21,7 @@ returns-clause-outcome c =
     (read_as c.args.text.now (datums_of c.in_ok-forms.forms) (expr_of c.in_ok-program.program.body)
     c.in_ok-forms.ensures.reading c.in_ok-program.ensures.program) c.in_ok-elab.ensures.answer
 
-pub returns-clause-typed : goal.returns-clause-typed
-returns-clause-typed c =
-    c.in_ok-elab.ensures.typed (read_programs_are_sources c.args.text.now (datums_of c.in_ok-forms.forms)
-    (expr_of c.in_ok-program.program.body) c.in_ok-forms.ensures.reading c.in_ok-program.ensures.program)
+pub insert-requires-clause-source : goal.insert-requires-clause-source
+insert-requires-clause-source c =
+    read_programs_are_sources c.args.text.now (datums_of c.in_ok-forms.forms)
+    (expr_of c.in_ok-program.program.body) c.in_ok-forms.ensures.reading c.in_ok-program.ensures.program

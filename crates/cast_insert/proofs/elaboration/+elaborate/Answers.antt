@@ -1,25 +1,38 @@
-use Rattle.std.proofs.Common.{rules, ◌≡◌, ◌∷◌, sym, ap, ◌∙◌, [], ◌++◌, subst}
+use Rattle.std.proofs.Common.{rules, arith, ◌≡◌, ◌∷◌, sym, ap, ◌∙◌, [], ◌++◌, subst}
 use Rattle.core_calc.specs.Terms.{NoTerms, term_list, binding_list}
 use Rattle.core_calc.specs.Views.{term_of, terms_of, bindings_of}
-use Rattle.surface_syntax.specs.Trees.{NoExprs, ExprThen, IfNode}
-use Rattle.surface_syntax.specs.Views.{expr_of, exprs_of, lets_of, written_of}
+use Rattle.surface_syntax.specs.Trees.{NoExprs, ExprThen, IfNode, LetThen, LetrecThen}
+use Rattle.surface_syntax.specs.Views.{expr_of, exprs_of, lambda_of, lets_of, letrecs_of, written_of}
 use Rattle.surface_syntax.specs.declared.exprs.ExprList.{the_lemmas as list_lemmas}
-use Rattle.cast_insert.specs.Making.{Makes, Made, Typed}
+use Rattle.cast_insert.specs.Making.{Makes, Made, Typed, then_make}
+use Rattle.std.proofs.lemmas.Grind.{common_steps}
 use Rattle.cast_insert.specs.Elaboration.{elaborate, elaborate_sequence, elaborate_node}
 use Rattle.cast_insert.specs.Gathered.{terms_onto}
 use Rattle.cast_insert.specs.Bodies.{sequence_of}
 use Rattle.cast_insert.specs.Views.{typed_of, work_of, meaning_seen, place_if, Answers}
 use Rattle.cast_insert.proofs.Loops.{failed_as, sequence_refused, sequence_last, sequence_more, bindings_more}
-use Rattle.cast_insert.proofs.Loops.{if_first, if_second, if_joined}
+use Rattle.cast_insert.specs.Programs.{IsSourceBody, AreSourceBindings, AreSourceMembers}
+use Rattle.cast_insert.proofs.Room.{body_first, body_rest, grows_on}
+use Rattle.cast_insert.proofs.Loops.{if_first, if_second, if_joined, loop_steps}
 use Rattle.std.proofs.lemmas.List.{map-append}
 use Rattle.surface_syntax.specs.declared.names.Ident.{Ident}
 use Rattle.surface_syntax.specs.declared.exprs.Binding.{out-Binding}
 use Rattle.surface_syntax.specs.declared.exprs.Bindings.{the_lemmas as binding_lemmas}
+use Rattle.surface_syntax.specs.declared.exprs.Member.{out-Member}
+use Rattle.surface_syntax.specs.declared.exprs.Members.{the_lemmas as member_lemmas}
 use Rattle.cast_insert.specs.declared.names.Named.{Named}
 use Rattle.cast_insert.specs.Sources.{place_of}
 use Rattle.cast_insert.specs.Environments.{Meaning, plain}
 use Rattle.cast_insert.specs.Scoped.{env_of}
 use Rattle.cast_insert.proofs.elaboration.+elaborate.Goals as goal
+
+pub in_order-elaborate-requires : goal.in_order-elaborate-requires
+in_order-elaborate-requires t c =
+    let source : IsSourceBody (ExprThen (expr_of c.in-Cons.first.value) (exprs_of c.in-Cons.rest.value)) =
+    (rw c.in-Cons.is at c.loop-left.invariant.source) in (
+      search (rules, list_lemmas, c.decreases, c.loop-left.invariant.smaller),
+      rw c.deref.ensures (body_first (expr_of c.in-Cons.first.value) (exprs_of c.in-Cons.rest.value) source),
+    )
 
 pub in_order-returns-in_err-e-clause-answer : goal.in_order-returns-in_err-e-clause-answer
 in_order-returns-in_err-e-clause-answer t c =
@@ -28,10 +41,10 @@ in_order-returns-in_err-e-clause-answer t c =
     (work_of c.elaborate.new.progress)
     (elaborate (expr_of c.in-Cons.first.value) c.args.scopes.now (work_of c.loop-left.progress)) whole
     (search rules)
-    (rw (c.deref.ensures, c.loop-left.invariant.1) at c.in_err-e.ensures.answer)
+    (rw (c.deref.ensures, c.loop-left.invariant.scopes) at c.in_err-e.ensures.answer)
     (λ kind place refused. sequence_refused (term_list (terms_of c.loop-left.terms)) (expr_of c.in-Cons.first.value)
     (exprs_of c.in-Cons.rest.value) c.args.scopes.now (work_of c.loop-left.progress) whole kind place refused
-    (rw c.in-Cons.is at c.loop-left.invariant.0))
+    (rw c.in-Cons.is at c.loop-left.invariant.made))
 
 pub in_order-returns-in-Nil-clause-answer : goal.in_order-returns-in-Nil-clause-answer
 in_order-returns-in-Nil-clause-answer t c =
@@ -42,8 +55,8 @@ in_order-returns-in-Nil-clause-answer t c =
     ∙ ap (λ core. term_of core ∷ done) c.into_inner.ensures) in
     sequence_last done (typed_of c.in_ok-e.e) (expr_of c.in-Cons.first.value) c.args.scopes.now
     (work_of c.loop-left.progress) (work_of c.elaborate.new.progress) _
-    (rw (c.deref.ensures, c.loop-left.invariant.1) at c.in_ok-e.ensures.answer)
-    (rw none at (rw c.in-Cons.is at c.loop-left.invariant.0))
+    (rw (c.deref.ensures, c.loop-left.invariant.scopes) at c.in_ok-e.ensures.answer)
+    (rw none at (rw c.in-Cons.is at c.loop-left.invariant.made))
     ∙ ap (λ terms. Makes (record { terms = terms; type = c.in_ok-e.e.ty.0 }) (work_of c.elaborate.new.progress))
     (sym terms)
 
@@ -58,12 +71,19 @@ in_order-loop-left-preserved t c =
     c.in_ok-push_front.ensures.ok ∙ ap (λ core. term_of core ∷ done) c.into_inner.ensures in
     let step = sequence_more done (typed_of c.in_ok-e.e) (expr_of c.in-Cons.first.value) (expr_of second)
     (exprs_of others) c.args.scopes.now (work_of c.loop-left.progress) (work_of c.elaborate.new.progress) _
-    (rw (c.deref.ensures, c.loop-left.invariant.1) at c.in_ok-e.ensures.answer)
-    (rw more at (rw c.in-Cons.is at c.loop-left.invariant.0)) in (
-      rw (pushed, c.deref-left.ensures, more) step,
-      c.in_ok-e.ensures.scopes ∙ c.loop-left.invariant.1,
-      search (rules, list_lemmas),
-    )
+    (rw (c.deref.ensures, c.loop-left.invariant.scopes) at c.in_ok-e.ensures.answer)
+    (rw more at (rw c.in-Cons.is at c.loop-left.invariant.made)) in
+    let source : IsSourceBody (ExprThen (expr_of c.in-Cons.first.value) (exprs_of c.in-Cons.rest.value)) =
+    (rw c.in-Cons.is at c.loop-left.invariant.source) in
+    record {
+      made = rw (pushed, c.deref-left.ensures, more) step;
+      scopes = c.in_ok-e.ensures.scopes ∙ c.loop-left.invariant.scopes;
+      smaller = search (rules, list_lemmas);
+      source = rw (c.deref-left.ensures, more)
+          (body_rest (expr_of c.in-Cons.first.value) (expr_of second) (exprs_of others) (rw more at source));
+      grows = grows_on c.args.progress.now.types c.loop-left.progress.types c.elaborate.new.progress.types
+          c.loop-left.invariant.grows c.in_ok-e.ensures.grows;
+    }
 
 pub bindings-loop-left-preserved : goal.bindings-loop-left-preserved
 bindings-loop-left-preserved t c =
@@ -87,15 +107,42 @@ bindings-loop-left-preserved t c =
     (lets_of c.in-Cons.rest.value) c.args.scopes.now (typed_of c.in_ok-e.e) bound (place_if c.in_ok-wanted.wanted)
     variable (work_of c.loop-left.progress) (work_of c.elaborate.new.progress) (work_of c.written_if.new.self)
     (work_of c.cast_if.new.self) (work_of c.fresh.new.self) _
-    (rw (c.deref.ensures, c.loop-left.invariant.1) at c.in_ok-e.ensures.answer)
-    (rw c.deref-in-Cons.ensures at c.in_ok-wanted.ensures)
-    (rw c.deref-in-Cons-2.ensures at c.in_ok-bound.ensures)
-    c.in_ok-variable.ensures
-    (rw c.in-Cons.is at c.loop-left.invariant.0) in (
-      rw (pushed, named, c.deref-left.ensures) step,
-      c.in_ok-e.ensures.scopes ∙ c.loop-left.invariant.1,
-      search (rules, binding_lemmas),
-    )
+    (rw (c.deref.ensures, c.loop-left.invariant.scopes) at c.in_ok-e.ensures.answer)
+    (rw c.deref-in-Cons.ensures at c.in_ok-wanted.ensures.answer)
+    (rw c.deref-in-Cons-2.ensures at c.in_ok-bound.ensures.answer)
+    c.in_ok-variable.ensures.made
+    (rw c.in-Cons.is at c.loop-left.invariant.made) in
+    let source : AreSourceBindings (LetThen binding.name (written_of binding.ty) value (lets_of c.in-Cons.rest.value)) =
+    (rw c.in-Cons.is at c.loop-left.invariant.source) in
+    record {
+      made = rw (pushed, named, c.deref-left.ensures) step;
+      scopes = c.in_ok-e.ensures.scopes ∙ c.loop-left.invariant.scopes;
+      smaller = search (rules, binding_lemmas);
+      source = rw c.deref-left.ensures source.2;
+      grows = grows_on c.args.progress.now.types c.loop-left.progress.types c.fresh.new.self.types
+          c.loop-left.invariant.grows
+          (grows_on c.loop-left.progress.types c.elaborate.new.progress.types c.fresh.new.self.types
+          c.in_ok-e.ensures.grows
+          (grows_on c.elaborate.new.progress.types c.written_if.new.self.types c.fresh.new.self.types
+          c.in_ok-wanted.ensures.grows
+          (grows_on c.written_if.new.self.types c.cast_if.new.self.types c.fresh.new.self.types
+          c.in_ok-bound.ensures.grows c.in_ok-variable.ensures.grows)));
+    }
+
+pub members-loop-left-preserved : goal.members-loop-left-preserved
+unfolding then_make
+members-loop-left-preserved t c =
+    let member = out-Member c.in-Cons.first.value in
+    let source : AreSourceMembers (LetrecThen member.name (written_of member.ty) (lambda_of member.fun)
+    (letrecs_of c.in-Cons.rest.value)) = (rw c.in-Cons.is at c.loop-left.invariant.source) in
+    record {
+      made = grind (arith, common_steps, loop_steps);
+      scopes = c.in_ok-member.ensures.scopes ∙ c.loop-left.invariant.scopes;
+      smaller = search (rules, member_lemmas);
+      source = rw c.deref-left.ensures source.2;
+      grows = grows_on c.args.progress.now.types c.loop-left.progress.types c.member.new.progress.types
+          c.loop-left.invariant.grows c.in_ok-member.ensures.grows;
+    }
 
 pub if_form-returns-in_err-first-clause-answer : goal.if_form-returns-in_err-first-clause-answer
 if_form-returns-in_err-first-clause-answer t c =
@@ -111,7 +158,7 @@ if_form-returns-in_err-first-clause-answer t c =
     (λ kind at refused. if_first condition on_true on_false c.args.pos env (typed_of c.in_ok-test.test)
     (typed_of c.in_ok-truth.truth) (work_of c.args.progress.now) (work_of c.elaborate.new.progress)
     (work_of c.cast_to_row.new.self) kind at (rw c.deref.ensures at c.in_ok-test.ensures.answer)
-    (rw c.deref-2.ensures at c.in_ok-truth.ensures) refused))
+    (rw c.deref-2.ensures at c.in_ok-truth.ensures.answer) refused))
 
 pub if_form-returns-in_err-second-clause-answer : goal.if_form-returns-in_err-second-clause-answer
 if_form-returns-in_err-second-clause-answer t c =
@@ -128,7 +175,7 @@ if_form-returns-in_err-second-clause-answer t c =
     (λ kind at refused. if_second condition on_true on_false c.args.pos env (typed_of c.in_ok-test.test)
     (typed_of c.in_ok-truth.truth) (typed_of c.in_ok-first.first) (work_of c.args.progress.now)
     (work_of c.elaborate.new.progress) (work_of c.cast_to_row.new.self) (work_of c.elaborate-2.new.progress) kind at
-    (rw c.deref.ensures at c.in_ok-test.ensures.answer) (rw c.deref-2.ensures at c.in_ok-truth.ensures)
+    (rw c.deref.ensures at c.in_ok-test.ensures.answer) (rw c.deref-2.ensures at c.in_ok-truth.ensures.answer)
     (rw (c.deref-3.ensures, c.in_ok-test.ensures.scopes) at c.in_ok-first.ensures.answer) refused))
 
 pub if_form-returns-clause-answer : goal.if_form-returns-clause-answer
@@ -142,8 +189,8 @@ if_form-returns-clause-answer t c =
     (typed_of c.in_ok-truth.truth) (typed_of c.in_ok-first.first) (typed_of c.in_ok-second.second)
     (work_of c.args.progress.now) (work_of c.elaborate.new.progress) (work_of c.cast_to_row.new.self)
     (work_of c.elaborate-2.new.progress) (work_of c.elaborate-3.new.progress)
-    (rw c.deref.ensures at c.in_ok-test.ensures.answer) (rw c.deref-2.ensures at c.in_ok-truth.ensures)
+    (rw c.deref.ensures at c.in_ok-test.ensures.answer) (rw c.deref-2.ensures at c.in_ok-truth.ensures.answer)
     (rw (c.deref-3.ensures, c.in_ok-test.ensures.scopes) at c.in_ok-first.ensures.answer)
     (rw (c.deref-4.ensures, c.in_ok-first.ensures.scopes, c.in_ok-test.ensures.scopes)
     at c.in_ok-second.ensures.answer)))
-    (rw (c.deref-5.ensures, c.deref-6.ensures) at c.joined.ensures))
+    (rw (c.deref-5.ensures, c.deref-6.ensures) at c.joined.ensures.answer))

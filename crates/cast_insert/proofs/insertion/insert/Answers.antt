@@ -5,7 +5,8 @@ use Rattle.cast_insert.proofs.Elaborated.{program_answered}
 use Rattle.cast_insert.proofs.insertion.insert.Goals as goal
 
 pub returns-clause-typed : goal.returns-clause-typed
-returns-clause-typed c = λ source.
+returns-clause-typed c =
     rw c.into_inner.ensures
     (program_answered (expr_of c.args.program.now.body) (term_of c.in_ok-e.e.core.value) c.in_ok-e.e.ty.0
-    c.in_ok-e.e.entry (work_of c.run-done.new.progress) source c.in_ok-e.ensures)
+    c.in_ok-e.e.entry (work_of c.run-done.new.progress) c.requires.source
+    c.in_ok-e.ensures)
