@@ -55,13 +55,15 @@ pub record Lies (layout : Layout) (top : ℕ) : Type 0 where
   pub small : layout.end < 2 ^ 62
   pub end_aligned : layout.end % 8 ≡ 0
 
--- the machine starts in this state: x25 is the stack's low end and x2 its high one, and the virtual run is told these
--- addresses of marks
-pub record Starts (code : List RealItem) (setting : RealSetting) (told : ℕ → ℕ) (s : State) : Type 0 where
+-- the machine starts in this state: x25 is the stack's low end and x2 its high one, and the virtual run is told the
+-- address of the mark of each procedure
+pub record Starts (items : List VirtualItem) (code : List RealItem) (setting : RealSetting) (told : ℕ → ℕ)
+    (s : State) : Type 0 where
   pub addresses : AreAddresses code setting.address
   -- an ECALL calls the environment; what an EBREAK does is free
   pub calls : (place : ℕ) (t : State) → setting.ecall place t ≡ call_environment t
-  pub same : (mark at : ℕ) → mark_address setting.address code mark ≡ Some at → told mark ≡ at
+  pub same : (place k first count at : ℕ) → slice_get items place ≡ Some (Procedure k first count)
+      → mark_address setting.address code k ≡ Some at → told k ≡ at
   pub lies : Lies s.layout (s.regs 25)
   pub pc : address_from setting.address 0 code ≡ Some s.pc
   pub stack : s.regs 2 ≡ s.layout.end
@@ -106,7 +108,7 @@ pub record FollowsVirtual {V : Type 0} (rate : ℕ) (X : Machine State State V) 
 -- stack only where that does
 abbrev pub DoesInStack : {V : Type 0} → (Halt → Ending V) → List VirtualItem → List RealItem → Type 0
 DoesInStack reading items code =
-    IsReading reading → (setting : RealSetting) (told : ℕ → ℕ) (s : State) → Starts code setting told s
+    IsReading reading → (setting : RealSetting) (told : ℕ → ℕ) (s : State) → Starts items code setting told s
     → NeverWrong (run (virtual_machine reading (setting_in items told s)) (start_in s))
     → FollowsVirtual 43 (real_machine reading code setting)
     (stacked_machine reading (setting_in items told s) (room_in s)) s
@@ -115,7 +117,7 @@ DoesInStack reading items code =
 abbrev pub DoesAsVirtual : {V : Type 0} → (Halt → Ending V) → List VirtualItem → List RealItem → Type 0
 DoesAsVirtual reading items code =
     reading (Lacks Stack) ≡ Exhausted → (setting : RealSetting) (told : ℕ → ℕ) (s : State)
-    → Starts code setting told s → NeverWrong (run (virtual_machine reading (setting_in items told s)) (start_in s))
+    → Starts items code setting told s → NeverWrong (run (virtual_machine reading (setting_in items told s)) (start_in s))
     → FollowsVirtual 43 (real_machine reading code setting) (virtual_machine reading (setting_in items told s)) s
 
 -- x30 and x31 are named by no item
