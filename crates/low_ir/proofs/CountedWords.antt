@@ -452,18 +452,18 @@ module _ {V : Type 0} (reading : Halt → Ending V) (setting : Setting) (most : 
   holds_at (Go s) l g = all_hold s l g.2
   holds_at (Stop e s) l a = all_hold s l a.2
 
-pub words_are_counted : {V : Type 0} (reading : Halt → Ending V) (setting : Setting) (entry : ℕ) (p : Proc)
-    (memory : Memory) (world : WorldState) (n : ℕ) → setting.region ≤ setting.top
+pub words_are_counted_where_they_are_taken : {V : Type 0} (reading : Halt → Ending V) (setting : Setting) (entry : ℕ)
+    (p : Proc) (memory : Memory) (world : WorldState) (n : ℕ) → setting.region ≤ setting.top
     → slice_get setting.procs entry ≡ Some p
     → CountsWords reading setting (run (low_machine reading setting) (low_start setting p memory world) n)
-words_are_counted reading setting entry p memory world n fits is =
+words_are_counted_where_they_are_taken reading setting entry p memory world n fits is =
     counts reading setting 0 fits _ (along reading setting 0 n _ (starts reading setting 0 entry p memory world is))
 
-pub words_are_held : {V : Type 0} (reading : Halt → Ending V) (setting : Setting) (most entry : ℕ) (p : Proc)
-    (memory : Memory) (world : WorldState) (n : ℕ) → All (λ (q : Proc). q.words ≤ most) setting.procs
-    → slice_get setting.procs entry ≡ Some p
+pub active_procedures_hold_their_words : {V : Type 0} (reading : Halt → Ending V) (setting : Setting)
+    (most entry : ℕ) (p : Proc) (memory : Memory) (world : WorldState) (n : ℕ)
+    → All (λ (q : Proc). q.words ≤ most) setting.procs → slice_get setting.procs entry ≡ Some p
     → (run (low_machine reading setting) (low_start setting p memory world) n).shown.held
     ≤ (run (low_machine reading setting) (low_start setting p memory world) n).shown.frames * most
-words_are_held reading setting most entry p memory world n few is =
+active_procedures_hold_their_words reading setting most entry p memory world n few is =
     holds_at reading setting most _ (each_holds most setting.procs few)
     (along reading setting most n _ (starts reading setting most entry p memory world is))
