@@ -31,7 +31,8 @@ use Rattle.rv_select.proofs.Items.{does, jumps, falls, taken, addresses, lands, 
 use Rattle.rv_select.proofs.Frames.{Slotting, none_is, readable_low, low_reg, other_get, get_only, scratch_same}
 use Rattle.rv_select.proofs.Frames.{set_fits, fits_only, stored_fits, program, virtual_setting, M, N, Stand, rest_of}
 use Rattle.rv_select.proofs.Frames.{has_rest, HasHome, Stacked, stack_is, stack_high, stack_same, Body, On}
-use Rattle.rv_select.proofs.Frames.{Same, Seen, seen_of, seen_still, as_alike, Way, way_first, body_scratch}
+use Rattle.rv_select.proofs.Frames.{Same, Seen, seen_of, seen_still, as_alike, Way, way_first, way_second}
+use Rattle.rv_select.proofs.Frames.{body_scratch}
 use Rattle.rv_select.proofs.SlotWords.{wrote, stores, fetch, saved}
 use Rattle.rv_select.proofs.SlotItems.{item_turns, code_of, size, room, Sim, sim_given, sim_puts}
 use Rattle.rv_select.proofs.SlotMarks.{beyond, drop_beyond, frame_items, enter_items, Begins}
@@ -88,6 +89,9 @@ module _ {V : Type 0} (w : Slotting V) where
         alloc = seen.alloc;
         top = seen.top;
         world = seen.world;
+        layout = seen.layout;
+        above = seen.above;
+        used = seen.used;
       } in
       let at = as_at (program w) s1 c1 in
       let stops = call_stops (program w) (Lacks Stack) at tt (λ pc.
@@ -151,6 +155,9 @@ module _ {V : Type 0} (w : Slotting V) where
         alloc = seen.alloc;
         top = seen.top;
         world = seen.world;
+        layout = seen.layout;
+        above = seen.above;
+        used = seen.used;
       }
 
       less : (c : Bool) → nat_lt free need ≡ c → nat_lt free (get_reg s.regs 28) ≡ c
@@ -184,7 +191,6 @@ module _ {V : Type 0} (w : Slotting V) where
       (λ ecall ebreak pc. ap (λ x. put 2 ((sp + (2 ^ 64 - x)) % 2 ^ 64) (record s { pc = pc })) size28
       ∙ ap (λ z. put 2 z (record s { pc = pc })) low_word) (way_first w t t1 s seen) (λ n4 c4.
       let s4 : State = record s { regs = regs3; pc = n4 } in
-      let seen4 = seen_still w t s regs3 n4 2 seen (λ q m. other_is q m) refl refl refl in
       let x = b.above in
       let y = w.lies.region in
       let z = high.0 in
@@ -193,7 +199,7 @@ module _ {V : Type 0} (w : Slotting V) where
       let at : (low + 0) % 2 ^ 64 ≡ low = omega arith in
       comes_there (program w) P Q (does (program w) P Q s4 regs3 memory1 c4 (has_rest w f f.home)
       (λ ecall ebreak pc. stores w s4 1 2 low 0 pc ecall ebreak b.layout at made.stack.0.aligned (omega arith)
-      (omega arith)) (way_first w t t1 s4 seen4) (λ n5 c5.
+      (omega arith)) (way_second w t t1 s4 (seen4 n4)) (λ n5 c5.
       is_there (program w) P Q (record {
         body = record {
           regs = made.regs;
@@ -252,6 +258,20 @@ module _ {V : Type 0} (w : Slotting V) where
           let y = b.above in
           let g = fit in aligned_below sp (1 + f.count) x (omega arith)
 
+      -- x2 is that of the state that is entered
+      seen4 : (n4 : ℕ) → Seen w t1 (record s { regs = regs3; pc = n4 })
+      seen4 n4 = record {
+        memory = b.memory;
+        stack = b.regs 25 refl;
+        alloc = b.regs 26 refl;
+        top = b.regs 27 refl;
+        world = b.world;
+        layout = b.layout;
+        above = (let x = b.above in let g = fit in omega arith);
+        used = (let e = stack_is w s.memory sp u.active u.frames b.stack in
+            let x = b.above in let g = fit in omega (arith, e));
+      }
+
       made : Body w t1 (record s { regs = regs3; memory = memory1 })
       made =
           let x = b.above in
@@ -305,7 +325,7 @@ module _ {V : Type 0} (w : Slotting V) where
       let free : ℕ = regs 2 - w.top in
       let s2 : State = record s { regs = set_reg 29 free regs; pc = n2 } in
       let seen2 : Seen w t s2 = seen_still w t s1 (set_reg 29 free regs) n2 29 (seen28 regs n1 only)
-      (λ q m. rw m refl) refl refl refl in
+      (λ q m. rw m refl) refl refl refl refl in
       let small2 : free < 2 ^ 64 = (let x = b1.fits 2 in omega arith) in
       let b2 : Body w u s2 = body_scratch w u s1 (set_reg 29 free regs) n2 b1
       (λ q m. scratch_same 29 free q regs (omega arith) m) refl (set_fits 29 free regs small2 b1.fits) in
@@ -322,7 +342,7 @@ module _ {V : Type 0} (w : Slotting V) where
       small = let h = begins.few in omega arith
 
       seen28 : (regs : Registers) (pc : ℕ) → OnlyIn 28 regs s.regs → Seen w t (record s { regs = regs; pc = pc })
-      seen28 regs pc only = seen_still w t s regs pc 28 seen only refl refl refl
+      seen28 regs pc only = seen_still w t s regs pc 28 seen only refl refl refl refl
 
   -- the frame of a procedure fits behind the others
   abbrev pub HasRoom : Bool → Found → VirtualState → Type 0

@@ -51,7 +51,7 @@ module _ {V : Type 0} (reading : Halt → Ending V) (items : List VirtualItem) (
       marks = slots_once items distinct;
       calls = starts.calls;
       told = told;
-      agree = starts.same;
+      agree = starts.tells;
       counts = counts;
       layout = s.layout;
       top = s.regs 25;
