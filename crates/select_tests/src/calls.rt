@@ -81,10 +81,15 @@ fn deep(alloc: Global, calls: u64) -> Result<LowProgram, OutOfMemory> {
 
 // A frame has 24 bytes, and 170 of them fit into the stack.
 #[test]
-fn a_recursion_overflows_the_stack_where_its_frames_do_not_fit(rt: HostRuntime) -> Result<(), Fail> {
+fn a_recursion_overflows_the_stack_where_its_frames_do_not_fit(
+    rt: HostRuntime,
+) -> Result<(), Fail> {
     let alloc = rt.alloc();
     assert_eq!(rt; comes_to(alloc, &deep(alloc, 169)?, 0, 4096)?, answer(169));
-    assert_eq!(rt; comes_to(alloc, &deep(alloc, 170)?, 0, 4096)?, Some(Stop::StackOut));
+    assert_eq!(rt;
+        comes_to(alloc, &deep(alloc, 170)?, 0, 4096)?,
+        Some(Stop::StackOut)
+    );
     Ok(())
 }
 
@@ -138,7 +143,13 @@ fn procedures_are_called_by_their_addresses(rt: HostRuntime) -> Result<(), Fail>
 
 // A program whose slots lie far from the stack's register.
 fn wide(alloc: Global) -> Result<LowProgram, OutOfMemory> {
-    let code = change(alloc, WordOp::Add, 5000, word(9999), LowCode::Return(word(5000)))?;
+    let code = change(
+        alloc,
+        WordOp::Add,
+        5000,
+        word(9999),
+        LowCode::Return(word(5000)),
+    )?;
     let code = set(alloc, 5000, number(1), code)?;
     alone(alloc, 10000, set(alloc, 9999, number(7), code)?)
 }

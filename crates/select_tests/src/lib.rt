@@ -3,6 +3,8 @@
 #![tactic(auto)]
 
 #[cfg(test)]
+mod arithmetic;
+#[cfg(test)]
 mod calls;
 #[cfg(test)]
 mod machines;
@@ -10,3 +12,5 @@ mod machines;
 mod sizes;
 #[cfg(test)]
 mod storage;
+#[cfg(test)]
+mod walks;

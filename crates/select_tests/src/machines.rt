@@ -37,7 +37,12 @@ pub(crate) fn sources(alloc: Global, words: &[LowSource]) -> Result<LowSources, 
 }
 
 // Word d is set to a source, and then this is done.
-pub(crate) fn set(alloc: Global, d: u32, a: LowSource, rest: LowCode) -> Result<LowCode, OutOfMemory> {
+pub(crate) fn set(
+    alloc: Global,
+    d: u32,
+    a: LowSource,
+    rest: LowCode,
+) -> Result<LowCode, OutOfMemory> {
     Ok(LowCode::Set(d, a, Box::new(alloc, rest)?))
 }
 
@@ -129,7 +134,7 @@ pub(crate) fn assembled(alloc: Global, low: &LowProgram) -> Result<Option<Image>
 }
 
 // A machine with this image, a region and a stack of these sizes and no input.
-fn machine_of(
+pub(crate) fn machine_of(
     alloc: Global,
     image: &Image,
     region: u64,

@@ -1,8 +1,8 @@
 // Storage and environment calls.
 
 use crate::machines::{
-    LABEL, alone, answer, call, change, comes_to, load, number, prints, procedure, program, sources,
-    word,
+    LABEL, alone, answer, call, change, comes_to, load, number, prints, procedure, program,
+    sources, word,
 };
 use grift_base::lists::OutOfMemory;
 use grift_base::verdicts::Trap;
@@ -31,22 +31,36 @@ fn objects_fill_a_region_exactly(rt: HostRuntime) -> Result<(), Fail> {
 fn requests(alloc: Global) -> Result<LowProgram, OutOfMemory> {
     let code = LowCode::Request(0, number(1), Box::new(alloc, LowCode::Return(number(9)))?);
     let code = LowCode::Take(number(300), Box::new(alloc, code)?);
-    alone(alloc, 1, LowCode::Request(0, number(300), Box::new(alloc, code)?))
+    alone(
+        alloc,
+        1,
+        LowCode::Request(0, number(300), Box::new(alloc, code)?),
+    )
 }
 
 #[test]
 fn requests_fill_a_region_exactly(rt: HostRuntime) -> Result<(), Fail> {
     let low = requests(rt.alloc())?;
     assert_eq!(rt; comes_to(rt.alloc(), &low, 2408, 16)?, answer(9));
-    assert_eq!(rt; comes_to(rt.alloc(), &low, 2400, 16)?, Some(Stop::RegionOut));
-    assert_eq!(rt; comes_to(rt.alloc(), &low, 2392, 16)?, Some(Stop::RegionOut));
+    assert_eq!(rt;
+        comes_to(rt.alloc(), &low, 2400, 16)?,
+        Some(Stop::RegionOut)
+    );
+    assert_eq!(rt;
+        comes_to(rt.alloc(), &low, 2392, 16)?,
+        Some(Stop::RegionOut)
+    );
     Ok(())
 }
 
 // Writes 5 into the second word of an object.
 fn writes(alloc: Global) -> Result<LowProc, OutOfMemory> {
     let done = LowCode::Return(number(0));
-    Ok(procedure(1, 1, LowCode::Store(number(5), word(0), 8, Box::new(alloc, done)?)))
+    Ok(procedure(
+        1,
+        1,
+        LowCode::Store(number(5), word(0), 8, Box::new(alloc, done)?),
+    ))
 }
 
 // Lets another procedure write into an object, and answers both of its words.
@@ -74,11 +88,21 @@ fn what_a_procedure_stores_is_read_back(rt: HostRuntime) -> Result<(), Fail> {
 // An environment call with two words; the second that it hands back is answered.
 fn calls(alloc: Global, kind: u64, a: u64, b: u64) -> Result<LowProgram, OutOfMemory> {
     let rest = Box::new(alloc, LowCode::Return(word(1)))?;
-    alone(alloc, 2, LowCode::Environment(kind, number(a), number(b), 0, 1, rest))
+    alone(
+        alloc,
+        2,
+        LowCode::Environment(kind, number(a), number(b), 0, 1, rest),
+    )
 }
 
 // What such a program comes to, and whether it prints this text.
-fn called(alloc: Global, kind: u64, a: u64, b: u64, text: &[u8]) -> Result<Option<(Stop, bool)>, OutOfMemory> {
+fn called(
+    alloc: Global,
+    kind: u64,
+    a: u64,
+    b: u64,
+    text: &[u8],
+) -> Result<Option<(Stop, bool)>, OutOfMemory> {
     prints(alloc, &calls(alloc, kind, a, b)?, 0, 64, text)
 }
 
@@ -93,10 +117,22 @@ fn calls_that_go_on(rt: HostRuntime) -> Result<(), Fail> {
 #[test]
 fn calls_that_end(rt: HostRuntime) -> Result<(), Fail> {
     let traps = Stop::Trapped(Trap::Index);
-    assert_eq!(rt; called(rt.alloc(), 0, 0, 42, b"")?, answer(42).map(|stop| (stop, true)));
-    assert_eq!(rt; called(rt.alloc(), 3, 0, 0, b"")?, Some((Stop::Blamed(LABEL), true)));
+    assert_eq!(rt;
+        called(rt.alloc(), 0, 0, 42, b"")?,
+        answer(42).map(|stop| (stop, true))
+    );
+    assert_eq!(rt;
+        called(rt.alloc(), 3, 0, 0, b"")?,
+        Some((Stop::Blamed(LABEL), true))
+    );
     assert_eq!(rt; called(rt.alloc(), 4, 2, 5, b"")?, Some((traps, true)));
-    assert_eq!(rt; called(rt.alloc(), 5, 2, 5, b"")?, Some((Stop::RegionOut, true)));
-    assert_eq!(rt; called(rt.alloc(), 6, 2, 5, b"")?, Some((Stop::StackOut, true)));
+    assert_eq!(rt;
+        called(rt.alloc(), 5, 2, 5, b"")?,
+        Some((Stop::RegionOut, true))
+    );
+    assert_eq!(rt;
+        called(rt.alloc(), 6, 2, 5, b"")?,
+        Some((Stop::StackOut, true))
+    );
     Ok(())
 }
