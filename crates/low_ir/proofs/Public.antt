@@ -1,1 +1,2 @@
--- What other crates may cite.
+-- What other crates may cite. What a law says has the law's name.
+pub use Rattle.low_ir.proofs.CountedWords.{words_are_counted_where_they_are_taken, active_procedures_hold_their_words}

@@ -9,6 +9,7 @@ use Rattle.low_ir.specs.declared.code.WordOp.{WordOp}
 use Rattle.low_ir.specs.declared.code.LowSource.{LowSource}
 use Rattle.low_ir.specs.declared.code.LowSource.TheVariants.{Word, Number}
 use Rattle.low_ir.specs.Closed.{is_closed}
+use Rattle.low_ir.specs.Run.{low_machine}
 use Rattle.low_ir.specs.Procedures.{Code, Done, Set, Compute as LowCompute, Load as LowLoad, Store as LowStore}
 use Rattle.low_ir.specs.Procedures.{CodeOf as LowCodeOf, Build, Request, Take, Environment as LowEnvironment}
 use Rattle.low_ir.specs.Procedures.{Call as LowCall, CallAt as LowCallAt, If, Return as LowReturn}
@@ -25,13 +26,16 @@ use Rattle.rv_select.specs.Select.{put_item, source_items, is_small, second_item
 use Rattle.rv_select.specs.Select.{params_items}
 use Rattle.rv_select.specs.Select.{stores_items, marks_in, code_items, out_items, body_items, procs_items}
 use Rattle.rv_select.specs.Select.{answer_items, select_items, registers_of}
-use Rattle.rv_select.specs.Selected.{IsCodeOf, Simulates, RunsAsWords}
+use Rattle.rv_select.specs.Run.{virtual_machine}
+use Rattle.rv_select.specs.Stacks.{stacked_machine, low_in_stack}
+use Rattle.rv_select.specs.Selected.{setting_of, IsCodeOf, Simulates, RunsAsWords, RunsInStackAsWords}
 use Rattle.rv_select.proofs.Closedness.{closed_small}
 use Rattle.rv_select.proofs.Standing.{select_well}
 use Rattle.rv_select.proofs.Walking.{walk}
 use Rattle.rv_select.proofs.Goods.{program_sets, at_start, selected_holding}
 use Rattle.rv_select.proofs.Laying.{IsBody, AreBody, body_is_body}
 use Rattle.rv_select.proofs.Following.{follows_select, costs_select}
+use Rattle.rv_select.proofs.InWordStack.{follows_in_stack, costs_in_stack}
 
 -- ---- numbers fit
 
@@ -260,11 +264,24 @@ start_own entry to xs h =
 pub runs : {V : Type 0} (reading : Halt → Ending V) (procs : List Proc) (entry : ℕ)
     → RunsAsWords reading (select_items entry procs) procs entry
 runs reading procs entry low p regs memory world same b never =
-    subst (λ ps. Simulates reading low (select_items entry ps) p regs memory world) same (record {
+    subst (λ ps. Simulates (virtual_machine reading (setting_of low (select_items entry ps)))
+    (low_machine reading low) low p regs memory world) same (record {
       follows = follows_select reading low entry p regs memory world b.small b.ordered b.aligned b.there b.none b.alloc
           b.region_end never;
       turns = costs_select reading low entry p regs memory world b.small b.ordered b.aligned b.there b.none b.alloc
           b.region_end never;
+    })
+
+-- so it does in a stack
+pub runs_in_stack : {V : Type 0} (reading : Halt → Ending V) (procs : List Proc) (entry : ℕ)
+    → RunsInStackAsWords reading (select_items entry procs) procs entry
+runs_in_stack reading procs entry lacking low p regs memory world room same b never =
+    subst (λ ps. Simulates (stacked_machine reading (setting_of low (select_items entry ps)) room)
+    (low_in_stack reading low room) low p regs memory world) same (record {
+      follows = follows_in_stack reading low entry p regs memory world room b.small b.ordered b.aligned b.there b.none
+          b.alloc b.region_end lacking never;
+      turns = costs_in_stack reading low entry p regs memory world room b.small b.ordered b.aligned b.there b.none
+          b.alloc b.region_end lacking never;
     })
 
 -- the code of a closed program is all that is claimed
@@ -285,6 +302,7 @@ is_code procs entry closed = record {
       (closed_small procs entry closed));
   holding = (walk (program_sets procs) at_start (select_items entry procs), selected_holding entry procs closed);
   runs = λ reading. runs reading procs entry;
+  in_stack = λ reading. runs_in_stack reading procs entry;
 }
 
 -- what is equal to it is so too

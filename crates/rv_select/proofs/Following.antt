@@ -1,5 +1,5 @@
 -- The virtual run of a selected code follows the run over words.
-use Rattle.std.proofs.Common.{ℕ, ◌%◌, ◌^◌, ◌<◌, ◌≤◌, ◌≡◌, List, [], ◌∷◌, ◌++◌, Some}
+use Rattle.std.proofs.Common.{ℕ, ◌+◌, ◌%◌, ◌^◌, ◌<◌, ◌≤◌, ◌≡◌, List, [], ◌∷◌, ◌++◌, Some}
 use Rattle.std.proofs.Common.{refl, subst, arith}
 use Rattle.std.specs.Prelude.{slice_get}
 use Rattle.grift_base.specs.World.{WorldState}
@@ -38,11 +38,14 @@ module _ {V : Type 0} (reading : Halt → Ending V) (low : LowSetting) (entry : 
   abbrev t0 : VirtualState
   t0 = virtual_start regs memory world
 
-  all : Laid reading low items (regs 25) small
+  pub all : Laid reading low items (regs 25) small
   all = laid reading low (regs 25) small entry
 
+  first_words : (f : Found) → f.count ≡ p.words → f.count + 0 ≡ p.words + 0
+  first_words f e = omega (arith, e)
+
   -- one item enters the program's first procedure
-  starts : (P : VirtualState → Type 0) → P t0 → Reaches (virtual_machine reading (setting_of low items)) P
+  pub starts : (P : VirtualState → Type 0) → P t0 → Reaches (virtual_machine reading (setting_of low items)) P
       (On reading low items (regs 25) small s0) 1 t0
   starts P h =
       let l = all.by_number entry p found in
@@ -65,7 +68,7 @@ module _ {V : Type 0} (reading : Halt → Ending V) (low : LowSetting) (entry : 
               ++ code_items f.first l.2.out l.2.mark p.code) []) none l.2.lies;
         };
         behind = (refl, (refl, (refl, (refl, (refl, tt)))));
-        body = (refl, alloc, refl, refl, top, fits, even, omega arith, refl);
+        body = (refl, alloc, (refl, first_words f l.2.homed.count), refl, top, fits, even, omega arith, refl);
       })
 
   -- the whole runs
@@ -78,7 +81,7 @@ module _ {V : Type 0} (reading : Halt → Ending V) (low : LowSetting) (entry : 
         as_alike reading low items (regs 25) small s0 t0 (
           (λ at h. refl),
           alloc,
-          omega arith,
+          (omega arith, omega arith),
           refl,
           fits,
           refl,
@@ -100,7 +103,7 @@ module _ {V : Type 0} (reading : Halt → Ending V) (low : LowSetting) (entry : 
       (omega arith) (starts _ (as_alike reading low items (regs 25) small s0 t0 (
         (λ at h. refl),
         alloc,
-        omega arith,
+        (omega arith, omega arith),
         refl,
         fits,
         refl,

@@ -2,7 +2,7 @@
 -- the region are the same, and the stack has a frame for each active procedure.
 use Rattle.std.proofs.Common.{ℕ, ◌+◌, ◌-◌, ◌*◌, ◌/◌, ◌%◌, ◌^◌, ◌<◌, ◌≤◌, ◌≡◌, ◌⊎◌, inl, inr, ⊎_elim, Bool}
 use Rattle.std.proofs.Common.{true, false, List, [], ◌∷◌, ◌++◌, Some, None, drop, refl, sym, ◌∙◌, ap, subst, arith}
-use Rattle.std.specs.Prelude.{◌==◌, ◌&&◌, not, nat_lt, nat_le, if◌then◌else◌, slice_get}
+use Rattle.std.specs.Prelude.{◌==◌, ◌&&◌, not, nat_lt, nat_le, if◌then◌else◌, length, slice_get}
 use Rattle.grift_base.specs.World.{WorldState}
 use Rattle.run_laws.specs.Runs.{Ending, Any}
 use Rattle.run_laws.specs.Machines.{Machine, Alike, OnTheWay}
@@ -17,12 +17,13 @@ use Rattle.rv_machine.proofs.Public.{has_item-append}
 use Rattle.low_ir.specs.Steps.{set_local}
 use Rattle.rv_select.specs.declared.code.VirtualItem.{VirtualItem}
 use Rattle.rv_select.specs.declared.code.VirtualItem.TheVariants.{Procedure}
-use Rattle.rv_select.specs.Run.{Setting, Found, Active, Frame, VirtualState, Shown, may_read, is_own}
+use Rattle.rv_select.specs.Run.{Setting, Found, Active, Frame, VirtualState, Shown, held_by, may_read, is_own}
 use Rattle.rv_select.specs.Slots.{slot_offset, frame_size, expand_all, final_items, slots_items}
-use Rattle.rv_select.specs.Stacks.{stack_of, stacked_machine}
+use Rattle.rv_select.specs.Stacks.{stack_of, stacked_machine, frames_size}
 use Rattle.rv_select.specs.Slotted.{IsSeenAs, Lies}
 use Rattle.rv_select.proofs.Items.{Stands}
 use Rattle.rv_select.proofs.PutWords.{OnlyIn}
+use Rattle.rv_select.proofs.StackSizes.{stack_held}
 
 -- a virtual code, the code with slots that comes from it, and where both run
 pub record Slotting (V : Type 0) : Type 0 where
@@ -36,7 +37,8 @@ pub record Slotting (V : Type 0) : Type 0 where
   pub calls : (place : ℕ) (s : State) → setting.ecall place s ≡ call_environment s
   -- the code addresses that the virtual run is told
   pub told : ℕ → ℕ
-  pub agree : (k n : ℕ) → mark_address setting.address (slots_items out items) k ≡ Some n → told k ≡ n
+  pub agree : (p k first count n : ℕ) → slice_get items p ≡ Some (Procedure k first count)
+      → mark_address setting.address (slots_items out items) k ≡ Some n → told k ≡ n
   pub counts : (p k first count : ℕ) → slice_get items p ≡ Some (Procedure k first count) → count < 2 ^ 32
   pub layout : Layout
   -- the region's end, where the stack begins
@@ -345,6 +347,10 @@ module _ {V : Type 0} (w : Slotting V) where
     pub alloc : s.regs 26 ≡ t.regs 26
     pub top : s.regs 27 ≡ t.regs 27
     pub world : s.world ≡ t.world
+    -- x2 lies in the stack, and the frames fill no less than what is above it
+    pub layout : s.layout ≡ w.layout
+    pub above : w.top ≤ s.regs 2
+    pub used : w.layout.end ≤ s.regs 2 + stack_of t.active.found t.frames
 
   pub seen_of : (t : VirtualState) (s : State) → Body t s → Seen t s
   seen_of t s b = record {
@@ -353,24 +359,38 @@ module _ {V : Type 0} (w : Slotting V) where
     alloc = b.regs 26 refl;
     top = b.regs 27 refl;
     world = b.world;
+    layout = b.layout;
+    above = b.above;
+    used = let e = stack_is s.memory (s.regs 2) t.active t.frames b.stack in omega (arith, e);
   }
 
   -- registers that are not shown were changed
   pub seen_still : (t : VirtualState) (s : State) (regs : Registers) (pc : ℕ) (r : ℕ) → Seen t s
-      → OnlyIn r regs s.regs → (25 == r) ≡ false → (26 == r) ≡ false → (27 == r) ≡ false
+      → OnlyIn r regs s.regs → (2 == r) ≡ false → (25 == r) ≡ false → (26 == r) ≡ false → (27 == r) ≡ false
       → Seen t (record s { regs = regs; pc = pc })
-  seen_still t s regs pc r k only a b c = record {
+  seen_still t s regs pc r k only d a b c = record {
     memory = k.memory;
     stack = only 25 a ∙ k.stack;
     alloc = only 26 b ∙ k.alloc;
     top = only 27 c ∙ k.top;
     world = k.world;
+    layout = k.layout;
+    above = subst (λ x. w.top ≤ x) (sym (only 2 d)) k.above;
+    used = subst (λ x. w.layout.end ≤ x + stack_of t.active.found t.frames) (sym (only 2 d)) k.used;
   }
 
   pub as_alike : (t : VirtualState) (s : State) → Seen t s → Alike Same M N t s
   as_alike t s k = record {
     output = ap (λ (x : WorldState). x.output) k.world;
-    shown = record { memory = k.memory; stack = k.stack; alloc = k.alloc; top = k.top };
+    shown = record {
+      memory = k.memory;
+      stack = k.stack;
+      alloc = k.alloc;
+      top = k.top;
+      above = k.above;
+      used = subst (λ (l : Layout). l.end ≤ s.regs 2 + frames_size (length t.frames) (held_by t.active.found t.frames))
+          (sym k.layout) (let e = stack_held t.active.found t.frames in let u = k.used in omega (arith, e, u));
+    };
   }
 
   abbrev pub Way : VirtualState → VirtualState → State → Type 0
@@ -378,6 +398,9 @@ module _ {V : Type 0} (w : Slotting V) where
 
   pub way_first : (t t1 : VirtualState) (s : State) → Seen t s → Way t t1 s
   way_first t t1 s k = (inl (as_alike t s k), tt)
+
+  pub way_second : (t t1 : VirtualState) (s : State) → Seen t1 s → Way t t1 s
+  way_second t t1 s k = (inr (as_alike t1 s k), tt)
 
   -- registers that code may not read were changed, and not x2
   pub body_scratch : (t : VirtualState) (s : State) (regs : Registers) (pc : ℕ) → Body t s

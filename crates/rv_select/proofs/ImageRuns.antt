@@ -1,6 +1,7 @@
 -- The image of a closed program over words follows it.
-use Rattle.std.proofs.Common.{ℕ, ◌+◌, ◌^◌, ◌<◌, ◌≡◌, true, List, Some}
-use Rattle.std.proofs.Common.{refl, sym, ◌∙◌, ap, subst, arith}
+use Rattle.std.proofs.Common.{ℕ, zero, suc, ◌+◌, ◌^◌, ◌<◌, ◌≡◌, ◌⊎◌, inl, inr, ⊎_elim, true, List, [], ◌∷◌, Some}
+use Rattle.std.proofs.Common.{length, refl, sym, ◌∙◌, ap, subst, arith}
+use Rattle.std.specs.Prelude.{◌≤◌, slice_get}
 use Rattle.grift_base.specs.World.{WorldState}
 use Rattle.grift_base.specs.declared.places.Pos.{Pos}
 use Rattle.grift_base.specs.declared.verdicts.Verdict.{Verdict}
@@ -13,7 +14,7 @@ use Rattle.rv_isa.specs.declared.real.RealItem.{RealItem}
 use Rattle.rv_machine.specs.Memory.{first_address}
 use Rattle.rv_machine.specs.Registers.{zero_regs}
 use Rattle.rv_machine.specs.Image.{IsImage, statics_len, code_len}
-use Rattle.rv_machine.specs.State.{State, Halt, Lacks, Stack}
+use Rattle.rv_machine.specs.State.{Layout, State, Halt, Lacks, Stack}
 use Rattle.rv_machine.specs.Start.{start_of, start_regs}
 use Rattle.rv_machine.specs.Mach.{machine_by, IsReading}
 use Rattle.rv_machine.specs.Real.{plain_setting, real_machine}
@@ -23,10 +24,12 @@ use Rattle.low_ir.specs.Run.{LowState, LowShown, low_machine, low_start}
 use Rattle.assembler.specs.Assembled.{item_address, IsImageOf}
 use Rattle.assembler.specs.Following.{IsLike, Simulates as AssembledSimulates}
 use Rattle.rv_select.specs.declared.code.VirtualItem.{VirtualItem}
-use Rattle.rv_select.specs.Run.{Shown, virtual_machine}
+use Rattle.rv_select.specs.declared.code.VirtualItem.TheVariants.{Procedure}
+use Rattle.rv_select.specs.Marks.{procedures, numbers_from}
+use Rattle.rv_select.specs.Run.{VirtualState, Shown, virtual_machine}
 use Rattle.rv_select.specs.Select.{select_items}
 use Rattle.rv_select.specs.Selected.{SameRegion, Begins, Simulates, IsCodeOf}
-use Rattle.rv_select.specs.Stacks.{stacked_machine}
+use Rattle.rv_select.specs.Stacks.{stacked_machine, frames_size, low_in_stack}
 use Rattle.rv_select.specs.Slotted.{Starts, setting_in, room_in, start_in, IsSeenAs, FollowsVirtual}
 use Rattle.rv_select.specs.Slotted.{IsSlotsOf}
 use Rattle.rv_select.specs.Images.{words_code, words_setting, HasRegionOf, FollowsWords, RunsIn}
@@ -47,6 +50,9 @@ below_code bound s v h =
       stack = like.regs 25 (λ e. cc) ∙ seen.stack;
       alloc = like.regs 26 (λ e. cc) ∙ seen.alloc;
       top = like.regs 27 (λ e. cc) ∙ seen.top;
+      above = subst (λ x. bound ≤ x) (sym (like.regs 2 (λ e. cc))) seen.above;
+      used = subst (λ x. s.layout.end ≤ x + frames_size v.frames v.held) (sym (like.regs 2 (λ e. cc)))
+          (subst (λ (l : Layout). l.end ≤ t.regs 2 + frames_size v.frames v.held) (sym like.layout) seen.used);
     }
 
 below_words : (bound : ℕ) (s : State) (l : LowShown)
@@ -62,7 +68,27 @@ below_words bound s l h =
       inside = same.inside;
       stack = seen.stack ∙ same.stack;
       top = seen.top ∙ same.top;
+      above = seen.above;
+      used = (let u = seen.used in let f = same.frames in let h = same.held in omega (arith, u, f, h));
     }
+
+-- a number is one of these
+abbrev In : ℕ → List ℕ → Type 0
+In k [] = ⊥
+In k (x ∷ xs) = (k ≡ x) ⊎ In k xs
+
+in_procedures : (xs : List VirtualItem) (place k first count : ℕ)
+    → slice_get xs place ≡ Some (Procedure k first count) → In k (procedures xs)
+in_procedures [] place k first count e = absurd (let z : ⊥ = cc in z)
+in_procedures (Procedure m f c ∷ xs) zero k first count e = let same : m ≡ k = cc in inl (sym same)
+in_procedures (Procedure m f c ∷ xs) (suc place) k first count e = inr (in_procedures xs place k first count e)
+in_procedures (x ∷ xs) zero k first count e = absurd (let z : ⊥ = cc in z)
+in_procedures (x ∷ xs) (suc place) k first count e = in_procedures xs place k first count e
+
+below_numbers : (n from k : ℕ) → In k (numbers_from from n) → k < from + n
+below_numbers zero from k h = absurd h
+below_numbers (suc n) from k h =
+    ⊎_elim (λ e. omega (arith, e)) (λ i. let g = below_numbers n (suc from) k i in omega (arith, g)) h
 
 start_fits : (start region stack : ℕ) → start + region + stack < 2 ^ 64
     → (r : ℕ) → start_regs start region stack r < 2 ^ 64
@@ -81,12 +107,19 @@ module _ {image : List ℕ} {procs : List Proc} {entry : ℕ} {statics : List �
   abbrev code : List RealItem
   code = words_code procs entry
 
+  -- the number of a procedure in the code is that of one of the program
+  procedure_below : (place k first count : ℕ) → slice_get items place ≡ Some (Procedure k first count)
+      → k < length procs
+  procedure_below place k first count e =
+      let h = below_numbers (length procs) 0 k (subst (λ ks. In k ks) selected.order
+      (in_procedures items place k first count e)) in omega arith
+
   module _ (p : Proc) (told : ℕ → ℕ) (region stack : ℕ) (world : WorldState)
       (given : RunsIn code statics procs entry p told region stack) where
     abbrev s : State
     s = start_of image region stack world
 
-    starts : Starts code (plain_setting (item_address code statics)) told s
+    starts : Starts items code (plain_setting (item_address code statics)) told s
     starts =
         let small = parts_small is whole in
         let r = given.region_size.1 in
@@ -98,7 +131,7 @@ module _ {image : List ℕ} {procs : List Proc} {entry : ℕ} {statics : List �
         record {
           addresses = is.addresses.sound;
           calls = λ place u. refl;
-          same = given.same;
+          tells = λ place k first count at e m. given.tells k at (procedure_below place k first count e) m;
           lies = record {
             base = omega arith;
             region = omega arith;
@@ -146,7 +179,8 @@ module _ {image : List ℕ} {procs : List Proc} {entry : ℕ} {statics : List �
       abbrev real : Machine State State Verdict
       real = real_machine reading code (plain_setting (item_address code statics))
 
-      upper : Simulates reading (words_setting procs told s) items p s.regs s.memory s.world
+      upper : Simulates (virtual_machine reading (setting_in items told s)) low (words_setting procs told s) p s.regs
+          s.memory s.world
       upper = selected.runs reading (words_setting procs told s) p s.regs s.memory s.world refl begins never
 
       virtual_never : NeverWrong (run (virtual_machine reading (setting_in items told s)) (start_in s))
@@ -155,26 +189,11 @@ module _ {image : List ℕ} {procs : List Proc} {entry : ℕ} {statics : List �
       lower : NeverWrong (run real s) → AssembledSimulates (machine_by reading) real s
       lower real_never = is.runs reading region stack world given.region_size given.stack_size real_never
 
-      pub in_stack : IsReading reading
-          → FollowsVirtual 516 (machine_by reading)
-          (stacked_machine reading (setting_in items told s) (room_in s)) s
-      in_stack sound =
-          let middle = slotted.in_stack selected.well_formed.distinct reading sound
-          (plain_setting (item_address code statics)) told s starts virtual_never in
-          let below = lower (follower_never_goes_wrong (follows_of middle.follows)) in
-          record {
-            follows = follows_by_weaken (IsSeenAs (s.regs 25)) Any (below_code (s.regs 25)) (λ a b h. tt)
-                (follows_by_trans below.follows middle.follows);
-            turns = follows_by_weaken (OfRest (IsSeenAs (s.regs 25))) (Spends 516)
-                (λ a b h. below_code (s.regs 25) a.rest b.rest (h.0.rest, h.1, h.2))
-                (λ a b h. spends_through 12 43 a b h)
-                (follows_by_trans below.turns middle.turns);
-          }
-
-      pub follows_words : reading (Lacks Stack) ≡ Exhausted → FollowsWords reading procs p told s
-      follows_words out =
-          let middle = slotted.follows selected.well_formed.distinct reading out
-          (plain_setting (item_address code statics)) told s starts virtual_never in
+      -- from the machine of the image over that of the code with slots to a virtual run, and on to a run over words
+      joins : (X : Machine VirtualState Shown Verdict) (Y : Machine LowState LowShown Verdict)
+          → FollowsVirtual 43 real X s → Simulates X Y (words_setting procs told s) p s.regs s.memory s.world
+          → FollowsWords reading Y low0 s
+      joins X Y middle upper =
           let below = lower (follower_never_goes_wrong (follows_of middle.follows)) in
           let follows = follows_by_weaken (IsSeenAs (s.regs 25)) Any (below_code (s.regs 25)) (λ a b h. tt)
           (follows_by_trans below.follows middle.follows) in
@@ -190,6 +209,22 @@ module _ {image : List ℕ} {procs : List Proc} {entry : ℕ} {statics : List �
                 (follows_by_trans turns upper.turns);
             never_wrong = follower_never_goes_wrong (follows_of follows);
           }
+
+      pub in_stack : IsReading reading
+          → FollowsWords reading (low_in_stack reading (words_setting procs told s) (room_in s)) low0 s
+      in_stack sound =
+          joins (stacked_machine reading (setting_in items told s) (room_in s))
+          (low_in_stack reading (words_setting procs told s) (room_in s))
+          (slotted.in_stack selected.well_formed.distinct reading sound
+          (plain_setting (item_address code statics)) told s starts virtual_never)
+          (selected.in_stack reading (sound.lacking Stack) (words_setting procs told s) p s.regs s.memory s.world
+          (room_in s) refl begins never)
+
+      pub follows_words : reading (Lacks Stack) ≡ Exhausted → FollowsWords reading low low0 s
+      follows_words out =
+          joins (virtual_machine reading (setting_in items told s)) low
+          (slotted.follows selected.well_formed.distinct reading out
+          (plain_setting (item_address code statics)) told s starts virtual_never) upper
 
   pub is_image_of_words : IsImageOfWords image procs entry statics labels
   is_image_of_words = record {
@@ -215,6 +250,6 @@ joined procs entry registers items code image statics labels closed whole select
         subst (λ ys. IsCodeOf ys registers procs entry) (sym e ∙ f) selected in
         let slots_of : IsSlotsOf (select_items entry procs) code =
         subst (λ ys. IsSlotsOf ys code) (sym e ∙ f) slotted in
-        let same = slots_of.same in
+        let same = slots_of.exactly in
         is_image_of_words closed whole own (subst (λ c. IsSlotsOf (select_items entry procs) c) same slots_of)
         (subst (λ c. IsImageOf image c statics labels) same is)

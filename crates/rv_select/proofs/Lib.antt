@@ -9,6 +9,8 @@ pub mod SlotReturns
 pub mod SlotSteps
 pub mod InStack
 pub mod StackSizes
+pub mod WordCounts
+pub mod Spared
 pub mod SlotDistinct
 pub mod SlotConditions
 pub mod SlotRuns
@@ -24,6 +26,7 @@ mod Selecting
 mod Marks
 mod Laying
 mod Following
+mod InWordStack
 mod Emitting
 mod Closedness
 mod Procs

@@ -33,14 +33,15 @@ use Rattle.low_ir.specs.Procedures.{Call as LowCall, CallAt as LowCallAt, If, Re
 use Rattle.low_ir.specs.Procedures.{TailCall as LowTailCall, TailCallAt as LowTailCallAt, Proc}
 use Rattle.low_ir.specs.Run.{Setting as LowSetting, Active as LowActive, Waiting, LowState, LowShown, word_of, words_of}
 use Rattle.low_ir.specs.Run.{and_more, with_local, bind, goes_on, sets, proc_from, answers, waits, falls}
-use Rattle.low_ir.specs.Run.{low_machine, code_step, code_turns, low_turns}
+use Rattle.low_ir.specs.Run.{low_machine, code_step, code_turns, low_turns, finds_no_room, held_by as words_held}
 use Rattle.rv_select.specs.declared.code.VReg.{VReg}
 use Rattle.rv_select.specs.declared.code.VReg.TheVariants.{Real, Virtual}
 use Rattle.rv_select.specs.declared.code.VirtualItem.{VirtualItem}
 use Rattle.rv_select.specs.declared.code.VirtualItem.TheVariants.{Move, Compute, ComputeWith, Load, Store}
 use Rattle.rv_select.specs.declared.code.VirtualItem.TheVariants.{Mark, Jump, Branch, Call, CallAt}
 use Rattle.rv_select.specs.declared.code.VirtualItem.TheVariants.{TailCall, TailCallAt, Environment}
-use Rattle.rv_select.specs.Run.{Setting, Found, Active, Frame, VirtualState, Shown, fits_item, also_known, only_args}
+use Rattle.rv_select.specs.Run.{Setting, Found, Active, Frame, VirtualState, Shown, held_by, fits_item, also_known}
+use Rattle.rv_select.specs.Run.{only_args}
 use Rattle.rv_select.specs.Run.{only_answer, is_own, value, mark_place, procedure_from, procedure_at, puts, store}
 use Rattle.rv_select.specs.Run.{framed, back_to, branch, item_step, step_here, virtual_machine}
 use Rattle.rv_select.specs.Select.{is_small, number_of, second_items, compute_item, source_reg, source_items}
@@ -187,23 +188,38 @@ module _ {V : Type 0} (reading : Halt → Ending V) (low : LowSetting) (items : 
   Behind (w ∷ ws) (f ∷ fs) =
       ActiveOn (Move (Virtual (f.active.found.first + w.answer)) (Real 10) ∷ []) w.rest f.back f.active × Behind ws fs
 
+  -- as many procedures are active in both, and have as many words
+  abbrev pub AsMany : LowState → VirtualState → Type 0
+  AsMany s t =
+      (length t.frames ≡ length s.waiting + 1)
+      × (held_by t.active.found t.frames ≡ s.active.count + words_held s.waiting)
+
+  -- no more of both than in the run over words
+  abbrev pub NoMore : LowState → VirtualState → Type 0
+  NoMore s t =
+      (length t.frames ≤ length s.waiting + 1)
+      × (held_by t.active.found t.frames ≤ s.active.count + words_held s.waiting)
+
+  no_more : (s : LowState) (t : VirtualState) → AsMany s t → NoMore s t
+  no_more s t h = let e = h.0 in let f = h.1 in (omega (arith, e), omega (arith, f))
+
   -- what is seen of both
   abbrev pub SeenAs : LowState → VirtualState → Type 0
   SeenAs s t =
       ((at : ℕ) → at < s.alloc → t.memory at ≡ s.memory at) × (t.regs 26 ≡ s.alloc)
-      × (length t.frames ≤ length s.waiting + 1) × (t.world ≡ s.world) × (s.alloc ≤ low.top) × (t.regs 25 ≡ stack)
+      × NoMore s t × (t.world ≡ s.world) × (s.alloc ≤ low.top) × (t.regs 25 ≡ stack)
       × (t.regs 27 ≡ low.top)
 
   -- what is the same in both, and how the allocation word is
   abbrev pub Body : LowState → VirtualState → Type 0
   Body s t =
-      (t.memory ≡ s.memory) × (t.regs 26 ≡ s.alloc) × (length t.frames ≡ length s.waiting + 1) × (t.world ≡ s.world)
+      (t.memory ≡ s.memory) × (t.regs 26 ≡ s.alloc) × AsMany s t × (t.world ≡ s.world)
       × (t.regs 27 ≡ low.top) × (s.alloc ≤ low.top) × (s.alloc % 8 ≡ 0) × (low.region ≤ s.alloc)
       × (t.regs 25 ≡ stack)
 
   -- what is the same is seen so
   pub seen : (s : LowState) (t : VirtualState) → Body s t → SeenAs s t
-  seen s t b = (λ at h. ap (λ (m : Memory). m at) b.0, b.1, (let e = b.2 in omega arith), b.3, b.5, b.8, b.4)
+  seen s t b = (λ at h. ap (λ (m : Memory). m at) b.0, b.1, no_more s t b.2, b.3, b.5, b.8, b.4)
 
   -- where both runs are after the same steps
   pub record On (s : LowState) (t : VirtualState) : Type 0 where
@@ -219,7 +235,15 @@ module _ {V : Type 0} (reading : Halt → Ending V) (low : LowSetting) (items : 
   as_alike s t h = record {
     output = ap (λ (w : WorldState). w.output) h.3;
     shown =
-        record { memory = h.0; alloc = h.1; inside = h.4; stack = h.5; top = h.6; frames = h.2 };
+        record {
+          memory = h.0;
+          alloc = h.1;
+          inside = h.4;
+          stack = h.5;
+          top = h.6;
+          frames = h.2.0;
+          held = h.2.1;
+        };
   }
 
   way_seen : (s s1 : LowState) (t : VirtualState) → SeenAs s t → Way s s1 t
@@ -529,7 +553,11 @@ module _ {V : Type 0} (reading : Halt → Ending V) (low : LowSetting) (items : 
       let pc : ℕ = beyond (source_items 7 a) t.pc in
       sim_given rate s s t (word_of s.active.locals a) _ (λ n ae.
       sim_if rate s (popped s rest) t (nat_le (s.alloc + 8 * n) low.top) _ (λ h.
-      let s1 : LowState = record s { active = record s.active { code = rest }; alloc = s.alloc + 8 * n } in (
+      let s1 : LowState = record s {
+        active = record s.active { code = rest };
+        alloc = s.alloc + 8 * n;
+        words = s.words + n;
+      } in (
         fetches a 2,
         inl (let z = fetches_ge a 2 in omega (arith, z)),
         (let z = fetches_le a 2 in omega (arith, z)),
@@ -661,15 +689,11 @@ module _ {V : Type 0} (reading : Halt → Ending V) (low : LowSetting) (items : 
           given_is (u3 regs known) _ n _ e ∙ ap (λ c. branch reading setting c on.active.out (u3 regs known)) h
 
       by_room : (n : ℕ) → word_of s.active.locals a ≡ Some n → (b : Bool) → nat_le (s.alloc + 8 * n) low.top ≡ b
-          → Sim rate s t (if b then sets reading low d s.alloc (record (popped s rest) { words = s.words + n })
-          else Stop (reading (Lacks Region)) (popped s rest))
+          → Sim rate s t (if b then sets reading low d s.alloc (popped s rest)
+          else finds_no_room reading low n (popped s rest))
       by_room n e true h =
-          sim_if rate s (record (popped s rest) { words = s.words + n }) t (nat_lt d s.active.count) _ (λ m.
-          let s1 : LowState = record s {
-            active = with_local d s.alloc (record s.active { code = rest });
-            words =
-                s.words + n;
-          } in (
+          sim_if rate s (popped s rest) t (nat_lt d s.active.count) _ (λ m.
+          let s1 : LowState = record s { active = with_local d s.alloc (record s.active { code = rest }) } in (
             fetches a 4,
             inl (let z = fetches_ge a 4 in omega (arith, z)),
             (let z = fetches_le a 4 in omega (arith, z)),
@@ -697,7 +721,7 @@ module _ {V : Type 0} (reading : Halt → Ending V) (low : LowSetting) (items : 
                 }))),
           ))
       by_room n e false h =
-          let s1 : LowState = popped s rest in
+          let s1 : LowState = record (popped s rest) { words = s.words + n } in
           let room = on.active.homed.room in
           unless (reading (Lacks Region)) (
             fetches a 7,
@@ -886,7 +910,7 @@ module _ {V : Type 0} (reading : Halt → Ending V) (low : LowSetting) (items : 
             alloc = s.alloc + 8 * length ws;
             words =
                 s.words + length ws;
-          }) else Stop (reading (Lacks Region)) (popped s rest))
+          }) else finds_no_room reading low (length ws) (popped s rest))
       by_room ws e few true h =
           sim_if (rate * (1 + length args)) s (record (popped s rest) {
             memory = store_words ws s.alloc s.memory;
@@ -956,7 +980,7 @@ module _ {V : Type 0} (reading : Halt → Ending V) (low : LowSetting) (items : 
                 }))))),
           ))
       by_room ws e few false h =
-          let s1 : LowState = popped s rest in
+          let s1 : LowState = record (popped s rest) { words = s.words + length ws } in
           let room = on.active.homed.room in
           let many : length ws ≡ length args = words_length s.active.locals args ws e in
           let t4 : VirtualState = record t2 { pc = room.0 } in
@@ -1341,21 +1365,44 @@ module _ {V : Type 0} (reading : Halt → Ending V) (low : LowSetting) (items : 
       let inside : (nat_le 10 (10 + i) && nat_lt (10 + i) (10 + m)) ≡ true = grind arith in
       ap (λ c. c && (nat_le 10 (10 + i) && nat_lt (10 + i) (10 + m))) h ∙ inside
 
+  -- where a procedure is entered, its words take the place of those of the one that handed the words on
+  held_entered : (frames : List Frame) (from found : Found) (count words rest more : ℕ)
+      → held_by from frames ≡ count + rest → from.count ≡ count → found.count ≡ words
+      → length frames ≡ more + 1 → held_by found frames ≡ words + rest
+  held_entered [] from found count words rest more h e f l = absurd (omega (arith, l))
+  held_entered (frame ∷ frames) from found count words rest more h e f l = omega (arith, h, e, f)
+
   -- from its home a procedure takes its parameters
   from_home : (s s2 : LowState) (te : VirtualState) (ws : List ℕ) (p : Proc) (f : Found) (n : ℕ) → length ws ≡ n
       → Entered p f → HasArgs te.regs 0 ws → ((i : ℕ) → i < length ws → te.known (10 + i) ≡ true)
-      → Behind s2.waiting te.frames → Body s2 te → p.params ≡ length ws → length ws ≤ 8 → p.params ≤ p.words
+      → Behind s2.waiting te.frames → Body s2 te → te.active.found.count ≡ s2.active.count → p.params ≡ length ws
+      → length ws ≤ 8 → p.params ≤ p.words
       → Reaches N (Way s (entered ws s2 p)) (On (entered ws s2 p)) (plus_steps reading setting p.params 0)
       (at_home n f te)
-  from_home s s2 te ws p f n count en args knows waiting body many eight le =
+  from_home s s2 te ws p f n count en args knows waiting body own_words many eight le =
       let s1 : LowState = entered ws s2 p in
       let t1 : VirtualState = at_home n f te in
+      let inside : Body s1 t1 = (
+        body.0,
+        body.1,
+        (
+          body.2.0,
+          held_entered te.frames te.active.found f s2.active.count p.words (words_held s2.waiting)
+              (length s2.waiting) body.2.1 own_words en.homed.count body.2.0,
+        ),
+        body.3,
+        body.4,
+        body.5,
+        body.6,
+        body.7,
+        body.8,
+      ) in
       let code : List VirtualItem = code_items f.first en.out en.mark p.code in
       takes reading setting (Way s s1) (On s1) code 0 p.params 0 t1 (λ i h k.
       handed_known te.known i n (knows i (let z = many in omega (arith, k))) (let z = many in let y = count in
       omega (arith, k))) (subst (λ x. 0 + x ≤ 8) (sym many) (omega (arith, eight)))
       (subst (λ x. 0 + p.params ≤ x) (sym en.homed.count) (omega (arith, le))) en.lies.stands
-      (λ L pc. way_second s s1 (record t1 { active = record { found = f; locals = L }; pc = pc }) body) (record {
+      (λ L pc. way_second s s1 (record t1 { active = record { found = f; locals = L }; pc = pc }) inside) (record {
         active = record {
           mark = en.mark;
           out = en.out;
@@ -1364,7 +1411,7 @@ module _ {V : Type 0} (reading : Halt → Ending V) (low : LowSetting) (items : 
           lies = past f en.out f.home (params_items f.first 0 p.params) code [] en.lies;
         };
         behind = waiting;
-        body = body;
+        body = inside;
       })
 
   -- words are handed on, and then an item enters a procedure
@@ -1443,7 +1490,10 @@ module _ {V : Type 0} (reading : Halt → Ending V) (low : LowSetting) (items : 
       (let b = body_args s u ws place body eight in (
         b.0,
         b.1,
-        (let z = b.2 in omega (arith, z)),
+        (
+          (let z = b.2.0 in omega (arith, z)),
+          (let z = b.2.1 in let c = on.active.homed.count in omega (arith, z, c)),
+        ),
         b.3,
         b.4,
         b.5,
@@ -1466,7 +1516,7 @@ module _ {V : Type 0} (reading : Halt → Ending V) (low : LowSetting) (items : 
       (λ i h. known_args ws 0 i known (omega arith) (omega (arith, h))) (
         frame,
         on.behind,
-      ) entered_body many eight le)
+      ) entered_body on.active.homed.count many eight le)
 
   do_code_of : Laid → (s : LowState) (t : VirtualState) (on : On s t) (d k : ℕ) (rest : Code)
       → LiesOn s t on t.pc (LowCodeOf d k rest) → Sim rate s t (code_step reading low (LowCodeOf d k rest) s)
@@ -1590,7 +1640,7 @@ module _ {V : Type 0} (reading : Halt → Ending V) (low : LowSetting) (items : 
       (plus_steps reading setting p.params 0) (
       from_home s s te ws p f (length args) (words_length s.active.locals args ws e) en (has_args ws 0 regs)
       (λ i h. known_args ws 0 i known (omega arith) (omega (arith, h))) on.behind
-      (body_args s u ws place body eight) many eight le)
+      (body_args s u ws place body eight) on.active.homed.count many eight le)
 
   do_tail : Laid → (s : LowState) (t : VirtualState) (on : On s t) (k : ℕ) (args : List LowSource)
       → LiesOn s t on t.pc (LowTailCall k args) → Sim (rate * (1 + length args)) s t
@@ -1655,7 +1705,7 @@ module _ {V : Type 0} (reading : Halt → Ending V) (low : LowSetting) (items : 
       → Sim rate s t (code_step reading low (LowReturn a) s)
   do_return s t on a lies =
       sim_given rate s s t (word_of s.active.locals a) _ (λ x e. returned x e s.waiting t.frames refl refl on.behind
-      on.body.2)
+      on.body.2.0)
     where
       back : (x : ℕ) → word_of s.active.locals a ≡ Some x → (f : Frame) (fs : List Frame) → t.frames ≡ f ∷ fs
           → (s1 : LowState) (Q : VirtualState → Type 0) (k : ℕ)
@@ -1698,7 +1748,7 @@ module _ {V : Type 0} (reading : Halt → Ending V) (low : LowSetting) (items : 
           let end = reading (Ended (Answer (record { kind = IntKind; word = cast_signed w64 x }))) in
           let Q : VirtualState → Type 0 = StopsAt (SameRegion stack low.top) Any M N s s end in
           let sn0 : SeenAs s t = seen s t on.body in
-          let sn : SeenAs s t2 = (sn0.0, sn0.1, omega arith, sn0.3, sn0.4, sn0.5, sn0.6) in
+          let sn : SeenAs s t2 = (sn0.0, sn0.1, (omega arith, omega arith), sn0.3, sn0.4, sn0.5, sn0.6) in
           unless end (
             5,
             omega arith,
@@ -1729,10 +1779,14 @@ module _ {V : Type 0} (reading : Halt → Ending V) (low : LowSetting) (items : 
             frames = fs;
           } in
           let t3 : VirtualState = wrote_local (first + w.answer) x t2 in
+          let before : held_by t.active.found (f ∷ fs) ≡ s.active.count + words_held (w ∷ ws) =
+          sym (ap (λ gs. held_by t.active.found gs) fe) ∙ (on.body.2.1
+          ∙ ap (λ vs. s.active.count + words_held vs) we) in
+          let own_words = on.active.homed.count in
           let body : Body s1 t2 = (
             on.body.0,
             on.body.1,
-            omega (arith, n),
+            (omega (arith, n), omega (arith, before, own_words)),
             on.body.3,
             on.body.4,
             on.body.5,
@@ -1761,7 +1815,7 @@ module _ {V : Type 0} (reading : Halt → Ending V) (low : LowSetting) (items : 
 
   -- ---- all steps
 
-  do_code : Laid → (s : LowState) (t : VirtualState) (on : On s t) (c : Code) → LiesOn s t on t.pc c
+  pub do_code : Laid → (s : LowState) (t : VirtualState) (on : On s t) (c : Code) → LiesOn s t on t.pc c
       → Sim (rate * code_turns c) s t (code_step reading low c s)
   do_code laid s t on Done lies = do_done s t on lies
   do_code laid s t on (Set d a rest) lies = do_set s t on d a rest lies

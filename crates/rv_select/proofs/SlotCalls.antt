@@ -27,15 +27,16 @@ use Rattle.rv_select.specs.Stacks.{stack_of}
 use Rattle.rv_select.proofs.Bounded.{DoesWithin}
 use Rattle.rv_select.proofs.PutWords.{OnlyIn}
 use Rattle.rv_select.proofs.Items.{Then, ThenOn, as_at, regrouped, stands_small, stands_aligned, mark_stands}
-use Rattle.rv_select.proofs.Items.{does, jumps, falls, taken, addresses, lands, words}
+use Rattle.rv_select.proofs.Items.{does, jumps, goes_past, taken, addresses, lands, words}
 use Rattle.rv_select.proofs.Frames.{Slotting, none_is, readable_low, low_reg, other_get, get_only, scratch_same}
 use Rattle.rv_select.proofs.Frames.{set_fits, fits_only, stored_fits, program, virtual_setting, M, N, Stand, rest_of}
 use Rattle.rv_select.proofs.Frames.{has_rest, HasHome, Stacked, stack_is, stack_high, stack_same, Body, On}
-use Rattle.rv_select.proofs.Frames.{Same, Seen, seen_of, seen_still, as_alike, Way, way_first, body_scratch}
+use Rattle.rv_select.proofs.Frames.{Same, Seen, seen_of, seen_still, as_alike, Way, way_first, way_second}
+use Rattle.rv_select.proofs.Frames.{body_scratch}
 use Rattle.rv_select.proofs.SlotWords.{wrote, stores, fetch, saved}
 use Rattle.rv_select.proofs.SlotItems.{item_turns, code_of, size, room, Sim, sim_given, sim_puts}
 use Rattle.rv_select.proofs.SlotMarks.{beyond, drop_beyond, frame_items, enter_items, Begins}
-use Rattle.rv_select.proofs.SlotMarks.{found_number, found_address, begins_at}
+use Rattle.rv_select.proofs.SlotMarks.{found_number, found_address, told_address, begins_at}
 
 not_link : (q : ℕ) → may_read q ≡ true → (q == 1) ≡ false
 not_link q h = grind arith
@@ -88,6 +89,9 @@ module _ {V : Type 0} (w : Slotting V) where
         alloc = seen.alloc;
         top = seen.top;
         world = seen.world;
+        layout = seen.layout;
+        above = seen.above;
+        used = seen.used;
       } in
       let at = as_at (program w) s1 c1 in
       let stops = call_stops (program w) (Lacks Stack) at tt (λ pc.
@@ -151,6 +155,9 @@ module _ {V : Type 0} (w : Slotting V) where
         alloc = seen.alloc;
         top = seen.top;
         world = seen.world;
+        layout = seen.layout;
+        above = seen.above;
+        used = seen.used;
       }
 
       less : (c : Bool) → nat_lt free need ≡ c → nat_lt free (get_reg s.regs 28) ≡ c
@@ -170,7 +177,7 @@ module _ {V : Type 0} (w : Slotting V) where
           (next a.pc a.stands)
       tested n2 c2 false h next =
           let s2 : State = record s { regs = regs2; pc = n2 } in
-          falls (program w) (Way w t t1) Q s2 c2 tt (less false h) (way_first w t t1 s2 (seen2 n2))
+          goes_past (program w) (Way w t t1) Q s2 c2 tt (less false h) (way_first w t t1 s2 (seen2 n2))
           (λ n3 c3. next n3 c3)
 
   -- behind the test the frame is made, with the link
@@ -184,7 +191,6 @@ module _ {V : Type 0} (w : Slotting V) where
       (λ ecall ebreak pc. ap (λ x. put 2 ((sp + (2 ^ 64 - x)) % 2 ^ 64) (record s { pc = pc })) size28
       ∙ ap (λ z. put 2 z (record s { pc = pc })) low_word) (way_first w t t1 s seen) (λ n4 c4.
       let s4 : State = record s { regs = regs3; pc = n4 } in
-      let seen4 = seen_still w t s regs3 n4 2 seen (λ q m. other_is q m) refl refl refl in
       let x = b.above in
       let y = w.lies.region in
       let z = high.0 in
@@ -193,7 +199,7 @@ module _ {V : Type 0} (w : Slotting V) where
       let at : (low + 0) % 2 ^ 64 ≡ low = omega arith in
       comes_there (program w) P Q (does (program w) P Q s4 regs3 memory1 c4 (has_rest w f f.home)
       (λ ecall ebreak pc. stores w s4 1 2 low 0 pc ecall ebreak b.layout at made.stack.0.aligned (omega arith)
-      (omega arith)) (way_first w t t1 s4 seen4) (λ n5 c5.
+      (omega arith)) (way_second w t t1 s4 (seen4 n4)) (λ n5 c5.
       is_there (program w) P Q (record {
         body = record {
           regs = made.regs;
@@ -252,6 +258,20 @@ module _ {V : Type 0} (w : Slotting V) where
           let y = b.above in
           let g = fit in aligned_below sp (1 + f.count) x (omega arith)
 
+      -- x2 is that of the state that is entered
+      seen4 : (n4 : ℕ) → Seen w t1 (record s { regs = regs3; pc = n4 })
+      seen4 n4 = record {
+        memory = b.memory;
+        stack = b.regs 25 refl;
+        alloc = b.regs 26 refl;
+        top = b.regs 27 refl;
+        world = b.world;
+        layout = b.layout;
+        above = (let x = b.above in let g = fit in omega arith);
+        used = (let e = stack_is w s.memory sp u.active u.frames b.stack in
+            let x = b.above in let g = fit in omega (arith, e));
+      }
+
       made : Body w t1 (record s { regs = regs3; memory = memory1 })
       made =
           let x = b.above in
@@ -305,7 +325,7 @@ module _ {V : Type 0} (w : Slotting V) where
       let free : ℕ = regs 2 - w.top in
       let s2 : State = record s { regs = set_reg 29 free regs; pc = n2 } in
       let seen2 : Seen w t s2 = seen_still w t s1 (set_reg 29 free regs) n2 29 (seen28 regs n1 only)
-      (λ q m. rw m refl) refl refl refl in
+      (λ q m. rw m refl) refl refl refl refl in
       let small2 : free < 2 ^ 64 = (let x = b1.fits 2 in omega arith) in
       let b2 : Body w u s2 = body_scratch w u s1 (set_reg 29 free regs) n2 b1
       (λ q m. scratch_same 29 free q regs (omega arith) m) refl (set_fits 29 free regs small2 b1.fits) in
@@ -322,7 +342,7 @@ module _ {V : Type 0} (w : Slotting V) where
       small = let h = begins.few in omega arith
 
       seen28 : (regs : Registers) (pc : ℕ) → OnlyIn 28 regs s.regs → Seen w t (record s { regs = regs; pc = pc })
-      seen28 regs pc only = seen_still w t s regs pc 28 seen only refl refl refl
+      seen28 regs pc only = seen_still w t s regs pc 28 seen only refl refl refl refl
 
   -- the frame of a procedure fits behind the others
   abbrev pub HasRoom : Bool → Found → VirtualState → Type 0
@@ -392,8 +412,9 @@ module _ {V : Type 0} (w : Slotting V) where
       let f : Found = t.active.found in
       let rest : List RealItem = rest_of w f (suc t.pc) in
       let t1 : VirtualState = wrote rd (w.told k) t in
-      let a = begins_at w s k g (found_number w k g e) in
-      let same : w.told k ≡ a.pc = w.agree k a.pc a.is_address in
+      let begins = found_number w k g e in
+      let a = begins_at w s k g begins in
+      let same : w.told k ≡ a.pc = told_address w k a.pc g begins a.is_address in
       let small : w.told k < 2 ^ 64 = subst (λ z. z < 2 ^ 64) (sym same) (stands_small (program w) s a.stands) in
       addresses (program w) (Way w t t1) (On w t1) s (w.told k) (code_of w t s on (CodeOf rd k) here tt)
       (has_item-append (save_items f.first rd) rest (has_rest w f (suc t.pc))) (a.is_address ∙ ap Some (sym same))
@@ -436,7 +457,7 @@ module _ {V : Type 0} (w : Slotting V) where
       sim_given w t t s (value t a) _ (λ at ae. sim_given w t t s (procedure_at w.told at 0 w.items) _ (λ f e.
       let z = found_address w at f e in
       let b = begins_at w s z.0 f z.1 in
-      let same : b.pc ≡ at = sym (w.agree z.0 b.pc b.is_address) ∙ z.2 in
+      let same : b.pc ≡ at = sym (told_address w z.0 b.pc f z.1 b.is_address) ∙ z.2 in
       let code : Stand w at (enter_items w f.count ++ rest_of w f f.home) =
       subst (λ x. Stand w x (enter_items w f.count ++ rest_of w f f.home)) same b.stands in
       let rest : List RealItem = rest_of w t.active.found (suc t.pc) in

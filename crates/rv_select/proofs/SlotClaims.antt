@@ -20,7 +20,7 @@ pub is_slots : (items : List VirtualItem) (code : List RealItem) → EachHasFew 
     → code ≡ slots_items (free_mark items) items → IsSlotsOf items code
 is_slots items code few e =
     subst (IsSlotsOf items) (sym e) (record {
-      same = refl;
+      exactly = refl;
       assembles = λ well. slots_assemble items well;
       spares = λ well. slots_spare items well;
       begins = λ well. slots_begin items well;

@@ -362,7 +362,7 @@ module _ {V : Type 0} (w : Slotting V) where
           → Way w t t1 (record s { regs = regs; pc = pc })
       seen_still_in t1 regs pc only =
           way_first w t t1 (record s { regs = regs; pc = pc })
-          (seen_still w t s regs pc 28 (seen_of w t s on.body) only refl refl refl)
+          (seen_still w t s regs pc 28 (seen_of w t s on.body) only refl refl refl refl)
 
       put_word : (rd : VReg) → Permits t rd → Stand w s.pc (word_items 28 word ++ (settle_items f.first rd ++ rest))
           → Reached 25 t (wrote rd word t) s

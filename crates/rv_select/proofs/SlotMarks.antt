@@ -21,7 +21,7 @@ use Rattle.rv_select.specs.declared.code.VirtualItem.TheVariants.{Mark, Procedur
 use Rattle.rv_select.specs.Run.{Found, VirtualState, value, mark_from, mark_place, procedure_from, procedure_at}
 use Rattle.rv_select.specs.Run.{item_step}
 use Rattle.rv_select.specs.Slots.{frame_size, register_for, fetch_items, word_items, expand, expand_all, final_items}
-use Rattle.rv_select.proofs.Items.{regrouped, past_mark, MarkStands, mark_stands, jumps, falls, taken}
+use Rattle.rv_select.proofs.Items.{regrouped, past_mark, MarkStands, mark_stands, jumps, goes_past, taken}
 use Rattle.rv_select.proofs.Frames.{Slotting, none_is, some_is, equal_of, code, program, virtual_setting, Stand}
 use Rattle.rv_select.proofs.Frames.{rest_of, has_rest, HasHome, Body, On, has_room, seen_of, Way, way_first}
 use Rattle.rv_select.proofs.Frames.{body_scratch, body_at}
@@ -201,7 +201,7 @@ module _ {V : Type 0} (w : Slotting V) where
       decided x y xe ye false h =
           let t1 : VirtualState = record t { pc = suc t.pc } in
           sim_go w {most = 27} t t1 s (omega arith) (has_room w t s on.body) (at_branch x y xe ye t1 (λ s2 body same c2.
-          falls (program w) (Way w t t1) (On w t1) s2 c2 (has_rest w f (suc t.pc)) (same ∙ h)
+          goes_past (program w) (Way w t t1) (On w t1) s2 c2 (has_rest w f (suc t.pc)) (same ∙ h)
           (way_first w t t1 s2 (seen_of w t s2 body)) (λ n c3.
           is_there (program w) (Way w t t1) (On w t1) (record {
             body = body_at w t (record s2 { pc = n }) (suc t.pc) t.known
@@ -225,6 +225,9 @@ module _ {V : Type 0} (w : Slotting V) where
     pub place : ℕ
     pub here : RealFrom place (RealMark k ∷ (enter_items f.count ++ rest_of w f f.home))
     pub home : HasHome w f
+    -- where it stands in the virtual code
+    pub mark : ℕ
+    pub is : slice_get w.items mark ≡ Some (Procedure k f.first f.count)
     pub few : f.count < 2 ^ 32
 
   -- its number of registers and its code from its mark on, where it stands in the virtual code
@@ -246,6 +249,8 @@ module _ {V : Type 0} (w : Slotting V) where
         place = j;
         here = e ∙ (split ∙ ap (λ ys. RealMark k ∷ (enter_items count ++ ys)) (sym same));
         home = (beyond start j, drop_beyond start rest j (e ∙ split) ∙ sym same);
+        mark = p;
+        is = next.0;
         few = w.counts p k first count next.0;
       }
 
@@ -314,6 +319,11 @@ module _ {V : Type 0} (w : Slotting V) where
   pub found_address : (at : ℕ) (f : Found) → procedure_at w.told at 0 w.items ≡ Some f
       → AddressCode at f
   found_address at f e = address_code w.items at 0 0 f 0 0 refl refl e
+
+  -- the virtual run is told the address of its mark
+  pub told_address : (k n : ℕ) (f : Found) → Begins k f → mark_address w.setting.address (code w) k ≡ Some n
+      → w.told k ≡ n
+  told_address k n f b e = w.agree b.mark k f.first f.count n b.is e
 
   -- the address of a procedure's mark, and what stands there
   pub begins_at : (s : State) (k : ℕ) (f : Found) → Begins k f

@@ -22,11 +22,13 @@ use Rattle.rv_select.specs.Stacks.{stack_of}
 use Rattle.rv_select.proofs.PutWords.{OnlyIn}
 use Rattle.rv_select.proofs.Items.{Then, ThenOn, regrouped, stands_small, stands_aligned, does, jumps, lands, words}
 use Rattle.rv_select.proofs.Frames.{Slotting, readable_low, low_reg, other_get, get_only, set_fits, fits_only, program}
-use Rattle.rv_select.proofs.Frames.{virtual_setting, Stand, rest_of, has_rest, HasHome, Framed, Stacked, Body, On}
+use Rattle.rv_select.proofs.Frames.{virtual_setting, Stand, rest_of, has_rest, HasHome, Framed, Stacked, stack_is, Body}
+use Rattle.rv_select.proofs.Frames.{On}
 use Rattle.rv_select.proofs.Frames.{has_room, Seen, seen_of, seen_still, Way, way_first, body_scratch, body_at}
 use Rattle.rv_select.proofs.SlotWords.{loads, when_readable, Fetched, fetch}
 use Rattle.rv_select.proofs.SlotItems.{code_of, room, Sim, sim_given, sim_go}
 use Rattle.rv_select.proofs.SlotMarks.{zero_lost, zero_fits, enter_items, found_number, found_address, begins_at}
+use Rattle.rv_select.proofs.SlotMarks.{told_address}
 use Rattle.rv_select.proofs.SlotCalls.{Enters, entered, enter_turns, sim_enter}
 
 not_link : (q : ℕ) → may_read q ≡ true → (q == 1) ≡ false
@@ -114,15 +116,14 @@ module _ {V : Type 0} (w : Slotting V) where
           → Seen w t (record s { regs = regs; pc = pc })
       seen28 n1 regs pc only =
           let s1 : State = record s { regs = regs1; pc = n1 } in
-          seen_still w t s1 regs pc 28 (seen_still w t s regs1 n1 1 (seen_of w t s b) (λ q m. rw m refl) refl refl refl)
-          only refl refl refl
+          seen_still w t s1 regs pc 28 (seen_still w t s regs1 n1 1 (seen_of w t s b) (λ q m. rw m refl) refl refl refl
+          refl) only refl refl refl refl
 
       left : (regs : Registers) (n1 n2 n3 : ℕ) → get_reg regs 28 ≡ need → OnlyIn 28 regs regs1
           → Seen w t (record s { regs = regs; pc = n2 })
           → Left t f fs s (record s { regs = set_reg 2 (sp + need) regs; pc = n3 })
       left regs n1 n2 n3 e2 only seen =
           let regs3 : Registers = set_reg 2 (sp + need) regs in
-          let s2 : State = record s { regs = regs; pc = n2 } in
           let kept_all : (q : ℕ) → may_read q ≡ true → get_reg regs3 q ≡ get_reg s.regs q = (λ q m.
           other_get 2 q (sp + need) regs (not_stack q m)
           ∙ (get_only 28 q regs regs1 only (low_reg q 28 (readable_low q m) (omega arith))
@@ -141,7 +142,16 @@ module _ {V : Type 0} (w : Slotting V) where
               above = omega arith;
               stack = k.1;
             };
-            seen = seen_still w t s2 regs3 n3 2 seen (λ q m. rw m refl) refl refl refl;
+            seen = record {
+              memory = seen.memory;
+              stack = seen.stack;
+              alloc = seen.alloc;
+              top = seen.top;
+              world = seen.world;
+              layout = seen.layout;
+              above = omega arith;
+              used = let e = stack_is w s.memory sp t.active t.frames b.stack in omega (arith, e);
+            };
             link = subst (λ a. Stand w a (rest_of w f.active.found f.back)) (sym (only 1 refl)) k.0.back;
             home = k.0.home;
             same = kept_all;
@@ -201,7 +211,7 @@ module _ {V : Type 0} (w : Slotting V) where
       let s2 : State = record s1 { regs = regs; pc = at } in
       let b2 : Body w (without t f fs) s2 = body_scratch w (without t f fs) s1 regs at left.body
       (λ q h. zero_lost m q s1.regs) refl (zero_fits m s1.regs left.body.fits) in
-      let seen2 : Seen w t s2 = seen_still w t s1 regs at 0 left.seen (λ q h. rw h refl) refl refl refl in
+      let seen2 : Seen w t s2 = seen_still w t s1 regs at 0 left.seen (λ q h. rw h refl) refl refl refl refl in
       comes_there (program w) (Way w t t1) Q (enters s2 seen2 b2 left.home left.link code)
 
   sim_tail : (t : VirtualState) (s : State) (f : Frame) (fs : List Frame) (n : ℕ) (g : Found) → t.frames ≡ f ∷ fs
@@ -257,7 +267,7 @@ module _ {V : Type 0} (w : Slotting V) where
           sim_given w t t s (value t a) _ (λ at ae. sim_given w t t s (procedure_at w.told at 0 w.items) _ (λ g ge.
           let z = found_address w at g ge in
           let b = begins_at w s z.0 g z.1 in
-          let same : b.pc ≡ at = sym (w.agree z.0 b.pc b.is_address) ∙ z.2 in
+          let same : b.pc ≡ at = sym (told_address w z.0 b.pc g z.1 b.is_address) ∙ z.2 in
           let code : Stand w at (enter_items w g.count ++ rest_of w g g.home) =
           subst (λ x. Stand w x (enter_items w g.count ++ rest_of w g g.home)) same b.stands in
           let rest : List RealItem = rest_of w t.active.found (suc t.pc) in

@@ -153,8 +153,8 @@ module _ {V : Type 0} (w : Slotting V) where
             → Way w t t1 (record s { regs = regs; pc = pc })
         seen_only regs pc only =
             way_first w t t1 (record s { regs = regs; pc = pc }) (seen_still w t s regs pc scratch (seen_of w t s b)
-            only (low_reg 25 scratch (omega arith) hi) (low_reg 26 scratch (omega arith) hi)
-            (low_reg 27 scratch (omega arith) hi))
+            only (low_reg 2 scratch (omega arith) hi) (low_reg 25 scratch (omega arith) hi)
+            (low_reg 26 scratch (omega arith) hi) (low_reg 27 scratch (omega arith) hi))
 
         finished : (regs : Registers) (n : ℕ) → get_reg regs scratch ≡ word → OnlyIn scratch regs s.regs
             → Stand w n xs → Later most (record s { regs = regs; pc = n })
@@ -278,7 +278,7 @@ module _ {V : Type 0} (w : Slotting V) where
       seen_only : (regs : Registers) (pc : ℕ) → OnlyIn 29 regs s.regs → P (record s { regs = regs; pc = pc })
       seen_only regs pc only =
           way_first w t t1 (record s { regs = regs; pc = pc })
-          (seen_still w t s regs pc 29 (seen_of w t s b) only refl refl refl)
+          (seen_still w t s regs pc 29 (seen_of w t s b) only refl refl refl refl)
 
       finished : (regs : Registers) (n : ℕ) → OnlyIn 29 regs s.regs → ((q : ℕ) → regs q < 2 ^ 64) → Stand w n rest
           → Ends t t1 0 (record s { regs = regs; memory = memory; pc = n })

@@ -10,3 +10,4 @@ pub mod WellFormed
 pub mod Sizes
 pub mod Select
 pub mod Selected
+pub mod CodeSizes

@@ -1,15 +1,15 @@
 -- What the code of a program over words is to the program.
-use Rattle.std.specs.Prelude.{true, ℕ, ◌+◌, ◌%◌, ◌^◌, ◌<◌, ◌≤◌, ◌≡◌, List, ◌∷◌, length, Some, slice_get}
+use Rattle.std.specs.Prelude.{true, ℕ, ◌+◌, ◌%◌, ◌^◌, ◌<◌, ◌≤◌, ◌≡◌, ◌≢◌, List, ◌∷◌, length, Some, slice_get}
 use Rattle.grift_base.specs.World.{WorldState}
 use Rattle.grift_base.specs.declared.verdicts.Verdict.{Verdict}
-use Rattle.run_laws.specs.Runs.{Ending, NeverWrong, FollowsBy, Any}
-use Rattle.run_laws.specs.Machines.{run}
+use Rattle.run_laws.specs.Runs.{Ending, Wrong, NeverWrong, FollowsBy, Any}
+use Rattle.run_laws.specs.Machines.{Machine, run}
 use Rattle.run_laws.specs.Meters.{unspent, metered, each_one, Spends, OfRest}
 use Rattle.rv_machine.specs.Memory.{Memory}
 use Rattle.rv_machine.specs.Registers.{Registers}
-use Rattle.rv_machine.specs.State.{Halt}
+use Rattle.rv_machine.specs.State.{Halt, Lacks, Stack}
 use Rattle.low_ir.specs.Procedures.{Proc}
-use Rattle.low_ir.specs.Run.{Setting as LowSetting, LowShown, low_machine, low_turns, low_start}
+use Rattle.low_ir.specs.Run.{Setting as LowSetting, LowState, LowShown, low_machine, low_turns, low_start}
 use Rattle.rv_select.specs.declared.code.Place.TheVariants.{Slot}
 use Rattle.rv_select.specs.declared.code.VReg.TheVariants.{Real}
 use Rattle.rv_select.specs.declared.code.VirtualItem.{VirtualItem}
@@ -18,8 +18,9 @@ use Rattle.rv_select.specs.Fitting.{each_fits}
 use Rattle.rv_select.specs.Holding.{Sets, IsHolding}
 use Rattle.rv_select.specs.Marks.{procedures, numbers_from, each_has_work, HaveOwn}
 use Rattle.rv_select.specs.WellFormed.{IsWellFormed}
-use Rattle.rv_select.specs.Run.{Setting, Shown, virtual_machine, virtual_start}
+use Rattle.rv_select.specs.Run.{Setting, VirtualState, Shown, virtual_machine, virtual_start}
 use Rattle.rv_select.specs.Select.{select_items, registers_of}
+use Rattle.rv_select.specs.Stacks.{stacked_machine, low_in_stack}
 
 -- what a run of these items is told where a run over words is told this
 abbrev pub setting_of : LowSetting → List VirtualItem → Setting
@@ -27,7 +28,7 @@ setting_of low items =
     record { items = items; address = low.address; labels = low.labels; region = low.region; top = low.top }
 
 -- both show the same region, in x25 and x27 stand the stack's low end and the region's end, and no more procedures are
--- active than in the run over words
+-- active than in the run over words, with no more words
 pub record SameRegion (low_end region_end : ℕ) (v : Shown) (l : LowShown) : Type 0 where
   pub memory : (at : ℕ) → at < l.alloc → v.memory at ≡ l.memory at
   pub alloc : v.alloc ≡ l.alloc
@@ -35,6 +36,7 @@ pub record SameRegion (low_end region_end : ℕ) (v : Shown) (l : LowShown) : Ty
   pub stack : v.stack ≡ low_end
   pub top : v.top ≡ region_end
   pub frames : v.frames ≤ l.frames
+  pub held : v.held ≤ l.held
 
 -- where a run over words begins, told the number of its first procedure, and the registers of its code there
 pub record Begins (low : LowSetting) (entry : ℕ) (p : Proc) (regs : Registers) : Type 0 where
@@ -49,25 +51,32 @@ pub record Begins (low : LowSetting) (entry : ℕ) (p : Proc) (regs : Registers)
   pub alloc : regs 26 ≡ low.region
   pub region_end : regs 27 ≡ low.top
 
--- from such a beginning the run of the items follows the run over words, and shows the same region; it takes at most
--- nine items for each turn of that run, and as many for the start
-pub record Simulates {V : Type 0} (reading : Halt → Ending V) (low : LowSetting) (items : List VirtualItem) (p : Proc)
-    (regs : Registers) (memory : Memory) (world : WorldState) : Type 0 where
-  pub follows : FollowsBy (SameRegion (regs 25) low.top) Any
-      (run (virtual_machine reading (setting_of low items)) (virtual_start regs memory world))
-      (run (low_machine reading low) (low_start low p memory world))
+-- from such a beginning a run of items follows a run over words, and shows the same region; it takes at most nine items
+-- for each turn of that run, and as many for the start
+pub record Simulates {V : Type 0} (X : Machine VirtualState Shown V) (Y : Machine LowState LowShown V)
+    (low : LowSetting) (p : Proc) (regs : Registers) (memory : Memory) (world : WorldState) : Type 0 where
+  pub follows : FollowsBy (SameRegion (regs 25) low.top) Any (run X (virtual_start regs memory world))
+      (run Y (low_start low p memory world))
   pub turns : FollowsBy (OfRest (SameRegion (regs 25) low.top)) (Spends 9)
-      (run (metered each_one (virtual_machine reading (setting_of low items)))
-      (unspent (virtual_start regs memory world)))
-      (run (metered low_turns (low_machine reading low))
-      (record { spent = 1; rest = low_start low p memory world }))
+      (run (metered each_one X) (unspent (virtual_start regs memory world)))
+      (run (metered low_turns Y) (record { spent = 1; rest = low_start low p memory world }))
 
 -- wherever a run over words of these procedures begins, if it never goes wrong
 abbrev pub RunsAsWords : {V : Type 0} → (Halt → Ending V) → List VirtualItem → List Proc → ℕ → Type 0
 RunsAsWords reading items procs entry =
     (low : LowSetting) (p : Proc) (regs : Registers) (memory : Memory) (world : WorldState) → low.procs ≡ procs
     → Begins low entry p regs → NeverWrong (run (low_machine reading low) (low_start low p memory world))
-    → Simulates reading low items p regs memory world
+    → Simulates (virtual_machine reading (setting_of low items)) (low_machine reading low) low p regs memory world
+
+-- so it does in a stack of any size, if want of stack isn't read as going wrong
+abbrev pub RunsInStackAsWords : {V : Type 0} → (Halt → Ending V) → List VirtualItem → List Proc → ℕ → Type 0
+RunsInStackAsWords reading items procs entry =
+    reading (Lacks Stack) ≢ Wrong
+    → (low : LowSetting) (p : Proc) (regs : Registers) (memory : Memory) (world : WorldState) (room : ℕ)
+    → low.procs ≡ procs → Begins low entry p regs
+    → NeverWrong (run (low_machine reading low) (low_start low p memory world))
+    → Simulates (stacked_machine reading (setting_of low items) room) (low_in_stack reading low room) low p regs
+    memory world
 
 -- a call of the first procedure, and then environment call 0 with kind 0 and its answer
 abbrev pub BeginsAsSaid : List VirtualItem → ℕ → Type 0
@@ -95,3 +104,4 @@ pub record IsCodeOf (items : List VirtualItem) (registers : ℕ) (procs : List P
   pub holding : (live : Sets) × IsHolding items (λ v. Slot v) live
   -- what it does, however stops are read as endings
   pub runs : (reading : Halt → Ending Verdict) → RunsAsWords reading items procs entry
+  pub in_stack : (reading : Halt → Ending Verdict) → RunsInStackAsWords reading items procs entry

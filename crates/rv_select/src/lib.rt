@@ -4,6 +4,7 @@
 
 pub mod code;
 pub mod images;
+pub mod laws;
 mod parts;
 pub mod selection;
 mod slot_parts;

@@ -1,10 +1,9 @@
 // Real code in which each virtual register has a slot of its procedure's frame.
 
-ghost use Rattle.std.specs.Prelude.{◌≡◌, ◌+◌, ◌*◌, ◌<◌, ◌≤◌, ◌^◌, ◌++◌, ◌∷◌, [], true, ℕ, List, length, OnOk, IfOk};
-ghost use Rattle.rv_select.specs.Run.{Found, Frame, fits_item};
+ghost use Rattle.std.specs.Prelude.{◌≡◌, ◌<◌, ◌^◌, ◌++◌, ◌∷◌, [], true, OnOk, IfOk};
+ghost use Rattle.rv_select.specs.Run.{fits_item};
 ghost use Rattle.rv_select.specs.Fitting.{fits, each_fits};
-ghost use Rattle.rv_select.specs.Slots.{frame_size, op_inst, op_with, expand, expand_all, fetch_items, save_items};
-ghost use Rattle.rv_select.specs.Stacks.{stack_of, HaveAtMost};
+ghost use Rattle.rv_select.specs.Slots.{op_inst, op_with, expand, expand_all, fetch_items, save_items};
 ghost use Rattle.rv_select.specs.Marks.{marks};
 ghost use Rattle.rv_select.specs.Slotted.{above, free_mark, HasFew, EachHasFew, IsSlotsOf};
 ghost use Rattle.rv_isa.specs.declared.real.RealItem.TheVariants.{Op};
@@ -83,8 +82,7 @@ fn put_compute(
     put_save(items, first, rd)
 }
 
-// Adds an instruction that puts a word into x28 or a real register by one that is found so, what loads that before, and
-// what stores the word.
+// Adds an instruction that reads one register and writes another, between what loads the one and what stores the other.
 fn put_between(
     items: &mut RealItems,
     first: u32,
@@ -347,10 +345,3 @@ pub fn slots(alloc: Global, code: &VirtualCode) -> Result<RealCode, OutOfMemory>
     put_final(&mut real, out)?;
     Ok(RealCode { items: real })
 }
-
-/// Frames, none of which is larger than one of so many registers, fill no more bytes than as many frames of that size.
-pub fn frames_fill_no_more_than_the_largest()
-    ensures bytes { (most : ℕ) (found : Found) (frames : List Frame) → HaveAtMost most found frames
-        → stack_of found frames ≤ length frames * frame_size most }
-    ensures size { (count : ℕ) → frame_size count ≡ 8 * (1 + count) }
-{}

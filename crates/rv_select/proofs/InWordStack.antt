@@ -1,0 +1,607 @@
+-- The virtual run of a selected code in a stack follows the run over words in it.
+use Rattle.std.proofs.Common.{ℕ, zero, suc, ◌+◌, ◌*◌, ◌%◌, ◌^◌, ◌<◌, ◌≤◌, ◌≡◌, ◌≢◌, ◌⊎◌, inl, inr, Bool, true, false}
+use Rattle.std.proofs.Common.{List, [], ◌∷◌, Option, Some, None, length, refl, sym, ◌∙◌, ap, subst, arith}
+use Rattle.std.specs.Prelude.{pos, ◌==◌, ◌&&◌, nat_lt, nat_le, if◌then◌else◌, slice_get}
+use Rattle.grift_base.specs.World.{WorldState}
+use Rattle.grift_base.specs.EnvironmentCall.{environment_call}
+use Rattle.run_laws.specs.Runs.{Ending, Verdict, Exhausted, Wrong, Any, NeverWrong, FollowsBy}
+use Rattle.run_laws.specs.Machines.{Next, Go, Stop, Machine, and_then, steps, seen, run, Reaches, Onward, Alike}
+use Rattle.run_laws.specs.Machines.{OnTheWay, StopsAt, UnlessWrong, Simulation}
+use Rattle.run_laws.specs.Meters.{CostSimulation, each_one, unspent, metered, OfRest, Spends}
+use Rattle.run_laws.proofs.Public.{reaches_weaken, follows_from_start, follows_at_cost_from_start}
+use Rattle.rv_machine.specs.Memory.{Memory, load_bytes}
+use Rattle.rv_machine.specs.Turn.{plus}
+use Rattle.rv_machine.specs.Registers.{Registers}
+use Rattle.rv_machine.specs.State.{Halt, Lacks, Stack, Region}
+use Rattle.low_ir.specs.Procedures.{Code, Done, Set, Compute, Load, Store, CodeOf, Build, Request, Take, Environment}
+use Rattle.low_ir.specs.Procedures.{Call, CallAt, If, Return, TailCall, TailCallAt, Proc}
+use Rattle.low_ir.specs.Steps.{effect_of, may_load, may_store, store_words}
+use Rattle.low_ir.specs.Steps.{no_locals, given, only_if, Effect, Goes, Halts, Lost, settle}
+use Rattle.low_ir.specs.Run.{Setting as LowSetting, Waiting, LowState, LowShown, held_by as words_held, goes_on}
+use Rattle.low_ir.specs.Run.{bind, with_local, sets, word_of, words_of, proc_from}
+use Rattle.low_ir.specs.Operations.{compute}
+use Rattle.low_ir.specs.declared.code.LowSource.{LowSource}
+use Rattle.low_ir.specs.Run.{enter_some, waits, answers, falls, code_step, low_machine, low_turns, code_turns}
+use Rattle.low_ir.specs.Run.{low_start}
+use Rattle.rv_select.specs.declared.code.VirtualItem.{VirtualItem}
+use Rattle.rv_select.specs.Run.{VirtualState, Shown, virtual_machine, virtual_start}
+use Rattle.rv_select.specs.Select.{select_items}
+use Rattle.rv_select.specs.Stacks.{stack_of, if_room, stacked_machine, frames_size, low_in_stack}
+use Rattle.rv_select.specs.Selected.{setting_of, SameRegion}
+use Rattle.rv_select.proofs.StackSizes.{stack_held}
+use Rattle.rv_select.proofs.Bounded.{DoesWithin, does_at_all, within, meter}
+use Rattle.rv_select.proofs.Selecting.{On, rate, Laid, as_alike, seen as seen_as, do_code}
+use Rattle.rv_select.proofs.Following.{all, starts}
+
+unless : {V P : Type 0} (e : Ending V) → P → UnlessWrong e P
+unless (Verdict v) p = p
+unless Exhausted p = p
+unless Wrong p = tt
+
+-- ---- what a step over words does to the frames
+
+-- the state is seen as one with more frames
+pub record Before (s s1 : LowState) : Type 0 where
+  pub memory : s.memory ≡ s1.memory
+  pub alloc : s.alloc ≡ s1.alloc
+  pub world : s.world ≡ s1.world
+  pub frames : length s.waiting ≤ length s1.waiting
+  pub held : s.active.count + words_held s.waiting ≤ s1.active.count + words_held s1.waiting
+
+abbrev bytes : LowState → ℕ
+bytes s = frames_size (length s.waiting + 1) (s.active.count + words_held s.waiting)
+
+module _ {V : Type 0} (reading : Halt → Ending V) (low : LowSetting) (s : LowState) where
+  -- where the frames fill more bytes nothing else has changed; a step that stops leaves them as they are
+  abbrev Grows : Next LowState V → Type 0
+  Grows (Go s1) = bytes s < bytes s1 → Before s s1
+  Grows (Stop e s1) = UnlessWrong e (bytes s1 ≡ bytes s)
+
+  if_given : {A : Type 0} (s0 : LowState) (o : Option A) (go : A → Next LowState V) → ((x : A) → Grows (go x))
+      → Grows (given s0 o go)
+  if_given s0 None go h = tt
+  if_given s0 (Some x) go h = h x
+
+  if_test : (s0 : LowState) (b : Bool) (go : Next LowState V) → Grows go → Grows (only_if s0 b go)
+  if_test s0 true go h = h
+  if_test s0 false go h = tt
+
+  by_room : (b : Bool) (x y : Next LowState V) → Grows x → Grows y → Grows (if b then x else y)
+  by_room true x y h k = h
+  by_room false x y h k = k
+
+  never : {P : Type 0} (n : ℕ) → n < n → P
+  never n h = absurd (omega (arith, h))
+
+  abbrev entered : LowState → Proc → List ℕ → LowState
+  entered s0 p ws = record s0 {
+    active = record { count = p.words; locals = bind 0 ws no_locals; code = p.code; rests = [] };
+  }
+
+  calls : (o : Option Proc) (ws : List ℕ) (d : ℕ) (rest : Code)
+      → Grows (enter_some reading low o ws (waits reading low d (goes_on rest s.active.rests s)))
+  calls o ws d rest =
+      if_given _ o _ (λ p.
+      if_test _ ((length ws == p.params) && (nat_le p.params 8 && nat_le p.params p.words)) _ (
+      let goes : Grows (Go (entered (waits reading low d (goes_on rest s.active.rests s)) p ws)) = (λ h. record {
+        memory = refl;
+        alloc = refl;
+        world = refl;
+        frames = omega arith;
+        held = omega arith;
+      }) in goes))
+
+  tail_calls : (o : Option Proc) (ws : List ℕ) → Grows (enter_some reading low o ws s)
+  tail_calls o ws =
+      if_given _ o _ (λ p.
+      if_test _ ((length ws == p.params) && (nat_le p.params 8 && nat_le p.params p.words)) _ (
+      let goes : Grows (Go (entered s p ws)) = (λ h. record {
+        memory = refl;
+        alloc = refl;
+        world = refl;
+        frames = omega arith;
+        held = omega (arith, h);
+      }) in goes))
+
+  returns : (ws : List Waiting) (word : ℕ) → s.waiting ≡ ws → Grows (answers reading low ws word s)
+  returns [] word e = unless _ refl
+  returns (w ∷ ws) word e =
+      if_test _ (nat_lt w.answer w.rest.count) _ (
+      let goes : Grows (Go (record s { active = with_local w.answer word w.rest; waiting = ws })) = (λ h.
+      let l : length s.waiting ≡ length (w ∷ ws) = ap length e in
+      let f : words_held s.waiting ≡ words_held (w ∷ ws) = ap words_held e in absurd (omega (arith, h, l, f))) in goes)
+
+  settles : (effect : Effect) (go : ℕ → ℕ → LowState) → ((a b : ℕ) → Grows (Go (go a b)))
+      → (s0 : LowState) → bytes s0 ≡ bytes s → Grows (settle reading effect s0 go)
+  settles (Goes a b) go g s0 e = g a b
+  settles (Halts halt) go g s0 e = unless (reading halt) e
+  settles Lost go g s0 e = tt
+
+  falls_behind : (rests : List Code) → Grows (falls reading low rests s)
+  falls_behind [] = tt
+  falls_behind (r ∷ rs) = never (bytes s)
+
+  abbrev behind : Code → LowState
+  behind rest = goes_on rest s.active.rests s
+
+  at_word : (a : LowSource) (go : ℕ → Next LowState V) → ((x : ℕ) → Grows (go x))
+      → Grows (given s (word_of s.active.locals a) go)
+  at_word a go h = if_given s (word_of s.active.locals a) go h
+
+  at_words : (args : List LowSource) (go : List ℕ → Next LowState V) → ((ws : List ℕ) → Grows (go ws))
+      → Grows (given s (words_of s.active.locals args) go)
+  at_words args go h = if_given s (words_of s.active.locals args) go h
+
+  set : (d word : ℕ) (rest : Code) → Grows (sets reading low d word (behind rest))
+  set d word rest = if_test (behind rest) (nat_lt d s.active.count) _ (never (bytes s))
+
+  grows : (code : Code) → Grows (code_step reading low code s)
+  grows Done = falls_behind s.active.rests
+  grows (Set d a rest) = at_word a _ (λ x. set d x rest)
+  grows (Compute op d a b rest) = at_word a _ (λ x. at_word b _ (λ y. set d (compute op x y) rest))
+  grows (Load d a offset rest) =
+      at_word a _ (λ x. if_test (behind rest) (may_load low.top (plus x (pos offset))) _ (
+      set d (load_bytes 8 s.memory (plus x (pos offset))) rest))
+  grows (Store b a offset rest) =
+      at_word a _ (λ x. at_word b _ (λ y.
+      if_test (behind rest) (may_store low.region low.top (plus x (pos offset))) _ (never (bytes s))))
+  grows (CodeOf d k rest) = if_given s (slice_get low.procs k) _ (λ p. set d (low.address k) rest)
+  grows (Build d args rest) =
+      at_words args _ (λ ws. if_test (behind rest) (nat_lt (length ws) 256) _ (
+      by_room (nat_le (s.alloc + 8 * length ws) low.top) _ _ (
+      if_test (record (behind rest) {
+        memory = store_words ws s.alloc s.memory;
+        alloc = s.alloc + 8 * length ws;
+        words = s.words + length ws;
+      }) (nat_lt d s.active.count) _ (never (bytes s))) (unless (reading (Lacks Region)) refl)))
+  grows (Request d a rest) =
+      at_word a _ (λ n. by_room (nat_le (s.alloc + 8 * n) low.top) _ _ (set d s.alloc rest)
+      (unless (reading (Lacks Region)) refl))
+  grows (Take a rest) =
+      at_word a _ (λ n. if_test (behind rest) (nat_le (s.alloc + 8 * n) low.top) _ (never (bytes s)))
+  grows (Environment number a b d e rest) =
+      at_word a _ (λ x. at_word b _ (λ y.
+      if_test (behind rest) (nat_lt d s.active.count) _ (if_test (behind rest) (nat_lt e s.active.count) _ (
+      let called = environment_call (number % 2 ^ 64) x y (length low.labels) s.world in
+      settles (effect_of low.labels called.effect) _ (λ m n. never (bytes s)) (behind rest) refl))))
+  grows (Call d k args rest) = at_words args _ (λ ws. calls (slice_get low.procs k) ws d rest)
+  grows (CallAt d f args rest) =
+      at_word f _ (λ at. at_words args _ (λ ws. calls (proc_from low.address at 0 low.procs) ws d rest))
+  grows (If cond a b one other rest) = at_word a _ (λ x. at_word b _ (λ y. never (bytes s)))
+  grows (Return a) = at_word a _ (λ x. returns s.waiting x refl)
+  grows (TailCall k args) = at_words args _ (λ ws. tail_calls (slice_get low.procs k) ws)
+  grows (TailCallAt f args) =
+      at_word f _ (λ at. at_words args _ (λ ws. tail_calls (proc_from low.address at 0 low.procs) ws))
+
+-- ---- it never goes wrong where the run without a bound doesn't
+
+module _ {V : Type 0} (reading : Halt → Ending V) (low : LowSetting) (room : ℕ) where
+  abbrev free : Machine LowState LowShown V
+  free = low_machine reading low
+
+  abbrev bound : Machine LowState LowShown V
+  bound = low_in_stack reading low room
+
+  wrong_on : (n : ℕ) (s : LowState) → reading (Lacks Stack) ≢ Wrong
+      → ((s1 : LowState) → (run bound s1 n).ending ≡ Some Wrong → (run free s1 n).ending ≡ Some Wrong)
+      → (y : Next LowState V) → (b : Bool)
+      → (seen bound (and_then (if b then y else Stop (reading (Lacks Stack)) s) (λ s1. steps bound s1 n))).ending
+      ≡ Some Wrong → (seen free (and_then y (λ s1. steps free s1 n))).ending ≡ Some Wrong
+  wrong_on n s lacking ih (Go s1) true e = ih s1 e
+  wrong_on n s lacking ih (Stop o s1) true e = e
+  wrong_on n s lacking ih y false e = absurd (lacking (some_is (reading (Lacks Stack)) Wrong e))
+    where
+      some_is : (a b : Ending V) → Some a ≡ Some b → a ≡ b
+      some_is a b h = cc
+
+  wrong_back : reading (Lacks Stack) ≢ Wrong → (n : ℕ) (s : LowState) → (run bound s n).ending ≡ Some Wrong
+      → (run free s n).ending ≡ Some Wrong
+  wrong_back lacking zero s e = absurd (let z : ⊥ = cc in z)
+  wrong_back lacking (suc n) s e =
+      wrong_on n s lacking (λ s1 h. wrong_back lacking n s1 h) (code_step reading low s.active.code s)
+      (nat_le (bytes s) room) e
+
+  pub low_never_wrong : reading (Lacks Stack) ≢ Wrong → (s : LowState) → NeverWrong (run free s)
+      → NeverWrong (run bound s)
+  low_never_wrong lacking s nw n e = nw n (wrong_back lacking n s e)
+
+-- ---- the simulation
+
+module _ {V : Type 0} (reading : Halt → Ending V) (low : LowSetting) (items : List VirtualItem) (stack : ℕ)
+    (small : low.top < 2 ^ 64) (room : ℕ) where
+  abbrev K : Shown → LowShown → Type 0
+  K = SameRegion stack low.top
+
+  abbrev M : Machine LowState LowShown V
+  M = low_machine reading low
+
+  abbrev N : Machine VirtualState Shown V
+  N = virtual_machine reading (setting_of low items)
+
+  abbrev MS : Machine LowState LowShown V
+  MS = low_in_stack reading low room
+
+  abbrev NS : Machine VirtualState Shown V
+  NS = stacked_machine reading (setting_of low items) room
+
+  abbrev filled : VirtualState → ℕ
+  filled t = stack_of t.active.found t.frames
+
+  -- the next item enters a procedure whose frame doesn't fit
+  pub record Waits (s : LowState) (t : VirtualState) : Type 0 where
+    pub lacks : NS.step t ≡ Stop (reading (Lacks Stack)) t
+    pub alike : Alike K MS NS s t
+
+  abbrev Both : LowState → VirtualState → Type 0
+  Both s t = ((bytes s ≤ room) × On reading low items stack small s t) ⊎ ((room < bytes s) × Waits s t)
+
+  -- a step that stops may follow one that was not done
+  abbrev size : LowState → ℕ
+  size s = if nat_le (bytes s) room then 1 else 0
+
+  no_more : (s : LowState) (t : VirtualState) → Alike K M N s t → filled t ≤ bytes s
+  no_more s t a =
+      let e = stack_held t.active.found t.frames in
+      let f = a.shown.frames in
+      let h = a.shown.held in omega (arith, e, f, h)
+
+  as_many : (s : LowState) (t : VirtualState) → On reading low items stack small s t → filled t ≡ bytes s
+  as_many s t on =
+      let e = stack_held t.active.found t.frames in
+      let f = on.body.2.0 in
+      let h = on.body.2.1 in omega (arith, e, f, h)
+
+  -- a step that leads to frames that fit
+  fitting_step : (t : VirtualState) (P : VirtualState → Type 0) (Q : VirtualState → Type 0) (y : Next VirtualState V)
+      → Onward y P Q → ((t1 : VirtualState) → y ≡ Go t1 → nat_le (filled t1) room ≡ true)
+      → Onward (if_room reading room t y) P Q
+  fitting_step t P Q (Go t1) o f = subst (λ b. Onward (if b then Go t1 else Stop (reading (Lacks Stack)) t) P Q)
+      (sym (f t1 refl)) o
+  fitting_step t P Q (Stop (Verdict v) t1) o f = o
+  fitting_step t P Q (Stop Exhausted t1) o f = o
+  fitting_step t P Q (Stop Wrong t1) o f = o
+
+  is_within : (n : ℕ) → n ≤ room → nat_le n room ≡ true
+  is_within n h = grind arith
+
+  is_beyond : (n : ℕ) → room < n → nat_le n room ≡ false
+  is_beyond n h = grind arith
+
+  found_within : (n : ℕ) → nat_le n room ≡ true → n ≤ room
+  found_within n h = grind arith
+
+  found_beyond : (n : ℕ) → nat_le n room ≡ false → room < n
+  found_beyond n h = grind arith
+
+  -- on a way between states whose frames fit they fit
+  fits_between : (s s1 : LowState) → bytes s ≤ room → bytes s1 ≤ room → (t : VirtualState)
+      → (Alike K M N s t ⊎ Alike K M N s1 t) → filled t ≤ room
+  fits_between s s1 h k t (inl a) = let f = no_more s t a in omega (arith, f, h)
+  fits_between s s1 h k t (inr a) = let f = no_more s1 t a in omega (arith, f, k)
+
+  -- the step from a state, where the frames of the next one fit
+  go_on : (P Q : VirtualState → Type 0) (t : VirtualState) (y : Next VirtualState V)
+      → ((t1 : VirtualState) → Q t1 → filled t1 ≤ room) → Onward y P Q → Onward (if_room reading room t y) P Q
+  go_on P Q t (Go t1) f o =
+      subst (λ b. Onward (if b then Go t1 else Stop (reading (Lacks Stack)) t) P Q)
+      (sym (is_within (filled t1) (f t1 o))) o
+  go_on P Q t (Stop (Verdict v) t1) f o = o
+  go_on P Q t (Stop Exhausted t1) f o = o
+  go_on P Q t (Stop Wrong t1) f o = o
+
+  onward_map : (P Q Q' : VirtualState → Type 0) (y : Next VirtualState V) → ((t1 : VirtualState) → Q t1 → Q' t1)
+      → Onward y P Q → Onward y P Q'
+  onward_map P Q Q' (Go t1) f o = f t1 o
+  onward_map P Q Q' (Stop (Verdict v) t1) f o = o
+  onward_map P Q Q' (Stop Exhausted t1) f o = o
+  onward_map P Q Q' (Stop Wrong t1) f o = o
+
+  -- a way on which all frames fit, up to its end, is one in the stack
+  stays_in : (P Q : VirtualState → Type 0) → ((t : VirtualState) → P t → filled t ≤ room)
+      → ((t : VirtualState) → Q t → filled t ≤ room) → (k : ℕ) (t : VirtualState) → Reaches N P Q k t
+      → Reaches NS P Q k t
+  stays_in P Q p q zero t r = r
+  stays_in P Q p q (suc k) t r = (
+    r.0,
+    onward_map P (Reaches N P Q k) (Reaches NS P Q k) (NS.step t) (λ t1 r1. stays_in P Q p q k t1 r1)
+        (go_on P (Reaches N P Q k) t (N.step t) (λ t1 r1. here k t1 r1) r.1),
+  )
+    where
+      here : (k : ℕ) (t1 : VirtualState) → Reaches N P Q k t1 → filled t1 ≤ room
+      here zero t1 r1 = q t1 r1
+      here (suc k) t1 r1 = p t1 r1.0
+
+  -- a state from which no frame fits is seen so
+  before_all : (s s1 : LowState) (t : VirtualState) → Before s s1 → (Alike K M N s t ⊎ Alike K M N s1 t)
+      → Alike K MS NS s1 t
+  before_all s s1 t b (inr a) = record { output = a.output; shown = a.shown }
+  before_all s s1 t b (inl a) =
+      let f = a.shown.frames in
+      let g = a.shown.held in
+      let m = b.frames in
+      let h = b.held in
+      record {
+        output = a.output ∙ ap (λ (w : WorldState). w.output) b.world;
+        shown = record {
+          memory = λ at l. a.shown.memory at (subst (λ n. at < n) (sym b.alloc) l)
+              ∙ ap (λ (m : Memory). m at) b.memory;
+          alloc = a.shown.alloc ∙ b.alloc;
+          inside = subst (λ n. n ≤ low.top) b.alloc a.shown.inside;
+          stack = a.shown.stack;
+          top = a.shown.top;
+          frames = omega (arith, f, m);
+          held = omega (arith, g, h);
+        };
+      }
+
+  abbrev Way : LowState → LowState → VirtualState → Type 0
+  Way s s1 t = OnTheWay K Any M N s s1 t
+
+  -- in no more than so many steps the run in the stack comes to the end of a step over words, or waits before it
+  abbrev Comes : LowState → LowState → ℕ → VirtualState → Type 0
+  Comes s s1 k t = (j : ℕ) × (j ≤ k) × Reaches NS (Way s s1) (λ u. Both s1 u) j t
+
+  abbrev Ahead : LowState → LowState → ℕ → VirtualState → Type 0
+  Ahead s s1 k t = Reaches N (Way s s1) (On reading low items stack small s1) k t
+
+  chosen : (t t1 : VirtualState) (c : Bool) → N.step t ≡ Go t1 → nat_le (filled t1) room ≡ c
+      → NS.step t ≡ (if c then Go t1 else Stop (reading (Lacks Stack)) t)
+  chosen t t1 c e f = ap (λ y. if_room reading room t y) e
+      ∙ ap (λ b. if b then Go t1 else Stop (reading (Lacks Stack)) t) f
+
+  by_fit : (s s1 : LowState) (k : ℕ) (t t1 : VirtualState) → Before s s1 → room < bytes s1 → Way s s1 t
+      → N.step t ≡ Go t1 → (filled t1 ≤ room → Comes s s1 k t1) → (c : Bool) → nat_le (filled t1) room ≡ c
+      → Comes s s1 (suc k) t
+  by_fit s s1 k t t1 b over w e later true f =
+      let i = later (found_within (filled t1) f) in (
+        suc i.0,
+        (let h = i.1 in omega (arith, h)),
+        (
+          w,
+          subst (λ y. Onward y (Way s s1) (Reaches NS (Way s s1) (λ u. Both s1 u) i.0)) (sym (chosen t t1 true e f))
+              i.2,
+        ),
+      )
+  by_fit s s1 k t t1 b over w e later false f = (
+    0,
+    omega arith,
+    inr (over, record { lacks = chosen t t1 false e f; alike = before_all s s1 t b w.0 }),
+  )
+
+  by_next : (s s1 : LowState) (k : ℕ) (t : VirtualState) → Before s s1 → room < bytes s1 → Way s s1 t
+      → ((t1 : VirtualState) → filled t1 ≤ room → Ahead s s1 k t1 → Comes s s1 k t1) → (y : Next VirtualState V)
+      → N.step t ≡ y → Onward y (Way s s1) (Ahead s s1 k) → Comes s s1 (suc k) t
+  by_next s s1 k t b over w later (Go t1) e o =
+      by_fit s s1 k t t1 b over w e (λ f. later t1 f o) (nat_le (filled t1) room) refl
+  by_next s s1 k t b over w later (Stop (Verdict v) t1) e o = absurd o
+  by_next s s1 k t b over w later (Stop Exhausted t1) e o = (
+    1,
+    omega arith,
+    (w, subst (λ y. Onward (if_room reading room t y) (Way s s1) (λ u. Both s1 u)) (sym e) o),
+  )
+  by_next s s1 k t b over w later (Stop Wrong t1) e o = absurd o
+
+  -- the first state from which the next frame doesn't fit
+  comes_to_wait : (s s1 : LowState) → Before s s1 → room < bytes s1 → (k : ℕ) (t : VirtualState) → filled t ≤ room
+      → Ahead s s1 k t → Comes s s1 k t
+  comes_to_wait s s1 b over zero t fits r =
+      let e = as_many s1 t r in absurd (omega (arith, e, over, fits))
+  comes_to_wait s s1 b over (suc k) t fits r =
+      by_next s s1 k t b over r.0 (λ t1 f r1. comes_to_wait s s1 b over k t1 f r1) (N.step t) refl r.1
+
+  -- ---- each step
+
+  alike_in : (s : LowState) (t : VirtualState) → Alike K M N s t → Alike K MS NS s t
+  alike_in s t a = record { output = a.output; shown = a.shown }
+
+  either : (s : LowState) (t : VirtualState) → (Alike K M N s t ⊎ Alike K M N s t) → Alike K MS NS s t
+  either s t (inl a) = alike_in s t a
+  either s t (inr a) = alike_in s t a
+
+  abbrev WayIn : LowState → LowState → VirtualState → Type 0
+  WayIn s s1 t = OnTheWay K Any MS NS s s1 t
+
+  alike_either : (s s1 : LowState) (t : VirtualState) → (Alike K M N s t ⊎ Alike K M N s1 t)
+      → (Alike K MS NS s t ⊎ Alike K MS NS s1 t)
+  alike_either s s1 t (inl a) = inl (alike_in s t a)
+  alike_either s s1 t (inr a) = inr (alike_in s1 t a)
+
+  way_in : (s s1 : LowState) (t : VirtualState) → Way s s1 t → WayIn s s1 t
+  way_in s s1 t w = (alike_either s s1 t w.0, tt)
+
+  takes_turns : (code : Code) → 1 ≤ code_turns code
+  takes_turns (Build d args rest) = omega arith
+  takes_turns (Call d k args rest) = omega arith
+  takes_turns (CallAt d f args rest) = omega arith
+  takes_turns (TailCall k args) = omega arith
+  takes_turns (TailCallAt f args) = omega arith
+  takes_turns code = omega arith
+
+  abbrev Ends : LowState → LowState → Ending V → VirtualState → Type 0
+  Ends s s1 e t = StopsAt K Any M N s s1 e t
+
+  ends_in : (s s1 : LowState) (e : Ending V) (t : VirtualState) → Ends s s1 e t → StopsAt K Any MS NS s s1 e t
+  ends_in s s1 e t q =
+      (way_in s s1 t q.0, (q.1.0, ap (λ y. if_room reading room t y) q.1.1, alike_in s1 q.1.0 q.1.2, tt))
+
+  stops : (c : ℕ) (s s1 : LowState) (t : VirtualState) (e : Ending V) → bytes s ≤ room → bytes s1 ≡ bytes s
+      → (k : ℕ) × (k + 1 ≤ c) × Reaches N (Way s s1) (Ends s s1 e) k t
+      → (k : ℕ) × (k + 1 ≤ c) × Reaches NS (WayIn s s1) (StopsAt K Any MS NS s s1 e) k t
+  stops c s s1 t e h same d =
+      let k : bytes s1 ≤ room = omega (arith, same, h) in (
+        d.0,
+        d.1,
+        reaches_weaken NS (Way s s1) (Ends s s1 e) (WayIn s s1) (StopsAt K Any MS NS s s1 e)
+            (λ u w. way_in s s1 u w) (λ u q. ends_in s s1 e u q) d.0 t
+            (stays_in (Way s s1) (Ends s s1 e) (λ u w. fits_between s s1 h k u w.0)
+            (λ u q. fits_between s s1 h k u q.0.0) d.0 t d.2),
+      )
+
+  abbrev Does : ℕ → LowState → VirtualState → Next LowState V → Type 0
+  Does c s t y = DoesWithin K c MS NS Both size s t y
+
+  size_falls : (s s1 : LowState) → bytes s ≤ room → room < bytes s1 → size s1 < size s
+  size_falls s s1 h k =
+      let e = is_within (bytes s) h in
+      let f = is_beyond (bytes s1) k in
+      subst (λ b. size s1 < (if b then 1 else 0)) (sym e) (subst (λ b. (if b then 1 else 0) < 1) (sym f) (omega arith))
+
+  fitting : (c : ℕ) (s : LowState) (t : VirtualState) → bytes s ≤ room → On reading low items stack small s t
+      → (y : Next LowState V) → Grows reading low s y
+      → DoesWithin K c M N (On reading low items stack small) (λ x. 0) s t y → Does c s t y
+  fitting c s t h on (Go s1) g d = by_fit (nat_le (bytes s1) room) refl
+    where
+      positive : (0 < d.0) ⊎ (0 < 0) → 0 < d.0
+      positive (inl p) = p
+      positive (inr p) = absurd (omega (arith, p))
+
+      by_fit : (b : Bool) → nat_le (bytes s1) room ≡ b → Does c s t (Go s1)
+      by_fit true f =
+          let k : bytes s1 ≤ room = found_within (bytes s1) f in (
+            d.0,
+            inl (positive d.1),
+            d.2,
+            reaches_weaken NS (Way s s1) (On reading low items stack small s1) (WayIn s s1) (Both s1)
+                (λ u w. way_in s s1 u w) (λ u o. inl (k, o)) d.0 t
+                (stays_in (Way s s1) (On reading low items stack small s1)
+                (λ u w. fits_between s s1 h k u w.0)
+                (λ u o. let e = as_many s1 u o in omega (arith, e, k)) d.0 t d.3),
+          )
+      by_fit false f =
+          let k : room < bytes s1 = found_beyond (bytes s1) f in
+          let b : Before s s1 = g (omega (arith, h, k)) in
+          let i = comes_to_wait s s1 b k d.0 t (let e = as_many s t on in omega (arith, e, h)) d.3 in (
+            i.0,
+            inr (size_falls s s1 h k),
+            (let x = i.1 in let y = d.2 in omega (arith, x, y)),
+            reaches_weaken NS (Way s s1) (Both s1) (WayIn s s1) (Both s1) (λ u w. way_in s s1 u w) (λ u o. o) i.0 t i.2,
+          )
+  fitting c s t h on (Stop (Verdict v) s1) g d = stops c s s1 t (Verdict v) h g d
+  fitting c s t h on (Stop Exhausted s1) g d = stops c s s1 t Exhausted h g d
+  fitting c s t h on (Stop Wrong s1) g d = tt
+
+  does_both : Laid reading low items stack small → (s : LowState) (t : VirtualState) → Both s t
+      → Does (rate * low_turns s) s t (MS.step s)
+  does_both laid s t (inl r) =
+      subst (λ b. Does (rate * low_turns s) s t (if b then code_step reading low s.active.code s
+      else Stop (reading (Lacks Stack)) s)) (sym (is_within (bytes s) r.0))
+      (fitting (rate * low_turns s) s t r.0 r.1 (code_step reading low s.active.code s)
+      (grows reading low s s.active.code)
+      (do_code reading low items stack small laid s t r.1 s.active.code r.1.active.lies))
+  does_both laid s t (inr r) =
+      subst (λ b. Does (rate * low_turns s) s t (if b then code_step reading low s.active.code s
+      else Stop (reading (Lacks Stack)) s)) (sym (is_beyond (bytes s) r.0))
+      (unless (reading (Lacks Stack)) (
+        0,
+        (let e = takes_turns s.active.code in omega (arith, e)),
+        ((inl r.1.alike, tt), (t, r.1.lacks, r.1.alike, tt)),
+      ))
+
+  alike_both : (s : LowState) (t : VirtualState) → Both s t → Alike K MS NS s t
+  alike_both s t (inl r) =
+      alike_in s t (as_alike reading low items stack small s t (seen_as reading low items stack small s t r.1.body))
+  alike_both s t (inr r) = r.1.alike
+
+  -- the code in its stack simulates the program in it
+  pub simulates_in_stack : Laid reading low items stack small → Simulation K Any MS NS Both size
+  simulates_in_stack laid = record {
+    alike = λ s t r. (alike_both s t r, tt);
+    does = λ s t r. does_at_all K (rate * low_turns s) MS NS Both size s t (MS.step s) (does_both laid s t r);
+    still_allowed = λ b s l. tt;
+  }
+
+  -- at most so many items for each unit of a step's work
+  pub cost_simulates_in_stack : Laid reading low items stack small
+      → CostSimulation K rate MS NS low_turns each_one Both size
+  cost_simulates_in_stack laid = record {
+    alike = λ s t r. alike_both s t r;
+    does = λ s t r. within K (rate * low_turns s) MS NS Both size s t (MS.step s) (does_both laid s t r);
+  }
+
+  -- where one item enters the program's first procedure
+  pub first_in_stack : (s : LowState) (t : VirtualState) → filled t ≤ room
+      → Reaches N (Way s s) (On reading low items stack small s) 1 t
+      → (j : ℕ) × (j ≤ 1) × Reaches NS (Alike K MS NS s) (Both s) j t
+  first_in_stack s t fits r = by_fit (nat_le (bytes s) room) refl
+    where
+      self : Before s s
+      self = record { memory = refl; alloc = refl; world = refl; frames = omega arith; held = omega arith }
+
+      by_fit : (b : Bool) → nat_le (bytes s) room ≡ b
+          → (j : ℕ) × (j ≤ 1) × Reaches NS (Alike K MS NS s) (Both s) j t
+      by_fit true f =
+          let k : bytes s ≤ room = found_within (bytes s) f in (
+            1,
+            omega arith,
+            reaches_weaken NS (Way s s) (On reading low items stack small s) (Alike K MS NS s) (Both s)
+                (λ u w. either s u w.0) (λ u o. inl (k, o)) 1 t
+                (stays_in (Way s s) (On reading low items stack small s)
+                (λ u w. fits_between s s k k u w.0)
+                (λ u o. let e = as_many s u o in omega (arith, e, k)) 1 t r),
+          )
+      by_fit false f =
+          let k : room < bytes s = found_beyond (bytes s) f in
+          let i = comes_to_wait s s self k 1 t fits r in (
+            i.0,
+            i.1,
+            reaches_weaken NS (Way s s) (Both s) (Alike K MS NS s) (Both s) (λ u w. either s u w.0) (λ u o. o) i.0 t
+                i.2,
+          )
+
+-- ---- whole runs
+
+module _ {V : Type 0} (reading : Halt → Ending V) (low : LowSetting) (entry : ℕ) (p : Proc) (regs : Registers)
+    (memory : Memory) (world : WorldState) (room : ℕ) (small : low.top < 2 ^ 64) (fits : low.region ≤ low.top)
+    (even : low.region % 8 ≡ 0) (found : slice_get low.procs entry ≡ Some p) (none : p.params ≡ 0)
+    (alloc : regs 26 ≡ low.region) (top : regs 27 ≡ low.top) (lacking : reading (Lacks Stack) ≢ Wrong)
+    (never : NeverWrong (run (low_machine reading low) (low_start low p memory world))) where
+  abbrev code : List VirtualItem
+  code = select_items entry low.procs
+
+  abbrev s0 : LowState
+  s0 = low_start low p memory world
+
+  abbrev t0 : VirtualState
+  t0 = virtual_start regs memory world
+
+  laid_out : Laid reading low code (regs 25) small
+  laid_out = all reading low entry p regs memory world small fits even found none alloc top
+
+  first : Alike (SameRegion (regs 25) low.top) (low_machine reading low)
+      (virtual_machine reading (setting_of low code)) s0 t0
+  first = as_alike reading low code (regs 25) small s0 t0 (
+    (λ at h. refl),
+    alloc,
+    (omega arith, omega arith),
+    refl,
+    fits,
+    refl,
+    top,
+  )
+
+  begun : (j : ℕ) × (j ≤ 1) × Reaches (NS reading low code (regs 25) small room)
+      (Alike (SameRegion (regs 25) low.top) (MS reading low code (regs 25) small room)
+      (NS reading low code (regs 25) small room) s0) (Both reading low code (regs 25) small room s0) j t0
+  begun = first_in_stack reading low code (regs 25) small room s0 t0 (omega arith)
+      (starts reading low entry p regs memory world small fits even found none alloc top
+      (Way reading low code (regs 25) small room s0 s0) (inl first, tt))
+
+  never_in_stack : NeverWrong (run (MS reading low code (regs 25) small room) s0)
+  never_in_stack = low_never_wrong reading low room lacking s0 never
+
+  pub follows_in_stack : FollowsBy (SameRegion (regs 25) low.top) Any
+      (run (stacked_machine reading (setting_of low code) room) t0) (run (low_in_stack reading low room) s0)
+  follows_in_stack =
+      follows_from_start (simulates_in_stack reading low code (regs 25) small room laid_out) s0 begun.0 t0
+      (reaches_weaken (NS reading low code (regs 25) small room) _ _ _ _ (λ t a. (a, tt)) (λ t b. b) begun.0 t0
+      begun.2) never_in_stack
+
+  pub costs_in_stack : FollowsBy (OfRest (SameRegion (regs 25) low.top)) (Spends rate)
+      (run (metered each_one (stacked_machine reading (setting_of low code) room)) (unspent t0))
+      (run (metered low_turns (low_in_stack reading low room)) (record { spent = 1; rest = s0 }))
+  costs_in_stack =
+      follows_at_cost_from_start (cost_simulates_in_stack reading low code (regs 25) small room laid_out)
+      (record { spent = 1; rest = s0 }) begun.0 (unspent t0) (meter (NS reading low code (regs 25) small room)
+      (Alike (SameRegion (regs 25) low.top) (MS reading low code (regs 25) small room)
+      (NS reading low code (regs 25) small room) s0) (Both reading low code (regs 25) small room s0) begun.0 0 rate t0
+      (let h = begun.1 in omega (arith, h)) begun.2) never_in_stack
