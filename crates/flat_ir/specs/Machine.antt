@@ -1,18 +1,16 @@
 -- The run of numbered procedures. Casts are made as a mode says.
 use Rattle.std.specs.Prelude.{ℕ, ℤ, ◌+◌, ◌-◌, ◌==◌, nat_eq, nat_le, nat_lt, ◌&&◌, true, false, cond, if◌then◌else◌}
-use Rattle.std.specs.Prelude.{List, [], ◌∷◌, length, Option, option_map, Some, None, slice_get}
+use Rattle.std.specs.Prelude.{List, [], ◌∷◌, length, Option, Some, None, slice_get}
 use Rattle.run_laws.specs.Runs.{Ending, Verdict as EndsWith, Wrong}
 use Rattle.run_laws.specs.Reductions.{Reduction}
 use Rattle.grift_base.specs.World.{WorldState}
 use Rattle.grift_base.specs.declared.places.Pos.{Pos}
-use Rattle.grift_base.specs.declared.verdicts.Answer.{Answer}
-use Rattle.grift_base.specs.declared.verdicts.Trap.{Trap}
 use Rattle.grift_base.specs.declared.verdicts.Verdict.{Verdict}
 use Rattle.grift_base.specs.declared.verdicts.Verdict.TheVariants.{Answer as AnswerVerdict, Blame, Trap as TrapVerdict}
 use Rattle.grift_base.specs.declared.operators.PrimOp.{PrimOp}
 use Rattle.coercion_norm.specs.Modes.{Mode}
 use Rattle.coercion_norm.specs.RunValues.{RunValue, RunValues, RunInt, RunBool, RunUnit, RunFun, RunTuple, RunStore}
-use Rattle.coercion_norm.specs.RunValues.{NoRunValues, in_row, row_list, all_plain, shown}
+use Rattle.coercion_norm.specs.RunValues.{in_row, row_list, all_plain, shown}
 use Rattle.coercion_norm.specs.ValueSteps.{Frame, CastFrame, ProjFrame, PrimFrame, EnterFrame, OwnFrame, Focus, Own}
 use Rattle.coercion_norm.specs.ValueSteps.{Return, Entering, After, On, BlameOf, TrapOf, NoNext, on_some, onto}
 use Rattle.coercion_norm.specs.ValueSteps.{run_cast, enter, run_proj, run_proj_dyn, operate}

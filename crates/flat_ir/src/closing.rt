@@ -90,7 +90,9 @@ impl Known {
                     left = rest;
                 }
                 FlatBody::LetGroup(slot, first, count, captured, rest) => {
-                    if *slot as u64 != depth || !self.group_bound(procs, depth, *first, *count, captured) {
+                    if *slot as u64 != depth
+                        || !self.group_bound(procs, depth, *first, *count, captured)
+                    {
                         return false;
                     }
                     depth += *count as u64;
@@ -101,7 +103,14 @@ impl Known {
     }
 
     // Whether a group begins at a procedure, and what it captures is bound.
-    fn group_bound(self, procs: &FlatProcs, depth: u64, first: u32, count: u32, captured: &Operands) -> bool
+    fn group_bound(
+        self,
+        procs: &FlatProcs,
+        depth: u64,
+        first: u32,
+        count: u32,
+        captured: &Operands,
+    ) -> bool
         ensures { result ≡ (begins_group (slice_get (procs_of procs.now) first) count (length captured.now)
             && operands_bound self.captured self.group depth captured.now) }
     {
