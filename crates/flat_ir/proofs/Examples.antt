@@ -97,7 +97,8 @@ unfolding int_wrap
 seven_arguments = refl
 
 -- a group of two of which the second is missing
-half_a_group : is_closed (proc 1 0 2 0 (Give (Move (Local 0))) ∷ entry (LetGroup 0 0 2 [] (Give (Move UnitCase))) ∷ []) 1
+half_a_group : is_closed (proc 1 0 2 0 (Give (Move (Local 0))) ∷ entry (LetGroup 0 0 2 [] (Give (Move UnitCase)))
+    ∷ []) 1
     ≡ false
 half_a_group = refl
 
@@ -155,14 +156,16 @@ unfolding int_wrap
 second_part = (refl, refl, refl, refl)
 
 -- a box that is written and read: 7 is printed
-written : Ends [] (entry (LetBody 0 (Give (Prim MakeBox (int 1 ∷ []))) (LetBody 1 (Give (Prim BoxSet (two (Local 0) (int 7))))
+written : Ends [] (entry (LetBody 0 (Give (Prim MakeBox (int 1 ∷ [])))
+    (LetBody 1 (Give (Prim BoxSet (two (Local 0) (int 7))))
     (LetBody 2 (Give (Prim Unbox (Local 0 ∷ []))) (Give (Prim PrintInt (Local 2 ∷ [])))))) ∷ []) 0 5
     (AnswerVerdict (record { kind = UnitKind; word = pos 0 })) (codes "7") (counts 2 10 0)
 unfolding digits int_wrap
 written = (refl, refl, refl, refl)
 
 -- a quotient by 0 traps
-no_quotient : Ends [] (entry (Give (Prim Quot (two (int 1) (int 0)))) ∷ []) 0 0 (TrapVerdict ZeroDivisor) [] (counts 0 1 0)
+no_quotient : Ends [] (entry (Give (Prim Quot (two (int 1) (int 0)))) ∷ []) 0 0 (TrapVerdict ZeroDivisor) []
+    (counts 0 1 0)
 unfolding int_wrap
 no_quotient = (refl, refl, refl, refl)
 

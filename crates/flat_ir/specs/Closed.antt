@@ -35,7 +35,8 @@ module _ (captured group : ℕ) where
 
 -- the first procedure of a group of so many functions, one at least, with so many captured names
 abbrev pub begins_group : Option Proc → ℕ → ℕ → Bool
-begins_group (Some p) count captured = (p.place == 0) && (nat_lt 0 count && ((p.group == count) && (p.captured == captured)))
+begins_group (Some p) count captured =
+    (p.place == 0) && (nat_lt 0 count && ((p.group == count) && (p.captured == captured)))
 begins_group None count captured = false
 
 -- the next function of the group of a procedure

@@ -235,9 +235,12 @@ abbrev pub entry_body : Option Proc → Body
 entry_body (Some p) = p.body
 entry_body None = Give (Move UnitCase)
 
--- the state at first: the body of the procedure that the program begins with, no cells, no output, none of the input
--- read
+-- the world at first: no output, and none of the input read
+abbrev pub first_world : List ℕ → WorldState
+first_world input = record { output = []; input = input; place = 0 }
+
+-- the state at first: the body of the procedure that the program begins with, no cells, and the first world
 abbrev pub flat_start : {C : Type 0} → List Proc → Told → ℕ → List ℕ → FlatState C
 flat_start procs told entry input =
-    flat_state_at procs told
-    (Own (Inside (entry_body (slice_get procs entry)) (λ level. RunUnit) (new_group 0 []))) [] [] (record { output = []; input = input; place = 0 })
+    let body = entry_body (slice_get procs entry) in
+    flat_state_at procs told (Own (Inside body (λ level. RunUnit) (new_group 0 []))) [] [] (first_world input)
