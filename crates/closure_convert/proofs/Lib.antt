@@ -1,0 +1,5 @@
+mod ProcPlaces
+mod Relation
+mod States
+mod Agreeing
+mod Calling
