@@ -3,3 +3,4 @@ mod Relation
 mod States
 mod Agreeing
 mod Calling
+mod Simulating
