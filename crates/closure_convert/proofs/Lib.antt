@@ -4,3 +4,4 @@ mod States
 mod Agreeing
 mod Calling
 mod Simulating
+mod Standing
