@@ -5,3 +5,6 @@ mod Agreeing
 mod Calling
 mod Simulating
 mod Standing
+mod Fine
+mod Closing
+mod Typed
