@@ -1,11 +1,4 @@
-//! Closure conversion.
+//! Closure conversion: what the procedures of a term are, and that their run follows the run with environments.
 #![tactic(auto)]
 
-ghost use Rattle.std.specs.Prelude.{◌≡◌};
-ghost use Rattle.coer_core.specs.Terms.{RowTerm};
-ghost use Rattle.closure_convert.specs.Conversion.{converted};
-
-/// A placeholder.
-pub fn nothing_changes()
-    ensures { (term : RowTerm) → converted term ≡ converted term }
-{}
+pub mod laws;
