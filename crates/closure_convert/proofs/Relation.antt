@@ -1,10 +1,10 @@
 -- Which value of the procedures carries which value of the run with environments, whatever the casts are.
-use Rattle.std.proofs.Common.{◌≡◌, ◌⊎◌, inl, inr, ⊎_elim, ℕ, zero, suc, ◌+◌, ◌-◌, ◌<◌, ◌≤◌, Bool, true, false, cond}
+use Rattle.std.proofs.Common.{◌≡◌, ◌⊎◌, inl, inr, ⊎_elim, ℕ, suc, ◌+◌, ◌-◌, ◌<◌, ◌≤◌, Bool, true, false, cond}
 use Rattle.std.proofs.Common.{nat_eq, nat_lt, nat_le, ◌&&◌, List, [], ◌∷◌, ◌++◌, length, Option, Some, None, option_map}
-use Rattle.std.proofs.Common.{refl, sym, ap, ap₂, ◌∙◌, subst, arith, eqb-true, eq-eqb, ne_eqb, ltb-true, ltb-false}
-use Rattle.std.proofs.Common.{lt-ltb, le-ltb, le-leb, leb-false, leb-true, slice_get}
+use Rattle.std.proofs.Common.{refl, sym, ap, ap₂, ◌∙◌, subst, arith, eqb-true, eq-eqb, ne_eqb}
+use Rattle.std.proofs.Common.{lt-ltb, le-leb, slice_get}
 use Rattle.std.proofs.lemmas.Bool.{lt-leb}
-use Rattle.core_calc.specs.Substitution.{is_among, bind, entry_of}
+use Rattle.core_calc.specs.Substitution.{is_among, entry_of}
 use Rattle.coercion_norm.specs.RunValues.{RunInt, RunBool, RunUnit, RunFun, RunTuple, RunLoc, RunWrap, RunInject}
 use Rattle.coercion_norm.specs.RunValues.{NoRunValues, RunValueThen, in_row, row_list}
 use Rattle.coer_core.specs.Terms.{RowTerm, RowTerms, RowMembers, RowBindings, RowInt, RowBool, RowUnit, RowVar}
@@ -18,12 +18,12 @@ use Rattle.coer_core.specs.Machine.{captured_env, members_in}
 use Rattle.flat_ir.specs.declared.code.Operand.{Operand}
 use Rattle.flat_ir.specs.declared.code.Operand.TheVariants.{Local, Captured, Sibling, Int as IntConst}
 use Rattle.flat_ir.specs.declared.code.Operand.TheVariants.{Bool as BoolConst, Unit as UnitConst}
-use Rattle.flat_ir.specs.Bodies.{Body, Proc}
+use Rattle.flat_ir.specs.Bodies.{Proc}
 use Rattle.flat_ir.specs.Machine.{FlatCode, FlatValue, FlatValues, Group, Locals, or_unit, locals_of, set_local}
 use Rattle.flat_ir.specs.Machine.{set_group, value, values}
 use Rattle.closure_convert.specs.Conversion.{captures, alone, Scope, nothing_known, bind_operands, numbered}
 use Rattle.closure_convert.specs.Conversion.{captured_scope, group_scope, fun_scope, operand_or_unit, meanings_of, made}
-use Rattle.closure_convert.specs.Conversion.{made_for, made_in, made_by, own_procs}
+use Rattle.closure_convert.specs.Conversion.{made_in, made_by, own_procs}
 use Rattle.closure_convert.proofs.ProcPlaces.{HasAt}
 
 -- ---- choices
@@ -89,7 +89,8 @@ all_below_more depth more (o ∷ os) le h = (below_more depth more o le h.0, all
 pub scope_below_more : (depth more : ℕ) (scope : Scope) → depth ≤ more → ScopeBelow depth scope → ScopeBelow more scope
 scope_below_more depth more scope le h name o e = below_more depth more o le (h name o e)
 
-pub all_below_append : (depth : ℕ) (os ps : List Operand) → AllBelow depth os → AllBelow depth ps → AllBelow depth (os ++ ps)
+pub all_below_append : (depth : ℕ) (os ps : List Operand) → AllBelow depth os → AllBelow depth ps
+    → AllBelow depth (os ++ ps)
 all_below_append depth [] ps h k = k
 all_below_append depth (o ∷ os) ps h k = (h.0, all_below_append depth os ps h.1 k)
 
@@ -114,7 +115,8 @@ among_left : (name : ℕ) (xs ys : List ℕ) → is_among name xs ≡ true → i
 among_left name [] ys e = false_true e
 among_left name (x ∷ xs) ys e = by_test (among_left name xs ys) (nat_eq name x) e
   where
-    by_test : (is_among name xs ≡ true → is_among name (xs ++ ys) ≡ true) → (b : Bool) → cond b true (is_among name xs) ≡ true → cond b true (is_among name (xs ++ ys)) ≡ true
+    by_test : (is_among name xs ≡ true → is_among name (xs ++ ys) ≡ true) → (b : Bool)
+        → cond b true (is_among name xs) ≡ true → cond b true (is_among name (xs ++ ys)) ≡ true
     by_test ih true k = refl
     by_test ih false k = ih k
 
@@ -132,11 +134,15 @@ covers_left xs ys scope c name e = c name (among_left name xs ys e)
 pub covers_right : (xs ys : List ℕ) (scope : Scope) → Covers (xs ++ ys) scope → Covers ys scope
 covers_right xs ys scope c name e = c name (among_right name xs ys e)
 
-among_apart : (name : ℕ) (names xs : List ℕ) → is_among name names ≡ false → is_among name xs ≡ true → is_among name (names_besides names xs) ≡ true
+among_apart : (name : ℕ) (names xs : List ℕ) → is_among name names ≡ false → is_among name xs ≡ true
+    → is_among name (names_besides names xs) ≡ true
 among_apart name names [] n e = false_true e
-among_apart name names (x ∷ xs) n e = by_test (among_apart name names xs n) (nat_eq name x) refl e (is_among x names) refl
+among_apart name names (x ∷ xs) n e = by_test (among_apart name names xs n) (nat_eq name x) refl e
+    (is_among x names) refl
   where
-    by_test : (is_among name xs ≡ true → is_among name (names_besides names xs) ≡ true) → (b : Bool) → nat_eq name x ≡ b → cond b true (is_among name xs) ≡ true → (c : Bool) → is_among x names ≡ c → is_among name (cond c (names_besides names xs) (x ∷ names_besides names xs)) ≡ true
+    by_test : (is_among name xs ≡ true → is_among name (names_besides names xs) ≡ true) → (b : Bool) → nat_eq name x ≡ b
+        → cond b true (is_among name xs) ≡ true → (c : Bool) → is_among x names ≡ c
+        → is_among name (cond c (names_besides names xs) (x ∷ names_besides names xs)) ≡ true
     by_test ih true b k true c = false_true (sym n ∙ (ap (λ z. is_among z names) (eqb-true name x b) ∙ c))
     by_test ih true b k false c = chosen_true (nat_eq name x) true (is_among name (names_besides names xs)) b
     by_test ih false b k true c = ih k
@@ -146,16 +152,21 @@ apart_among : (name : ℕ) (names xs : List ℕ) → is_among name (names_beside
 apart_among name names [] e = e
 apart_among name names (x ∷ xs) e = by_test (apart_among name names xs) (is_among x names) e (nat_eq name x) refl
   where
-    by_test : (is_among name (names_besides names xs) ≡ true → is_among name xs ≡ true) → (c : Bool) → is_among name (cond c (names_besides names xs) (x ∷ names_besides names xs)) ≡ true → (b : Bool) → nat_eq name x ≡ b → cond b true (is_among name xs) ≡ true
+    by_test : (is_among name (names_besides names xs) ≡ true → is_among name xs ≡ true) → (c : Bool)
+        → is_among name (cond c (names_besides names xs) (x ∷ names_besides names xs)) ≡ true → (b : Bool)
+        → nat_eq name x ≡ b → cond b true (is_among name xs) ≡ true
     by_test ih c k true b = refl
     by_test ih true k false b = ih k
-    by_test ih false k false b = ih (sym (chosen_false (nat_eq name x) true (is_among name (names_besides names xs)) b) ∙ k)
+    by_test ih false k false b = ih (sym (chosen_false (nat_eq name x) true (is_among name (names_besides names xs)) b)
+        ∙ k)
 
 among_once : (name : ℕ) (xs : List ℕ) → is_among name xs ≡ true → is_among name (each_once xs) ≡ true
 among_once name [] e = e
 among_once name (x ∷ xs) e = by_test (among_once name xs) (nat_eq name x) refl e
   where
-    by_test : (is_among name xs ≡ true → is_among name (each_once xs) ≡ true) → (b : Bool) → nat_eq name x ≡ b → cond b true (is_among name xs) ≡ true → cond b true (is_among name (names_besides (x ∷ []) (each_once xs))) ≡ true
+    by_test : (is_among name xs ≡ true → is_among name (each_once xs) ≡ true) → (b : Bool) → nat_eq name x ≡ b
+        → cond b true (is_among name xs) ≡ true → cond b true (is_among name (names_besides (x ∷ [])
+        (each_once xs))) ≡ true
     by_test ih true b k = refl
     by_test ih false b k = among_apart name (x ∷ []) (each_once xs) (chosen_false (nat_eq name x) true false b) (ih k)
 
@@ -163,7 +174,9 @@ once_among : (name : ℕ) (xs : List ℕ) → is_among name (each_once xs) ≡ t
 once_among name [] e = e
 once_among name (x ∷ xs) e = by_test (once_among name xs) (nat_eq name x) e
   where
-    by_test : (is_among name (each_once xs) ≡ true → is_among name xs ≡ true) → (b : Bool) → cond b true (is_among name (names_besides (x ∷ []) (each_once xs))) ≡ true → cond b true (is_among name xs) ≡ true
+    by_test : (is_among name (each_once xs) ≡ true → is_among name xs ≡ true) → (b : Bool)
+        → cond b true (is_among name (names_besides (x ∷ []) (each_once xs))) ≡ true
+        → cond b true (is_among name xs) ≡ true
     by_test ih true k = refl
     by_test ih false k = ih (apart_among name (x ∷ []) (each_once xs) k)
 
@@ -171,16 +184,25 @@ abbrev pub HasMeaning : ℕ → Scope → Type 0
 HasMeaning name scope = (o : Operand) × (scope name ≡ Some o)
 
 -- among the names that are bound, or known before
-bound_has : (name : ℕ) (names : List ℕ) (os : List Operand) (scope : Scope) → length names ≡ length os → (is_among name names ≡ true) ⊎ HasMeaning name scope → HasMeaning name (bind_operands names os scope)
+bound_has : (name : ℕ) (names : List ℕ) (os : List Operand) (scope : Scope) → length names ≡ length os
+    → (is_among name names ≡ true) ⊎ HasMeaning name scope → HasMeaning name (bind_operands names os scope)
 bound_has name [] os scope len h = ⊎_elim (λ e. false_true e) (λ k. k) h
 bound_has name (x ∷ names) [] scope len h = absurd (omega arith)
-bound_has name (x ∷ names) (o ∷ os) scope len h = by_test (nat_eq name x) refl (bound_has name names os scope (omega arith)) h
+bound_has name (x ∷ names) (o ∷ os) scope len h = by_test (nat_eq name x) refl (bound_has name names os scope
+    (omega arith)) h
   where
-    by_test : (b : Bool) → nat_eq name x ≡ b → ((is_among name names ≡ true) ⊎ HasMeaning name scope → HasMeaning name (bind_operands names os scope)) → (cond b true (is_among name names) ≡ true) ⊎ HasMeaning name scope → HasMeaning name (bind_operands (x ∷ names) (o ∷ os) scope)
+    by_test : (b : Bool) → nat_eq name x ≡ b → ((is_among name names ≡ true) ⊎ HasMeaning name scope
+        → HasMeaning name (bind_operands names os scope)) → (cond b true (is_among name names) ≡ true) ⊎ HasMeaning name
+        scope → HasMeaning name (bind_operands (x ∷ names) (o ∷ os) scope)
     by_test true b ih k = (o, chosen_true (nat_eq name x) (Some o) (bind_operands names os scope name) b)
-    by_test false b ih k = let m = ih k in (m.0, chosen_false (nat_eq name x) (Some o) (bind_operands names os scope name) b ∙ m.1)
+    by_test false b ih k = let m = ih k in (
+      m.0,
+      chosen_false (nat_eq name x) (Some o) (bind_operands names os scope
+          name) b ∙ m.1,
+    )
 
-pub covers_bound : (xs names : List ℕ) (os : List Operand) (scope : Scope) → length names ≡ length os → Covers (names_besides names xs) scope → Covers xs (bind_operands names os scope)
+pub covers_bound : (xs names : List ℕ) (os : List Operand) (scope : Scope) → length names ≡ length os
+    → Covers (names_besides names xs) scope → Covers xs (bind_operands names os scope)
 covers_bound xs names os scope len c name e = bound_has name names os scope len (by_test (is_among name names) refl)
   where
     by_test : (b : Bool) → is_among name names ≡ b → (is_among name names ≡ true) ⊎ HasMeaning name scope
@@ -191,19 +213,29 @@ pub numbered_long : (make : ℕ → Operand) (names : List ℕ) (i : ℕ) → le
 numbered_long make [] i = refl
 numbered_long make (name ∷ names) i = ap suc (numbered_long make names (suc i))
 
-pub covers_captures : (names : List ℕ) (members : RowMembers) (scope : Scope) → Covers (names_besides names (free_names_of_members members)) scope → Covers (captures names members) scope
-covers_captures names members scope c name e = c name (once_among name (names_besides names (free_names_of_members members)) e)
+pub covers_captures : (names : List ℕ) (members : RowMembers) (scope : Scope)
+    → Covers (names_besides names (free_names_of_members members)) scope → Covers (captures names members) scope
+covers_captures names members scope c name e = c name (once_among name (names_besides names
+    (free_names_of_members members)) e)
 
-pub group_covers : (names : List ℕ) (members : RowMembers) → Covers (free_names_of_members members) (group_scope names (captures names members))
+pub group_covers : (names : List ℕ) (members : RowMembers) → Covers (free_names_of_members members) (group_scope names
+    (captures names members))
 group_covers names members =
-    covers_bound (free_names_of_members members) names (numbered (λ i. Sibling i) names 0) (captured_scope (captures names members)) (numbered_long (λ i. Sibling i) names 0)
-        (λ name e. bound_has name (captures names members) (numbered (λ i. Captured i) (captures names members) 0) nothing_known (numbered_long (λ i. Captured i) (captures names members) 0) (inl (among_once name (names_besides names (free_names_of_members members)) e)))
+    covers_bound (free_names_of_members members) names (numbered (λ i. Sibling i) names 0) (captured_scope
+    (captures names members)) (numbered_long (λ i. Sibling i) names 0)
+    (λ name e. bound_has name (captures names members) (numbered (λ i. Captured i) (captures names members) 0)
+    nothing_known (numbered_long (λ i. Captured i) (captures names members) 0) (inl (among_once name
+    (names_besides names (free_names_of_members members)) e)))
 
-pub fun_covers : (names captured parameters : List ℕ) (body : RowTerm) → Covers (names_besides parameters (free_names body)) (group_scope names captured) → Covers (free_names body) (fun_scope names captured parameters)
+pub fun_covers : (names captured parameters : List ℕ) (body : RowTerm)
+    → Covers (names_besides parameters (free_names body)) (group_scope names captured)
+    → Covers (free_names body) (fun_scope names captured parameters)
 fun_covers names captured parameters body c =
-    covers_bound (free_names body) parameters (numbered (λ i. Local i) parameters 0) (group_scope names captured) (numbered_long (λ i. Local i) parameters 0) c
+    covers_bound (free_names body) parameters (numbered (λ i. Local i) parameters 0) (group_scope names captured)
+    (numbered_long (λ i. Local i) parameters 0) c
 
-pub locals_below : (names : List ℕ) (k depth : ℕ) → k + length names ≤ depth → AllBelow depth (numbered (λ i. Local i) names k)
+pub locals_below : (names : List ℕ) (k depth : ℕ) → k + length names ≤ depth
+    → AllBelow depth (numbered (λ i. Local i) names k)
 locals_below [] k depth le = tt
 locals_below (name ∷ names) k depth le = (omega arith, locals_below names (suc k) depth (omega arith))
 
@@ -215,18 +247,22 @@ pub captured_below : (names : List ℕ) (k depth : ℕ) → AllBelow depth (numb
 captured_below [] k depth = tt
 captured_below (name ∷ names) k depth = (tt, captured_below names (suc k) depth)
 
-pub fun_scope_below : (names captured parameters : List ℕ) → ScopeBelow (length parameters) (fun_scope names captured parameters)
+pub fun_scope_below : (names captured parameters : List ℕ) → ScopeBelow (length parameters)
+    (fun_scope names captured parameters)
 fun_scope_below names captured parameters =
     let n = length parameters in
-    bound_below n parameters (numbered (λ i. Local i) parameters 0) (group_scope names captured) (locals_below parameters 0 n (omega arith))
-        (bound_below n names (numbered (λ i. Sibling i) names 0) (captured_scope captured) (siblings_below names 0 n)
-        (bound_below n captured (numbered (λ i. Captured i) captured 0) nothing_known (captured_below captured 0 n) (λ name o e. none_some e)))
+    bound_below n parameters (numbered (λ i. Local i) parameters 0) (group_scope names captured)
+    (locals_below parameters 0 n (omega arith))
+    (bound_below n names (numbered (λ i. Sibling i) names 0) (captured_scope captured) (siblings_below names 0 n)
+    (bound_below n captured (numbered (λ i. Captured i) captured 0) nothing_known (captured_below captured 0 n)
+    (λ name o e. none_some e)))
 
 module _ (procs : List Proc) where
   -- ---- procedures stand
 
   abbrev pub OwnStand : List ℕ → RowMembers → ℕ → ℕ → Type 0
-  OwnStand names members place next = HasAt procs place (own_procs names (captures names members) (row_member_count members) 0 members next)
+  OwnStand names members place next = HasAt procs place (own_procs names (captures names members)
+      (row_member_count members) 0 members next)
 
   abbrev mutual
     pub Stands : RowTerm → ℕ → Type 0
@@ -237,7 +273,8 @@ module _ (procs : List Proc) where
     Stands (RowLambda parameters body type) next =
         (Stands body next × Unit {0}) × OwnStand [] (alone parameters body type) (next + (made body + 0)) next
     Stands (RowGroup members body) next =
-        (StandsIn members next × OwnStand (row_member_names members) members (next + made_in members) next) × Stands body (next + made_in members + row_member_count members)
+        (StandsIn members next × OwnStand (row_member_names members) members (next + made_in members) next) × Stands
+        body (next + made_in members + row_member_count members)
     Stands (RowLet bindings body) next = StandsBy bindings next × Stands body (next + made_by bindings)
     Stands (RowCall f terms) next = Stands f next × StandsFor terms (next + made f)
     Stands (RowIf c a b) next = Stands c next × Stands a (next + made c) × Stands b (next + made c + made a)
@@ -392,9 +429,11 @@ module _ {C : Type 0} (procs : List Proc) where
 
   pub fits_part : (env : Env C) (f g : Meaning C) → IsPart g f → Fits env f → Fits env g
   fits_part [] f g sub h = nothing_part f g sub h
-  fits_part (entry ∷ rest) f g sub h =
-      (λ u e. h.0 u (sub entry.0 u e), fits_part rest (hiding entry.0 f) (hiding entry.0 g)
-      (hiding_part entry.0 f g sub) h.1)
+  fits_part (entry ∷ rest) f g sub h = (
+    λ u e. h.0 u (sub entry.0 u e),
+    fits_part rest (hiding entry.0 f) (hiding entry.0 g)
+        (hiding_part entry.0 f g sub) h.1,
+  )
 
   abbrev pub Found : ℕ → Env C → FlatValue C → Type 0
   Found name env u = (v : CoerValue C) × (entry_of name env ≡ Some v) × Carries v u
@@ -403,9 +442,11 @@ module _ {C : Type 0} (procs : List Proc) where
       → ((u' : FlatValue C) → f other ≡ Some u' → Carries v u') → f name ≡ Some u
       → (hiding other f name ≡ Some u → Found name rest u) → (b : Bool) → nat_eq name other ≡ b
       → Found name ((other, v) ∷ rest) u
-  found_by name other v rest f u h e deeper true b =
-      (v, chosen_true (nat_eq name other) (Some v) (entry_of name rest) b,
-      h u (subst (λ n. f n ≡ Some u) (eqb-true name other b) e))
+  found_by name other v rest f u h e deeper true b = (
+    v,
+    chosen_true (nat_eq name other) (Some v) (entry_of name rest) b,
+    h u (subst (λ n. f n ≡ Some u) (eqb-true name other b) e),
+  )
   found_by name other v rest f u h e deeper false b =
       let d = deeper (chosen_false (nat_eq name other) None (f name) b ∙ e) in
       (d.0, chosen_false (nat_eq name other) (Some v) (entry_of name rest) b ∙ d.1, d.2)
@@ -421,9 +462,11 @@ module _ {C : Type 0} (procs : List Proc) where
   fits_bind : (name : ℕ) (v : CoerValue C) (env : Env C) (f g : Meaning C) (u : FlatValue C) → Fits env f
       → Carries v u → g name ≡ Some u → ((other : ℕ) → nat_eq other name ≡ false → g other ≡ f other)
       → Fits ((name, v) ∷ env) g
-  fits_bind name v env f g u h c e same =
-      (λ u' e'. subst (Carries v) (same_some u u' (sym e ∙ e')) c, fits_part env f (hiding name g)
-      (λ other w e'. by_test other w (nat_eq other name) refl e') h)
+  fits_bind name v env f g u h c e same = (
+    λ u' e'. subst (Carries v) (same_some u u' (sym e ∙ e')) c,
+    fits_part env f (hiding name g)
+        (λ other w e'. by_test other w (nat_eq other name) refl e') h,
+  )
     where
       by_test : (other : ℕ) (w : FlatValue C) (b : Bool) → nat_eq other name ≡ b → hiding name g other ≡ Some w
           → f other ≡ Some w
@@ -453,14 +496,17 @@ module _ {C : Type 0} (procs : List Proc) where
       (value l own o) (fits_extend entries os env scope l own c.1 h) c.0 (meaning_first entry.0 o rest l own)
       (meaning_later entry.0 o rest l own)
 
-  pub carries_append : (vs ws : List (CoerValue C)) (l : Locals C) (own : Group C) (os ps : List Operand) → CarriesAll vs (values l own os) → CarriesAll ws (values l own ps) → CarriesAll (vs ++ ws) (values l own (os ++ ps))
+  pub carries_append : (vs ws : List (CoerValue C)) (l : Locals C) (own : Group C) (os ps : List Operand)
+      → CarriesAll vs (values l own os) → CarriesAll ws (values l own ps)
+      → CarriesAll (vs ++ ws) (values l own (os ++ ps))
   carries_append [] ws l own [] ps c d = d
   carries_append [] ws l own (o ∷ os) ps c d = absurd c
   carries_append (v ∷ vs) ws l own [] ps c d = absurd c
   carries_append (v ∷ vs) ws l own (o ∷ os) ps c d = (c.0, carries_append vs ws l own os ps c.1 d)
 
 module _ {C : Type 0} where
-  pub value_same : (depth : ℕ) (l k : Locals C) (own : Group C) (o : Operand) → SameBelow depth l k → Below depth o → value k own o ≡ value l own o
+  pub value_same : (depth : ℕ) (l k : Locals C) (own : Group C) (o : Operand) → SameBelow depth l k → Below depth o
+      → value k own o ≡ value l own o
   value_same depth l k own (Local i) s h = s i h
   value_same depth l k own (Captured i) s h = refl
   value_same depth l k own (Sibling i) s h = refl
@@ -468,9 +514,11 @@ module _ {C : Type 0} where
   value_same depth l k own (BoolConst b) s h = refl
   value_same depth l k own UnitConst s h = refl
 
-  pub values_same : (depth : ℕ) (l k : Locals C) (own : Group C) (os : List Operand) → SameBelow depth l k → AllBelow depth os → values k own os ≡ values l own os
+  pub values_same : (depth : ℕ) (l k : Locals C) (own : Group C) (os : List Operand) → SameBelow depth l k
+      → AllBelow depth os → values k own os ≡ values l own os
   values_same depth l k own [] s h = refl
-  values_same depth l k own (o ∷ os) s h = ap₂ (λ u us. u ∷ us) (value_same depth l k own o s h.0) (values_same depth l k own os s h.1)
+  values_same depth l k own (o ∷ os) s h = ap₂ (λ u us. u ∷ us) (value_same depth l k own o s h.0)
+      (values_same depth l k own os s h.1)
 
   pub means_same : (depth : ℕ) (l k : Locals C) (own : Group C) (scope : Scope) (name : ℕ) → SameBelow depth l k
       → ScopeBelow depth scope → means scope k own name ≡ means scope l own name
@@ -493,7 +541,8 @@ module _ {C : Type 0} where
   HoldsFrom captured k [] = Unit {0}
   HoldsFrom captured k (u ∷ us) = (value_in captured k ≡ u) × HoldsFrom captured (suc k) us
 
-  holds_later : (captured : FlatValues C) (k : ℕ) (u : FlatValue C) (us : List (FlatValue C)) → HoldsFrom captured k us → HoldsFrom (RunValueThen u captured) (suc k) us
+  holds_later : (captured : FlatValues C) (k : ℕ) (u : FlatValue C) (us : List (FlatValue C)) → HoldsFrom captured k us
+      → HoldsFrom (RunValueThen u captured) (suc k) us
   holds_later captured k u [] h = tt
   holds_later captured k u (w ∷ us) h = (h.0, holds_later captured (suc k) u us h.1)
 
@@ -502,27 +551,43 @@ module _ {C : Type 0} where
   holds_all (u ∷ us) = (refl, holds_later (in_row us) 0 u us (holds_all us))
 
   module _ (scope : Scope) (l : Locals C) (own : Group C) (l0 : Locals C) (own0 : Group C) where
-    pub captured_part : (names : List ℕ) (k : ℕ) → HoldsFrom own0.captured k (values l own (meanings_of names scope)) → Covers names scope → IsPart (means (bind_operands names (numbered (λ i. Captured i) names k) nothing_known) l0 own0) (means scope l own)
+    pub captured_part : (names : List ℕ) (k : ℕ) → HoldsFrom own0.captured k (values l own (meanings_of names scope))
+        → Covers names scope → IsPart (means (bind_operands names (numbered (λ i. Captured i) names k) nothing_known) l0
+        own0) (means scope l own)
     captured_part [] k h c = λ name u e. none_some e
-    captured_part (x ∷ names) k h c = λ name u e. by_test name u (captured_part names (suc k) h.1 (λ name e. c name (in_rest name e (nat_eq name x)))) (nat_eq name x) refl e
+    captured_part (x ∷ names) k h c = λ name u e. by_test name u (captured_part names (suc k) h.1 (λ name e. c name
+        (in_rest name e (nat_eq name x)))) (nat_eq name x) refl e
       where
         in_rest : (name : ℕ) → is_among name names ≡ true → (b : Bool) → cond b true (is_among name names) ≡ true
         in_rest name e true = refl
         in_rest name e false = e
+
         known : HasMeaning x scope
         known = c x (chosen_true (nat_eq x x) true (is_among x names) (is_itself x))
+
         held : value_in own0.captured k ≡ value l own known.0
         held = h.0 ∙ ap (λ m. value l own (operand_or_unit m)) known.1
-        by_test : (name : ℕ) (u : FlatValue C) → IsPart (means (bind_operands names (numbered (λ i. Captured i) names (suc k)) nothing_known) l0 own0) (means scope l own) → (b : Bool) → nat_eq name x ≡ b → option_map (value l0 own0) (cond b (Some (Captured k)) (bind_operands names (numbered (λ i. Captured i) names (suc k)) nothing_known name)) ≡ Some u → means scope l own name ≡ Some u
+
+        by_test : (name : ℕ) (u : FlatValue C) → IsPart (means (bind_operands names (numbered (λ i. Captured i) names
+            (suc k)) nothing_known) l0 own0) (means scope l own) → (b : Bool) → nat_eq name x ≡ b
+            → option_map (value l0 own0) (cond b (Some (Captured k)) (bind_operands names (numbered
+            (λ i. Captured i) names (suc k)) nothing_known name)) ≡ Some u → means scope l own name ≡ Some u
         by_test name u ih true b e =
-            ap (λ n. means scope l own n) (eqb-true name x b) ∙ (ap (option_map (value l own)) known.1 ∙ (ap Some (sym held) ∙ e))
+            ap (λ n. means scope l own n) (eqb-true name x b) ∙ (ap (option_map (value l own)) known.1
+            ∙ (ap Some (sym held) ∙ e))
         by_test name u ih false b e = ih name u e
 
-    pub captured_same : (names : List ℕ) (k : ℕ) → own.captured ≡ own0.captured → (name : ℕ) → means (bind_operands names (numbered (λ i. Captured i) names k) nothing_known) l own name ≡ means (bind_operands names (numbered (λ i. Captured i) names k) nothing_known) l0 own0 name
+    pub captured_same : (names : List ℕ) (k : ℕ) → own.captured ≡ own0.captured → (name : ℕ)
+        → means (bind_operands names (numbered (λ i. Captured i) names k) nothing_known) l own name ≡ means
+        (bind_operands names (numbered (λ i. Captured i) names k) nothing_known) l0 own0 name
     captured_same [] k e name = refl
     captured_same (x ∷ names) k e name = by_test (captured_same names (suc k) e name) (nat_eq name x)
       where
-        by_test : means (bind_operands names (numbered (λ i. Captured i) names (suc k)) nothing_known) l own name ≡ means (bind_operands names (numbered (λ i. Captured i) names (suc k)) nothing_known) l0 own0 name → (b : Bool) → option_map (value l own) (cond b (Some (Captured k)) (bind_operands names (numbered (λ i. Captured i) names (suc k)) nothing_known name)) ≡ option_map (value l0 own0) (cond b (Some (Captured k)) (bind_operands names (numbered (λ i. Captured i) names (suc k)) nothing_known name))
+        by_test : means (bind_operands names (numbered (λ i. Captured i) names (suc k)) nothing_known) l own name ≡
+            means (bind_operands names (numbered (λ i. Captured i) names (suc k)) nothing_known) l0 own0 name
+            → (b : Bool) → option_map (value l own) (cond b (Some (Captured k)) (bind_operands names (numbered
+            (λ i. Captured i) names (suc k)) nothing_known name)) ≡ option_map (value l0 own0) (cond b (Some
+            (Captured k)) (bind_operands names (numbered (λ i. Captured i) names (suc k)) nothing_known name))
         by_test ih true = ap (λ vs. Some (value_in vs k)) e
         by_test ih false = ih
 
@@ -532,7 +597,8 @@ module _ {C : Type 0} where
   LocalsFrom l k [] = Unit {0}
   LocalsFrom l k (u ∷ us) = (l k ≡ u) × LocalsFrom l (suc k) us
 
-  locals_later : (args : List (FlatValue C)) (k : ℕ) (u : FlatValue C) (us : List (FlatValue C)) → LocalsFrom (locals_of args) k us → LocalsFrom (locals_of (u ∷ args)) (suc k) us
+  locals_later : (args : List (FlatValue C)) (k : ℕ) (u : FlatValue C) (us : List (FlatValue C))
+      → LocalsFrom (locals_of args) k us → LocalsFrom (locals_of (u ∷ args)) (suc k) us
   locals_later args k u [] h = tt
   locals_later args k u (w ∷ us) h = (h.0, locals_later args (suc k) u us h.1)
 
@@ -540,25 +606,31 @@ module _ {C : Type 0} where
   locals_all [] = tt
   locals_all (u ∷ us) = (refl, locals_later us 0 u us (locals_all us))
 
-  numbered_locals : (names : List ℕ) (us : List (FlatValue C)) (l : Locals C) (own : Group C) (k : ℕ) → length names ≡ length us → LocalsFrom l k us → values l own (numbered (λ i. Local i) names k) ≡ us
+  numbered_locals : (names : List ℕ) (us : List (FlatValue C)) (l : Locals C) (own : Group C) (k : ℕ)
+      → length names ≡ length us → LocalsFrom l k us → values l own (numbered (λ i. Local i) names k) ≡ us
   numbered_locals [] [] l own k len h = refl
   numbered_locals [] (u ∷ us) l own k len h = absurd (omega arith)
   numbered_locals (name ∷ names) [] l own k len h = absurd (omega arith)
-  numbered_locals (name ∷ names) (u ∷ us) l own k len h = ap₂ (λ v vs. v ∷ vs) h.0 (numbered_locals names us l own (suc k) (omega arith) h.1)
+  numbered_locals (name ∷ names) (u ∷ us) l own k len h = ap₂ (λ v vs. v ∷ vs) h.0 (numbered_locals names us l own
+      (suc k) (omega arith) h.1)
 
-  pub parameters_hold : (names : List ℕ) (us : List (FlatValue C)) (own : Group C) → length names ≡ length us → values (locals_of us) own (numbered (λ i. Local i) names 0) ≡ us
+  pub parameters_hold : (names : List ℕ) (us : List (FlatValue C)) (own : Group C) → length names ≡ length us
+      → values (locals_of us) own (numbered (λ i. Local i) names 0) ≡ us
   parameters_hold names us own len = numbered_locals names us (locals_of us) own 0 len (locals_all us)
 
   -- ---- groups
 
-  pub group_slot : (l : Locals C) (slot first count : ℕ) (captured : FlatValues C) (i place : ℕ) → place ≡ slot + i → i < count → set_group l slot count (group_of first captured) place ≡ fun_of first i captured
+  pub group_slot : (l : Locals C) (slot first count : ℕ) (captured : FlatValues C) (i place : ℕ) → place ≡ slot + i
+      → i < count → set_group l slot count (group_of first captured) place ≡ fun_of first i captured
   group_slot l slot first count captured i place e lt =
       let from : nat_le slot place ≡ true = le-leb slot place (omega arith) in
       let to : nat_lt place (slot + count) ≡ true = lt-ltb place (slot + count) (omega arith) in
       let back : place - slot ≡ i = omega arith in
-      ap₂ (λ b c. cond (b && c) (fun_of first (place - slot) captured) (l place)) from to ∙ ap (λ j. fun_of first j captured) back
+      ap₂ (λ b c. cond (b && c) (fun_of first (place - slot) captured) (l place)) from to
+      ∙ ap (λ j. fun_of first j captured) back
 
-  pub group_same : (l : Locals C) (slot first count : ℕ) (captured : FlatValues C) → SameBelow slot l (set_group l slot count (group_of first captured))
+  pub group_same : (l : Locals C) (slot first count : ℕ) (captured : FlatValues C)
+      → SameBelow slot l (set_group l slot count (group_of first captured))
   group_same l slot first count captured i lt =
       let b : nat_le slot i ≡ false = lt-leb slot i lt in
       ap (λ c. cond (c && nat_lt i (slot + count)) (fun_of first (i - slot) captured) (l i)) b
@@ -572,21 +644,26 @@ module _ {C : Type 0} where
     AllMembers (v ∷ vs) i = Member i v × AllMembers vs (suc i)
 
     -- as they know each other
-    pub siblings_carry : (vs : List (CoerValue C)) (names1 : List ℕ) (i : ℕ) (l : Locals C) → length names1 ≡ length vs → AllMembers vs i → CarriesAll procs vs (values l (group_of first captured) (numbered (λ k. Sibling k) names1 i))
+    pub siblings_carry : (vs : List (CoerValue C)) (names1 : List ℕ) (i : ℕ) (l : Locals C) → length names1 ≡ length vs
+        → AllMembers vs i → CarriesAll procs vs (values l (group_of first captured) (numbered
+        (λ k. Sibling k) names1 i))
     siblings_carry [] [] i l len h = tt
     siblings_carry [] (name ∷ names1) i l len h = absurd (omega arith)
     siblings_carry (v ∷ vs) [] i l len h = absurd (omega arith)
     siblings_carry (v ∷ vs) (name ∷ names1) i l len h = (h.0, siblings_carry vs names1 (suc i) l (omega arith) h.1)
 
     -- as the body knows them
-    pub members_carry : (vs : List (CoerValue C)) (names1 : List ℕ) (i place count slot : ℕ) (l : Locals C) (own : Group C) → place ≡ slot + i → i + length names1 ≤ count → length names1 ≡ length vs → AllMembers vs i → CarriesAll procs vs (values (set_group l slot count (group_of first captured)) own (numbered (λ k. Local k) names1 place))
+    pub members_carry : (vs : List (CoerValue C)) (names1 : List ℕ) (i place count slot : ℕ) (l : Locals C)
+        (own : Group C) → place ≡ slot + i → i + length names1 ≤ count → length names1 ≡ length vs → AllMembers vs i
+        → CarriesAll procs vs (values (set_group l slot count (group_of first captured)) own (numbered
+        (λ k. Local k) names1 place))
     members_carry [] [] i place count slot l own e le len h = tt
     members_carry [] (name ∷ names1) i place count slot l own e le len h = absurd (omega arith)
     members_carry (v ∷ vs) [] i place count slot l own e le len h = absurd (omega arith)
     members_carry (v ∷ vs) (name ∷ names1) i place count slot l own e le len h = (
-          subst (Carries procs v) (sym (group_slot l slot first count captured i place e (omega arith))) h.0,
-          members_carry vs names1 (suc i) (suc place) count slot l own (omega arith) (omega arith) (omega arith) h.1,
-        )
+      subst (Carries procs v) (sym (group_slot l slot first count captured i place e (omega arith))) h.0,
+      members_carry vs names1 (suc i) (suc place) count slot l own (omega arith) (omega arith) (omega arith) h.1,
+    )
 
   -- the members of a group are carried
   pub members_held : (procs : List Proc) (group : RowMembers) (names : List ℕ) (vs : CoerValues C) (next first : ℕ)
@@ -597,9 +674,12 @@ module _ {C : Type 0} where
       → AllMembers procs first captured (seconds (members_in group names vs rest i)) i
   members_held procs group names vs next first captured place stands fits NoRowMembers i le = tt
   members_held procs group names vs next first captured place stands fits (RowMemberThen name parameters body type rest)
-      i le =
-      ((next, refl, place, stands, fits, omega arith), members_held procs group names vs next first captured place stands
-      fits rest (suc i) (omega arith))
+      i le = (
+        (next, refl, place, stands, fits, omega arith),
+        members_held procs group names vs next first captured place
+            stands
+            fits rest (suc i) (omega arith),
+      )
 
   pub members_firsts : (group : RowMembers) (names : List ℕ) (vs : CoerValues C) (rest : RowMembers) (i : ℕ)
       → firsts (members_in group names vs rest i) ≡ row_member_names rest

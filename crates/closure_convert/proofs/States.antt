@@ -1,29 +1,29 @@
 -- Which state of the procedures goes with which state of the run with environments.
-use Rattle.std.proofs.Common.{◌≡◌, ◌⊎◌, inl, inr, ℕ, zero, suc, ◌+◌, ◌<◌, ◌≤◌, ℤ, Bool, List, [], ◌∷◌, ◌++◌, length, Option}
-use Rattle.std.proofs.Common.{Some, None, refl, sym, ap, ap₂, ◌∙◌, subst, arith}
+use Rattle.std.proofs.Common.{◌≡◌, ◌⊎◌, ℕ, ◌≤◌, List, [], ◌∷◌, ◌++◌}
+use Rattle.std.proofs.Common.{Some, sym, ◌∙◌, subst}
 use Rattle.grift_base.specs.declared.operators.PrimOp.{PrimOp}
 use Rattle.coercion_norm.specs.Modes.{Mode}
 use Rattle.coercion_norm.specs.RunValues.{Pending}
 use Rattle.coercion_norm.specs.ValueSteps.{CastFrame, ProjFrame, PrimFrame, EnterFrame, OwnFrame, Own, Return, Entering}
 use Rattle.coercion_norm.specs.ValueSteps.{onto}
-use Rattle.coer_core.specs.Terms.{RowTerm, RowTerms, RowBindings, RowSeq, NoRowTerms, RowTermThen}
+use Rattle.coer_core.specs.Terms.{RowTerm, RowTerms, RowBindings, RowTermThen}
 use Rattle.coer_core.specs.Counts.{names_besides, free_names, free_names_of_all, free_names_of_bindings}
 use Rattle.coer_core.specs.Counts.{row_binding_names}
 use Rattle.coer_core.specs.Machine.{Env, CoerValue, CoerPending, CoerFrame, CoerFocus, CoerStore, Job, Calling, Tupling}
-use Rattle.coer_core.specs.Machine.{Operating, TermFrame, IfFrame, SeqFrame, FunFrame, ProjDynFrame, GatherFrame}
+use Rattle.coer_core.specs.Machine.{Operating, IfFrame, SeqFrame, FunFrame, ProjDynFrame, GatherFrame}
 use Rattle.coer_core.specs.Machine.{LetFrame, Eval}
 use Rattle.flat_ir.specs.declared.code.Operand.{Operand}
-use Rattle.flat_ir.specs.declared.code.Operand.TheVariants.{Local}
 use Rattle.flat_ir.specs.declared.code.Operation.{Operation}
 use Rattle.flat_ir.specs.declared.code.Operation.TheVariants.{Cast, Tuple, Prim, Proj, ProjDyn}
 use Rattle.flat_ir.specs.Bodies.{Body, Give, Choose, Proc}
 use Rattle.flat_ir.specs.Machine.{FlatCode, FlatValue, FlatStore, FlatFrame, FlatFocus, Group, Locals, Inside, Waiting}
 use Rattle.flat_ir.specs.Machine.{set_local, value, values}
-use Rattle.closure_convert.specs.Conversion.{Scope, bind_operands, made, atom, call_of, label_id, code, gather}
+use Rattle.closure_convert.specs.Conversion.{Scope, bind_operands, atom, call_of, label_id, code, gather}
 use Rattle.closure_convert.specs.Conversion.{gather_let, sequence}
-use Rattle.closure_convert.proofs.Relation.{firsts, seconds, means, Stands, StandsFor, StandsBy, Carries, Fits, CarriesAll}
-use Rattle.closure_convert.proofs.Relation.{AllBelow, ScopeBelow, Below, Covers, SameBelow, fits_part, means_same}
-use Rattle.closure_convert.proofs.Relation.{scope_below_more, values_same, all_below_more}
+use Rattle.closure_convert.proofs.Relation.{firsts, seconds, means, Stands, StandsFor, StandsBy, Carries, Fits}
+use Rattle.closure_convert.proofs.Relation.{CarriesAll}
+use Rattle.closure_convert.proofs.Relation.{AllBelow, ScopeBelow, Covers, SameBelow, fits_part, means_same}
+use Rattle.closure_convert.proofs.Relation.{scope_below_more, values_same}
 
 -- what is done with the operands of several terms
 pub data Finish : Type 0 where
@@ -54,7 +54,8 @@ module _ {C : Type 0} (procs : List Proc) (mode : Mode C) where
     pub below : ScopeBelow depth scope
 
   -- operands of several terms are gathered
-  pub record Gathers (terms : RowTerms) (vs : List (CoerValue C)) (finish : Finish) (env : Env C) (focus : FlatFocus C) : Type 0 where
+  pub record Gathers (terms : RowTerms) (vs : List (CoerValue C)) (finish : Finish) (env : Env C)
+      (focus : FlatFocus C) : Type 0 where
     pub scope : Scope
     pub depth : ℕ
     pub next : ℕ
@@ -69,7 +70,8 @@ module _ {C : Type 0} (procs : List Proc) (mode : Mode C) where
     pub stands : StandsFor procs terms next
 
   -- those of a let
-  pub record Binds (entries : List (ℕ × CoerValue C)) (bindings : RowBindings) (body : RowTerm) (env : Env C) (focus : FlatFocus C) : Type 0 where
+  pub record Binds (entries : List (ℕ × CoerValue C)) (bindings : RowBindings) (body : RowTerm) (env : Env C)
+      (focus : FlatFocus C) : Type 0 where
     pub scope : Scope
     pub depth : ℕ
     pub next : ℕ
@@ -77,7 +79,8 @@ module _ {C : Type 0} (procs : List Proc) (mode : Mode C) where
     pub os : List Operand
     pub l : Locals C
     pub own : Group C
-    pub runs : focus ≡ Own (Inside (gather_let bindings scope depth next os (λ os' depth'. code body (bind_operands (firsts entries ++ row_binding_names bindings) os' scope) depth' after)) l own)
+    pub runs : focus ≡ Own (Inside (gather_let bindings scope depth next os (λ os' depth'. code body (bind_operands
+        (firsts entries ++ row_binding_names bindings) os' scope) depth' after)) l own)
     pub knows : Knows env scope depth l own
     pub carries : CarriesAll procs (seconds entries) (values l own os)
     pub below : AllBelow depth os
@@ -128,7 +131,8 @@ module _ {C : Type 0} (procs : List Proc) (mode : Mode C) where
   Taken v (CastFrame cast) focus = (n : ℕ) × (mode.row n ≡ Some cast) × Acts v (λ o. Cast o n) focus
   Taken v (ProjFrame i) focus = Acts v (λ o. Proj o i) focus
   Taken v (OwnFrame (ProjDynFrame i label)) focus = Acts v (λ o. ProjDyn o i (label_id label)) focus
-  Taken v (OwnFrame (GatherFrame job done rest env)) focus = Gathers rest (values_of job (v ∷ done)) (finish_of job) env focus
+  Taken v (OwnFrame (GatherFrame job done rest env)) focus = Gathers rest (values_of job (v ∷ done))
+      (finish_of job) env focus
   Taken v (OwnFrame (LetFrame bound name rest body env)) focus = Binds (onto ((name, v) ∷ bound) []) rest body env focus
   Taken v (PrimFrame op done) focus = ⊥
   Taken v (EnterFrame f done todo) focus = ⊥
@@ -140,11 +144,13 @@ module _ {C : Type 0} (procs : List Proc) (mode : Mode C) where
 
   -- a body waits, or a step on values goes on
   abbrev pub FrameOn : CoerFrame C → FlatFrame C → Type 0
-  FrameOn frame (OwnFrame (Waiting slot body l own)) = (v : CoerValue C) (u : FlatValue C) → Carries procs v u → Taken v frame (Own (Inside body (set_local l slot u) own))
+  FrameOn frame (OwnFrame (Waiting slot body l own)) = (v : CoerValue C) (u : FlatValue C) → Carries procs v u
+      → Taken v frame (Own (Inside body (set_local l slot u) own))
   FrameOn (CastFrame cast) (CastFrame other) = cast ≡ other
   FrameOn (ProjFrame i) (ProjFrame j) = i ≡ j
   FrameOn (PrimFrame op done) (PrimFrame other before) = (op ≡ other) × CarriesAll procs done before
-  FrameOn (EnterFrame f done todo) (EnterFrame g before after) = Carries procs f g × CarriesAll procs done before × Pends todo after
+  FrameOn (EnterFrame f done todo) (EnterFrame g before after) = Carries procs f g × CarriesAll procs done before ×
+      Pends todo after
   FrameOn frame other = ⊥
 
   abbrev pub Wait : List (CoerFrame C) → List (FlatFrame C) → Type 0
@@ -191,7 +197,8 @@ module _ {C : Type 0} (procs : List Proc) (mode : Mode C) where
     pub gives : focus ≡ Return u
     pub carries : Carries procs v u
 
-  pub record Enters (f : CoerValue C) (done : List (CoerValue C)) (todo : List (CoerPending C)) (focus : FlatFocus C) : Type 0 where
+  pub record Enters (f : CoerValue C) (done : List (CoerValue C)) (todo : List (CoerPending C))
+      (focus : FlatFocus C) : Type 0 where
     pub g : FlatValue C
     pub before : List (FlatValue C)
     pub after : List (Pending C FlatCode)
@@ -201,17 +208,23 @@ module _ {C : Type 0} (procs : List Proc) (mode : Mode C) where
     pub pends : Pends todo after
 
   abbrev pub FocusOn : CoerFocus C → List (CoerFrame C) → FlatFocus C → List (FlatFrame C) → Type 0
-  FocusOn (Own (Eval term env)) k focus others = (InCode term env focus × Wait k others) ⊎ IsOperand term env k focus others
+  FocusOn (Own (Eval term env)) k focus others = (InCode term env focus × Wait k others) ⊎ IsOperand term env k focus
+      others
   FocusOn (Return v) k focus others = (IsGiven v focus × Wait k others) ⊎ IsTaken v k focus others
   FocusOn (Entering f done todo) k focus others = Enters f done todo focus × Wait k others
 
   -- ---- what stays as local names are set
 
-  pub knows_later : (env : Env C) (scope : Scope) (depth more : ℕ) (l k : Locals C) (own : Group C) → depth ≤ more → SameBelow depth l k → Knows env scope depth l own → Knows env scope more k own
+  pub knows_later : (env : Env C) (scope : Scope) (depth more : ℕ) (l k : Locals C) (own : Group C) → depth ≤ more
+      → SameBelow depth l k → Knows env scope depth l own → Knows env scope more k own
   knows_later env scope depth more l k own le same h = record {
-    fits = fits_part procs env (means scope l own) (means scope k own) (λ name u e. sym (means_same depth l k own scope name same h.below) ∙ e) h.fits;
+    fits = fits_part procs env (means scope l own) (means scope k own) (λ name u e. sym (means_same depth l k own scope
+        name same h.below) ∙ e) h.fits;
     below = scope_below_more depth more scope le h.below;
   }
 
-  pub carried_later : (vs : List (CoerValue C)) (os : List Operand) (depth : ℕ) (l k : Locals C) (own : Group C) → SameBelow depth l k → AllBelow depth os → CarriesAll procs vs (values l own os) → CarriesAll procs vs (values k own os)
-  carried_later vs os depth l k own same below c = subst (CarriesAll procs vs) (sym (values_same depth l k own os same below)) c
+  pub carried_later : (vs : List (CoerValue C)) (os : List Operand) (depth : ℕ) (l k : Locals C) (own : Group C)
+      → SameBelow depth l k → AllBelow depth os → CarriesAll procs vs (values l own os)
+      → CarriesAll procs vs (values k own os)
+  carried_later vs os depth l k own same below c = subst (CarriesAll procs vs) (sym (values_same depth l k own os same
+      below)) c

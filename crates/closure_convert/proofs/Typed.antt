@@ -1,16 +1,17 @@
 -- A term that reads back to a program term is closed, and fine.
-use Rattle.std.proofs.Common.{◌≡◌, ◌⊎◌, inl, inr, ⊎_elim, ℕ, zero, suc, ◌+◌, ◌≤◌, Bool, true, false, cond, nat_eq, List}
-use Rattle.std.proofs.Common.{[], ◌∷◌, ◌++◌, length, Option, Some, None, slice_get, refl, sym, ap, ◌∙◌, subst, arith, eqb-true}
-use Rattle.std.specs.Int.{int_wrap, w64}
+use Rattle.std.proofs.Common.{◌≡◌, ◌⊎◌, inl, inr, ⊎_elim, ℕ, suc, Bool, true, false, cond, nat_eq, List}
+use Rattle.std.proofs.Common.{[], ◌∷◌, ◌++◌, length, Option, Some, None, slice_get, refl, sym, ap, ◌∙◌, arith}
+use Rattle.std.proofs.Common.{eqb-true}
+use Rattle.std.specs.Int.{w64}
 use Rattle.std.specs.Ordering.{int_eq}
 use Rattle.std.proofs.lemmas.Int.{int_wrap_fits}
 use Rattle.std.proofs.lemmas.Cmp.{int_eq_equiv}
-use Rattle.grift_base.specs.Types.{TypeRow, TypeRows, FunRow, row_at}
+use Rattle.grift_base.specs.Types.{TypeRows, FunRow}
 use Rattle.type_graph.specs.TypeTables.{HaveWidths}
 use Rattle.core_calc.specs.Terms.{both_in_front}
 use Rattle.core_calc.specs.Substitution.{is_among, bind, entry_of}
 use Rattle.core_calc.specs.Typing.{Context, CellType, HasType, HaveTypes, LastHasType, MembersHaveTypes}
-use Rattle.core_calc.specs.Typing.{BindingsHaveTypes, IsFunction, member_types}
+use Rattle.core_calc.specs.Typing.{BindingsHaveTypes, member_types}
 use Rattle.coercion_norm.specs.Modes.{TypeCast}
 use Rattle.coer_core.specs.Terms.{RowTerm, RowTerms, RowMembers, RowBindings, RowInt, RowBool, RowUnit, RowVar}
 use Rattle.coer_core.specs.Terms.{RowLambda, RowGroup, RowLet, RowCall, RowIf, RowSeq, RowCast, RowProj, RowProjDyn}

@@ -11,13 +11,13 @@ use Rattle.coer_core.specs.Counts.{row_member_count}
 use Rattle.flat_ir.specs.declared.code.Operand.{Operand}
 use Rattle.flat_ir.specs.declared.code.Operand.TheVariants.{Local, Captured, Sibling, Int as IntConst}
 use Rattle.flat_ir.specs.declared.code.Operand.TheVariants.{Bool as BoolConst, Unit as UnitConst}
-use Rattle.flat_ir.specs.declared.code.Operation.{Operation}
 use Rattle.flat_ir.specs.declared.code.Operation.TheVariants.{Move, Prim, Cast, Tuple, Proj, ProjDyn}
 use Rattle.flat_ir.specs.Bodies.{Body, Give, Call, Choose, LetBody, LetGroup, Proc}
 
 -- ---- what a function captures
 
--- the captured names of a group whose functions are known by these names: those bound outside it that are free in one of
+-- the captured names of a group whose functions are known by these names: those bound outside it that are free in one
+-- of
 -- its members, each once, in order of first appearance
 abbrev pub captures : List ℕ → RowMembers → List ℕ
 captures names members = each_once (names_besides names (free_names_of_members members))
@@ -39,7 +39,8 @@ nothing_known name = None
 abbrev pub bind_operands : List ℕ → List Operand → Scope → Scope
 bind_operands [] os scope other = scope other
 bind_operands (name ∷ names) [] scope other = scope other
-bind_operands (name ∷ names) (o ∷ os) scope other = cond (nat_eq other name) (Some o) (bind_operands names os scope other)
+bind_operands (name ∷ names) (o ∷ os) scope other = cond (nat_eq other name) (Some o) (bind_operands names os scope
+    other)
 
 -- operands with the numbers from this one on, one for each name
 abbrev pub numbered : (ℕ → Operand) → List ℕ → ℕ → List Operand
@@ -164,7 +165,8 @@ abbrev mutual
   code (RowProjDyn term k label) scope depth next =
       placed (atom term scope) depth (code term scope depth next) (λ o later. Give (ProjDyn o k (label_id label)))
   code (RowTuple parts) scope depth next = gather parts scope depth next [] (λ os. Give (Tuple os))
-  code (RowPrim operator operands) scope depth next = gather operands scope depth next [] (λ os. Give (Prim operator os))
+  code (RowPrim operator operands) scope depth next = gather operands scope depth next [] (λ os. Give
+      (Prim operator os))
 
   -- terms whose operands are gathered behind those that are there
   pub gather : RowTerms → Scope → ℕ → ℕ → List Operand → (List Operand → Body) → Body

@@ -16,8 +16,8 @@ ghost use Rattle.flat_ir.specs.Counts.{flat_run_in};
 ghost use Rattle.closure_convert.specs.Bounds.{CountsKept};
 ghost use Rattle.closure_convert.specs.Conversion.{converted, made};
 
-/// The procedures of a term that reads back to a program term are closed, and no name is free in the term, where no type
-/// is too wide.
+/// The procedures of a term that reads back to a program term are closed where no type is too wide, and no name is free
+/// in the term.
 pub fn procedures_of_program_terms_are_closed()
     ensures closed { (casts : List TypeCast) (types : TypeRows) (labels : ℕ) (term : RowTerm) (type : ℕ)
         → HaveWidths types → ProgramTermHasType types labels (core_of casts term) type
@@ -28,9 +28,9 @@ pub fn procedures_of_program_terms_are_closed()
 {}
 
 /// The run of a term's procedures follows the run of the term with environments, for every term without free names, all
-/// casts and every input, in both modes, where the given run never goes wrong. At moments that correspond both have made
-/// as many wrap steps; the procedures have asked for no more words, have no more active frames, and have made at most two
-/// turns for each turn, and one.
+/// casts and every input, in both modes, where the given run never goes wrong. At moments that correspond both have
+/// made as many wrap steps; the procedures have asked for no more words, have no more active frames, and have made at
+/// most two turns for each turn, and one.
 pub fn procedures_follow_their_term()
     ensures piled { (casts : List TypeCast) (told : Told) (term : RowTerm) (input : List ℕ)
         → ((name : ℕ) → is_among name (free_names term) ≡ false)
