@@ -1,0 +1,10 @@
+mod ProcPlaces
+mod Relation
+mod States
+mod Agreeing
+mod Calling
+mod Simulating
+mod Standing
+mod Fine
+mod Closing
+mod Typed

@@ -1,0 +1,47 @@
+// Laws of closure conversion. Each function has an empty body: its contract is a law, proved for all terms.
+
+ghost use Rattle.std.specs.Prelude.{◌≡◌, false, true, ℕ, List};
+ghost use Rattle.run_laws.specs.Runs.{Any, FollowsBy, NeverWrong};
+ghost use Rattle.type_graph.specs.TypeTables.{HaveWidths};
+ghost use Rattle.grift_base.specs.Types.{TypeRows};
+ghost use Rattle.core_calc.specs.Substitution.{is_among};
+ghost use Rattle.core_calc.specs.Typing.{ProgramTermHasType};
+ghost use Rattle.coercion_norm.specs.AnswerTypes.{Told};
+ghost use Rattle.coercion_norm.specs.MergedMode.{merging};
+ghost use Rattle.coercion_norm.specs.Modes.{TypeCast, piling};
+ghost use Rattle.coer_core.specs.Counts.{free_names, run_in};
+ghost use Rattle.coer_core.specs.Terms.{RowTerm, core_of};
+ghost use Rattle.flat_ir.specs.Closed.{is_closed};
+ghost use Rattle.flat_ir.specs.Counts.{flat_run_in};
+ghost use Rattle.closure_convert.specs.Bounds.{CountsKept};
+ghost use Rattle.closure_convert.specs.Conversion.{converted, made};
+
+/// The procedures of a term that reads back to a program term are closed where no type is too wide, and no name is free
+/// in the term.
+pub fn procedures_of_program_terms_are_closed()
+    ensures closed { (casts : List TypeCast) (types : TypeRows) (labels : ℕ) (term : RowTerm) (type : ℕ)
+        → HaveWidths types → ProgramTermHasType types labels (core_of casts term) type
+        → is_closed (converted term) (made term) ≡ true }
+    ensures names { (casts : List TypeCast) (types : TypeRows) (labels : ℕ) (term : RowTerm) (type : ℕ)
+        → ProgramTermHasType types labels (core_of casts term) type
+        → (name : ℕ) → is_among name (free_names term) ≡ false }
+{}
+
+/// The run of a term's procedures follows the run of the term with environments, for every term without free names, all
+/// casts and every input, in both modes, where the given run never goes wrong. At moments that correspond both have
+/// made as many wrap steps; the procedures have asked for no more words, have no more active frames, and have made at
+/// most two turns for each turn, and one.
+pub fn procedures_follow_their_term()
+    ensures piled { (casts : List TypeCast) (told : Told) (term : RowTerm) (input : List ℕ)
+        → ((name : ℕ) → is_among name (free_names term) ≡ false)
+        → NeverWrong (run_in (piling told.types casts) told term input)
+        → FollowsBy CountsKept Any
+        (flat_run_in (converted term) (made term) (piling told.types casts) told input)
+        (run_in (piling told.types casts) told term input) }
+    ensures merged { (casts : List TypeCast) (told : Told) (term : RowTerm) (input : List ℕ)
+        → ((name : ℕ) → is_among name (free_names term) ≡ false)
+        → NeverWrong (run_in (merging told.types casts) told term input)
+        → FollowsBy CountsKept Any
+        (flat_run_in (converted term) (made term) (merging told.types casts) told input)
+        (run_in (merging told.types casts) told term input) }
+{}

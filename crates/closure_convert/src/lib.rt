@@ -1,0 +1,4 @@
+//! Closure conversion: what the procedures of a term are, and that their run follows the run with environments.
+#![tactic(auto)]
+
+pub mod laws;
