@@ -45,7 +45,7 @@ use Rattle.rt_cast.specs.CoerceCodes.{coerce_code, coerce_heads, coerce_kinds, c
 use Rattle.rt_cast.proofs.Objects.{object_kept, object_behind, chosen_true, AreSmall}
 use Rattle.rt_cast.proofs.Numbers.{eq_true, eq_false, eq_cases, lt_true, lt_false, lt_cases, kind_read, height_read}
 use Rattle.rt_cast.proofs.Numbers.{count_read, header_made, header_small}
-use Rattle.rt_cast.proofs.Steps.{Budget, End, One, More, at_most, WordThere, word_there, Comes, sets_word, loads}
+use Rattle.rt_cast.proofs.Steps.{Budget, One, More, Below, at_most, WordThere, word_there, Comes, sets_word, loads}
 use Rattle.rt_cast.proofs.Steps.{computes, if_true, if_false, builds, calls, tail_calls, comes_back}
 use Rattle.rt_cast.proofs.Small.{grows_not, grows_on, there_still, Tall, HasHeight, not_zero, Gives, raised, finals}
 use Rattle.rt_cast.proofs.Small.{final_word, numbers, C, S}
@@ -217,11 +217,11 @@ module _ {V : Type 0} (walk : Walk V) where
   cast_go x y = TailCall (coerce walk.first) (x ∷ y ∷ Word 5 ∷ [])
 
   -- one part, in its order
-  cast_part : {B : Budget} → (cost : ℕ) (next : ℕ → ℕ → ℕ → Coercion) (from to label : ℕ) → label < 2 ^ 64 → CoerceDoes walk cost from to label (next from to label) → CoerceDoes walk cost to from label (next to from label) → (kind : Kind) (n k : ℕ) (b : Bool) → (k == n) ≡ b → (objects : List Object) (h : Heap) (fine : Fine walk.setting walk.l walk.around objects h) (waiting : List Waiting) (x y : ℕ) → HoldsType walk.l objects x from → HoldsType walk.l objects y to → Answers walk B objects waiting (coercion_part R next (runs_back kind b) from to label) → G6 (More (cost + 4) B) (S6 6 (bind 0 (kind_number kind ∷ n ∷ k ∷ x ∷ y ∷ label ∷ []) no_locals) (part_code cast_go) [] waiting h)
-  cast_part {B = B} cost next from to label small there back kind n k b t objects h fine waiting x y hx hy go =
-      at_most walk (part_runs walk objects h fine waiting cast_go kind n k x y label b t (λ rests. by (runs_back kind b) rests go)) (omega arith)
+  cast_part : {B : Budget} → (cost above : ℕ) (next : ℕ → ℕ → ℕ → Coercion) (from to label : ℕ) → label < 2 ^ 64 → CoerceDoes walk cost above from to label (next from to label) → CoerceDoes walk cost above to from label (next to from label) → (kind : Kind) (n k : ℕ) (b : Bool) → (k == n) ≡ b → (objects : List Object) (h : Heap) (fine : Fine walk.setting walk.l walk.around objects h) (waiting : List Waiting) (x y : ℕ) → HoldsType walk.l objects x from → HoldsType walk.l objects y to → Answers walk B objects waiting (coercion_part R next (runs_back kind b) from to label) → G6 (More (cost + 4) above B) (S6 6 (bind 0 (kind_number kind ∷ n ∷ k ∷ x ∷ y ∷ label ∷ []) no_locals) (part_code cast_go) [] waiting h)
+  cast_part {B = B} cost above next from to label small there back kind n k b t objects h fine waiting x y hx hy go =
+      at_most walk (part_runs walk objects h fine waiting cast_go kind n k x y label b t (λ rests. by (runs_back kind b) rests go)) (omega arith, omega arith)
     where
-      by : (b : Bool) (rests : List Code) → Answers walk B objects waiting (coercion_part R next b from to label) → G6 (One (More cost B)) (S6 6 (bind 0 (kind_number kind ∷ n ∷ k ∷ x ∷ y ∷ label ∷ []) no_locals) (in_order cast_go b) rests waiting h)
+      by : (b : Bool) (rests : List Code) → Answers walk B objects waiting (coercion_part R next b from to label) → G6 (One (More cost above B)) (S6 6 (bind 0 (kind_number kind ∷ n ∷ k ∷ x ∷ y ∷ label ∷ []) no_locals) (in_order cast_go b) rests waiting h)
       by true rests go =
           tail_calls walk objects fine (y ∷ x ∷ label ∷ []) (proc 3 11 (coerce_code walk.first)) refl (walk.stands 0 _ refl) refl
           (back _ objects h fine waiting y x hy hx small go)
@@ -236,17 +236,17 @@ module _ {V : Type 0} (walk : Walk V) where
   type_words type = map walk.l.type_at (parts_of (R type))
 
   -- all parts
-  cast_parts : {B : Budget} → (cost : ℕ) (next : ℕ → ℕ → ℕ → Coercion) (from to label : ℕ) → label < 2 ^ 64 → (kind : Kind) (offset index : ℕ → ℕ) → ((k : ℕ) → offset k ≡ 8 * index k) → (total : ℕ) → total ≤ 8 → total ≡ slots R from
+  cast_parts : {B : Budget} → (cost above : ℕ) (next : ℕ → ℕ → ℕ → Coercion) (from to label : ℕ) → label < 2 ^ 64 → (kind : Kind) (offset index : ℕ → ℕ) → ((k : ℕ) → offset k ≡ 8 * index k) → (total : ℕ) → total ≤ 8 → total ≡ slots R from
       → ((k : ℕ) → k < total → slice_get (type_header from ∷ type_words from) (index k) ≡ Some (walk.l.type_at (slot R k from))) → ((k : ℕ) → k < total → slice_get (type_header to ∷ type_words to) (index k) ≡ Some (walk.l.type_at (slot R k to)))
       → ((k : ℕ) → k < total → slot R k from < (length walk.l.types)) → ((k : ℕ) → k < total → slot R k to < (length walk.l.types))
-      → ((k : ℕ) → k < total → CoerceDoes walk cost (slot R k from) (slot R k to) label (next (slot R k from) (slot R k to) label)) → ((k : ℕ) → k < total → CoerceDoes walk cost (slot R k to) (slot R k from) label (next (slot R k to) (slot R k from) label))
+      → ((k : ℕ) → k < total → CoerceDoes walk cost above (slot R k from) (slot R k to) label (next (slot R k from) (slot R k to) label)) → ((k : ℕ) → k < total → CoerceDoes walk cost above (slot R k to) (slot R k from) label (next (slot R k to) (slot R k from) label))
       → ((k : ℕ) → k < total → coercion_height tall (coercion_part R next (runs_back kind (suc k == total)) (slot R k from) (slot R k to) label) < 65535)
-      → (objects : List Object) (h : Heap) (fine : Fine walk.setting walk.l walk.around objects h) (waiting : List Waiting) (wf wt : ℕ) → HoldsType walk.l objects wf from → HoldsType walk.l objects wt to → Answers walk B objects waiting (middle kind (coerce_parts R next kind from to label (slots R from) 0)) → G6 (More (2 + parts_cost (cost + 4) 8) B) (S6 24 (bind 0 (wf ∷ wt ∷ kind_number kind ∷ total ∷ label ∷ []) no_locals) (middle_code (raise walk.first) (coerce_part walk.first) offset total) [] waiting h)
-  cast_parts {B = B} cost next from to label small kind offset index offsets total few many has1 has2 known1 known2 there back low objects h fine waiting wf wt hf ht go =
-      at_most walk ((middle_made walk (raise walk.first) (coerce_part walk.first) (proc 6 6 (part_code cast_go)) (walk.stands 5 _ refl) (walk.stands 7 _ refl) refl (cost + 4) offset total few objects waiting kind wf wt total label (type_header from) (type_header to) (type_words from) (type_words to) (type_there walk objects wf from hf) (type_there walk objects wt to ht)
+      → (objects : List Object) (h : Heap) (fine : Fine walk.setting walk.l walk.around objects h) (waiting : List Waiting) (wf wt : ℕ) → HoldsType walk.l objects wf from → HoldsType walk.l objects wt to → Answers walk B objects waiting (middle kind (coerce_parts R next kind from to label (slots R from) 0)) → G6 (More (2 + parts_cost (cost + 4) 8) (suc above) B) (S6 24 (bind 0 (wf ∷ wt ∷ kind_number kind ∷ total ∷ label ∷ []) no_locals) (middle_code (raise walk.first) (coerce_part walk.first) offset total) [] waiting h)
+  cast_parts {B = B} cost above next from to label small kind offset index offsets total few many has1 has2 known1 known2 there back low objects h fine waiting wf wt hf ht go =
+      at_most walk ((middle_made walk (raise walk.first) (coerce_part walk.first) (proc 6 6 (part_code cast_go)) (walk.stands 5 _ refl) (walk.stands 7 _ refl) refl (cost + 4) above offset total few objects waiting kind wf wt total label (type_header from) (type_header to) (type_words from) (type_words to) (type_there walk objects wf from hf) (type_there walk objects wt to ht)
           (λ k. coercion_part R next (runs_back kind (suc k == total)) (slot R k from) (slot R k to) label) (λ k. walk.l.type_at (slot R k from)) (λ k. walk.l.type_at (slot R k to)) index offsets has1 has2 low
-          (λ k lt B now h' waiting' grows fine' answers. cast_part cost next (slot R k from) (slot R k to) label small (there k lt) (back k lt) kind total (suc k) (suc k == total) refl now h' fine' waiting' (walk.l.type_at (slot R k from)) (walk.l.type_at (slot R k to)) (record { known = known1 k lt; is = refl }) (record { known = known2 k lt; is = refl }) answers)
-          h fine (subst (λ q. Answers walk B objects waiting (middle kind q)) (sym (cast_list R next kind from to label total total 0 (omega arith) ∙ ap (λ n. coerce_parts R next kind from to label n 0) many)) go))) (let z = parts_less (cost + 4) total 8 few in omega arith)
+          (λ k lt B now h' waiting' grows fine' answers. cast_part cost above next (slot R k from) (slot R k to) label small (there k lt) (back k lt) kind total (suc k) (suc k == total) refl now h' fine' waiting' (walk.l.type_at (slot R k from)) (walk.l.type_at (slot R k to)) (record { known = known1 k lt; is = refl }) (record { known = known2 k lt; is = refl }) answers)
+          h fine (subst (λ q. Answers walk B objects waiting (middle kind q)) (sym (cast_list R next kind from to label total total 0 (omega arith) ∙ ap (λ n. coerce_parts R next kind from to label n 0) many)) go))) ((let z = parts_less (cost + 4) total 8 few in omega arith), omega arith)
 
   abbrev kinds_read : ℕ → ℕ → ℕ → ℕ → ℕ → Locals
   kinds_read wf wt label from to = set_local 6 (type_kind (R to)) (set_local 5 (type_header to) (set_local 4 (type_kind (R from)) (set_local 3 (type_header from) (bind 0 (wf ∷ wt ∷ label ∷ []) no_locals))))
@@ -274,12 +274,12 @@ module _ {V : Type 0} (walk : Walk V) where
   middles_between : {B : Budget} → (n : ℕ) → n ≤ 65534 → BelowC n → (from to label : ℕ) → label < 2 ^ 64 → TypeNoHigher R n from → TypeNoHigher R n to → (kind : Kind) → kind_of (R from) ≡ Some kind → (offset index : ℕ → ℕ) → ((k : ℕ) → offset k ≡ 8 * index k) → (total : ℕ) → total ≤ 8 → total ≡ slots R from → total ≡ slots R to
       → ((k : ℕ) → k < total → slice_get (type_header from ∷ type_words from) (index k) ≡ Some (walk.l.type_at (slot R k from))) → ((k : ℕ) → k < total → slice_get (type_header to ∷ type_words to) (index k) ≡ Some (walk.l.type_at (slot R k to)))
       → ((k : ℕ) → k < total → slot R k from < (length walk.l.types)) → ((k : ℕ) → k < total → slot R k to < (length walk.l.types))
-      → (objects : List Object) (h : Heap) (fine : Fine walk.setting walk.l walk.around objects h) (waiting : List Waiting) (wf wt : ℕ) → HoldsType walk.l objects wf from → HoldsType walk.l objects wt to → Answers walk B objects waiting (coerce_middle R (coerce_below R n) (Some kind) from to label) → G6 (More (all_cost n) B) (S6 24 (bind 0 (wf ∷ wt ∷ kind_number kind ∷ total ∷ label ∷ []) no_locals) (middle_code (raise walk.first) (coerce_part walk.first) offset total) [] waiting h)
+      → (objects : List Object) (h : Heap) (fine : Fine walk.setting walk.l walk.around objects h) (waiting : List Waiting) (wf wt : ℕ) → HoldsType walk.l objects wf from → HoldsType walk.l objects wt to → Answers walk B objects waiting (coerce_middle R (coerce_below R n) (Some kind) from to label) → G6 (More (all_cost n) (suc n) B) (S6 24 (bind 0 (wf ∷ wt ∷ kind_number kind ∷ total ∷ label ∷ []) no_locals) (middle_code (raise walk.first) (coerce_part walk.first) offset total) [] waiting h)
   middles_between zero le below from to label small lf lt kind some offset index offsets total few many1 many2 has1 has2 known1 known2 objects h fine waiting wf wt hf ht go = no_same (sym lf ∙ some)
   middles_between (suc m) le below from to label small lf lt kind some offset index offsets total few many1 many2 has1 has2 known1 known2 objects h fine waiting wf wt hf ht go =
       let down1 : (k : ℕ) → k < total → TypeNoHigher R m (slot R k from) = λ k a. slot_lower R m from k (omega (arith, a, many1)) lf in
       let down2 : (k : ℕ) → k < total → TypeNoHigher R m (slot R k to) = λ k a. slot_lower R m to k (omega (arith, a, many2)) lt in
-      cast_parts (coerce_cost m) (coerce_below R (suc m)) from to label small kind offset index offsets total few many1 has1 has2 known1 known2
+      cast_parts (coerce_cost m) (suc m) (coerce_below R (suc m)) from to label small kind offset index offsets total few many1 has1 has2 known1 known2
           (λ k a. below (slot R k from) (slot R k to) label (down1 k a) (down2 k a))
           (λ k a. below (slot R k to) (slot R k from) label (down2 k a) (down1 k a))
           (λ k a. low_height m (omega (arith, le)) (coercion_part R (coerce_below R (suc m)) (runs_back kind (suc k == total)) (slot R k from) (slot R k to) label) (each (runs_back kind (suc k == total)) (slot R k from) (slot R k to) (down1 k a) (down2 k a)))
@@ -308,7 +308,7 @@ module _ {V : Type 0} (walk : Walk V) where
 
   -- of one head
   alike : {B : Budget} → (n : ℕ) → n ≤ 65534 → BelowC n → (from to label : ℕ) → label < 2 ^ 64 → TypeNoHigher R n from → TypeNoHigher R n to → type_kind (R from) ≡ type_kind (R to) → length (parts_of (R from)) ≡ length (parts_of (R to))
-      → (objects : List Object) (h : Heap) (fine : Fine walk.setting walk.l walk.around objects h) (waiting : List Waiting) (wf wt : ℕ) → HoldsType walk.l objects wf from → HoldsType walk.l objects wt to → Answers walk B objects waiting (coerce_middle R (coerce_below R n) (kind_of (R from)) from to label) → (rests : List Code) → G6 (More (22 + all_cost n) B) (S6 11 (heads_read wf wt label from to) (coerce_alike walk.first) rests waiting h)
+      → (objects : List Object) (h : Heap) (fine : Fine walk.setting walk.l walk.around objects h) (waiting : List Waiting) (wf wt : ℕ) → HoldsType walk.l objects wf from → HoldsType walk.l objects wt to → Answers walk B objects waiting (coerce_middle R (coerce_below R n) (kind_of (R from)) from to label) → (rests : List Code) → G6 (More (22 + all_cost n) (suc n) B) (S6 11 (heads_read wf wt label from to) (coerce_alike walk.first) rests waiting h)
   alike {B = B} n le below from to label small lf lt same long objects h fine waiting wf wt hf ht go rests = by (sort (R from)) (sort (R to))
     where
       L : Locals
@@ -321,12 +321,12 @@ module _ {V : Type 0} (walk : Walk V) where
       n2 = length (parts_of (R to))
       few : n1 ≤ 8
       few = walk.types.narrow from hf.known
-      by : Sort (R from) → Sort (R to) → G6 (More (22 + all_cost n) B) (S6 11 L (coerce_alike walk.first) rests waiting h)
+      by : Sort (R from) → Sort (R to) → G6 (More (22 + all_cost n) (suc n) B) (S6 11 L (coerce_alike walk.first) rests waiting h)
       by (Plain none less) other =
           at_most walk
                 (if_true walk objects fine t 20 refl refl (lt_true t 20 less)
                 (go objects h 0 11 L _ (Number 0) (grows_not objects) fine (subst (λ o. Held walk.l objects (coerce_middle R (coerce_below R n) o from to label) 0) (sym none) refl) refl))
-              (omega arith)
+              (omega arith, omega arith)
       by (Wide kind some num less slots1) (Plain none less2) = absurd (omega (arith, num, less2, same, numbers kind, low_kind kind))
       by (Twice kind some num ge c parts1 slots1) (Plain none less2) = absurd (omega (arith, num, less2, same, ge))
       by (Wide kind some num less slots1) (Twice kind2 some2 num2 ge2 c2 parts2 slots2) = absurd (omega (arith, num, num2, same, less, ge2))
@@ -339,7 +339,7 @@ module _ {V : Type 0} (walk : Walk V) where
                 (if_true walk objects fine (kind_number kind) 11 refl refl (lt_true (kind_number kind) 11 less)
                 (picks walk (coerce_of walk.first) (coerce_part walk.first) coerce_stands objects h fine waiting _ 7 n1 8 _ wf wt (kind_number kind) n1 label (omega arith) few refl refl
                     (middles_between n le below from to label small lf lt kind some each_word suc (λ k. omega arith) n1 few (sym (ap length slots1)) (long ∙ sym (ap length slots2)) (λ k a. slot_got from slots1 k a) (λ k a. slot_got to slots2 k (omega (arith, a, long))) (λ k a. slot_known from hf.known slots1 k a) (λ k a. slot_known to ht.known slots2 k (omega (arith, a, long))) objects h fine waiting wf wt hf ht go')))))
-              (omega arith)
+              (omega arith, omega arith)
       by (Twice kind some num ge c parts1 slots1) (Twice kind2 some2 num2 ge2 c2 parts2 slots2) =
           let go' : Answers walk B objects waiting (coerce_middle R (coerce_below R n) (Some kind) from to label) = subst (λ o. Answers walk B objects waiting (coerce_middle R (coerce_below R n) o from to label)) some go in
           at_most walk
@@ -348,19 +348,19 @@ module _ {V : Type 0} (walk : Walk V) where
                 (if_false walk objects fine (kind_number kind) 11 refl refl (lt_false (kind_number kind) 11 ge)
                 (tail_calls walk objects fine (wf ∷ wt ∷ kind_number kind ∷ 2 ∷ label ∷ []) (proc 5 24 (middle_code (raise walk.first) (coerce_part walk.first) first_word 2)) refl (walk.stands 8 _ refl) refl
                 (middles_between n le below from to label small lf lt kind some first_word (λ k. 1) (λ k. refl) 2 (omega arith) (sym (ap length slots1)) (sym (ap length slots2)) (λ k a. twice_got from c parts1 slots1 k a) (λ k a. twice_got to c2 parts2 slots2 k a) (λ k a. twice_known from c hf.known parts1 slots1 k a) (λ k a. twice_known to c2 ht.known parts2 slots2 k a) objects h fine waiting wf wt hf ht go')))))
-              (omega arith)
+              (omega arith, omega arith)
 
   -- a Fail is built
-  fail_built : {B : Budget} → (label : ℕ) → label < 2 ^ 64 → (objects : List Object) (h : Heap) (fine : Fine walk.setting walk.l walk.around objects h) (waiting : List Waiting) (locals : Locals) (rests : List Code) → locals 2 ≡ Some label → Answers walk B objects waiting (Fail label) → G6 (More 1 B) (S6 11 locals (coerce_fail walk.first) rests waiting h)
+  fail_built : {B : Budget} → (label : ℕ) → label < 2 ^ 64 → (objects : List Object) (h : Heap) (fine : Fine walk.setting walk.l walk.around objects h) (waiting : List Waiting) (locals : Locals) (rests : List Code) → locals 2 ≡ Some label → Answers walk B objects waiting (Fail label) → G6 (More 1 0 B) (S6 11 locals (coerce_fail walk.first) rests waiting h)
   fail_built label small objects h fine waiting locals rests is go =
       at_most walk
-            (builds walk objects fine 4294967304 (label ∷ []) (ap (λ o. and_more (Some 4294967304) (and_more o (Some []))) is) refl (omega arith, (small, tt)) (WholeFail label refl) refl
+            (builds walk objects fine 4294967304 (label ∷ []) (ap (λ o. and_more (Some 4294967304) (and_more o (Some []))) is) (omega arith) (omega arith) (omega arith, (small, tt)) (WholeFail label refl) refl
             (λ h' fine'. go (objects ++ Fixed 4294967304 (label ∷ []) ∷ []) h' h.alloc 11 _ _ (Word 10) (one_more walk objects (Fixed 4294967304 (label ∷ []))) fine' (added walk objects h fine (Fixed 4294967304 (label ∷ []))) refl))
-          (omega arith)
+          (omega arith, omega arith)
 
   -- neither type is Dyn
   solid : {B : Budget} → (n : ℕ) → n ≤ 65534 → BelowC n → (from to label : ℕ) → label < 2 ^ 64 → TypeNoHigher R n from → TypeNoHigher R n to → nat_eq from to ≡ false
-      → (objects : List Object) (h : Heap) (fine : Fine walk.setting walk.l walk.around objects h) (waiting : List Waiting) (wf wt : ℕ) → HoldsType walk.l objects wf from → HoldsType walk.l objects wt to → Answers walk B objects waiting (coerce_solid R (coerce_below R n) from to label) → (rests : List Code) → G6 (More (26 + all_cost n) B) (S6 11 (kinds_read wf wt label from to) (coerce_heads walk.first) rests waiting h)
+      → (objects : List Object) (h : Heap) (fine : Fine walk.setting walk.l walk.around objects h) (waiting : List Waiting) (wf wt : ℕ) → HoldsType walk.l objects wf from → HoldsType walk.l objects wt to → Answers walk B objects waiting (coerce_solid R (coerce_below R n) from to label) → (rests : List Code) → G6 (More (26 + all_cost n) (suc n) B) (S6 11 (kinds_read wf wt label from to) (coerce_heads walk.first) rests waiting h)
   solid {B = B} n le below from to label small lf lt differ objects h fine waiting wf wt hf ht go rests =
       let low1 = walk.types.low from in
       let low2 = walk.types.low to in
@@ -369,31 +369,31 @@ module _ {V : Type 0} (walk : Walk V) where
             (computes walk objects fine (type_header from) 32 (length (parts_of (R from))) refl refl (count_read (type_kind (R from)) (tall from) (length (parts_of (R from))) (let z = type_numbers (R from) in omega arith) (omega (arith, low1))) refl
             (computes walk objects fine (type_header to) 32 (length (parts_of (R to))) refl refl (count_read (type_kind (R to)) (tall to) (length (parts_of (R to))) (let z = type_numbers (R to) in omega arith) (omega (arith, low2))) refl
             (by (type_kind (R from) == type_kind (R to)) refl (length (parts_of (R from)) == length (parts_of (R to))) refl _ (subst (λ b. Answers walk B objects waiting (cond b (coerce_middle R (coerce_below R n) (kind_of (R from)) from to label) (Fail label))) (heads_are (R from) (R to)) go'))))
-          (omega arith)
+          (omega arith, omega arith)
     where
       L : Locals
       L = heads_read wf wt label from to
-      by : (b : Bool) → (type_kind (R from) == type_kind (R to)) ≡ b → (c : Bool) → (length (parts_of (R from)) == length (parts_of (R to))) ≡ c → (rests : List Code) → Answers walk B objects waiting (cond (b && c) (coerce_middle R (coerce_below R n) (kind_of (R from)) from to label) (Fail label)) → G6 (More (24 + all_cost n) B) (S6 11 L (either Eq (Word 4) (Word 6) (either Eq (Word 7) (Word 8) (coerce_alike walk.first) (coerce_fail walk.first)) (coerce_fail walk.first)) rests waiting h)
+      by : (b : Bool) → (type_kind (R from) == type_kind (R to)) ≡ b → (c : Bool) → (length (parts_of (R from)) == length (parts_of (R to))) ≡ c → (rests : List Code) → Answers walk B objects waiting (cond (b && c) (coerce_middle R (coerce_below R n) (kind_of (R from)) from to label) (Fail label)) → G6 (More (24 + all_cost n) (suc n) B) (S6 11 L (either Eq (Word 4) (Word 6) (either Eq (Word 7) (Word 8) (coerce_alike walk.first) (coerce_fail walk.first)) (coerce_fail walk.first)) rests waiting h)
       by false e c f rests go =
           at_most walk
                 (if_false walk objects fine (type_kind (R from)) (type_kind (R to)) refl refl e
                 (fail_built label small objects h fine waiting L _ refl go))
-              (omega arith)
+              (omega arith, omega arith)
       by true e false f rests go =
           at_most walk
                 (if_true walk objects fine (type_kind (R from)) (type_kind (R to)) refl refl e
                 (if_false walk objects fine (length (parts_of (R from))) (length (parts_of (R to))) refl refl f
                 (fail_built label small objects h fine waiting L _ refl go)))
-              (omega arith)
+              (omega arith, omega arith)
       by true e true f rests go =
           at_most walk
                 (if_true walk objects fine (type_kind (R from)) (type_kind (R to)) refl refl e
                 (if_true walk objects fine (length (parts_of (R from))) (length (parts_of (R to))) refl refl f
                 (alike n le below from to label small lf lt (grind (arith, e)) (grind (arith, f)) objects h fine waiting wf wt hf ht go _)))
-              (omega arith)
+              (omega arith, omega arith)
 
   -- from Dyn
-  projected : {B : Budget} → (to label : ℕ) → label < 2 ^ 64 → (objects : List Object) (h : Heap) (fine : Fine walk.setting walk.l walk.around objects h) (waiting : List Waiting) (from wf wt : ℕ) → type_kind (R from) ≡ 19 → HoldsType walk.l objects wt to → Answers walk B objects waiting (Project to label Id) → (rests : List Code) → G6 (More 20 B) (S6 11 (kinds_read wf wt label from to) (coerce_kinds walk.first) rests waiting h)
+  projected : {B : Budget} → (to label : ℕ) → label < 2 ^ 64 → (objects : List Object) (h : Heap) (fine : Fine walk.setting walk.l walk.around objects h) (waiting : List Waiting) (from wf wt : ℕ) → type_kind (R from) ≡ 19 → HoldsType walk.l objects wt to → Answers walk B objects waiting (Project to label Id) → (rests : List Code) → G6 (More 20 1 B) (S6 11 (kinds_read wf wt label from to) (coerce_kinds walk.first) rests waiting h)
   projected to label small objects h fine waiting from wf wt dyn ht go rests =
       let tk = walk.types.low to in
       let H = max 0 (tall to) in
@@ -406,12 +406,12 @@ module _ {V : Type 0} (walk : Walk V) where
             (λ count2 locals2 rests2 a2 is2. comes_back walk objects fine H is2 refl
             (computes walk objects fine H 16 (compute Sll H 16) refl refl refl refl
             (computes walk objects fine (compute Sll H 16) 12884901902 (header 14 H 3) refl refl (header_made 14 H 3 (omega arith) (omega (arith, tk)) (omega arith)) refl
-            (builds walk objects fine (header 14 H 3) (wt ∷ label ∷ 0 ∷ []) refl refl (header_small 14 H 3 (omega arith) (omega (arith, tk)) (omega arith), (type_small walk objects h fine wt to ht, (small, (omega arith, tt)))) (WholeProject wt label 0 0 to (ap (λ n. Fixed (header 14 n 3) (wt ∷ label ∷ 0 ∷ [])) e) ht (IdWord refl refl)) refl
+            (builds walk objects fine (header 14 H 3) (wt ∷ label ∷ 0 ∷ []) refl (omega arith) (omega arith) (header_small 14 H 3 (omega arith) (omega (arith, tk)) (omega arith), (type_small walk objects h fine wt to ht, (small, (omega arith, tt)))) (WholeProject wt label 0 0 to (ap (λ n. Fixed (header 14 n 3) (wt ∷ label ∷ 0 ∷ [])) e) ht (IdWord refl refl)) refl
             (λ h' fine'. go (objects ++ o ∷ []) h' h.alloc 11 _ _ (Word 10) (one_more walk objects o) fine' (wt, 0, subst (λ n. There walk.l (objects ++ o ∷ []) h.alloc (Fixed (header 14 n 3) (wt ∷ label ∷ 0 ∷ []))) e (added walk objects h fine o), type_still walk objects (objects ++ o ∷ []) wt to ht, refl) refl))))))))
-          (omega arith)
+          (omega arith, omega arith)
 
   -- to Dyn
-  injected : {B : Budget} → (from to label : ℕ) → (objects : List Object) (h : Heap) (fine : Fine walk.setting walk.l walk.around objects h) (waiting : List Waiting) (wf wt : ℕ) → (type_kind (R from) == 19) ≡ false → type_kind (R to) ≡ 19 → HoldsType walk.l objects wf from → Answers walk B objects waiting (Inject Id from) → (rests : List Code) → G6 (More 20 B) (S6 11 (kinds_read wf wt label from to) (coerce_kinds walk.first) rests waiting h)
+  injected : {B : Budget} → (from to label : ℕ) → (objects : List Object) (h : Heap) (fine : Fine walk.setting walk.l walk.around objects h) (waiting : List Waiting) (wf wt : ℕ) → (type_kind (R from) == 19) ≡ false → type_kind (R to) ≡ 19 → HoldsType walk.l objects wf from → Answers walk B objects waiting (Inject Id from) → (rests : List Code) → G6 (More 20 1 B) (S6 11 (kinds_read wf wt label from to) (coerce_kinds walk.first) rests waiting h)
   injected from to label objects h fine waiting wf wt other dyn hf go rests =
       let tk = walk.types.low from in
       let H = max 0 (tall from) in
@@ -424,9 +424,9 @@ module _ {V : Type 0} (walk : Walk V) where
             (λ count2 locals2 rests2 a2 is2. comes_back walk objects fine H is2 refl
             (computes walk objects fine H 16 (compute Sll H 16) refl refl refl refl
             (computes walk objects fine (compute Sll H 16) 8589934605 (header 13 H 2) refl refl (header_made 13 H 2 (omega arith) (omega (arith, tk)) (omega arith)) refl
-            (builds walk objects fine (header 13 H 2) (0 ∷ wf ∷ []) refl refl (header_small 13 H 2 (omega arith) (omega (arith, tk)) (omega arith), (omega arith, (type_small walk objects h fine wf from hf, tt))) (WholeInject 0 wf 0 from refl (IdWord refl refl) hf) refl
+            (builds walk objects fine (header 13 H 2) (0 ∷ wf ∷ []) refl (omega arith) (omega arith) (header_small 13 H 2 (omega arith) (omega (arith, tk)) (omega arith), (omega arith, (type_small walk objects h fine wf from hf, tt))) (WholeInject 0 wf 0 from refl (IdWord refl refl) hf) refl
             (λ h' fine'. go (objects ++ o ∷ []) h' h.alloc 11 _ _ (Word 10) (one_more walk objects o) fine' (0, wf, added walk objects h fine o, refl, type_still walk objects (objects ++ o ∷ []) wf from hf) refl)))))))))
-          (omega arith)
+          (omega arith, omega arith)
 
   -- the same type
   same_is_id : (n from to label : ℕ) → from ≡ to → coerce_to R n from to label ≡ Id
@@ -454,25 +454,25 @@ module _ {V : Type 0} (walk : Walk V) where
     where
       entry : LowState
       entry = S6 11 (bind 0 (wf ∷ wt ∷ label ∷ []) no_locals) (coerce_code walk.first) [] waiting h
-      by_dyn : (from == to) ≡ false → (b : Bool) → is_dyn (R from) ≡ b → (c : Bool) → is_dyn (R to) ≡ c → (rests : List Code) → Answers walk B objects waiting (coerce_by R (coerce_below R n) b c from to label) → G6 (More (28 + all_cost n) B) (S6 11 (kinds_read wf wt label from to) (coerce_kinds walk.first) rests waiting h)
+      by_dyn : (from == to) ≡ false → (b : Bool) → is_dyn (R from) ≡ b → (c : Bool) → is_dyn (R to) ≡ c → (rests : List Code) → Answers walk B objects waiting (coerce_by R (coerce_below R n) b c from to label) → G6 (More (28 + all_cost n) (suc n) B) (S6 11 (kinds_read wf wt label from to) (coerce_kinds walk.first) rests waiting h)
       by_dyn differ true e true f rests go = let z = walk.types.one_dyn from to hf.known ht.known e f in absurd (clash (sym (eq_true from to z) ∙ differ))
         where
           clash : true ≡ false → ⊥
           clash q = cc
-      by_dyn differ true e false f rests go = at_most walk (projected to label small objects h fine waiting from wf wt (grind (arith, (dyn_is (R from) ∙ e))) ht go rests) (omega arith)
-      by_dyn differ false e true f rests go = at_most walk (injected from to label objects h fine waiting wf wt (dyn_is (R from) ∙ e) (grind (arith, (dyn_is (R to) ∙ f))) hf go rests) (omega arith)
+      by_dyn differ true e false f rests go = at_most walk (projected to label small objects h fine waiting from wf wt (grind (arith, (dyn_is (R from) ∙ e))) ht go rests) (omega arith, omega arith)
+      by_dyn differ false e true f rests go = at_most walk (injected from to label objects h fine waiting wf wt (dyn_is (R from) ∙ e) (grind (arith, (dyn_is (R to) ∙ f))) hf go rests) (omega arith, omega arith)
       by_dyn differ false e false f rests go =
           at_most walk
                 (if_false walk objects fine (type_kind (R from)) 19 refl refl (dyn_is (R from) ∙ e)
                 (if_false walk objects fine (type_kind (R to)) 19 refl refl (dyn_is (R to) ∙ f)
                 (solid n le below from to label small lf lt differ objects h fine waiting wf wt hf ht go _)))
-              (omega arith)
-      by_same : (from ≡ to) ⊎ ((from == to) ≡ false) → G6 (More (coerce_cost n) B) entry
+              (omega arith, omega arith)
+      by_same : (from ≡ to) ⊎ ((from == to) ≡ false) → G6 (More (coerce_cost n) (suc n) B) entry
       by_same (inl e) =
           at_most walk
                 (if_true walk objects fine wf wt refl refl (eq_true wf wt (hf.is ∙ (ap walk.l.type_at e ∙ sym ht.is)))
                 (go objects h 0 11 _ _ (Number 0) (grows_not objects) fine (subst (λ c. Held walk.l objects c 0) (sym (same_is_id n from to label e)) refl) refl))
-              (let z = enough_cost n in omega arith)
+              ((let z = enough_cost n in omega arith), omega arith)
       by_same (inr differ) =
           let apart : wf ≡ wt → ⊥ = λ q. let z = walk.types.once from to hf.known ht.known (sym hf.is ∙ (q ∙ ht.is)) in grind (arith, z, differ) in
           at_most walk
@@ -482,7 +482,7 @@ module _ {V : Type 0} (walk : Walk V) where
                 (loads walk objects fine wt (type_header to) (type_words to) 0 (type_header to) refl (type_there walk objects wt to ht) refl refl refl
                 (computes walk objects fine (type_header to) 255 (type_kind (R to)) refl refl (kind_read (type_kind (R to)) (tall to) (length (parts_of (R to))) (type_numbers (R to))) refl
                 (by_dyn differ (is_dyn (R from)) refl (is_dyn (R to)) refl _ go))))))
-              (let z = enough_cost n in omega arith)
+              ((let z = enough_cost n in omega arith), omega arith)
 
   pub all_cast : (n : ℕ) → n ≤ 65534 → AllCasts walk n
   all_cast zero le = coerce_at zero le tt

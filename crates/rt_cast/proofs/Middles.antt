@@ -29,7 +29,7 @@ use Rattle.rt_cast.specs.PartCodes.{results, finish_code, parts_code, middle_cod
 use Rattle.rt_cast.proofs.Objects.{object_kept, object_behind, chosen_true, AreSmall}
 use Rattle.rt_cast.proofs.Numbers.{eq_true, eq_false, eq_cases, lt_true, lt_false, lt_cases, kind_read, height_read}
 use Rattle.rt_cast.proofs.Numbers.{header_made, header_small}
-use Rattle.rt_cast.proofs.Steps.{Budget, End, One, More, at_most, WordThere, word_there, Comes, sets_word, loads}
+use Rattle.rt_cast.proofs.Steps.{Budget, One, More, Below, at_most, WordThere, word_there, Comes, sets_word, loads}
 use Rattle.rt_cast.proofs.Steps.{computes, if_true, if_false, builds, calls, comes_back}
 use Rattle.rt_cast.proofs.Small.{grows_not, grows_on, there_still, Tall, HasHeight, not_zero, Gives, raised, numbers}
 use Rattle.rt_cast.proofs.Small.{C, S}
@@ -212,9 +212,9 @@ module _ {V : Type 0} (walk : Walk V) where
   one_more objects o = record { more = o ∷ []; is = refl }
 
   module _ (raise part : ℕ) (p : Proc) (raise_stands : slice_get walk.setting.procs raise ≡ Some (proc 2 3 raise_code)) (part_stands : slice_get walk.setting.procs part ≡ Some p) (takes : ((6 == p.params) && (nat_le p.params 8 && nat_le p.params p.words)) ≡ true) where
-    module _ (cost : ℕ) (offset : ℕ → ℕ) (total : ℕ) (few : total ≤ 8) (objects : List Object) (waiting : List Waiting) (kind : Kind) (x y n extra : ℕ) (hx hy : ℕ) (xs ys : List ℕ) (x_there : There walk.l objects x (Fixed hx xs)) (y_there : There walk.l objects y (Fixed hy ys)) (E : ℕ → Coercion) (X Y index : ℕ → ℕ) (offsets : (k : ℕ) → offset k ≡ 8 * index k) (x_has : (k : ℕ) → k < total → slice_get (hx ∷ xs) (index k) ≡ Some (X k)) (y_has : (k : ℕ) → k < total → slice_get (hy ∷ ys) (index k) ≡ Some (Y k)) (low : (k : ℕ) → k < total → coercion_height (height_in walk.l) (E k) < 65535) where
+    module _ (cost above : ℕ) (offset : ℕ → ℕ) (total : ℕ) (few : total ≤ 8) (objects : List Object) (waiting : List Waiting) (kind : Kind) (x y n extra : ℕ) (hx hy : ℕ) (xs ys : List ℕ) (x_there : There walk.l objects x (Fixed hx xs)) (y_there : There walk.l objects y (Fixed hy ys)) (E : ℕ → Coercion) (X Y index : ℕ → ℕ) (offsets : (k : ℕ) → offset k ≡ 8 * index k) (x_has : (k : ℕ) → k < total → slice_get (hx ∷ xs) (index k) ≡ Some (X k)) (y_has : (k : ℕ) → k < total → slice_get (hy ∷ ys) (index k) ≡ Some (Y k)) (low : (k : ℕ) → k < total → coercion_height (height_in walk.l) (E k) < 65535) where
       abbrev pub PartDoes : ℕ → Type 0
-      PartDoes k = (B : Budget) (now : List Object) (h : Heap) (waiting : List Waiting) → Grows objects now → Fine walk.setting walk.l walk.around now h → Answers B now waiting (E k) → G (More cost B) (S4 p.words (bind 0 (kind_number kind ∷ n ∷ suc k ∷ X k ∷ Y k ∷ extra ∷ []) no_locals) p.code [] waiting h)
+      PartDoes k = (B : Budget) (now : List Object) (h : Heap) (waiting : List Waiting) → Grows objects now → Fine walk.setting walk.l walk.around now h → Answers B now waiting (E k) → G (More cost above B) (S4 p.words (bind 0 (kind_number kind ∷ n ∷ suc k ∷ X k ∷ Y k ∷ extra ∷ []) no_locals) p.code [] waiting h)
 
       record InPlace (now : List Object) (k : ℕ) (L : Locals) : Type 0 where
         x_is : L 0 ≡ Some x
@@ -244,7 +244,7 @@ module _ {V : Type 0} (walk : Walk V) where
       sum_is m k a b = omega (arith, few)
 
       -- all parts are there
-      finished : {B : Budget} → (now : List Object) (h : Heap) (fine : Fine walk.setting walk.l walk.around now h) → Grows objects now → (L : Locals) → InPlace now total L → Answers B objects waiting (middle kind (list_of E total 0)) → (rests : List Code) → G (More 7 B) (S4 24 L (finish_code total) rests waiting h)
+      finished : {B : Budget} → (now : List Object) (h : Heap) (fine : Fine walk.setting walk.l walk.around now h) → Grows objects now → (L : Locals) → InPlace now total L → Answers B objects waiting (middle kind (list_of E total 0)) → (rests : List Code) → G (More 7 0 B) (S4 24 L (finish_code total) rests waiting h)
       finished {B = B} now h fine grows L at go rests = by_some (eq_cases (some_to E total) 0) (by_ids (all_id (list_of E total 0)) refl)
         where
           by_ids : (b : Bool) → all_id (list_of E total 0) ≡ b → (b ≡ true) ⊎ ((all_id (list_of E total 0) ≡ false) × (some_to E total ≡ 0 → ⊥))
@@ -253,13 +253,13 @@ module _ {V : Type 0} (walk : Walk V) where
             where
               clash : true ≡ false → ⊥
               clash q = cc
-          by_some : (some_to E total ≡ 0) ⊎ ((some_to E total == 0) ≡ false) → ((all_id (list_of E total 0) ≡ true) ⊎ ((all_id (list_of E total 0) ≡ false) × (some_to E total ≡ 0 → ⊥))) → G (More 7 B) (S4 24 L (finish_code total) rests waiting h)
+          by_some : (some_to E total ≡ 0) ⊎ ((some_to E total == 0) ≡ false) → ((all_id (list_of E total 0) ≡ true) ⊎ ((all_id (list_of E total 0) ≡ false) × (some_to E total ≡ 0 → ⊥))) → G (More 7 0 B) (S4 24 L (finish_code total) rests waiting h)
           by_some (inl z) ids =
               let e : middle kind (list_of E total 0) ≡ Id = ap (λ b. cond b Id (Middle kind (list_of E total 0))) (all_ids E total 0 total (omega arith) z) in
               at_most walk
                     (if_true walk now fine (some_to E total) 0 at.some refl (eq_true (some_to E total) 0 z)
                     (go now h 0 24 L _ (Number 0) grows fine (subst (λ c. Held walk.l now c 0) (sym e) refl) refl))
-                  (omega arith)
+                  (omega arith, omega arith)
           by_some (inr z) (inl ids) = absurd (clash (sym (ap (λ m. m == 0) (none_to E total 0 total (omega arith) refl ids)) ∙ z))
             where
               clash : true ≡ false → ⊥
@@ -281,9 +281,9 @@ module _ {V : Type 0} (walk : Walk V) where
                     (computes walk now fine s1 16 s2 refl refl refl refl
                     (computes walk now fine s2 (kind_number kind) s3 refl at.kind_is refl refl
                     (computes walk now fine s3 (total * 4294967296 % 2 ^ 64) head refl refl (sum_is m (kind_number kind) lt (numbers kind)) refl
-                    (builds walk now fine head ws (ap (λ o. and_more (Some head) o) (results_are _ at.W total 0 total (omega arith) (λ i lt. skip_five head s3 s2 s1 L i ∙ at.words i lt))) (lt_true (suc (length ws)) 256 (omega (arith, long, few))) (header_small (kind_number kind) (suc m) total (numbers kind) (omega (arith, lt)) (omega (arith, few)), all_small now h fine at.W total 0 (λ i lt. at.held i (omega arith))) (WholeMiddle kind m ws (ap (λ n. Fixed (header (kind_number kind) (suc m) n) ws) (sym long)) (omega (arith, long, few)) (subst (Highest walk.l now ws) (omega (arith, tall)) (highest_words walk.l now (list_of E total 0) ws (all_held now at.W total 0 (λ i lt. at.held i (omega arith)))))) refl
+                    (builds walk now fine head ws (ap (λ o. and_more (Some head) o) (results_are _ at.W total 0 total (omega arith) (λ i lt. skip_five head s3 s2 s1 L i ∙ at.words i lt))) (omega (arith, long, few)) (omega arith) (header_small (kind_number kind) (suc m) total (numbers kind) (omega (arith, lt)) (omega (arith, few)), all_small now h fine at.W total 0 (λ i lt. at.held i (omega arith))) (WholeMiddle kind m ws (ap (λ n. Fixed (header (kind_number kind) (suc m) n) ws) (sym long)) (omega (arith, long, few)) (subst (Highest walk.l now ws) (omega (arith, tall)) (highest_words walk.l now (list_of E total 0) ws (all_held now at.W total 0 (λ i lt. at.held i (omega arith)))))) refl
                     (λ h' fine'. go (now ++ Fixed head ws ∷ []) h' h.alloc 24 _ _ (Word 7) (grows_on objects now (now ++ Fixed head ws ∷ []) grows (one_more now (Fixed head ws))) fine' (subst (λ c. Held walk.l (now ++ Fixed head ws ∷ []) c h.alloc) (sym e) (ws, subst (λ c. There walk.l (now ++ Fixed head ws ∷ []) h.alloc c) (ap₂ (λ a b. Fixed (header (kind_number kind) a b) ws) tall (sym long)) (added now h fine (Fixed head ws)), are_still walk.l now (now ++ Fixed head ws ∷ []) (one_more now (Fixed head ws)) (list_of E total 0) ws (all_held now at.W total 0 (λ i lt. at.held i (omega arith))), omega (arith, long, few))) refl)))))))
-                  (omega arith)
+                  (omega arith, omega arith)
 
       given_words : (k : ℕ) (L : Locals) → suc k % 2 ^ 64 ≡ suc k → L 2 ≡ Some (kind_number kind) → L 3 ≡ Some n → L 4 ≡ Some extra → words_of (set_local 9 (Y k) (set_local 8 (X k) L)) (Word 2 ∷ Word 3 ∷ Number (suc k) ∷ Word 8 ∷ Word 9 ∷ Word 4 ∷ []) ≡ Some (kind_number kind ∷ n ∷ suc k ∷ X k ∷ Y k ∷ extra ∷ [])
       given_words k L e a b c = rw (a, b, c, e) refl
@@ -326,12 +326,12 @@ module _ {V : Type 0} (walk : Walk V) where
               subst (Held walk.l new (E i)) (ap (λ b. if b then w else at.W i) (sym e)) (held_still walk.l now new grows (E i) (at.W i) (at.held i less))
 
       -- the parts from k on
-      parts_go : {B : Budget} → (j k : ℕ) → k + j ≡ total → ((i : ℕ) → i < total → PartDoes i) → (now : List Object) (h : Heap) (fine : Fine walk.setting walk.l walk.around now h) → Grows objects now → (L : Locals) → InPlace now k L → Answers B objects waiting (middle kind (list_of E total 0)) → (rests : List Code) → G (More (parts_cost cost j) B) (S4 24 L (parts_code raise part offset total j k) rests waiting h)
+      parts_go : {B : Budget} → (j k : ℕ) → k + j ≡ total → ((i : ℕ) → i < total → PartDoes i) → (now : List Object) (h : Heap) (fine : Fine walk.setting walk.l walk.around now h) → Grows objects now → (L : Locals) → InPlace now k L → Answers B objects waiting (middle kind (list_of E total 0)) → (rests : List Code) → G (More (parts_cost cost j) (suc above) B) (S4 24 L (parts_code raise part offset total j k) rests waiting h)
       parts_go zero k e does now h fine grows L at go rests =
           let q : k ≡ total = omega arith in
           at_most walk
                 (finished now h fine grows L (subst (λ m. InPlace now m L) q at) go rests)
-              (omega arith)
+              (omega arith, omega arith)
       parts_go (suc j) k e does now h fine grows L at go rests =
           let lt : k < total = omega arith in
           let L1 = set_local 8 (X k) L in
@@ -348,12 +348,12 @@ module _ {V : Type 0} (walk : Walk V) where
                 (computes walk new fine' 0 w (cond (is_id (E k)) 0 1) refl (four_new k (X k) (Y k) w (max (top_to (height_in walk.l) E k) (coercion_height (height_in walk.l) (E k))) L) (is_id_word walk.l new (E k) w (far new h' fine') held) refl
                 (computes walk new fine' (some_to E k) (cond (is_id (E k)) 0 1) (some_to E (suc k)) (five_six k (X k) (Y k) w (max (top_to (height_in walk.l) E k) (coercion_height (height_in walk.l) (E k))) (cond (is_id (E k)) 0 1) L ∙ at.some) refl (let z = some_small E k in let b = bit_small (is_id (E k)) in omega (arith, lt, few)) refl
                 (parts_go j (suc k) (omega arith) does new h' fine' (grows_on objects now new grows grows') _ (next_place now new grows' k w L at held) go rests)))))))))))
-              (omega arith)
+              (omega arith, omega arith)
 
-      pub middle_made : {B : Budget} → ((i : ℕ) → i < total → PartDoes i) → (h : Heap) (fine : Fine walk.setting walk.l walk.around objects h) → Answers B objects waiting (middle kind (list_of E total 0)) → G (More (2 + parts_cost cost total) B) (S4 24 (bind 0 (x ∷ y ∷ kind_number kind ∷ n ∷ extra ∷ []) no_locals) (middle_code raise part offset total) [] waiting h)
+      pub middle_made : {B : Budget} → ((i : ℕ) → i < total → PartDoes i) → (h : Heap) (fine : Fine walk.setting walk.l walk.around objects h) → Answers B objects waiting (middle kind (list_of E total 0)) → G (More (2 + parts_cost cost total) (suc above) B) (S4 24 (bind 0 (x ∷ y ∷ kind_number kind ∷ n ∷ extra ∷ []) no_locals) (middle_code raise part offset total) [] waiting h)
       middle_made does h fine go =
           at_most walk
                 (sets_word walk objects fine 0 refl refl
                 (sets_word walk objects fine 0 refl refl
                 (parts_go total 0 (omega arith) does objects h fine (grows_not objects) _ (record { x_is = refl; y_is = refl; kind_is = refl; n_is = refl; extra_is = refl; top = refl; some = refl; W = λ i. 0; words = λ i lt. absurd (omega arith); held = λ i lt. absurd (omega arith) }) go [])))
-              (omega arith)
+              (omega arith, omega arith)
