@@ -33,7 +33,7 @@ use Rattle.coercion_norm.proofs.Public.{compose_height, coerce_height, final_hei
 use Rattle.coercion_norm.proofs.Public.{height_from_bound, slot_lower}
 use Rattle.rt_cast.specs.Costs.{parts_cost, coerce_cost}
 use Rattle.rt_cast.specs.Objects.{Object, Fixed, object_at, bytes_of_all}
-use Rattle.rt_cast.specs.Held.{Layout, There, header, kind_number, type_kind, Held, AreHeld, HoldsType, TypesStand}
+use Rattle.rt_cast.specs.Held.{HasWidth, Layout, There, header, kind_number, type_kind, Held, AreHeld, HoldsType, TypesStand}
 use Rattle.rt_cast.specs.Held.{rows_in, height_in}
 use Rattle.rt_cast.specs.WholeObjects.{IdWord, WholeFail, WholeInject, WholeProject}
 use Rattle.rt_cast.specs.Procs.{cast_procs, middle_proc, part_proc}
@@ -49,7 +49,7 @@ use Rattle.rt_cast.proofs.Steps.{Budget, One, More, Below, at_most, WordThere, w
 use Rattle.rt_cast.proofs.Steps.{computes, if_true, if_false, builds, calls, tail_calls, comes_back}
 use Rattle.rt_cast.proofs.Small.{grows_not, grows_on, there_still, Tall, HasHeight, not_zero, Gives, raised, finals}
 use Rattle.rt_cast.proofs.Small.{final_word, numbers, C, S}
-use Rattle.rt_cast.proofs.Middles.{list_of, held_still, Answers, far, held_small, added, one_more, PartDoes}
+use Rattle.rt_cast.proofs.Middles.{few_parts, list_of, held_still, Answers, far, held_small, added, one_more, PartDoes}
 use Rattle.rt_cast.proofs.Middles.{middle_made, has_height}
 use Rattle.rt_cast.proofs.Parts.{count, nth, word_at, got, as_many, nth_held, nth_normal, nth_low, follow_at}
 use Rattle.rt_cast.proofs.Parts.{follow_list}
@@ -236,17 +236,17 @@ module _ {V : Type 0} (walk : Walk V) where
   type_words type = map walk.l.type_at (parts_of (R type))
 
   -- all parts
-  cast_parts : {B : Budget} → (cost above : ℕ) (next : ℕ → ℕ → ℕ → Coercion) (from to label : ℕ) → label < 2 ^ 64 → (kind : Kind) (offset index : ℕ → ℕ) → ((k : ℕ) → offset k ≡ 8 * index k) → (total : ℕ) → total ≤ 8 → total ≡ slots R from
+  cast_parts : {B : Budget} → (cost above : ℕ) (next : ℕ → ℕ → ℕ → Coercion) (from to label : ℕ) → label < 2 ^ 64 → (kind : Kind) (offset index : ℕ → ℕ) → ((k : ℕ) → offset k ≡ 8 * index k) → (total : ℕ) → HasWidth walk.l kind total → total ≡ slots R from
       → ((k : ℕ) → k < total → slice_get (type_header from ∷ type_words from) (index k) ≡ Some (walk.l.type_at (slot R k from))) → ((k : ℕ) → k < total → slice_get (type_header to ∷ type_words to) (index k) ≡ Some (walk.l.type_at (slot R k to)))
       → ((k : ℕ) → k < total → slot R k from < (length walk.l.types)) → ((k : ℕ) → k < total → slot R k to < (length walk.l.types))
       → ((k : ℕ) → k < total → CoerceDoes walk cost above (slot R k from) (slot R k to) label (next (slot R k from) (slot R k to) label)) → ((k : ℕ) → k < total → CoerceDoes walk cost above (slot R k to) (slot R k from) label (next (slot R k to) (slot R k from) label))
       → ((k : ℕ) → k < total → coercion_height tall (coercion_part R next (runs_back kind (suc k == total)) (slot R k from) (slot R k to) label) < 65535)
-      → (objects : List Object) (h : Heap) (fine : Fine walk.setting walk.l walk.around objects h) (waiting : List Waiting) (wf wt : ℕ) → HoldsType walk.l objects wf from → HoldsType walk.l objects wt to → Answers walk B objects waiting (middle kind (coerce_parts R next kind from to label (slots R from) 0)) → G6 (More (2 + parts_cost (cost + 4) 8) (suc above) B) (S6 24 (bind 0 (wf ∷ wt ∷ kind_number kind ∷ total ∷ label ∷ []) no_locals) (middle_code (raise walk.first) (coerce_part walk.first) offset total) [] waiting h)
+      → (objects : List Object) (h : Heap) (fine : Fine walk.setting walk.l walk.around objects h) (waiting : List Waiting) (wf wt : ℕ) → HoldsType walk.l objects wf from → HoldsType walk.l objects wt to → Answers walk B objects waiting (middle kind (coerce_parts R next kind from to label (slots R from) 0)) → G6 (More (2 + parts_cost (cost + 4) walk.l.width) (suc above) B) (S6 24 (bind 0 (wf ∷ wt ∷ kind_number kind ∷ total ∷ label ∷ []) no_locals) (middle_code (raise walk.first) (coerce_part walk.first) offset total) [] waiting h)
   cast_parts {B = B} cost above next from to label small kind offset index offsets total few many has1 has2 known1 known2 there back low objects h fine waiting wf wt hf ht go =
-      at_most walk ((middle_made walk (raise walk.first) (coerce_part walk.first) (proc 6 6 (part_code cast_go)) (walk.stands 5 _ refl) (walk.stands 7 _ refl) refl (cost + 4) above offset total few objects waiting kind wf wt total label (type_header from) (type_header to) (type_words from) (type_words to) (type_there walk objects wf from hf) (type_there walk objects wt to ht)
+      at_most walk ((middle_made walk (raise walk.first) (coerce_part walk.first) (proc 6 6 (part_code cast_go)) (walk.stands 5 _ refl) (walk.stands 7 _ refl) refl (cost + 4) above offset total (few_parts kind total few.0) objects waiting kind few wf wt total label (type_header from) (type_header to) (type_words from) (type_words to) (type_there walk objects wf from hf) (type_there walk objects wt to ht)
           (λ k. coercion_part R next (runs_back kind (suc k == total)) (slot R k from) (slot R k to) label) (λ k. walk.l.type_at (slot R k from)) (λ k. walk.l.type_at (slot R k to)) index offsets has1 has2 low
           (λ k lt B now h' waiting' grows fine' answers. cast_part cost above next (slot R k from) (slot R k to) label small (there k lt) (back k lt) kind total (suc k) (suc k == total) refl now h' fine' waiting' (walk.l.type_at (slot R k from)) (walk.l.type_at (slot R k to)) (record { known = known1 k lt; is = refl }) (record { known = known2 k lt; is = refl }) answers)
-          h fine (subst (λ q. Answers walk B objects waiting (middle kind q)) (sym (cast_list R next kind from to label total total 0 (omega arith) ∙ ap (λ n. coerce_parts R next kind from to label n 0) many)) go))) ((let z = parts_less (cost + 4) total 8 few in omega arith), omega arith)
+          h fine (subst (λ q. Answers walk B objects waiting (middle kind q)) (sym (cast_list R next kind from to label total total 0 (omega arith) ∙ ap (λ n. coerce_parts R next kind from to label n 0) many)) go))) ((let z = parts_less (cost + 4) total walk.l.width few.1 in omega arith), omega arith)
 
   abbrev kinds_read : ℕ → ℕ → ℕ → ℕ → ℕ → Locals
   kinds_read wf wt label from to = set_local 6 (type_kind (R to)) (set_local 5 (type_header to) (set_local 4 (type_kind (R from)) (set_local 3 (type_header from) (bind 0 (wf ∷ wt ∷ label ∷ []) no_locals))))
@@ -265,13 +265,13 @@ module _ {V : Type 0} (walk : Walk V) where
   -- the turns of a part
   abbrev below_cost : ℕ → ℕ
   below_cost zero = 0
-  below_cost (suc m) = coerce_cost m
+  below_cost (suc m) = coerce_cost walk.l.width m
 
   -- those of all of them
   abbrev all_cost : ℕ → ℕ
-  all_cost n = 2 + parts_cost (below_cost n + 4) 8
+  all_cost n = 2 + parts_cost (below_cost n + 4) walk.l.width
 
-  middles_between : {B : Budget} → (n : ℕ) → n ≤ 65534 → BelowC n → (from to label : ℕ) → label < 2 ^ 64 → TypeNoHigher R n from → TypeNoHigher R n to → (kind : Kind) → kind_of (R from) ≡ Some kind → (offset index : ℕ → ℕ) → ((k : ℕ) → offset k ≡ 8 * index k) → (total : ℕ) → total ≤ 8 → total ≡ slots R from → total ≡ slots R to
+  middles_between : {B : Budget} → (n : ℕ) → n ≤ 65534 → BelowC n → (from to label : ℕ) → label < 2 ^ 64 → TypeNoHigher R n from → TypeNoHigher R n to → (kind : Kind) → kind_of (R from) ≡ Some kind → (offset index : ℕ → ℕ) → ((k : ℕ) → offset k ≡ 8 * index k) → (total : ℕ) → HasWidth walk.l kind total → total ≡ slots R from → total ≡ slots R to
       → ((k : ℕ) → k < total → slice_get (type_header from ∷ type_words from) (index k) ≡ Some (walk.l.type_at (slot R k from))) → ((k : ℕ) → k < total → slice_get (type_header to ∷ type_words to) (index k) ≡ Some (walk.l.type_at (slot R k to)))
       → ((k : ℕ) → k < total → slot R k from < (length walk.l.types)) → ((k : ℕ) → k < total → slot R k to < (length walk.l.types))
       → (objects : List Object) (h : Heap) (fine : Fine walk.setting walk.l walk.around objects h) (waiting : List Waiting) (wf wt : ℕ) → HoldsType walk.l objects wf from → HoldsType walk.l objects wt to → Answers walk B objects waiting (coerce_middle R (coerce_below R n) (Some kind) from to label) → G6 (More (all_cost n) (suc n) B) (S6 24 (bind 0 (wf ∷ wt ∷ kind_number kind ∷ total ∷ label ∷ []) no_locals) (middle_code (raise walk.first) (coerce_part walk.first) offset total) [] waiting h)
@@ -279,7 +279,7 @@ module _ {V : Type 0} (walk : Walk V) where
   middles_between (suc m) le below from to label small lf lt kind some offset index offsets total few many1 many2 has1 has2 known1 known2 objects h fine waiting wf wt hf ht go =
       let down1 : (k : ℕ) → k < total → TypeNoHigher R m (slot R k from) = λ k a. slot_lower R m from k (omega (arith, a, many1)) lf in
       let down2 : (k : ℕ) → k < total → TypeNoHigher R m (slot R k to) = λ k a. slot_lower R m to k (omega (arith, a, many2)) lt in
-      cast_parts (coerce_cost m) (suc m) (coerce_below R (suc m)) from to label small kind offset index offsets total few many1 has1 has2 known1 known2
+      cast_parts (coerce_cost walk.l.width m) (suc m) (coerce_below R (suc m)) from to label small kind offset index offsets total few many1 has1 has2 known1 known2
           (λ k a. below (slot R k from) (slot R k to) label (down1 k a) (down2 k a))
           (λ k a. below (slot R k to) (slot R k from) label (down2 k a) (down1 k a))
           (λ k a. low_height m (omega (arith, le)) (coercion_part R (coerce_below R (suc m)) (runs_back kind (suc k == total)) (slot R k from) (slot R k to) label) (each (runs_back kind (suc k == total)) (slot R k from) (slot R k to) (down1 k a) (down2 k a)))
@@ -319,8 +319,6 @@ module _ {V : Type 0} (walk : Walk V) where
       n1 = length (parts_of (R from))
       n2 : ℕ
       n2 = length (parts_of (R to))
-      few : n1 ≤ 8
-      few = walk.types.narrow from hf.known
       by : Sort (R from) → Sort (R to) → G6 (More (22 + all_cost n) (suc n) B) (S6 11 L (coerce_alike walk.first) rests waiting h)
       by (Plain none less) other =
           at_most walk
@@ -332,22 +330,24 @@ module _ {V : Type 0} (walk : Walk V) where
       by (Wide kind some num less slots1) (Twice kind2 some2 num2 ge2 c2 parts2 slots2) = absurd (omega (arith, num, num2, same, less, ge2))
       by (Twice kind some num ge c parts1 slots1) (Wide kind2 some2 num2 less2 slots2) = absurd (omega (arith, num, num2, same, ge, less2))
       by (Wide kind some num less slots1) (Wide kind2 some2 num2 less2 slots2) =
+          let wide : HasWidth walk.l kind n1 = subst (λ xs. HasWidth walk.l kind (length xs)) slots1 (walk.types.narrow from hf.known kind some) in
           let go' : Answers walk B objects waiting (coerce_middle R (coerce_below R n) (Some kind) from to label) = subst (λ o. Answers walk B objects waiting (coerce_middle R (coerce_below R n) o from to label)) some go in
           at_most walk
                 (if_false walk objects fine t 20 refl refl (lt_false t 20 (omega (arith, num, low_kind kind)))
                 (computes walk objects fine t 11 (kind_number kind) refl refl (ap (λ k. compute Sub k 11) num ∙ (less_back (kind_number kind) ∙ omega (arith, numbers kind))) refl
                 (if_true walk objects fine (kind_number kind) 11 refl refl (lt_true (kind_number kind) 11 less)
-                (picks walk (coerce_of walk.first) (coerce_part walk.first) coerce_stands objects h fine waiting _ 7 n1 8 _ wf wt (kind_number kind) n1 label (omega arith) few refl refl
-                    (middles_between n le below from to label small lf lt kind some each_word suc (λ k. omega arith) n1 few (sym (ap length slots1)) (long ∙ sym (ap length slots2)) (λ k a. slot_got from slots1 k a) (λ k a. slot_got to slots2 k (omega (arith, a, long))) (λ k a. slot_known from hf.known slots1 k a) (λ k a. slot_known to ht.known slots2 k (omega (arith, a, long))) objects h fine waiting wf wt hf ht go')))))
+                (picks walk (coerce_of walk.first) (coerce_part walk.first) coerce_stands objects h fine waiting _ 7 n1 8 _ wf wt (kind_number kind) n1 label (omega arith) (few_parts kind n1 wide.0) refl refl
+                    (middles_between n le below from to label small lf lt kind some each_word suc (λ k. omega arith) n1 wide (sym (ap length slots1)) (long ∙ sym (ap length slots2)) (λ k a. slot_got from slots1 k a) (λ k a. slot_got to slots2 k (omega (arith, a, long))) (λ k a. slot_known from hf.known slots1 k a) (λ k a. slot_known to ht.known slots2 k (omega (arith, a, long))) objects h fine waiting wf wt hf ht go')))))
               (omega arith, omega arith)
       by (Twice kind some num ge c parts1 slots1) (Twice kind2 some2 num2 ge2 c2 parts2 slots2) =
+          let wide : HasWidth walk.l kind 2 = subst (λ xs. HasWidth walk.l kind (length xs)) slots1 (walk.types.narrow from hf.known kind some) in
           let go' : Answers walk B objects waiting (coerce_middle R (coerce_below R n) (Some kind) from to label) = subst (λ o. Answers walk B objects waiting (coerce_middle R (coerce_below R n) o from to label)) some go in
           at_most walk
                 (if_false walk objects fine t 20 refl refl (lt_false t 20 (omega (arith, num, ge)))
                 (computes walk objects fine t 11 (kind_number kind) refl refl (ap (λ k. compute Sub k 11) num ∙ (less_back (kind_number kind) ∙ omega (arith, numbers kind))) refl
                 (if_false walk objects fine (kind_number kind) 11 refl refl (lt_false (kind_number kind) 11 ge)
                 (tail_calls walk objects fine (wf ∷ wt ∷ kind_number kind ∷ 2 ∷ label ∷ []) (proc 5 24 (middle_code (raise walk.first) (coerce_part walk.first) first_word 2)) refl (walk.stands 8 _ refl) refl
-                (middles_between n le below from to label small lf lt kind some first_word (λ k. 1) (λ k. refl) 2 (omega arith) (sym (ap length slots1)) (sym (ap length slots2)) (λ k a. twice_got from c parts1 slots1 k a) (λ k a. twice_got to c2 parts2 slots2 k a) (λ k a. twice_known from c hf.known parts1 slots1 k a) (λ k a. twice_known to c2 ht.known parts2 slots2 k a) objects h fine waiting wf wt hf ht go')))))
+                (middles_between n le below from to label small lf lt kind some first_word (λ k. 1) (λ k. refl) 2 wide (sym (ap length slots1)) (sym (ap length slots2)) (λ k a. twice_got from c parts1 slots1 k a) (λ k a. twice_got to c2 parts2 slots2 k a) (λ k a. twice_known from c hf.known parts1 slots1 k a) (λ k a. twice_known to c2 ht.known parts2 slots2 k a) objects h fine waiting wf wt hf ht go')))))
               (omega arith, omega arith)
 
   -- a Fail is built
@@ -445,7 +445,7 @@ module _ {V : Type 0} (walk : Walk V) where
       by false false q = chosen_true (nat_eq from to) Id (cond (same_head (R from) (R to)) (coerce_middle R (coerce_below R n) (kind_of (R from)) from to label) (Fail label)) (eq-eqb from to e)
 
   -- entry, tests and all parts
-  enough_cost : (n : ℕ) → 35 + all_cost n ≤ coerce_cost n
+  enough_cost : (n : ℕ) → 35 + all_cost n ≤ coerce_cost walk.l.width n
   enough_cost zero = omega arith
   enough_cost (suc m) = omega arith
 
@@ -467,7 +467,7 @@ module _ {V : Type 0} (walk : Walk V) where
                 (if_false walk objects fine (type_kind (R to)) 19 refl refl (dyn_is (R to) ∙ f)
                 (solid n le below from to label small lf lt differ objects h fine waiting wf wt hf ht go _)))
               (omega arith, omega arith)
-      by_same : (from ≡ to) ⊎ ((from == to) ≡ false) → G6 (More (coerce_cost n) (suc n) B) entry
+      by_same : (from ≡ to) ⊎ ((from == to) ≡ false) → G6 (More (coerce_cost walk.l.width n) (suc n) B) entry
       by_same (inl e) =
           at_most walk
                 (if_true walk objects fine wf wt refl refl (eq_true wf wt (hf.is ∙ (ap walk.l.type_at e ∙ sym ht.is)))

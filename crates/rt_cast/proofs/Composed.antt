@@ -91,10 +91,10 @@ module _ {V : Type 0} (walk : Walk V) where
 
   -- coercions of this height
   abbrev pub All : ℕ → Type 0
-  All n = (c d : Coercion) → IsNormal R c → IsNormal R d → NoHigher R c n → NoHigher R d n → Does (compose_cost n) (suc (suc (suc (suc (4 * n))))) c d (compose_to R n c d)
+  All n = (c d : Coercion) → IsNormal R c → IsNormal R d → NoHigher R c n → NoHigher R d n → Does (compose_cost walk.l.width n) (suc (suc (suc (suc (4 * n))))) c d (compose_to R n c d)
 
   abbrev pub AllCasts : ℕ → Type 0
-  AllCasts n = (from to label : ℕ) → TypeNoHigher R n from → TypeNoHigher R n to → CoerceDoes walk (coerce_cost n) (suc n) from to label (coerce_to R n from to label)
+  AllCasts n = (from to label : ℕ) → TypeNoHigher R n from → TypeNoHigher R n to → CoerceDoes walk (coerce_cost walk.l.width n) (suc n) from to label (coerce_to R n from to label)
 
   -- a Fail follows an object that is neither a Fail nor a Project
   -- more turns may be allowed
@@ -110,7 +110,7 @@ module _ {V : Type 0} (walk : Walk V) where
           (omega arith, omega arith)
 
   -- a middle before Id or a middle
-  middle_flat : (m : ℕ) → suc m ≤ 65534 → All m → (kind : Kind) (cs : Coercions) → IsNormal R (Middle kind cs) → NoHigher R (Middle kind cs) (suc m) → (d : Coercion) → is_flat d ≡ true → IsNormal R d → NoHigher R d (suc m) → Does (both_cost (compose_cost m)) (suc (4 * suc m)) (Middle kind cs) d (after_middle (compose_below R (suc m)) kind cs d)
+  middle_flat : (m : ℕ) → suc m ≤ 65534 → All m → (kind : Kind) (cs : Coercions) → IsNormal R (Middle kind cs) → NoHigher R (Middle kind cs) (suc m) → (d : Coercion) → is_flat d ≡ true → IsNormal R d → NoHigher R d (suc m) → Does (both_cost walk.l.width (compose_cost walk.l.width m)) (suc (4 * suc m)) (Middle kind cs) d (after_middle (compose_below R (suc m)) kind cs d)
   middle_flat m le all kind cs nc lc Id f nd ld = λ B objects h fine waiting wc wd hc hd go.
       at_most walk (id_second walk objects h fine waiting wc wd (kind_number kind) (coercion_height tall (Middle kind cs)) (length hc.0) hc.0 hc.1 (numbers kind) (no_middle kind 14 (inr (omega arith))) (no_middle kind 8 (inl refl)) hd (Middle kind cs) hc go) (omega arith, omega arith)
   middle_flat m le all kind cs nc lc (Fail label) f nd ld = absurd (clash f)
@@ -126,8 +126,8 @@ module _ {V : Type 0} (walk : Walk V) where
       clash : false ≡ true → ⊥
       clash q = cc
   middle_flat m le all kind cs nc lc (Middle other ds) f nd ld =
-      more (both_cost (compose_cost m)) (both_cost (compose_cost m)) (suc (suc (suc (suc (suc (4 * m)))))) (suc (4 * suc m)) (Middle kind cs) (Middle other ds) (after_middle (compose_below R (suc m)) kind cs (Middle other ds))
-          (both walk (compose_cost m) (suc (suc (suc (suc (4 * m))))) (compose_below R (suc m)) kind other cs ds (let z = low_height (suc m) le (Middle kind cs) lc in omega arith) (let z = low_height (suc m) le (Middle other ds) ld in omega arith)
+      more (both_cost walk.l.width (compose_cost walk.l.width m)) (both_cost walk.l.width (compose_cost walk.l.width m)) (suc (suc (suc (suc (suc (4 * m)))))) (suc (4 * suc m)) (Middle kind cs) (Middle other ds) (after_middle (compose_below R (suc m)) kind cs (Middle other ds))
+          (both walk (compose_cost walk.l.width m) (suc (suc (suc (suc (4 * m))))) (compose_below R (suc m)) kind other cs ds (let z = low_height (suc m) le (Middle kind cs) lc in omega arith) (let z = low_height (suc m) le (Middle other ds) ld in omega arith)
           (λ i. all (nth cs i) (nth ds i) (nth_normal R cs nc.1 i) (nth_normal R ds nd.1 i) (nth_low R m cs lc i) (nth_low R m ds ld i))
           (λ i. all (nth ds i) (nth cs i) (nth_normal R ds nd.1 i) (nth_normal R cs nc.1 i) (nth_low R m ds ld i) (nth_low R m cs lc i))
           (λ i. low_height m (omega (arith, le)) (follow_at (compose_below R (suc m)) kind cs ds i) (each (runs_back kind (suc i == count cs)) i))) (omega arith) (omega arith)
@@ -136,13 +136,13 @@ module _ {V : Type 0} (walk : Walk V) where
       each true i = compose_height R m m (nth ds i) (nth cs i) (nth_low R m ds ld i) (nth_low R m cs lc i)
       each false i = compose_height R m m (nth cs i) (nth ds i) (nth_low R m cs lc i) (nth_low R m ds ld i)
 
-  middle_at : (m : ℕ) → suc m ≤ 65534 → All m → (kind : Kind) (cs : Coercions) → IsNormal R (Middle kind cs) → NoHigher R (Middle kind cs) (suc m) → (d : Coercion) → IsNormal R d → NoHigher R d (suc m) → Does (middle_cost (compose_cost m)) (suc (suc (4 * suc m))) (Middle kind cs) d (after_middle (compose_below R (suc m)) kind cs d)
-  middle_at m le all kind cs nc lc Id nd ld = more (both_cost (compose_cost m)) (middle_cost (compose_cost m)) (suc (4 * suc m)) (suc (suc (4 * suc m))) (Middle kind cs) Id (Middle kind cs) (middle_flat m le all kind cs nc lc Id refl nd ld) (omega arith) (omega arith)
+  middle_at : (m : ℕ) → suc m ≤ 65534 → All m → (kind : Kind) (cs : Coercions) → IsNormal R (Middle kind cs) → NoHigher R (Middle kind cs) (suc m) → (d : Coercion) → IsNormal R d → NoHigher R d (suc m) → Does (middle_cost walk.l.width (compose_cost walk.l.width m)) (suc (suc (4 * suc m))) (Middle kind cs) d (after_middle (compose_below R (suc m)) kind cs d)
+  middle_at m le all kind cs nc lc Id nd ld = more (both_cost walk.l.width (compose_cost walk.l.width m)) (middle_cost walk.l.width (compose_cost walk.l.width m)) (suc (4 * suc m)) (suc (suc (4 * suc m))) (Middle kind cs) Id (Middle kind cs) (middle_flat m le all kind cs nc lc Id refl nd ld) (omega arith) (omega arith)
   middle_at m le all kind cs nc lc (Fail label) nd ld = λ B objects h fine waiting wc wd hc hd go.
       at_most walk (fail_second label objects h fine waiting wc wd (kind_number kind) (coercion_height tall (Middle kind cs)) (length hc.0) hc.0 hc.1 (numbers kind) (no_middle kind 14 (inr (omega arith))) (no_middle kind 8 (inl refl)) hd go) (omega arith, omega arith)
-  middle_at m le all kind cs nc lc (Middle other ds) nd ld = more (both_cost (compose_cost m)) (middle_cost (compose_cost m)) (suc (4 * suc m)) (suc (suc (4 * suc m))) (Middle kind cs) (Middle other ds) (after_middle (compose_below R (suc m)) kind cs (Middle other ds)) (middle_flat m le all kind cs nc lc (Middle other ds) refl nd ld) (omega arith) (omega arith)
+  middle_at m le all kind cs nc lc (Middle other ds) nd ld = more (both_cost walk.l.width (compose_cost walk.l.width m)) (middle_cost walk.l.width (compose_cost walk.l.width m)) (suc (4 * suc m)) (suc (suc (4 * suc m))) (Middle kind cs) (Middle other ds) (after_middle (compose_below R (suc m)) kind cs (Middle other ds)) (middle_flat m le all kind cs nc lc (Middle other ds) refl nd ld) (omega arith) (omega arith)
   middle_at m le all kind cs nc lc (Inject g kept) nd ld =
-      more (both_cost (compose_cost m) + 40) (middle_cost (compose_cost m)) (suc (suc (4 * suc m))) (suc (suc (4 * suc m))) (Middle kind cs) (Inject g kept) (after_middle (compose_below R (suc m)) kind cs (Inject g kept)) (onto walk (both_cost (compose_cost m)) (suc (4 * suc m)) kind cs g (after_middle (compose_below R (suc m)) kind cs g) kept (low_height (suc m) le (after_middle (compose_below R (suc m)) kind cs g) (compose_height R (suc m) (suc m) (Middle kind cs) g lc ld.0)) (middle_flat m le all kind cs nc lc g nd.0 nd.1 ld.0)) (omega arith) (omega arith)
+      more (both_cost walk.l.width (compose_cost walk.l.width m) + 40) (middle_cost walk.l.width (compose_cost walk.l.width m)) (suc (suc (4 * suc m))) (suc (suc (4 * suc m))) (Middle kind cs) (Inject g kept) (after_middle (compose_below R (suc m)) kind cs (Inject g kept)) (onto walk (both_cost walk.l.width (compose_cost walk.l.width m)) (suc (4 * suc m)) kind cs g (after_middle (compose_below R (suc m)) kind cs g) kept (low_height (suc m) le (after_middle (compose_below R (suc m)) kind cs g) (compose_height R (suc m) (suc m) (Middle kind cs) g lc ld.0)) (middle_flat m le all kind cs nc lc g nd.0 nd.1 ld.0)) (omega arith) (omega arith)
   middle_at m le all kind cs nc lc (Project wanted label i) nd ld = λ B objects h fine waiting wc wd hc hd go.
       at_most walk
             (reads_both walk objects h fine waiting wc wd (kind_number kind) (coercion_height tall (Middle kind cs)) (length hc.0) hc.0 hc.1 (numbers kind) (no_middle kind 14 (inr (omega arith))) (no_middle kind 8 (inl refl)) 14 (coercion_height tall (Project wanted label i)) 3 (hd.0 ∷ label ∷ hd.1 ∷ []) hd.2 (omega arith)
@@ -156,19 +156,19 @@ module _ {V : Type 0} (walk : Walk V) where
   -- the turns of a part
   abbrev below_cost : ℕ → ℕ
   below_cost zero = 0
-  below_cost (suc m) = compose_cost m
+  below_cost (suc m) = compose_cost walk.l.width m
 
   abbrev Below : ℕ → Type 0
   Below zero = Unit {0}
   Below (suc m) = All m
 
-  middle_by : (n : ℕ) → n ≤ 65534 → Below n → (kind : Kind) (cs : Coercions) (d : Coercion) → IsNormal R (Middle kind cs) → IsNormal R d → NoHigher R (Middle kind cs) n → NoHigher R d n → Does (middle_cost (below_cost n)) (suc (suc (4 * n))) (Middle kind cs) d (compose_to R n (Middle kind cs) d)
+  middle_by : (n : ℕ) → n ≤ 65534 → Below n → (kind : Kind) (cs : Coercions) (d : Coercion) → IsNormal R (Middle kind cs) → IsNormal R d → NoHigher R (Middle kind cs) n → NoHigher R d n → Does (middle_cost walk.l.width (below_cost n)) (suc (suc (4 * n))) (Middle kind cs) d (compose_to R n (Middle kind cs) d)
   middle_by zero le below kind cs d nc nd lc ld = absurd lc
   middle_by (suc m) le below kind cs d nc nd lc ld = middle_at m le below kind cs nc lc d nd ld
 
-  plain_at : (n : ℕ) → n ≤ 65534 → Below n → (c d : Coercion) → is_plain c ≡ true → IsNormal R c → IsNormal R d → NoHigher R c n → NoHigher R d n → Does (middle_cost (below_cost n)) (suc (suc (4 * n))) c d (compose_to R n c d)
-  plain_at n le below Id d e nc nd lc ld = more 1 (middle_cost (below_cost n)) 0 (suc (suc (4 * n))) Id d d (id_first walk d) (omega arith) (omega arith)
-  plain_at n le below (Fail label) d e nc nd lc ld = more 5 (middle_cost (below_cost n)) 0 (suc (suc (4 * n))) (Fail label) d (Fail label) (fail_first walk label d) (omega arith) (omega arith)
+  plain_at : (n : ℕ) → n ≤ 65534 → Below n → (c d : Coercion) → is_plain c ≡ true → IsNormal R c → IsNormal R d → NoHigher R c n → NoHigher R d n → Does (middle_cost walk.l.width (below_cost n)) (suc (suc (4 * n))) c d (compose_to R n c d)
+  plain_at n le below Id d e nc nd lc ld = more 1 (middle_cost walk.l.width (below_cost n)) 0 (suc (suc (4 * n))) Id d d (id_first walk d) (omega arith) (omega arith)
+  plain_at n le below (Fail label) d e nc nd lc ld = more 5 (middle_cost walk.l.width (below_cost n)) 0 (suc (suc (4 * n))) (Fail label) d (Fail label) (fail_first walk label d) (omega arith) (omega arith)
   plain_at n le below (Middle kind cs) d e nc nd lc ld = middle_by n le below kind cs d nc nd lc ld
   plain_at n le below (Inject g kept) d e nc nd lc ld = absurd (clash e)
     where
@@ -193,10 +193,10 @@ module _ {V : Type 0} (walk : Walk V) where
   solid_is : (n kept wanted label : ℕ) → is_dyn (R kept) ≡ false → is_dyn (R wanted) ≡ false → coerce_to R n kept wanted label ≡ coerce_solid R (coerce_below R n) kept wanted label
   solid_is n kept wanted label a b = ap₂ (λ x y. coerce_by R (coerce_below R n) x y kept wanted label) a b
 
-  no_project_at : (n : ℕ) → n ≤ 65534 → AllCasts n → Below n → (c d : Coercion) → is_project c ≡ false → IsNormal R c → IsNormal R d → NoHigher R c n → NoHigher R d n → Does (meet_cost (coerce_cost n) (below_cost n)) (suc (suc (suc (4 * n)))) c d (compose_to R n c d)
-  no_project_at n le casts below Id d f nc nd lc ld = more 1 (meet_cost (coerce_cost n) (below_cost n)) 0 (suc (suc (suc (4 * n)))) Id d d (id_first walk d) (omega arith) (omega arith)
-  no_project_at n le casts below (Fail label) d f nc nd lc ld = more 5 (meet_cost (coerce_cost n) (below_cost n)) 0 (suc (suc (suc (4 * n)))) (Fail label) d (Fail label) (fail_first walk label d) (omega arith) (omega arith)
-  no_project_at n le casts below (Middle kind cs) d f nc nd lc ld = more (middle_cost (below_cost n)) (meet_cost (coerce_cost n) (below_cost n)) (suc (suc (4 * n))) (suc (suc (suc (4 * n)))) (Middle kind cs) d (compose_to R n (Middle kind cs) d) (middle_by n le below kind cs d nc nd lc ld) (omega arith) (omega arith)
+  no_project_at : (n : ℕ) → n ≤ 65534 → AllCasts n → Below n → (c d : Coercion) → is_project c ≡ false → IsNormal R c → IsNormal R d → NoHigher R c n → NoHigher R d n → Does (meet_cost walk.l.width (coerce_cost walk.l.width n) (below_cost n)) (suc (suc (suc (4 * n)))) c d (compose_to R n c d)
+  no_project_at n le casts below Id d f nc nd lc ld = more 1 (meet_cost walk.l.width (coerce_cost walk.l.width n) (below_cost n)) 0 (suc (suc (suc (4 * n)))) Id d d (id_first walk d) (omega arith) (omega arith)
+  no_project_at n le casts below (Fail label) d f nc nd lc ld = more 5 (meet_cost walk.l.width (coerce_cost walk.l.width n) (below_cost n)) 0 (suc (suc (suc (4 * n)))) (Fail label) d (Fail label) (fail_first walk label d) (omega arith) (omega arith)
+  no_project_at n le casts below (Middle kind cs) d f nc nd lc ld = more (middle_cost walk.l.width (below_cost n)) (meet_cost walk.l.width (coerce_cost walk.l.width n) (below_cost n)) (suc (suc (4 * n))) (suc (suc (suc (4 * n)))) (Middle kind cs) d (compose_to R n (Middle kind cs) d) (middle_by n le below kind cs d nc nd lc ld) (omega arith) (omega arith)
   no_project_at n le casts below (Inject g kept) Id f nc nd lc ld = λ B objects h fine waiting wc wd hc hd go. at_most walk ((id_second walk objects h fine waiting wc wd 13 (coercion_height tall (Inject g kept)) 2 (hc.0 ∷ hc.1 ∷ []) hc.2 (omega arith) refl refl hd (Inject g kept) hc go)) (omega arith, omega arith)
   no_project_at n le casts below (Inject g kept) (Fail label) f nc nd lc ld = λ B objects h fine waiting wc wd hc hd go. at_most walk ((fail_second label objects h fine waiting wc wd 13 (coercion_height tall (Inject g kept)) 2 (hc.0 ∷ hc.1 ∷ []) hc.2 (omega arith) refl refl hd go)) (omega arith, omega arith)
   no_project_at n le casts below (Inject g kept) (Middle kind ds) f nc nd lc ld = λ B objects h fine waiting wc wd hc hd go. at_most walk ((lost objects h fine waiting wc wd (coercion_height tall (Inject g kept)) (hc.0 ∷ hc.1 ∷ []) hc.2 (kind_number kind) (coercion_height tall (Middle kind ds)) (length hd.0) hd.0 hd.1 (numbers kind) (no_middle kind 8 (inl refl)) (no_middle kind 14 (inr (omega arith))) go)) (omega arith, omega arith)
@@ -214,20 +214,20 @@ module _ {V : Type 0} (walk : Walk V) where
       let q1 : e2 ≡ after_inner (compose_below R n) e1 i = follow_plain (compose_below R n) (coerce_solid R (coerce_below R n)) e1 i plain1 in
       let q2 : compose_to R n g e2 ≡ after_inner (compose_below R n) g e2 = follow_plain (compose_below R n) (coerce_solid R (coerce_below R n)) g e2 plain2 in
       let q : compose_to R n g e2 ≡ compose_to R n (Inject g kept) (Project wanted label i) = q2 ∙ ap (λ x. after_inner (compose_below R n) g x) (q1 ∙ ap (λ x. after_inner (compose_below R n) x i) solid) in
-      subst (λ e. Does (meet_cost (coerce_cost n) (below_cost n)) (suc (suc (suc (4 * n)))) (Inject g kept) (Project wanted label i) e) q
-          (meets walk (coerce_cost n) (middle_cost (below_cost n)) (middle_cost (below_cost n)) (suc (suc (4 * n))) g kept wanted label i e1 e2 (compose_to R n g e2) (λ B objects h fine waiting wf wt hf ht small go. at_most walk (casts kept wanted label lc.1 ld.0 B objects h fine waiting wf wt hf ht small go) (omega arith, omega arith)) (plain_at n le below e1 i plain1 n1 nd.2 l1 ld.1) (plain_at n le below g e2 plain2 nc.1 n2 lc.0 l2))
+      subst (λ e. Does (meet_cost walk.l.width (coerce_cost walk.l.width n) (below_cost n)) (suc (suc (suc (4 * n)))) (Inject g kept) (Project wanted label i) e) q
+          (meets walk (coerce_cost walk.l.width n) (middle_cost walk.l.width (below_cost n)) (middle_cost walk.l.width (below_cost n)) (suc (suc (4 * n))) g kept wanted label i e1 e2 (compose_to R n g e2) (λ B objects h fine waiting wf wt hf ht small go. at_most walk (casts kept wanted label lc.1 ld.0 B objects h fine waiting wf wt hf ht small go) (omega arith, omega arith)) (plain_at n le below e1 i plain1 n1 nd.2 l1 ld.1) (plain_at n le below g e2 plain2 nc.1 n2 lc.0 l2))
   no_project_at n le casts below (Project wanted label i) d f nc nd lc ld = absurd (clash f)
     where
       clash : true ≡ false → ⊥
       clash q = cc
 
-  all_at : (n : ℕ) → n ≤ 65534 → AllCasts n → Below n → (c d : Coercion) → IsNormal R c → IsNormal R d → NoHigher R c n → NoHigher R d n → Does (meet_cost (coerce_cost n) (below_cost n) + 45) (suc (suc (suc (suc (4 * n))))) c d (compose_to R n c d)
-  all_at n le casts below Id d nc nd lc ld = more (meet_cost (coerce_cost n) (below_cost n)) (meet_cost (coerce_cost n) (below_cost n) + 45) (suc (suc (suc (4 * n)))) (suc (suc (suc (suc (4 * n))))) Id d (compose_to R n Id d) (no_project_at n le casts below Id d refl nc nd lc ld) (omega arith) (omega arith)
-  all_at n le casts below (Fail label) d nc nd lc ld = more (meet_cost (coerce_cost n) (below_cost n)) (meet_cost (coerce_cost n) (below_cost n) + 45) (suc (suc (suc (4 * n)))) (suc (suc (suc (suc (4 * n))))) (Fail label) d (compose_to R n (Fail label) d) (no_project_at n le casts below (Fail label) d refl nc nd lc ld) (omega arith) (omega arith)
-  all_at n le casts below (Middle kind cs) d nc nd lc ld = more (meet_cost (coerce_cost n) (below_cost n)) (meet_cost (coerce_cost n) (below_cost n) + 45) (suc (suc (suc (4 * n)))) (suc (suc (suc (suc (4 * n))))) (Middle kind cs) d (compose_to R n (Middle kind cs) d) (no_project_at n le casts below (Middle kind cs) d refl nc nd lc ld) (omega arith) (omega arith)
-  all_at n le casts below (Inject g kept) d nc nd lc ld = more (meet_cost (coerce_cost n) (below_cost n)) (meet_cost (coerce_cost n) (below_cost n) + 45) (suc (suc (suc (4 * n)))) (suc (suc (suc (suc (4 * n))))) (Inject g kept) d (compose_to R n (Inject g kept) d) (no_project_at n le casts below (Inject g kept) d refl nc nd lc ld) (omega arith) (omega arith)
+  all_at : (n : ℕ) → n ≤ 65534 → AllCasts n → Below n → (c d : Coercion) → IsNormal R c → IsNormal R d → NoHigher R c n → NoHigher R d n → Does (meet_cost walk.l.width (coerce_cost walk.l.width n) (below_cost n) + 45) (suc (suc (suc (suc (4 * n))))) c d (compose_to R n c d)
+  all_at n le casts below Id d nc nd lc ld = more (meet_cost walk.l.width (coerce_cost walk.l.width n) (below_cost n)) (meet_cost walk.l.width (coerce_cost walk.l.width n) (below_cost n) + 45) (suc (suc (suc (4 * n)))) (suc (suc (suc (suc (4 * n))))) Id d (compose_to R n Id d) (no_project_at n le casts below Id d refl nc nd lc ld) (omega arith) (omega arith)
+  all_at n le casts below (Fail label) d nc nd lc ld = more (meet_cost walk.l.width (coerce_cost walk.l.width n) (below_cost n)) (meet_cost walk.l.width (coerce_cost walk.l.width n) (below_cost n) + 45) (suc (suc (suc (4 * n)))) (suc (suc (suc (suc (4 * n))))) (Fail label) d (compose_to R n (Fail label) d) (no_project_at n le casts below (Fail label) d refl nc nd lc ld) (omega arith) (omega arith)
+  all_at n le casts below (Middle kind cs) d nc nd lc ld = more (meet_cost walk.l.width (coerce_cost walk.l.width n) (below_cost n)) (meet_cost walk.l.width (coerce_cost walk.l.width n) (below_cost n) + 45) (suc (suc (suc (4 * n)))) (suc (suc (suc (suc (4 * n))))) (Middle kind cs) d (compose_to R n (Middle kind cs) d) (no_project_at n le casts below (Middle kind cs) d refl nc nd lc ld) (omega arith) (omega arith)
+  all_at n le casts below (Inject g kept) d nc nd lc ld = more (meet_cost walk.l.width (coerce_cost walk.l.width n) (below_cost n)) (meet_cost walk.l.width (coerce_cost walk.l.width n) (below_cost n) + 45) (suc (suc (suc (4 * n)))) (suc (suc (suc (suc (4 * n))))) (Inject g kept) d (compose_to R n (Inject g kept) d) (no_project_at n le casts below (Inject g kept) d refl nc nd lc ld) (omega arith) (omega arith)
   all_at n le casts below (Project wanted label i) d nc nd lc ld =
-      projects walk (meet_cost (coerce_cost n) (below_cost n)) (suc (suc (suc (4 * n)))) wanted label i d (compose_to R n i d) (low_height n le (final (compose_to R n i d)) (final_height R n (compose_to R n i d) (compose_height R n n i d lc.1 ld))) (no_project_at n le casts below i d nc.1 nc.2 nd lc.1 ld)
+      projects walk (meet_cost walk.l.width (coerce_cost walk.l.width n) (below_cost n)) (suc (suc (suc (4 * n)))) wanted label i d (compose_to R n i d) (low_height n le (final (compose_to R n i d)) (final_height R n (compose_to R n i d) (compose_height R n n i d lc.1 ld))) (no_project_at n le casts below i d nc.1 nc.2 nd lc.1 ld)
 
   pub all_composed : ((n : ℕ) → n ≤ 65534 → AllCasts n) → (n : ℕ) → n ≤ 65534 → All n
   all_composed casts zero le = all_at zero le (casts zero le) tt

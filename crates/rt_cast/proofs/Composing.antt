@@ -30,7 +30,7 @@ use Rattle.coercion_norm.proofs.Public.{compose_height, coerce_height, final_hei
 use Rattle.coercion_norm.proofs.Public.{height_from_bound}
 use Rattle.rt_cast.specs.Costs.{parts_cost, both_cost}
 use Rattle.rt_cast.specs.Objects.{Object, Fixed, object_at, bytes_of_all}
-use Rattle.rt_cast.specs.Held.{Layout, There, header, kind_number, type_kind, Held, AreHeld, HoldsType, TypesStand}
+use Rattle.rt_cast.specs.Held.{HasWidth, Layout, There, header, kind_number, type_kind, Held, AreHeld, HoldsType, TypesStand}
 use Rattle.rt_cast.specs.Held.{rows_in, height_in}
 use Rattle.rt_cast.specs.WholeObjects.{WholeInject, WholeProject}
 use Rattle.rt_cast.specs.Procs.{cast_procs, middle_proc, part_proc}
@@ -46,7 +46,7 @@ use Rattle.rt_cast.proofs.Steps.{Budget, One, More, Below, at_most, WordThere, w
 use Rattle.rt_cast.proofs.Steps.{loads, computes, if_true, if_false, builds, calls, tail_calls, comes_back}
 use Rattle.rt_cast.proofs.Small.{grows_not, grows_on, there_still, Tall, HasHeight, not_zero, Gives, raised, finals}
 use Rattle.rt_cast.proofs.Small.{final_word, numbers, C, S}
-use Rattle.rt_cast.proofs.Middles.{list_of, held_still, Answers, far, held_small, added, one_more, PartDoes}
+use Rattle.rt_cast.proofs.Middles.{few_parts, list_of, held_still, Answers, far, held_small, added, one_more, PartDoes}
 use Rattle.rt_cast.proofs.Middles.{middle_made, has_height, coercion_word}
 use Rattle.rt_cast.proofs.Parts.{count, nth, word_at, got, as_many, nth_held, nth_normal, nth_low, follow_at}
 use Rattle.rt_cast.proofs.Parts.{follow_list}
@@ -82,6 +82,24 @@ kinds_same VecKind FunKind = refl
 kinds_same VecKind TupKind = refl
 kinds_same VecKind RefKind = refl
 kinds_same VecKind VecKind = refl
+
+pub kind_is : (kind other : Kind) → same_kind kind other ≡ true → kind ≡ other
+kind_is FunKind FunKind e = refl
+kind_is FunKind TupKind e = absurd (let z : ⊥ = cc in z)
+kind_is FunKind RefKind e = absurd (let z : ⊥ = cc in z)
+kind_is FunKind VecKind e = absurd (let z : ⊥ = cc in z)
+kind_is TupKind FunKind e = absurd (let z : ⊥ = cc in z)
+kind_is TupKind TupKind e = refl
+kind_is TupKind RefKind e = absurd (let z : ⊥ = cc in z)
+kind_is TupKind VecKind e = absurd (let z : ⊥ = cc in z)
+kind_is RefKind FunKind e = absurd (let z : ⊥ = cc in z)
+kind_is RefKind TupKind e = absurd (let z : ⊥ = cc in z)
+kind_is RefKind RefKind e = refl
+kind_is RefKind VecKind e = absurd (let z : ⊥ = cc in z)
+kind_is VecKind FunKind e = absurd (let z : ⊥ = cc in z)
+kind_is VecKind TupKind e = absurd (let z : ⊥ = cc in z)
+kind_is VecKind RefKind e = absurd (let z : ⊥ = cc in z)
+kind_is VecKind VecKind e = refl
 
 -- no kind of a middle is another kind
 pub no_middle : (kind : Kind) (k : ℕ) → (k ≡ 8) ⊎ (13 ≤ k) → (kind_number kind == k) ≡ false
@@ -394,7 +412,7 @@ module _ {V : Type 0} (walk : Walk V) where
           tail_calls walk objects fine (x ∷ y ∷ []) (proc 2 12 (compose_code walk.first)) refl (walk.stands 1 _ refl) refl
           (there _ objects h fine waiting x y hx hy go)
 
-  pub both : (cost above : ℕ) (next : Coercion → Coercion → Coercion) → (kind other : Kind) (cs ds : Coercions) → coercion_height th (Middle kind cs) < 65536 → coercion_height th (Middle other ds) < 65536 → ((i : ℕ) → ComposeDoes cost above (nth cs i) (nth ds i) (next (nth cs i) (nth ds i))) → ((i : ℕ) → ComposeDoes cost above (nth ds i) (nth cs i) (next (nth ds i) (nth cs i))) → ((i : ℕ) → coercion_height th (follow_at next kind cs ds i) < 65535) → ComposeDoes (both_cost cost) (suc above) (Middle kind cs) (Middle other ds) (cond (same_kind kind other) (middle kind (follow_parts next kind cs ds)) Id)
+  pub both : (cost above : ℕ) (next : Coercion → Coercion → Coercion) → (kind other : Kind) (cs ds : Coercions) → coercion_height th (Middle kind cs) < 65536 → coercion_height th (Middle other ds) < 65536 → ((i : ℕ) → ComposeDoes cost above (nth cs i) (nth ds i) (next (nth cs i) (nth ds i))) → ((i : ℕ) → ComposeDoes cost above (nth ds i) (nth cs i) (next (nth ds i) (nth cs i))) → ((i : ℕ) → coercion_height th (follow_at next kind cs ds i) < 65535) → ComposeDoes (both_cost walk.l.width cost) (suc above) (Middle kind cs) (Middle other ds) (cond (same_kind kind other) (middle kind (follow_parts next kind cs ds)) Id)
   both cost above next kind other cs ds low1 low2 there back low B objects h fine waiting wc wd hc hd go =
       at_most walk
             (reads_both objects h fine waiting wc wd (kind_number kind) (coercion_height th (Middle kind cs)) (length hc.0) hc.0 hc.1 (numbers kind) (no_middle kind 14 (inr (omega arith))) (no_middle kind 8 (inl refl)) (kind_number other) (coercion_height th (Middle other ds)) (length hd.0) hd.0 hd.1 (numbers other)
@@ -414,15 +432,15 @@ module _ {V : Type 0} (walk : Walk V) where
       n2 = length hd.0
       L : Locals
       L = both_read wc wd (header (kind_number kind) y1 n1) (kind_number kind) (header (kind_number other) y2 n2) (kind_number other)
-      made : (r : ℕ) → r ≤ 8 → r ≤ n1 → r ≤ n2 → r ≡ min n1 n2 → Answers walk B objects waiting (middle kind (follow_parts next kind cs ds)) → G5 (More (2 + parts_cost (cost + 4) 8) (suc above) B) (S5 24 (bind 0 (wc ∷ wd ∷ kind_number kind ∷ n1 ∷ 0 ∷ []) no_locals) (middle_code (raise walk.first) (part walk.first) each_word r) [] waiting h)
-      made r le8 le1 le2 e go =
+      made : (r : ℕ) → HasWidth walk.l kind r → r ≤ n1 → r ≤ n2 → r ≡ min n1 n2 → Answers walk B objects waiting (middle kind (follow_parts next kind cs ds)) → G5 (More (2 + parts_cost (cost + 4) walk.l.width) (suc above) B) (S5 24 (bind 0 (wc ∷ wd ∷ kind_number kind ∷ n1 ∷ 0 ∷ []) no_locals) (middle_code (raise walk.first) (part walk.first) each_word r) [] waiting h)
+      made r wide le1 le2 e go =
           let c1 : count cs ≡ n1 = as_many walk.l objects cs hc.0 hc.2 in
           let c2 : count ds ≡ n2 = as_many walk.l objects ds hd.0 hd.2 in
           let m : list_of (follow_at next kind cs ds) r 0 ≡ follow_parts next kind cs ds = follow_list next kind (follow_at next kind cs ds) cs ds 0 r (omega (arith, c1, c2)) (λ i lt. let z : 0 + i ≡ i = omega arith in ap (follow_at next kind cs ds) z) in
-          at_most walk ((middle_made walk (raise walk.first) (part walk.first) (part_proc walk.first) (walk.stands 5 _ refl) (walk.stands 4 _ refl) refl (cost + 4) above each_word r (omega (arith, hc.3)) objects waiting kind wc wd n1 0 (header (kind_number kind) y1 n1) (header (kind_number other) y2 n2) hc.0 hd.0 hc.1 hd.1 (follow_at next kind cs ds) (word_at hc.0) (word_at hd.0) suc (λ k. omega arith) (λ k lt. got hc.0 k (omega arith)) (λ k lt. got hd.0 k (omega arith)) (λ k lt. low k)
+          at_most walk ((middle_made walk (raise walk.first) (part walk.first) (part_proc walk.first) (walk.stands 5 _ refl) (walk.stands 4 _ refl) refl (cost + 4) above each_word r (few_parts kind r wide.0) objects waiting kind wide wc wd n1 0 (header (kind_number kind) y1 n1) (header (kind_number other) y2 n2) hc.0 hd.0 hc.1 hd.1 (follow_at next kind cs ds) (word_at hc.0) (word_at hd.0) suc (λ k. omega arith) (λ k lt. got hc.0 k (omega arith)) (λ k lt. got hd.0 k (omega arith)) (λ k lt. low k)
               (λ k lt B now h' waiting' grows fine' answers. part_done cost above next (nth cs k) (nth ds k) (there k) (back k) kind n1 (suc k) 0 (suc k == count cs) (ap (λ n. suc k == n) (sym c1)) now h' fine' waiting' (word_at hc.0 k) (word_at hd.0 k) (held_still walk.l objects now grows (nth cs k) (word_at hc.0 k) (nth_held walk.l objects cs hc.0 hc.2 k (omega arith))) (held_still walk.l objects now grows (nth ds k) (word_at hd.0 k) (nth_held walk.l objects ds hd.0 hd.2 k (omega arith))) answers)
-              h fine (subst (λ q. Answers walk B objects waiting (middle kind q)) (sym m) go))) ((let z = parts_less (cost + 4) r 8 le8 in omega arith), omega arith)
-      by_kind : (b : Bool) → same_kind kind other ≡ b → (rests : List Code) → G5 (More (32 + parts_cost (cost + 4) 8) (suc above) B) (S5 12 L (either Eq (Word 3) (Word 5) (compose_both walk.first) (Return (Number 0))) rests waiting h)
+              h fine (subst (λ q. Answers walk B objects waiting (middle kind q)) (sym m) go))) ((let z = parts_less (cost + 4) r walk.l.width wide.1 in omega arith), omega arith)
+      by_kind : (b : Bool) → same_kind kind other ≡ b → (rests : List Code) → G5 (More (32 + parts_cost (cost + 4) walk.l.width) (suc above) B) (S5 12 L (either Eq (Word 3) (Word 5) (compose_both walk.first) (Return (Number 0))) rests waiting h)
       by_kind false e rests =
           at_most walk
                 (if_false walk objects fine (kind_number kind) (kind_number other) refl refl (kinds_same kind other ∙ e)
@@ -435,7 +453,7 @@ module _ {V : Type 0} (walk : Walk V) where
                 (computes walk objects fine (header (kind_number kind) y1 n1) 32 n1 refl refl (count_read (kind_number kind) y1 n1 (let z = numbers kind in omega arith) low1) refl
                 (computes walk objects fine (header (kind_number other) y2 n2) 32 n2 refl refl (count_read (kind_number other) y2 n2 (let z = numbers other in omega arith) low2) refl
                 (elim (lt_cases n1 n2) [
-                    inl lt ↦ if_true walk objects fine n1 n2 refl refl (lt_true n1 n2 lt) (picks (middle_of walk.first) (part walk.first) middle_stands objects h fine waiting _ 6 n1 8 _ wc wd (kind_number kind) n1 0 (omega arith) hc.3 refl refl (made n1 hc.3 (omega arith) (omega (arith, lt)) (omega (arith, lt)) go'))
-                  | inr ge ↦ if_false walk objects fine n1 n2 refl refl (lt_false n1 n2 ge) (picks (middle_of walk.first) (part walk.first) middle_stands objects h fine waiting _ 7 n2 8 _ wc wd (kind_number kind) n1 0 (omega arith) hd.3 refl refl (made n2 hd.3 (omega (arith, ge)) (omega arith) (omega (arith, ge)) go'))
+                    inl lt ↦ if_true walk objects fine n1 n2 refl refl (lt_true n1 n2 lt) (picks (middle_of walk.first) (part walk.first) middle_stands objects h fine waiting _ 6 n1 8 _ wc wd (kind_number kind) n1 0 (omega arith) (few_parts kind n1 hc.3.0) refl refl (made n1 hc.3 (omega arith) (omega (arith, lt)) (omega (arith, lt)) go'))
+                  | inr ge ↦ if_false walk objects fine n1 n2 refl refl (lt_false n1 n2 ge) (picks (middle_of walk.first) (part walk.first) middle_stands objects h fine waiting _ 7 n2 8 _ wc wd (kind_number kind) n1 0 (omega arith) (few_parts other n2 hd.3.0) refl refl (made n2 (subst (λ k. HasWidth walk.l k n2) (sym (kind_is kind other e)) hd.3) (omega (arith, ge)) (omega arith) (omega (arith, ge)) go'))
                   ]))))
               (omega arith, omega arith)

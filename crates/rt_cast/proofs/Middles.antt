@@ -22,7 +22,8 @@ use Rattle.coercion_norm.specs.Composition.{middle}
 use Rattle.coercion_norm.specs.Heights.{coercion_height, highest}
 use Rattle.rt_cast.specs.Costs.{parts_cost}
 use Rattle.rt_cast.specs.Objects.{Object, Fixed, object_at, bytes_of_all}
-use Rattle.rt_cast.specs.Held.{Layout, There, header, kind_number, Held, AreHeld, HoldsType, rows_in, height_in}
+use Rattle.coercion_norm.specs.Nodes.{KindHasWidth}
+use Rattle.rt_cast.specs.Held.{HasWidth, Layout, There, header, kind_number, Held, AreHeld, HoldsType, rows_in, height_in}
 use Rattle.rt_cast.specs.WholeObjects.{CoercionWord, IdWord, ObjectWord, Highest, IsWhole, WholeMiddle}
 use Rattle.rt_cast.specs.Procs.{cast_procs}
 use Rattle.rt_cast.specs.PartCodes.{results, finish_code, parts_code, middle_code, raise_code, proc}
@@ -50,6 +51,13 @@ mutual
   are_still l old new g NoCoercions (w ∷ ws) h = h
   are_still l old new g (CoercionThen c cs) [] h = h
   are_still l old new g (CoercionThen c cs) (w ∷ ws) h = (held_still l old new g c w h.0, are_still l old new g cs ws h.1)
+
+-- no middle has more than eight parts
+pub few_parts : (kind : Kind) (n : ℕ) → KindHasWidth kind n → n ≤ 8
+few_parts FunKind n h = omega (arith, h.1)
+few_parts TupKind n h = h.1
+few_parts RefKind n h = omega (arith, h)
+few_parts VecKind n h = omega (arith, h)
 
 -- ---- parts by their numbers
 
@@ -212,7 +220,7 @@ module _ {V : Type 0} (walk : Walk V) where
   one_more objects o = record { more = o ∷ []; is = refl }
 
   module _ (raise part : ℕ) (p : Proc) (raise_stands : slice_get walk.setting.procs raise ≡ Some (proc 2 3 raise_code)) (part_stands : slice_get walk.setting.procs part ≡ Some p) (takes : ((6 == p.params) && (nat_le p.params 8 && nat_le p.params p.words)) ≡ true) where
-    module _ (cost above : ℕ) (offset : ℕ → ℕ) (total : ℕ) (few : total ≤ 8) (objects : List Object) (waiting : List Waiting) (kind : Kind) (x y n extra : ℕ) (hx hy : ℕ) (xs ys : List ℕ) (x_there : There walk.l objects x (Fixed hx xs)) (y_there : There walk.l objects y (Fixed hy ys)) (E : ℕ → Coercion) (X Y index : ℕ → ℕ) (offsets : (k : ℕ) → offset k ≡ 8 * index k) (x_has : (k : ℕ) → k < total → slice_get (hx ∷ xs) (index k) ≡ Some (X k)) (y_has : (k : ℕ) → k < total → slice_get (hy ∷ ys) (index k) ≡ Some (Y k)) (low : (k : ℕ) → k < total → coercion_height (height_in walk.l) (E k) < 65535) where
+    module _ (cost above : ℕ) (offset : ℕ → ℕ) (total : ℕ) (few : total ≤ 8) (objects : List Object) (waiting : List Waiting) (kind : Kind) (wide : HasWidth walk.l kind total) (x y n extra : ℕ) (hx hy : ℕ) (xs ys : List ℕ) (x_there : There walk.l objects x (Fixed hx xs)) (y_there : There walk.l objects y (Fixed hy ys)) (E : ℕ → Coercion) (X Y index : ℕ → ℕ) (offsets : (k : ℕ) → offset k ≡ 8 * index k) (x_has : (k : ℕ) → k < total → slice_get (hx ∷ xs) (index k) ≡ Some (X k)) (y_has : (k : ℕ) → k < total → slice_get (hy ∷ ys) (index k) ≡ Some (Y k)) (low : (k : ℕ) → k < total → coercion_height (height_in walk.l) (E k) < 65535) where
       abbrev pub PartDoes : ℕ → Type 0
       PartDoes k = (B : Budget) (now : List Object) (h : Heap) (waiting : List Waiting) → Grows objects now → Fine walk.setting walk.l walk.around now h → Answers B now waiting (E k) → G (More cost above B) (S4 p.words (bind 0 (kind_number kind ∷ n ∷ suc k ∷ X k ∷ Y k ∷ extra ∷ []) no_locals) p.code [] waiting h)
 
@@ -281,8 +289,8 @@ module _ {V : Type 0} (walk : Walk V) where
                     (computes walk now fine s1 16 s2 refl refl refl refl
                     (computes walk now fine s2 (kind_number kind) s3 refl at.kind_is refl refl
                     (computes walk now fine s3 (total * 4294967296 % 2 ^ 64) head refl refl (sum_is m (kind_number kind) lt (numbers kind)) refl
-                    (builds walk now fine head ws (ap (λ o. and_more (Some head) o) (results_are _ at.W total 0 total (omega arith) (λ i lt. skip_five head s3 s2 s1 L i ∙ at.words i lt))) (omega (arith, long, few)) (omega arith) (header_small (kind_number kind) (suc m) total (numbers kind) (omega (arith, lt)) (omega (arith, few)), all_small now h fine at.W total 0 (λ i lt. at.held i (omega arith))) (WholeMiddle kind m ws (ap (λ n. Fixed (header (kind_number kind) (suc m) n) ws) (sym long)) (omega (arith, long, few)) (subst (Highest walk.l now ws) (omega (arith, tall)) (highest_words walk.l now (list_of E total 0) ws (all_held now at.W total 0 (λ i lt. at.held i (omega arith)))))) refl
-                    (λ h' fine'. go (now ++ Fixed head ws ∷ []) h' h.alloc 24 _ _ (Word 7) (grows_on objects now (now ++ Fixed head ws ∷ []) grows (one_more now (Fixed head ws))) fine' (subst (λ c. Held walk.l (now ++ Fixed head ws ∷ []) c h.alloc) (sym e) (ws, subst (λ c. There walk.l (now ++ Fixed head ws ∷ []) h.alloc c) (ap₂ (λ a b. Fixed (header (kind_number kind) a b) ws) tall (sym long)) (added now h fine (Fixed head ws)), are_still walk.l now (now ++ Fixed head ws ∷ []) (one_more now (Fixed head ws)) (list_of E total 0) ws (all_held now at.W total 0 (λ i lt. at.held i (omega arith))), omega (arith, long, few))) refl)))))))
+                    (builds walk now fine head ws (ap (λ o. and_more (Some head) o) (results_are _ at.W total 0 total (omega arith) (λ i lt. skip_five head s3 s2 s1 L i ∙ at.words i lt))) (omega (arith, long, few)) (omega arith) (header_small (kind_number kind) (suc m) total (numbers kind) (omega (arith, lt)) (omega (arith, few)), all_small now h fine at.W total 0 (λ i lt. at.held i (omega arith))) (WholeMiddle kind m ws (ap (λ n. Fixed (header (kind_number kind) (suc m) n) ws) (sym long)) (subst (HasWidth walk.l kind) (sym long) wide) (subst (Highest walk.l now ws) (omega (arith, tall)) (highest_words walk.l now (list_of E total 0) ws (all_held now at.W total 0 (λ i lt. at.held i (omega arith)))))) refl
+                    (λ h' fine'. go (now ++ Fixed head ws ∷ []) h' h.alloc 24 _ _ (Word 7) (grows_on objects now (now ++ Fixed head ws ∷ []) grows (one_more now (Fixed head ws))) fine' (subst (λ c. Held walk.l (now ++ Fixed head ws ∷ []) c h.alloc) (sym e) (ws, subst (λ c. There walk.l (now ++ Fixed head ws ∷ []) h.alloc c) (ap₂ (λ a b. Fixed (header (kind_number kind) a b) ws) tall (sym long)) (added now h fine (Fixed head ws)), are_still walk.l now (now ++ Fixed head ws ∷ []) (one_more now (Fixed head ws)) (list_of E total 0) ws (all_held now at.W total 0 (λ i lt. at.held i (omega arith))), subst (HasWidth walk.l kind) (sym long) wide)) refl)))))))
                   (omega arith, omega arith)
 
       given_words : (k : ℕ) (L : Locals) → suc k % 2 ^ 64 ≡ suc k → L 2 ≡ Some (kind_number kind) → L 3 ≡ Some n → L 4 ≡ Some extra → words_of (set_local 9 (Y k) (set_local 8 (X k) L)) (Word 2 ∷ Word 3 ∷ Number (suc k) ∷ Word 8 ∷ Word 9 ∷ Word 4 ∷ []) ≡ Some (kind_number kind ∷ n ∷ suc k ∷ X k ∷ Y k ∷ extra ∷ [])

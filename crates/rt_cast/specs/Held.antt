@@ -7,15 +7,17 @@ use Rattle.coercion_norm.specs.declared.middles.MiddleKind.{MiddleKind as Kind}
 use Rattle.coercion_norm.specs.declared.middles.MiddleKind.TheVariants.{Fun as FunKind, Tup as TupKind}
 use Rattle.coercion_norm.specs.declared.middles.MiddleKind.TheVariants.{Ref as RefKind, Vec as VecKind}
 use Rattle.coercion_norm.specs.Coercions.{Coercion, Coercions, Id, Fail, Middle}
-use Rattle.coercion_norm.specs.Coercions.{Inject, Project, NoCoercions, CoercionThen, rows_of}
+use Rattle.coercion_norm.specs.Coercions.{Inject, Project, NoCoercions, CoercionThen, rows_of, kind_of, slots_of}
 use Rattle.coercion_norm.specs.Heights.{coercion_height, AreHeights}
+use Rattle.coercion_norm.specs.Nodes.{KindHasWidth}
 use Rattle.rt_cast.specs.Objects.{Object, Fixed, object_at}
 
--- what each run is told: the types and their addresses, the static objects, where they and the region begin, and how
--- high the coercion of a proxy may be
+-- what each run is told: the types and their addresses, how many parts a coercion has at most, the static objects,
+-- where they and the region begin, and how high the coercion of a proxy may be
 pub record Layout : Type 0 where
   pub types : TypeRows
   pub type_at : ℕ → ℕ
+  pub width : ℕ
   pub statics : List Object
   pub first : ℕ
   pub region : ℕ
@@ -50,6 +52,10 @@ module _ (l : Layout) where
   abbrev pub height_in : ℕ → ℕ
   height_in = height l.types
 
+  -- as many parts as a middle of this kind may have, and no more than there may be
+  abbrev pub HasWidth : Kind → ℕ → Type 0
+  HasWidth kind parts = KindHasWidth kind parts × (parts ≤ l.width)
+
   abbrev pub type_object : ℕ → Object
   type_object type =
       Fixed (header (type_kind (rows_in type)) (height_in type) (length (parts_of (rows_in type))))
@@ -60,7 +66,8 @@ module _ (l : Layout) where
     pub stands : (type : ℕ) → type < length l.types
         → object_at l.statics l.first (l.type_at type) ≡ Some (type_object type)
     pub parts : (type : ℕ) → type < length l.types → All (λ part. part < length l.types) (parts_of (rows_in type))
-    pub narrow : (type : ℕ) → type < length l.types → length (parts_of (rows_in type)) ≤ 8
+    pub narrow : (type : ℕ) → type < length l.types → (kind : Kind) → kind_of (rows_in type) ≡ Some kind
+        → HasWidth kind (length (slots_of (rows_in type)))
     pub once : (a b : ℕ) → a < length l.types → b < length l.types → l.type_at a ≡ l.type_at b → a ≡ b
     pub one_dyn : (a b : ℕ) → a < length l.types → b < length l.types → is_dyn (rows_in a) ≡ true
         → is_dyn (rows_in b) ≡ true → a ≡ b
@@ -84,7 +91,7 @@ module _ (l : Layout) where
       Held (Middle kind parts) w =
           (ws : List ℕ)
           × There w (Fixed (header (kind_number kind) (coercion_height height_in (Middle kind parts)) (length ws)) ws)
-          × AreHeld parts ws × (length ws ≤ 8)
+          × AreHeld parts ws × HasWidth kind (length ws)
       Held (Inject g kept) w =
           (wg wt : ℕ) × There w (Fixed (header 13 (coercion_height height_in (Inject g kept)) 2) (wg ∷ wt ∷ []))
           × Held g wg × HoldsType wt kept
