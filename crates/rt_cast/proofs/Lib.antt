@@ -10,3 +10,4 @@ mod Parts
 mod Composing
 mod Composed
 mod Coercing
+mod Reaching

@@ -214,7 +214,7 @@ module _ {V : Type 0} (walk : Walk V) where
   -- a new object
   pub added : (objects : List Object) (h : Heap) → Fine walk.setting walk.l walk.around objects h → (o : Object) → There walk.l (objects ++ o ∷ []) h.alloc o
   added objects h fine o =
-      inr (object_behind objects (o ∷ []) walk.l.region h.alloc (omega (arith, fine.ends)) ∙ chosen_true (nat_eq h.alloc (walk.l.region + bytes_of_all objects)) (Some o) None (eq-eqb h.alloc (walk.l.region + bytes_of_all objects) fine.ends))
+      inr (object_behind objects (o ∷ []) walk.l.region h.alloc (omega (arith, fine.filled.ends)) ∙ chosen_true (nat_eq h.alloc (walk.l.region + bytes_of_all objects)) (Some o) None (eq-eqb h.alloc (walk.l.region + bytes_of_all objects) fine.filled.ends))
 
   pub one_more : (objects : List Object) (o : Object) → Grows objects (objects ++ o ∷ [])
   one_more objects o = record { more = o ∷ []; is = refl }

@@ -124,27 +124,27 @@ module _ {V : Type 0} (walk : Walk V) where
   pub word_there : (objects : List Object) (h : Heap) → Fi objects h → (at header : ℕ) (ws : List ℕ) → There walk.l objects at (Fixed header ws) → (i w to : ℕ) → slice_get (header ∷ ws) i ≡ Some w → to ≡ at + 8 * i → WordThere h to w
   word_there objects h f at header ws (inl e) i w to g t =
       let z = found_within walk.l.statics walk.l.first at (Fixed header ws) e in
-      let x = word_found h.memory at (header ∷ ws) i w to (holds_found h.memory walk.l.first walk.l.statics at (Fixed header ws) f.statics_stand e) g t in
+      let x = word_found h.memory at (header ∷ ws) i w to (holds_found h.memory walk.l.first walk.l.statics at (Fixed header ws) f.filled.statics_stand e) g t in
       let n = in_list (header ∷ ws) i w g in
       let even = z.even walk.placed.even_first in
       record {
-        may = may walk.setting.top to (omega (arith, even, t)) (omega (arith, z.low, walk.placed.low, t)) (omega (arith, z.high, walk.placed.before, f.ends, f.fits, t, n));
+        may = may walk.setting.top to (omega (arith, even, t)) (omega (arith, z.low, walk.placed.low, t)) (omega (arith, z.high, walk.placed.before, f.filled.ends, f.filled.fits, t, n));
         is = x.is;
         small = x.small;
         place = omega (arith, z.low, walk.placed.low, t);
-        end = omega (arith, z.high, walk.placed.before, f.ends, f.fits, t, n, walk.placed.top);
+        end = omega (arith, z.high, walk.placed.before, f.filled.ends, f.filled.fits, t, n, walk.placed.top);
       }
   word_there objects h f at header ws (inr e) i w to g t =
       let z = found_within objects walk.l.region at (Fixed header ws) e in
-      let x = word_found h.memory at (header ∷ ws) i w to (holds_found h.memory walk.l.region objects at (Fixed header ws) f.objects_stand e) g t in
+      let x = word_found h.memory at (header ∷ ws) i w to (holds_found h.memory walk.l.region objects at (Fixed header ws) f.filled.objects_stand e) g t in
       let n = in_list (header ∷ ws) i w g in
       let even = z.even walk.placed.even_region in
       record {
-        may = may walk.setting.top to (omega (arith, even, t)) (omega (arith, z.low, walk.placed.low, walk.placed.before, t)) (omega (arith, z.high, f.ends, f.fits, t, n));
+        may = may walk.setting.top to (omega (arith, even, t)) (omega (arith, z.low, walk.placed.low, walk.placed.before, t)) (omega (arith, z.high, f.filled.ends, f.filled.fits, t, n));
         is = x.is;
         small = x.small;
         place = omega (arith, z.low, walk.placed.low, walk.placed.before, t);
-        end = omega (arith, z.high, f.ends, f.fits, t, n, walk.placed.top);
+        end = omega (arith, z.high, f.filled.ends, f.filled.fits, t, n, walk.placed.top);
       }
 
   header_held : (m : Memory) (at : ℕ) (o : Object) → HoldsObject m at o → HasWord m at (header_of o)
@@ -159,27 +159,27 @@ module _ {V : Type 0} (walk : Walk V) where
   pub header_there : (objects : List Object) (h : Heap) → Fi objects h → (at : ℕ) (o : Object) → There walk.l objects at o → WordThere h at (header_of o)
   header_there objects h f at o (inl e) =
       let z = found_within walk.l.statics walk.l.first at o e in
-      let x = header_held h.memory at o (holds_found h.memory walk.l.first walk.l.statics at o f.statics_stand e) in
+      let x = header_held h.memory at o (holds_found h.memory walk.l.first walk.l.statics at o f.filled.statics_stand e) in
       let even = z.even walk.placed.even_first in
       let r = header_room o in
       record {
-        may = may walk.setting.top at even (omega (arith, z.low, walk.placed.low)) (omega (arith, z.high, walk.placed.before, f.ends, f.fits, r));
+        may = may walk.setting.top at even (omega (arith, z.low, walk.placed.low)) (omega (arith, z.high, walk.placed.before, f.filled.ends, f.filled.fits, r));
         is = x.is;
         small = x.small;
         place = omega (arith, z.low, walk.placed.low);
-        end = omega (arith, z.high, walk.placed.before, f.ends, f.fits, r, walk.placed.top);
+        end = omega (arith, z.high, walk.placed.before, f.filled.ends, f.filled.fits, r, walk.placed.top);
       }
   header_there objects h f at o (inr e) =
       let z = found_within objects walk.l.region at o e in
-      let x = header_held h.memory at o (holds_found h.memory walk.l.region objects at o f.objects_stand e) in
+      let x = header_held h.memory at o (holds_found h.memory walk.l.region objects at o f.filled.objects_stand e) in
       let even = z.even walk.placed.even_region in
       let r = header_room o in
       record {
-        may = may walk.setting.top at even (omega (arith, z.low, walk.placed.low, walk.placed.before)) (omega (arith, z.high, f.ends, f.fits, r));
+        may = may walk.setting.top at even (omega (arith, z.low, walk.placed.low, walk.placed.before)) (omega (arith, z.high, f.filled.ends, f.filled.fits, r));
         is = x.is;
         small = x.small;
         place = omega (arith, z.low, walk.placed.low, walk.placed.before);
-        end = omega (arith, z.high, f.ends, f.fits, r, walk.placed.top);
+        end = omega (arith, z.high, f.filled.ends, f.filled.fits, r, walk.placed.top);
       }
 
   -- a budget is left where so many procedures wait and so many words were asked for
@@ -320,9 +320,9 @@ module _ {V : Type 0} (walk : Walk V) where
         more_stand : Holds h1.memory walk.l.region (objects ++ Fixed header ws ∷ [])
         more_stand =
             holds_append h1.memory walk.l.region objects (Fixed header ws ∷ [])
-            (holds_below (header ∷ ws) h.alloc h.memory walk.l.region objects (omega (arith, fine.ends))
-            fine.objects_stand)
-            (subst (λ n. HoldsWords h1.memory n (header ∷ ws)) fine.ends (stored_words (header ∷ ws) h.alloc h.memory
+            (holds_below (header ∷ ws) h.alloc h.memory walk.l.region objects (omega (arith, fine.filled.ends))
+            fine.filled.objects_stand)
+            (subst (λ n. HoldsWords h1.memory n (header ∷ ws)) fine.filled.ends (stored_words (header ∷ ws) h.alloc h.memory
             small), tt)
 
         by_room : (nat_le (h.alloc + 8 * suc (length ws)) walk.setting.top ≡ true)
@@ -331,16 +331,18 @@ module _ {V : Type 0} (walk : Walk V) where
             goes s0 (St count (set_local d h.alloc locals) rest rests waiting h1) (rw (e, short, r, lt) refl)
             (λ s. here_at count locals rests waiting h objects fine (Build d args rest) turns_here s)
             (λ s. record { room = s.room; left = let z = s.left in omega (arith, few) }) refl (go h1 (record {
-              objects_stand = more_stand;
-              statics_stand =
-                  holds_below (header ∷ ws) h.alloc h.memory walk.l.first walk.l.statics
-                  (omega (arith, fine.ends, walk.placed.before)) fine.statics_stand;
-              ends = let b = bytes_append objects (Fixed header ws ∷ []) in omega (arith, fine.ends, b);
-              fits = grind (arith, r);
+              filled = record {
+                objects_stand = more_stand;
+                statics_stand =
+                    holds_below (header ∷ ws) h.alloc h.memory walk.l.first walk.l.statics
+                    (omega (arith, fine.filled.ends, walk.placed.before)) fine.filled.statics_stand;
+                ends = let b = bytes_append objects (Fixed header ws ∷ []) in omega (arith, fine.filled.ends, b);
+                fits = grind (arith, r);
+                whole = wholes_more walk.l [] objects (Fixed header ws) fine.filled.whole whole;
+              };
               beyond = let b = fine.beyond in omega arith;
               kept = λ i lt.
                   bytes_below (header ∷ ws) h.alloc h.memory i (let b = fine.beyond in omega arith) ∙ fine.kept i lt;
-              whole = wholes_more walk.l [] objects (Fixed header ws) fine.whole whole;
             }))
         by_room (inr r) = record {
           steps = 1;

@@ -1,8 +1,40 @@
 // What the procedures do.
 
-ghost use Rattle.std.specs.Prelude.{◌≡◌, ℕ};
+ghost use Rattle.std.specs.Prelude.{◌≡◌, ℕ, ◌+◌, ◌*◌, ◌<◌, ◌^◌, max, List, [], ◌∷◌};
+ghost use Rattle.run_laws.specs.Runs.{Ending, Exhausted};
+ghost use Rattle.rv_machine.specs.State.{Halt, Lacks, Region};
+ghost use Rattle.low_ir.specs.Run.{Setting, LowState};
+ghost use Rattle.coercion_norm.specs.Coercions.{Coercion};
+ghost use Rattle.coercion_norm.specs.CoercionTables.{IsSound, cast_of, composition_of};
+ghost use Rattle.coercion_norm.specs.Heights.{coercion_height};
+ghost use Rattle.rt_cast.specs.Costs.{coerce_cost, compose_cost};
+ghost use Rattle.rt_cast.specs.Objects.{Object};
+ghost use Rattle.rt_cast.specs.Held.{Layout, Held, HoldsType, height_in};
+ghost use Rattle.rt_cast.specs.Procs.{coerce_proc, compose_proc};
+ghost use Rattle.rt_cast.specs.States.{Filled, IsReady, ComesToHeld, heap_of};
 
-/// A law.
-pub fn a_number_is_itself()
-    ensures { (n : ℕ) → n ≡ n }
+/// In any storage of whole objects that holds two coercions, and whatever waits, compose comes to a return of a word that
+/// holds their composition, or the region is exhausted. Nothing that was there changes, whole objects fill the region at
+/// every state on the way, with no proxy on a proxy, and steps, words and active procedures are bounded by the higher of
+/// the two.
+pub fn compositions_are_held<V>()
+    ensures { (reading : Halt → Ending V) (setting : Setting) (l : Layout) (first : ℕ) (s : LowState)
+        → reading (Lacks Region) ≡ Exhausted → IsReady setting l first
+        → (objects : List Object) → Filled setting l objects (heap_of s) → (c d : Coercion) (wc wd : ℕ)
+        → IsSound l.types c → IsSound l.types d → Held l objects c wc → Held l objects d wd
+        → ComesToHeld reading setting l s objects (compose_proc first) (wc ∷ wd ∷ []) (composition_of l.types c d)
+        (compose_cost l.width (max (coercion_height (height_in l) c) (coercion_height (height_in l) d)))
+        (4 * max (coercion_height (height_in l) c) (coercion_height (height_in l) d) + 4) }
+{}
+
+/// In the same way coerce comes to a return of a word that holds the coercion of a cast between two types, within bounds
+/// by the higher of them.
+pub fn coercions_of_casts_are_held<V>()
+    ensures { (reading : Halt → Ending V) (setting : Setting) (l : Layout) (first : ℕ) (s : LowState)
+        → reading (Lacks Region) ≡ Exhausted → IsReady setting l first
+        → (objects : List Object) → Filled setting l objects (heap_of s) → (from to label wf wt : ℕ)
+        → HoldsType l objects wf from → HoldsType l objects wt to → label < 2 ^ 64
+        → ComesToHeld reading setting l s objects (coerce_proc first) (wf ∷ wt ∷ label ∷ [])
+        (cast_of l.types from to label) (coerce_cost l.width (max (height_in l from) (height_in l to)))
+        (max (height_in l from) (height_in l to) + 1) }
 {}
