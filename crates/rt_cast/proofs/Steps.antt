@@ -317,6 +317,26 @@ module _ {V : Type 0} (walk : Walk V) where
           words = h.words + suc (length ws);
         }
 
+        -- where there is no room
+        h2 : Heap
+        h2 = record { memory = h.memory; alloc = h.alloc; words = h.words + suc (length ws) }
+
+        refused : LowState
+        refused = St count locals rest rests waiting h2
+
+        still : Fi objects h2
+        still = record {
+          filled = record {
+            objects_stand = fine.filled.objects_stand;
+            statics_stand = fine.filled.statics_stand;
+            ends = fine.filled.ends;
+            fits = fine.filled.fits;
+            whole = fine.filled.whole;
+          };
+          beyond = fine.beyond;
+          kept = fine.kept;
+        }
+
         more_stand : Holds h1.memory walk.l.region (objects ++ Fixed header ws ∷ [])
         more_stand =
             holds_append h1.memory walk.l.region objects (Fixed header ws ∷ [])
@@ -348,11 +368,11 @@ module _ {V : Type 0} (walk : Walk V) where
           steps = 1;
           few = omega arith;
           reach = λ s.
-              by_step N walk.P walk.Q 0 s0 (Stop (walk.reading (Lacks Region)) (St count locals rest rests waiting h))
-              (rw (e, short, r) refl)
+              by_step N walk.P walk.Q 0 s0 (Stop (walk.reading (Lacks Region)) refused) (rw (e, short, r) refl)
               (here_at count locals rests waiting h objects fine (Build d args rest) turns_here s)
-              (subst (λ x. Onward (Stop x (St count locals rest rests waiting h)) walk.P walk.Q) (sym walk.exhausts)
-              (here_at count locals rests waiting h objects fine rest turns s));
+              (subst (λ x. Onward (Stop x refused) walk.P walk.Q) (sym walk.exhausts)
+              (walk.calm (record { count = count; locals = locals; code = rest; rests = rests }) waiting h2 objects
+              still turns (let z = s.room in omega arith) (let z = s.left in omega (arith, few))));
         }
 
     -- a procedure is called, or goes on for this one
