@@ -43,8 +43,8 @@ use Rattle.rt_cast.specs.ComposeCodes.{compose_code, compose_first, compose_thir
 use Rattle.rt_cast.specs.ComposeCodes.{coerce, coerce_part, pair, middle_of, coerce_of}
 use Rattle.rt_cast.specs.CoerceCodes.{coerce_code, coerce_heads, coerce_kinds, coerce_alike, coerce_fail}
 use Rattle.rt_cast.proofs.Objects.{object_kept, object_behind, chosen_true, AreSmall}
-use Rattle.rt_cast.proofs.Numbers.{eq_true, eq_false, eq_cases, lt_true, lt_false, lt_cases, kind_read, height_read}
-use Rattle.rt_cast.proofs.Numbers.{count_read, header_made, header_small}
+use Rattle.rt_cast.proofs.HeaderNumbers.{eq_true, eq_false, eq_cases, lt_true, lt_false, lt_cases, kind_read, height_read}
+use Rattle.rt_cast.proofs.HeaderNumbers.{count_read, header_made, header_small}
 use Rattle.rt_cast.proofs.Steps.{Budget, One, More, Below, at_most, WordThere, word_there, Comes, sets_word, loads}
 use Rattle.rt_cast.proofs.Steps.{computes, if_true, if_false, builds, calls, tail_calls, comes_back}
 use Rattle.rt_cast.proofs.Small.{grows_not, grows_on, there_still, Tall, HasHeight, not_zero, Gives, raised, finals}
@@ -347,7 +347,7 @@ module _ {V : Type 0} (walk : Walk V) where
                 (computes walk objects fine t 11 (kind_number kind) refl refl (ap (λ k. compute Sub k 11) num ∙ (less_back (kind_number kind) ∙ omega (arith, numbers kind))) refl
                 (if_false walk objects fine (kind_number kind) 11 refl refl (lt_false (kind_number kind) 11 ge)
                 (tail_calls walk objects fine (wf ∷ wt ∷ kind_number kind ∷ 2 ∷ label ∷ []) (proc 5 24 (middle_code (raise walk.first) (coerce_part walk.first) first_word 2)) refl (walk.stands 8 _ refl) refl
-                (middles_between n le below from to label small lf lt kind some first_word (λ k. 1) (λ k. refl) 2 wide (sym (ap length slots1)) (sym (ap length slots2)) (λ k a. twice_got from c parts1 slots1 k a) (λ k a. twice_got to c2 parts2 slots2 k a) (λ k a. twice_known from c hf.known parts1 slots1 k a) (λ k a. twice_known to c2 ht.known parts2 slots2 k a) objects h fine waiting wf wt hf ht go')))))
+                (middles_between n le below from to label small lf lt kind some first_word (λ k. 1) (λ k. omega arith) 2 wide (sym (ap length slots1)) (sym (ap length slots2)) (λ k a. twice_got from c parts1 slots1 k a) (λ k a. twice_got to c2 parts2 slots2 k a) (λ k a. twice_known from c hf.known parts1 slots1 k a) (λ k a. twice_known to c2 ht.known parts2 slots2 k a) objects h fine waiting wf wt hf ht go')))))
               (omega arith, omega arith)
 
   -- a Fail is built

@@ -40,8 +40,8 @@ use Rattle.rt_cast.specs.ComposeCodes.{compose_code, compose_first, compose_thir
 use Rattle.rt_cast.specs.ComposeCodes.{coerce, coerce_part, pair, middle_of, coerce_of}
 use Rattle.rt_cast.specs.CoerceCodes.{coerce_code}
 use Rattle.rt_cast.proofs.Objects.{object_kept, object_behind, chosen_true, AreSmall}
-use Rattle.rt_cast.proofs.Numbers.{eq_true, eq_false, eq_cases, lt_true, lt_false, lt_cases, kind_read, height_read}
-use Rattle.rt_cast.proofs.Numbers.{count_read, header_made, header_small}
+use Rattle.rt_cast.proofs.HeaderNumbers.{eq_true, eq_false, eq_cases, lt_true, lt_false, lt_cases, kind_read, height_read}
+use Rattle.rt_cast.proofs.HeaderNumbers.{count_read, header_made, header_small}
 use Rattle.rt_cast.proofs.Steps.{Budget, One, More, Below, at_most, WordThere, word_there, Comes, sets_word}
 use Rattle.rt_cast.proofs.Steps.{loads, computes, if_true, if_false, builds, calls, tail_calls, comes_back}
 use Rattle.rt_cast.proofs.Small.{grows_not, grows_on, there_still, Tall, HasHeight, not_zero, Gives, raised, finals}

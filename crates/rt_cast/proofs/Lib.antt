@@ -3,7 +3,7 @@ pub mod Public
 mod Walks
 mod Objects
 mod Steps
-mod Numbers
+mod HeaderNumbers
 mod Small
 mod Middles
 mod Parts
@@ -11,3 +11,4 @@ mod Composing
 mod Composed
 mod Coercing
 mod Reaching
+mod Closing

@@ -28,8 +28,8 @@ use Rattle.rt_cast.specs.WholeObjects.{CoercionWord, IdWord, ObjectWord, Highest
 use Rattle.rt_cast.specs.Procs.{cast_procs}
 use Rattle.rt_cast.specs.PartCodes.{results, finish_code, parts_code, middle_code, raise_code, proc}
 use Rattle.rt_cast.proofs.Objects.{object_kept, object_behind, chosen_true, AreSmall}
-use Rattle.rt_cast.proofs.Numbers.{eq_true, eq_false, eq_cases, lt_true, lt_false, lt_cases, kind_read, height_read}
-use Rattle.rt_cast.proofs.Numbers.{header_made, header_small}
+use Rattle.rt_cast.proofs.HeaderNumbers.{eq_true, eq_false, eq_cases, lt_true, lt_false, lt_cases, kind_read, height_read}
+use Rattle.rt_cast.proofs.HeaderNumbers.{header_made, header_small}
 use Rattle.rt_cast.proofs.Steps.{Budget, One, More, Below, at_most, WordThere, word_there, Comes, sets_word, loads}
 use Rattle.rt_cast.proofs.Steps.{computes, if_true, if_false, builds, calls, comes_back}
 use Rattle.rt_cast.proofs.Small.{grows_not, grows_on, there_still, Tall, HasHeight, not_zero, Gives, raised, numbers}

@@ -24,7 +24,7 @@ use Rattle.coercion_norm.specs.Heights.{coercion_height}
 use Rattle.rt_cast.specs.PartCodes.{raise_code, final_code}
 use Rattle.rt_cast.specs.Procs.{cast_procs}
 use Rattle.rt_cast.proofs.Objects.{object_kept}
-use Rattle.rt_cast.proofs.Numbers.{eq_true, eq_false, lt_true, lt_false, lt_cases, kind_read, height_read}
+use Rattle.rt_cast.proofs.HeaderNumbers.{eq_true, eq_false, lt_true, lt_false, lt_cases, kind_read, height_read}
 use Rattle.rt_cast.proofs.Steps.{Budget, One, More, Below, at_most, WordThere, word_there, Comes, loads}
 use Rattle.rt_cast.proofs.Steps.{computes, if_true, if_false}
 use Rattle.rt_cast.proofs.Walks.{Walk}

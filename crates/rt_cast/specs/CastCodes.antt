@@ -3,8 +3,8 @@ use Rattle.std.specs.Prelude.{ℕ, [], ◌∷◌}
 use Rattle.rv_isa.specs.declared.inst.Cond.TheVariants.{Eq, Ltu}
 use Rattle.low_ir.specs.declared.code.LowSource.TheVariants.{Word, Number}
 use Rattle.low_ir.specs.declared.code.WordOp.TheVariants.{Add, And, Sll, Srl}
-use Rattle.low_ir.specs.Procedures.{Code, Compute, Load, Build, Environment, Call, Return, TailCall}
-use Rattle.rt_cast.specs.PartCodes.{either}
+use Rattle.low_ir.specs.Procedures.{Code, Compute, Load, Build, Call, Return, TailCall}
+use Rattle.rt_cast.specs.PartCodes.{either, blame_code}
 use Rattle.rt_cast.specs.ComposeCodes.{coerce, compose, cast, project}
 
 module _ (first : ℕ) where
@@ -48,7 +48,7 @@ module _ (first : ℕ) where
   abbrev pub cast_kinds : Code
   cast_kinds =
       either Eq (Word 3) (Number 8) (
-        Load 4 (Word 1) 8 (Environment 3 (Word 4) (Number 0) 4 5 (Return (Number 0)))
+        Load 4 (Word 1) 8 (blame_code (Word 4))
       ) (
         either Eq (Word 3) (Number 13) cast_inject (either Eq (Word 3) (Number 14) cast_project cast_middle))
 
@@ -63,7 +63,7 @@ module _ (first : ℕ) where
 
   -- the label is blamed
   abbrev pub project_blame : Code
-  project_blame = Environment 3 (Word 3) (Number 0) 4 5 (Return (Number 0))
+  project_blame = blame_code (Word 3)
 
   -- the part of what is in the Dyn, in a Dyn that keeps the part's type, unless that is Dyn
   abbrev pub project_dyn_part : Code

@@ -5,7 +5,7 @@ use Rattle.rv_isa.specs.declared.inst.Cond.TheVariants.{Eq, Ltu}
 use Rattle.low_ir.specs.declared.code.LowSource.{LowSource}
 use Rattle.low_ir.specs.declared.code.LowSource.TheVariants.{Word, Number}
 use Rattle.low_ir.specs.declared.code.WordOp.TheVariants.{Add, And, Sll, Srl, Sltu}
-use Rattle.low_ir.specs.Procedures.{Code, Done, Set, Compute, Load, Build, Call, If, Return, TailCall, Proc}
+use Rattle.low_ir.specs.Procedures.{Code, Done, Set, Compute, Load, Build, Environment, Call, If, Return, TailCall, Proc}
 
 abbrev pub proc : ℕ → ℕ → Code → Proc
 proc params words code = record { params = params; words = words; code = code }
@@ -17,6 +17,10 @@ either cond a b one other = If cond a b one other Done
 -- the header of an object with the height that a word holds, put into the word
 abbrev pub put_header : ℕ → ℕ → Code → Code
 put_header d low rest = Compute Sll d (Word d) (Number 16) (Compute Add d (Word d) (Number low) rest)
+
+-- a label is blamed
+abbrev pub blame_code : LowSource → Code
+blame_code label = Environment 3 label (Number 0) 4 5 (Return (Number 0))
 
 -- words 0 and 1 are a height, and an object or 0: the greater of the height and the object's
 abbrev pub raise_code : Code
@@ -71,13 +75,17 @@ module _ (raise part : ℕ) (offset : ℕ → ℕ) (total : ℕ) where
   abbrev pub middle_code : Code
   middle_code = Set 5 (Number 0) (Set 6 (Number 0) (parts_code total 0))
 
+-- where part k stands in an object, where the parts lie so many bytes apart
+abbrev pub apart : ℕ → ℕ → ℕ
+apart step k = 8 + step * k
+
 -- part k is word k behind the header
 abbrev pub each_word : ℕ → ℕ
-each_word k = 8 + 8 * k
+each_word = apart 8
 
 -- each part is the word behind the header
 abbrev pub first_word : ℕ → ℕ
-first_word k = 8
+first_word = apart 0
 
 -- words 0 to 2 are the kind, how many parts there are and the part's number from one, and words 3 and 4 what it comes
 -- from: both go on in their order, or turned round
