@@ -6,9 +6,9 @@ mod Steps
 mod HeaderNumbers
 mod Small
 mod Middles
-mod Parts
-mod Composing
-mod Composed
-mod Coercing
+mod PartWords
+mod ComposeSteps
+mod ComposeRuns
+mod CoerceRuns
 mod Reaching
 mod Closing

@@ -16,8 +16,8 @@ use Rattle.rt_cast.specs.Procs.{coerce_proc, compose_proc}
 use Rattle.rt_cast.specs.States.{Heap, Filled, Fine, Calm, OnTheWay, HeldAt, IsReady, ComesToHeld, around, heap_of}
 use Rattle.rt_cast.proofs.Walks.{Walk}
 use Rattle.rt_cast.proofs.Steps.{End}
-use Rattle.rt_cast.proofs.Composed.{all_composed}
-use Rattle.rt_cast.proofs.Coercing.{all_cast}
+use Rattle.rt_cast.proofs.ComposeRuns.{all_composed}
+use Rattle.rt_cast.proofs.CoerceRuns.{all_cast}
 
 module _ {V : Type 0} (reading : Halt → Ending V) (setting : Setting) (l : Layout) (first : ℕ) (s : LowState)
     (exhausts : reading (Lacks Region) ≡ Exhausted) (ready : IsReady setting l first) where

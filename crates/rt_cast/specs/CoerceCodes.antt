@@ -7,11 +7,11 @@ use Rattle.low_ir.specs.Procedures.{Code, Compute, Load, Build, Call, Return, Ta
 use Rattle.rt_cast.specs.PartCodes.{either, put_header, pick}
 use Rattle.rt_cast.specs.ComposeCodes.{raise, pair, coerce_of}
 
-module _ (first : ℕ) where
-  -- a Fail with the label
-  abbrev pub coerce_fail : Code
-  coerce_fail = Build 10 (Number 4294967304 ∷ Word 2 ∷ []) (Return (Word 10))
+-- a Fail with the label
+abbrev pub coerce_fail : Code
+coerce_fail = Build 10 (Number 4294967304 ∷ Word 2 ∷ []) (Return (Word 10))
 
+module _ (first : ℕ) where
   -- of one head
   abbrev pub coerce_alike : Code
   coerce_alike =
@@ -28,19 +28,23 @@ module _ (first : ℕ) where
       Compute Srl 8 (Word 5) (Number 32) (
       either Eq (Word 4) (Word 6) (either Eq (Word 7) (Word 8) coerce_alike coerce_fail) coerce_fail))
 
+  abbrev pub coerce_from_dyn : Code
+  coerce_from_dyn =
+      Call 9 (raise first) (Number 0 ∷ Word 1 ∷ []) (
+      put_header 9 12884901902 (
+      Build 10 (Word 9 ∷ Word 1 ∷ Word 2 ∷ Number 0 ∷ []) (Return (Word 10))))
+
+  abbrev pub coerce_to_dyn : Code
+  coerce_to_dyn =
+      Call 9 (raise first) (Number 0 ∷ Word 0 ∷ []) (
+      put_header 9 8589934605 (
+      Build 10 (Word 9 ∷ Number 0 ∷ Word 0 ∷ []) (Return (Word 10))))
+
   -- with the kinds of both types
   abbrev pub coerce_kinds : Code
   coerce_kinds =
-      either Eq (Word 4) (Number 19) (
-        Call 9 (raise first) (Number 0 ∷ Word 1 ∷ []) (
-        put_header 9 12884901902 (
-        Build 10 (Word 9 ∷ Word 1 ∷ Word 2 ∷ Number 0 ∷ []) (Return (Word 10))))
-      ) (
-        either Eq (Word 6) (Number 19) (
-          Call 9 (raise first) (Number 0 ∷ Word 0 ∷ []) (
-          put_header 9 8589934605 (
-          Build 10 (Word 9 ∷ Number 0 ∷ Word 0 ∷ []) (Return (Word 10))))
-        ) coerce_heads)
+      either Eq (Word 4) (Number 19) coerce_from_dyn (
+      either Eq (Word 6) (Number 19) coerce_to_dyn coerce_heads)
 
   abbrev pub coerce_code : Code
   coerce_code =

@@ -60,17 +60,20 @@ finish_code total =
 
 -- told the procedures of a height and of a part, where part k stands in an object, and how many parts there are
 module _ (raise part : ℕ) (offset : ℕ → ℕ) (total : ℕ) where
-  -- so many parts from k on
-  abbrev pub parts_code : ℕ → ℕ → Code
-  parts_code zero k = finish_code total
-  parts_code (suc j) k =
+  -- part k, and what is done behind it
+  abbrev pub part_step : ℕ → Code → Code
+  part_step k rest =
       Load 8 (Word 0) (offset k) (
       Load 9 (Word 1) (offset k) (
       Call (16 + k) part (Word 2 ∷ Word 3 ∷ Number (suc k) ∷ Word 8 ∷ Word 9 ∷ Word 4 ∷ []) (
       Call 5 raise (Word 5 ∷ Word (16 + k) ∷ []) (
       Compute Sltu 10 (Number 0) (Word (16 + k)) (
-      Compute Add 6 (Word 6) (Word 10) (
-      parts_code j (suc k)))))))
+      Compute Add 6 (Word 6) (Word 10) rest)))))
+
+  -- so many parts from k on
+  abbrev pub parts_code : ℕ → ℕ → Code
+  parts_code zero k = finish_code total
+  parts_code (suc j) k = part_step k (parts_code j (suc k))
 
   abbrev pub middle_code : Code
   middle_code = Set 5 (Number 0) (Set 6 (Number 0) (parts_code total 0))
@@ -87,14 +90,16 @@ each_word = apart 8
 abbrev pub first_word : ℕ → ℕ
 first_word = apart 0
 
--- words 0 to 2 are the kind, how many parts there are and the part's number from one, and words 3 and 4 what it comes
--- from: both go on in their order, or turned round
-abbrev pub part_code : (LowSource → LowSource → Code) → Code
-part_code go =
-    let on = go (Word 3) (Word 4) in
-    let back = go (Word 4) (Word 3) in
+-- words 0 to 2 are the kind, how many parts there are and the part's number from one: goes on with one code, or, for a
+-- part that runs backwards, with the other
+abbrev pub part_turns : Code → Code → Code
+part_turns on back =
     either Eq (Word 0) (Number 10) on (
     either Eq (Word 0) (Number 9) (either Eq (Word 1) (Word 2) on back) (either Eq (Word 1) (Word 2) back on))
+
+-- words 3 and 4 are what the part comes from: both go on in their order, or turned round
+abbrev pub part_code : (LowSource → LowSource → Code) → Code
+part_code go = part_turns (go (Word 3) (Word 4)) (go (Word 4) (Word 3))
 
 -- the procedure for so many parts as a word says, from so many down
 abbrev pub pick : ℕ → ℕ → (ℕ → ℕ) → List LowSource → Code

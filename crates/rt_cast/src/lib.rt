@@ -2,5 +2,8 @@
 #![tactic(auto)]
 
 mod codes;
+mod coercing;
+mod composing;
 pub mod laws;
 mod numbers;
+mod parts;

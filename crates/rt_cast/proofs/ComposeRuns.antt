@@ -30,9 +30,9 @@ use Rattle.low_ir.specs.Steps.{no_locals}
 use Rattle.rt_cast.proofs.Steps.{Budget, One, More, at_most, if_true, if_false}
 use Rattle.rt_cast.proofs.Small.{C, grows_not, numbers}
 use Rattle.rt_cast.proofs.Middles.{Answers}
-use Rattle.rt_cast.proofs.Parts.{count, nth, nth_normal, nth_low, follow_at}
-use Rattle.rt_cast.proofs.Composing.{ComposeDoes, CoerceDoes, id_first, fail_first, id_second, reads_both, no_middle}
-use Rattle.rt_cast.proofs.Composing.{onto, projects, meets, both}
+use Rattle.rt_cast.proofs.PartWords.{count, nth, nth_normal, nth_low, follow_at}
+use Rattle.rt_cast.proofs.ComposeSteps.{ComposeDoes, CoerceDoes, id_first, fail_first, id_second, reads_both, no_middle}
+use Rattle.rt_cast.proofs.ComposeSteps.{onto, projects, meets, both}
 use Rattle.rt_cast.proofs.Walks.{Walk}
 
 -- no Inject and no Project

@@ -48,8 +48,8 @@ use Rattle.rt_cast.proofs.Small.{grows_not, grows_on, there_still, Tall, HasHeig
 use Rattle.rt_cast.proofs.Small.{final_word, numbers, C, S}
 use Rattle.rt_cast.proofs.Middles.{few_parts, list_of, held_still, Answers, far, held_small, added, one_more, PartDoes}
 use Rattle.rt_cast.proofs.Middles.{middle_made, has_height, coercion_word}
-use Rattle.rt_cast.proofs.Parts.{count, nth, word_at, got, as_many, nth_held, nth_normal, nth_low, follow_at}
-use Rattle.rt_cast.proofs.Parts.{follow_list}
+use Rattle.rt_cast.proofs.PartWords.{count, nth, word_at, got, as_many, nth_held, nth_normal, nth_low, follow_at}
+use Rattle.rt_cast.proofs.PartWords.{follow_list}
 use Rattle.rt_cast.proofs.Walks.{Walk}
 
 pub type_numbers : (row : TypeRow) → type_kind row < 256

@@ -51,13 +51,13 @@ use Rattle.rt_cast.proofs.Small.{grows_not, grows_on, there_still, Tall, HasHeig
 use Rattle.rt_cast.proofs.Small.{final_word, numbers, C, S}
 use Rattle.rt_cast.proofs.Middles.{few_parts, list_of, held_still, Answers, far, held_small, added, one_more, PartDoes}
 use Rattle.rt_cast.proofs.Middles.{middle_made, has_height}
-use Rattle.rt_cast.proofs.Parts.{count, nth, word_at, got, as_many, nth_held, nth_normal, nth_low, follow_at}
-use Rattle.rt_cast.proofs.Parts.{follow_list}
+use Rattle.rt_cast.proofs.PartWords.{count, nth, word_at, got, as_many, nth_held, nth_normal, nth_low, follow_at}
+use Rattle.rt_cast.proofs.PartWords.{follow_list}
 use Rattle.std.proofs.lemmas.List.Elements.{All-get_or}
 use Rattle.coercion_norm.specs.StandsFor.{is_none_left}
-use Rattle.rt_cast.proofs.Composing.{type_numbers, no_max, turn, in_order, picks, part_runs, type_there, type_tall}
-use Rattle.rt_cast.proofs.Composing.{type_small, type_still, picks_cost, parts_less, CoerceDoes}
-use Rattle.rt_cast.proofs.Composed.{AllCasts}
+use Rattle.rt_cast.proofs.ComposeSteps.{type_numbers, no_max, turn, in_order, picks, part_runs, type_there, type_tall}
+use Rattle.rt_cast.proofs.ComposeSteps.{type_small, type_still, picks_cost, parts_less, CoerceDoes}
+use Rattle.rt_cast.proofs.ComposeRuns.{AllCasts}
 use Rattle.rt_cast.proofs.Walks.{Walk}
 
 long_fun : (ps qs : List ℕ) (a b : ℕ) → nat_eq (length ps) (length qs) ≡ (length (ps ++ a ∷ []) == length (qs ++ b ∷ []))
@@ -351,7 +351,7 @@ module _ {V : Type 0} (walk : Walk V) where
               (omega arith, omega arith)
 
   -- a Fail is built
-  fail_built : {B : Budget} → (label : ℕ) → label < 2 ^ 64 → (objects : List Object) (h : Heap) (fine : Fine walk.setting walk.l walk.around objects h) (waiting : List Waiting) (locals : Locals) (rests : List Code) → locals 2 ≡ Some label → Answers walk B objects waiting (Fail label) → G6 (More 1 0 B) (S6 11 locals (coerce_fail walk.first) rests waiting h)
+  fail_built : {B : Budget} → (label : ℕ) → label < 2 ^ 64 → (objects : List Object) (h : Heap) (fine : Fine walk.setting walk.l walk.around objects h) (waiting : List Waiting) (locals : Locals) (rests : List Code) → locals 2 ≡ Some label → Answers walk B objects waiting (Fail label) → G6 (More 1 0 B) (S6 11 locals coerce_fail rests waiting h)
   fail_built label small objects h fine waiting locals rests is go =
       at_most walk
             (builds walk objects fine 4294967304 (label ∷ []) (ap (λ o. and_more (Some 4294967304) (and_more o (Some []))) is) (omega arith) (omega arith) (omega arith, (small, tt)) (WholeFail label refl) refl
@@ -373,7 +373,7 @@ module _ {V : Type 0} (walk : Walk V) where
     where
       L : Locals
       L = heads_read wf wt label from to
-      by : (b : Bool) → (type_kind (R from) == type_kind (R to)) ≡ b → (c : Bool) → (length (parts_of (R from)) == length (parts_of (R to))) ≡ c → (rests : List Code) → Answers walk B objects waiting (cond (b && c) (coerce_middle R (coerce_below R n) (kind_of (R from)) from to label) (Fail label)) → G6 (More (24 + all_cost n) (suc n) B) (S6 11 L (either Eq (Word 4) (Word 6) (either Eq (Word 7) (Word 8) (coerce_alike walk.first) (coerce_fail walk.first)) (coerce_fail walk.first)) rests waiting h)
+      by : (b : Bool) → (type_kind (R from) == type_kind (R to)) ≡ b → (c : Bool) → (length (parts_of (R from)) == length (parts_of (R to))) ≡ c → (rests : List Code) → Answers walk B objects waiting (cond (b && c) (coerce_middle R (coerce_below R n) (kind_of (R from)) from to label) (Fail label)) → G6 (More (24 + all_cost n) (suc n) B) (S6 11 L (either Eq (Word 4) (Word 6) (either Eq (Word 7) (Word 8) (coerce_alike walk.first) coerce_fail) coerce_fail) rests waiting h)
       by false e c f rests go =
           at_most walk
                 (if_false walk objects fine (type_kind (R from)) (type_kind (R to)) refl refl e
