@@ -41,5 +41,5 @@ module _ (procs : List Proc) (first : ℕ) (s : Stand procs first) where
       (and_so _ _ part_closed (and_so _ _ refl (and_so _ _ refl (and_so _ _ coerce_part_closed
       (and_so _ _ pair_closed each_middle))))))))
     where
-      each_middle : each_closed procs (middles first (part first) 9 0 ++ middles first (coerce_part first) 9 0) ≡ true
+      each_middle : each_closed procs (middles first (part first) ++ middles first (coerce_part first)) ≡ true
       each_middle = rw (s 4 _ refl, s 5 _ refl, s 7 _ refl) refl

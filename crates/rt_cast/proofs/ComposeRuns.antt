@@ -36,7 +36,7 @@ use Rattle.rt_cast.proofs.ComposeSteps.{onto, projects, meets, both}
 use Rattle.rt_cast.proofs.Walks.{Walk}
 
 -- no Inject and no Project
-abbrev is_plain : Coercion → Bool
+abbrev pub is_plain : Coercion → Bool
 is_plain Id = true
 is_plain (Fail label) = true
 is_plain (Middle kind parts) = true
@@ -51,7 +51,7 @@ plain_middle : (rows : ℕ → TypeRow) (next : ℕ → ℕ → ℕ → Coercion
 plain_middle rows next None s t p = refl
 plain_middle rows next (Some kind) s t p = plain_cond (all_id (coerce_parts rows next kind s t p (slots rows s) 0)) Id (Middle kind (coerce_parts rows next kind s t p (slots rows s) 0)) refl refl
 
-plain_solid : (rows : ℕ → TypeRow) (next : ℕ → ℕ → ℕ → Coercion) (s t p : ℕ) → is_plain (coerce_solid rows next s t p) ≡ true
+pub plain_solid : (rows : ℕ → TypeRow) (next : ℕ → ℕ → ℕ → Coercion) (s t p : ℕ) → is_plain (coerce_solid rows next s t p) ≡ true
 plain_solid rows next s t p =
     plain_cond (nat_eq s t) Id (cond (same_head (rows s) (rows t)) (coerce_middle rows next (kind_of (rows s)) s t p) (Fail p)) refl
         (plain_cond (same_head (rows s) (rows t)) (coerce_middle rows next (kind_of (rows s)) s t p) (Fail p) (plain_middle rows next (kind_of (rows s)) s t p) refl)
@@ -63,7 +63,7 @@ flat_plain (Middle kind parts) e = refl
 flat_plain (Inject g kept) e = e
 flat_plain (Project wanted label i) e = e
 
-follow_plain : (next : Coercion → Coercion → Coercion) (coerce : ℕ → ℕ → ℕ → Coercion) (c d : Coercion) → is_plain c ≡ true → follow next coerce c d ≡ after_inner next c d
+pub follow_plain : (next : Coercion → Coercion → Coercion) (coerce : ℕ → ℕ → ℕ → Coercion) (c d : Coercion) → is_plain c ≡ true → follow next coerce c d ≡ after_inner next c d
 follow_plain next coerce Id d e = refl
 follow_plain next coerce (Fail label) d e = refl
 follow_plain next coerce (Middle kind parts) d e = refl
@@ -75,6 +75,11 @@ follow_plain next coerce (Project wanted label i) d e = absurd (clash e)
   where
     clash : false ≡ true → ⊥
     clash q = cc
+
+-- between types that are not Dyn
+pub solid_is : (rows : ℕ → TypeRow) (n kept wanted label : ℕ) → is_dyn (rows kept) ≡ false → is_dyn (rows wanted) ≡ false
+    → coerce_to rows n kept wanted label ≡ coerce_solid rows (coerce_below rows n) kept wanted label
+solid_is rows n kept wanted label a b = ap₂ (λ x y. coerce_by rows (coerce_below rows n) x y kept wanted label) a b
 
 module _ {V : Type 0} (walk : Walk V) where
   abbrev R : ℕ → TypeRow
@@ -190,9 +195,6 @@ module _ {V : Type 0} (walk : Walk V) where
             (go objects h 0 12 _ _ (Number 0) (grows_not objects) fine refl refl)))))
           (omega arith, omega arith)
 
-  solid_is : (n kept wanted label : ℕ) → is_dyn (R kept) ≡ false → is_dyn (R wanted) ≡ false → coerce_to R n kept wanted label ≡ coerce_solid R (coerce_below R n) kept wanted label
-  solid_is n kept wanted label a b = ap₂ (λ x y. coerce_by R (coerce_below R n) x y kept wanted label) a b
-
   no_project_at : (n : ℕ) → n ≤ 65534 → AllCasts n → Below n → (c d : Coercion) → is_project c ≡ false → IsNormal R c → IsNormal R d → NoHigher R c n → NoHigher R d n → Does (meet_cost walk.l.width (coerce_cost walk.l.width n) (below_cost n)) (suc (suc (suc (4 * n)))) c d (compose_to R n c d)
   no_project_at n le casts below Id d f nc nd lc ld = more 1 (meet_cost walk.l.width (coerce_cost walk.l.width n) (below_cost n)) 0 (suc (suc (suc (4 * n)))) Id d d (id_first walk d) (omega arith) (omega arith)
   no_project_at n le casts below (Fail label) d f nc nd lc ld = more 5 (meet_cost walk.l.width (coerce_cost walk.l.width n) (below_cost n)) 0 (suc (suc (suc (4 * n)))) (Fail label) d (Fail label) (fail_first walk label d) (omega arith) (omega arith)
@@ -203,7 +205,7 @@ module _ {V : Type 0} (walk : Walk V) where
   no_project_at n le casts below (Inject g kept) (Inject g2 kept2) f nc nd lc ld = λ B objects h fine waiting wc wd hc hd go. at_most walk ((lost objects h fine waiting wc wd (coercion_height tall (Inject g kept)) (hc.0 ∷ hc.1 ∷ []) hc.2 13 (coercion_height tall (Inject g2 kept2)) 2 (hd.0 ∷ hd.1 ∷ []) hd.2 (omega arith) refl refl go)) (omega arith, omega arith)
   no_project_at n le casts below (Inject g kept) (Project wanted label i) f nc nd lc ld =
       let e1 = coerce_to R n kept wanted label in
-      let solid = solid_is n kept wanted label nc.2 nd.0 in
+      let solid = solid_is R n kept wanted label nc.2 nd.0 in
       let e2 = compose_to R n e1 i in
       let n1 = coerce_normal R n kept wanted label in
       let l1 = coerce_height R n n kept wanted label lc.1 ld.0 in

@@ -12,3 +12,8 @@ mod ComposeRuns
 mod CoerceRuns
 mod Reaching
 mod Closing
+mod PartCodeLemmas
+mod CastCases
+mod CastRuns
+mod CastDecisions
+mod CastReaching

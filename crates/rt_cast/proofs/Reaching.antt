@@ -22,12 +22,12 @@ use Rattle.rt_cast.proofs.CoerceRuns.{all_cast}
 module _ {V : Type 0} (reading : Halt → Ending V) (setting : Setting) (l : Layout) (first : ℕ) (s : LowState)
     (exhausts : reading (Lacks Region) ≡ Exhausted) (ready : IsReady setting l first) where
   -- what is there at first is there
-  at_first : (objects : List Object) → Filled setting l objects (heap_of s)
+  pub at_first : (objects : List Object) → Filled setting l objects (heap_of s)
       → Fine setting l (around s) objects (heap_of s)
   at_first objects filled = record { filled = filled; beyond = le_refl s.alloc; kept = λ i lt. refl }
 
   -- the walk to a state, with so many procedures above and so many words
-  abbrev walk : (LowState → Type 0) → ℕ → ℕ → Walk V
+  abbrev pub walk : (LowState → Type 0) → ℕ → ℕ → Walk V
   walk Q frames words = record {
     reading = reading;
     setting = setting;

@@ -8,3 +8,5 @@ pub mod CastCodes
 pub mod Procs
 pub mod States
 pub mod Costs
+pub mod MergedValues
+pub mod Carried

@@ -38,20 +38,27 @@ coerce_part_proc first = proc 6 6 (part_code (λ x y. TailCall (coerce first) (x
 abbrev pub pair_proc : ℕ → Proc
 pair_proc first = proc 5 24 (middle_code (raise first) (coerce_part first) first_word 2)
 
--- a middle of so many parts, told the procedure of a part
-abbrev pub middle_proc : ℕ → ℕ → ℕ → Proc
-middle_proc first which r = proc 5 24 (middle_code (raise first) which each_word r)
+-- a middle of so many parts, told the procedures of a height and of a part
+abbrev pub middle_by : ℕ → ℕ → ℕ → Proc
+middle_by higher each r = proc 5 24 (middle_code higher each each_word r)
 
 -- so many of them, from r parts on
-abbrev pub middles : ℕ → ℕ → ℕ → ℕ → List Proc
-middles first which zero r = []
-middles first which (suc n) r = middle_proc first which r ∷ middles first which n (suc r)
+abbrev pub middles_from : ℕ → ℕ → ℕ → ℕ → List Proc
+middles_from higher each zero r = []
+middles_from higher each (suc n) r = middle_by higher each r ∷ middles_from higher each n (suc r)
+
+-- told the procedure of a part
+abbrev pub middle_proc : ℕ → ℕ → ℕ → Proc
+middle_proc first each r = middle_by (raise first) each r
+
+abbrev pub middles : ℕ → ℕ → List Proc
+middles first each = middles_from (raise first) each 9 0
 
 abbrev pub cast_procs : ℕ → List Proc
 cast_procs first =
     coerce_proc first ∷ compose_proc first ∷ cast_proc first ∷ project_proc first ∷ part_proc first ∷ raise_proc
     ∷ final_proc ∷ coerce_part_proc first ∷ pair_proc first
-    ∷ middles first (part first) 9 0 ++ middles first (coerce_part first) 9 0
+    ∷ middles first (part first) ++ middles first (coerce_part first)
 
 -- the procedures stand in a program, numbered from a first number on
 abbrev pub Stand : List Proc → ℕ → Type 0
