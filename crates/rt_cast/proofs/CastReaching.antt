@@ -7,6 +7,7 @@ use Rattle.rv_machine.specs.State.{Halt, Lacks, Region}
 use Rattle.low_ir.specs.Procedures.{Return, Environment}
 use Rattle.low_ir.specs.Run.{Setting, LowState}
 use Rattle.coercion_norm.specs.Coercions.{Coercion}
+use Rattle.coercion_norm.specs.Heights.{NoHigher}
 use Rattle.coercion_norm.proofs.Public.{bound_from_height}
 use Rattle.rt_cast.specs.Costs.{cast_cost}
 use Rattle.rt_cast.specs.Objects.{Object}
@@ -50,6 +51,7 @@ module _ {V : Type 0} (reading : Halt → Ending V) (setting : Setting) (l : Lay
             (decided_cast l ready.types head c lc.normal below u (low_of objects u wv hv) r some e)) in
         (z.steps, (let f = z.few in omega arith), z.reach (record { room = omega arith; left = omega arith }))
       where
+        below : NoHigher (rows_in l) c l.tallest
         below = bound_from_height (rows_in l) (height_in l) ready.types.heights c l.tallest lc.low
 
         Q : LowState → Type 0

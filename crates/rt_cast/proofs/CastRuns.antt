@@ -195,7 +195,7 @@ module _ {V : Type 0} (walk : Walk V) (low : walk.l.tallest ≤ 65534) (A : Type
             (λ rests. if_false walk objects fine (kind_number kind) 8 refl refl (no_middle kind 8 (inl refl))
             (if_false walk objects fine (kind_number kind) 13 refl refl (no_middle kind 13 (inr (omega arith)))
             (if_false walk objects fine (kind_number kind) 14 refl refl (no_middle kind 14 (inr (omega arith)))
-            (loads_at walk objects fine wv (header s.kind s.height s.count) refl (subst (λ x. WordThere walk.reading told walk.l world h (wv + 0) x) s.head (subst (λ m. WordThere walk.reading told walk.l world h m (header_of s.object)) (zero_more wv) z)) refl
+            (loads_at walk objects fine wv (header s.kind s.height s.count) refl (subst (λ x. WordThere walk h (wv + 0) x) s.head (subst (λ m. WordThere walk h m (header_of s.object)) (zero_more wv) z)) refl
             (computes walk objects fine (header s.kind s.height s.count) 255 s.kind refl refl (kind_read s.kind s.height s.count s.low) refl
             (if_false walk objects fine s.kind 2 refl refl s.other
             (proxied a kind cs nc lc objects objects (grows_not objects) h fine waiting 10 _ _ (Word 0) (Word 1) wv wc refl refl refl hv hc go))))))))
