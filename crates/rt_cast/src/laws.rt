@@ -1,16 +1,22 @@
 // What the procedures do.
 
-ghost use Rattle.std.specs.Prelude.{◌≡◌, ℕ, ◌+◌, ◌*◌, ◌<◌, ◌^◌, max, List, [], ◌∷◌};
+ghost use Rattle.std.specs.Prelude.{◌≡◌, ℕ, ◌+◌, ◌*◌, ◌<◌, ◌≤◌, ◌^◌, max, true, List, [], ◌∷◌, length};
+ghost use Rattle.grift_base.specs.Types.{TypeHead};
 ghost use Rattle.run_laws.specs.Runs.{Ending, Exhausted};
 ghost use Rattle.rv_machine.specs.State.{Halt, Lacks, Region};
+ghost use Rattle.low_ir.specs.Procedures.{Proc};
+ghost use Rattle.low_ir.specs.Closed.{each_closed};
 ghost use Rattle.low_ir.specs.Run.{Setting, LowState};
+ghost use Rattle.type_graph.specs.declared.tables.TheConstants.{MOST_HEIGHT};
 ghost use Rattle.coercion_norm.specs.Coercions.{Coercion};
 ghost use Rattle.coercion_norm.specs.CoercionTables.{IsSound, cast_of, composition_of};
 ghost use Rattle.coercion_norm.specs.Heights.{coercion_height};
-ghost use Rattle.rt_cast.specs.Costs.{coerce_cost, compose_cost};
+ghost use Rattle.rt_cast.specs.Costs.{coerce_cost, compose_cost, cast_cost};
 ghost use Rattle.rt_cast.specs.Objects.{Object};
 ghost use Rattle.rt_cast.specs.Held.{Layout, Held, HoldsType, height_in};
-ghost use Rattle.rt_cast.specs.Procs.{coerce_proc, compose_proc};
+ghost use Rattle.rt_cast.specs.Procs.{Stand, coerce_proc, compose_proc, cast_proc, cast_procs};
+ghost use Rattle.rt_cast.specs.MergedValues.{Merged, Outcome, Stuck, cast_value};
+ghost use Rattle.rt_cast.specs.Carried.{IsLow, IsVery, Carries, ComesToOutcome};
 ghost use Rattle.rt_cast.specs.States.{Filled, IsReady, ComesToHeld, heap_of};
 
 /// In any storage of whole objects that holds two coercions, and whatever waits, compose comes to a return of a word that
@@ -37,4 +43,26 @@ pub fn coercions_of_casts_are_held<V>()
         → ComesToHeld reading setting l s objects (coerce_proc first) (wf ∷ wt ∷ label ∷ [])
         (cast_of l.types from to label) (coerce_cost l.width (max (height_in l from) (height_in l to)))
         (max (height_in l from) (height_in l to) + 1) }
+{}
+
+/// Whatever the decisions of the merged mode make of a value, cast makes of the word that carries it: it comes to a return
+/// of a word that carries the value that is made, or to the call that blames the label, or the region is exhausted. What
+/// stands under a proxy stays the very object that it was. A cast that the mode has no decision for isn't spoken of.
+/// Steps, words and active procedures are bounded by the height of the tallest coercion.
+pub fn casts_are_made<V>()
+    ensures { (reading : Halt → Ending V) (setting : Setting) (l : Layout) (first : ℕ) (s : LowState)
+        → reading (Lacks Region) ≡ Exhausted → IsReady setting l first → l.tallest ≤ MOST_HEIGHT
+        → (objects : List Object) → Filled setting l objects (heap_of s) → (head : ℕ → TypeHead) (c : Coercion)
+        → IsLow l c → (u : Merged ℕ) (r : Outcome ℕ) → cast_value head l.types c u ≡ r → (r ≡ Stuck → ⊥)
+        → (wv wc : ℕ) → Carries l objects u wv → Held l objects c wc
+        → ComesToOutcome reading setting l s (IsVery l) objects (cast_proc first) (wv ∷ wc ∷ []) r
+        (cast_cost l.width l.tallest) (4 * l.tallest + 6) }
+{}
+
+/// The procedures are closed wherever they stand in a program, so each calls only procedures of the set, and hands on
+/// eight words at most.
+pub fn procedures_are_closed()
+    ensures closed { (procs : List Proc) (first : ℕ) → Stand procs first
+        → each_closed procs (cast_procs first) ≡ true }
+    ensures many { (first : ℕ) → length (cast_procs first) ≡ 27 }
 {}
