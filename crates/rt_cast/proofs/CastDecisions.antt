@@ -1,15 +1,15 @@
 -- What the decisions of the merged mode make of a value is what the cases of casts give.
-use Rattle.std.proofs.Common.{◌≡◌, ℕ, suc, ◌≤◌, Bool, true, false, cond, ◌&&◌, refl, sym, ap, ◌∙◌, subst, arith}
+use Rattle.std.proofs.Common.{◌≡◌, ℕ, suc, ◌≤◌, Bool, true, false, refl, sym, ap, ◌∙◌, arith}
 use Rattle.std.specs.Prelude.{max, if◌then◌else◌}
-use Rattle.grift_base.specs.Types.{TypeHead, DynHead, TypeRow, TypeRows, equal_heads, head_of, is_dyn}
+use Rattle.grift_base.specs.Types.{TypeHead, TypeRow, head_of, is_dyn}
 use Rattle.coercion_norm.specs.declared.middles.MiddleKind.{MiddleKind as Kind}
-use Rattle.coercion_norm.specs.Coercions.{Coercion, Coercions, Id, Fail, Middle, Inject, Project, is_id, same_kind, rows_of}
+use Rattle.coercion_norm.specs.Coercions.{Coercion, Coercions, Id, Fail, Middle, Inject, Project}
 use Rattle.coercion_norm.specs.CoercionTables.{cast_of, composition_of}
 use Rattle.coercion_norm.specs.Composition.{coerce_to, compose_to, compose_below, coerce_below, coerce_solid}
 use Rattle.coercion_norm.specs.Composition.{after_middle, after_inner}
-use Rattle.coercion_norm.specs.Heights.{coercion_height, NoHigher, TypeNoHigher}
+use Rattle.coercion_norm.specs.Heights.{coercion_height, NoHigher}
 use Rattle.coercion_norm.specs.Normal.{IsNormal, is_flat, is_project}
-use Rattle.coercion_norm.specs.Modes.{Shape, Bare, Wrapped, Injected, Decision, NoCast, Wrapping, Injecting, Making}
+use Rattle.coercion_norm.specs.Modes.{Bare, Wrapped, Injected, Decision, NoCast, Injecting}
 use Rattle.coercion_norm.specs.MergedMode.{applied, proxied, rewrapped, shape_has_head, middle_head, width}
 use Rattle.coercion_norm.proofs.Public.{coerce_enough, compose_enough, bound_from_height, height_from_bound}
 use Rattle.coercion_norm.proofs.Public.{coerce_height, coerce_normal, flat_after_middle, compose_height, compose_normal}
@@ -17,7 +17,7 @@ use Rattle.rt_cast.specs.Held.{Layout, TypesStand, rows_in, height_in}
 use Rattle.rt_cast.specs.Carried.{IsLow}
 use Rattle.rt_cast.specs.MergedValues.{Merged, Base, Solid, Proxied, InDyn, Outcome, Stuck, Gives, Blames, then_outcome}
 use Rattle.rt_cast.specs.MergedValues.{decided, shape_of, cast_to, cast_value}
-use Rattle.rt_cast.proofs.CastCases.{wrap, rewrap, apply_plain, apply_final, open_dyn, apply}
+use Rattle.rt_cast.proofs.CastCases.{wrap, rewrap, apply_plain, apply_final, apply}
 use Rattle.rt_cast.proofs.ComposeRuns.{is_plain, plain_solid, follow_plain, solid_is}
 
 -- no outcome is stuck where one is not
@@ -97,20 +97,23 @@ module _ (l : Layout) (types : TypesStand l) {A : Type 0} (head : A → TypeHead
       → decided go (decision (Middle kind cs) u) u ≡ r → wrap R n kind cs u ≡ r
   by_middle go kind cs lc (Base h w) low r some e = by (shape_has_head (Bare h) (middle_head kind (width cs))) e
     where
-      by : (b : Bool) → decided go (if b then proxied (cast_of l.types) (composition_of l.types) l.types (Middle kind cs)
+      by : (b : Bool) → decided go (if b then proxied (cast_of l.types) (composition_of l.types) l.types
+          (Middle kind cs)
           (Bare h) else NoCast) (Base h w) ≡ r → Stuck ≡ r
       by true f = f
       by false f = f
   by_middle go kind cs lc (Solid a) low r some e = by (shape_has_head (Bare (head a)) (middle_head kind (width cs))) e
     where
-      by : (b : Bool) → decided go (if b then proxied (cast_of l.types) (composition_of l.types) l.types (Middle kind cs)
+      by : (b : Bool) → decided go (if b then proxied (cast_of l.types) (composition_of l.types) l.types
+          (Middle kind cs)
           (Bare (head a)) else NoCast) (Solid a) ≡ r → Gives (Proxied a (Middle kind cs)) ≡ r
       by true f = f
       by false f = no_stuck r some f
   by_middle go kind cs lc (InDyn kept x) low r some e =
       by (shape_has_head (Injected kept) (middle_head kind (width cs))) e
     where
-      by : (b : Bool) → decided go (if b then proxied (cast_of l.types) (composition_of l.types) l.types (Middle kind cs)
+      by : (b : Bool) → decided go (if b then proxied (cast_of l.types) (composition_of l.types) l.types
+          (Middle kind cs)
           (Injected kept) else NoCast) (InDyn kept x) ≡ r → Stuck ≡ r
       by true f = f
       by false f = f
@@ -124,7 +127,8 @@ module _ (l : Layout) (types : TypesStand l) {A : Type 0} (head : A → TypeHead
       flat : is_flat (compose_to R n (Middle other ds) (Middle kind cs)) ≡ true
       flat = flat_after_middle (compose_below R n) other ds (Middle kind cs) refl
 
-      by : (b : Bool) → decided go (if b then proxied (cast_of l.types) (composition_of l.types) l.types (Middle kind cs)
+      by : (b : Bool) → decided go (if b then proxied (cast_of l.types) (composition_of l.types) l.types
+          (Middle kind cs)
           (Wrapped (Middle other ds)) else NoCast) (Proxied a (Middle other ds)) ≡ r
           → rewrap a (compose_to R n (Middle other ds) (Middle kind cs)) ≡ r
       by true f =

@@ -1,5 +1,5 @@
 -- What cast comes to, from a state in which whole objects fill the region.
-use Rattle.std.proofs.Common.{◌≡◌, ℕ, zero, suc, ◌+◌, ◌*◌, ◌≤◌, List, [], ◌∷◌, length, refl, sym, ◌∙◌, ap, subst}
+use Rattle.std.proofs.Common.{◌≡◌, ℕ, ◌+◌, ◌*◌, ◌≤◌, List, [], ◌∷◌, refl, sym, subst}
 use Rattle.std.proofs.Common.{le_refl, arith}
 use Rattle.grift_base.specs.Types.{TypeHead}
 use Rattle.run_laws.specs.Runs.{Ending, Exhausted}
@@ -14,7 +14,7 @@ use Rattle.rt_cast.specs.Objects.{Object}
 use Rattle.rt_cast.specs.Held.{Layout, Held, rows_in, height_in}
 use Rattle.rt_cast.specs.WholeObjects.{IsSolid}
 use Rattle.rt_cast.specs.Procs.{cast_proc}
-use Rattle.rt_cast.specs.States.{Grows, Filled, IsReady, OnTheWay, around, heap_of, st}
+use Rattle.rt_cast.specs.States.{Grows, Filled, IsReady, around, heap_of, st}
 use Rattle.rt_cast.specs.MergedValues.{Merged, Base, Solid, Proxied, InDyn, Outcome, Stuck, Gives, Blames, cast_value}
 use Rattle.rt_cast.specs.Carried.{IsLow, CarriedBy, Carries, IsVery, ComesTo, ComesToOutcome}
 use Rattle.rt_cast.proofs.Walks.{Walk}
@@ -45,10 +45,10 @@ module _ {V : Type 0} (reading : Halt → Ending V) (setting : Setting) (l : Lay
         (cast_cost l.width l.tallest) (4 * l.tallest + 6)
     casts low objects filled c lc u r e some wv wc hv hc =
         let z =
-            by_cast w low A IsHeld still is_solid c lc.normal below u End objects (heap_of s)
-            (at_first reading setting l first s exhausts ready objects filled) s.waiting wv wc hv hc
-            (outcome (apply (rows_in l) l.tallest c u)
-            (decided_cast l ready.types head c lc.normal below u (low_of objects u wv hv) r some e)) in
+        by_cast w low A IsHeld still is_solid c lc.normal below u End objects (heap_of s)
+        (at_first reading setting l first s exhausts ready objects filled) s.waiting wv wc hv hc
+        (outcome (apply (rows_in l) l.tallest c u)
+        (decided_cast l ready.types head c lc.normal below u (low_of objects u wv hv) r some e)) in
         (z.steps, (let f = z.few in omega arith), z.reach (record { room = omega arith; left = omega arith }))
       where
         below : NoHigher (rows_in l) c l.tallest
@@ -66,7 +66,8 @@ module _ {V : Type 0} (reading : Halt → Ending V) (setting : Setting) (l : Lay
           steps = 0;
           few = le_refl 0;
           reach = λ spare.
-              subst (λ y. ComesTo l setting s IsHeld objects y (st (around s) count locals (Return a) rests s.waiting h'))
+              subst (λ y. ComesTo l setting s IsHeld objects y (st (around s) count locals (Return a) rests s.waiting
+              h'))
               q (record {
                 new = new;
                 grows = grows;
@@ -123,5 +124,6 @@ module _ {V : Type 0} (reading : Halt → Ending V) (setting : Setting) (l : Lay
       → ComesToOutcome reading setting l s (IsVery l) objects (cast_proc first) (wv ∷ wc ∷ []) r
       (cast_cost l.width l.tallest) (4 * l.tallest + 6)
   very_casts low objects filled head c lc u r e some wv wc hv hc =
-      casts head (IsVery l) (λ old new g a w h. very_still old new g a w h) (λ os a w h. h.solid) low objects filled c lc
+      casts head (IsVery l) (λ old new g a w h. very_still old new g a w h) (λ os a w h. h.solid) low objects filled c
+      lc
       u r e some wv wc hv hc

@@ -4,7 +4,7 @@ use Rattle.low_ir.specs.Procedures.{Proc}
 use Rattle.low_ir.specs.Closed.{proc_closed, each_closed}
 use Rattle.rt_cast.specs.ComposeCodes.{part, coerce_part}
 use Rattle.rt_cast.specs.Procs.{Stand, cast_procs, coerce_proc, compose_proc, cast_proc, project_proc, part_proc}
-use Rattle.rt_cast.specs.Procs.{raise_proc, final_proc, coerce_part_proc, pair_proc, middles}
+use Rattle.rt_cast.specs.Procs.{coerce_part_proc, pair_proc, middles}
 
 and_so : (a b : Bool) → a ≡ true → b ≡ true → (a && b) ≡ true
 and_so a b h k = ap₂ (λ x y. x && y) h k
@@ -12,13 +12,37 @@ and_so a b h k = ap₂ (λ x y. x && y) h k
 module _ (procs : List Proc) (first : ℕ) (s : Stand procs first) where
   coerce_closed : proc_closed procs (coerce_proc first) ≡ true
   coerce_closed =
-      rw (s 5 _ refl, s 8 _ refl, s 18 _ refl, s 19 _ refl, s 20 _ refl, s 21 _ refl, s 22 _ refl, s 23 _ refl,
-      s 24 _ refl, s 25 _ refl, s 26 _ refl) refl
+      rw (
+        s 5 _ refl,
+        s 8 _ refl,
+        s 18 _ refl,
+        s 19 _ refl,
+        s 20 _ refl,
+        s 21 _ refl,
+        s 22 _ refl,
+        s 23 _ refl,
+        s 24 _ refl,
+        s 25 _ refl,
+        s 26 _ refl,
+      ) refl
 
   compose_closed : proc_closed procs (compose_proc first) ≡ true
   compose_closed =
-      rw (s 0 _ refl, s 1 _ refl, s 5 _ refl, s 6 _ refl, s 9 _ refl, s 10 _ refl, s 11 _ refl, s 12 _ refl,
-      s 13 _ refl, s 14 _ refl, s 15 _ refl, s 16 _ refl, s 17 _ refl) refl
+      rw (
+        s 0 _ refl,
+        s 1 _ refl,
+        s 5 _ refl,
+        s 6 _ refl,
+        s 9 _ refl,
+        s 10 _ refl,
+        s 11 _ refl,
+        s 12 _ refl,
+        s 13 _ refl,
+        s 14 _ refl,
+        s 15 _ refl,
+        s 16 _ refl,
+        s 17 _ refl,
+      ) refl
 
   cast_closed : proc_closed procs (cast_proc first) ≡ true
   cast_closed = rw (s 0 _ refl, s 1 _ refl, s 2 _ refl) refl

@@ -1,12 +1,11 @@
 -- Headers as numbers, and tests.
-use Rattle.std.proofs.Common.{◌≡◌, ◌⊎◌, inl, inr, ℕ, zero, suc, ◌+◌, ◌-◌, ◌*◌, ◌/◌, ◌^◌, ◌%◌, ◌<◌, ◌≤◌, Bool, true}
-use Rattle.std.proofs.Common.{false, refl, sym, ap, ◌∙◌, subst, arith}
-use Rattle.std.specs.Prelude.{◌==◌, nat_lt, nat_le, max}
+use Rattle.std.proofs.Common.{◌≡◌, ◌⊎◌, inl, inr, ℕ, ◌+◌, ◌*◌, ◌/◌, ◌^◌, ◌<◌, ◌≤◌, Bool, true}
+use Rattle.std.proofs.Common.{false, refl, ◌∙◌, arith}
+use Rattle.std.specs.Prelude.{◌==◌, nat_lt}
 use Rattle.std.proofs.lemmas.Nat.{and_mask}
 use Rattle.low_ir.specs.Operations.{compute}
-use Rattle.low_ir.specs.declared.code.WordOp.TheVariants.{Add, Sub, And, Sll, Srl, Sltu}
-use Rattle.rt_cast.specs.Held.{header, Layout, rows_in, height_in}
-use Rattle.rt_cast.proofs.Walks.{Walk}
+use Rattle.low_ir.specs.declared.code.WordOp.TheVariants.{Add, And, Sll, Srl}
+use Rattle.rt_cast.specs.Held.{header}
 
 pub eq_true : (a b : ℕ) → a ≡ b → (a == b) ≡ true
 eq_true a b e = grind arith
@@ -43,7 +42,8 @@ height_read k h c lt le = and_mask (header k h c / 65536) 16 ∙ omega arith
 pub count_read : (k h c : ℕ) → k < 65536 → h < 65536 → compute Srl (header k h c) 32 ≡ c
 count_read k h c lt le = omega arith
 
-pub header_made : (k h c : ℕ) → k < 256 → h < 65536 → c < 16 → compute Add (compute Sll h 16) (k + c * 4294967296) ≡ header k h c
+pub header_made : (k h c : ℕ) → k < 256 → h < 65536 → c < 16 → compute Add (compute Sll h 16) (k + c * 4294967296) ≡
+    header k h c
 header_made k h c a b d = omega arith
 
 pub header_small : (k h c : ℕ) → k < 256 → h < 65536 → c < 16 → header k h c < 2 ^ 64

@@ -1,5 +1,24 @@
 -- Codes of parts as loops make them.
-use Rattle.std.proofs.Common.{◌≡◌, ℕ, zero, suc, ◌+◌, ◌-◌, ◌<◌, List, [], ◌∷◌, ◌++◌, append_assoc, refl, ap, ap₂, ◌∙◌, subst, arith}
+use Rattle.std.proofs.Common.{
+  ◌≡◌,
+  ℕ,
+  zero,
+  suc,
+  ◌+◌,
+  ◌-◌,
+  ◌<◌,
+  List,
+  [],
+  ◌∷◌,
+  ◌++◌,
+  append_assoc,
+  refl,
+  ap,
+  ap₂,
+  ◌∙◌,
+  subst,
+  arith,
+}
 use Rattle.low_ir.specs.declared.code.LowSource.TheVariants.{Word}
 use Rattle.low_ir.specs.Procedures.{Code}
 use Rattle.low_ir.specs.declared.programs.LowProc.{LowProc}
@@ -57,8 +76,8 @@ middles_more higher each r start old new p o m n =
     let e : 0 + r ≡ r = omega arith in
     let f : suc r ≡ r + 1 = omega arith in
     let last : middles_from higher each r 0 ++ middle_by higher each r ∷ [] ≡ middles_from higher each (suc r) 0 =
-        subst (λ i. middles_from higher each r 0 ++ middle_by higher each i ∷ [] ≡ middles_from higher each (suc r) 0) e
-        (middles_end higher each r 0) in
+    subst (λ i. middles_from higher each r 0 ++ middle_by higher each i ∷ [] ≡ middles_from higher each (suc r) 0) e
+    (middles_end higher each r 0) in
     ap procs_of n ∙ (procs_join old (p ∷ []) ∙ (ap₂ (λ xs q. xs ++ q ∷ []) o m
     ∙ (append_assoc (procs_of start) (middles_from higher each r 0) (middle_by higher each r ∷ [])
     ∙ (ap (λ xs. procs_of start ++ xs) last ∙ ap (λ i. procs_of start ++ middles_from higher each i 0) f))))

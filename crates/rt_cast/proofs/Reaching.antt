@@ -1,19 +1,18 @@
 -- What the procedures come to, from a state in which whole objects fill the region.
-use Rattle.std.proofs.Common.{◌≡◌, ℕ, suc, ◌+◌, ◌*◌, ◌<◌, ◌≤◌, ◌^◌, List, [], ◌∷◌, length, refl, le_refl, arith}
+use Rattle.std.proofs.Common.{◌≡◌, ℕ, ◌+◌, ◌*◌, ◌<◌, ◌≤◌, ◌^◌, List, [], ◌∷◌, length, refl, le_refl, arith}
 use Rattle.std.specs.Prelude.{max}
 use Rattle.run_laws.specs.Runs.{Ending, Exhausted}
 use Rattle.rv_machine.specs.State.{Halt, Lacks, Region}
-use Rattle.low_ir.specs.Run.{Setting, Active, Waiting, LowState, code_turns}
-use Rattle.type_graph.specs.declared.tables.TheConstants.{MOST_HEIGHT}
+use Rattle.low_ir.specs.Run.{Setting, LowState}
 use Rattle.coercion_norm.specs.Coercions.{Coercion}
 use Rattle.coercion_norm.specs.CoercionTables.{IsSound, cast_of, composition_of}
 use Rattle.coercion_norm.specs.Heights.{coercion_height}
 use Rattle.coercion_norm.proofs.Public.{bound_from_height}
 use Rattle.rt_cast.specs.Costs.{coerce_cost, compose_cost}
 use Rattle.rt_cast.specs.Objects.{Object}
-use Rattle.rt_cast.specs.Held.{Layout, Held, HoldsType, TypesStand, rows_in, height_in}
+use Rattle.rt_cast.specs.Held.{Layout, Held, HoldsType, rows_in, height_in}
 use Rattle.rt_cast.specs.Procs.{coerce_proc, compose_proc}
-use Rattle.rt_cast.specs.States.{Heap, Filled, Fine, Calm, OnTheWay, HeldAt, IsReady, ComesToHeld, around, heap_of}
+use Rattle.rt_cast.specs.States.{Filled, Fine, OnTheWay, HeldAt, IsReady, ComesToHeld, around, heap_of}
 use Rattle.rt_cast.proofs.Walks.{Walk}
 use Rattle.rt_cast.proofs.Steps.{End}
 use Rattle.rt_cast.proofs.ComposeRuns.{all_composed}
@@ -62,11 +61,14 @@ module _ {V : Type 0} (reading : Halt → Ending V) (setting : Setting) (l : Lay
       let w = walk Q (4 * n + 4) (9 * most) in
       let le : n ≤ 65534 = omega (arith, sc.low, sd.low) in
       let z =
-          all_composed w (λ m low. all_cast w m low) n le c d sc.normal sd.normal
-          (bound_from_height (rows_in l) (height_in l) ready.types.heights c n (omega arith))
-          (bound_from_height (rows_in l) (height_in l) ready.types.heights d n (omega arith)) End objects (heap_of s)
-          (at_first objects filled) s.waiting wc wd hc hd
-          (λ new h w count locals rests a grows fine held is. record { steps = 0; few = le_refl 0; reach = λ spare.
+      all_composed w (λ m low. all_cast w m low) n le c d sc.normal sd.normal
+      (bound_from_height (rows_in l) (height_in l) ready.types.heights c n (omega arith))
+      (bound_from_height (rows_in l) (height_in l) ready.types.heights d n (omega arith)) End objects (heap_of s)
+      (at_first objects filled) s.waiting wc wd hc hd
+      (λ new h w count locals rests a grows fine held is. record {
+        steps = 0;
+        few = le_refl 0;
+        reach = λ spare.
             record {
               new = new;
               grows = grows;
@@ -78,7 +80,8 @@ module _ {V : Type 0} (reading : Halt → Ending V) (setting : Setting) (l : Lay
               is = is;
               waits = refl;
               same = refl;
-            } })
+            };
+      })
       in
       (z.steps, (let f = z.few in omega arith), z.reach (record { room = omega arith; left = omega arith }))
 
@@ -94,10 +97,13 @@ module _ {V : Type 0} (reading : Halt → Ending V) (setting : Setting) (l : Lay
       let w = walk Q (n + 1) (9 * most) in
       let le : n ≤ 65534 = omega (arith, ready.types.low from, ready.types.low to) in
       let z =
-          all_cast w n le from to label ((ready.types.heights from n).1 (omega arith))
-          ((ready.types.heights to n).1 (omega arith)) End objects (heap_of s) (at_first objects filled) s.waiting wf wt
-          hf ht small
-          (λ new h w count locals rests a grows fine held is. record { steps = 0; few = le_refl 0; reach = λ spare.
+      all_cast w n le from to label ((ready.types.heights from n).1 (omega arith))
+      ((ready.types.heights to n).1 (omega arith)) End objects (heap_of s) (at_first objects filled) s.waiting wf wt
+      hf ht small
+      (λ new h w count locals rests a grows fine held is. record {
+        steps = 0;
+        few = le_refl 0;
+        reach = λ spare.
             record {
               new = new;
               grows = grows;
@@ -109,6 +115,7 @@ module _ {V : Type 0} (reading : Halt → Ending V) (setting : Setting) (l : Lay
               is = is;
               waits = refl;
               same = refl;
-            } })
+            };
+      })
       in
       (z.steps, (let f = z.few in omega arith), z.reach (record { room = omega arith; left = omega arith }))

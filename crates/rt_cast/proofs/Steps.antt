@@ -1,32 +1,30 @@
 -- Steps of the word machine, in the style of "and then", where these objects stand.
-use Rattle.std.proofs.Common.{◌≡◌, ◌≢◌, ◌⊎◌, inl, inr, ℕ, zero, suc, ◌+◌, ◌-◌, ◌*◌, ◌^◌, ◌%◌, ◌<◌, ◌≤◌, Bool, true}
-use Rattle.std.proofs.Common.{false, cond, nat_eq, List, [], ◌∷◌, ◌++◌, Option, Some, None, refl, sym, ap, ap₂, ◌∙◌}
-use Rattle.std.proofs.Common.{subst, arith, eqb-true, eq-eqb, ne_eqb, le_refl, append-nil, append_assoc}
-use Rattle.std.specs.Prelude.{◌==◌, ◌&&◌, nat_lt, nat_le, if◌then◌else◌, slice_get, length, pos, max}
-use Rattle.rt_cast.specs.States.{Around, Heap, st, Fine}
-use Rattle.run_laws.specs.Runs.{Ending, Wrong, Exhausted}
-use Rattle.run_laws.specs.Machines.{Next, Go, Stop, Machine, Reaches, Onward}
+use Rattle.std.proofs.Common.{◌≡◌, ◌⊎◌, inl, inr, ℕ, zero, suc, ◌+◌, ◌-◌, ◌*◌, ◌^◌, ◌%◌, ◌<◌, ◌≤◌, Bool, true}
+use Rattle.std.proofs.Common.{false, cond, List, [], ◌∷◌, ◌++◌, Option, Some, None, refl, sym, ap, ◌∙◌}
+use Rattle.std.proofs.Common.{subst, arith, append-nil, append_assoc}
+use Rattle.std.specs.Prelude.{◌==◌, ◌&&◌, nat_lt, nat_le, slice_get, length, pos, max}
+use Rattle.rt_cast.specs.States.{Heap, st, Fine}
+use Rattle.run_laws.specs.Machines.{Go, Stop, Machine, Reaches, Onward}
 use Rattle.run_laws.proofs.Public.{by_step}
 use Rattle.rv_isa.specs.declared.inst.Cond.{Cond}
 use Rattle.rv_machine.specs.Memory.{Memory, load_bytes}
-use Rattle.rv_machine.specs.State.{Halt, Lacks, Region}
+use Rattle.rv_machine.specs.State.{Lacks, Region}
 use Rattle.rv_machine.specs.Turn.{plus}
 use Rattle.rv_machine.specs.Real.{holds}
 use Rattle.low_ir.specs.declared.code.WordOp.{WordOp}
 use Rattle.low_ir.specs.Operations.{compute}
 use Rattle.low_ir.specs.Steps.{Locals, no_locals, set_local, given, only_if, may_load, store_words}
 use Rattle.low_ir.specs.declared.code.LowSource.{LowSource}
-use Rattle.low_ir.specs.declared.code.LowSource.TheVariants.{Word, Number}
-use Rattle.low_ir.specs.Procedures.{Code, Done, Set, Compute, Load, Build, Call, If, Return, TailCall, Proc}
-use Rattle.low_ir.specs.Run.{Setting, Active, Waiting, LowState, LowShown, word_of, words_of, bind, with_local, enter}
-use Rattle.low_ir.specs.Run.{enter_some, low_machine, goes_on, load, sets, build, and_more, code_turns}
-use Rattle.rt_cast.specs.Objects.{Object, Fixed, Cell, header_of, bytes_of, bytes_of_all, object_at, HasWord}
+use Rattle.low_ir.specs.Procedures.{Code, Set, Compute, Load, Build, Call, If, Return, TailCall, Proc}
+use Rattle.low_ir.specs.Run.{Active, Waiting, LowState, LowShown, word_of, words_of, bind}
+use Rattle.low_ir.specs.Run.{low_machine, load, sets, and_more, code_turns}
+use Rattle.rt_cast.specs.Objects.{Object, Fixed, Cell, header_of, bytes_of, HasWord}
 use Rattle.rt_cast.specs.Objects.{HoldsWords, HoldsObject, Holds}
 use Rattle.rt_cast.specs.Held.{Layout, There}
 use Rattle.rt_cast.specs.WholeObjects.{IsWhole, Wholes}
 use Rattle.rt_cast.proofs.Objects.{found_within, holds_found, word_found, AreSmall, stored_words, bytes_below}
-use Rattle.rt_cast.proofs.Objects.{holds_below, holds_append, bytes_append, object_behind, object_kept, chosen_true}
-use Rattle.rt_cast.proofs.Objects.{Within, none_some, same_some}
+use Rattle.rt_cast.proofs.Objects.{holds_below, holds_append, bytes_append}
+use Rattle.rt_cast.proofs.Objects.{none_some, same_some}
 use Rattle.rt_cast.proofs.Walks.{Walk}
 
 plus_is : (x n : ℕ) → x + n < 2 ^ 64 → plus x (pos n) ≡ x + n
@@ -38,9 +36,14 @@ may top at e l h = grind arith
 le_true : (a b : ℕ) → a ≤ b → nat_le a b ≡ true
 le_true a b h = grind arith
 
-pub wholes_more : (l : Layout) (before os : List Object) (o : Object) → Wholes l before os → IsWhole l (before ++ os) o → Wholes l before (os ++ o ∷ [])
+pub wholes_more : (l : Layout) (before os : List Object) (o : Object) → Wholes l before os → IsWhole l (before ++ os) o
+    → Wholes l before (os ++ o ∷ [])
 wholes_more l before [] o h w = (subst (λ x. IsWhole l x o) (append-nil before) w, tt)
-wholes_more l before (x ∷ os) o h w = (h.0, wholes_more l (before ++ x ∷ []) os o h.1 (subst (λ y. IsWhole l y o) (sym (append_assoc before (x ∷ []) os)) w))
+wholes_more l before (x ∷ os) o h w = (
+  h.0,
+  wholes_more l (before ++ x ∷ []) os o h.1 (subst (λ y. IsWhole l y o)
+      (sym (append_assoc before (x ∷ []) os)) w),
+)
 
 in_list : (xs : List ℕ) (i w : ℕ) → slice_get xs i ≡ Some w → i < length xs
 in_list [] i w e = none_some e
@@ -121,14 +124,18 @@ module _ {V : Type 0} (walk : Walk V) where
     pub place : 65536 ≤ at
     pub end : at + 8 < 2 ^ 64
 
-  pub word_there : (objects : List Object) (h : Heap) → Fi objects h → (at header : ℕ) (ws : List ℕ) → There walk.l objects at (Fixed header ws) → (i w to : ℕ) → slice_get (header ∷ ws) i ≡ Some w → to ≡ at + 8 * i → WordThere h to w
+  pub word_there : (objects : List Object) (h : Heap) → Fi objects h → (at header : ℕ) (ws : List ℕ) → There walk.l
+      objects at (Fixed header ws) → (i w to : ℕ) → slice_get (header ∷ ws) i ≡ Some w → to ≡ at + 8 * i → WordThere h
+      to w
   word_there objects h f at header ws (inl e) i w to g t =
       let z = found_within walk.l.statics walk.l.first at (Fixed header ws) e in
-      let x = word_found h.memory at (header ∷ ws) i w to (holds_found h.memory walk.l.first walk.l.statics at (Fixed header ws) f.filled.statics_stand e) g t in
+      let x = word_found h.memory at (header ∷ ws) i w to (holds_found h.memory walk.l.first walk.l.statics at
+      (Fixed header ws) f.filled.statics_stand e) g t in
       let n = in_list (header ∷ ws) i w g in
       let even = z.even walk.placed.even_first in
       record {
-        may = may walk.setting.top to (omega (arith, even, t)) (omega (arith, z.low, walk.placed.low, t)) (omega (arith, z.high, walk.placed.before, f.filled.ends, f.filled.fits, t, n));
+        may = may walk.setting.top to (omega (arith, even, t)) (omega (arith, z.low, walk.placed.low, t))
+            (omega (arith, z.high, walk.placed.before, f.filled.ends, f.filled.fits, t, n));
         is = x.is;
         small = x.small;
         place = omega (arith, z.low, walk.placed.low, t);
@@ -136,11 +143,18 @@ module _ {V : Type 0} (walk : Walk V) where
       }
   word_there objects h f at header ws (inr e) i w to g t =
       let z = found_within objects walk.l.region at (Fixed header ws) e in
-      let x = word_found h.memory at (header ∷ ws) i w to (holds_found h.memory walk.l.region objects at (Fixed header ws) f.filled.objects_stand e) g t in
+      let x = word_found h.memory at (header ∷ ws) i w to (holds_found h.memory walk.l.region objects at (Fixed header
+      ws) f.filled.objects_stand e) g t in
       let n = in_list (header ∷ ws) i w g in
       let even = z.even walk.placed.even_region in
       record {
-        may = may walk.setting.top to (omega (arith, even, t)) (omega (arith, z.low, walk.placed.low, walk.placed.before, t)) (omega (arith, z.high, f.filled.ends, f.filled.fits, t, n));
+        may = may walk.setting.top to (omega (arith, even, t)) (omega (
+          arith,
+          z.low,
+          walk.placed.low,
+          walk.placed.before,
+          t,
+        )) (omega (arith, z.high, f.filled.ends, f.filled.fits, t, n));
         is = x.is;
         small = x.small;
         place = omega (arith, z.low, walk.placed.low, walk.placed.before, t);
@@ -156,14 +170,17 @@ module _ {V : Type 0} (walk : Walk V) where
   header_room (Cell header count) = omega arith
 
   -- the header of any object
-  pub header_there : (objects : List Object) (h : Heap) → Fi objects h → (at : ℕ) (o : Object) → There walk.l objects at o → WordThere h at (header_of o)
+  pub header_there : (objects : List Object) (h : Heap) → Fi objects h → (at : ℕ) (o : Object) → There walk.l objects at
+      o → WordThere h at (header_of o)
   header_there objects h f at o (inl e) =
       let z = found_within walk.l.statics walk.l.first at o e in
-      let x = header_held h.memory at o (holds_found h.memory walk.l.first walk.l.statics at o f.filled.statics_stand e) in
+      let x = header_held h.memory at o (holds_found h.memory walk.l.first walk.l.statics at o f.filled.statics_stand e)
+      in
       let even = z.even walk.placed.even_first in
       let r = header_room o in
       record {
-        may = may walk.setting.top at even (omega (arith, z.low, walk.placed.low)) (omega (arith, z.high, walk.placed.before, f.filled.ends, f.filled.fits, r));
+        may = may walk.setting.top at even (omega (arith, z.low, walk.placed.low))
+            (omega (arith, z.high, walk.placed.before, f.filled.ends, f.filled.fits, r));
         is = x.is;
         small = x.small;
         place = omega (arith, z.low, walk.placed.low);
@@ -175,7 +192,8 @@ module _ {V : Type 0} (walk : Walk V) where
       let even = z.even walk.placed.even_region in
       let r = header_room o in
       record {
-        may = may walk.setting.top at even (omega (arith, z.low, walk.placed.low, walk.placed.before)) (omega (arith, z.high, f.filled.ends, f.filled.fits, r));
+        may = may walk.setting.top at even (omega (arith, z.low, walk.placed.low, walk.placed.before))
+            (omega (arith, z.high, f.filled.ends, f.filled.fits, r));
         is = x.is;
         small = x.small;
         place = omega (arith, z.low, walk.placed.low, walk.placed.before);
@@ -264,11 +282,12 @@ module _ {V : Type 0} (walk : Walk V) where
         let s = z.is in
         let next = St count locals rest rests waiting h in
         within (Load d a offset rest) (omega arith) (set_local d w locals) rest rests (
-          ap (λ x. given (St count locals (Load d a offset rest) rests waiting h) x (λ x. load walk.reading walk.setting d (plus x (pos offset)) next)) e
-          ∙ (ap (λ n. load walk.reading walk.setting d n next) p
-          ∙ (ap (λ b. only_if next b (sets walk.reading walk.setting d (load_bytes 8 h.memory (at + offset)) next)) m
-          ∙ (ap (λ n. sets walk.reading walk.setting d n next) s
-          ∙ ap (λ b. only_if next b (Go (St count (set_local d w locals) rest rests waiting h))) lt)))
+        ap (λ x. given (St count locals (Load d a offset rest) rests waiting h) x (λ x. load walk.reading walk.setting d
+        (plus x (pos offset)) next)) e
+        ∙ (ap (λ n. load walk.reading walk.setting d n next) p
+        ∙ (ap (λ b. only_if next b (sets walk.reading walk.setting d (load_bytes 8 h.memory (at + offset)) next)) m
+        ∙ (ap (λ n. sets walk.reading walk.setting d n next) s
+        ∙ ap (λ b. only_if next b (Go (St count (set_local d w locals) rest rests waiting h))) lt)))
         ) c
 
     pub loads : {d offset : ℕ} {a : LowSource} {rest : Code} (at header : ℕ) (ws : List ℕ) (i w : ℕ)
@@ -341,9 +360,12 @@ module _ {V : Type 0} (walk : Walk V) where
         more_stand =
             holds_append h1.memory walk.l.region objects (Fixed header ws ∷ [])
             (holds_below (header ∷ ws) h.alloc h.memory walk.l.region objects (omega (arith, fine.filled.ends))
-            fine.filled.objects_stand)
-            (subst (λ n. HoldsWords h1.memory n (header ∷ ws)) fine.filled.ends (stored_words (header ∷ ws) h.alloc h.memory
-            small), tt)
+            fine.filled.objects_stand) (
+              subst (λ n. HoldsWords h1.memory n (header ∷ ws)) fine.filled.ends (stored_words (header ∷ ws) h.alloc
+                  h.memory
+                  small),
+              tt,
+            )
 
         by_room : (nat_le (h.alloc + 8 * suc (length ws)) walk.setting.top ≡ true)
             ⊎ (nat_le (h.alloc + 8 * suc (length ws)) walk.setting.top ≡ false) → Comes (One B) s0
@@ -380,11 +402,12 @@ module _ {V : Type 0} (walk : Walk V) where
         → words_of locals args ≡ Some ws → slice_get walk.setting.procs k ≡ Some p
         → ((length ws == p.params) && (nat_le p.params 8 && nat_le p.params p.words)) ≡ true
         → Comes B (St p.words (bind 0 ws no_locals) p.code [] (record {
-      rest = record { count = count; locals = locals; code = rest; rests = rests };
-      answer = d;
-    } ∷ waiting) h) → Comes (In B) (St count locals (Call d k args rest) rests waiting h)
+          rest = record { count = count; locals = locals; code = rest; rests = rests };
+          answer = d;
+        } ∷ waiting) h) → Comes (In B) (St count locals (Call d k args rest) rests waiting h)
     calls {d = d} {k = k} {args = args} {rest = rest} ws p e f g c =
-        goes (St count locals (Call d k args rest) rests waiting h) (St p.words (bind 0 ws no_locals) p.code [] (record {
+        goes (St count locals (Call d k args rest) rests waiting h) (St p.words (bind 0 ws no_locals) p.code []
+        (record {
           rest = record { count = count; locals = locals; code = rest; rests = rests };
           answer = d;
         } ∷ waiting) h) (rw (e, f, g) refl)
@@ -397,7 +420,8 @@ module _ {V : Type 0} (walk : Walk V) where
         → Comes B (St p.words (bind 0 ws no_locals) p.code [] waiting h)
         → Comes (One B) (St count locals (TailCall k args) rests waiting h)
     tail_calls {k = k} {args = args} ws p e f g c =
-        goes (St count locals (TailCall k args) rests waiting h) (St p.words (bind 0 ws no_locals) p.code [] waiting h) (rw (e, f, g) refl)
+        goes (St count locals (TailCall k args) rests waiting h) (St p.words (bind 0 ws no_locals) p.code [] waiting h)
+        (rw (e, f, g) refl)
         (λ s. here_at count locals rests waiting h objects fine (TailCall k args) (takes_few locals args ws p e g) s)
         (λ s. one_less s) refl c
 

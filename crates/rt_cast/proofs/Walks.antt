@@ -23,13 +23,13 @@ pub record Walk (V : Type 0) : Type 1 where
   pub calm : (active : Active) (waiting : List Waiting) (h : Heap) (objects : List Object)
       → Fine setting l around objects h → code_turns active.code ≤ 10 → length waiting ≤ frames → h.words ≤ most
       → P (record {
-    active = active;
-    waiting = waiting;
-    memory = h.memory;
-    alloc = h.alloc;
-    world = around.world;
-    words = h.words;
-  })
+        active = active;
+        waiting = waiting;
+        memory = h.memory;
+        alloc = h.alloc;
+        world = around.world;
+        words = h.words;
+      })
   pub exhausts : reading (Lacks Region) ≡ Exhausted
   pub placed : Placed setting l
   pub first : ℕ

@@ -7,7 +7,7 @@ use Rattle.run_laws.specs.Machines.{Reaches}
 use Rattle.rv_machine.specs.State.{Halt}
 use Rattle.low_ir.specs.declared.code.LowSource.{LowSource}
 use Rattle.low_ir.specs.Procedures.{Code, Proc, Return, Environment}
-use Rattle.low_ir.specs.Run.{Setting, Waiting, LowState, word_of, low_machine}
+use Rattle.low_ir.specs.Run.{Setting, LowState, word_of, low_machine}
 use Rattle.coercion_norm.specs.Coercions.{Coercion}
 use Rattle.coercion_norm.specs.Heights.{coercion_height}
 use Rattle.coercion_norm.specs.Normal.{IsNormal}

@@ -48,9 +48,9 @@ module _ (first : ℕ) where
   abbrev pub cast_kinds : Code
   cast_kinds =
       either Eq (Word 3) (Number 8) (
-        Load 4 (Word 1) 8 (blame_code (Word 4))
+      Load 4 (Word 1) 8 (blame_code (Word 4))
       ) (
-        either Eq (Word 3) (Number 13) cast_inject (either Eq (Word 3) (Number 14) cast_project cast_middle))
+      either Eq (Word 3) (Number 13) cast_inject (either Eq (Word 3) (Number 14) cast_project cast_middle))
 
   abbrev pub cast_code : Code
   cast_code =
@@ -85,7 +85,7 @@ module _ (first : ℕ) where
       Compute And 7 (Word 6) (Number 255) (
       Compute Srl 6 (Word 6) (Number 32) (
       either Eq (Word 7) (Number 21) (
-        either Ltu (Word 1) (Word 6) project_dyn_part project_blame
+      either Ltu (Word 1) (Word 6) project_dyn_part project_blame
       ) project_blame)))))
 
   -- the part of what the proxy stands on, by the part of its coercion

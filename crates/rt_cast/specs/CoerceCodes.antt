@@ -18,9 +18,9 @@ module _ (first : ℕ) where
       either Ltu (Word 4) (Number 20) (Return (Number 0)) (
       Compute Sub 9 (Word 4) (Number 11) (
       either Ltu (Word 9) (Number 11) (
-        pick 7 8 (coerce_of first) (Word 0 ∷ Word 1 ∷ Word 9 ∷ Word 7 ∷ Word 2 ∷ [])
+      pick 7 8 (coerce_of first) (Word 0 ∷ Word 1 ∷ Word 9 ∷ Word 7 ∷ Word 2 ∷ [])
       ) (
-        TailCall (pair first) (Word 0 ∷ Word 1 ∷ Word 9 ∷ Number 2 ∷ Word 2 ∷ []))))
+      TailCall (pair first) (Word 0 ∷ Word 1 ∷ Word 9 ∷ Number 2 ∷ Word 2 ∷ []))))
 
   abbrev pub coerce_heads : Code
   coerce_heads =

@@ -64,14 +64,14 @@ module _ (first : ℕ) where
   abbrev pub compose_inject : Code
   compose_inject =
       either Eq (Word 5) (Number 14) (
-        Load 6 (Word 0) 16 (
-        Load 7 (Word 1) 8 (
-        Load 8 (Word 1) 16 (
-        Call 9 coerce (Word 6 ∷ Word 7 ∷ Word 8 ∷ []) (
-        Load 10 (Word 1) 24 (
-        Call 9 compose (Word 9 ∷ Word 10 ∷ []) (
-        Load 11 (Word 0) 8 (
-        TailCall compose (Word 11 ∷ Word 9 ∷ []))))))))
+      Load 6 (Word 0) 16 (
+      Load 7 (Word 1) 8 (
+      Load 8 (Word 1) 16 (
+      Call 9 coerce (Word 6 ∷ Word 7 ∷ Word 8 ∷ []) (
+      Load 10 (Word 1) 24 (
+      Call 9 compose (Word 9 ∷ Word 10 ∷ []) (
+      Load 11 (Word 0) 8 (
+      TailCall compose (Word 11 ∷ Word 9 ∷ []))))))))
       ) (Return (Number 0))
 
   -- a middle before an Inject
@@ -91,9 +91,9 @@ module _ (first : ℕ) where
       Compute Srl 6 (Word 2) (Number 32) (
       Compute Srl 7 (Word 4) (Number 32) (
       either Ltu (Word 6) (Word 7) (
-        pick 6 8 middle_of (Word 0 ∷ Word 1 ∷ Word 3 ∷ Word 6 ∷ Number 0 ∷ [])
+      pick 6 8 middle_of (Word 0 ∷ Word 1 ∷ Word 3 ∷ Word 6 ∷ Number 0 ∷ [])
       ) (
-        pick 7 8 middle_of (Word 0 ∷ Word 1 ∷ Word 3 ∷ Word 6 ∷ Number 0 ∷ []))))
+      pick 7 8 middle_of (Word 0 ∷ Word 1 ∷ Word 3 ∷ Word 6 ∷ Number 0 ∷ []))))
 
   abbrev pub compose_middle : Code
   compose_middle =

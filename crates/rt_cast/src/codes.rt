@@ -107,7 +107,12 @@ pub fn either(
 }
 
 /// A word becomes the header of an object, whose height it was; the header is told without its height.
-pub fn put_header(alloc: Global, word: u32, header: u64, rest: LowCode) -> Result<LowCode, OutOfMemory>
+pub fn put_header(
+    alloc: Global,
+    word: u32,
+    header: u64,
+    rest: LowCode,
+) -> Result<LowCode, OutOfMemory>
     ensures { IfOk result (λ code. code_of code ≡ put_header word header (code_of rest)) }
 {
     let rest = compute(alloc, WordOp::Add, word, (Word(word), Number(header)), rest)?;

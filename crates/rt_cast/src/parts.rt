@@ -169,12 +169,7 @@ pub fn part_proc(
         tail_call(alloc, procedure, on)?,
     );
     let cells = by_last(alloc, branches)?;
-    let others = either(
-        alloc,
-        Cond::Eq,
-        (Word(0), Number(9)),
-        (functions, cells),
-    )?;
+    let others = either(alloc, Cond::Eq, (Word(0), Number(9)), (functions, cells))?;
     let tuples = tail_call(alloc, procedure, on)?;
     let code = either(alloc, Cond::Eq, (Word(0), Number(10)), (tuples, others))?;
     Ok(LowProc {
