@@ -1,5 +1,5 @@
 -- What the decisions of the merged mode make of a value is what the cases of casts give.
-use Rattle.std.proofs.Common.{◌≡◌, ℕ, suc, ◌≤◌, Bool, true, false, refl, sym, ap, ◌∙◌, arith}
+use Rattle.std.proofs.Common.{◌≡◌, ℕ, List, suc, ◌≤◌, Bool, true, false, refl, sym, ap, ◌∙◌, arith}
 use Rattle.std.specs.Prelude.{max, if◌then◌else◌}
 use Rattle.grift_base.specs.Types.{TypeHead, TypeRow, head_of, is_dyn}
 use Rattle.coercion_norm.specs.declared.middles.MiddleKind.{MiddleKind as Kind}
@@ -14,7 +14,8 @@ use Rattle.coercion_norm.specs.MergedMode.{applied, proxied, rewrapped, shape_ha
 use Rattle.coercion_norm.proofs.Public.{coerce_enough, compose_enough, bound_from_height, height_from_bound}
 use Rattle.coercion_norm.proofs.Public.{coerce_height, coerce_normal, flat_after_middle, compose_height, compose_normal}
 use Rattle.rt_cast.specs.Held.{Layout, TypesStand, rows_in, height_in}
-use Rattle.rt_cast.specs.Carried.{IsLow}
+use Rattle.rt_cast.specs.Objects.{Object}
+use Rattle.rt_cast.specs.Carried.{IsLow, CarriedBy}
 use Rattle.rt_cast.specs.MergedValues.{Merged, Base, Solid, Proxied, InDyn, Outcome, Stuck, Gives, Blames, then_outcome}
 use Rattle.rt_cast.specs.MergedValues.{decided, shape_of, cast_to, cast_value}
 use Rattle.rt_cast.proofs.CastCases.{wrap, rewrap, apply_plain, apply_final, apply}
@@ -59,6 +60,14 @@ module _ (l : Layout) (types : TypesStand l) {A : Type 0} (head : A → TypeHead
   AreLow (Solid a) = Unit {0}
   AreLow (Proxied a c) = IsLow l c
   AreLow (InDyn kept u) = (height_in l kept ≤ l.tallest) × (is_dyn (R kept) ≡ false) × AreLow u
+
+  -- what a word carries is no higher than the tallest
+  pub low_of : (IsHeld : List Object → A → ℕ → Type 0) (objects : List Object) (u : Merged A) (w : ℕ)
+      → CarriedBy l IsHeld objects u w → AreLow u
+  low_of IsHeld objects (Base h x) w c = tt
+  low_of IsHeld objects (Solid a) w c = tt
+  low_of IsHeld objects (Proxied a d) w c = c.5
+  low_of IsHeld objects (InDyn kept u) w c = (c.4, c.5, low_of IsHeld objects u c.1 c.6)
 
   below : (c : Coercion) → IsLow l c → NoHigher R c n
   below c h = bound_from_height R (height_in l) types.heights c n h.low
@@ -147,7 +156,7 @@ module _ (l : Layout) (types : TypesStand l) {A : Type 0} (head : A → TypeHead
   by_plain depth (Project wanted label i) f lc u low r some e = absurd (let z : ⊥ = cc in z)
 
   -- an injection of a value alone
-  by_inject : (depth kept : ℕ) (u : Merged A) (r : Outcome A) → (r ≡ Stuck → ⊥)
+  pub by_inject : (depth kept : ℕ) (u : Merged A) (r : Outcome A) → (r ≡ Stuck → ⊥)
       → cast_to head l.types (suc depth) (Inject Id kept) u ≡ r → Gives (InDyn kept u) ≡ r
   by_inject depth kept u r some e = by (shape_has_head (shape_of head u) (head_of (R kept))) e
     where

@@ -23,20 +23,57 @@ use Rattle.rt_cast.proofs.Small.{there_still}
 use Rattle.rt_cast.proofs.Reaching.{at_first, walk}
 use Rattle.rt_cast.proofs.CastCases.{apply}
 use Rattle.rt_cast.proofs.CastRuns.{GoesOn, by_cast}
-use Rattle.rt_cast.proofs.CastDecisions.{AreLow, by_cast as decided_cast}
+use Rattle.rt_cast.proofs.CastDecisions.{low_of, by_cast as decided_cast}
 
 module _ {V : Type 0} (reading : Halt → Ending V) (setting : Setting) (l : Layout) (first : ℕ) (s : LowState)
     (exhausts : reading (Lacks Region) ≡ Exhausted) (ready : IsReady setting l first) where
   module _ {A : Type 0} (head : A → TypeHead) (IsHeld : List Object → A → ℕ → Type 0)
       (still : (old new : List Object) → Grows old new → (a : A) (w : ℕ) → IsHeld old a w → IsHeld new a w)
       (is_solid : (objects : List Object) (a : A) (w : ℕ) → IsHeld objects a w → IsSolid l objects w) where
-    -- what a word carries is no higher than the tallest
-    low_of : (objects : List Object) (u : Merged A) (w : ℕ) → CarriedBy l IsHeld objects u w
-        → AreLow l ready.types head u
-    low_of objects (Base h x) w c = tt
-    low_of objects (Solid a) w c = tt
-    low_of objects (Proxied a d) w c = c.5
-    low_of objects (InDyn kept u) w c = (c.4, c.5, low_of objects u c.1 c.6)
+    -- whatever the procedure comes to, it has come there
+    pub ends : (low : l.tallest ≤ 65534) (objects : List Object) (r : Outcome A) → (r ≡ Stuck → ⊥) → (frames words : ℕ)
+        (x : Outcome A) → x ≡ r
+        → GoesOn (walk reading setting l first s exhausts ready (ComesTo l setting s IsHeld objects r) frames words) low A
+        IsHeld still is_solid End objects s.waiting x
+    ends low objects r some frames words Stuck q = absurd (some (sym q))
+    ends low objects r some frames words (Gives v) q = λ new h' x count locals rests a grows fine held is. record {
+      steps = 0;
+      few = le_refl 0;
+      reach = λ spare.
+          subst (λ y. ComesTo l setting s IsHeld objects y (st (around s) count locals (Return a) rests s.waiting
+          h'))
+          q (record {
+            new = new;
+            grows = grows;
+            fine = fine;
+            word = x;
+            carried = held;
+            source = a;
+            code = refl;
+            is = is;
+            waits = refl;
+            same = refl;
+          });
+    }
+    ends low objects r some frames words (Blames label) q = λ new h' count locals rests waiting a b d e rest grows fine is other. record {
+      steps = 0;
+      few = le_refl 0;
+      reach = λ spare.
+          subst (λ y. ComesTo l setting s IsHeld objects y
+          (st (around s) count locals (Environment 3 a b d e rest) rests waiting h')) q (record {
+            new = new;
+            fine = fine;
+            a = a;
+            b = b;
+            d = d;
+            e = e;
+            rest = rest;
+            code = refl;
+            is = is;
+            other = other;
+            same = refl;
+          });
+    }
 
     pub casts : l.tallest ≤ 65534 → (objects : List Object) → Filled setting l objects (heap_of s) → (c : Coercion)
         → IsLow l c → (u : Merged A) (r : Outcome A) → cast_value head l.types c u ≡ r → (r ≡ Stuck → ⊥)
@@ -47,8 +84,8 @@ module _ {V : Type 0} (reading : Halt → Ending V) (setting : Setting) (l : Lay
         let z =
         by_cast w low A IsHeld still is_solid c lc.normal below u End objects (heap_of s)
         (at_first reading setting l first s exhausts ready objects filled) s.waiting wv wc hv hc
-        (outcome (apply (rows_in l) l.tallest c u)
-        (decided_cast l ready.types head c lc.normal below u (low_of objects u wv hv) r some e)) in
+        (ends low objects r some (4 * l.tallest + 6) (9 * cast_cost l.width l.tallest) (apply (rows_in l) l.tallest c u)
+        (decided_cast l ready.types head c lc.normal below u (low_of l ready.types head IsHeld objects u wv hv) r some e)) in
         (z.steps, (let f = z.few in omega arith), z.reach (record { room = omega arith; left = omega arith }))
       where
         below : NoHigher (rows_in l) c l.tallest
@@ -60,48 +97,7 @@ module _ {V : Type 0} (reading : Halt → Ending V) (setting : Setting) (l : Lay
         w : Walk V
         w = walk reading setting l first s exhausts ready Q (4 * l.tallest + 6) (9 * cast_cost l.width l.tallest)
 
-        outcome : (x : Outcome A) → x ≡ r → GoesOn w low A IsHeld still is_solid End objects s.waiting x
-        outcome Stuck q = absurd (some (sym q))
-        outcome (Gives v) q = λ new h' x count locals rests a grows fine held is. record {
-          steps = 0;
-          few = le_refl 0;
-          reach = λ spare.
-              subst (λ y. ComesTo l setting s IsHeld objects y (st (around s) count locals (Return a) rests s.waiting
-              h'))
-              q (record {
-                new = new;
-                grows = grows;
-                fine = fine;
-                word = x;
-                carried = held;
-                source = a;
-                code = refl;
-                is = is;
-                waits = refl;
-                same = refl;
-              });
-        }
-        outcome (Blames label) q = λ new h' count locals rests waiting a b d e rest grows fine is other. record {
-          steps = 0;
-          few = le_refl 0;
-          reach = λ spare.
-              subst (λ y. ComesTo l setting s IsHeld objects y
-              (st (around s) count locals (Environment 3 a b d e rest) rests waiting h')) q (record {
-                new = new;
-                fine = fine;
-                a = a;
-                b = b;
-                d = d;
-                e = e;
-                rest = rest;
-                code = refl;
-                is = is;
-                other = other;
-                same = refl;
-              });
-        }
-
-  very_still : (old new : List Object) → Grows old new → (a w : ℕ) → IsVery l old a w → IsVery l new a w
+  pub very_still : (old new : List Object) → Grows old new → (a w : ℕ) → IsVery l old a w → IsVery l new a w
   very_still old new g a w h = record {
     is = h.is;
     solid = record {

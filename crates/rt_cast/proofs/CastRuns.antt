@@ -68,7 +68,7 @@ module _ {V : Type 0} (walk : Walk V) (low : walk.l.tallest ≤ 65534) (A : Type
   Carried = CarriedBy walk.l IsHeld
 
   -- no higher than the tallest, said in both ways
-  no_higher : (c : Coercion) → IsLow walk.l c → NoHigher R c n
+  pub no_higher : (c : Coercion) → IsLow walk.l c → NoHigher R c n
   no_higher c h = bound_from_height R (height_in walk.l) walk.types.heights c n h.low
 
   tall_low : (c : Coercion) → NoHigher R c n → coercion_height (height_in walk.l) c ≤ n
@@ -77,7 +77,7 @@ module _ {V : Type 0} (walk : Walk V) (low : walk.l.tallest ≤ 65534) (A : Type
   type_tall_low : (type : ℕ) → TypeNoHigher R n type → height_in walk.l type ≤ n
   type_tall_low type h = (walk.types.heights type n).0 h
 
-  carried_still : (old new : List Object) → Grows old new → (u : Merged A) (w : ℕ) → Carried old u w → Carried new u w
+  pub carried_still : (old new : List Object) → Grows old new → (u : Merged A) (w : ℕ) → Carried old u w → Carried new u w
   carried_still old new g (Base head x) w h = h
   carried_still old new g (Solid a) w h = still old new g a w h
   carried_still old new g (Proxied a c) w h = (
@@ -105,7 +105,7 @@ module _ {V : Type 0} (walk : Walk V) (low : walk.l.tallest ≤ 65534) (A : Type
   solid_small objects h fine a w x = let s = is_solid objects a w x in let z = (header_there walk objects h fine w
       s.object s.there).end in omega arith
 
-  carried_small : (objects : List Object) (h : Heap) → Fine walk.setting walk.l walk.around objects h → (u : Merged A)
+  pub carried_small : (objects : List Object) (h : Heap) → Fine walk.setting walk.l walk.around objects h → (u : Merged A)
       (w : ℕ) → Carried objects u w → w < 2 ^ 64
   carried_small objects h fine (Base head x) w c = let e = c.0 in let lt = c.1 in omega arith
   carried_small objects h fine (Solid a) w c = solid_small objects h fine a w c
@@ -292,7 +292,7 @@ module _ {V : Type 0} (walk : Walk V) (low : walk.l.tallest ≤ 65534) (A : Type
   by_plain (Project wanted label i) nc lc u = λ B objects h fine waiting wv wc hv hc go. absurd go
 
   -- objects may be added before
-  rebased : (B : Budget) (objects new : List Object) (waiting : List Waiting) → Grows objects new → (r : Outcome A)
+  pub rebased : (B : Budget) (objects new : List Object) (waiting : List Waiting) → Grows objects new → (r : Outcome A)
       → GoesOn B objects waiting r → GoesOn B new waiting r
   rebased B objects new waiting g Stuck go = go
   rebased B objects new waiting g (GivesValue u) go = λ later h w count locals rests a g2. go later h w count locals
@@ -301,7 +301,7 @@ module _ {V : Type 0} (walk : Walk V) (low : walk.l.tallest ≤ 65534) (A : Type
       count locals rests waiting2 a b d e rest (grows_on objects new later g g2)
 
   -- the caller goes on with the value
-  after : (B D : Budget) (objects : List Object) (waiting : List Waiting) (rest : Active) (d : ℕ) → nat_lt d rest.count
+  pub after : (B D : Budget) (objects : List Object) (waiting : List Waiting) (rest : Active) (d : ℕ) → nat_lt d rest.count
       ≡ true → (r : Outcome A) (k : Merged A → Outcome A) → GoesOn B objects waiting (then_outcome r k)
       → ((u : Merged A) → GoesOn B objects waiting (k u) → (new : List Object) (h : Heap) (w : ℕ) → Grows objects new
       → Fine walk.setting walk.l walk.around new h → Carried new u w

@@ -17,3 +17,5 @@ mod CastCases
 mod CastRuns
 mod CastDecisions
 mod CastReaching
+mod ProjectRuns
+mod ProjectReaching

@@ -1,6 +1,6 @@
 -- Which word carries which value of the merged mode, over what holds what stands under proxies; and what it is for a
 -- cast to come to its outcome.
-use Rattle.std.specs.Prelude.{◌≡◌, ℕ, ◌*◌, ◌^◌, ◌<◌, ◌≤◌, false, List, [], ◌∷◌, Some}
+use Rattle.std.specs.Prelude.{◌≡◌, ◌⊎◌, ℕ, ◌*◌, ◌^◌, ◌<◌, ◌≤◌, false, List, [], ◌∷◌, length, Some}
 use Rattle.grift_base.specs.Types.{is_dyn}
 use Rattle.run_laws.specs.Runs.{Ending}
 use Rattle.run_laws.specs.Machines.{Reaches}
@@ -34,6 +34,22 @@ module _ (l : Layout) where
     CarriedBy objects (InDyn kept u) w =
         (wt wx : ℕ) × There l objects w (Fixed (header 3 0 2) (wt ∷ wx ∷ [])) × HoldsType l objects wt kept
         × (height_in l kept ≤ l.tallest) × (is_dyn (rows_in l kept) ≡ false) × CarriedBy objects u wx
+
+    abbrev pub AreCarried : List Object → List (Merged A) → List ℕ → Type 0
+    AreCarried objects [] [] = Unit {0}
+    AreCarried objects [] (w ∷ ws) = ⊥
+    AreCarried objects (x ∷ xs) [] = ⊥
+    AreCarried objects (x ∷ xs) (w ∷ ws) = CarriedBy objects x w × AreCarried objects xs ws
+
+    -- a tuple of these parts stands there, unless there are none
+    abbrev pub HoldsParts : List Object → List (Merged A) → ℕ → Type 0
+    HoldsParts objects xs w =
+        (xs ≡ [])
+        ⊎ ((ws : List ℕ) × There l objects w (Fixed (header 4 0 (length ws)) ws) × AreCarried objects xs ws)
+
+    -- the tuples among what is held have these parts
+    abbrev pub HaveParts : List Object → (A → List (Merged A)) → Type 0
+    HaveParts objects parts = (a : A) (w : ℕ) → IsHeld objects a w → HoldsParts objects (parts a) w
 
   -- what stands under a proxy known by its address alone: the object there, whatever it is
   pub record IsVery (objects : List Object) (a w : ℕ) : Type 0 where

@@ -7,6 +7,10 @@ use Rattle.low_ir.specs.Procedures.{Code, Compute, Load, Build, Call, Return, Ta
 use Rattle.rt_cast.specs.PartCodes.{either, blame_code}
 use Rattle.rt_cast.specs.ComposeCodes.{coerce, compose, cast, project}
 
+-- project blames the label that it is handed
+abbrev pub project_blame : Code
+project_blame = blame_code (Word 3)
+
 module _ (first : ℕ) where
   -- what stands before, and then a Dyn
   abbrev pub cast_inject : Code
@@ -60,10 +64,6 @@ module _ (first : ℕ) where
 
   -- ---- project: word 0 is a value, word 1 the number of a part, word 2 tells whether the value is a Dyn, by 0, or a
   -- tuple, by 1, and word 3 is a label
-
-  -- the label is blamed
-  abbrev pub project_blame : Code
-  project_blame = blame_code (Word 3)
 
   -- the part of what is in the Dyn, in a Dyn that keeps the part's type, unless that is Dyn
   abbrev pub project_dyn_part : Code

@@ -60,7 +60,8 @@ module _ (first : ℕ) where
       put_header 9 12884901902 (
       Build 10 (Word 9 ∷ Word 7 ∷ Word 8 ∷ Word 6 ∷ []) (Return (Word 10))))))))))
 
-  -- an Inject first: where a Project follows, what stands before, the cast between the two types, and what stands behind
+  -- an Inject first: where a Project follows, what stands before, the cast between the two types, and what stands
+  -- behind
   abbrev pub compose_inject : Code
   compose_inject =
       either Eq (Word 5) (Number 14) (

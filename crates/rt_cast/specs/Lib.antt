@@ -9,4 +9,5 @@ pub mod Procs
 pub mod States
 pub mod Costs
 pub mod MergedValues
+pub mod PartValues
 pub mod Carried

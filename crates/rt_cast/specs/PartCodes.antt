@@ -5,7 +5,8 @@ use Rattle.rv_isa.specs.declared.inst.Cond.TheVariants.{Eq, Ltu}
 use Rattle.low_ir.specs.declared.code.LowSource.{LowSource}
 use Rattle.low_ir.specs.declared.code.LowSource.TheVariants.{Word, Number}
 use Rattle.low_ir.specs.declared.code.WordOp.TheVariants.{Add, And, Sll, Srl, Sltu}
-use Rattle.low_ir.specs.Procedures.{Code, Done, Set, Compute, Load, Build, Environment, Call, If, Return, TailCall, Proc}
+use Rattle.low_ir.specs.Procedures.{Code, Done, Set, Compute, Load, Build, Environment, Call, If, Return, TailCall}
+use Rattle.low_ir.specs.Procedures.{Proc}
 
 abbrev pub proc : ℕ → ℕ → Code → Proc
 proc params words code = record { params = params; words = words; code = code }
@@ -40,8 +41,8 @@ final_code =
     either Eq (Word 1) (Number 14) (Return (Number 0)) (Return (Word 0)))))
 
 -- ---- a middle whose parts come from two objects, part by part: words 0 and 1 are the objects, word 2 is the kind,
--- word 3 how many parts one that is told in full has, word 4 a label; word 5 is the height so far, word 6 how many parts
--- so far are not Id, and the parts stand from word 16 on
+-- word 3 how many parts one that is told in full has, word 4 a label; word 5 is the height so far, word 6 how many
+-- parts so far are not Id, and the parts stand from word 16 on
 
 -- so many parts from k on
 abbrev pub results : ℕ → ℕ → List LowSource

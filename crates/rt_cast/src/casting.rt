@@ -161,8 +161,8 @@ fn project_tuple(alloc: Global, first: u32) -> Result<LowCode, OutOfMemory>
     compute(alloc, WordOp::Sll, 6, (Word(1), Number(3)), rest)
 }
 
-/// The part with the number in word 1 of the value in word 0, which is in Dyn where word 2 is 0, and a tuple where it is
-/// 1. The label in word 3 is blamed where the type that a Dyn keeps has no such part.
+/// The part with the number in word 1 of the value in word 0, which is in Dyn where word 2 is 0, and a tuple where it
+/// is 1. The label in word 3 is blamed where the type that a Dyn keeps has no such part.
 pub fn project_proc(alloc: Global, first: u32) -> Result<LowProc, OutOfMemory>
     requires room { first + 27 ≤ 2 ^ 32 }
     ensures { IfOk result (λ proc. proc_of proc ≡ project_proc first) }

@@ -28,9 +28,10 @@ fn push_middles(alloc: Global, procs: &mut LowProcs, making: Making) -> Result<(
 
 /// The procedures coerce, compose, cast and project, numbered from `first` on, and behind them those that they call.
 /// Coerce takes the addresses of two types and a label, and answers the word of the coercion of a cast between them.
-/// Compose takes the words of two coercions, and answers that of their composition. Cast takes a value and the word of a
-/// coercion, and answers the value that it is cast to. Project takes a value, the number of a part, 0 for a value in Dyn
-/// or 1 for a tuple, and the label that is blamed where the type that a Dyn keeps has no such part; it answers the part.
+/// Compose takes the words of two coercions, and answers that of their composition. Cast takes a value and the word of
+/// a coercion, and answers the value that it is cast to. Project takes a value, the number of a part, 0 for a value in
+/// Dyn or 1 for a tuple, and the label that is blamed where the type that a Dyn keeps has no such part; it answers the
+/// part.
 pub fn cast_procs(alloc: Global, first: u32) -> Result<LowProcs, OutOfMemory>
     requires room { first + 27 ≤ 2 ^ 32 }
     ensures { IfOk result (λ procs. procs_of procs ≡ cast_procs first) }
