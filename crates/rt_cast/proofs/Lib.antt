@@ -19,3 +19,4 @@ mod CastDecisions
 mod CastReaching
 mod ProjectRuns
 mod ProjectReaching
+mod Samples

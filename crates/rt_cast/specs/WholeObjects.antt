@@ -1,8 +1,10 @@
 -- Lists of whole objects: each says of objects before it what its kind asks for, no proxy stands on a proxy, and no
 -- proxy's coercion is higher than the tallest.
-use Rattle.std.specs.Prelude.{max, ◌==◌, ◌≡◌, ◌⊎◌, ℕ, suc, ◌<◌, ◌≤◌, false, List, [], ◌∷◌, ◌++◌, length}
+use Rattle.std.specs.Prelude.{max, ◌==◌, ◌≡◌, ℕ, suc, ◌+◌, ◌*◌, ◌<◌, ◌≤◌, true, false, List, [], ◌∷◌, ◌++◌, length}
 use Rattle.coercion_norm.specs.declared.middles.MiddleKind.{MiddleKind as Kind}
-use Rattle.rt_cast.specs.Objects.{Object, Fixed, header_of}
+use Rattle.object_layout.specs.declared.kinds.Kind.{Kind as ObjectKind}
+use Rattle.object_layout.specs.Kinds.{kind_number as number_of, is_free, allows_count}
+use Rattle.rt_cast.specs.Objects.{Object, Fixed, header_of, bytes_of}
 use Rattle.rt_cast.specs.Held.{Layout, There, HoldsType, header, kind_number, height_in, HasWidth}
 
 module _ (l : Layout) (objects : List Object) where
@@ -45,8 +47,8 @@ module _ (l : Layout) (objects : List Object) where
         → IsWhole o
     WholeDyn : (wt wx type : ℕ) → o ≡ Fixed (header 3 0 2) (wt ∷ wx ∷ []) → HoldsType l objects wt type → IsWhole o
     -- closures, tuples, boxes and vectors
-    WholeOther : (kind count : ℕ) → header_of o ≡ header kind 0 count → (kind ≡ 1) ⊎ ((4 ≤ kind) × (kind ≤ 6))
-        → IsWhole o
+    WholeOther : (kind : ObjectKind) (count : ℕ) → header_of o ≡ header (number_of kind) 0 count
+        → bytes_of o ≡ 8 + 8 * count → is_free kind ≡ true → allows_count kind count ≡ true → IsWhole o
 
 -- each of these objects, which stand behind others
 abbrev pub Wholes : Layout → List Object → List Object → Type 0

@@ -9,3 +9,5 @@ pub mod laws;
 mod numbers;
 mod parts;
 pub mod procs;
+#[cfg(test)]
+mod tests;
