@@ -32,7 +32,7 @@ use Rattle.rt_cast.proofs.Steps.{Budget, End, Out, More, at_most, WordThere, loa
 use Rattle.rt_cast.proofs.Steps.{computes, if_true, if_false, builds, calls, tail_calls, comes_back, header_there}
 use Rattle.rt_cast.proofs.Steps.{loads_at}
 use Rattle.rt_cast.proofs.Small.{grows_not, grows_on, there_still, not_zero}
-use Rattle.rt_cast.proofs.Small.{numbers, C}
+use Rattle.rt_cast.proofs.Small.{numbers, ReachedIn}
 use Rattle.rt_cast.proofs.Middles.{held_still, held_small, added, one_more}
 use Rattle.rt_cast.proofs.ComposeSteps.{type_small, type_still, no_middle, part_small}
 use Rattle.rt_cast.proofs.ComposeRuns.{all_composed}
@@ -55,11 +55,11 @@ module _ {V : Type 0} (walk : Walk V) (low : walk.l.tallest ≤ 65534) (A : Type
   abbrev n : ℕ
   n = walk.l.tallest
 
-  abbrev G8 : Budget → LowState → Type 0
-  G8 = C walk
+  abbrev Reached : Budget → LowState → Type 0
+  Reached = ReachedIn walk
 
-  abbrev S8 : ℕ → Locals → Code → List Code → List Waiting → Heap → LowState
-  S8 = st walk.around
+  abbrev state : ℕ → Locals → Code → List Code → List Waiting → Heap → LowState
+  state = st walk.around
 
   abbrev R : ℕ → TypeRow
   R = (rows_in walk.l)
@@ -117,16 +117,16 @@ module _ {V : Type 0} (walk : Walk V) (low : walk.l.tallest ≤ 65534) (A : Type
   GoesOn B objects waiting Stuck = ⊥
   GoesOn B objects waiting (GivesValue u) = (new : List Object) (h : Heap) (w : ℕ) (count : ℕ) (locals : Locals)
       (rests : List Code) (a : LowSource) → Grows objects new → Fine walk.setting walk.l walk.around new h → Carried new
-      u w → word_of locals a ≡ Some w → G8 B (S8 count locals (Return a) rests waiting h)
+      u w → word_of locals a ≡ Some w → Reached B (state count locals (Return a) rests waiting h)
   GoesOn B objects waiting (Blames label) = (new : List Object) (h : Heap) (count : ℕ) (locals : Locals) (rests : List
       Code) (waiting : List Waiting) (a b : LowSource) (d e : ℕ) (rest : Code) → Grows objects new → Fine walk.setting
-      walk.l walk.around new h → word_of locals a ≡ Some label → word_of locals b ≡ Some 0 → G8 End (S8 count locals
+      walk.l walk.around new h → word_of locals a ≡ Some label → word_of locals b ≡ Some 0 → Reached End (state count locals
       (Environment 3 a b d e rest) rests waiting h)
 
   abbrev pub CastDoes : ℕ → ℕ → Coercion → Merged A → Outcome A → Type 0
   CastDoes cost above c u r = (B : Budget) (objects : List Object) (h : Heap) → Fine walk.setting walk.l walk.around
       objects h → (waiting : List Waiting) (wv wc : ℕ) → Carried objects u wv → Held walk.l objects c wc
-      → GoesOn B objects waiting r → G8 (More cost above B) (S8 10 (bind 0 (wv ∷ wc ∷ []) no_locals)
+      → GoesOn B objects waiting r → Reached (More cost above B) (state 10 (bind 0 (wv ∷ wc ∷ []) no_locals)
       (cast_code walk.first) [] waiting h)
 
   abbrev cast_read : ℕ → ℕ → ℕ → ℕ → Locals
@@ -134,8 +134,8 @@ module _ {V : Type 0} (walk : Walk V) (low : walk.l.tallest ≤ 65534) (A : Type
 
   reads : {B : Budget} → (objects : List Object) (h : Heap) (fine : Fine walk.setting walk.l walk.around objects h)
       (waiting : List Waiting) (wv wc k y m : ℕ) (ws : List ℕ) → There walk.l objects wc (Fixed (header k y m) ws)
-      → k < 256 → ((rests : List Code) → G8 B (S8 10 (cast_read wv wc (header k y m) k) (cast_kinds walk.first) rests
-      waiting h)) → G8 (More 3 0 B) (S8 10 (bind 0 (wv ∷ wc ∷ []) no_locals) (cast_code walk.first) [] waiting h)
+      → k < 256 → ((rests : List Code) → Reached B (state 10 (cast_read wv wc (header k y m) k) (cast_kinds walk.first) rests
+      waiting h)) → Reached (More 3 0 B) (state 10 (bind 0 (wv ∷ wc ∷ []) no_locals) (cast_code walk.first) [] waiting h)
   reads objects h fine waiting wv wc k y m ws there lt go =
       let z = not_zero walk objects h fine wc (header k y m) ws there in
       at_most walk
@@ -192,7 +192,7 @@ module _ {V : Type 0} (walk : Walk V) (low : walk.l.tallest ≤ 65534) (A : Type
       walk.around now h) (waiting : List Waiting) (size : ℕ) (locals : Locals) (rests : List Code) (v c : LowSource)
       (wv wc : ℕ) → nat_lt 8 size ≡ true → word_of locals v ≡ Some wv → word_of locals c ≡ Some wc → IsHeld now a wv
       → Held walk.l now (Middle kind cs) wc → GoesOn B objects waiting (GivesValue (Proxied a (Middle kind cs)))
-      → G8 (More 1 0 B) (S8 size locals (Build 8 (Number 8589934594 ∷ v ∷ c ∷ []) (Return (Word 8))) rests waiting h)
+      → Reached (More 1 0 B) (state size locals (Build 8 (Number 8589934594 ∷ v ∷ c ∷ []) (Return (Word 8))) rests waiting h)
   proxied a kind cs nc lc objects now grows h fine waiting size locals rests v c wv wc lt ev ec hv hc go =
       let o = Fixed 8589934594 (wv ∷ wc ∷ []) in
       let g = one_more walk now o in
@@ -262,8 +262,8 @@ module _ {V : Type 0} (walk : Walk V) (low : walk.l.tallest ≤ 65534) (A : Type
     where
       wrapped : (e : Coercion) → IsNormal R e → NoHigher R e n → (new : List Object) (grows : Grows objects new)
           (h' : Heap) (fine' : Fine walk.setting walk.l walk.around new h') (w : ℕ) → Held walk.l new e w
-          → (rests : List Code) → GoesOn B objects waiting (rewrap a e) → G8 (More 2 0 B)
-          (S8 10 (set_local 7 hv.0 (set_local 6 w (set_local 6 hv.1 (set_local 5 2 (set_local 4 (header 2 0 2)
+          → (rests : List Code) → GoesOn B objects waiting (rewrap a e) → Reached (More 2 0 B)
+          (state 10 (set_local 7 hv.0 (set_local 6 w (set_local 6 hv.1 (set_local 5 2 (set_local 4 (header 2 0 2)
           (cast_read wv wc (header (kind_number kind) (coercion_height (height_in walk.l) (Middle kind cs))
           (length hc.0)) (kind_number kind))))))) (either Eq (Word 6) (Number 0) (Return (Word 7))
           (Build 8 (Number 8589934594 ∷ Word 7 ∷ Word 6 ∷ []) (Return (Word 8)))) rests waiting h')
@@ -305,7 +305,7 @@ module _ {V : Type 0} (walk : Walk V) (low : walk.l.tallest ≤ 65534) (A : Type
       ≡ true → (r : Outcome A) (k : Merged A → Outcome A) → GoesOn B objects waiting (then_outcome r k)
       → ((u : Merged A) → GoesOn B objects waiting (k u) → (new : List Object) (h : Heap) (w : ℕ) → Grows objects new
       → Fine walk.setting walk.l walk.around new h → Carried new u w
-      → G8 D (S8 rest.count (set_local d w rest.locals) rest.code rest.rests waiting h)) → GoesOn (Out D) objects
+      → Reached D (state rest.count (set_local d w rest.locals) rest.code rest.rests waiting h)) → GoesOn (Out D) objects
       (record { rest = rest; answer = d } ∷ waiting) r
   after B D objects waiting rest d lt Stuck k go on = go
   after B D objects waiting rest d lt (Blames label) k go on = go

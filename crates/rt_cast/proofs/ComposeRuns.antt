@@ -23,7 +23,7 @@ use Rattle.rt_cast.specs.Held.{There, header, kind_number, Held, rows_in, height
 use Rattle.rt_cast.specs.ComposeCodes.{compose_code}
 use Rattle.low_ir.specs.Steps.{no_locals}
 use Rattle.rt_cast.proofs.Steps.{Budget, More, at_most, if_true, if_false}
-use Rattle.rt_cast.proofs.Small.{C, grows_not, numbers}
+use Rattle.rt_cast.proofs.Small.{ReachedIn, grows_not, numbers}
 use Rattle.rt_cast.proofs.Middles.{Answers}
 use Rattle.rt_cast.proofs.PartWords.{count, nth, nth_normal, nth_low, follow_at}
 use Rattle.rt_cast.proofs.ComposeSteps.{ComposeDoes, CoerceDoes, id_first, fail_first, id_second, reads_both, no_middle}
@@ -114,7 +114,7 @@ module _ {V : Type 0} (walk : Walk V) where
   fail_second : {B : Budget} → (label : ℕ) (objects : List Object) (h : Heap) (fine : Fine walk.setting walk.l
       walk.around objects h) (waiting : List Waiting) (wc wd k y m : ℕ) (ws : List ℕ) → There walk.l objects wc
       (Fixed (header k y m) ws) → k < 256 → (k == 14) ≡ false → (k == 8) ≡ false → Held walk.l objects (Fail label) wd
-      → Answers walk B objects waiting (Fail label) → C walk (More 10 0 B) (st walk.around 12 (bind 0 (wc ∷ wd ∷ [])
+      → Answers walk B objects waiting (Fail label) → ReachedIn walk (More 10 0 B) (st walk.around 12 (bind 0 (wc ∷ wd ∷ [])
       no_locals) (compose_code walk.first) [] waiting h)
   fail_second label objects h fine waiting wc wd k y m ws there lt no14 no8 hd go =
       at_most walk
@@ -234,7 +234,7 @@ module _ {V : Type 0} (walk : Walk V) where
   lost : {B : Budget} → (objects : List Object) (h : Heap) (fine : Fine walk.setting walk.l walk.around objects h)
       (waiting : List Waiting) (wc wd y : ℕ) (ws : List ℕ) → There walk.l objects wc (Fixed (header 13 y 2) ws)
       → (k2 y2 m2 : ℕ) (ws2 : List ℕ) → There walk.l objects wd (Fixed (header k2 y2 m2) ws2) → k2 < 256 → (k2 == 8) ≡
-      false → (k2 == 14) ≡ false → Answers walk B objects waiting Id → C walk (More 12 0 B) (st walk.around 12
+      false → (k2 == 14) ≡ false → Answers walk B objects waiting Id → ReachedIn walk (More 12 0 B) (st walk.around 12
       (bind 0 (wc ∷ wd ∷ []) no_locals) (compose_code walk.first) [] waiting h)
   lost objects h fine waiting wc wd y ws there k2 y2 m2 ws2 there2 lt no8 no14 go =
       at_most walk

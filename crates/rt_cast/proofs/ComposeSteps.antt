@@ -38,7 +38,7 @@ use Rattle.rt_cast.proofs.HeaderNumbers.{count_read, header_made, header_small}
 use Rattle.rt_cast.proofs.Steps.{Budget, One, More, at_most, word_there}
 use Rattle.rt_cast.proofs.Steps.{loads, computes, if_true, if_false, builds, calls, tail_calls, comes_back}
 use Rattle.rt_cast.proofs.Small.{grows_not, grows_on, there_still, HasHeight, not_zero, raised, finals}
-use Rattle.rt_cast.proofs.Small.{final_word, numbers, C}
+use Rattle.rt_cast.proofs.Small.{final_word, numbers, ReachedIn}
 use Rattle.rt_cast.proofs.Middles.{few_parts, list_of, held_still, Answers, held_small, added, one_more}
 use Rattle.rt_cast.proofs.Middles.{middle_made, has_height, coercion_word}
 use Rattle.rt_cast.proofs.PartWords.{count, nth, word_at, got, as_many, nth_held, follow_at}
@@ -128,11 +128,11 @@ in_order go true = go (Word 4) (Word 3)
 in_order go false = go (Word 3) (Word 4)
 
 module _ {V : Type 0} (walk : Walk V) where
-  abbrev G5 : Budget → LowState → Type 0
-  G5 = C walk
+  abbrev Reached : Budget → LowState → Type 0
+  Reached = ReachedIn walk
 
-  abbrev S5 : ℕ → Locals → Code → List Code → List Waiting → Heap → LowState
-  S5 = st walk.around
+  abbrev state : ℕ → Locals → Code → List Code → List Waiting → Heap → LowState
+  state = st walk.around
 
   pub middle_stands : (r : ℕ) → r ≤ 8 → slice_get walk.setting.procs (middle_of walk.first r) ≡ Some
       (middle_proc walk.first (part walk.first) r)
@@ -153,14 +153,14 @@ module _ {V : Type 0} (walk : Walk V) where
       (fine : Fine walk.setting walk.l walk.around objects h) (waiting : List Waiting) (rests : List Code) (w m r : ℕ)
       (args : List LowSource) (x y k n e : ℕ) → r ≤ 8 → m ≤ r → word_of locals (Word w) ≡ Some m → words_of locals args
       ≡ Some (x ∷ y ∷ k ∷ n ∷ e ∷ [])
-      → G5 B (S5 24 (bind 0 (x ∷ y ∷ k ∷ n ∷ e ∷ []) no_locals) (middle_code (raise walk.first) whose each_word m) []
-      waiting h) → G5 (More (picks_cost r) 0 B) (S5 size locals (pick w r which args) rests waiting h)
+      → Reached B (state 24 (bind 0 (x ∷ y ∷ k ∷ n ∷ e ∷ []) no_locals) (middle_code (raise walk.first) whose each_word m) []
+      waiting h) → Reached (More (picks_cost r) 0 B) (state size locals (pick w r which args) rests waiting h)
   picks {B = B} which whose each objects h fine waiting rests w m zero args x y k n e few le is are go =
       let z : m ≡ 0 = omega arith in
       at_most walk
       (tail_calls walk objects fine (x ∷ y ∷ k ∷ n ∷ e ∷ []) (middle_proc walk.first whose 0) are (each 0 (omega arith))
       refl
-      (subst (λ q. G5 B (S5 24 (bind 0 (x ∷ y ∷ k ∷ n ∷ e ∷ []) no_locals) (middle_code (raise walk.first) whose
+      (subst (λ q. Reached B (state 24 (bind 0 (x ∷ y ∷ k ∷ n ∷ e ∷ []) no_locals) (middle_code (raise walk.first) whose
       each_word q) [] waiting h)) z go))
       (omega arith, omega arith)
   picks {B = B} which whose each {size = size} {locals = locals} objects h fine waiting rests w m (suc r) args x y k n e
@@ -170,15 +170,15 @@ module _ {V : Type 0} (walk : Walk V) where
       num : suc r % 2 ^ 64 ≡ suc r
       num = omega arith
 
-      by : (m ≤ r → G5 (More (picks_cost r) 0 B) (S5 size locals (pick w r which args) (Done ∷ rests) waiting h))
-          → (m ≡ suc r) ⊎ ((m == suc r) ≡ false) → G5 (More (picks_cost (suc r)) 0 B) (S5 size locals (pick w (suc r)
+      by : (m ≤ r → Reached (More (picks_cost r) 0 B) (state size locals (pick w r which args) (Done ∷ rests) waiting h))
+          → (m ≡ suc r) ⊎ ((m == suc r) ≡ false) → Reached (More (picks_cost (suc r)) 0 B) (state size locals (pick w (suc r)
           which args) rests waiting h)
       by ih (inl q) =
           at_most walk
           (if_true walk objects fine m (suc r) is (ap Some num) (eq_true m (suc r) q)
           (tail_calls walk objects fine (x ∷ y ∷ k ∷ n ∷ e ∷ []) (middle_proc walk.first whose (suc r)) are
           (each (suc r) few) refl
-          (subst (λ q. G5 B (S5 24 (bind 0 (x ∷ y ∷ k ∷ n ∷ e ∷ []) no_locals) (middle_code (raise walk.first) whose
+          (subst (λ q. Reached B (state 24 (bind 0 (x ∷ y ∷ k ∷ n ∷ e ∷ []) no_locals) (middle_code (raise walk.first) whose
           each_word q) [] waiting h)) q go)))
           (omega arith, omega arith)
       by ih (inr q) =
@@ -191,8 +191,8 @@ module _ {V : Type 0} (walk : Walk V) where
   pub part_runs : {B : Budget} → (objects : List Object) (h : Heap) (fine : Fine walk.setting walk.l walk.around objects
       h) (waiting : List Waiting) (go : LowSource → LowSource → Code) (kind : Kind) (n k x y e : ℕ) (b : Bool)
       → (k == n) ≡ b
-      → ((rests : List Code) → G5 B (S5 6 (bind 0 (kind_number kind ∷ n ∷ k ∷ x ∷ y ∷ e ∷ []) no_locals)
-      (in_order go (runs_back kind b)) rests waiting h)) → G5 (More 3 0 B) (S5 6 (bind 0 (kind_number kind ∷ n ∷ k ∷
+      → ((rests : List Code) → Reached B (state 6 (bind 0 (kind_number kind ∷ n ∷ k ∷ x ∷ y ∷ e ∷ []) no_locals)
+      (in_order go (runs_back kind b)) rests waiting h)) → Reached (More 3 0 B) (state 6 (bind 0 (kind_number kind ∷ n ∷ k ∷
       x ∷ y ∷ e ∷ []) no_locals) (part_code go) [] waiting h)
   part_runs objects h fine waiting go FunKind n k x y e true t c =
       at_most walk
@@ -240,7 +240,7 @@ module _ {V : Type 0} (walk : Walk V) where
   abbrev pub ComposeDoes : ℕ → ℕ → Coercion → Coercion → Coercion → Type 0
   ComposeDoes cost above c d e = (B : Budget) (objects : List Object) (h : Heap) → Fine walk.setting walk.l walk.around
       objects h → (waiting : List Waiting) (wc wd : ℕ) → Held walk.l objects c wc → Held walk.l objects d wd
-      → Answers walk B objects waiting e → G5 (More cost above B) (S5 12 (bind 0 (wc ∷ wd ∷ []) no_locals) (compose_code
+      → Answers walk B objects waiting e → Reached (More cost above B) (state 12 (bind 0 (wc ∷ wd ∷ []) no_locals) (compose_code
       walk.first) [] waiting h)
 
   abbrev one_read : ℕ → ℕ → ℕ → ℕ → Locals
@@ -251,8 +251,8 @@ module _ {V : Type 0} (walk : Walk V) where
 
   pub reads_first : {B : Budget} → (objects : List Object) (h : Heap) (fine : Fine walk.setting walk.l walk.around
       objects h) (waiting : List Waiting) (wc wd k y m : ℕ) (ws : List ℕ) → There walk.l objects wc
-      (Fixed (header k y m) ws) → k < 256 → ((rests : List Code) → G5 B (S5 12 (one_read wc wd (header k y m) k)
-      (compose_first walk.first) rests waiting h)) → G5 (More 3 0 B) (S5 12 (bind 0 (wc ∷ wd ∷ []) no_locals)
+      (Fixed (header k y m) ws) → k < 256 → ((rests : List Code) → Reached B (state 12 (one_read wc wd (header k y m) k)
+      (compose_first walk.first) rests waiting h)) → Reached (More 3 0 B) (state 12 (bind 0 (wc ∷ wd ∷ []) no_locals)
       (compose_code walk.first) [] waiting h)
   reads_first objects h fine waiting wc wd k y m ws there lt go =
       let z = not_zero walk objects h fine wc (header k y m) ws there in
@@ -266,8 +266,8 @@ module _ {V : Type 0} (walk : Walk V) where
       objects h) (waiting : List Waiting) (wc wd k y m : ℕ) (ws : List ℕ) → There walk.l objects wc
       (Fixed (header k y m) ws) → k < 256 → (k == 14) ≡ false → (k == 8) ≡ false → (k2 y2 m2 : ℕ) (ws2 : List ℕ)
       → There walk.l objects wd (Fixed (header k2 y2 m2) ws2) → k2 < 256 → ((rests : List Code)
-      → G5 B (S5 12 (both_read wc wd (header k y m) k (header k2 y2 m2) k2) (compose_third walk.first) rests waiting h))
-      → G5 (More 8 0 B) (S5 12 (bind 0 (wc ∷ wd ∷ []) no_locals) (compose_code walk.first) [] waiting h)
+      → Reached B (state 12 (both_read wc wd (header k y m) k (header k2 y2 m2) k2) (compose_third walk.first) rests waiting h))
+      → Reached (More 8 0 B) (state 12 (bind 0 (wc ∷ wd ∷ []) no_locals) (compose_code walk.first) [] waiting h)
   reads_both objects h fine waiting wc wd k y m ws there lt no14 no8 k2 y2 m2 ws2 there2 lt2 go =
       let z = not_zero walk objects h fine wd (header k2 y2 m2) ws2 there2 in
       at_most walk
@@ -299,7 +299,7 @@ module _ {V : Type 0} (walk : Walk V) where
   pub id_second : {B : Budget} → (objects : List Object) (h : Heap) (fine : Fine walk.setting walk.l walk.around objects
       h) (waiting : List Waiting) (wc wd k y m : ℕ) (ws : List ℕ) → There walk.l objects wc (Fixed (header k y m) ws)
       → k < 256 → (k == 14) ≡ false → (k == 8) ≡ false → wd ≡ 0 → (c : Coercion) → Held walk.l objects c wc
-      → Answers walk B objects waiting c → G5 (More 6 0 B) (S5 12 (bind 0 (wc ∷ wd ∷ []) no_locals) (compose_code
+      → Answers walk B objects waiting c → Reached (More 6 0 B) (state 12 (bind 0 (wc ∷ wd ∷ []) no_locals) (compose_code
       walk.first) [] waiting h)
   id_second objects h fine waiting wc wd k y m ws there lt no14 no8 z c hc go =
       at_most walk
@@ -478,8 +478,8 @@ module _ {V : Type 0} (walk : Walk V) where
   abbrev pub CoerceDoes : ℕ → ℕ → ℕ → ℕ → ℕ → Coercion → Type 0
   CoerceDoes cost above from to label e = (B : Budget) (objects : List Object) (h : Heap) → Fine walk.setting walk.l
       walk.around objects h → (waiting : List Waiting) (wf wt : ℕ) → HoldsType walk.l objects wf from → HoldsType walk.l
-      objects wt to → label < 2 ^ 64 → Answers walk B objects waiting e → G5 (More cost above B)
-      (S5 11 (bind 0 (wf ∷ wt ∷ label ∷ []) no_locals) (coerce_code walk.first) [] waiting h)
+      objects wt to → label < 2 ^ 64 → Answers walk B objects waiting e → Reached (More cost above B)
+      (state 11 (bind 0 (wf ∷ wt ∷ label ∷ []) no_locals) (coerce_code walk.first) [] waiting h)
 
   -- an Inject before a Project
   pub meets : (cost0 cost1 cost2 above : ℕ) (g : Coercion) (kept wanted label : ℕ) (i e1 e2 e3 : Coercion) → CoerceDoes
@@ -524,8 +524,8 @@ module _ {V : Type 0} (walk : Walk V) where
       cost above c d (next c d) → ComposeDoes cost above d c (next d c) → (kind : Kind) (n k e : ℕ) (b : Bool)
       → (k == n) ≡ b → (objects : List Object) (h : Heap) (fine : Fine walk.setting walk.l walk.around objects h)
       (waiting : List Waiting) (x y : ℕ) → Held walk.l objects c x → Held walk.l objects d y → Answers walk B objects
-      waiting (follow_part next (runs_back kind b) c d) → G5 (More (cost + 4) above B)
-      (S5 6 (bind 0 (kind_number kind ∷ n ∷ k ∷ x ∷ y ∷ e ∷ []) no_locals) (part_proc walk.first).code [] waiting h)
+      waiting (follow_part next (runs_back kind b) c d) → Reached (More (cost + 4) above B)
+      (state 6 (bind 0 (kind_number kind ∷ n ∷ k ∷ x ∷ y ∷ e ∷ []) no_locals) (part_proc walk.first).code [] waiting h)
   part_done {B = B} cost above next c d there back kind n k e b t objects h fine waiting x y hx hy go =
       at_most walk
       (part_runs objects h fine waiting (λ x y. TailCall (compose walk.first) (x ∷ y ∷ [])) kind n k x y e b t
@@ -533,7 +533,7 @@ module _ {V : Type 0} (walk : Walk V) where
       (omega arith, omega arith)
     where
       by : (b : Bool) (rests : List Code) → Answers walk B objects waiting (follow_part next b c d)
-          → G5 (One (More cost above B)) (S5 6 (bind 0 (kind_number kind ∷ n ∷ k ∷ x ∷ y ∷ e ∷ []) no_locals)
+          → Reached (One (More cost above B)) (state 6 (bind 0 (kind_number kind ∷ n ∷ k ∷ x ∷ y ∷ e ∷ []) no_locals)
           (in_order (λ x y. TailCall (compose walk.first) (x ∷ y ∷ [])) b) rests waiting h)
       by true rests go =
           tail_calls walk objects fine (y ∷ x ∷ []) (proc 2 12 (compose_code walk.first)) refl (walk.stands 1 _ refl)
@@ -579,8 +579,8 @@ module _ {V : Type 0} (walk : Walk V) where
           (kind_number other)
 
       made : (r : ℕ) → HasWidth walk.l kind r → r ≤ n1 → r ≤ n2 → r ≡ min n1 n2 → Answers walk B objects waiting
-          (middle kind (follow_parts next kind cs ds)) → G5 (More (2 + parts_cost (cost + 4) walk.l.width) (suc above)
-          B) (S5 24 (bind 0 (wc ∷ wd ∷ kind_number kind ∷ n1 ∷ 0 ∷ []) no_locals) (middle_code (raise walk.first)
+          (middle kind (follow_parts next kind cs ds)) → Reached (More (2 + parts_cost (cost + 4) walk.l.width) (suc above)
+          B) (state 24 (bind 0 (wc ∷ wd ∷ kind_number kind ∷ n1 ∷ 0 ∷ []) no_locals) (middle_code (raise walk.first)
           (part walk.first) each_word r) [] waiting h)
       made r wide le1 le2 e go =
           let c1 : count cs ≡ n1 = as_many walk.l objects cs hc.0 hc.2 in
@@ -602,7 +602,7 @@ module _ {V : Type 0} (walk : Walk V) where
           ((let z = parts_less (cost + 4) r walk.l.width wide.1 in omega arith), omega arith)
 
       by_kind : (b : Bool) → same_kind kind other ≡ b → (rests : List Code)
-          → G5 (More (32 + parts_cost (cost + 4) walk.l.width) (suc above) B) (S5 12 L (either Eq (Word 3) (Word 5)
+          → Reached (More (32 + parts_cost (cost + 4) walk.l.width) (suc above) B) (state 12 L (either Eq (Word 3) (Word 5)
           (compose_both walk.first) (Return (Number 0))) rests waiting h)
       by_kind false e rests =
           at_most walk

@@ -30,7 +30,7 @@ use Rattle.rt_cast.proofs.HeaderNumbers.{header_small}
 use Rattle.rt_cast.proofs.Steps.{Budget, More, at_most, sets_word, loads}
 use Rattle.rt_cast.proofs.Steps.{computes, if_true, if_false, builds, calls, comes_back}
 use Rattle.rt_cast.proofs.Small.{grows_not, grows_on, there_still, HasHeight, not_zero, raised, numbers}
-use Rattle.rt_cast.proofs.Small.{C}
+use Rattle.rt_cast.proofs.Small.{ReachedIn}
 use Rattle.rt_cast.proofs.Walks.{Walk}
 
 -- ---- what is held stays held
@@ -266,17 +266,17 @@ has_height l objects (Project wanted label i) w lt h = inr (record {
 })
 
 module _ {V : Type 0} (walk : Walk V) where
-  abbrev G : Budget → LowState → Type 0
-  G = C walk
+  abbrev Reached : Budget → LowState → Type 0
+  Reached = ReachedIn walk
 
-  abbrev S4 : ℕ → Locals → Code → List Code → List Waiting → Heap → LowState
-  S4 = st walk.around
+  abbrev state : ℕ → Locals → Code → List Code → List Waiting → Heap → LowState
+  state = st walk.around
 
   -- it goes on from each return of a word that holds the coercion, where objects were only added
   abbrev pub Answers : Budget → List Object → List Waiting → Coercion → Type 0
   Answers B objects waiting c = (new : List Object) (h : Heap) (w : ℕ) (count : ℕ) (locals : Locals) (rests : List Code)
       (a : LowSource) → Grows objects new → Fine walk.setting walk.l walk.around new h → Held walk.l new c w
-      → word_of locals a ≡ Some w → G B (S4 count locals (Return a) rests waiting h)
+      → word_of locals a ≡ Some w → Reached B (state count locals (Return a) rests waiting h)
 
   pub far : (objects : List Object) (h : Heap) → Fine walk.setting walk.l walk.around objects h → (at head : ℕ)
       (ws : List ℕ) → There walk.l objects at (Fixed head ws) → 65536 ≤ at
@@ -312,8 +312,8 @@ module _ {V : Type 0} (walk : Walk V) where
         Some (Y k)) (low : (k : ℕ) → k < total → coercion_height (height_in walk.l) (E k) < 65535) where
       abbrev pub PartDoes : ℕ → Type 0
       PartDoes k = (B : Budget) (now : List Object) (h : Heap) (waiting : List Waiting) → Grows objects now
-          → Fine walk.setting walk.l walk.around now h → Answers B now waiting (E k) → G (More cost above B)
-          (S4 p.words (bind 0 (kind_number kind ∷ n ∷ suc k ∷ X k ∷ Y k ∷ extra ∷ []) no_locals) p.code [] waiting h)
+          → Fine walk.setting walk.l walk.around now h → Answers B now waiting (E k) → Reached (More cost above B)
+          (state p.words (bind 0 (kind_number kind ∷ n ∷ suc k ∷ X k ∷ Y k ∷ extra ∷ []) no_locals) p.code [] waiting h)
 
       record InPlace (now : List Object) (k : ℕ) (L : Locals) : Type 0 where
         x_is : L 0 ≡ Some x
@@ -352,7 +352,7 @@ module _ {V : Type 0} (walk : Walk V) where
       -- all parts are there
       finished : {B : Budget} → (now : List Object) (h : Heap) (fine : Fine walk.setting walk.l walk.around now h)
           → Grows objects now → (L : Locals) → InPlace now total L → Answers B objects waiting
-          (middle kind (list_of E total 0)) → (rests : List Code) → G (More 7 0 B) (S4 24 L (finish_code total) rests
+          (middle kind (list_of E total 0)) → (rests : List Code) → Reached (More 7 0 B) (state 24 L (finish_code total) rests
           waiting h)
       finished {B = B} now h fine grows L at go rests = by_some (eq_cases (some_to E total) 0)
           (by_ids (all_id (list_of E total 0)) refl)
@@ -366,8 +366,8 @@ module _ {V : Type 0} (walk : Walk V) where
               clash q = cc
 
           by_some : (some_to E total ≡ 0) ⊎ ((some_to E total == 0) ≡ false) → ((all_id (list_of E total 0) ≡ true)
-              ⊎ ((all_id (list_of E total 0) ≡ false) × (some_to E total ≡ 0 → ⊥))) → G (More 7 0 B)
-              (S4 24 L (finish_code total) rests waiting h)
+              ⊎ ((all_id (list_of E total 0) ≡ false) × (some_to E total ≡ 0 → ⊥))) → Reached (More 7 0 B)
+              (state 24 L (finish_code total) rests waiting h)
           by_some (inl z) ids =
               let e : middle kind (list_of E total 0) ≡ Id = ap (λ b. cond b Id (Middle kind (list_of E total 0)))
               (all_ids E total 0 total (omega arith) z) in
@@ -484,7 +484,7 @@ module _ {V : Type 0} (walk : Walk V) where
       parts_go : {B : Budget} → (j k : ℕ) → k + j ≡ total → ((i : ℕ) → i < total → PartDoes i) → (now : List Object)
           (h : Heap) (fine : Fine walk.setting walk.l walk.around now h) → Grows objects now → (L : Locals)
           → InPlace now k L → Answers B objects waiting (middle kind (list_of E total 0)) → (rests : List Code)
-          → G (More (parts_cost cost j) (suc above) B) (S4 24 L (parts_code raise part offset total j k) rests waiting
+          → Reached (More (parts_cost cost j) (suc above) B) (state 24 L (parts_code raise part offset total j k) rests waiting
           h)
       parts_go zero k e does now h fine grows L at go rests =
           let q : k ≡ total = omega arith in
@@ -525,7 +525,7 @@ module _ {V : Type 0} (walk : Walk V) where
 
       pub middle_made : {B : Budget} → ((i : ℕ) → i < total → PartDoes i) → (h : Heap) (fine : Fine walk.setting walk.l
           walk.around objects h) → Answers B objects waiting (middle kind (list_of E total 0))
-          → G (More (2 + parts_cost cost total) (suc above) B) (S4 24 (bind 0 (x ∷ y ∷ kind_number kind ∷ n ∷ extra ∷
+          → Reached (More (2 + parts_cost cost total) (suc above) B) (state 24 (bind 0 (x ∷ y ∷ kind_number kind ∷ n ∷ extra ∷
           []) no_locals) (middle_code raise part offset total) [] waiting h)
       middle_made does h fine go =
           at_most walk

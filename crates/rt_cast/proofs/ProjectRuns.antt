@@ -42,7 +42,7 @@ use Rattle.rt_cast.proofs.Objects.{none_some, same_some}
 use Rattle.rt_cast.proofs.HeaderNumbers.{eq_true, eq_false, lt_true, lt_false, lt_cases, kind_read, count_read}
 use Rattle.rt_cast.proofs.Steps.{Budget, End, Out, More, at_most, word_there, loads, loads_at, computes, if_true, if_false}
 use Rattle.rt_cast.proofs.Steps.{builds, calls, tail_calls, comes_back}
-use Rattle.rt_cast.proofs.Small.{C, grows_not, grows_on, there_still}
+use Rattle.rt_cast.proofs.Small.{ReachedIn, grows_not, grows_on, there_still}
 use Rattle.rt_cast.proofs.Middles.{added, one_more}
 use Rattle.rt_cast.proofs.ComposeSteps.{type_there, type_small, type_still, type_numbers}
 use Rattle.rt_cast.proofs.CastCases.{apply}
@@ -176,8 +176,8 @@ module _ {V : Type 0} (walk : Walk V) (low : walk.l.tallest ≤ 65534) (A : Type
   abbrev Carried : List Object → Merged A → ℕ → Type 0
   Carried = CarriedBy walk.l IsHeld
 
-  abbrev S9 : ℕ → Locals → Code → List Code → List Waiting → Heap → LowState
-  S9 = st walk.around
+  abbrev state : ℕ → Locals → Code → List Code → List Waiting → Heap → LowState
+  state = st walk.around
 
   abbrev R : ℕ → TypeRow
   R = rows_in walk.l
@@ -227,7 +227,7 @@ module _ {V : Type 0} (walk : Walk V) (low : walk.l.tallest ≤ 65534) (A : Type
   -- the procedure goes on so
   abbrev Runs : ℕ → ℕ → Budget → ℕ → ℕ → ℕ → ℕ → List Waiting → Heap → Type 0
   Runs cost above B wv k which label waiting h =
-      C walk (More cost above B) (S9 12 (asked wv k which label) (project_code walk.first) [] waiting h)
+      ReachedIn walk (More cost above B) (state 12 (asked wv k which label) (project_code walk.first) [] waiting h)
 
   -- a part of what stands under a proxy, by the part of its coercion
   abbrev on_part : A → ℕ → Option Coercion → Outcome A
@@ -344,7 +344,7 @@ module _ {V : Type 0} (walk : Walk V) (low : walk.l.tallest ≤ 65534) (A : Type
   blamed : {B : Budget} → (objects : List Object) (h : Heap) (fine : Fine walk.setting walk.l walk.around objects h)
       (waiting : List Waiting) (rests : List Code) (wv k label wt wx kept : ℕ)
       → Goes B objects waiting (Blames label)
-      → C walk (More 0 0 B) (S9 12 (dyn_read wv k label wt wx kept) project_blame rests waiting h)
+      → ReachedIn walk (More 0 0 B) (state 12 (dyn_read wv k label wt wx kept) project_blame rests waiting h)
   blamed objects h fine waiting rests wv k label wt wx kept go =
       at_most walk
       (go objects h 12 _ rests waiting (Word 3) (Number 0) 4 5 (Return (Number 0)) (grows_not objects) fine refl refl)
@@ -357,7 +357,7 @@ module _ {V : Type 0} (walk : Walk V) (low : walk.l.tallest ≤ 65534) (A : Type
       → locals 8 ≡ Some (walk.l.type_at part) → locals 9 ≡ Some w → nat_lt 11 count ≡ true → nat_lt 10 count ≡ true
       → (r : Outcome A) → cast_value head walk.l.types (make part label dyn) y ≡ r → (r ≡ Stuck → ⊥)
       → Goes B objects waiting r
-      → C walk (More 6 0 B) (S9 count locals (after_part) rests waiting h)
+      → ReachedIn walk (More 6 0 B) (state count locals (after_part) rests waiting h)
   in_dyn B objects h fine waiting count locals rests part dyn label y w known lower isdyn hy l8 l9 lt11 lt10 r e some go =
       by (is_dyn (R part)) refl
     where
@@ -378,8 +378,8 @@ module _ {V : Type 0} (walk : Walk V) (low : walk.l.tallest ≤ 65534) (A : Type
           f isdyn
 
       reads : {D : Budget} → (b : Bool) → (type_kind (R part) == 19) ≡ b
-          → ((rests' : List Code) → C walk D (S9 count (set_local 10 (type_kind (R part)) (set_local 10 type_head locals))
-          (if_dyn b) rests' waiting h)) → C walk (More 3 0 D) (S9 count locals after_part rests waiting h)
+          → ((rests' : List Code) → ReachedIn walk D (state count (set_local 10 (type_kind (R part)) (set_local 10 type_head locals))
+          (if_dyn b) rests' waiting h)) → ReachedIn walk (More 3 0 D) (state count locals after_part rests waiting h)
       reads true f go2 =
           at_most walk
           (loads walk objects fine at type_head (map walk.l.type_at (parts_of (R part))) 0 type_head l8
@@ -399,7 +399,7 @@ module _ {V : Type 0} (walk : Walk V) (low : walk.l.tallest ≤ 65534) (A : Type
           (if_false walk objects fine (type_kind (R part)) 19 refl refl f (go2 _))))
           (omega arith, omega arith)
 
-      by : (b : Bool) → is_dyn (R part) ≡ b → C walk (More 6 0 B) (S9 count locals after_part rests waiting h)
+      by : (b : Bool) → is_dyn (R part) ≡ b → ReachedIn walk (More 6 0 B) (state count locals after_part rests waiting h)
       by true f =
           let g : Gives y ≡ r = ap (λ c. cast_value head walk.l.types c y) (sym (coercion_is true f)) ∙ e in
           at_most walk
@@ -476,8 +476,8 @@ module _ {V : Type 0} (walk : Walk V) (low : walk.l.tallest ≤ 65534) (A : Type
       with_dyn : (ps : List ℕ) → R kept ≡ TupleRow ps → (part : ℕ) → slice_get ps k ≡ Some part → (dyn : ℕ)
           → dyn_place walk.l.types ≡ Some dyn
           → then_outcome (part_value head parts walk.l.types k x) (cast_value head walk.l.types (make part label dyn)) ≡ r
-          → (rests : List Code) → C walk (More (tuple_cost walk.l.width n + 12)
-          (suc (whole_above walk low A IsHeld still is_solid)) B) (S9 12 L (project_dyn_part walk.first) rests waiting h)
+          → (rests : List Code) → ReachedIn walk (More (tuple_cost walk.l.width n + 12)
+          (suc (whole_above walk low A IsHeld still is_solid)) B) (state 12 L (project_dyn_part walk.first) rests waiting h)
       with_dyn ps row part got dyn place f rests =
           let known =
               each_has (λ p. p < length walk.l.types) ps k part
@@ -508,14 +508,14 @@ module _ {V : Type 0} (walk : Walk V) (low : walk.l.tallest ≤ 65534) (A : Type
       by_dyn : (ps : List ℕ) → R kept ≡ TupleRow ps → (part : ℕ) → slice_get ps k ≡ Some part → (o : Option ℕ)
           → dyn_place walk.l.types ≡ o
           → dyn_part_by head parts walk.l.types (cast_to_dyn make o part label) k label x ≡ r → (rests : List Code)
-          → C walk (More (tuple_cost walk.l.width n + 12) (suc (whole_above walk low A IsHeld still is_solid)) B)
-          (S9 12 L (project_dyn_part walk.first) rests waiting h)
+          → ReachedIn walk (More (tuple_cost walk.l.width n + 12) (suc (whole_above walk low A IsHeld still is_solid)) B)
+          (state 12 L (project_dyn_part walk.first) rests waiting h)
       by_dyn ps row part got None place f rests = absurd (some (sym f))
       by_dyn ps row part got (Some dyn) place f rests = with_dyn ps row part got dyn place f rests
 
       by_sight : Sight (R kept) k → (rests : List Code)
-          → C walk (More (tuple_cost walk.l.width n + 14) (suc (whole_above walk low A IsHeld still is_solid)) B)
-          (S9 12 L (either Eq (Word 7) (Number 21) (either Ltu (Word 1) (Word 6) (project_dyn_part walk.first)
+          → ReachedIn walk (More (tuple_cost walk.l.width n + 14) (suc (whole_above walk low A IsHeld still is_solid)) B)
+          (state 12 L (either Eq (Word 7) (Number 21) (either Ltu (Word 1) (Word 6) (project_dyn_part walk.first)
           project_blame) project_blame) rests waiting h)
       by_sight (NotTuple other none) rests =
           at_most walk

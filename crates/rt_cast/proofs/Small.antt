@@ -73,11 +73,11 @@ no_project RefKind = refl
 no_project VecKind = refl
 
 module _ {V : Type 0} (walk : Walk V) where
-  abbrev pub C : Budget → LowState → Type 0
-  C = Comes walk
+  abbrev pub ReachedIn : Budget → LowState → Type 0
+  ReachedIn = Comes walk
 
-  abbrev pub S : ℕ → Locals → Code → List Code → List Waiting → Heap → LowState
-  S = st walk.around
+  abbrev pub state_in : ℕ → Locals → Code → List Code → List Waiting → Heap → LowState
+  state_in = st walk.around
 
   -- an object's address is not 0, and small
   pub not_zero : (objects : List Object) (h : Heap) → Fine walk.setting walk.l walk.around objects h → (at head : ℕ)
@@ -89,11 +89,11 @@ module _ {V : Type 0} (walk : Walk V) where
   -- a procedure that adds nothing answers this word
   abbrev pub Gives : Budget → Heap → List Waiting → ℕ → Type 0
   Gives B h waiting w = (count : ℕ) (locals : Locals) (rests : List Code) (a : LowSource) → word_of locals a ≡ Some w
-      → C B (S count locals (Return a) rests waiting h)
+      → ReachedIn B (state_in count locals (Return a) rests waiting h)
 
   pub raised : {B : Budget} → (objects : List Object) (h : Heap) (fine : Fine walk.setting walk.l walk.around objects h)
-      (waiting : List Waiting) (x w y : ℕ) → HasHeight walk.l objects w y → Gives B h waiting (max x y) → C (More 6 0 B)
-      (S 3 (bind 0 (x ∷ w ∷ []) no_locals) raise_code [] waiting h)
+      (waiting : List Waiting) (x w y : ℕ) → HasHeight walk.l objects w y → Gives B h waiting (max x y) → ReachedIn (More 6 0 B)
+      (state_in 3 (bind 0 (x ∷ w ∷ []) no_locals) raise_code [] waiting h)
   raised objects h fine waiting x w y (inl e) go =
       at_most walk
       (if_true walk objects fine w 0 refl refl (eq_true w 0 e.0)
@@ -118,7 +118,7 @@ module _ {V : Type 0} (walk : Walk V) where
 
   keeps : {B : Budget} → (objects : List Object) (h : Heap) (fine : Fine walk.setting walk.l walk.around objects h)
       (waiting : List Waiting) (w k y n : ℕ) (ws : List ℕ) → There walk.l objects w (Fixed (header k y n) ws) → k < 256
-      → (k == 14) ≡ false → Gives B h waiting w → C (More 5 0 B) (S 2 (bind 0 (w ∷ []) no_locals) final_code [] waiting
+      → (k == 14) ≡ false → Gives B h waiting w → ReachedIn (More 5 0 B) (state_in 2 (bind 0 (w ∷ []) no_locals) final_code [] waiting
       h)
   keeps objects h fine waiting w k y n ws there lt other go =
       let z = not_zero objects h fine w (header k y n) ws there in
@@ -132,7 +132,7 @@ module _ {V : Type 0} (walk : Walk V) where
   -- what follows 0 or an object that is no Project
   pub finals : {B : Budget} → (objects : List Object) (h : Heap) (fine : Fine walk.setting walk.l walk.around objects h)
       (waiting : List Waiting) (c : Coercion) (w : ℕ) → Held walk.l objects c w → Gives B h waiting (final_word c w)
-      → C (More 5 0 B) (S 2 (bind 0 (w ∷ []) no_locals) final_code [] waiting h)
+      → ReachedIn (More 5 0 B) (state_in 2 (bind 0 (w ∷ []) no_locals) final_code [] waiting h)
   finals objects h fine waiting Id w held go = at_most walk (if_true walk objects fine w 0 refl refl (eq_true w 0 held)
       (go 2 _ _ (Word 0) refl)) (omega arith, omega arith)
   finals objects h fine waiting (Fail label) w held go = keeps objects h fine waiting w 8 0 1 (label ∷ []) held
