@@ -1,0 +1,125 @@
+-- What cast comes to, from a state in which whole objects fill the region.
+use Rattle.std.proofs.Common.{◌≡◌, ℕ, ◌+◌, ◌*◌, ◌≤◌, List, [], ◌∷◌, refl, sym, subst}
+use Rattle.std.proofs.Common.{le_refl, arith}
+use Rattle.grift_base.specs.Types.{TypeHead}
+use Rattle.run_laws.specs.Runs.{Ending, Exhausted}
+use Rattle.rv_machine.specs.State.{Halt, Lacks, Region}
+use Rattle.low_ir.specs.Procedures.{Return, Environment}
+use Rattle.low_ir.specs.Run.{Setting, LowState}
+use Rattle.coercion_norm.specs.Coercions.{Coercion}
+use Rattle.coercion_norm.specs.Heights.{NoHigher}
+use Rattle.coercion_norm.proofs.Public.{bound_from_height}
+use Rattle.rt_cast.specs.Costs.{cast_cost}
+use Rattle.rt_cast.specs.Objects.{Object}
+use Rattle.rt_cast.specs.Held.{Layout, Held, rows_in, height_in}
+use Rattle.rt_cast.specs.WholeObjects.{IsSolid}
+use Rattle.rt_cast.specs.Procs.{cast_proc}
+use Rattle.rt_cast.specs.States.{Grows, Filled, IsReady, around, heap_of, st}
+use Rattle.rt_cast.specs.MergedValues.{Merged, Base, Solid, Proxied, InDyn, Outcome, Stuck, Gives, Blames, cast_value}
+use Rattle.rt_cast.specs.Carried.{IsLow, CarriedBy, Carries, IsVery, ComesTo, ComesToOutcome}
+use Rattle.rt_cast.proofs.Walks.{Walk}
+use Rattle.rt_cast.proofs.Steps.{End}
+use Rattle.rt_cast.proofs.Small.{there_still}
+use Rattle.rt_cast.proofs.Reaching.{at_first, walk}
+use Rattle.rt_cast.proofs.CastCases.{apply}
+use Rattle.rt_cast.proofs.CastRuns.{GoesOn, by_cast}
+use Rattle.rt_cast.proofs.CastDecisions.{low_of, by_cast as decided_cast}
+
+module _ {V : Type 0} (reading : Halt → Ending V) (setting : Setting) (l : Layout) (first : ℕ) (s : LowState)
+    (exhausts : reading (Lacks Region) ≡ Exhausted) (ready : IsReady setting l first) where
+  module _ {A : Type 0} (head : A → TypeHead) (IsHeld : List Object → A → ℕ → Type 0)
+      (still : (old new : List Object) → Grows old new → (a : A) (w : ℕ) → IsHeld old a w → IsHeld new a w)
+      (is_solid : (objects : List Object) (a : A) (w : ℕ) → IsHeld objects a w → IsSolid l objects w) where
+    -- whatever the procedure comes to, it has come there
+    pub ends : (low : l.tallest ≤ 65534) (objects : List Object) (r : Outcome A) → (r ≡ Stuck → ⊥) → (frames words : ℕ)
+        (x : Outcome A) → x ≡ r
+        → GoesOn (walk reading setting l first s exhausts ready (ComesTo l setting s IsHeld objects r) frames words) low A
+        IsHeld still is_solid End objects s.waiting x
+    ends low objects r some frames words Stuck q = absurd (some (sym q))
+    ends low objects r some frames words (Gives v) q = λ new h' x count locals rests a grows fine held is. record {
+      steps = 0;
+      few = le_refl 0;
+      reach = λ spare.
+          subst (λ y. ComesTo l setting s IsHeld objects y (st (around s) count locals (Return a) rests s.waiting
+          h'))
+          q (record {
+            new = new;
+            grows = grows;
+            fine = fine;
+            word = x;
+            carried = held;
+            source = a;
+            code = refl;
+            is = is;
+            waits = refl;
+            same = refl;
+          });
+    }
+    ends low objects r some frames words (Blames label) q = λ new h' count locals rests waiting a b d e rest grows fine is other. record {
+      steps = 0;
+      few = le_refl 0;
+      reach = λ spare.
+          subst (λ y. ComesTo l setting s IsHeld objects y
+          (st (around s) count locals (Environment 3 a b d e rest) rests waiting h')) q (record {
+            new = new;
+            fine = fine;
+            a = a;
+            b = b;
+            d = d;
+            e = e;
+            rest = rest;
+            code = refl;
+            is = is;
+            other = other;
+            same = refl;
+          });
+    }
+
+    pub casts : l.tallest ≤ 65534 → (objects : List Object) → Filled setting l objects (heap_of s) → (c : Coercion)
+        → IsLow l c → (u : Merged A) (r : Outcome A) → cast_value head l.types c u ≡ r → (r ≡ Stuck → ⊥)
+        → (wv wc : ℕ) → CarriedBy l IsHeld objects u wv → Held l objects c wc
+        → ComesToOutcome reading setting l s IsHeld objects (cast_proc first) (wv ∷ wc ∷ []) r
+        (cast_cost l.width l.tallest) (4 * l.tallest + 6)
+    casts low objects filled c lc u r e some wv wc hv hc =
+        let z =
+        by_cast w low A IsHeld still is_solid c lc.normal below u End objects (heap_of s)
+        (at_first reading setting l first s exhausts ready objects filled) s.waiting wv wc hv hc
+        (ends low objects r some (4 * l.tallest + 6) (9 * cast_cost l.width l.tallest) (apply (rows_in l) l.tallest c u)
+        (decided_cast l ready.types head c lc.normal below u (low_of l ready.types head IsHeld objects u wv hv) r some e)) in
+        (z.steps, (let f = z.few in omega arith), z.reach (record { room = omega arith; left = omega arith }))
+      where
+        below : NoHigher (rows_in l) c l.tallest
+        below = bound_from_height (rows_in l) (height_in l) ready.types.heights c l.tallest lc.low
+
+        Q : LowState → Type 0
+        Q = ComesTo l setting s IsHeld objects r
+
+        w : Walk V
+        w = walk reading setting l first s exhausts ready Q (4 * l.tallest + 6) (9 * cast_cost l.width l.tallest)
+
+  pub very_still : (old new : List Object) → Grows old new → (a w : ℕ) → IsVery l old a w → IsVery l new a w
+  very_still old new g a w h = record {
+    is = h.is;
+    solid = record {
+      object = h.solid.object;
+      there = there_still l old new w h.solid.object g h.solid.there;
+      kind = h.solid.kind;
+      height = h.solid.height;
+      count = h.solid.count;
+      head = h.solid.head;
+      low = h.solid.low;
+      other = h.solid.other;
+    };
+  }
+
+  -- over what stands under proxies as it stands
+  pub very_casts : l.tallest ≤ 65534 → (objects : List Object) → Filled setting l objects (heap_of s)
+      → (head : ℕ → TypeHead) (c : Coercion) → IsLow l c → (u : Merged ℕ) (r : Outcome ℕ)
+      → cast_value head l.types c u ≡ r → (r ≡ Stuck → ⊥) → (wv wc : ℕ) → Carries l objects u wv
+      → Held l objects c wc
+      → ComesToOutcome reading setting l s (IsVery l) objects (cast_proc first) (wv ∷ wc ∷ []) r
+      (cast_cost l.width l.tallest) (4 * l.tallest + 6)
+  very_casts low objects filled head c lc u r e some wv wc hv hc =
+      casts head (IsVery l) (λ old new g a w h. very_still old new g a w h) (λ os a w h. h.solid) low objects filled c
+      lc
+      u r e some wv wc hv hc

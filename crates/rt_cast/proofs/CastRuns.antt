@@ -1,0 +1,416 @@
+-- What cast does.
+use Rattle.std.proofs.Common.{◌≡◌, inl, inr, ℕ, suc, ◌+◌, ◌*◌, ◌^◌, ◌<◌, ◌≤◌, true}
+use Rattle.std.proofs.Common.{List, [], ◌∷◌, ◌++◌, Some, refl, ap₂}
+use Rattle.std.proofs.Common.{subst, arith}
+use Rattle.std.specs.Prelude.{nat_lt, length}
+use Rattle.rt_cast.specs.States.{Heap, st, Fine, Grows}
+use Rattle.grift_base.specs.Types.{TypeRow}
+use Rattle.low_ir.specs.Steps.{Locals, no_locals, set_local}
+use Rattle.low_ir.specs.declared.code.LowSource.{LowSource}
+use Rattle.low_ir.specs.declared.code.LowSource.TheVariants.{Word, Number}
+use Rattle.low_ir.specs.Procedures.{Code, Build, Return, Environment}
+use Rattle.low_ir.specs.Run.{Active, Waiting, LowState, word_of, and_more, bind}
+use Rattle.rv_isa.specs.declared.inst.Cond.TheVariants.{Eq}
+use Rattle.coercion_norm.specs.declared.middles.MiddleKind.{MiddleKind as Kind}
+use Rattle.coercion_norm.specs.Coercions.{Coercion, Coercions, Id, Fail, Middle, Inject, Project}
+use Rattle.coercion_norm.specs.Composition.{coerce_to}
+use Rattle.coercion_norm.specs.Composition.{compose_to}
+use Rattle.coercion_norm.specs.Heights.{coercion_height, NoHigher, TypeNoHigher}
+use Rattle.coercion_norm.specs.Normal.{IsNormal}
+use Rattle.coercion_norm.proofs.Public.{compose_height, coerce_height, compose_normal, coerce_normal, bound_from_height}
+use Rattle.coercion_norm.proofs.Public.{height_from_bound}
+use Rattle.rt_cast.specs.Costs.{compose_cost, cast_cost}
+use Rattle.rt_cast.specs.Objects.{Object, Fixed, header_of}
+use Rattle.rt_cast.specs.Held.{There, header, kind_number, Held}
+use Rattle.rt_cast.specs.WholeObjects.{IsSolid, WholeProxy, WholeDyn}
+use Rattle.rt_cast.specs.Procs.{coerce_proc, compose_proc, cast_proc}
+use Rattle.rt_cast.specs.PartCodes.{either}
+use Rattle.rt_cast.specs.PartCodes.{proc}
+use Rattle.rt_cast.specs.ComposeCodes.{compose_code}
+use Rattle.rt_cast.proofs.HeaderNumbers.{eq_true, eq_false, kind_read}
+use Rattle.rt_cast.proofs.Steps.{Budget, End, Out, More, at_most, WordThere, loads}
+use Rattle.rt_cast.proofs.Steps.{computes, if_true, if_false, builds, calls, tail_calls, comes_back, header_there}
+use Rattle.rt_cast.proofs.Steps.{loads_at}
+use Rattle.rt_cast.proofs.Small.{grows_not, grows_on, there_still, not_zero}
+use Rattle.rt_cast.proofs.Small.{numbers, ReachedIn}
+use Rattle.rt_cast.proofs.Middles.{held_still, held_small, added, one_more}
+use Rattle.rt_cast.proofs.ComposeSteps.{type_small, type_still, no_middle, part_small}
+use Rattle.rt_cast.proofs.ComposeRuns.{all_composed}
+use Rattle.rt_cast.specs.Carried.{CarriedBy, IsLow}
+use Rattle.rt_cast.specs.MergedValues.{Merged, Base, Solid, Proxied, InDyn, Outcome, Stuck, Gives as GivesValue, Blames}
+use Rattle.rt_cast.proofs.CastCases.{wrap, rewrap, apply_plain, apply_final, open_dyn, apply}
+use Rattle.rt_cast.specs.MergedValues.{then_outcome}
+use Rattle.rt_cast.proofs.Walks.{Walk}
+use Rattle.rt_cast.specs.Held.{rows_in, height_in}
+use Rattle.rt_cast.specs.CastCodes.{cast_code, cast_kinds}
+use Rattle.rt_cast.proofs.CoerceRuns.{all_cast}
+
+zero_more : (n : ℕ) → n ≡ n + 0
+zero_more n = omega arith
+
+module _ {V : Type 0} (walk : Walk V) (low : walk.l.tallest ≤ 65534) (A : Type 0)
+    (IsHeld : List Object → A → ℕ → Type 0)
+    (still : (old new : List Object) → Grows old new → (a : A) (w : ℕ) → IsHeld old a w → IsHeld new a w)
+    (is_solid : (objects : List Object) (a : A) (w : ℕ) → IsHeld objects a w → IsSolid walk.l objects w) where
+  abbrev n : ℕ
+  n = walk.l.tallest
+
+  abbrev Reached : Budget → LowState → Type 0
+  Reached = ReachedIn walk
+
+  abbrev state : ℕ → Locals → Code → List Code → List Waiting → Heap → LowState
+  state = st walk.around
+
+  abbrev R : ℕ → TypeRow
+  R = (rows_in walk.l)
+
+  abbrev pub Carried : List Object → Merged A → ℕ → Type 0
+  Carried = CarriedBy walk.l IsHeld
+
+  -- no higher than the tallest, said in both ways
+  pub no_higher : (c : Coercion) → IsLow walk.l c → NoHigher R c n
+  no_higher c h = bound_from_height R (height_in walk.l) walk.types.heights c n h.low
+
+  tall_low : (c : Coercion) → NoHigher R c n → coercion_height (height_in walk.l) c ≤ n
+  tall_low c h = height_from_bound R (height_in walk.l) walk.types.heights c n h
+
+  type_tall_low : (type : ℕ) → TypeNoHigher R n type → height_in walk.l type ≤ n
+  type_tall_low type h = (walk.types.heights type n).0 h
+
+  pub carried_still : (old new : List Object) → Grows old new → (u : Merged A) (w : ℕ) → Carried old u w → Carried new u w
+  carried_still old new g (Base head x) w h = h
+  carried_still old new g (Solid a) w h = still old new g a w h
+  carried_still old new g (Proxied a c) w h = (
+    h.0,
+    h.1,
+    there_still walk.l old new w _ g h.2,
+    still old new g a h.0
+        h.3,
+    held_still walk.l old new g c h.1 h.4,
+    h.5,
+  )
+  carried_still old new g (InDyn kept x) w h = (
+    h.0,
+    h.1,
+    there_still walk.l old new w _ g h.2,
+    type_still walk old new
+        h.0 kept h.3,
+    h.4,
+    h.5,
+    carried_still old new g x h.1 h.6,
+  )
+
+  solid_small : (objects : List Object) (h : Heap) → Fine walk.setting walk.l walk.around objects h → (a : A) (w : ℕ)
+      → IsHeld objects a w → w < 2 ^ 64
+  solid_small objects h fine a w x = let s = is_solid objects a w x in let z = (header_there walk objects h fine w
+      s.object s.there).end in omega arith
+
+  pub carried_small : (objects : List Object) (h : Heap) → Fine walk.setting walk.l walk.around objects h → (u : Merged A)
+      (w : ℕ) → Carried objects u w → w < 2 ^ 64
+  carried_small objects h fine (Base head x) w c = let e = c.0 in let lt = c.1 in omega arith
+  carried_small objects h fine (Solid a) w c = solid_small objects h fine a w c
+  carried_small objects h fine (Proxied a d) w c = (not_zero walk objects h fine w _ _ c.2).1
+  carried_small objects h fine (InDyn kept x) w c = (not_zero walk objects h fine w _ _ c.2).1
+
+  -- it goes on from each return of a word that carries the value, or from the environment call that blames
+  abbrev pub GoesOn : Budget → List Object → List Waiting → Outcome A → Type 0
+  GoesOn B objects waiting Stuck = ⊥
+  GoesOn B objects waiting (GivesValue u) = (new : List Object) (h : Heap) (w : ℕ) (count : ℕ) (locals : Locals)
+      (rests : List Code) (a : LowSource) → Grows objects new → Fine walk.setting walk.l walk.around new h → Carried new
+      u w → word_of locals a ≡ Some w → Reached B (state count locals (Return a) rests waiting h)
+  GoesOn B objects waiting (Blames label) = (new : List Object) (h : Heap) (count : ℕ) (locals : Locals) (rests : List
+      Code) (waiting : List Waiting) (a b : LowSource) (d e : ℕ) (rest : Code) → Grows objects new → Fine walk.setting
+      walk.l walk.around new h → word_of locals a ≡ Some label → word_of locals b ≡ Some 0 → Reached End (state count locals
+      (Environment 3 a b d e rest) rests waiting h)
+
+  abbrev pub CastDoes : ℕ → ℕ → Coercion → Merged A → Outcome A → Type 0
+  CastDoes cost above c u r = (B : Budget) (objects : List Object) (h : Heap) → Fine walk.setting walk.l walk.around
+      objects h → (waiting : List Waiting) (wv wc : ℕ) → Carried objects u wv → Held walk.l objects c wc
+      → GoesOn B objects waiting r → Reached (More cost above B) (state 10 (bind 0 (wv ∷ wc ∷ []) no_locals)
+      (cast_code walk.first) [] waiting h)
+
+  abbrev cast_read : ℕ → ℕ → ℕ → ℕ → Locals
+  cast_read wv wc head k = set_local 3 k (set_local 2 head (bind 0 (wv ∷ wc ∷ []) no_locals))
+
+  reads : {B : Budget} → (objects : List Object) (h : Heap) (fine : Fine walk.setting walk.l walk.around objects h)
+      (waiting : List Waiting) (wv wc k y m : ℕ) (ws : List ℕ) → There walk.l objects wc (Fixed (header k y m) ws)
+      → k < 256 → ((rests : List Code) → Reached B (state 10 (cast_read wv wc (header k y m) k) (cast_kinds walk.first) rests
+      waiting h)) → Reached (More 3 0 B) (state 10 (bind 0 (wv ∷ wc ∷ []) no_locals) (cast_code walk.first) [] waiting h)
+  reads objects h fine waiting wv wc k y m ws there lt go =
+      let z = not_zero walk objects h fine wc (header k y m) ws there in
+      at_most walk
+      (if_false walk objects fine wc 0 refl refl (eq_false wc 0 (λ e. omega (arith, z.0)))
+      (loads walk objects fine wc (header k y m) ws 0 (header k y m) refl there refl refl refl
+      (computes walk objects fine (header k y m) 255 k refl refl (kind_read k y m lt) refl (go _))))
+      (omega arith, omega arith)
+
+  abbrev plain_cost : ℕ
+  plain_cost = compose_cost walk.l.width n + 25
+
+  abbrev final_cost : ℕ
+  final_cost = plain_cost + 12
+
+  abbrev pub whole_cost : ℕ
+  whole_cost = cast_cost walk.l.width n
+
+  -- procedures above
+  abbrev plain_above : ℕ
+  plain_above = suc (suc (suc (suc (suc (4 * n)))))
+
+  abbrev pub whole_above : ℕ
+  whole_above = suc plain_above
+
+  more_plain : (cost above : ℕ) (c : Coercion) (u : Merged A) (r : Outcome A) → CastDoes plain_cost plain_above c u r
+      → plain_cost ≤ cost → plain_above ≤ above → CastDoes cost above c u r
+  more_plain cost above c u r does le deeper B objects h fine waiting wv wc hv hc go = at_most walk (does B objects h
+      fine waiting wv wc hv hc go) (omega (arith, le), omega (arith, deeper))
+
+  more_final : (c : Coercion) (u : Merged A) (r : Outcome A) → CastDoes final_cost whole_above c u r
+      → CastDoes whole_cost whole_above c u r
+  more_final c u r does B objects h fine waiting wv wc hv hc go = at_most walk (does B objects h fine waiting wv wc hv
+      hc go) (omega arith, omega arith)
+
+  by_id : (u : Merged A) → CastDoes plain_cost plain_above Id u (GivesValue u)
+  by_id u B objects h fine waiting wv wc hv hc go =
+      at_most walk
+      (if_true walk objects fine wc 0 refl refl (eq_true wc 0 hc)
+      (go objects h wv 10 _ _ (Word 0) (grows_not objects) fine hv refl))
+      (omega arith, omega arith)
+
+  by_fail : (label : ℕ) (u : Merged A) → CastDoes plain_cost plain_above (Fail label) u (Blames label)
+  by_fail label u B objects h fine waiting wv wc hv hc go =
+      at_most walk
+      (reads objects h fine waiting wv wc 8 0 1 (label ∷ []) hc (omega arith)
+      (λ rests. if_true walk objects fine 8 8 refl refl refl
+      (loads walk objects fine wc (header 8 0 1) (label ∷ []) 1 label refl hc refl refl refl
+      (go objects h 10 _ _ waiting (Word 4) (Number 0) 4 5 (Return (Number 0)) (grows_not objects) fine refl refl))))
+      (omega arith, omega arith)
+
+  -- a proxy is built in this heap
+  proxied : {B : Budget} → (a : A) (kind : Kind) (cs : Coercions) → IsNormal R (Middle kind cs) → NoHigher R
+      (Middle kind cs) n → (objects now : List Object) → Grows objects now → (h : Heap) (fine : Fine walk.setting walk.l
+      walk.around now h) (waiting : List Waiting) (size : ℕ) (locals : Locals) (rests : List Code) (v c : LowSource)
+      (wv wc : ℕ) → nat_lt 8 size ≡ true → word_of locals v ≡ Some wv → word_of locals c ≡ Some wc → IsHeld now a wv
+      → Held walk.l now (Middle kind cs) wc → GoesOn B objects waiting (GivesValue (Proxied a (Middle kind cs)))
+      → Reached (More 1 0 B) (state size locals (Build 8 (Number 8589934594 ∷ v ∷ c ∷ []) (Return (Word 8))) rests waiting h)
+  proxied a kind cs nc lc objects now grows h fine waiting size locals rests v c wv wc lt ev ec hv hc go =
+      let o = Fixed 8589934594 (wv ∷ wc ∷ []) in
+      let g = one_more walk now o in
+      at_most walk
+      (builds walk now fine 8589934594 (wv ∷ wc ∷ []) (ap₂ (λ x y. and_more (Some 8589934594)
+      (and_more x (and_more y (Some [])))) ev ec) (omega arith) (omega arith) (
+        omega arith,
+        (
+          solid_small now h fine
+              a wv hv,
+          (held_small walk now h fine (Middle kind cs) wc hc, tt),
+        ),
+      ) (WholeProxy wv wc kind (coercion_height
+      (height_in walk.l) (Middle kind cs)) hc.0 refl (is_solid now a wv hv) hc.1 (tall_low (Middle kind cs) lc)) lt
+      (λ h' fine'. go (now ++ o ∷ []) h' h.alloc size _ _ (Word 8) (grows_on objects now (now ++ o ∷ []) grows g) fine' (
+        wv,
+        wc,
+        added walk now h fine o,
+        still now (now ++ o ∷ []) g a wv hv,
+        held_still walk.l now (now ++ o ∷ []) g
+            (Middle kind cs) wc hc,
+        record { normal = nc; low = tall_low (Middle kind cs) lc },
+      ) refl))
+      (omega arith, omega arith)
+
+  by_middle : (kind : Kind) (cs : Coercions) → IsNormal R (Middle kind cs) → NoHigher R (Middle kind cs) n
+      → (u : Merged A) → CastDoes plain_cost plain_above (Middle kind cs) u (wrap R n kind cs u)
+  by_middle kind cs nc lc (Base head x) B objects h fine waiting wv wc hv hc go = absurd go
+  by_middle kind cs nc lc (InDyn kept x) B objects h fine waiting wv wc hv hc go = absurd go
+  by_middle kind cs nc lc (Solid a) B objects h fine waiting wv wc hv hc go =
+      let s = is_solid objects a wv hv in
+      let z = header_there walk objects h fine wv s.object s.there in
+      at_most walk
+      (reads objects h fine waiting wv wc (kind_number kind) (coercion_height (height_in walk.l) (Middle kind cs))
+      (length hc.0) hc.0 hc.1 (numbers kind)
+      (λ rests. if_false walk objects fine (kind_number kind) 8 refl refl (no_middle kind 8 (inl refl))
+      (if_false walk objects fine (kind_number kind) 13 refl refl (no_middle kind 13 (inr (omega arith)))
+      (if_false walk objects fine (kind_number kind) 14 refl refl (no_middle kind 14 (inr (omega arith)))
+      (loads_at walk objects fine wv (header s.kind s.height s.count) refl (subst (λ x. WordThere walk h (wv + 0) x)
+      s.head (subst (λ m. WordThere walk h m (header_of s.object)) (zero_more wv) z)) refl
+      (computes walk objects fine (header s.kind s.height s.count) 255 s.kind refl refl (kind_read s.kind s.height
+      s.count s.low) refl
+      (if_false walk objects fine s.kind 2 refl refl s.other
+      (proxied a kind cs nc lc objects objects (grows_not objects) h fine waiting 10 _ _ (Word 0) (Word 1) wv wc refl
+      refl refl hv hc go))))))))
+      (omega arith, omega arith)
+  by_middle kind cs nc lc (Proxied a d) B objects h fine waiting wv wc hv hc go =
+      at_most walk
+      (reads objects h fine waiting wv wc (kind_number kind) (coercion_height (height_in walk.l) (Middle kind cs))
+      (length hc.0) hc.0 hc.1 (numbers kind)
+      (λ rests. if_false walk objects fine (kind_number kind) 8 refl refl (no_middle kind 8 (inl refl))
+      (if_false walk objects fine (kind_number kind) 13 refl refl (no_middle kind 13 (inr (omega arith)))
+      (if_false walk objects fine (kind_number kind) 14 refl refl (no_middle kind 14 (inr (omega arith)))
+      (loads walk objects fine wv (header 2 0 2) (hv.0 ∷ hv.1 ∷ []) 0 (header 2 0 2) refl hv.2 refl refl refl
+      (computes walk objects fine (header 2 0 2) 255 2 refl refl (kind_read 2 0 2 (omega arith)) refl
+      (if_true walk objects fine 2 2 refl refl refl
+      (loads walk objects fine wv (header 2 0 2) (hv.0 ∷ hv.1 ∷ []) 2 hv.1 refl hv.2 refl refl refl
+      (calls walk objects fine (hv.1 ∷ wc ∷ []) (proc 2 12 (compose_code walk.first)) refl (walk.stands 1 _ refl) refl
+      (all_composed walk (all_cast walk) n low d (Middle kind cs) hv.5.normal nc (no_higher d hv.5) lc _ objects h fine
+      _ hv.1 wc hv.4 hc
+      (λ new h' w count locals rests' b grows fine' held is. comes_back walk new fine' w is refl
+      (loads walk new fine' wv (header 2 0 2) (hv.0 ∷ hv.1 ∷ []) 1 hv.0 refl (there_still walk.l objects new wv _ grows
+      hv.2) refl refl refl
+      (wrapped (compose_to R n d (Middle kind cs)) (compose_normal R n d (Middle kind cs) hv.5.normal nc)
+      (compose_height R n n d (Middle kind cs) (no_higher d hv.5) lc) new grows h' fine' w held _ go)))))))))))))
+      (omega arith, omega arith)
+    where
+      wrapped : (e : Coercion) → IsNormal R e → NoHigher R e n → (new : List Object) (grows : Grows objects new)
+          (h' : Heap) (fine' : Fine walk.setting walk.l walk.around new h') (w : ℕ) → Held walk.l new e w
+          → (rests : List Code) → GoesOn B objects waiting (rewrap a e) → Reached (More 2 0 B)
+          (state 10 (set_local 7 hv.0 (set_local 6 w (set_local 6 hv.1 (set_local 5 2 (set_local 4 (header 2 0 2)
+          (cast_read wv wc (header (kind_number kind) (coercion_height (height_in walk.l) (Middle kind cs))
+          (length hc.0)) (kind_number kind))))))) (either Eq (Word 6) (Number 0) (Return (Word 7))
+          (Build 8 (Number 8589934594 ∷ Word 7 ∷ Word 6 ∷ []) (Return (Word 8)))) rests waiting h')
+      wrapped Id ne le new grows h' fine' w held rests go =
+          at_most walk
+          (if_true walk new fine' w 0 refl refl (eq_true w 0 held)
+          (go new h' hv.0 10 _ _ (Word 7) grows fine' (still objects new grows a hv.0 hv.3) refl))
+          (omega arith, omega arith)
+      wrapped (Fail label) ne le new grows h' fine' w held rests go = absurd go
+      wrapped (Middle k es) ne le new grows h' fine' w held rests go =
+          let z = not_zero walk new h' fine' w _ _ held.1 in
+          at_most walk
+          (if_false walk new fine' w 0 refl refl (eq_false w 0 (λ e. omega (arith, z.0)))
+          (proxied a k es ne le objects new grows h' fine' waiting 10 _ _ (Word 7) (Word 6) hv.0 w refl refl refl
+          (still objects new grows a hv.0 hv.3) held go))
+          (omega arith, omega arith)
+      wrapped (Inject g kept) ne le new grows h' fine' w held rests go = absurd go
+      wrapped (Project wanted label i) ne le new grows h' fine' w held rests go = absurd go
+
+  by_plain : (c : Coercion) → IsNormal R c → NoHigher R c n → (u : Merged A) → CastDoes plain_cost plain_above c u
+      (apply_plain R n c u)
+  by_plain Id nc lc u = by_id u
+  by_plain (Fail label) nc lc u = by_fail label u
+  by_plain (Middle kind cs) nc lc u = by_middle kind cs nc lc u
+  by_plain (Inject g kept) nc lc u = λ B objects h fine waiting wv wc hv hc go. absurd go
+  by_plain (Project wanted label i) nc lc u = λ B objects h fine waiting wv wc hv hc go. absurd go
+
+  -- objects may be added before
+  pub rebased : (B : Budget) (objects new : List Object) (waiting : List Waiting) → Grows objects new → (r : Outcome A)
+      → GoesOn B objects waiting r → GoesOn B new waiting r
+  rebased B objects new waiting g Stuck go = go
+  rebased B objects new waiting g (GivesValue u) go = λ later h w count locals rests a g2. go later h w count locals
+      rests a (grows_on objects new later g g2)
+  rebased B objects new waiting g (Blames label) go = λ later h count locals rests waiting2 a b d e rest g2. go later h
+      count locals rests waiting2 a b d e rest (grows_on objects new later g g2)
+
+  -- the caller goes on with the value
+  pub after : (B D : Budget) (objects : List Object) (waiting : List Waiting) (rest : Active) (d : ℕ) → nat_lt d rest.count
+      ≡ true → (r : Outcome A) (k : Merged A → Outcome A) → GoesOn B objects waiting (then_outcome r k)
+      → ((u : Merged A) → GoesOn B objects waiting (k u) → (new : List Object) (h : Heap) (w : ℕ) → Grows objects new
+      → Fine walk.setting walk.l walk.around new h → Carried new u w
+      → Reached D (state rest.count (set_local d w rest.locals) rest.code rest.rests waiting h)) → GoesOn (Out D) objects
+      (record { rest = rest; answer = d } ∷ waiting) r
+  after B D objects waiting rest d lt Stuck k go on = go
+  after B D objects waiting rest d lt (Blames label) k go on = go
+  after B D objects waiting rest d lt (GivesValue u) k go on = λ new h w count locals rests a grows fine held is.
+      comes_back walk new fine w is lt (on u go new h w grows fine held)
+
+  by_inject : (g : Coercion) (kept : ℕ) → IsNormal R (Inject g kept) → NoHigher R (Inject g kept) n → (u : Merged A)
+      → CastDoes final_cost whole_above (Inject g kept) u (then_outcome (apply_plain R n g u) (λ y. GivesValue
+      (InDyn kept y)))
+  by_inject g kept nc lc u B objects h fine waiting wv wc hv hc go =
+      let y1 = coercion_height (height_in walk.l) (Inject g kept) in
+      let ws = hc.0 ∷ hc.1 ∷ [] in
+      at_most walk
+      (reads objects h fine waiting wv wc 13 y1 2 ws hc.2 (omega arith)
+      (λ rests. if_false walk objects fine 13 8 refl refl refl
+      (if_true walk objects fine 13 13 refl refl refl
+      (loads walk objects fine wc (header 13 y1 2) ws 1 hc.0 refl hc.2 refl refl refl
+      (calls walk objects fine (wv ∷ hc.0 ∷ []) (proc 2 10 (cast_code walk.first)) refl (walk.stands 2 _ refl) refl
+      (by_plain g nc.1 lc.0 u _ objects h fine _ wv hc.0 hv hc.3
+      (after B _ objects waiting _ 4 refl (apply_plain R n g u) (λ y. GivesValue (InDyn kept y)) go
+      (λ y go' new h' w grows fine' held.
+      loads walk new fine' wc (header 13 y1 2) ws 2 hc.1 refl (there_still walk.l objects new wc _ grows hc.2) refl refl
+      refl
+      (builds walk new fine' 8589934595 (hc.1 ∷ w ∷ []) refl (omega arith) (omega arith) (
+        omega arith,
+        (
+          type_small walk
+              objects h fine hc.1 kept hc.4,
+          (carried_small new h' fine' y w held, tt),
+        ),
+      ) (WholeDyn hc.1 w kept refl
+      (type_still walk objects new hc.1 kept hc.4)) refl
+      (λ h'' fine''. let o = Fixed 8589934595 (hc.1 ∷ w ∷ []) in let g2 = one_more walk new o in go' (new ++ o ∷ []) h''
+      h'.alloc 10 _ _ (Word 6) (grows_on objects new (new ++ o ∷ []) grows g2) fine'' (
+        hc.1,
+        w,
+        added walk new h'
+            fine' o,
+        type_still walk objects (new ++ o ∷ []) hc.1 kept hc.4,
+        type_tall_low kept lc.1,
+        nc.2,
+        carried_still
+            new (new ++ o ∷ []) g2 y w held,
+      ) refl))))))))))
+      (omega arith, omega arith)
+
+  by_final : (c : Coercion) → IsNormal R c → NoHigher R c n → (u : Merged A) → CastDoes final_cost whole_above c u
+      (apply_final R n c u)
+  by_final Id nc lc u = more_plain final_cost whole_above Id u (GivesValue u) (by_id u) (omega arith) (omega arith)
+  by_final (Fail label) nc lc u = more_plain final_cost whole_above (Fail label) u (Blames label) (by_fail label u)
+      (omega arith) (omega arith)
+  by_final (Middle kind cs) nc lc u = more_plain final_cost whole_above (Middle kind cs) u (wrap R n kind cs u)
+      (by_middle kind cs nc lc u) (omega arith) (omega arith)
+  by_final (Inject g kept) nc lc u = by_inject g kept nc lc u
+  by_final (Project wanted label i) nc lc u = λ B objects h fine waiting wv wc hv hc go. absurd go
+
+  by_project : (wanted label : ℕ) (i : Coercion) → IsNormal R (Project wanted label i) → NoHigher R (Project wanted
+      label i) n → (u : Merged A) → CastDoes whole_cost whole_above (Project wanted label i) u (open_dyn R n wanted
+      label i u)
+  by_project wanted label i nc lc (Base head x) B objects h fine waiting wv wc hv hc go = absurd go
+  by_project wanted label i nc lc (Solid a) B objects h fine waiting wv wc hv hc go = absurd go
+  by_project wanted label i nc lc (Proxied a d) B objects h fine waiting wv wc hv hc go = absurd go
+  by_project wanted label i nc lc (InDyn kept x) B objects h fine waiting wv wc hv hc go =
+      let y1 = coercion_height (height_in walk.l) (Project wanted label i) in
+      let ws = hc.0 ∷ label ∷ hc.1 ∷ [] in
+      let e1 = coerce_to R n kept wanted label in
+      let lk = (walk.types.heights kept n).1 hv.4 in
+      let n1 = coerce_normal R n kept wanted label in
+      let l1 = coerce_height R n n kept wanted label lk lc.0 in
+      let e2 = compose_to R n e1 i in
+      let n2 = compose_normal R n e1 i n1 nc.2 in
+      let l2 = compose_height R n n e1 i l1 lc.1 in
+      at_most walk
+      (reads objects h fine waiting wv wc 14 y1 3 ws hc.2 (omega arith)
+      (λ rests. if_false walk objects fine 14 8 refl refl refl
+      (if_false walk objects fine 14 13 refl refl refl
+      (if_true walk objects fine 14 14 refl refl refl
+      (loads walk objects fine wv (header 3 0 2) (hv.0 ∷ hv.1 ∷ []) 1 hv.0 refl hv.2 refl refl refl
+      (loads walk objects fine wv (header 3 0 2) (hv.0 ∷ hv.1 ∷ []) 2 hv.1 refl hv.2 refl refl refl
+      (loads walk objects fine wc (header 14 y1 3) ws 1 hc.0 refl hc.2 refl refl refl
+      (loads walk objects fine wc (header 14 y1 3) ws 2 label refl hc.2 refl refl refl
+      (calls walk objects fine (hv.0 ∷ hc.0 ∷ label ∷ []) (coerce_proc walk.first) refl (walk.stands 0 _ refl) refl
+      (all_cast walk n low kept wanted label lk lc.0 _ objects h fine _ hv.0 hc.0 hv.3 hc.3 (part_small walk objects h
+      fine wc (header 14 y1 3) ws hc.2 2 label refl)
+      (λ new h' w count locals rests' b grows fine' held is. comes_back walk new fine' w is refl
+      (loads walk new fine' wc (header 14 y1 3) ws 3 hc.1 refl (there_still walk.l objects new wc _ grows hc.2) refl
+      refl refl
+      (calls walk new fine' (w ∷ hc.1 ∷ []) (compose_proc walk.first) refl (walk.stands 1 _ refl) refl
+      (all_composed walk (all_cast walk) n low e1 i n1 nc.2 l1 lc.1 _ new h' fine' _ w hc.1 held (held_still walk.l
+      objects new grows i hc.1 hc.4)
+      (λ new2 h2 w2 count2 locals2 rests2 b2 grows2 fine2 held2 is2. comes_back walk new2 fine2 w2 is2 refl
+      (let far2 = grows_on objects new new2 grows grows2 in
+      tail_calls walk new2 fine2 (hv.1 ∷ w2 ∷ []) (cast_proc walk.first) refl (walk.stands 2 _ refl) refl
+      (by_final e2 n2 l2 x _ new2 h2 fine2 waiting hv.1 w2 (carried_still objects new2 far2 x hv.1 hv.6) held2
+      (rebased B objects new2 waiting far2 (apply_final R n e2 x) go))))))))))))))))))
+      (omega arith, omega arith)
+
+  -- whatever a cast comes to, the procedure comes to
+  pub by_cast : (c : Coercion) → IsNormal R c → NoHigher R c n → (u : Merged A) → CastDoes whole_cost whole_above c u
+      (apply R n c u)
+  by_cast Id nc lc u = more_plain whole_cost whole_above Id u (GivesValue u) (by_id u) (omega arith) (omega arith)
+  by_cast (Fail label) nc lc u = more_plain whole_cost whole_above (Fail label) u (Blames label) (by_fail label u)
+      (omega arith) (omega arith)
+  by_cast (Middle kind cs) nc lc u = more_plain whole_cost whole_above (Middle kind cs) u (wrap R n kind cs u)
+      (by_middle kind cs nc lc u) (omega arith) (omega arith)
+  by_cast (Inject g kept) nc lc u = more_final (Inject g kept) u (then_outcome (apply_plain R n g u) (λ y. GivesValue
+      (InDyn kept y))) (by_inject g kept nc lc u)
+  by_cast (Project wanted label i) nc lc u = by_project wanted label i nc lc u

@@ -1,0 +1,22 @@
+-- What other crates may cite.
+pub mod Public
+mod Walks
+mod Objects
+mod Steps
+mod HeaderNumbers
+mod Small
+mod Middles
+mod PartWords
+mod ComposeSteps
+mod ComposeRuns
+mod CoerceRuns
+mod Reaching
+mod Closing
+mod PartCodeLemmas
+mod CastCases
+mod CastRuns
+mod CastDecisions
+mod CastReaching
+mod ProjectRuns
+mod ProjectReaching
+mod Samples

@@ -1,0 +1,107 @@
+// The procedure of coerce.
+
+ghost use Rattle.std.specs.Prelude.{◌≡◌, ◌+◌, ◌≤◌, ◌^◌, IfOk};
+ghost use Rattle.low_ir.specs.Views.{code_of, proc_of};
+ghost use Rattle.rt_cast.specs.CoerceCodes.{coerce_fail, coerce_alike, coerce_heads, coerce_kinds};
+ghost use Rattle.rt_cast.specs.CoerceCodes.{coerce_from_dyn, coerce_to_dyn};
+ghost use Rattle.rt_cast.specs.Procs.{coerce_proc};
+
+use crate::codes::{build, call, compute, either, load, put_header, tail_call};
+use crate::numbers::{pair, raise};
+use crate::parts::pick;
+use grift_base::lists::OutOfMemory;
+use low_ir::code::LowSource::{Number, Word};
+use low_ir::code::{LowCode, WordOp};
+use low_ir::programs::LowProc;
+use rv_isa::inst::Cond;
+use std::alloc::Global;
+
+// A failure with the label.
+fn coerce_fail(alloc: Global) -> Result<LowCode, OutOfMemory>
+    ensures { IfOk result (λ code. code_of code ≡ coerce_fail) }
+{
+    let words = [Number(4294967304), Word(2)];
+    build(alloc, 10, &words, LowCode::Return(Word(10)))
+}
+
+// Between types of one head.
+fn coerce_alike(alloc: Global, first: u32) -> Result<LowCode, OutOfMemory>
+    requires room { first + 27 ≤ 2 ^ 32 }
+    ensures { IfOk result (λ code. code_of code ≡ coerce_alike first) }
+{
+    let wide = [Word(0), Word(1), Word(9), Word(7), Word(2)];
+    let twice = [Word(0), Word(1), Word(9), Number(2), Word(2)];
+    let branches = (
+        pick(alloc, 7, 18, first, &wide)?,
+        tail_call(alloc, pair(first), &twice)?,
+    );
+    let rest = either(alloc, Cond::Ltu, (Word(9), Number(11)), branches)?;
+    let rest = compute(alloc, WordOp::Sub, 9, (Word(4), Number(11)), rest)?;
+    let branches = (LowCode::Return(Number(0)), rest);
+    either(alloc, Cond::Ltu, (Word(4), Number(20)), branches)
+}
+
+// By whether both have one head.
+fn coerce_heads(alloc: Global, first: u32) -> Result<LowCode, OutOfMemory>
+    requires room { first + 27 ≤ 2 ^ 32 }
+    ensures { IfOk result (λ code. code_of code ≡ coerce_heads first) }
+{
+    let branches = (coerce_alike(alloc, first)?, coerce_fail(alloc)?);
+    let rest = either(alloc, Cond::Eq, (Word(7), Word(8)), branches)?;
+    let branches = (rest, coerce_fail(alloc)?);
+    let rest = either(alloc, Cond::Eq, (Word(4), Word(6)), branches)?;
+    let rest = compute(alloc, WordOp::Srl, 8, (Word(5), Number(32)), rest)?;
+    compute(alloc, WordOp::Srl, 7, (Word(3), Number(32)), rest)
+}
+
+// From Dyn.
+fn coerce_from_dyn(alloc: Global, first: u32) -> Result<LowCode, OutOfMemory>
+    requires room { first + 27 ≤ 2 ^ 32 }
+    ensures { IfOk result (λ code. code_of code ≡ coerce_from_dyn first) }
+{
+    let words = [Word(9), Word(1), Word(2), Number(0)];
+    let rest = build(alloc, 10, &words, LowCode::Return(Word(10)))?;
+    let rest = put_header(alloc, 9, 12884901902, rest)?;
+    call(alloc, 9, raise(first), &[Number(0), Word(1)], rest)
+}
+
+// To Dyn.
+fn coerce_to_dyn(alloc: Global, first: u32) -> Result<LowCode, OutOfMemory>
+    requires room { first + 27 ≤ 2 ^ 32 }
+    ensures { IfOk result (λ code. code_of code ≡ coerce_to_dyn first) }
+{
+    let words = [Word(9), Number(0), Word(0)];
+    let rest = build(alloc, 10, &words, LowCode::Return(Word(10)))?;
+    let rest = put_header(alloc, 9, 8589934605, rest)?;
+    call(alloc, 9, raise(first), &[Number(0), Word(0)], rest)
+}
+
+// With the kinds of both types.
+fn coerce_kinds(alloc: Global, first: u32) -> Result<LowCode, OutOfMemory>
+    requires room { first + 27 ≤ 2 ^ 32 }
+    ensures { IfOk result (λ code. code_of code ≡ coerce_kinds first) }
+{
+    let branches = (coerce_to_dyn(alloc, first)?, coerce_heads(alloc, first)?);
+    let rest = either(alloc, Cond::Eq, (Word(6), Number(19)), branches)?;
+    let branches = (coerce_from_dyn(alloc, first)?, rest);
+    either(alloc, Cond::Eq, (Word(4), Number(19)), branches)
+}
+
+/// The coercion of a cast between the two types in words 0 and 1, with the label in word 2.
+pub fn coerce_proc(alloc: Global, first: u32) -> Result<LowProc, OutOfMemory>
+    requires room { first + 27 ≤ 2 ^ 32 }
+    ensures { IfOk result (λ proc. proc_of proc ≡ coerce_proc first) }
+{
+    let rest = coerce_kinds(alloc, first)?;
+    let rest = compute(alloc, WordOp::And, 6, (Word(5), Number(255)), rest)?;
+    let rest = load(alloc, 5, Word(1), 0, rest)?;
+    let rest = compute(alloc, WordOp::And, 4, (Word(3), Number(255)), rest)?;
+    let rest = load(alloc, 3, Word(0), 0, rest)?;
+    let branches = (LowCode::Return(Number(0)), rest);
+    let code = either(alloc, Cond::Eq, (Word(0), Word(1)), branches)?;
+    Ok(LowProc {
+        params: 3,
+        words: 11,
+        code,
+    })
+}

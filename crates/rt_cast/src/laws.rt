@@ -1,0 +1,94 @@
+// What the procedures do.
+
+ghost use Rattle.std.specs.Prelude.{◌≡◌, ℕ, ◌+◌, ◌*◌, ◌<◌, ◌≤◌, ◌^◌, max, true, List, [], ◌∷◌, length};
+ghost use Rattle.grift_base.specs.Types.{TypeHead};
+ghost use Rattle.run_laws.specs.Runs.{Ending, Exhausted};
+ghost use Rattle.rv_machine.specs.State.{Halt, Lacks, Region};
+ghost use Rattle.low_ir.specs.Procedures.{Proc};
+ghost use Rattle.low_ir.specs.Closed.{each_closed};
+ghost use Rattle.low_ir.specs.Run.{Setting, LowState};
+ghost use Rattle.type_graph.specs.declared.tables.TheConstants.{MOST_HEIGHT};
+ghost use Rattle.coercion_norm.specs.Coercions.{Coercion};
+ghost use Rattle.coercion_norm.specs.CoercionTables.{IsSound, cast_of, composition_of};
+ghost use Rattle.coercion_norm.specs.Heights.{coercion_height};
+ghost use Rattle.rt_cast.specs.Costs.{coerce_cost, compose_cost, cast_cost, tuple_cost, project_cost};
+ghost use Rattle.rt_cast.specs.Objects.{Object};
+ghost use Rattle.rt_cast.specs.Held.{Layout, Held, HoldsType, height_in};
+ghost use Rattle.rt_cast.specs.Procs.{Stand, coerce_proc, compose_proc, cast_proc, project_proc};
+ghost use Rattle.rt_cast.specs.Procs.{cast_procs};
+ghost use Rattle.rt_cast.specs.PartValues.{part_value, dyn_part_value};
+ghost use Rattle.rt_cast.specs.MergedValues.{Merged, Outcome, Stuck, cast_value};
+ghost use Rattle.rt_cast.specs.Carried.{IsLow, IsVery, Carries, HaveParts, ComesToOutcome};
+ghost use Rattle.rt_cast.specs.States.{Filled, IsReady, ComesToHeld, heap_of};
+
+/// In any storage of whole objects that holds two coercions, and whatever waits, compose comes to a return of a word
+/// that holds their composition, or the region is exhausted. Nothing that was there changes, whole objects fill the
+/// region at every state on the way, with no proxy on a proxy, and steps, words and active procedures are bounded by
+/// the higher of the two.
+pub fn compositions_are_held<V>()
+    ensures { (reading : Halt → Ending V) (setting : Setting) (l : Layout) (first : ℕ) (s : LowState)
+        → reading (Lacks Region) ≡ Exhausted → IsReady setting l first
+        → (objects : List Object) → Filled setting l objects (heap_of s) → (c d : Coercion) (wc wd : ℕ)
+        → IsSound l.types c → IsSound l.types d → Held l objects c wc → Held l objects d wd
+        → ComesToHeld reading setting l s objects (compose_proc first) (wc ∷ wd ∷ []) (composition_of l.types c d)
+        (compose_cost l.width (max (coercion_height (height_in l) c) (coercion_height (height_in l) d)))
+        (4 * max (coercion_height (height_in l) c) (coercion_height (height_in l) d) + 4) }
+{}
+
+/// In the same way coerce comes to a return of a word that holds the coercion of a cast between two types, within
+/// bounds by the higher of them.
+pub fn coercions_of_casts_are_held<V>()
+    ensures { (reading : Halt → Ending V) (setting : Setting) (l : Layout) (first : ℕ) (s : LowState)
+        → reading (Lacks Region) ≡ Exhausted → IsReady setting l first
+        → (objects : List Object) → Filled setting l objects (heap_of s) → (from to label wf wt : ℕ)
+        → HoldsType l objects wf from → HoldsType l objects wt to → label < 2 ^ 64
+        → ComesToHeld reading setting l s objects (coerce_proc first) (wf ∷ wt ∷ label ∷ [])
+        (cast_of l.types from to label) (coerce_cost l.width (max (height_in l from) (height_in l to)))
+        (max (height_in l from) (height_in l to) + 1) }
+{}
+
+/// Whatever the decisions of the merged mode make of a value, cast makes of the word that carries it: it comes to a
+/// return of a word that carries the value that is made, or to the call that blames the label, or the region is
+/// exhausted. What stands under a proxy stays the very object that it was. A cast that the mode has no decision for
+/// isn't spoken of. Steps, words and active procedures are bounded by the height of the tallest coercion.
+pub fn casts_are_made<V>()
+    ensures { (reading : Halt → Ending V) (setting : Setting) (l : Layout) (first : ℕ) (s : LowState)
+        → reading (Lacks Region) ≡ Exhausted → IsReady setting l first → l.tallest ≤ MOST_HEIGHT
+        → (objects : List Object) → Filled setting l objects (heap_of s) → (head : ℕ → TypeHead) (c : Coercion)
+        → IsLow l c → (u : Merged ℕ) (r : Outcome ℕ) → cast_value head l.types c u ≡ r → (r ≡ Stuck → ⊥)
+        → (wv wc : ℕ) → Carries l objects u wv → Held l objects c wc
+        → ComesToOutcome reading setting l s (IsVery l) objects (cast_proc first) (wv ∷ wc ∷ []) r
+        (cast_cost l.width l.tallest) (4 * l.tallest + 6) }
+{}
+
+/// Project, with 1 as its third word, comes to what the merged mode makes of a part of a tuple: the part as it is, or, of a
+/// tuple with a proxy, the part cast by the proxy's coercion for it.
+pub fn parts_of_tuples_are_answered<V>()
+    ensures { (reading : Halt → Ending V) (setting : Setting) (l : Layout) (first : ℕ) (s : LowState)
+        → reading (Lacks Region) ≡ Exhausted → IsReady setting l first → l.tallest ≤ MOST_HEIGHT
+        → (objects : List Object) → Filled setting l objects (heap_of s) → (head : ℕ → TypeHead)
+        (parts : ℕ → List (Merged ℕ)) → HaveParts l (IsVery l) objects parts → (u : Merged ℕ) (r : Outcome ℕ)
+        (wv k label : ℕ) → part_value head parts l.types k u ≡ r → (r ≡ Stuck → ⊥) → Carries l objects u wv
+        → ComesToOutcome reading setting l s (IsVery l) objects (project_proc first) (wv ∷ k ∷ 1 ∷ label ∷ []) r
+        (tuple_cost l.width l.tallest) (4 * l.tallest + 6) }
+{}
+
+/// With 0 as its third word it comes to what that mode makes of a part of a value in Dyn: the part, cast to Dyn, or the
+/// blame of the label that is handed in, where the type that the Dyn keeps has no such part.
+pub fn parts_in_dyn_are_answered<V>()
+    ensures { (reading : Halt → Ending V) (setting : Setting) (l : Layout) (first : ℕ) (s : LowState)
+        → reading (Lacks Region) ≡ Exhausted → IsReady setting l first → l.tallest ≤ MOST_HEIGHT
+        → (objects : List Object) → Filled setting l objects (heap_of s) → (head : ℕ → TypeHead)
+        (parts : ℕ → List (Merged ℕ)) → HaveParts l (IsVery l) objects parts → (u : Merged ℕ) (r : Outcome ℕ)
+        (wv k label : ℕ) → dyn_part_value head parts l.types k label u ≡ r → (r ≡ Stuck → ⊥) → Carries l objects u wv
+        → ComesToOutcome reading setting l s (IsVery l) objects (project_proc first) (wv ∷ k ∷ 0 ∷ label ∷ []) r
+        (project_cost l.width l.tallest) (4 * l.tallest + 7) }
+{}
+
+/// The procedures are closed wherever they stand in a program, so each calls only procedures of the set, and hands on
+/// eight words at most.
+pub fn procedures_are_closed()
+    ensures closed { (procs : List Proc) (first : ℕ) → Stand procs first
+        → each_closed procs (cast_procs first) ≡ true }
+    ensures many { (first : ℕ) → length (cast_procs first) ≡ 27 }
+{}

@@ -1,0 +1,13 @@
+//! Procedures over words that make, compose and apply coercions in storage.
+#![tactic(auto)]
+
+mod casting;
+mod codes;
+mod coercing;
+mod composing;
+pub mod laws;
+mod numbers;
+mod parts;
+pub mod procs;
+#[cfg(test)]
+mod tests;

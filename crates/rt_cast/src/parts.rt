@@ -1,0 +1,203 @@
+// The procedures of heights and of middles that are made part by part.
+
+ghost use Rattle.std.specs.Prelude.{◌≡◌, ℕ, ◌+◌, ◌<◌, ◌≤◌, ◌^◌, ◌∷◌, IfOk};
+ghost use Rattle.rv_isa.specs.declared.inst.Cond.TheVariants.{Eq};
+ghost use Rattle.low_ir.specs.declared.code.LowSource.TheVariants.{Word};
+ghost use Rattle.low_ir.specs.Procedures.{TailCall};
+ghost use Rattle.low_ir.specs.Views.{code_of, proc_of};
+ghost use Rattle.rt_cast.specs.PartCodes.{proc, either, results, finish_code, part_step, parts_code};
+ghost use Rattle.rt_cast.specs.PartCodes.{middle_code, apart, part_turns, pick};
+ghost use Rattle.rt_cast.specs.Procs.{raise_proc, final_proc};
+
+use crate::codes::{build, call, compute, either, load, set, tail_call};
+use crate::numbers::MOST_PARTS;
+use grift_base::lists::OutOfMemory;
+use low_ir::code::LowSource::{Number, Word};
+use low_ir::code::{LowCode, LowSource, WordOp};
+use low_ir::programs::LowProc;
+use rv_isa::inst::Cond;
+use std::alloc::Global;
+
+/// The greater of a height and an object's, which stand in words 0 and 1.
+pub fn raise_proc(alloc: Global) -> Result<LowProc, OutOfMemory>
+    ensures { IfOk result (λ proc. proc_of proc ≡ raise_proc) }
+{
+    let ends = (LowCode::Return(Word(2)), LowCode::Return(Word(0)));
+    let rest = either(alloc, Cond::Ltu, (Word(0), Word(2)), ends)?;
+    let rest = compute(alloc, WordOp::And, 2, (Word(2), Number(65535)), rest)?;
+    let rest = compute(alloc, WordOp::Srl, 2, (Word(2), Number(16)), rest)?;
+    let rest = load(alloc, 2, Word(1), 0, rest)?;
+    let branches = (LowCode::Return(Word(0)), rest);
+    let code = either(alloc, Cond::Eq, (Word(1), Number(0)), branches)?;
+    Ok(LowProc {
+        params: 2,
+        words: 3,
+        code,
+    })
+}
+
+/// What may stand behind a projection.
+pub fn final_proc(alloc: Global) -> Result<LowProc, OutOfMemory>
+    ensures { IfOk result (λ proc. proc_of proc ≡ final_proc) }
+{
+    let ends = (LowCode::Return(Number(0)), LowCode::Return(Word(0)));
+    let rest = either(alloc, Cond::Eq, (Word(1), Number(14)), ends)?;
+    let rest = compute(alloc, WordOp::And, 1, (Word(1), Number(255)), rest)?;
+    let rest = load(alloc, 1, Word(0), 0, rest)?;
+    let branches = (LowCode::Return(Word(0)), rest);
+    let code = either(alloc, Cond::Eq, (Word(0), Number(0)), branches)?;
+    Ok(LowProc {
+        params: 1,
+        words: 2,
+        code,
+    })
+}
+
+// The header and the words of the parts, in the order in which they stand in the object.
+fn finished_words(alloc: Global, total: u32) -> Result<Vec<LowSource>, OutOfMemory>
+    requires few { total ≤ 8 }
+    ensures { IfOk result (λ words. words.items ≡ Word 5 ∷ results total 0) }
+{
+    let mut words = Vec::new(alloc);
+    words.push(Word(5))?;
+    for k in 0..total {
+        words.push(Word(16 + k))?;
+    }
+    Ok(words)
+}
+
+// The object of so many parts, or 0 where all are Id.
+fn finish_code(alloc: Global, total: u32) -> Result<LowCode, OutOfMemory>
+    requires few { total ≤ 8 }
+    ensures { IfOk result (λ code. code_of code ≡ finish_code total) }
+{
+    let words = finished_words(alloc, total)?;
+    let rest = build(alloc, 7, words.as_slice(), LowCode::Return(Word(7)))?;
+    let count = total as u64 * 4294967296;
+    let rest = compute(alloc, WordOp::Add, 5, (Word(5), Number(count)), rest)?;
+    let rest = compute(alloc, WordOp::Add, 5, (Word(5), Word(2)), rest)?;
+    let rest = compute(alloc, WordOp::Sll, 5, (Word(5), Number(16)), rest)?;
+    let rest = compute(alloc, WordOp::Add, 5, (Word(5), Number(1)), rest)?;
+    let branches = (LowCode::Return(Number(0)), rest);
+    either(alloc, Cond::Eq, (Word(6), Number(0)), branches)
+}
+
+/// How a middle is made: by which procedures of a height and of a part, and how many bytes the parts lie apart in the
+/// two objects that it comes from.
+#[derive(Clone, Copy)]
+pub struct Making {
+    pub raise: u32,
+    pub part: u32,
+    pub step: u32,
+}
+
+// Part k, and what is done behind it.
+fn part_step(alloc: Global, making: Making, k: u32, rest: LowCode) -> Result<LowCode, OutOfMemory>
+    requires few { k < 8 }
+    requires near { making.step ≤ 8 }
+    ensures { (total : ℕ) → IfOk result (λ code. code_of code
+        ≡ part_step making.raise making.part (apart making.step) total k (code_of rest)) }
+{
+    let offset = 8 + making.step * k;
+    let made = 16 + k;
+    let rest = compute(alloc, WordOp::Add, 6, (Word(6), Word(10)), rest)?;
+    let rest = compute(alloc, WordOp::Sltu, 10, (Number(0), Word(made)), rest)?;
+    let rest = call(alloc, 5, making.raise, &[Word(5), Word(made)], rest)?;
+    let number = Number(k as u64 + 1);
+    let words = [Word(2), Word(3), number, Word(8), Word(9), Word(4)];
+    let rest = call(alloc, made, making.part, &words, rest)?;
+    let rest = load(alloc, 9, Word(1), offset, rest)?;
+    load(alloc, 8, Word(0), offset, rest)
+}
+
+// All parts, the last one first.
+fn parts_code(alloc: Global, making: Making, total: u32) -> Result<LowCode, OutOfMemory>
+    requires few { total ≤ 8 }
+    requires near { making.step ≤ 8 }
+    ensures { IfOk result (λ code. code_of code
+        ≡ parts_code making.raise making.part (apart making.step) total total 0) }
+{
+    let mut code = finish_code(alloc, total)?;
+    for j in 0..total {
+        code = part_step(alloc, making, total - 1 - j, code)?;
+    }
+    Ok(code)
+}
+
+/// A middle of so many parts, at most eight.
+pub fn middle_proc(alloc: Global, making: Making, total: u32) -> Result<LowProc, OutOfMemory>
+    requires few { total ≤ 8 }
+    requires near { making.step ≤ 8 }
+    ensures { IfOk result (λ p. proc_of p
+        ≡ proc 5 24 (middle_code making.raise making.part (apart making.step) total)) }
+{
+    let rest = parts_code(alloc, making, total)?;
+    let rest = set(alloc, 6, Number(0), rest)?;
+    let code = set(alloc, 5, Number(0), rest)?;
+    Ok(LowProc {
+        params: 5,
+        words: 24,
+        code,
+    })
+}
+
+// One of two codes is done, by whether the part is the last one.
+fn by_last(alloc: Global, branches: (LowCode, LowCode)) -> Result<LowCode, OutOfMemory>
+    ensures { IfOk result (λ code. code_of code
+        ≡ either Eq (Word 1) (Word 2) (code_of branches.0) (code_of branches.1)) }
+{
+    either(alloc, Cond::Eq, (Word(1), Word(2)), branches)
+}
+
+/// One part: a procedure goes on with these words, or with the other ones where the part runs backwards.
+pub fn part_proc(
+    alloc: Global,
+    procedure: u32,
+    on: &[LowSource],
+    back: &[LowSource],
+) -> Result<LowProc, OutOfMemory>
+    ensures { IfOk result (λ p. proc_of p
+        ≡ proc 6 6 (part_turns (TailCall procedure on.now) (TailCall procedure back.now))) }
+{
+    let branches = (
+        tail_call(alloc, procedure, on)?,
+        tail_call(alloc, procedure, back)?,
+    );
+    let functions = by_last(alloc, branches)?;
+    let branches = (
+        tail_call(alloc, procedure, back)?,
+        tail_call(alloc, procedure, on)?,
+    );
+    let cells = by_last(alloc, branches)?;
+    let others = either(alloc, Cond::Eq, (Word(0), Number(9)), (functions, cells))?;
+    let tuples = tail_call(alloc, procedure, on)?;
+    let code = either(alloc, Cond::Eq, (Word(0), Number(10)), (tuples, others))?;
+    Ok(LowProc {
+        params: 6,
+        words: 6,
+        code,
+    })
+}
+
+/// The procedure for so many parts as a word says goes on with these words; those for no parts to eight parts are
+/// numbered from `base` behind the first procedure.
+pub fn pick(
+    alloc: Global,
+    word: u32,
+    base: u32,
+    first: u32,
+    words: &[LowSource],
+) -> Result<LowCode, OutOfMemory>
+    requires room { first + 27 ≤ 2 ^ 32 }
+    requires near { base ≤ 18 }
+    ensures { IfOk result (λ code. code_of code ≡ pick word 8 (λ r. base + r + first) words.now) }
+{
+    let mut code = tail_call(alloc, base + 0 + first, words)?;
+    for r in 0..MOST_PARTS {
+        let parts = r + 1;
+        let here = tail_call(alloc, base + parts + first, words)?;
+        let test = (Word(word), Number(parts as u64));
+        code = either(alloc, Cond::Eq, test, (here, code))?;
+    }
+    Ok(code)
+}

@@ -1,0 +1,28 @@
+// The procedures in a closed program.
+
+use crate::numbers::CAST_PROCS;
+use crate::procs::cast_procs;
+use grift_base::words::Statics;
+use low_ir::code::{LowCode, LowSource, LowSources};
+use low_ir::programs::{LowProc, LowProgram};
+use std::test::Fail;
+
+#[test]
+fn a_program_with_the_procedures_is_closed(rt: HostRuntime) -> Result<(), Fail> {
+    let alloc = rt.alloc();
+    let mut procs = cast_procs(alloc, 0)?;
+    assert_eq!(rt; procs.len(), CAST_PROCS as u64);
+    let words = LowSources::from_slice(alloc, &[LowSource::Number(7), LowSource::Number(0)])?;
+    procs.push(LowProc {
+        params: 0,
+        words: 0,
+        code: LowCode::TailCall(2, words),
+    })?;
+    let program = LowProgram {
+        procs,
+        entry: CAST_PROCS,
+        statics: Statics::new(alloc),
+    };
+    assert!(rt; program.is_closed());
+    Ok(())
+}
