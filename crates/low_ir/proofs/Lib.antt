@@ -2,3 +2,4 @@ pub mod Public
 mod OneByOne
 mod WindowLemmas
 mod ClosedInWindows
+mod CountedWords

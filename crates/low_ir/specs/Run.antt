@@ -1,5 +1,5 @@
 -- The run of a program over words.
-use Rattle.std.specs.Prelude.{ℕ, zero, suc, ◌+◌, ◌*◌, ◌%◌, ◌^◌, ◌==◌, ◌&&◌, nat_lt, nat_le, pos, if◌then◌else◌, List}
+use Rattle.std.specs.Prelude.{ℕ, suc, ◌+◌, ◌*◌, ◌%◌, ◌^◌, ◌==◌, ◌&&◌, nat_lt, nat_le, pos, if◌then◌else◌, List}
 use Rattle.std.specs.Prelude.{[], ◌∷◌, length, Option, Some, None, slice_get}
 use Rattle.std.specs.Int.{w64, cast_signed}
 use Rattle.grift_base.specs.World.{WorldState}
@@ -50,7 +50,7 @@ pub record LowState : Type 0 where
   -- the allocation word
   pub alloc : ℕ
   pub world : WorldState
-  -- the words asked for so far
+  -- the words that were taken so far; where a run has stopped as these find no room, those that it asked for too
   pub words : ℕ
 
 -- what is shown; of the memory what lies below the allocation word is compared
@@ -58,7 +58,14 @@ pub record LowShown : Type 0 where
   pub memory : Memory
   pub alloc : ℕ
   pub words : ℕ
+  -- how many procedures are active, and the words that all of them have
   pub frames : ℕ
+  pub held : ℕ
+
+-- the words of the procedures that wait
+abbrev pub held_by : List Waiting → ℕ
+held_by [] = 0
+held_by (w ∷ ws) = w.rest.count + held_by ws
 
 abbrev pub word_of : Locals → LowSource → Option ℕ
 word_of locals (Word i) = locals i
@@ -128,14 +135,18 @@ module _ {V : Type 0} (reading : Halt → Ending V) (setting : Setting) where
   store at word s =
       only_if s (may_store setting.region setting.top at) (Go (record s { memory = store_bytes 8 s.memory at word }))
 
-  -- room for so many words
+  -- the region has no room for so many words, which were asked for
+  abbrev pub finds_no_room : ℕ → LowState → Next LowState V
+  finds_no_room n s = Stop (reading (Lacks Region)) (record s { words = s.words + n })
+
+  -- room for so many words, which are counted where they are taken
   abbrev pub request : ℕ → ℕ → LowState → Next LowState V
-  request d n s =
-      if nat_le (s.alloc + 8 * n) setting.top then sets d s.alloc (record s { words = s.words + n })
-      else Stop (reading (Lacks Region)) s
+  request d n s = if nat_le (s.alloc + 8 * n) setting.top then sets d s.alloc s else finds_no_room n s
 
   abbrev pub take_words : ℕ → LowState → Next LowState V
-  take_words n s = only_if s (nat_le (s.alloc + 8 * n) setting.top) (Go (record s { alloc = s.alloc + 8 * n }))
+  take_words n s =
+      only_if s (nat_le (s.alloc + 8 * n) setting.top)
+      (Go (record s { alloc = s.alloc + 8 * n; words = s.words + n }))
 
   -- an object of these words
   abbrev pub build : ℕ → List ℕ → LowState → Next LowState V
@@ -147,7 +158,7 @@ module _ {V : Type 0} (reading : Halt → Ending V) (setting : Setting) where
         alloc = s.alloc + 8 * length ws;
         words = s.words + length ws;
       })
-      else Stop (reading (Lacks Region)) s)
+      else finds_no_room (length ws) s)
 
   abbrev pub set_both : ℕ → ℕ → LowState → ℕ → ℕ → LowState
   set_both d e s a b = record s { active = with_local e b (with_local d a s.active) }
@@ -202,7 +213,13 @@ module _ {V : Type 0} (reading : Halt → Ending V) (setting : Setting) where
   low_machine = record {
     step = λ s. code_step s.active.code s;
     output = λ s. s.world.output;
-    shown = λ s. record { memory = s.memory; alloc = s.alloc; words = s.words; frames = length s.waiting + 1 };
+    shown = λ s. record {
+      memory = s.memory;
+      alloc = s.alloc;
+      words = s.words;
+      frames = length s.waiting + 1;
+      held = s.active.count + held_by s.waiting;
+    };
   }
 
 -- the turns of a step: one, and one for each word that is handed on or stored

@@ -8,6 +8,7 @@
 
 mod closing;
 pub mod code;
+pub mod laws;
 pub mod programs;
 #[cfg(test)]
 mod tests;

@@ -36,7 +36,8 @@ pub record Slotting (V : Type 0) : Type 0 where
   pub calls : (place : ℕ) (s : State) → setting.ecall place s ≡ call_environment s
   -- the code addresses that the virtual run is told
   pub told : ℕ → ℕ
-  pub agree : (k n : ℕ) → mark_address setting.address (slots_items out items) k ≡ Some n → told k ≡ n
+  pub agree : (p k first count n : ℕ) → slice_get items p ≡ Some (Procedure k first count)
+      → mark_address setting.address (slots_items out items) k ≡ Some n → told k ≡ n
   pub counts : (p k first count : ℕ) → slice_get items p ≡ Some (Procedure k first count) → count < 2 ^ 32
   pub layout : Layout
   -- the region's end, where the stack begins

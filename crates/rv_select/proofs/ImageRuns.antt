@@ -1,6 +1,7 @@
 -- The image of a closed program over words follows it.
-use Rattle.std.proofs.Common.{ℕ, ◌+◌, ◌^◌, ◌<◌, ◌≡◌, true, List, Some}
-use Rattle.std.proofs.Common.{refl, sym, ◌∙◌, ap, subst, arith}
+use Rattle.std.proofs.Common.{ℕ, zero, suc, ◌+◌, ◌^◌, ◌<◌, ◌≡◌, ◌⊎◌, inl, inr, ⊎_elim, true, List, [], ◌∷◌, Some}
+use Rattle.std.proofs.Common.{length, refl, sym, ◌∙◌, ap, subst, arith}
+use Rattle.std.specs.Prelude.{slice_get}
 use Rattle.grift_base.specs.World.{WorldState}
 use Rattle.grift_base.specs.declared.places.Pos.{Pos}
 use Rattle.grift_base.specs.declared.verdicts.Verdict.{Verdict}
@@ -23,6 +24,8 @@ use Rattle.low_ir.specs.Run.{LowState, LowShown, low_machine, low_start}
 use Rattle.assembler.specs.Assembled.{item_address, IsImageOf}
 use Rattle.assembler.specs.Following.{IsLike, Simulates as AssembledSimulates}
 use Rattle.rv_select.specs.declared.code.VirtualItem.{VirtualItem}
+use Rattle.rv_select.specs.declared.code.VirtualItem.TheVariants.{Procedure}
+use Rattle.rv_select.specs.Marks.{procedures, numbers_from}
 use Rattle.rv_select.specs.Run.{Shown, virtual_machine}
 use Rattle.rv_select.specs.Select.{select_items}
 use Rattle.rv_select.specs.Selected.{SameRegion, Begins, Simulates, IsCodeOf}
@@ -64,6 +67,24 @@ below_words bound s l h =
       top = seen.top ∙ same.top;
     }
 
+-- a number is one of these
+abbrev In : ℕ → List ℕ → Type 0
+In k [] = ⊥
+In k (x ∷ xs) = (k ≡ x) ⊎ In k xs
+
+in_procedures : (xs : List VirtualItem) (place k first count : ℕ)
+    → slice_get xs place ≡ Some (Procedure k first count) → In k (procedures xs)
+in_procedures [] place k first count e = absurd (let z : ⊥ = cc in z)
+in_procedures (Procedure m f c ∷ xs) zero k first count e = let same : m ≡ k = cc in inl (sym same)
+in_procedures (Procedure m f c ∷ xs) (suc place) k first count e = inr (in_procedures xs place k first count e)
+in_procedures (x ∷ xs) zero k first count e = absurd (let z : ⊥ = cc in z)
+in_procedures (x ∷ xs) (suc place) k first count e = in_procedures xs place k first count e
+
+below_numbers : (n from k : ℕ) → In k (numbers_from from n) → k < from + n
+below_numbers zero from k h = absurd h
+below_numbers (suc n) from k h =
+    ⊎_elim (λ e. omega (arith, e)) (λ i. let g = below_numbers n (suc from) k i in omega (arith, g)) h
+
 start_fits : (start region stack : ℕ) → start + region + stack < 2 ^ 64
     → (r : ℕ) → start_regs start region stack r < 2 ^ 64
 start_fits start region stack h r =
@@ -81,12 +102,19 @@ module _ {image : List ℕ} {procs : List Proc} {entry : ℕ} {statics : List �
   abbrev code : List RealItem
   code = words_code procs entry
 
+  -- the number of a procedure in the code is that of one of the program
+  procedure_below : (place k first count : ℕ) → slice_get items place ≡ Some (Procedure k first count)
+      → k < length procs
+  procedure_below place k first count e =
+      let h = below_numbers (length procs) 0 k (subst (λ ks. In k ks) selected.order
+      (in_procedures items place k first count e)) in omega arith
+
   module _ (p : Proc) (told : ℕ → ℕ) (region stack : ℕ) (world : WorldState)
       (given : RunsIn code statics procs entry p told region stack) where
     abbrev s : State
     s = start_of image region stack world
 
-    starts : Starts code (plain_setting (item_address code statics)) told s
+    starts : Starts items code (plain_setting (item_address code statics)) told s
     starts =
         let small = parts_small is whole in
         let r = given.region_size.1 in
@@ -98,7 +126,7 @@ module _ {image : List ℕ} {procs : List Proc} {entry : ℕ} {statics : List �
         record {
           addresses = is.addresses.sound;
           calls = λ place u. refl;
-          same = given.same;
+          same = λ place k first count at e m. given.same k at (procedure_below place k first count e) m;
           lies = record {
             base = omega arith;
             region = omega arith;

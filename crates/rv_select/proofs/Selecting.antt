@@ -33,7 +33,7 @@ use Rattle.low_ir.specs.Procedures.{Call as LowCall, CallAt as LowCallAt, If, Re
 use Rattle.low_ir.specs.Procedures.{TailCall as LowTailCall, TailCallAt as LowTailCallAt, Proc}
 use Rattle.low_ir.specs.Run.{Setting as LowSetting, Active as LowActive, Waiting, LowState, LowShown, word_of, words_of}
 use Rattle.low_ir.specs.Run.{and_more, with_local, bind, goes_on, sets, proc_from, answers, waits, falls}
-use Rattle.low_ir.specs.Run.{low_machine, code_step, code_turns, low_turns}
+use Rattle.low_ir.specs.Run.{low_machine, code_step, code_turns, low_turns, finds_no_room}
 use Rattle.rv_select.specs.declared.code.VReg.{VReg}
 use Rattle.rv_select.specs.declared.code.VReg.TheVariants.{Real, Virtual}
 use Rattle.rv_select.specs.declared.code.VirtualItem.{VirtualItem}
@@ -529,7 +529,11 @@ module _ {V : Type 0} (reading : Halt → Ending V) (low : LowSetting) (items : 
       let pc : ℕ = beyond (source_items 7 a) t.pc in
       sim_given rate s s t (word_of s.active.locals a) _ (λ n ae.
       sim_if rate s (popped s rest) t (nat_le (s.alloc + 8 * n) low.top) _ (λ h.
-      let s1 : LowState = record s { active = record s.active { code = rest }; alloc = s.alloc + 8 * n } in (
+      let s1 : LowState = record s {
+        active = record s.active { code = rest };
+        alloc = s.alloc + 8 * n;
+        words = s.words + n;
+      } in (
         fetches a 2,
         inl (let z = fetches_ge a 2 in omega (arith, z)),
         (let z = fetches_le a 2 in omega (arith, z)),
@@ -661,15 +665,11 @@ module _ {V : Type 0} (reading : Halt → Ending V) (low : LowSetting) (items : 
           given_is (u3 regs known) _ n _ e ∙ ap (λ c. branch reading setting c on.active.out (u3 regs known)) h
 
       by_room : (n : ℕ) → word_of s.active.locals a ≡ Some n → (b : Bool) → nat_le (s.alloc + 8 * n) low.top ≡ b
-          → Sim rate s t (if b then sets reading low d s.alloc (record (popped s rest) { words = s.words + n })
-          else Stop (reading (Lacks Region)) (popped s rest))
+          → Sim rate s t (if b then sets reading low d s.alloc (popped s rest)
+          else finds_no_room reading low n (popped s rest))
       by_room n e true h =
-          sim_if rate s (record (popped s rest) { words = s.words + n }) t (nat_lt d s.active.count) _ (λ m.
-          let s1 : LowState = record s {
-            active = with_local d s.alloc (record s.active { code = rest });
-            words =
-                s.words + n;
-          } in (
+          sim_if rate s (popped s rest) t (nat_lt d s.active.count) _ (λ m.
+          let s1 : LowState = record s { active = with_local d s.alloc (record s.active { code = rest }) } in (
             fetches a 4,
             inl (let z = fetches_ge a 4 in omega (arith, z)),
             (let z = fetches_le a 4 in omega (arith, z)),
@@ -697,7 +697,7 @@ module _ {V : Type 0} (reading : Halt → Ending V) (low : LowSetting) (items : 
                 }))),
           ))
       by_room n e false h =
-          let s1 : LowState = popped s rest in
+          let s1 : LowState = record (popped s rest) { words = s.words + n } in
           let room = on.active.homed.room in
           unless (reading (Lacks Region)) (
             fetches a 7,
@@ -886,7 +886,7 @@ module _ {V : Type 0} (reading : Halt → Ending V) (low : LowSetting) (items : 
             alloc = s.alloc + 8 * length ws;
             words =
                 s.words + length ws;
-          }) else Stop (reading (Lacks Region)) (popped s rest))
+          }) else finds_no_room reading low (length ws) (popped s rest))
       by_room ws e few true h =
           sim_if (rate * (1 + length args)) s (record (popped s rest) {
             memory = store_words ws s.alloc s.memory;
@@ -956,7 +956,7 @@ module _ {V : Type 0} (reading : Halt → Ending V) (low : LowSetting) (items : 
                 }))))),
           ))
       by_room ws e few false h =
-          let s1 : LowState = popped s rest in
+          let s1 : LowState = record (popped s rest) { words = s.words + length ws } in
           let room = on.active.homed.room in
           let many : length ws ≡ length args = words_length s.active.locals args ws e in
           let t4 : VirtualState = record t2 { pc = room.0 } in

@@ -35,7 +35,7 @@ use Rattle.rv_select.proofs.Frames.{Same, Seen, seen_of, seen_still, as_alike, W
 use Rattle.rv_select.proofs.SlotWords.{wrote, stores, fetch, saved}
 use Rattle.rv_select.proofs.SlotItems.{item_turns, code_of, size, room, Sim, sim_given, sim_puts}
 use Rattle.rv_select.proofs.SlotMarks.{beyond, drop_beyond, frame_items, enter_items, Begins}
-use Rattle.rv_select.proofs.SlotMarks.{found_number, found_address, begins_at}
+use Rattle.rv_select.proofs.SlotMarks.{found_number, found_address, told_address, begins_at}
 
 not_link : (q : ℕ) → may_read q ≡ true → (q == 1) ≡ false
 not_link q h = grind arith
@@ -392,8 +392,9 @@ module _ {V : Type 0} (w : Slotting V) where
       let f : Found = t.active.found in
       let rest : List RealItem = rest_of w f (suc t.pc) in
       let t1 : VirtualState = wrote rd (w.told k) t in
-      let a = begins_at w s k g (found_number w k g e) in
-      let same : w.told k ≡ a.pc = w.agree k a.pc a.is_address in
+      let begins = found_number w k g e in
+      let a = begins_at w s k g begins in
+      let same : w.told k ≡ a.pc = told_address w k a.pc g begins a.is_address in
       let small : w.told k < 2 ^ 64 = subst (λ z. z < 2 ^ 64) (sym same) (stands_small (program w) s a.stands) in
       addresses (program w) (Way w t t1) (On w t1) s (w.told k) (code_of w t s on (CodeOf rd k) here tt)
       (has_item-append (save_items f.first rd) rest (has_rest w f (suc t.pc))) (a.is_address ∙ ap Some (sym same))
@@ -436,7 +437,7 @@ module _ {V : Type 0} (w : Slotting V) where
       sim_given w t t s (value t a) _ (λ at ae. sim_given w t t s (procedure_at w.told at 0 w.items) _ (λ f e.
       let z = found_address w at f e in
       let b = begins_at w s z.0 f z.1 in
-      let same : b.pc ≡ at = sym (w.agree z.0 b.pc b.is_address) ∙ z.2 in
+      let same : b.pc ≡ at = sym (told_address w z.0 b.pc f z.1 b.is_address) ∙ z.2 in
       let code : Stand w at (enter_items w f.count ++ rest_of w f f.home) =
       subst (λ x. Stand w x (enter_items w f.count ++ rest_of w f f.home)) same b.stands in
       let rest : List RealItem = rest_of w t.active.found (suc t.pc) in

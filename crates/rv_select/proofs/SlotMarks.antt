@@ -225,6 +225,9 @@ module _ {V : Type 0} (w : Slotting V) where
     pub place : ℕ
     pub here : RealFrom place (RealMark k ∷ (enter_items f.count ++ rest_of w f f.home))
     pub home : HasHome w f
+    -- where it stands in the virtual code
+    pub mark : ℕ
+    pub is : slice_get w.items mark ≡ Some (Procedure k f.first f.count)
     pub few : f.count < 2 ^ 32
 
   -- its number of registers and its code from its mark on, where it stands in the virtual code
@@ -246,6 +249,8 @@ module _ {V : Type 0} (w : Slotting V) where
         place = j;
         here = e ∙ (split ∙ ap (λ ys. RealMark k ∷ (enter_items count ++ ys)) (sym same));
         home = (beyond start j, drop_beyond start rest j (e ∙ split) ∙ sym same);
+        mark = p;
+        is = next.0;
         few = w.counts p k first count next.0;
       }
 
@@ -314,6 +319,11 @@ module _ {V : Type 0} (w : Slotting V) where
   pub found_address : (at : ℕ) (f : Found) → procedure_at w.told at 0 w.items ≡ Some f
       → AddressCode at f
   found_address at f e = address_code w.items at 0 0 f 0 0 refl refl e
+
+  -- the virtual run is told the address of its mark
+  pub told_address : (k n : ℕ) (f : Found) → Begins k f → mark_address w.setting.address (code w) k ≡ Some n
+      → w.told k ≡ n
+  told_address k n f b e = w.agree b.mark k f.first f.count n b.is e
 
   -- the address of a procedure's mark, and what stands there
   pub begins_at : (s : State) (k : ℕ) (f : Found) → Begins k f

@@ -27,6 +27,7 @@ use Rattle.rv_select.proofs.Frames.{has_room, Seen, seen_of, seen_still, Way, wa
 use Rattle.rv_select.proofs.SlotWords.{loads, when_readable, Fetched, fetch}
 use Rattle.rv_select.proofs.SlotItems.{code_of, room, Sim, sim_given, sim_go}
 use Rattle.rv_select.proofs.SlotMarks.{zero_lost, zero_fits, enter_items, found_number, found_address, begins_at}
+use Rattle.rv_select.proofs.SlotMarks.{told_address}
 use Rattle.rv_select.proofs.SlotCalls.{Enters, entered, enter_turns, sim_enter}
 
 not_link : (q : ℕ) → may_read q ≡ true → (q == 1) ≡ false
@@ -257,7 +258,7 @@ module _ {V : Type 0} (w : Slotting V) where
           sim_given w t t s (value t a) _ (λ at ae. sim_given w t t s (procedure_at w.told at 0 w.items) _ (λ g ge.
           let z = found_address w at g ge in
           let b = begins_at w s z.0 g z.1 in
-          let same : b.pc ≡ at = sym (w.agree z.0 b.pc b.is_address) ∙ z.2 in
+          let same : b.pc ≡ at = sym (told_address w z.0 b.pc g z.1 b.is_address) ∙ z.2 in
           let code : Stand w at (enter_items w g.count ++ rest_of w g g.home) =
           subst (λ x. Stand w x (enter_items w g.count ++ rest_of w g g.home)) same b.stands in
           let rest : List RealItem = rest_of w t.active.found (suc t.pc) in

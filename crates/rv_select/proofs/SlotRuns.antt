@@ -39,7 +39,7 @@ module _ {V : Type 0} (reading : Halt → Ending V) (items : List VirtualItem) (
   abbrev code : List RealItem
   code = slots_items (free_mark items) items
 
-  module _ (setting : RealSetting) (told : ℕ → ℕ) (s : State) (starts : Starts code setting told s)
+  module _ (setting : RealSetting) (told : ℕ → ℕ) (s : State) (starts : Starts items code setting told s)
       (never : NeverWrong (run (virtual_machine reading (setting_in items told s)) (start_in s))) where
     abbrev slotting : Slotting V
     slotting = record {

@@ -1,5 +1,5 @@
 -- What the image of a closed program over words is to the program.
-use Rattle.std.specs.Prelude.{ℕ, ◌<◌, ◌≤◌, ◌≡◌, List, Some, slice_get}
+use Rattle.std.specs.Prelude.{ℕ, ◌<◌, ◌≤◌, ◌≡◌, List, length, Some, slice_get}
 use Rattle.grift_base.specs.World.{WorldState}
 use Rattle.grift_base.specs.declared.places.Pos.{Pos}
 use Rattle.grift_base.specs.declared.verdicts.Verdict.{Verdict}
@@ -63,7 +63,7 @@ pub record RunsIn (items : List RealItem) (statics : List ℕ) (procs : List Pro
   pub region_size : IsRegionSize region
   pub stack_size : IsStackSize stack
   pub begins : slice_get procs entry ≡ Some p
-  pub same : (k at : ℕ) → mark_address (item_address items statics) items k ≡ Some at → told k ≡ at
+  pub same : (k at : ℕ) → k < length procs → mark_address (item_address items statics) items k ≡ Some at → told k ≡ at
 
 -- where the run over words never goes wrong, and want of stack is read as exhausted, the machine follows it
 abbrev pub RunsAsProgram : {V : Type 0} → (Halt → Ending V) → List ℕ → List Proc → ℕ → List ℕ → Type 0

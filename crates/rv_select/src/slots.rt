@@ -83,8 +83,7 @@ fn put_compute(
     put_save(items, first, rd)
 }
 
-// Adds an instruction that puts a word into x28 or a real register by one that is found so, what loads that before, and
-// what stores the word.
+// Adds an instruction that reads one register and writes another, between what loads the one and what stores the other.
 fn put_between(
     items: &mut RealItems,
     first: u32,

@@ -1,4 +1,4 @@
-use Rattle.std.proofs.Common.{ℕ, ◌≡◌, ◌+◌, ◌*◌, ◌-◌, ◌<◌, ◌≤◌, true}
+use Rattle.std.proofs.Common.{ℕ, ◌≡◌, ◌*◌, ◌-◌, ◌<◌, ◌≤◌, true}
 use Rattle.low_ir.specs.Views.{procs_of, code_of}
 use Rattle.low_ir.specs.Closed.{behind, is_there}
 use Rattle.low_ir.specs.Windows.{windows, window_from}
