@@ -1,0 +1,5 @@
+pub mod Bodies
+pub mod Views
+pub mod Closed
+pub mod Machine
+pub mod Counts

@@ -1,0 +1,45 @@
+// Programs of numbered procedures.
+
+ghost use Rattle.std.specs.Prelude.{◌≡◌};
+ghost use Rattle.flat_ir.specs.Closed.{is_closed};
+ghost use Rattle.flat_ir.specs.Views.{procs_of};
+
+use crate::closing::{each_closed, takes_nothing};
+use crate::code::FlatBody;
+use grift_base::lists::Items;
+use grift_base::places::TypeId;
+
+/// A procedure: how many parameters it takes, how many names it has captured, how many functions its group has, its
+/// place among these, and its body. The procedure that a program begins with belongs to no group.
+#[derive(Drop)]
+pub struct FlatProc {
+    pub params: u32,
+    pub captured: u32,
+    pub group: u32,
+    pub place: u32,
+    pub body: FlatBody,
+}
+
+/// Procedures by their numbers.
+pub type FlatProcs = Items<FlatProc>;
+
+/// A program: its procedures, the number of the one that it begins with, and the type of its answer.
+#[derive(Drop)]
+pub struct FlatProgram {
+    pub procs: FlatProcs,
+    pub entry: u32,
+    pub answer: TypeId,
+}
+
+impl FlatProgram {
+    /// Whether each name is bound before it is used and has its level (parameters from 0 on, each name bound inside the
+    /// next one); whether each integer has 64 bits; whether each procedure that is named by its number is there, and a
+    /// group's functions stand one behind the other, with as many captured names as the group is given; whether no
+    /// procedure has more than 6 parameters and no call more than 6 arguments; whether every tuple has 1 to 8 parts; and
+    /// whether the procedure that the program begins with has no parameters and no captured names.
+    pub fn is_closed(&self) -> bool
+        ensures { result ≡ is_closed (procs_of self.now.procs) self.now.entry }
+    {
+        takes_nothing(&self.procs, self.entry) && each_closed(&self.procs)
+    }
+}
