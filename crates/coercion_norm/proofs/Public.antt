@@ -8,8 +8,8 @@ pub use Rattle.coercion_norm.proofs.SixCases.{only_dyn, first_dyn, clash, last_d
 pub use Rattle.coercion_norm.proofs.MiddleParts.{parts_stand}
 pub use Rattle.coercion_norm.proofs.AgreementLemmas.{id_stands, coerce_stands, compose_joins}
 pub use Rattle.coercion_norm.proofs.StandingLemmas.{coerce_stands_for, compose_stands_for, compose_by_table}
-pub use Rattle.coercion_norm.proofs.HeightLemmas.{coerce_height, compose_height}
-pub use Rattle.coercion_norm.proofs.NormalLemmas.{coerce_normal, compose_normal}
+pub use Rattle.coercion_norm.proofs.HeightLemmas.{slot_lower, final_height, coerce_height, compose_height}
+pub use Rattle.coercion_norm.proofs.NormalLemmas.{flat_after_middle, coerce_normal, compose_normal}
 pub use Rattle.coercion_norm.proofs.EnoughDepth.{coerce_enough, compose_enough}
 pub use Rattle.coercion_norm.proofs.OneNormalForm.{stands_alone, compose_associative}
 pub use Rattle.coercion_norm.proofs.TableHeights.{heights_of_a_table}

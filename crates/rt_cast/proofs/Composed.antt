@@ -1,0 +1,234 @@
+-- What compose does, by the height of the coercions.
+use Rattle.std.proofs.Common.{◌≡◌, ◌≢◌, ◌⊎◌, inl, inr, ℕ, zero, suc, ◌+◌, ◌-◌, ◌*◌, ◌^◌, ◌%◌, ◌<◌, ◌≤◌, Bool, true}
+use Rattle.std.proofs.Common.{false, cond, List, [], ◌∷◌, ◌++◌, map, Option, Some, None, refl, sym, ap, ap₂, ◌∙◌}
+use Rattle.std.proofs.Common.{subst, arith, le_refl, nat_eq}
+use Rattle.std.specs.Prelude.{◌==◌, slice_get, length, max}
+use Rattle.rt_cast.specs.States.{Around, Heap, Fine, Placed, st}
+use Rattle.grift_base.specs.Types.{TypeRow, is_dyn, same_head}
+use Rattle.run_laws.specs.Runs.{Ending, Exhausted}
+use Rattle.rv_machine.specs.State.{Halt}
+use Rattle.low_ir.specs.declared.code.LowSource.{LowSource}
+use Rattle.low_ir.specs.declared.code.LowSource.TheVariants.{Word, Number}
+use Rattle.low_ir.specs.Procedures.{Code, Proc}
+use Rattle.low_ir.specs.Run.{Setting, Active, Waiting, LowState, bind}
+use Rattle.coercion_norm.specs.declared.middles.MiddleKind.{MiddleKind as Kind}
+use Rattle.coercion_norm.specs.Coercions.{Coercion, Coercions, Id, Fail, Middle, Inject, Project, NoCoercions}
+use Rattle.coercion_norm.specs.Coercions.{CoercionThen, all_id, kind_of, runs_back, slot, slots}
+use Rattle.coercion_norm.specs.Composition.{middle, final, coerce_parts, coerce_middle, coerce_solid, coerce_below}
+use Rattle.coercion_norm.specs.Composition.{coerce_to, coerce_by, follow, follow_part, after_middle, after_inner}
+use Rattle.coercion_norm.specs.Composition.{compose_below, compose_to}
+use Rattle.coercion_norm.specs.Heights.{coercion_height, NoHigher, TypeNoHigher}
+use Rattle.coercion_norm.specs.Normal.{IsNormal, AreNormal, is_flat, is_project}
+use Rattle.coercion_norm.proofs.Public.{compose_height, coerce_height, final_height, compose_normal, coerce_normal}
+use Rattle.coercion_norm.proofs.Public.{height_from_bound}
+use Rattle.rt_cast.specs.Costs.{parts_cost, both_cost, coerce_cost, middle_cost, meet_cost, compose_cost}
+use Rattle.rt_cast.specs.Objects.{Object, Fixed}
+use Rattle.rt_cast.specs.Held.{Layout, There, header, kind_number, Held, TypesStand, rows_in, height_in}
+use Rattle.rt_cast.specs.Procs.{cast_procs}
+use Rattle.rt_cast.specs.ComposeCodes.{compose_code}
+use Rattle.low_ir.specs.Steps.{no_locals}
+use Rattle.rt_cast.proofs.Steps.{Budget, One, More, at_most, if_true, if_false}
+use Rattle.rt_cast.proofs.Small.{C, grows_not, numbers}
+use Rattle.rt_cast.proofs.Middles.{Answers}
+use Rattle.rt_cast.proofs.Parts.{count, nth, nth_normal, nth_low, follow_at}
+use Rattle.rt_cast.proofs.Composing.{ComposeDoes, CoerceDoes, id_first, fail_first, id_second, reads_both, no_middle}
+use Rattle.rt_cast.proofs.Composing.{onto, projects, meets, both}
+use Rattle.rt_cast.proofs.Walks.{Walk}
+
+-- no Inject and no Project
+abbrev is_plain : Coercion → Bool
+is_plain Id = true
+is_plain (Fail label) = true
+is_plain (Middle kind parts) = true
+is_plain (Inject g kept) = false
+is_plain (Project wanted label i) = false
+
+plain_cond : (b : Bool) (c d : Coercion) → is_plain c ≡ true → is_plain d ≡ true → is_plain (cond b c d) ≡ true
+plain_cond true c d p q = p
+plain_cond false c d p q = q
+
+plain_middle : (rows : ℕ → TypeRow) (next : ℕ → ℕ → ℕ → Coercion) (o : Option Kind) (s t p : ℕ) → is_plain (coerce_middle rows next o s t p) ≡ true
+plain_middle rows next None s t p = refl
+plain_middle rows next (Some kind) s t p = plain_cond (all_id (coerce_parts rows next kind s t p (slots rows s) 0)) Id (Middle kind (coerce_parts rows next kind s t p (slots rows s) 0)) refl refl
+
+plain_solid : (rows : ℕ → TypeRow) (next : ℕ → ℕ → ℕ → Coercion) (s t p : ℕ) → is_plain (coerce_solid rows next s t p) ≡ true
+plain_solid rows next s t p =
+    plain_cond (nat_eq s t) Id (cond (same_head (rows s) (rows t)) (coerce_middle rows next (kind_of (rows s)) s t p) (Fail p)) refl
+        (plain_cond (same_head (rows s) (rows t)) (coerce_middle rows next (kind_of (rows s)) s t p) (Fail p) (plain_middle rows next (kind_of (rows s)) s t p) refl)
+
+flat_plain : (c : Coercion) → is_flat c ≡ true → is_plain c ≡ true
+flat_plain Id e = refl
+flat_plain (Fail label) e = refl
+flat_plain (Middle kind parts) e = refl
+flat_plain (Inject g kept) e = e
+flat_plain (Project wanted label i) e = e
+
+follow_plain : (next : Coercion → Coercion → Coercion) (coerce : ℕ → ℕ → ℕ → Coercion) (c d : Coercion) → is_plain c ≡ true → follow next coerce c d ≡ after_inner next c d
+follow_plain next coerce Id d e = refl
+follow_plain next coerce (Fail label) d e = refl
+follow_plain next coerce (Middle kind parts) d e = refl
+follow_plain next coerce (Inject g kept) d e = absurd (clash e)
+  where
+    clash : false ≡ true → ⊥
+    clash q = cc
+follow_plain next coerce (Project wanted label i) d e = absurd (clash e)
+  where
+    clash : false ≡ true → ⊥
+    clash q = cc
+
+module _ {V : Type 0} (walk : Walk V) where
+  abbrev R : ℕ → TypeRow
+  R = (rows_in walk.l)
+
+  abbrev tall : ℕ → ℕ
+  tall = (height_in walk.l)
+
+  abbrev Does : ℕ → ℕ → Coercion → Coercion → Coercion → Type 0
+  Does = ComposeDoes walk
+
+  low_height : (n : ℕ) → n ≤ 65534 → (c : Coercion) → NoHigher R c n → coercion_height tall c < 65535
+  low_height n le c h = let z = height_from_bound R tall walk.types.heights c n h in omega arith
+
+  -- coercions of this height
+  abbrev pub All : ℕ → Type 0
+  All n = (c d : Coercion) → IsNormal R c → IsNormal R d → NoHigher R c n → NoHigher R d n → Does (compose_cost walk.l.width n) (suc (suc (suc (suc (4 * n))))) c d (compose_to R n c d)
+
+  abbrev pub AllCasts : ℕ → Type 0
+  AllCasts n = (from to label : ℕ) → TypeNoHigher R n from → TypeNoHigher R n to → CoerceDoes walk (coerce_cost walk.l.width n) (suc n) from to label (coerce_to R n from to label)
+
+  -- a Fail follows an object that is neither a Fail nor a Project
+  -- more turns may be allowed
+  more : (a b x y : ℕ) (c d e : Coercion) → Does a x c d e → a ≤ b → x ≤ y → Does b y c d e
+  more a b x y c d e does le deeper B objects h fine waiting wc wd hc hd go = at_most walk (does B objects h fine waiting wc wd hc hd go) (omega (arith, le), omega (arith, deeper))
+
+  fail_second : {B : Budget} → (label : ℕ) (objects : List Object) (h : Heap) (fine : Fine walk.setting walk.l walk.around objects h) (waiting : List Waiting) (wc wd k y m : ℕ) (ws : List ℕ) → There walk.l objects wc (Fixed (header k y m) ws) → k < 256 → (k == 14) ≡ false → (k == 8) ≡ false → Held walk.l objects (Fail label) wd → Answers walk B objects waiting (Fail label) → C walk (More 10 0 B) (st walk.around 12 (bind 0 (wc ∷ wd ∷ []) no_locals) (compose_code walk.first) [] waiting h)
+  fail_second label objects h fine waiting wc wd k y m ws there lt no14 no8 hd go =
+      at_most walk
+            (reads_both walk objects h fine waiting wc wd k y m ws there lt no14 no8 8 0 1 (label ∷ []) hd (omega arith)
+            (λ rests. if_true walk objects fine 8 8 refl refl refl
+            (go objects h wd 12 _ _ (Word 1) (grows_not objects) fine hd refl)))
+          (omega arith, omega arith)
+
+  -- a middle before Id or a middle
+  middle_flat : (m : ℕ) → suc m ≤ 65534 → All m → (kind : Kind) (cs : Coercions) → IsNormal R (Middle kind cs) → NoHigher R (Middle kind cs) (suc m) → (d : Coercion) → is_flat d ≡ true → IsNormal R d → NoHigher R d (suc m) → Does (both_cost walk.l.width (compose_cost walk.l.width m)) (suc (4 * suc m)) (Middle kind cs) d (after_middle (compose_below R (suc m)) kind cs d)
+  middle_flat m le all kind cs nc lc Id f nd ld = λ B objects h fine waiting wc wd hc hd go.
+      at_most walk (id_second walk objects h fine waiting wc wd (kind_number kind) (coercion_height tall (Middle kind cs)) (length hc.0) hc.0 hc.1 (numbers kind) (no_middle kind 14 (inr (omega arith))) (no_middle kind 8 (inl refl)) hd (Middle kind cs) hc go) (omega arith, omega arith)
+  middle_flat m le all kind cs nc lc (Fail label) f nd ld = absurd (clash f)
+    where
+      clash : false ≡ true → ⊥
+      clash q = cc
+  middle_flat m le all kind cs nc lc (Inject g kept) f nd ld = absurd (clash f)
+    where
+      clash : false ≡ true → ⊥
+      clash q = cc
+  middle_flat m le all kind cs nc lc (Project wanted label i) f nd ld = absurd (clash f)
+    where
+      clash : false ≡ true → ⊥
+      clash q = cc
+  middle_flat m le all kind cs nc lc (Middle other ds) f nd ld =
+      more (both_cost walk.l.width (compose_cost walk.l.width m)) (both_cost walk.l.width (compose_cost walk.l.width m)) (suc (suc (suc (suc (suc (4 * m)))))) (suc (4 * suc m)) (Middle kind cs) (Middle other ds) (after_middle (compose_below R (suc m)) kind cs (Middle other ds))
+          (both walk (compose_cost walk.l.width m) (suc (suc (suc (suc (4 * m))))) (compose_below R (suc m)) kind other cs ds (let z = low_height (suc m) le (Middle kind cs) lc in omega arith) (let z = low_height (suc m) le (Middle other ds) ld in omega arith)
+          (λ i. all (nth cs i) (nth ds i) (nth_normal R cs nc.1 i) (nth_normal R ds nd.1 i) (nth_low R m cs lc i) (nth_low R m ds ld i))
+          (λ i. all (nth ds i) (nth cs i) (nth_normal R ds nd.1 i) (nth_normal R cs nc.1 i) (nth_low R m ds ld i) (nth_low R m cs lc i))
+          (λ i. low_height m (omega (arith, le)) (follow_at (compose_below R (suc m)) kind cs ds i) (each (runs_back kind (suc i == count cs)) i))) (omega arith) (omega arith)
+    where
+      each : (b : Bool) (i : ℕ) → NoHigher R (follow_part (compose_below R (suc m)) b (nth cs i) (nth ds i)) m
+      each true i = compose_height R m m (nth ds i) (nth cs i) (nth_low R m ds ld i) (nth_low R m cs lc i)
+      each false i = compose_height R m m (nth cs i) (nth ds i) (nth_low R m cs lc i) (nth_low R m ds ld i)
+
+  middle_at : (m : ℕ) → suc m ≤ 65534 → All m → (kind : Kind) (cs : Coercions) → IsNormal R (Middle kind cs) → NoHigher R (Middle kind cs) (suc m) → (d : Coercion) → IsNormal R d → NoHigher R d (suc m) → Does (middle_cost walk.l.width (compose_cost walk.l.width m)) (suc (suc (4 * suc m))) (Middle kind cs) d (after_middle (compose_below R (suc m)) kind cs d)
+  middle_at m le all kind cs nc lc Id nd ld = more (both_cost walk.l.width (compose_cost walk.l.width m)) (middle_cost walk.l.width (compose_cost walk.l.width m)) (suc (4 * suc m)) (suc (suc (4 * suc m))) (Middle kind cs) Id (Middle kind cs) (middle_flat m le all kind cs nc lc Id refl nd ld) (omega arith) (omega arith)
+  middle_at m le all kind cs nc lc (Fail label) nd ld = λ B objects h fine waiting wc wd hc hd go.
+      at_most walk (fail_second label objects h fine waiting wc wd (kind_number kind) (coercion_height tall (Middle kind cs)) (length hc.0) hc.0 hc.1 (numbers kind) (no_middle kind 14 (inr (omega arith))) (no_middle kind 8 (inl refl)) hd go) (omega arith, omega arith)
+  middle_at m le all kind cs nc lc (Middle other ds) nd ld = more (both_cost walk.l.width (compose_cost walk.l.width m)) (middle_cost walk.l.width (compose_cost walk.l.width m)) (suc (4 * suc m)) (suc (suc (4 * suc m))) (Middle kind cs) (Middle other ds) (after_middle (compose_below R (suc m)) kind cs (Middle other ds)) (middle_flat m le all kind cs nc lc (Middle other ds) refl nd ld) (omega arith) (omega arith)
+  middle_at m le all kind cs nc lc (Inject g kept) nd ld =
+      more (both_cost walk.l.width (compose_cost walk.l.width m) + 40) (middle_cost walk.l.width (compose_cost walk.l.width m)) (suc (suc (4 * suc m))) (suc (suc (4 * suc m))) (Middle kind cs) (Inject g kept) (after_middle (compose_below R (suc m)) kind cs (Inject g kept)) (onto walk (both_cost walk.l.width (compose_cost walk.l.width m)) (suc (4 * suc m)) kind cs g (after_middle (compose_below R (suc m)) kind cs g) kept (low_height (suc m) le (after_middle (compose_below R (suc m)) kind cs g) (compose_height R (suc m) (suc m) (Middle kind cs) g lc ld.0)) (middle_flat m le all kind cs nc lc g nd.0 nd.1 ld.0)) (omega arith) (omega arith)
+  middle_at m le all kind cs nc lc (Project wanted label i) nd ld = λ B objects h fine waiting wc wd hc hd go.
+      at_most walk
+            (reads_both walk objects h fine waiting wc wd (kind_number kind) (coercion_height tall (Middle kind cs)) (length hc.0) hc.0 hc.1 (numbers kind) (no_middle kind 14 (inr (omega arith))) (no_middle kind 8 (inl refl)) 14 (coercion_height tall (Project wanted label i)) 3 (hd.0 ∷ label ∷ hd.1 ∷ []) hd.2 (omega arith)
+            (λ rests. if_false walk objects fine 14 8 refl refl refl
+            (if_false walk objects fine (kind_number kind) 13 refl refl (no_middle kind 13 (inr (omega arith)))
+            (if_false walk objects fine 14 13 refl refl refl
+            (if_false walk objects fine (kind_number kind) 14 refl refl (no_middle kind 14 (inr (omega arith)))
+            (go objects h 0 12 _ _ (Number 0) (grows_not objects) fine refl refl))))))
+          (omega arith, omega arith)
+
+  -- the turns of a part
+  abbrev below_cost : ℕ → ℕ
+  below_cost zero = 0
+  below_cost (suc m) = compose_cost walk.l.width m
+
+  abbrev Below : ℕ → Type 0
+  Below zero = Unit {0}
+  Below (suc m) = All m
+
+  middle_by : (n : ℕ) → n ≤ 65534 → Below n → (kind : Kind) (cs : Coercions) (d : Coercion) → IsNormal R (Middle kind cs) → IsNormal R d → NoHigher R (Middle kind cs) n → NoHigher R d n → Does (middle_cost walk.l.width (below_cost n)) (suc (suc (4 * n))) (Middle kind cs) d (compose_to R n (Middle kind cs) d)
+  middle_by zero le below kind cs d nc nd lc ld = absurd lc
+  middle_by (suc m) le below kind cs d nc nd lc ld = middle_at m le below kind cs nc lc d nd ld
+
+  plain_at : (n : ℕ) → n ≤ 65534 → Below n → (c d : Coercion) → is_plain c ≡ true → IsNormal R c → IsNormal R d → NoHigher R c n → NoHigher R d n → Does (middle_cost walk.l.width (below_cost n)) (suc (suc (4 * n))) c d (compose_to R n c d)
+  plain_at n le below Id d e nc nd lc ld = more 1 (middle_cost walk.l.width (below_cost n)) 0 (suc (suc (4 * n))) Id d d (id_first walk d) (omega arith) (omega arith)
+  plain_at n le below (Fail label) d e nc nd lc ld = more 5 (middle_cost walk.l.width (below_cost n)) 0 (suc (suc (4 * n))) (Fail label) d (Fail label) (fail_first walk label d) (omega arith) (omega arith)
+  plain_at n le below (Middle kind cs) d e nc nd lc ld = middle_by n le below kind cs d nc nd lc ld
+  plain_at n le below (Inject g kept) d e nc nd lc ld = absurd (clash e)
+    where
+      clash : false ≡ true → ⊥
+      clash q = cc
+  plain_at n le below (Project wanted label i) d e nc nd lc ld = absurd (clash e)
+    where
+      clash : false ≡ true → ⊥
+      clash q = cc
+
+  -- nothing follows an Inject but Id, Fail and Project
+  lost : {B : Budget} → (objects : List Object) (h : Heap) (fine : Fine walk.setting walk.l walk.around objects h) (waiting : List Waiting) (wc wd y : ℕ) (ws : List ℕ) → There walk.l objects wc (Fixed (header 13 y 2) ws) → (k2 y2 m2 : ℕ) (ws2 : List ℕ) → There walk.l objects wd (Fixed (header k2 y2 m2) ws2) → k2 < 256 → (k2 == 8) ≡ false → (k2 == 14) ≡ false → Answers walk B objects waiting Id → C walk (More 12 0 B) (st walk.around 12 (bind 0 (wc ∷ wd ∷ []) no_locals) (compose_code walk.first) [] waiting h)
+  lost objects h fine waiting wc wd y ws there k2 y2 m2 ws2 there2 lt no8 no14 go =
+      at_most walk
+            (reads_both walk objects h fine waiting wc wd 13 y 2 ws there (omega arith) refl refl k2 y2 m2 ws2 there2 lt
+            (λ rests. if_false walk objects fine k2 8 refl refl no8
+            (if_true walk objects fine 13 13 refl refl refl
+            (if_false walk objects fine k2 14 refl refl no14
+            (go objects h 0 12 _ _ (Number 0) (grows_not objects) fine refl refl)))))
+          (omega arith, omega arith)
+
+  solid_is : (n kept wanted label : ℕ) → is_dyn (R kept) ≡ false → is_dyn (R wanted) ≡ false → coerce_to R n kept wanted label ≡ coerce_solid R (coerce_below R n) kept wanted label
+  solid_is n kept wanted label a b = ap₂ (λ x y. coerce_by R (coerce_below R n) x y kept wanted label) a b
+
+  no_project_at : (n : ℕ) → n ≤ 65534 → AllCasts n → Below n → (c d : Coercion) → is_project c ≡ false → IsNormal R c → IsNormal R d → NoHigher R c n → NoHigher R d n → Does (meet_cost walk.l.width (coerce_cost walk.l.width n) (below_cost n)) (suc (suc (suc (4 * n)))) c d (compose_to R n c d)
+  no_project_at n le casts below Id d f nc nd lc ld = more 1 (meet_cost walk.l.width (coerce_cost walk.l.width n) (below_cost n)) 0 (suc (suc (suc (4 * n)))) Id d d (id_first walk d) (omega arith) (omega arith)
+  no_project_at n le casts below (Fail label) d f nc nd lc ld = more 5 (meet_cost walk.l.width (coerce_cost walk.l.width n) (below_cost n)) 0 (suc (suc (suc (4 * n)))) (Fail label) d (Fail label) (fail_first walk label d) (omega arith) (omega arith)
+  no_project_at n le casts below (Middle kind cs) d f nc nd lc ld = more (middle_cost walk.l.width (below_cost n)) (meet_cost walk.l.width (coerce_cost walk.l.width n) (below_cost n)) (suc (suc (4 * n))) (suc (suc (suc (4 * n)))) (Middle kind cs) d (compose_to R n (Middle kind cs) d) (middle_by n le below kind cs d nc nd lc ld) (omega arith) (omega arith)
+  no_project_at n le casts below (Inject g kept) Id f nc nd lc ld = λ B objects h fine waiting wc wd hc hd go. at_most walk ((id_second walk objects h fine waiting wc wd 13 (coercion_height tall (Inject g kept)) 2 (hc.0 ∷ hc.1 ∷ []) hc.2 (omega arith) refl refl hd (Inject g kept) hc go)) (omega arith, omega arith)
+  no_project_at n le casts below (Inject g kept) (Fail label) f nc nd lc ld = λ B objects h fine waiting wc wd hc hd go. at_most walk ((fail_second label objects h fine waiting wc wd 13 (coercion_height tall (Inject g kept)) 2 (hc.0 ∷ hc.1 ∷ []) hc.2 (omega arith) refl refl hd go)) (omega arith, omega arith)
+  no_project_at n le casts below (Inject g kept) (Middle kind ds) f nc nd lc ld = λ B objects h fine waiting wc wd hc hd go. at_most walk ((lost objects h fine waiting wc wd (coercion_height tall (Inject g kept)) (hc.0 ∷ hc.1 ∷ []) hc.2 (kind_number kind) (coercion_height tall (Middle kind ds)) (length hd.0) hd.0 hd.1 (numbers kind) (no_middle kind 8 (inl refl)) (no_middle kind 14 (inr (omega arith))) go)) (omega arith, omega arith)
+  no_project_at n le casts below (Inject g kept) (Inject g2 kept2) f nc nd lc ld = λ B objects h fine waiting wc wd hc hd go. at_most walk ((lost objects h fine waiting wc wd (coercion_height tall (Inject g kept)) (hc.0 ∷ hc.1 ∷ []) hc.2 13 (coercion_height tall (Inject g2 kept2)) 2 (hd.0 ∷ hd.1 ∷ []) hd.2 (omega arith) refl refl go)) (omega arith, omega arith)
+  no_project_at n le casts below (Inject g kept) (Project wanted label i) f nc nd lc ld =
+      let e1 = coerce_to R n kept wanted label in
+      let solid = solid_is n kept wanted label nc.2 nd.0 in
+      let e2 = compose_to R n e1 i in
+      let n1 = coerce_normal R n kept wanted label in
+      let l1 = coerce_height R n n kept wanted label lc.1 ld.0 in
+      let n2 = compose_normal R n e1 i n1 nd.2 in
+      let l2 = compose_height R n n e1 i l1 ld.1 in
+      let plain1 : is_plain e1 ≡ true = ap is_plain solid ∙ plain_solid R (coerce_below R n) kept wanted label in
+      let plain2 : is_plain g ≡ true = flat_plain g nc.0 in
+      let q1 : e2 ≡ after_inner (compose_below R n) e1 i = follow_plain (compose_below R n) (coerce_solid R (coerce_below R n)) e1 i plain1 in
+      let q2 : compose_to R n g e2 ≡ after_inner (compose_below R n) g e2 = follow_plain (compose_below R n) (coerce_solid R (coerce_below R n)) g e2 plain2 in
+      let q : compose_to R n g e2 ≡ compose_to R n (Inject g kept) (Project wanted label i) = q2 ∙ ap (λ x. after_inner (compose_below R n) g x) (q1 ∙ ap (λ x. after_inner (compose_below R n) x i) solid) in
+      subst (λ e. Does (meet_cost walk.l.width (coerce_cost walk.l.width n) (below_cost n)) (suc (suc (suc (4 * n)))) (Inject g kept) (Project wanted label i) e) q
+          (meets walk (coerce_cost walk.l.width n) (middle_cost walk.l.width (below_cost n)) (middle_cost walk.l.width (below_cost n)) (suc (suc (4 * n))) g kept wanted label i e1 e2 (compose_to R n g e2) (λ B objects h fine waiting wf wt hf ht small go. at_most walk (casts kept wanted label lc.1 ld.0 B objects h fine waiting wf wt hf ht small go) (omega arith, omega arith)) (plain_at n le below e1 i plain1 n1 nd.2 l1 ld.1) (plain_at n le below g e2 plain2 nc.1 n2 lc.0 l2))
+  no_project_at n le casts below (Project wanted label i) d f nc nd lc ld = absurd (clash f)
+    where
+      clash : true ≡ false → ⊥
+      clash q = cc
+
+  all_at : (n : ℕ) → n ≤ 65534 → AllCasts n → Below n → (c d : Coercion) → IsNormal R c → IsNormal R d → NoHigher R c n → NoHigher R d n → Does (meet_cost walk.l.width (coerce_cost walk.l.width n) (below_cost n) + 45) (suc (suc (suc (suc (4 * n))))) c d (compose_to R n c d)
+  all_at n le casts below Id d nc nd lc ld = more (meet_cost walk.l.width (coerce_cost walk.l.width n) (below_cost n)) (meet_cost walk.l.width (coerce_cost walk.l.width n) (below_cost n) + 45) (suc (suc (suc (4 * n)))) (suc (suc (suc (suc (4 * n))))) Id d (compose_to R n Id d) (no_project_at n le casts below Id d refl nc nd lc ld) (omega arith) (omega arith)
+  all_at n le casts below (Fail label) d nc nd lc ld = more (meet_cost walk.l.width (coerce_cost walk.l.width n) (below_cost n)) (meet_cost walk.l.width (coerce_cost walk.l.width n) (below_cost n) + 45) (suc (suc (suc (4 * n)))) (suc (suc (suc (suc (4 * n))))) (Fail label) d (compose_to R n (Fail label) d) (no_project_at n le casts below (Fail label) d refl nc nd lc ld) (omega arith) (omega arith)
+  all_at n le casts below (Middle kind cs) d nc nd lc ld = more (meet_cost walk.l.width (coerce_cost walk.l.width n) (below_cost n)) (meet_cost walk.l.width (coerce_cost walk.l.width n) (below_cost n) + 45) (suc (suc (suc (4 * n)))) (suc (suc (suc (suc (4 * n))))) (Middle kind cs) d (compose_to R n (Middle kind cs) d) (no_project_at n le casts below (Middle kind cs) d refl nc nd lc ld) (omega arith) (omega arith)
+  all_at n le casts below (Inject g kept) d nc nd lc ld = more (meet_cost walk.l.width (coerce_cost walk.l.width n) (below_cost n)) (meet_cost walk.l.width (coerce_cost walk.l.width n) (below_cost n) + 45) (suc (suc (suc (4 * n)))) (suc (suc (suc (suc (4 * n))))) (Inject g kept) d (compose_to R n (Inject g kept) d) (no_project_at n le casts below (Inject g kept) d refl nc nd lc ld) (omega arith) (omega arith)
+  all_at n le casts below (Project wanted label i) d nc nd lc ld =
+      projects walk (meet_cost walk.l.width (coerce_cost walk.l.width n) (below_cost n)) (suc (suc (suc (4 * n)))) wanted label i d (compose_to R n i d) (low_height n le (final (compose_to R n i d)) (final_height R n (compose_to R n i d) (compose_height R n n i d lc.1 ld))) (no_project_at n le casts below i d nc.1 nc.2 nd lc.1 ld)
+
+  pub all_composed : ((n : ℕ) → n ≤ 65534 → AllCasts n) → (n : ℕ) → n ≤ 65534 → All n
+  all_composed casts zero le = all_at zero le (casts zero le) tt
+  all_composed casts (suc m) le = all_at (suc m) le (casts (suc m) le) (all_composed casts m (omega arith))

@@ -1,0 +1,393 @@
+-- Steps of the word machine, in the style of "and then", where these objects stand.
+use Rattle.std.proofs.Common.{◌≡◌, ◌≢◌, ◌⊎◌, inl, inr, ℕ, zero, suc, ◌+◌, ◌-◌, ◌*◌, ◌^◌, ◌%◌, ◌<◌, ◌≤◌, Bool, true}
+use Rattle.std.proofs.Common.{false, cond, nat_eq, List, [], ◌∷◌, ◌++◌, Option, Some, None, refl, sym, ap, ap₂, ◌∙◌}
+use Rattle.std.proofs.Common.{subst, arith, eqb-true, eq-eqb, ne_eqb, le_refl, append-nil, append_assoc}
+use Rattle.std.specs.Prelude.{◌==◌, ◌&&◌, nat_lt, nat_le, if◌then◌else◌, slice_get, length, pos, max}
+use Rattle.rt_cast.specs.States.{Around, Heap, st, Fine}
+use Rattle.run_laws.specs.Runs.{Ending, Wrong, Exhausted}
+use Rattle.run_laws.specs.Machines.{Next, Go, Stop, Machine, Reaches, Onward}
+use Rattle.run_laws.proofs.Public.{by_step}
+use Rattle.rv_isa.specs.declared.inst.Cond.{Cond}
+use Rattle.rv_machine.specs.Memory.{Memory, load_bytes}
+use Rattle.rv_machine.specs.State.{Halt, Lacks, Region}
+use Rattle.rv_machine.specs.Turn.{plus}
+use Rattle.rv_machine.specs.Real.{holds}
+use Rattle.low_ir.specs.declared.code.WordOp.{WordOp}
+use Rattle.low_ir.specs.Operations.{compute}
+use Rattle.low_ir.specs.Steps.{Locals, no_locals, set_local, given, only_if, may_load, store_words}
+use Rattle.low_ir.specs.declared.code.LowSource.{LowSource}
+use Rattle.low_ir.specs.declared.code.LowSource.TheVariants.{Word, Number}
+use Rattle.low_ir.specs.Procedures.{Code, Done, Set, Compute, Load, Build, Call, If, Return, TailCall, Proc}
+use Rattle.low_ir.specs.Run.{Setting, Active, Waiting, LowState, LowShown, word_of, words_of, bind, with_local, enter}
+use Rattle.low_ir.specs.Run.{enter_some, low_machine, goes_on, load, sets, build, and_more, code_turns}
+use Rattle.rt_cast.specs.Objects.{Object, Fixed, Cell, header_of, bytes_of, bytes_of_all, object_at, HasWord}
+use Rattle.rt_cast.specs.Objects.{HoldsWords, HoldsObject, Holds}
+use Rattle.rt_cast.specs.Held.{Layout, There}
+use Rattle.rt_cast.specs.WholeObjects.{IsWhole, Wholes}
+use Rattle.rt_cast.proofs.Objects.{found_within, holds_found, word_found, AreSmall, stored_words, bytes_below}
+use Rattle.rt_cast.proofs.Objects.{holds_below, holds_append, bytes_append, object_behind, object_kept, chosen_true}
+use Rattle.rt_cast.proofs.Objects.{Within, none_some, same_some}
+use Rattle.rt_cast.proofs.Walks.{Walk}
+
+plus_is : (x n : ℕ) → x + n < 2 ^ 64 → plus x (pos n) ≡ x + n
+plus_is x n h = grind arith
+
+may : (top at : ℕ) → at % 8 ≡ 0 → 65536 ≤ at → at + 8 ≤ top → may_load top at ≡ true
+may top at e l h = grind arith
+
+le_true : (a b : ℕ) → a ≤ b → nat_le a b ≡ true
+le_true a b h = grind arith
+
+pub wholes_more : (l : Layout) (before os : List Object) (o : Object) → Wholes l before os → IsWhole l (before ++ os) o → Wholes l before (os ++ o ∷ [])
+wholes_more l before [] o h w = (subst (λ x. IsWhole l x o) (append-nil before) w, tt)
+wholes_more l before (x ∷ os) o h w = (h.0, wholes_more l (before ++ x ∷ []) os o h.1 (subst (λ y. IsWhole l y o) (sym (append_assoc before (x ∷ []) os)) w))
+
+in_list : (xs : List ℕ) (i w : ℕ) → slice_get xs i ≡ Some w → i < length xs
+in_list [] i w e = none_some e
+in_list (x ∷ xs) zero w e = omega arith
+in_list (x ∷ xs) (suc i) w e = let h = in_list xs i w e in omega arith
+
+abbrev le_cases : (b : Bool) → (b ≡ true) ⊎ (b ≡ false)
+le_cases true = inl refl
+le_cases false = inr refl
+
+-- how many words, where there are so many sources
+as_long : (locals : Locals) (args : List LowSource) (ws : List ℕ) → words_of locals args ≡ Some ws
+    → length args ≡ length ws
+as_long locals [] [] e = refl
+as_long locals [] (w ∷ ws) e = absurd (let z : ⊥ = cc in z)
+as_long locals (a ∷ args) ws e = by_first (word_of locals a) e (λ xs h. as_long locals args xs h)
+  where
+    by_both : (x : ℕ) (o : Option (List ℕ)) → ((xs : List ℕ) → o ≡ Some xs → length args ≡ length xs)
+        → and_more (Some x) o ≡ Some ws → suc (length args) ≡ length ws
+    by_both x None ih f = absurd (let z : ⊥ = cc in z)
+    by_both x (Some xs) ih f = ap suc (ih xs refl) ∙ ap length (same_some (x ∷ xs) ws f)
+
+    by_first : (o : Option ℕ) → and_more o (words_of locals args) ≡ Some ws
+        → ((xs : List ℕ) → words_of locals args ≡ Some xs → length args ≡ length xs)
+        → suc (length args) ≡ length ws
+    by_first None f ih = absurd (let z : ⊥ = cc in z)
+    by_first (Some x) f ih = by_both x (words_of locals args) ih f
+
+-- the words that a procedure takes are few
+takes_few : (locals : Locals) (args : List LowSource) (ws : List ℕ) (p : Proc) → words_of locals args ≡ Some ws
+    → ((length ws == p.params) && (nat_le p.params 8 && nat_le p.params p.words)) ≡ true → 1 + length args ≤ 10
+takes_few locals args ws p e g = let z = as_long locals args ws e in grind (arith, z, g)
+
+-- steps in the order in which they are made: single ones, calls, returns, and so many at once with so many procedures
+-- active above
+pub data Budget : Type 0 where
+  End : Budget
+  One : Budget → Budget
+  In : Budget → Budget
+  Out : Budget → Budget
+  More : ℕ → ℕ → Budget → Budget
+
+-- how many steps
+abbrev pub total : Budget → ℕ
+total End = 0
+total (One b) = suc (total b)
+total (In b) = suc (total b)
+total (Out b) = suc (total b)
+total (More n d b) = n + total b
+
+-- how many procedures are active above, at most
+abbrev pub deep : Budget → ℕ
+deep End = 0
+deep (One b) = deep b
+deep (In b) = suc (deep b)
+deep (Out b) = deep b - 1
+deep (More n d b) = max d (deep b)
+
+-- no more steps and no more procedures
+abbrev pub Below : Budget → Budget → Type 0
+Below A B = (total A ≤ total B) × (deep A ≤ deep B)
+
+module _ {V : Type 0} (walk : Walk V) where
+  abbrev pub N : Machine LowState LowShown V
+  N = low_machine walk.reading walk.setting
+
+  abbrev St : ℕ → Locals → Code → List Code → List Waiting → Heap → LowState
+  St = st walk.around
+
+  abbrev Fi : List Object → Heap → Type 0
+  Fi = Fine walk.setting walk.l walk.around
+
+  -- a word of an object
+  pub record WordThere (h : Heap) (at w : ℕ) : Type 0 where
+    pub may : may_load walk.setting.top at ≡ true
+    pub is : load_bytes 8 h.memory at ≡ w
+    pub small : w < 2 ^ 64
+    pub place : 65536 ≤ at
+    pub end : at + 8 < 2 ^ 64
+
+  pub word_there : (objects : List Object) (h : Heap) → Fi objects h → (at header : ℕ) (ws : List ℕ) → There walk.l objects at (Fixed header ws) → (i w to : ℕ) → slice_get (header ∷ ws) i ≡ Some w → to ≡ at + 8 * i → WordThere h to w
+  word_there objects h f at header ws (inl e) i w to g t =
+      let z = found_within walk.l.statics walk.l.first at (Fixed header ws) e in
+      let x = word_found h.memory at (header ∷ ws) i w to (holds_found h.memory walk.l.first walk.l.statics at (Fixed header ws) f.statics_stand e) g t in
+      let n = in_list (header ∷ ws) i w g in
+      let even = z.even walk.placed.even_first in
+      record {
+        may = may walk.setting.top to (omega (arith, even, t)) (omega (arith, z.low, walk.placed.low, t)) (omega (arith, z.high, walk.placed.before, f.ends, f.fits, t, n));
+        is = x.is;
+        small = x.small;
+        place = omega (arith, z.low, walk.placed.low, t);
+        end = omega (arith, z.high, walk.placed.before, f.ends, f.fits, t, n, walk.placed.top);
+      }
+  word_there objects h f at header ws (inr e) i w to g t =
+      let z = found_within objects walk.l.region at (Fixed header ws) e in
+      let x = word_found h.memory at (header ∷ ws) i w to (holds_found h.memory walk.l.region objects at (Fixed header ws) f.objects_stand e) g t in
+      let n = in_list (header ∷ ws) i w g in
+      let even = z.even walk.placed.even_region in
+      record {
+        may = may walk.setting.top to (omega (arith, even, t)) (omega (arith, z.low, walk.placed.low, walk.placed.before, t)) (omega (arith, z.high, f.ends, f.fits, t, n));
+        is = x.is;
+        small = x.small;
+        place = omega (arith, z.low, walk.placed.low, walk.placed.before, t);
+        end = omega (arith, z.high, f.ends, f.fits, t, n, walk.placed.top);
+      }
+
+  header_held : (m : Memory) (at : ℕ) (o : Object) → HoldsObject m at o → HasWord m at (header_of o)
+  header_held m at (Fixed header words) h = h.0
+  header_held m at (Cell header count) h = h
+
+  header_room : (o : Object) → 8 ≤ bytes_of o
+  header_room (Fixed header words) = omega arith
+  header_room (Cell header count) = omega arith
+
+  -- the header of any object
+  pub header_there : (objects : List Object) (h : Heap) → Fi objects h → (at : ℕ) (o : Object) → There walk.l objects at o → WordThere h at (header_of o)
+  header_there objects h f at o (inl e) =
+      let z = found_within walk.l.statics walk.l.first at o e in
+      let x = header_held h.memory at o (holds_found h.memory walk.l.first walk.l.statics at o f.statics_stand e) in
+      let even = z.even walk.placed.even_first in
+      let r = header_room o in
+      record {
+        may = may walk.setting.top at even (omega (arith, z.low, walk.placed.low)) (omega (arith, z.high, walk.placed.before, f.ends, f.fits, r));
+        is = x.is;
+        small = x.small;
+        place = omega (arith, z.low, walk.placed.low);
+        end = omega (arith, z.high, walk.placed.before, f.ends, f.fits, r, walk.placed.top);
+      }
+  header_there objects h f at o (inr e) =
+      let z = found_within objects walk.l.region at o e in
+      let x = header_held h.memory at o (holds_found h.memory walk.l.region objects at o f.objects_stand e) in
+      let even = z.even walk.placed.even_region in
+      let r = header_room o in
+      record {
+        may = may walk.setting.top at even (omega (arith, z.low, walk.placed.low, walk.placed.before)) (omega (arith, z.high, f.ends, f.fits, r));
+        is = x.is;
+        small = x.small;
+        place = omega (arith, z.low, walk.placed.low, walk.placed.before);
+        end = omega (arith, z.high, f.ends, f.fits, r, walk.placed.top);
+      }
+
+  -- a budget is left where so many procedures wait and so many words were asked for
+  pub record Spare (B : Budget) (frames words : ℕ) : Type 0 where
+    pub room : frames + deep B ≤ walk.frames
+    pub left : words + 9 * total B ≤ walk.most
+
+  -- the machine comes to where Q holds, or is exhausted
+  pub record Comes (B : Budget) (t : LowState) : Type 0 where
+    pub steps : ℕ
+    pub few : steps ≤ total B
+    pub reach : Spare B (length t.waiting) t.words → Reaches N walk.P walk.Q steps t
+
+  pub goes : {B C : Budget} (t t' : LowState) → N.step t ≡ Go t'
+      → (Spare C (length t.waiting) t.words → walk.P t)
+      → (Spare C (length t.waiting) t.words → Spare B (length t'.waiting) t'.words)
+      → total C ≡ suc (total B) → Comes B t' → Comes C t
+  goes t t' e p spare long c = record {
+    steps = suc c.steps;
+    few = let z = c.few in omega (arith, long);
+    reach = λ s. by_step N walk.P walk.Q c.steps t (Go t') e (p s) (c.reach (spare s));
+  }
+
+  -- within a greater budget
+  pub at_most : {A B : Budget} {t : LowState} → Comes A t → Below A B → Comes B t
+  at_most c le = record {
+    steps = c.steps;
+    few = let z = c.few in omega (arith, le.0);
+    reach = λ s. c.reach (record {
+      room = let r = s.room in omega (arith, le.1);
+      left = let r = s.left in omega (arith, le.0);
+    });
+  }
+
+  here_at : (count : ℕ) (locals : Locals) (rests : List Code) (waiting : List Waiting) (h : Heap)
+      (objects : List Object) → Fi objects h → (code : Code) → code_turns code ≤ 10 → {B : Budget}
+      → Spare B (length waiting) h.words → walk.P (St count locals code rests waiting h)
+  here_at count locals rests waiting h objects fine code few s =
+      walk.calm (record { count = count; locals = locals; code = code; rests = rests }) waiting h objects fine few
+      (let r = s.room in omega arith) (let r = s.left in omega arith)
+
+  -- one step is gone
+  one_less : {B : Budget} {frames words : ℕ} → Spare (One B) frames words → Spare B frames words
+  one_less s = record { room = s.room; left = let r = s.left in omega arith }
+
+  one_in : {B : Budget} {frames words : ℕ} → Spare (In B) frames words → Spare B (suc frames) words
+  one_in s = record { room = let r = s.room in omega arith; left = let r = s.left in omega arith }
+
+  one_out : {B : Budget} {frames words : ℕ} → Spare (Out B) (suc frames) words → Spare B frames words
+  one_out s = record { room = let r = s.room in omega arith; left = let r = s.left in omega arith }
+
+  module _ {B : Budget} {count : ℕ} {locals : Locals} {rests : List Code} {waiting : List Waiting} {h : Heap}
+      (objects : List Object) (fine : Fi objects h) where
+    -- a step to the same procedure, with other words set and other code
+    within : (code : Code) → code_turns code ≤ 10 → (locals' : Locals) (code' : Code) (rests' : List Code)
+        → N.step (St count locals code rests waiting h) ≡ Go (St count locals' code' rests' waiting h)
+        → Comes B (St count locals' code' rests' waiting h) → Comes (One B) (St count locals code rests waiting h)
+    within code few locals' code' rests' e c =
+        goes (St count locals code rests waiting h) (St count locals' code' rests' waiting h) e
+        (λ s. here_at count locals rests waiting h objects fine code few s) (λ s. one_less s) refl c
+
+    pub sets_word : {d : ℕ} {a : LowSource} {rest : Code} (w : ℕ) → word_of locals a ≡ Some w → nat_lt d count ≡ true
+        → Comes B (St count (set_local d w locals) rest rests waiting h)
+        → Comes (One B) (St count locals (Set d a rest) rests waiting h)
+    sets_word {d = d} {a = a} {rest = rest} w e lt c =
+        within (Set d a rest) (omega arith) (set_local d w locals) rest rests (rw (e, lt) refl) c
+
+    pub computes : {op : WordOp} {d : ℕ} {a b : LowSource} {rest : Code} (x y w : ℕ) → word_of locals a ≡ Some x
+        → word_of locals b ≡ Some y → compute op x y ≡ w → nat_lt d count ≡ true
+        → Comes B (St count (set_local d w locals) rest rests waiting h)
+        → Comes (One B) (St count locals (Compute op d a b rest) rests waiting h)
+    computes {op = op} {d = d} {a = a} {b = b} {rest = rest} x y w e f g lt c =
+        within (Compute op d a b rest) (omega arith) (set_local d w locals) rest rests (rw (e, f, g, lt) refl) c
+
+    pub loads_at : {d offset : ℕ} {a : LowSource} {rest : Code} (at w : ℕ) → word_of locals a ≡ Some at
+        → WordThere h (at + offset) w → nat_lt d count ≡ true
+        → Comes B (St count (set_local d w locals) rest rests waiting h)
+        → Comes (One B) (St count locals (Load d a offset rest) rests waiting h)
+    loads_at {d = d} {offset = offset} {a = a} {rest = rest} at w e z lt c =
+        let p = plus_is at offset (omega (arith, z.end)) in
+        let m = z.may in
+        let s = z.is in
+        let next = St count locals rest rests waiting h in
+        within (Load d a offset rest) (omega arith) (set_local d w locals) rest rests (
+          ap (λ x. given (St count locals (Load d a offset rest) rests waiting h) x (λ x. load walk.reading walk.setting d (plus x (pos offset)) next)) e
+          ∙ (ap (λ n. load walk.reading walk.setting d n next) p
+          ∙ (ap (λ b. only_if next b (sets walk.reading walk.setting d (load_bytes 8 h.memory (at + offset)) next)) m
+          ∙ (ap (λ n. sets walk.reading walk.setting d n next) s
+          ∙ ap (λ b. only_if next b (Go (St count (set_local d w locals) rest rests waiting h))) lt)))
+        ) c
+
+    pub loads : {d offset : ℕ} {a : LowSource} {rest : Code} (at header : ℕ) (ws : List ℕ) (i w : ℕ)
+        → word_of locals a ≡ Some at → There walk.l objects at (Fixed header ws) → slice_get (header ∷ ws) i ≡ Some w
+        → offset ≡ 8 * i → nat_lt d count ≡ true → Comes B (St count (set_local d w locals) rest rests waiting h)
+        → Comes (One B) (St count locals (Load d a offset rest) rests waiting h)
+    loads {d = d} {offset = offset} {a = a} {rest = rest} at header ws i w e there g o lt c =
+        loads_at at w e (word_there objects h fine at header ws there i w (at + offset) g (omega arith)) lt c
+
+    pub if_true : {cond : Cond} {a b : LowSource} {one other rest : Code} (x y : ℕ) → word_of locals a ≡ Some x
+        → word_of locals b ≡ Some y → holds cond x y ≡ true → Comes B (St count locals one (rest ∷ rests) waiting h)
+        → Comes (One B) (St count locals (If cond a b one other rest) rests waiting h)
+    if_true {cond = cond} {a = a} {b = b} {one = one} {other = other} {rest = rest} x y e f g c =
+        within (If cond a b one other rest) (omega arith) locals one (rest ∷ rests) (rw (e, f, g) refl) c
+
+    pub if_false : {cond : Cond} {a b : LowSource} {one other rest : Code} (x y : ℕ) → word_of locals a ≡ Some x
+        → word_of locals b ≡ Some y → holds cond x y ≡ false
+        → Comes B (St count locals other (rest ∷ rests) waiting h)
+        → Comes (One B) (St count locals (If cond a b one other rest) rests waiting h)
+    if_false {cond = cond} {a = a} {b = b} {one = one} {other = other} {rest = rest} x y e f g c =
+        within (If cond a b one other rest) (omega arith) locals other (rest ∷ rests) (rw (e, f, g) refl) c
+
+    -- an object is built, or the region is out
+    pub builds : {d : ℕ} {args : List LowSource} {rest : Code} (header : ℕ) (ws : List ℕ)
+        → words_of locals args ≡ Some (header ∷ ws) → length ws ≤ 8 → code_turns rest ≤ 10 → AreSmall (header ∷ ws)
+        → IsWhole walk.l objects (Fixed header ws) → nat_lt d count ≡ true
+        → ((h' : Heap) → Fi (objects ++ Fixed header ws ∷ []) h'
+        → Comes B (St count (set_local d h.alloc locals) rest rests waiting h'))
+        → Comes (One B) (St count locals (Build d args rest) rests waiting h)
+    builds {d = d} {args = args} {rest = rest} header ws e few turns small whole lt go =
+        by_room (le_cases (nat_le (h.alloc + 8 * suc (length ws)) walk.setting.top))
+      where
+        short : nat_lt (suc (length ws)) 256 ≡ true
+        short = grind (arith, few)
+
+        turns_here : code_turns (Build d args rest) ≤ 10
+        turns_here = let z = as_long locals args (header ∷ ws) e in omega (arith, few)
+
+        s0 : LowState
+        s0 = St count locals (Build d args rest) rests waiting h
+
+        h1 : Heap
+        h1 = record {
+          memory = store_words (header ∷ ws) h.alloc h.memory;
+          alloc = h.alloc + 8 * suc (length ws);
+          words = h.words + suc (length ws);
+        }
+
+        more_stand : Holds h1.memory walk.l.region (objects ++ Fixed header ws ∷ [])
+        more_stand =
+            holds_append h1.memory walk.l.region objects (Fixed header ws ∷ [])
+            (holds_below (header ∷ ws) h.alloc h.memory walk.l.region objects (omega (arith, fine.ends))
+            fine.objects_stand)
+            (subst (λ n. HoldsWords h1.memory n (header ∷ ws)) fine.ends (stored_words (header ∷ ws) h.alloc h.memory
+            small), tt)
+
+        by_room : (nat_le (h.alloc + 8 * suc (length ws)) walk.setting.top ≡ true)
+            ⊎ (nat_le (h.alloc + 8 * suc (length ws)) walk.setting.top ≡ false) → Comes (One B) s0
+        by_room (inl r) =
+            goes s0 (St count (set_local d h.alloc locals) rest rests waiting h1) (rw (e, short, r, lt) refl)
+            (λ s. here_at count locals rests waiting h objects fine (Build d args rest) turns_here s)
+            (λ s. record { room = s.room; left = let z = s.left in omega (arith, few) }) refl (go h1 (record {
+              objects_stand = more_stand;
+              statics_stand =
+                  holds_below (header ∷ ws) h.alloc h.memory walk.l.first walk.l.statics
+                  (omega (arith, fine.ends, walk.placed.before)) fine.statics_stand;
+              ends = let b = bytes_append objects (Fixed header ws ∷ []) in omega (arith, fine.ends, b);
+              fits = grind (arith, r);
+              beyond = let b = fine.beyond in omega arith;
+              kept = λ i lt.
+                  bytes_below (header ∷ ws) h.alloc h.memory i (let b = fine.beyond in omega arith) ∙ fine.kept i lt;
+              whole = wholes_more walk.l [] objects (Fixed header ws) fine.whole whole;
+            }))
+        by_room (inr r) = record {
+          steps = 1;
+          few = omega arith;
+          reach = λ s.
+              by_step N walk.P walk.Q 0 s0 (Stop (walk.reading (Lacks Region)) (St count locals rest rests waiting h))
+              (rw (e, short, r) refl)
+              (here_at count locals rests waiting h objects fine (Build d args rest) turns_here s)
+              (subst (λ x. Onward (Stop x (St count locals rest rests waiting h)) walk.P walk.Q) (sym walk.exhausts)
+              (here_at count locals rests waiting h objects fine rest turns s));
+        }
+
+    -- a procedure is called, or goes on for this one
+    pub calls : {d k : ℕ} {args : List LowSource} {rest : Code} (ws : List ℕ) (p : Proc)
+        → words_of locals args ≡ Some ws → slice_get walk.setting.procs k ≡ Some p
+        → ((length ws == p.params) && (nat_le p.params 8 && nat_le p.params p.words)) ≡ true
+        → Comes B (St p.words (bind 0 ws no_locals) p.code [] (record {
+      rest = record { count = count; locals = locals; code = rest; rests = rests };
+      answer = d;
+    } ∷ waiting) h) → Comes (In B) (St count locals (Call d k args rest) rests waiting h)
+    calls {d = d} {k = k} {args = args} {rest = rest} ws p e f g c =
+        goes (St count locals (Call d k args rest) rests waiting h) (St p.words (bind 0 ws no_locals) p.code [] (record {
+          rest = record { count = count; locals = locals; code = rest; rests = rests };
+          answer = d;
+        } ∷ waiting) h) (rw (e, f, g) refl)
+        (λ s. here_at count locals rests waiting h objects fine (Call d k args rest) (takes_few locals args ws p e g) s)
+        (λ s. one_in s) refl c
+
+    pub tail_calls : {k : ℕ} {args : List LowSource} (ws : List ℕ) (p : Proc) → words_of locals args ≡ Some ws
+        → slice_get walk.setting.procs k ≡ Some p
+        → ((length ws == p.params) && (nat_le p.params 8 && nat_le p.params p.words)) ≡ true
+        → Comes B (St p.words (bind 0 ws no_locals) p.code [] waiting h)
+        → Comes (One B) (St count locals (TailCall k args) rests waiting h)
+    tail_calls {k = k} {args = args} ws p e f g c =
+        goes (St count locals (TailCall k args) rests waiting h) (St p.words (bind 0 ws no_locals) p.code [] waiting h) (rw (e, f, g) refl)
+        (λ s. here_at count locals rests waiting h objects fine (TailCall k args) (takes_few locals args ws p e g) s)
+        (λ s. one_less s) refl c
+
+  -- a call comes back
+  pub comes_back : {B : Budget} {count : ℕ} {locals : Locals} {rests : List Code} {a : LowSource} {d : ℕ}
+      {rest : Active} {waiting : List Waiting} {h : Heap} (objects : List Object) (fine : Fi objects h) (w : ℕ)
+      → word_of locals a ≡ Some w → nat_lt d rest.count ≡ true
+      → Comes B (St rest.count (set_local d w rest.locals) rest.code rest.rests waiting h)
+      → Comes (Out B) (St count locals (Return a) rests (record { rest = rest; answer = d } ∷ waiting) h)
+  comes_back {count = count} {locals = locals} {rests = rests} {a = a} {d = d} {rest = rest} {waiting = waiting}
+      {h = h} objects fine w e lt c =
+      goes (St count locals (Return a) rests (record { rest = rest; answer = d } ∷ waiting) h)
+      (St rest.count (set_local d w rest.locals) rest.code rest.rests waiting h) (rw (e, lt) refl)
+      (λ s. here_at count locals rests (record { rest = rest; answer = d } ∷ waiting) h objects fine (Return a)
+      (omega arith) s) (λ s. one_out s) refl c

@@ -1,0 +1,112 @@
+-- The code of cast: word 0 is a value, word 1 a coercion; and of project.
+use Rattle.std.specs.Prelude.{ℕ, [], ◌∷◌}
+use Rattle.rv_isa.specs.declared.inst.Cond.TheVariants.{Eq, Ltu}
+use Rattle.low_ir.specs.declared.code.LowSource.TheVariants.{Word, Number}
+use Rattle.low_ir.specs.declared.code.WordOp.TheVariants.{Add, And, Sll, Srl}
+use Rattle.low_ir.specs.Procedures.{Code, Compute, Load, Build, Environment, Call, Return, TailCall}
+use Rattle.rt_cast.specs.PartCodes.{either}
+use Rattle.rt_cast.specs.ComposeCodes.{coerce, compose, cast, project}
+
+module _ (first : ℕ) where
+  -- what stands before, and then a Dyn
+  abbrev pub cast_inject : Code
+  cast_inject =
+      Load 4 (Word 1) 8 (
+      Call 4 (cast first) (Word 0 ∷ Word 4 ∷ []) (
+      Load 5 (Word 1) 16 (
+      Build 6 (Number 8589934595 ∷ Word 5 ∷ Word 4 ∷ []) (Return (Word 6)))))
+
+  -- what is in the Dyn, by the cast between both types and what stands behind
+  abbrev pub cast_project : Code
+  cast_project =
+      Load 4 (Word 0) 8 (
+      Load 5 (Word 0) 16 (
+      Load 6 (Word 1) 8 (
+      Load 7 (Word 1) 16 (
+      Call 8 (coerce first) (Word 4 ∷ Word 6 ∷ Word 7 ∷ []) (
+      Load 9 (Word 1) 24 (
+      Call 8 (compose first) (Word 8 ∷ Word 9 ∷ []) (
+      TailCall (cast first) (Word 5 ∷ Word 8 ∷ []))))))))
+
+  -- a proxy: what it stands on, by both coercions as one
+  abbrev pub cast_proxy : Code
+  cast_proxy =
+      Load 6 (Word 0) 16 (
+      Call 6 (compose first) (Word 6 ∷ Word 1 ∷ []) (
+      Load 7 (Word 0) 8 (
+      either Eq (Word 6) (Number 0) (Return (Word 7)) (
+      Build 8 (Number 8589934594 ∷ Word 7 ∷ Word 6 ∷ []) (Return (Word 8))))))
+
+  abbrev pub cast_middle : Code
+  cast_middle =
+      Load 4 (Word 0) 0 (
+      Compute And 5 (Word 4) (Number 255) (
+      either Eq (Word 5) (Number 2) cast_proxy (
+      Build 8 (Number 8589934594 ∷ Word 0 ∷ Word 1 ∷ []) (Return (Word 8)))))
+
+  -- with the kind of the coercion
+  abbrev pub cast_kinds : Code
+  cast_kinds =
+      either Eq (Word 3) (Number 8) (
+        Load 4 (Word 1) 8 (Environment 3 (Word 4) (Number 0) 4 5 (Return (Number 0)))
+      ) (
+        either Eq (Word 3) (Number 13) cast_inject (either Eq (Word 3) (Number 14) cast_project cast_middle))
+
+  abbrev pub cast_code : Code
+  cast_code =
+      either Eq (Word 1) (Number 0) (Return (Word 0)) (
+      Load 2 (Word 1) 0 (
+      Compute And 3 (Word 2) (Number 255) cast_kinds))
+
+  -- ---- project: word 0 is a value, word 1 the number of a part, word 2 tells whether the value is a Dyn, by 0, or a
+  -- tuple, by 1, and word 3 is a label
+
+  -- the label is blamed
+  abbrev pub project_blame : Code
+  project_blame = Environment 3 (Word 3) (Number 0) 4 5 (Return (Number 0))
+
+  -- the part of what is in the Dyn, in a Dyn that keeps the part's type, unless that is Dyn
+  abbrev pub project_dyn_part : Code
+  project_dyn_part =
+      Compute Sll 8 (Word 1) (Number 3) (
+      Compute Add 8 (Word 8) (Word 4) (
+      Load 8 (Word 8) 8 (
+      Call 9 (project first) (Word 5 ∷ Word 1 ∷ Number 1 ∷ Word 3 ∷ []) (
+      Load 10 (Word 8) 0 (
+      Compute And 10 (Word 10) (Number 255) (
+      either Eq (Word 10) (Number 19) (Return (Word 9)) (
+      Build 11 (Number 8589934595 ∷ Word 8 ∷ Word 9 ∷ []) (Return (Word 11)))))))))
+
+  abbrev pub project_dyn : Code
+  project_dyn =
+      Load 4 (Word 0) 8 (
+      Load 5 (Word 0) 16 (
+      Load 6 (Word 4) 0 (
+      Compute And 7 (Word 6) (Number 255) (
+      Compute Srl 6 (Word 6) (Number 32) (
+      either Eq (Word 7) (Number 21) (
+        either Ltu (Word 1) (Word 6) project_dyn_part project_blame
+      ) project_blame)))))
+
+  -- the part of what the proxy stands on, by the part of its coercion
+  abbrev pub project_proxy : Code
+  project_proxy =
+      Load 8 (Word 0) 8 (
+      Compute Add 8 (Word 8) (Word 6) (
+      Load 8 (Word 8) 8 (
+      Load 9 (Word 0) 16 (
+      Compute Add 9 (Word 9) (Word 6) (
+      Load 9 (Word 9) 8 (
+      TailCall (cast first) (Word 8 ∷ Word 9 ∷ [])))))))
+
+  abbrev pub project_tuple : Code
+  project_tuple =
+      Compute Sll 6 (Word 1) (Number 3) (
+      Load 7 (Word 0) 0 (
+      Compute And 7 (Word 7) (Number 255) (
+      either Eq (Word 7) (Number 2) project_proxy (
+      Compute Add 8 (Word 0) (Word 6) (
+      Load 8 (Word 8) 8 (Return (Word 8)))))))
+
+  abbrev pub project_code : Code
+  project_code = either Eq (Word 2) (Number 0) project_dyn project_tuple

@@ -1,0 +1,123 @@
+-- The numbers of the procedures, and the code of compose: words 0 and 1 are two coercions.
+use Rattle.std.specs.Prelude.{ℕ, ◌+◌, [], ◌∷◌}
+use Rattle.rv_isa.specs.declared.inst.Cond.TheVariants.{Eq, Ltu}
+use Rattle.low_ir.specs.declared.code.LowSource.TheVariants.{Word, Number}
+use Rattle.low_ir.specs.declared.code.WordOp.TheVariants.{And, Srl}
+use Rattle.low_ir.specs.Procedures.{Code, Compute, Load, Build, Call, Return, TailCall}
+use Rattle.rt_cast.specs.PartCodes.{either, put_header, pick}
+
+module _ (first : ℕ) where
+  abbrev pub coerce : ℕ
+  coerce = 0 + first
+
+  abbrev pub compose : ℕ
+  compose = 1 + first
+
+  abbrev pub cast : ℕ
+  cast = 2 + first
+
+  abbrev pub project : ℕ
+  project = 3 + first
+
+  -- one part of a composition
+  abbrev pub part : ℕ
+  part = 4 + first
+
+  abbrev pub raise : ℕ
+  raise = 5 + first
+
+  abbrev pub final : ℕ
+  final = 6 + first
+
+  -- one part of a cast's coercion
+  abbrev pub coerce_part : ℕ
+  coerce_part = 7 + first
+
+  -- read and write of a reference or a vector
+  abbrev pub pair : ℕ
+  pair = 8 + first
+
+  -- the composition of so many parts
+  abbrev pub middle_of : ℕ → ℕ
+  middle_of r = 9 + r + first
+
+  -- a cast's coercion of so many parts
+  abbrev pub coerce_of : ℕ → ℕ
+  coerce_of r = 18 + r + first
+
+  -- ---- compose
+
+  -- a Project first
+  abbrev pub compose_project : Code
+  compose_project =
+      Load 6 (Word 0) 24 (
+      Call 6 compose (Word 6 ∷ Word 1 ∷ []) (
+      Call 6 final (Word 6 ∷ []) (
+      Load 7 (Word 0) 8 (
+      Load 8 (Word 0) 16 (
+      Call 9 raise (Number 0 ∷ Word 7 ∷ []) (
+      Call 9 raise (Word 9 ∷ Word 6 ∷ []) (
+      put_header 9 12884901902 (
+      Build 10 (Word 9 ∷ Word 7 ∷ Word 8 ∷ Word 6 ∷ []) (Return (Word 10))))))))))
+
+  -- an Inject first: where a Project follows, what stands before, the cast between the two types, and what stands behind
+  abbrev pub compose_inject : Code
+  compose_inject =
+      either Eq (Word 5) (Number 14) (
+        Load 6 (Word 0) 16 (
+        Load 7 (Word 1) 8 (
+        Load 8 (Word 1) 16 (
+        Call 9 coerce (Word 6 ∷ Word 7 ∷ Word 8 ∷ []) (
+        Load 10 (Word 1) 24 (
+        Call 9 compose (Word 9 ∷ Word 10 ∷ []) (
+        Load 11 (Word 0) 8 (
+        TailCall compose (Word 11 ∷ Word 9 ∷ []))))))))
+      ) (Return (Number 0))
+
+  -- a middle before an Inject
+  abbrev pub compose_onto : Code
+  compose_onto =
+      Load 6 (Word 1) 8 (
+      Call 6 compose (Word 0 ∷ Word 6 ∷ []) (
+      Load 7 (Word 1) 16 (
+      Call 9 raise (Number 0 ∷ Word 6 ∷ []) (
+      Call 9 raise (Word 9 ∷ Word 7 ∷ []) (
+      put_header 9 8589934605 (
+      Build 10 (Word 9 ∷ Word 6 ∷ Word 7 ∷ []) (Return (Word 10))))))))
+
+  -- two middles of one kind
+  abbrev pub compose_both : Code
+  compose_both =
+      Compute Srl 6 (Word 2) (Number 32) (
+      Compute Srl 7 (Word 4) (Number 32) (
+      either Ltu (Word 6) (Word 7) (
+        pick 6 8 middle_of (Word 0 ∷ Word 1 ∷ Word 3 ∷ Word 6 ∷ Number 0 ∷ [])
+      ) (
+        pick 7 8 middle_of (Word 0 ∷ Word 1 ∷ Word 3 ∷ Word 6 ∷ Number 0 ∷ []))))
+
+  abbrev pub compose_middle : Code
+  compose_middle =
+      either Eq (Word 5) (Number 13) compose_onto (either Eq (Word 3) (Word 5) compose_both (Return (Number 0)))
+
+  -- with the kinds of both
+  abbrev pub compose_third : Code
+  compose_third =
+      either Eq (Word 5) (Number 8) (Return (Word 1)) (either Eq (Word 3) (Number 13) compose_inject compose_middle)
+
+  abbrev pub compose_second : Code
+  compose_second =
+      either Eq (Word 1) (Number 0) (Return (Word 0)) (
+      Load 4 (Word 1) 0 (
+      Compute And 5 (Word 4) (Number 255) compose_third))
+
+  -- with the kind of the first
+  abbrev pub compose_first : Code
+  compose_first =
+      either Eq (Word 3) (Number 14) compose_project (
+      either Eq (Word 3) (Number 8) (Return (Word 0)) compose_second)
+
+  abbrev pub compose_code : Code
+  compose_code =
+      either Eq (Word 0) (Number 0) (Return (Word 1)) (
+      Load 2 (Word 0) 0 (
+      Compute And 3 (Word 2) (Number 255) compose_first))

@@ -1,0 +1,10 @@
+pub mod Objects
+pub mod Held
+pub mod WholeObjects
+pub mod PartCodes
+pub mod ComposeCodes
+pub mod CoerceCodes
+pub mod CastCodes
+pub mod Procs
+pub mod States
+pub mod Costs

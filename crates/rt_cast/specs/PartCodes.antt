@@ -1,0 +1,95 @@
+-- What the procedures share: heights of objects, and middles that are made part by part.
+use Rattle.std.specs.Prelude.{ℕ, zero, suc, ◌+◌, ◌*◌, List, [], ◌∷◌}
+use Rattle.rv_isa.specs.declared.inst.Cond.{Cond}
+use Rattle.rv_isa.specs.declared.inst.Cond.TheVariants.{Eq, Ltu}
+use Rattle.low_ir.specs.declared.code.LowSource.{LowSource}
+use Rattle.low_ir.specs.declared.code.LowSource.TheVariants.{Word, Number}
+use Rattle.low_ir.specs.declared.code.WordOp.TheVariants.{Add, And, Sll, Srl, Sltu}
+use Rattle.low_ir.specs.Procedures.{Code, Done, Set, Compute, Load, Build, Call, If, Return, TailCall, Proc}
+
+abbrev pub proc : ℕ → ℕ → Code → Proc
+proc params words code = record { params = params; words = words; code = code }
+
+-- one or the other, with no code behind
+abbrev pub either : Cond → LowSource → LowSource → Code → Code → Code
+either cond a b one other = If cond a b one other Done
+
+-- the header of an object with the height that a word holds, put into the word
+abbrev pub put_header : ℕ → ℕ → Code → Code
+put_header d low rest = Compute Sll d (Word d) (Number 16) (Compute Add d (Word d) (Number low) rest)
+
+-- words 0 and 1 are a height, and an object or 0: the greater of the height and the object's
+abbrev pub raise_code : Code
+raise_code =
+    either Eq (Word 1) (Number 0) (Return (Word 0)) (
+    Load 2 (Word 1) 0 (
+    Compute Srl 2 (Word 2) (Number 16) (
+    Compute And 2 (Word 2) (Number 65535) (
+    either Ltu (Word 0) (Word 2) (Return (Word 2)) (Return (Word 0))))))
+
+-- word 0 is a coercion: what may stand behind a Project, which is 0 for a Project
+abbrev pub final_code : Code
+final_code =
+    either Eq (Word 0) (Number 0) (Return (Word 0)) (
+    Load 1 (Word 0) 0 (
+    Compute And 1 (Word 1) (Number 255) (
+    either Eq (Word 1) (Number 14) (Return (Number 0)) (Return (Word 0)))))
+
+-- ---- a middle whose parts come from two objects, part by part: words 0 and 1 are the objects, word 2 is the kind,
+-- word 3 how many parts one that is told in full has, word 4 a label; word 5 is the height so far, word 6 how many parts
+-- so far are not Id, and the parts stand from word 16 on
+
+-- so many parts from k on
+abbrev pub results : ℕ → ℕ → List LowSource
+results zero k = []
+results (suc j) k = Word (16 + k) ∷ results j (suc k)
+
+-- the object of so many parts, or 0 where all are Id
+abbrev pub finish_code : ℕ → Code
+finish_code total =
+    either Eq (Word 6) (Number 0) (Return (Number 0)) (
+    Compute Add 5 (Word 5) (Number 1) (
+    Compute Sll 5 (Word 5) (Number 16) (
+    Compute Add 5 (Word 5) (Word 2) (
+    Compute Add 5 (Word 5) (Number (total * 4294967296)) (
+    Build 7 (Word 5 ∷ results total 0) (Return (Word 7)))))))
+
+-- told the procedures of a height and of a part, where part k stands in an object, and how many parts there are
+module _ (raise part : ℕ) (offset : ℕ → ℕ) (total : ℕ) where
+  -- so many parts from k on
+  abbrev pub parts_code : ℕ → ℕ → Code
+  parts_code zero k = finish_code total
+  parts_code (suc j) k =
+      Load 8 (Word 0) (offset k) (
+      Load 9 (Word 1) (offset k) (
+      Call (16 + k) part (Word 2 ∷ Word 3 ∷ Number (suc k) ∷ Word 8 ∷ Word 9 ∷ Word 4 ∷ []) (
+      Call 5 raise (Word 5 ∷ Word (16 + k) ∷ []) (
+      Compute Sltu 10 (Number 0) (Word (16 + k)) (
+      Compute Add 6 (Word 6) (Word 10) (
+      parts_code j (suc k)))))))
+
+  abbrev pub middle_code : Code
+  middle_code = Set 5 (Number 0) (Set 6 (Number 0) (parts_code total 0))
+
+-- part k is word k behind the header
+abbrev pub each_word : ℕ → ℕ
+each_word k = 8 + 8 * k
+
+-- each part is the word behind the header
+abbrev pub first_word : ℕ → ℕ
+first_word k = 8
+
+-- words 0 to 2 are the kind, how many parts there are and the part's number from one, and words 3 and 4 what it comes
+-- from: both go on in their order, or turned round
+abbrev pub part_code : (LowSource → LowSource → Code) → Code
+part_code go =
+    let on = go (Word 3) (Word 4) in
+    let back = go (Word 4) (Word 3) in
+    either Eq (Word 0) (Number 10) on (
+    either Eq (Word 0) (Number 9) (either Eq (Word 1) (Word 2) on back) (either Eq (Word 1) (Word 2) back on))
+
+-- the procedure for so many parts as a word says, from so many down
+abbrev pub pick : ℕ → ℕ → (ℕ → ℕ) → List LowSource → Code
+pick w zero which args = TailCall (which 0) args
+pick w (suc r) which args =
+    either Eq (Word w) (Number (suc r)) (TailCall (which (suc r)) args) (pick w r which args)

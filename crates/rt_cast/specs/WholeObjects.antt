@@ -1,0 +1,53 @@
+-- Lists of whole objects: each says of objects before it what its kind asks for, no proxy stands on a proxy, and no
+-- proxy's coercion is higher than the tallest.
+use Rattle.std.specs.Prelude.{max, ◌==◌, ◌≡◌, ◌⊎◌, ℕ, suc, ◌<◌, ◌≤◌, false, List, [], ◌∷◌, ◌++◌, length}
+use Rattle.coercion_norm.specs.declared.middles.MiddleKind.{MiddleKind as Kind}
+use Rattle.rt_cast.specs.Objects.{Object, Fixed, header_of}
+use Rattle.rt_cast.specs.Held.{Layout, There, HoldsType, header, kind_number, height_in, HasWidth}
+
+module _ (l : Layout) (objects : List Object) where
+  -- an object that is no proxy
+  pub record IsSolid (w : ℕ) : Type 0 where
+    pub object : Object
+    pub there : There l objects w object
+    pub kind : ℕ
+    pub height : ℕ
+    pub count : ℕ
+    pub head : header_of object ≡ header kind height count
+    pub low : kind < 256
+    pub other : (kind == 2) ≡ false
+
+  -- the word is 0, or a coercion's of this height
+  pub data CoercionWord (w y : ℕ) : Type 0 where
+    IdWord : w ≡ 0 → y ≡ 0 → CoercionWord w y
+    ObjectWord : (kind count : ℕ) (ws : List ℕ) → There l objects w (Fixed (header kind y count) ws) → 8 ≤ kind
+        → kind ≤ 14 → CoercionWord w y
+
+  -- these words are coercions', the highest of this height
+  abbrev pub Highest : List ℕ → ℕ → Type 0
+  Highest [] y = y ≡ 0
+  Highest (w ∷ ws) y = (a b : ℕ) × CoercionWord w a × Highest ws b × (y ≡ max a b)
+
+  -- an object whose words are those of objects before it, as its kind asks for
+  pub data IsWhole (o : Object) : Type 0 where
+    WholeFail : (label : ℕ) → o ≡ Fixed (header 8 0 1) (label ∷ []) → IsWhole o
+    WholeMiddle : (kind : Kind) (y : ℕ) (ws : List ℕ)
+        → o ≡ Fixed (header (kind_number kind) (suc y) (length ws)) ws → HasWidth l kind (length ws) → Highest ws y → IsWhole o
+    WholeInject : (wg wt y type : ℕ) → o ≡ Fixed (header 13 (max y (height_in l type)) 2) (wg ∷ wt ∷ [])
+        → CoercionWord wg y → HoldsType l objects wt type → IsWhole o
+    WholeProject : (wt label wi y type : ℕ)
+        → o ≡ Fixed (header 14 (max (height_in l type) y) 3) (wt ∷ label ∷ wi ∷ []) → HoldsType l objects wt type
+        → CoercionWord wi y → IsWhole o
+    -- a proxy of what is no proxy, with a middle
+    WholeProxy : (wa wc : ℕ) (kind : Kind) (y : ℕ) (ws : List ℕ) → o ≡ Fixed (header 2 0 2) (wa ∷ wc ∷ [])
+        → IsSolid wa → There l objects wc (Fixed (header (kind_number kind) y (length ws)) ws) → y ≤ l.tallest
+        → IsWhole o
+    WholeDyn : (wt wx type : ℕ) → o ≡ Fixed (header 3 0 2) (wt ∷ wx ∷ []) → HoldsType l objects wt type → IsWhole o
+    -- closures, tuples, boxes and vectors
+    WholeOther : (kind count : ℕ) → header_of o ≡ header kind 0 count → (kind ≡ 1) ⊎ ((4 ≤ kind) × (kind ≤ 6))
+        → IsWhole o
+
+-- each of these objects, which stand behind others
+abbrev pub Wholes : Layout → List Object → List Object → Type 0
+Wholes l before [] = Unit {0}
+Wholes l before (o ∷ os) = IsWhole l before o × Wholes l (before ++ o ∷ []) os
