@@ -1,0 +1,2 @@
+// Procedures over words of first-order procedures.
+#![tactic(auto)]
