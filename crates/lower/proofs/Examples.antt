@@ -27,7 +27,7 @@ use Rattle.flat_ir.specs.declared.code.Operation.TheVariants.{Move, Prim, Cast, 
 use Rattle.flat_ir.specs.Bodies.{Body, Give, Call, Choose, LetBody, LetGroup, Proc}
 use Rattle.flat_ir.specs.Closed.{is_closed}
 use Rattle.flat_ir.specs.Counts.{flat_run_in}
-use Rattle.lower.specs.Emit.{Served}
+use Rattle.lower.specs.declared.served.Served.{Served}
 use Rattle.lower.specs.Lowered.{lowered, entry_proc}
 
 abbrev types : TypeRows

@@ -20,20 +20,10 @@ use Rattle.flat_ir.specs.declared.code.Operand.TheVariants.{Unit as UnitCase}
 use Rattle.flat_ir.specs.declared.code.Operation.{Operation}
 use Rattle.flat_ir.specs.declared.code.Operation.TheVariants.{Move, Prim, Cast, Tuple, Proj, ProjDyn}
 use Rattle.flat_ir.specs.Bodies.{Body, Give, Call, Choose, LetBody, LetGroup}
-use Rattle.lower.specs.Numbering.{Shape, own_word, operand_word, test_word, local_word, function_offset}
+use Rattle.lower.specs.declared.numbering.Shape.{Shape}
+use Rattle.lower.specs.declared.served.Served.{Served}
+use Rattle.lower.specs.Numbering.{own_word, operand_word, test_word, local_word, function_offset}
 use Rattle.lower.specs.Numbering.{captured_offset}
-
--- the numbers of the procedures that do what isn't done in place, and the word of each cast
-pub record Served : Type 0 where
-  pub cast : ℕ
-  pub project : ℕ
-  pub apply : ℕ
-  pub read : ℕ
-  pub write : ℕ
-  pub fill : ℕ
-  pub multiply : ℕ
-  pub divide : ℕ
-  pub cast_at : List ℕ
 
 -- the header of an object of a kind with so many words, height 0
 abbrev pub header : ℕ → ℕ → ℕ
@@ -107,36 +97,44 @@ of_kind s o kind one other k =
 abbrev pub turned : ℕ → Code → Code
 turned d k = Compute Xor d (Word d) (Number 1) k
 
+-- a source by its place; of an operand that isn't there, which no program lacks, it is 0
+abbrev pub or_zero : Option LowSource → LowSource
+or_zero (Some a) = a
+or_zero None = Number 0
+
+abbrev pub source_at : List LowSource → ℕ → LowSource
+source_at os i = or_zero (slice_get os i)
+
 module _ (run : Served) where
-  -- an operator of sources; one with another number of them is none of a program's
-  abbrev pub operator : Shape → ℕ → PrimOp → List LowSource → Code → Code
-  operator s d Add (a ∷ b ∷ []) k = Compute Plus d a b k
-  operator s d Sub (a ∷ b ∷ []) k = Compute Minus d a b k
-  operator s d Mul (a ∷ b ∷ []) k = CallOf d run.multiply (a ∷ b ∷ []) k
-  operator s d Quot (a ∷ b ∷ []) k = CallOf d run.divide (a ∷ b ∷ Number 0 ∷ []) k
-  operator s d Rem (a ∷ b ∷ []) k = CallOf d run.divide (a ∷ b ∷ Number 1 ∷ []) k
-  operator s d Lt (a ∷ b ∷ []) k = Compute Slt d a b k
-  operator s d Gt (a ∷ b ∷ []) k = Compute Slt d b a k
-  operator s d Le (a ∷ b ∷ []) k = Compute Slt d b a (turned d k)
-  operator s d Ge (a ∷ b ∷ []) k = Compute Slt d a b (turned d k)
-  operator s d Equal (a ∷ b ∷ []) k = Compute Xor d a b (Compute Sltu d (Word d) (Number 1) k)
-  operator s d Not (a ∷ []) k = Compute Xor d a (Number 1) k
-  operator s d PrintInt (a ∷ []) k =
+  -- an operator of up to three sources
+  abbrev pub operator : Shape → ℕ → PrimOp → LowSource → LowSource → LowSource → Code → Code
+  operator s d Add a b c k = Compute Plus d a b k
+  operator s d Sub a b c k = Compute Minus d a b k
+  operator s d Mul a b c k = CallOf d run.multiply (a ∷ b ∷ []) k
+  operator s d Quot a b c k = CallOf d run.divide (a ∷ b ∷ Number 0 ∷ []) k
+  operator s d Rem a b c k = CallOf d run.divide (a ∷ b ∷ Number 1 ∷ []) k
+  operator s d Lt a b c k = Compute Slt d a b k
+  operator s d Gt a b c k = Compute Slt d b a k
+  operator s d Le a b c k = Compute Slt d b a (turned d k)
+  operator s d Ge a b c k = Compute Slt d a b (turned d k)
+  operator s d Equal a b c k = Compute Xor d a b (Compute Sltu d (Word d) (Number 1) k)
+  operator s d Not a b c k = Compute Xor d a (Number 1) k
+  operator s d PrintInt a b c k =
       Environment 1 a (Number 0) (test_word s) (test_word s) (Set d (Number 0) k)
-  operator s d Newline [] k =
+  operator s d Newline a b c k =
       Environment 2 (Number 10) (Number 0) (test_word s) (test_word s) (Set d (Number 0) k)
-  operator s d ReadInt [] k = Environment 7 (Number 0) (Number 0) d (test_word s) k
-  operator s d MakeBox (a ∷ []) k = Build d (Number (header 5 1) ∷ a ∷ []) k
-  operator s d Unbox (a ∷ []) k =
+  operator s d ReadInt a b c k =
+      Environment 7 (Number 0) (Number 0) (test_word s) (test_word s) (Set d (Number 0) k)
+  operator s d MakeBox a b c k = Build d (Number (header 5 1) ∷ a ∷ []) k
+  operator s d Unbox a b c k =
       of_kind s a 5 (Load d a 8 Done) (CallOf d run.read (Number 0 ∷ a ∷ Number 0 ∷ []) Done) k
-  operator s d BoxSet (a ∷ b ∷ []) k =
+  operator s d BoxSet a b c k =
       of_kind s a 5 (Store b a 8 (Set d (Number 0) Done))
       (CallOf d run.write (Number 0 ∷ a ∷ Number 0 ∷ b ∷ []) Done) k
-  operator s d MakeVector (a ∷ b ∷ []) k = CallOf d run.fill (a ∷ b ∷ []) k
-  operator s d VectorRef (a ∷ b ∷ []) k = CallOf d run.read (Number 1 ∷ a ∷ b ∷ []) k
-  operator s d VectorSet (a ∷ b ∷ c ∷ []) k = CallOf d run.write (Number 1 ∷ a ∷ b ∷ c ∷ []) k
-  operator s d VectorLength (a ∷ []) k = CallOf d run.read (Number 2 ∷ a ∷ Number 0 ∷ []) k
-  operator s d op os k = Set d (Number 0) k
+  operator s d MakeVector a b c k = CallOf d run.fill (a ∷ b ∷ []) k
+  operator s d VectorRef a b c k = CallOf d run.read (Number 1 ∷ a ∷ b ∷ []) k
+  operator s d VectorSet a b c k = CallOf d run.write (Number 1 ∷ a ∷ b ∷ c ∷ []) k
+  operator s d VectorLength a b c k = CallOf d run.read (Number 2 ∷ a ∷ Number 0 ∷ []) k
 
   -- a part of what a source is: of a tuple, or by the procedure, which is told whether the part is one of Dyn's
   abbrev pub part : Shape → ℕ → LowSource → ℤ → Code → Code
@@ -151,7 +149,9 @@ module _ (run : Served) where
   -- the value of an operation is put into a word
   abbrev pub perform : Shape → ℕ → Operation → Code → Code
   perform s d (Move o) k = fetch s (operand_word s 0) o (Set d (found s (operand_word s 0) o) k)
-  perform s d (Prim op os) k = fetch_all s 0 os (operator s d op (found_all s 0 os) k)
+  perform s d (Prim op os) k =
+      let found = found_all s 0 os in
+      fetch_all s 0 os (operator s d op (source_at found 0) (source_at found 1) (source_at found 2) k)
   perform s d (Cast o number) k =
       fetch s (operand_word s 0) o (
       CallOf d run.cast
@@ -207,6 +207,11 @@ make_group s slot first others captured k =
     Take (Number (group_words (length captured) others)) (
     name_others s slot (length captured) 1 others k)))))))
 
+-- a group of so many functions, if it has one
+abbrev pub group_code : Shape → ℕ → ℕ → ℕ → List Operand → Code → Code
+group_code s slot first zero captured k = k
+group_code s slot first (suc others) captured k = make_group s slot first others captured k
+
 -- ---- bodies
 
 -- where a body's value goes: to the caller, or into a word, behind which a code goes on
@@ -214,15 +219,11 @@ pub data Then : Type 0 where
   ToCaller : Then
   Into : ℕ → Code → Then
 
--- six arguments, where there are fewer with 0 in place of the others
-abbrev pub six_words : ℕ → List LowSource → List LowSource
-six_words zero os = []
-six_words (suc n) [] = Number 0 ∷ six_words n []
-six_words (suc n) (o ∷ os) = o ∷ six_words n os
-
--- what the procedure for calls is handed: the function, six words, and the number of arguments
+-- what the procedure for calls is handed: the function, six words, 0 where there are fewer arguments, and their number
 abbrev pub apply_words : LowSource → List LowSource → List LowSource
-apply_words f os = f ∷ six_words 6 os ++ Number (length os) ∷ []
+apply_words f os =
+    f ∷ source_at os 0 ∷ source_at os 1 ∷ source_at os 2 ∷ source_at os 3 ∷ source_at os 4 ∷ source_at os 5
+    ∷ Number (length os) ∷ []
 
 module _ (run : Served) where
   -- a call, by the code address in the function's object where that is no proxy
@@ -252,6 +253,4 @@ module _ (run : Served) where
   emit s (Choose o a b) next =
       fetch s (operand_word s 0) o (choose (found s (operand_word s 0) o) (emit s a) (emit s b) next)
   emit s (LetBody slot inner rest) next = emit s inner (Into (local_word s slot) (emit s rest next))
-  emit s (LetGroup slot first zero captured rest) next = emit s rest next
-  emit s (LetGroup slot first (suc others) captured rest) next =
-      make_group s slot first others captured (emit s rest next)
+  emit s (LetGroup slot first count captured rest) next = group_code s slot first count captured (emit s rest next)

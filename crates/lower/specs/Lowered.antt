@@ -8,8 +8,9 @@ use Rattle.low_ir.specs.declared.code.LowSource.TheVariants.{Word, Number}
 use Rattle.low_ir.specs.Procedures.{Code, Done, Compute, Load, Environment, Call, If, Return, Proc}
 use Rattle.grift_base.specs.Types.{TypeRow, IntRow, BoolRow, UnitRow, DynRow, FunRow, TupleRow, RefRow, VectRow}
 use Rattle.flat_ir.specs.Bodies.{Body, Give, Call as CallBody, Choose, LetBody, LetGroup, Proc as FlatProc}
-use Rattle.lower.specs.Numbering.{Shape}
-use Rattle.lower.specs.Emit.{Served, ToCaller, emit}
+use Rattle.lower.specs.declared.numbering.Shape.{Shape}
+use Rattle.lower.specs.declared.served.Served.{Served}
+use Rattle.lower.specs.Emit.{ToCaller, emit}
 
 -- the first level above all local names of a body in which the levels below this one are bound
 abbrev pub levels : ℕ → Body → ℕ

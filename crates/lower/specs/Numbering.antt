@@ -2,13 +2,7 @@
 -- Then come nine words to compute in: eight for operands, and one for tests and addresses. Behind them stand the names
 -- that are bound inside, each at its level.
 use Rattle.std.specs.Prelude.{ℕ, zero, suc, ◌+◌, ◌*◌, nat_lt, if◌then◌else◌}
-
--- what is known of a flat procedure where its body becomes code: how many parameters it has, how many names it has
--- captured, and its place in its group
-pub record Shape : Type 0 where
-  pub params : ℕ
-  pub captured : ℕ
-  pub place : ℕ
+use Rattle.lower.specs.declared.numbering.Shape.{Shape}
 
 -- the function that was called
 abbrev pub own_word : ℕ
