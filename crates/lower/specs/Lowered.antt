@@ -37,16 +37,20 @@ low_proc run p = record {
 abbrev pub ends : ℕ → LowSource → Code
 ends kind w = Environment 0 (Number kind) w 1 1 (Return (Number 0))
 
--- of a value in Dyn: what it keeps is told by the kind of its type, which is in word 1, and its word is in word 2
+-- of a value in Dyn that has parts: what it is is told by the kind of its type, which is in word 1
+abbrev pub show_compound : Code
+show_compound =
+    If Eq (Word 1) (Number 20) (ends 3 (Number 0)) Done (
+    If Eq (Word 1) (Number 21) (ends 4 (Number 0)) Done (
+    If Eq (Word 1) (Number 22) (ends 5 (Number 0)) Done (
+    ends 6 (Number 0))))
+
+-- of any value in Dyn, whose word is in word 2
 abbrev pub show_kept : Code
 show_kept =
     If Eq (Word 1) (Number 16) (ends 0 (Word 2)) Done (
     If Eq (Word 1) (Number 17) (ends 1 (Word 2)) Done (
-    If Eq (Word 1) (Number 18) (ends 2 (Number 0)) Done (
-    If Eq (Word 1) (Number 20) (ends 3 (Number 0)) Done (
-    If Eq (Word 1) (Number 21) (ends 4 (Number 0)) Done (
-    If Eq (Word 1) (Number 22) (ends 5 (Number 0)) Done (
-    ends 6 (Number 0)))))))
+    If Eq (Word 1) (Number 18) (ends 2 (Number 0)) Done show_compound))
 
 -- the answer in word 0 is shown by its type
 abbrev pub show_by : TypeRow → Code
