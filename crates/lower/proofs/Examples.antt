@@ -10,7 +10,8 @@ use Rattle.grift_base.specs.Types.{TypeRow, TypeRows, IntRow, BoolRow, UnitRow, 
 use Rattle.grift_base.specs.declared.operators.PrimOp.TheVariants.{Add, Sub, Mul, Quot, Eq, Le, PrintInt, MakeBox}
 use Rattle.grift_base.specs.declared.operators.PrimOp.TheVariants.{BoxSet, Unbox, Not}
 use Rattle.grift_base.specs.declared.verdicts.AnswerKind.{AnswerKind}
-use Rattle.grift_base.specs.declared.verdicts.AnswerKind.TheVariants.{Int as IntKind, Unit as UnitKind, Bool as BoolKind}
+use Rattle.grift_base.specs.declared.verdicts.AnswerKind.TheVariants.{Int as IntKind, Unit as UnitKind}
+use Rattle.grift_base.specs.declared.verdicts.AnswerKind.TheVariants.{Bool as BoolKind}
 use Rattle.grift_base.specs.declared.verdicts.Verdict.{Verdict}
 use Rattle.grift_base.specs.declared.verdicts.Verdict.TheVariants.{Answer}
 use Rattle.coercion_norm.specs.Modes.{piling}
@@ -82,7 +83,8 @@ or_none None = entry_proc 0 IntRow
 abbrev low_run : List LowProc → ℕ → Run LowShown Verdict
 low_run procs first =
     run (low_machine ending_of (setting procs))
-    (low_start (setting procs) (or_none (slice_get procs first)) (λ a. 0) (record { output = []; input = []; place = 0 }))
+    (low_start (setting procs) (or_none (slice_get procs first)) (λ a. 0)
+    (record { output = []; input = []; place = 0 }))
 
 -- Both programs are closed and end so, with this output: the flat one within 60 turns, the other within 200. The type
 -- of the answer is that of a row.
@@ -114,11 +116,12 @@ captured = (refl, refl, refl, refl, refl, refl)
 -- two functions that know each other and have captured 0: the first asks the second about 1, which turns the answer of
 -- the first on 0
 known_to_each_other : Both
-    (proc 1 1 2 0 (LetBody 1 (Give (Prim Eq (two (Local 0) (Captured 0)))) (Choose (Local 1) (Give (Move (BoolCase true)))
-    (LetBody 2 (Give (Prim Sub (two (Local 0) (int 1)))) (Call (Sibling 1) (Local 2 ∷ [])))))
+    (proc 1 1 2 0 (LetBody 1 (Give (Prim Eq (two (Local 0) (Captured 0)))) (Choose (Local 1)
+    (Give (Move (BoolCase true))) (LetBody 2 (Give (Prim Sub (two (Local 0) (int 1))))
+    (Call (Sibling 1) (Local 2 ∷ [])))))
     ∷ proc 1 1 2 1 (LetBody 1 (LetBody 1 (Give (Prim Eq (two (Local 0) (Captured 0)))) (Choose (Local 1)
-    (Give (Move (BoolCase true))) (LetBody 2 (Give (Prim Sub (two (Local 0) (int 1)))) (Call (Sibling 0) (Local 2 ∷ [])))))
-    (Give (Prim Not (Local 1 ∷ []))))
+    (Give (Move (BoolCase true))) (LetBody 2 (Give (Prim Sub (two (Local 0) (int 1))))
+    (Call (Sibling 0) (Local 2 ∷ []))))) (Give (Prim Not (Local 1 ∷ []))))
     ∷ entry (LetBody 0 (Give (Move (int 0))) (LetGroup 1 0 2 (Local 0 ∷ []) (Call (Local 1) (int 2 ∷ [])))) ∷ []) 2
     BoolRow 1 (answers BoolKind 0) []
 unfolding int_wrap environment_call load_bytes store_bytes
@@ -131,8 +134,8 @@ unfolding int_wrap environment_call load_bytes store_bytes
 second_part = (refl, refl, refl, refl, refl, refl)
 
 -- a box that is written and read: 7 is printed
-written : Both (entry (LetBody 0 (Give (Prim MakeBox (int 1 ∷ []))) (LetBody 1 (Give (Prim BoxSet (two (Local 0) (int 7))))
-    (LetBody 2 (Give (Prim Unbox (Local 0 ∷ []))) (Give (Prim PrintInt (Local 2 ∷ [])))))) ∷ []) 0 UnitRow 2
-    (answers UnitKind 0) (codes "7")
+written : Both (entry (LetBody 0 (Give (Prim MakeBox (int 1 ∷ []))) (LetBody 1
+    (Give (Prim BoxSet (two (Local 0) (int 7)))) (LetBody 2 (Give (Prim Unbox (Local 0 ∷ [])))
+    (Give (Prim PrintInt (Local 2 ∷ [])))))) ∷ []) 0 UnitRow 2 (answers UnitKind 0) (codes "7")
 unfolding digits int_wrap environment_call load_bytes store_bytes
 written = (refl, refl, refl, refl, refl, refl)

@@ -20,7 +20,7 @@ pub name_more : (s : Shape) (slot captured place left less next word first offse
 name_more s slot captured place left less next word first offset level a b start whole kept added l w f o n e k =
     let up : next ≡ suc place = omega arith in
     let same : Compute Add word (Word first) (Number offset) (name_others s slot captured next less k)
-            ≡ name_others s slot captured place left k = rw (w, l, f, o, up, e) refl in
+    ≡ name_others s slot captured place left k = rw (w, l, f, o, up, e) refl in
     added (name_others s slot captured next less k) ∙ ap (ahead a) same ∙ kept k
 
 -- a function more is stored
@@ -37,7 +37,7 @@ store_more s d captured first place left less next test address one offset numbe
     let up : next ≡ suc place = omega arith in
     let rest = store_others s d captured first next less k in
     let same : store_far test d (Number one) offset (CodeOf address number (
-            store_far test d (Word address) (offset + 8) rest))
-            ≡ store_others s d captured first place left k = rw (t, w, o, f, i, up, q) refl in
+    store_far test d (Word address) (offset + 8) rest))
+    ≡ store_others s d captured first place left k = rw (t, w, o, f, i, up, q) refl in
     z rest ∙ y (store_far test d (Word address) (offset + 8) rest)
     ∙ x (CodeOf address number (store_far test d (Word address) (offset + 8) rest)) ∙ ap (ahead a) same ∙ kept k

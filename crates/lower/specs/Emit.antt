@@ -141,7 +141,7 @@ module _ (run : Served) where
   part s d a (pos i) k =
       if nat_lt i 8
       then of_kind s a 4 (Load d a (8 + 8 * i) Done)
-        (CallOf d run.project (a ∷ Number i ∷ Number 0 ∷ Number 0 ∷ []) Done) k
+      (CallOf d run.project (a ∷ Number i ∷ Number 0 ∷ Number 0 ∷ []) Done) k
       else CallOf d run.project (a ∷ Number (cast_unsigned w64 (pos i)) ∷ Number 0 ∷ Number 0 ∷ []) k
   part s d a (negsuc i) k =
       CallOf d run.project (a ∷ Number (cast_unsigned w64 (negsuc i)) ∷ Number 0 ∷ Number 0 ∷ []) k
@@ -155,13 +155,13 @@ module _ (run : Served) where
   perform s d (Cast o number) k =
       fetch s (operand_word s 0) o (
       CallOf d run.cast
-        (found s (operand_word s 0) o ∷ Number (cast_word (slice_get run.cast_at number)) ∷ []) k)
+      (found s (operand_word s 0) o ∷ Number (cast_word (slice_get run.cast_at number)) ∷ []) k)
   perform s d (Tuple os) k = fetch_all s 0 os (Build d (Number (header 4 (length os)) ∷ found_all s 0 os) k)
   perform s d (Proj o i) k = fetch s (operand_word s 0) o (part s d (found s (operand_word s 0) o) i k)
   perform s d (ProjDyn o i label) k =
       fetch s (operand_word s 0) o (
       CallOf d run.project
-        (found s (operand_word s 0) o ∷ Number (cast_unsigned w64 i) ∷ Number 1 ∷ Number label.0 ∷ []) k)
+      (found s (operand_word s 0) o ∷ Number (cast_unsigned w64 i) ∷ Number 1 ∷ Number label.0 ∷ []) k)
 
 -- ---- groups
 

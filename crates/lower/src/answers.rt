@@ -29,7 +29,13 @@ fn ends(alloc: Global, kind: u64, word: LowSource) -> Result<LowCode, OutOfMemor
 }
 
 // The end for what Dyn keeps where the kind of its type, in word 1, is this one.
-fn ends_if(alloc: Global, steps: &mut Steps, type_kind: u64, kind: u64, word: LowSource) -> Result<(), OutOfMemory>
+fn ends_if(
+    alloc: Global,
+    steps: &mut Steps,
+    type_kind: u64,
+    kind: u64,
+    word: LowSource,
+) -> Result<(), OutOfMemory>
     ensures { OnOk result (Adds steps.old.steps.items steps.new.steps.items
         (λ k. If Eq (Word 1) (Number type_kind) (ends kind word) Done k)) }
 {

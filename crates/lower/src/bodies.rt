@@ -23,7 +23,11 @@ const FUNCTION: u64 = 1;
 
 impl Emitter<'_> {
     // A function and its arguments.
-    fn with_function(&self, function: LowSource, arguments: &LowSources) -> Result<LowSources, OutOfMemory>
+    fn with_function(
+        &self,
+        function: LowSource,
+        arguments: &LowSources,
+    ) -> Result<LowSources, OutOfMemory>
         ensures { IfOk result (λ words. words ≡ function ∷ arguments.now) }
     {
         let mut words = LowSources::from_slice(self.alloc, &[function])?;
@@ -32,7 +36,11 @@ impl Emitter<'_> {
     }
 
     // What the procedure for calls is handed.
-    fn apply_words(&self, function: LowSource, arguments: &LowSources) -> Result<LowSources, OutOfMemory>
+    fn apply_words(
+        &self,
+        function: LowSource,
+        arguments: &LowSources,
+    ) -> Result<LowSources, OutOfMemory>
         ensures { IfOk result (λ words. words ≡ apply_words function arguments.now) }
     {
         let words = [

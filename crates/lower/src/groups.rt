@@ -34,7 +34,12 @@ fn group_words(captured: u32, others: u32) -> u64
 
 impl Emitter<'_> {
     // The captured words are stored one after another, behind the address in a word.
-    fn store_captured(&self, steps: &mut Steps, d: u32, captured: &Operands) -> Result<(), OutOfMemory>
+    fn store_captured(
+        &self,
+        steps: &mut Steps,
+        d: u32,
+        captured: &Operands,
+    ) -> Result<(), OutOfMemory>
         ensures { OnOk result (Adds steps.old.steps.items steps.new.steps.items
             (λ k. store_captured self.now.shape d 0 captured.now k)) }
     {
@@ -51,7 +56,13 @@ impl Emitter<'_> {
     }
 
     // The functions behind the first are stored, behind the address in a word.
-    fn store_others(&self, steps: &mut Steps, d: u32, captured: u32, group: Group) -> Result<(), OutOfMemory>
+    fn store_others(
+        &self,
+        steps: &mut Steps,
+        d: u32,
+        captured: u32,
+        group: Group,
+    ) -> Result<(), OutOfMemory>
         ensures { OnOk result (Adds steps.old.steps.items steps.new.steps.items
             (λ k. store_others self.now.shape d captured group.first 1 group.others k)) }
     {
@@ -82,7 +93,12 @@ impl Emitter<'_> {
         while left != 0 {
             let level = narrow(group.slot as u64 + place as u64)?;
             let offset = Number(function_offset(captured, place));
-            steps.push(Step::Compute(WordOp::Add, self.shape.local_word(level)?, Word(first), offset))?;
+            steps.push(Step::Compute(
+                WordOp::Add,
+                self.shape.local_word(level)?,
+                Word(first),
+                offset,
+            ))?;
             place = narrow(place as u64 + 1)?;
             left -= 1;
         }
@@ -90,7 +106,12 @@ impl Emitter<'_> {
     }
 
     /// A group is made that has captured these operands, and its functions get their local names.
-    pub fn make_group(&self, steps: &mut Steps, group: Group, captured: &Operands) -> Result<(), OutOfMemory>
+    pub fn make_group(
+        &self,
+        steps: &mut Steps,
+        group: Group,
+        captured: &Operands,
+    ) -> Result<(), OutOfMemory>
         ensures { OnOk result (Adds steps.old.steps.items steps.new.steps.items
             (λ k. make_group self.now.shape group.slot group.first group.others captured.now k)) }
     {

@@ -67,7 +67,12 @@ fn low_proc(alloc: Global, run: &Served, proc: &FlatProc) -> Result<LowProc, Out
 /// The procedures over words of a program's procedures, by the same numbers, and behind them the one to begin with,
 /// which shows the program's answer by the row of its type. Those that serve go on behind it, by the numbers that `run`
 /// tells.
-pub fn lowered(alloc: Global, run: &Served, flat: &FlatProgram, answer: &Row) -> Result<LowProcs, OutOfMemory>
+pub fn lowered(
+    alloc: Global,
+    run: &Served,
+    flat: &FlatProgram,
+    answer: &Row,
+) -> Result<LowProcs, OutOfMemory>
     ensures { IfOk result (λ procs. procs_of procs
         ≡ lowered run.now (flat_procs_of flat.now.procs) flat.now.entry (row_of answer.now) []) }
 {

@@ -93,7 +93,13 @@ impl Emitter<'_> {
     }
 
     // A procedure is called, and its answer put into a word.
-    fn call(&self, steps: &mut Steps, d: u32, number: u32, words: &[LowSource]) -> Result<(), OutOfMemory>
+    fn call(
+        &self,
+        steps: &mut Steps,
+        d: u32,
+        number: u32,
+        words: &[LowSource],
+    ) -> Result<(), OutOfMemory>
         ensures { OnOk result (Adds steps.old.steps.items steps.new.steps.items (λ k. Call d number words.now k)) }
     {
         let words = LowSources::from_slice(self.alloc, words)?;
@@ -101,7 +107,13 @@ impl Emitter<'_> {
     }
 
     // A comparison whose answer is turned.
-    fn compare_turned(&self, steps: &mut Steps, d: u32, a: LowSource, b: LowSource) -> Result<(), OutOfMemory>
+    fn compare_turned(
+        &self,
+        steps: &mut Steps,
+        d: u32,
+        a: LowSource,
+        b: LowSource,
+    ) -> Result<(), OutOfMemory>
         ensures { OnOk result (Adds steps.old.steps.items steps.new.steps.items (λ k. Compute Slt d a b (turned d k))) }
     {
         steps.push(Step::Compute(WordOp::Slt, d, a, b))?;
@@ -109,7 +121,13 @@ impl Emitter<'_> {
     }
 
     // Whether two words are the same.
-    fn equal(&self, steps: &mut Steps, d: u32, a: LowSource, b: LowSource) -> Result<(), OutOfMemory>
+    fn equal(
+        &self,
+        steps: &mut Steps,
+        d: u32,
+        a: LowSource,
+        b: LowSource,
+    ) -> Result<(), OutOfMemory>
         ensures { OnOk result (Adds steps.old.steps.items steps.new.steps.items
             (λ k. Compute Xor d a b (Compute Sltu d (Word d) (Number 1) k))) }
     {
@@ -118,7 +136,13 @@ impl Emitter<'_> {
     }
 
     // An environment call that goes on, with the value `()`.
-    fn environment(&self, steps: &mut Steps, d: u32, number: u64, word: LowSource) -> Result<(), OutOfMemory>
+    fn environment(
+        &self,
+        steps: &mut Steps,
+        d: u32,
+        number: u64,
+        word: LowSource,
+    ) -> Result<(), OutOfMemory>
         ensures { OnOk result (Adds steps.old.steps.items steps.new.steps.items
             (λ k. Environment number word (Number 0) (test_word self.now.shape) (test_word self.now.shape)
             (Set d (Number 0) k))) }
@@ -141,7 +165,13 @@ impl Emitter<'_> {
     }
 
     // A new value for a box.
-    fn set_box(&self, steps: &mut Steps, d: u32, a: LowSource, b: LowSource) -> Result<(), OutOfMemory>
+    fn set_box(
+        &self,
+        steps: &mut Steps,
+        d: u32,
+        a: LowSource,
+        b: LowSource,
+    ) -> Result<(), OutOfMemory>
         ensures { OnOk result (Adds steps.old.steps.items steps.new.steps.items (λ k.
             of_kind self.now.shape a 5 (Store b a 8 (Set d (Number 0) Done))
             (Call d self.now.run.now.write (Number 0 ∷ a ∷ Number 0 ∷ b ∷ []) Done) k)) }
@@ -258,7 +288,12 @@ impl Emitter<'_> {
     }
 
     /// The value of an operation is put into a word.
-    pub fn perform(&self, steps: &mut Steps, d: u32, operation: &Operation) -> Result<(), OutOfMemory>
+    pub fn perform(
+        &self,
+        steps: &mut Steps,
+        d: u32,
+        operation: &Operation,
+    ) -> Result<(), OutOfMemory>
         ensures { OnOk result (Adds steps.old.steps.items steps.new.steps.items
             (λ k. perform self.now.run.now self.now.shape d operation.now k)) }
     {
@@ -270,12 +305,21 @@ impl Emitter<'_> {
             }
             Operation::Prim(operator, operands) => {
                 let found = fetch_all(self.alloc, steps, shape, 0, operands)?;
-                let sources = (source_at(&found, 0), source_at(&found, 1), source_at(&found, 2));
+                let sources = (
+                    source_at(&found, 0),
+                    source_at(&found, 1),
+                    source_at(&found, 2),
+                );
                 self.operator(steps, d, *operator, sources)
             }
             Operation::Cast(operand, number) => {
                 let source = fetch(steps, shape, 0, *operand)?;
-                self.call(steps, d, self.run.cast, &[source, Number(self.cast_word(*number))])
+                self.call(
+                    steps,
+                    d,
+                    self.run.cast,
+                    &[source, Number(self.cast_word(*number))],
+                )
             }
             Operation::Tuple(parts) => self.tuple(steps, d, parts),
             Operation::Proj(operand, i) => self.proj(steps, d, *operand, i),

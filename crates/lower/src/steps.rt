@@ -1,4 +1,4 @@
-// Code without its end: steps that are gathered one after another, since code is a list that begins with its first step.
+// Code without its end: steps that are gathered one after another, since code begins with its first step.
 
 ghost use Rattle.std.specs.Prelude.{◌≡◌, ◌++◌, ◌∷◌, [], IfOk, OnOk};
 ghost use Rattle.low_ir.specs.Views.{code_of};
