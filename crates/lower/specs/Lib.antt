@@ -1,0 +1,4 @@
+pub mod Numbering
+pub mod Emit
+pub mod Lowered
+pub mod Steps

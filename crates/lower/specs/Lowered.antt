@@ -1,0 +1,82 @@
+-- The procedures over words of a flat program.
+use Rattle.std.specs.Prelude.{ℕ, suc, ◌+◌, ◌*◌, max, List, [], ◌∷◌, ◌++◌, length, map, Option, Some, None}
+use Rattle.std.specs.Prelude.{if◌then◌else◌, nat_lt}
+use Rattle.rv_isa.specs.declared.inst.Cond.TheVariants.{Eq}
+use Rattle.low_ir.specs.declared.code.WordOp.TheVariants.{And}
+use Rattle.low_ir.specs.declared.code.LowSource.{LowSource}
+use Rattle.low_ir.specs.declared.code.LowSource.TheVariants.{Word, Number}
+use Rattle.low_ir.specs.Procedures.{Code, Done, Compute, Load, Environment, Call, If, Return, Proc}
+use Rattle.grift_base.specs.Types.{TypeRow, IntRow, BoolRow, UnitRow, DynRow, FunRow, TupleRow, RefRow, VectRow}
+use Rattle.flat_ir.specs.Bodies.{Body, Give, Call as CallBody, Choose, LetBody, LetGroup, Proc as FlatProc}
+use Rattle.lower.specs.declared.numbering.Shape.{Shape}
+use Rattle.lower.specs.declared.served.Served.{Served}
+use Rattle.lower.specs.Emit.{ToCaller, emit}
+
+-- the first level above all local names of a body in which the levels below this one are bound
+abbrev pub levels : ℕ → Body → ℕ
+levels depth (Give op) = depth
+levels depth (CallBody f os) = depth
+levels depth (Choose o a b) = max (levels depth a) (levels depth b)
+levels depth (LetBody slot inner rest) = max (levels depth inner) (levels (suc depth) rest)
+levels depth (LetGroup slot first count captured rest) = levels (depth + count) rest
+
+abbrev pub shape_of : FlatProc → Shape
+shape_of p = record { params = p.params; captured = p.captured; place = p.place }
+
+-- the procedure over words of a flat one: it takes the function that is called, and the arguments
+abbrev pub low_proc : Served → FlatProc → Proc
+low_proc run p = record {
+  params = suc p.params;
+  words = levels p.params p.body + 10;
+  code = emit run (shape_of p) p.body ToCaller;
+}
+
+-- ---- the answer
+
+-- the run ends with an answer of a kind and a word; behind it stands what is never done
+abbrev pub ends : ℕ → LowSource → Code
+ends kind w = Environment 0 (Number kind) w 1 1 (Return (Number 0))
+
+-- of a value in Dyn that has parts: what it is is told by the kind of its type, which is in word 1
+abbrev pub show_compound : Code
+show_compound =
+    If Eq (Word 1) (Number 20) (ends 3 (Number 0)) Done (
+    If Eq (Word 1) (Number 21) (ends 4 (Number 0)) Done (
+    If Eq (Word 1) (Number 22) (ends 5 (Number 0)) Done (
+    ends 6 (Number 0))))
+
+-- of any value in Dyn, whose word is in word 2
+abbrev pub show_kept : Code
+show_kept =
+    If Eq (Word 1) (Number 16) (ends 0 (Word 2)) Done (
+    If Eq (Word 1) (Number 17) (ends 1 (Word 2)) Done (
+    If Eq (Word 1) (Number 18) (ends 2 (Number 0)) Done show_compound))
+
+-- the answer in word 0 is shown by its type
+abbrev pub show_by : TypeRow → Code
+show_by IntRow = ends 0 (Word 0)
+show_by BoolRow = ends 1 (Word 0)
+show_by UnitRow = ends 2 (Number 0)
+show_by DynRow =
+    Load 1 (Word 0) 8 (
+    Load 1 (Word 1) 0 (
+    Compute And 1 (Word 1) (Number 255) (
+    Load 2 (Word 0) 16 show_kept)))
+show_by (FunRow parameters answer) = ends 3 (Number 0)
+show_by (TupleRow parts) = ends 4 (Number 0)
+show_by (RefRow content) = ends 5 (Number 0)
+show_by (VectRow content) = ends 6 (Number 0)
+
+-- the procedure that a program begins with: it calls the flat one of this number, which belongs to no group, and ends
+-- with its answer
+abbrev pub entry_proc : ℕ → TypeRow → Proc
+entry_proc entry answer = record {
+  params = 0;
+  words = 3;
+  code = Call 0 entry (Number 0 ∷ []) (show_by answer);
+}
+
+-- all procedures: the flat ones by their numbers, the one to begin with, and those that serve, of which the numbers in
+-- `run` go on from here
+abbrev pub lowered : Served → List FlatProc → ℕ → TypeRow → List Proc → List Proc
+lowered run procs entry answer serving = map (low_proc run) procs ++ entry_proc entry answer ∷ serving

@@ -1,0 +1,35 @@
+-- Code without its end.
+use Rattle.std.specs.Prelude.{◌≡◌, List, [], ◌∷◌}
+use Rattle.low_ir.specs.Procedures.{Code, Set, Compute, Load, Store, CodeOf, Build, Request, Take, Environment, Call}
+use Rattle.low_ir.specs.Procedures.{CallAt, If}
+use Rattle.low_ir.specs.Views.{code_of}
+use Rattle.lower.specs.declared.steps.Step.{Step}
+use Rattle.lower.specs.declared.steps.Step.TheVariants.{Set as SetStep, Compute as ComputeStep, Load as LoadStep}
+use Rattle.lower.specs.declared.steps.Step.TheVariants.{Store as StoreStep, CodeOf as CodeOfStep, Build as BuildStep}
+use Rattle.lower.specs.declared.steps.Step.TheVariants.{Request as RequestStep, Take as TakeStep}
+use Rattle.lower.specs.declared.steps.Step.TheVariants.{Environment as EnvironmentStep, Call as CallStep}
+use Rattle.lower.specs.declared.steps.Step.TheVariants.{CallAt as CallAtStep, If as IfStep}
+
+-- a step, and behind it a code
+abbrev pub put : Step → Code → Code
+put (SetStep d a) k = Set d a k
+put (ComputeStep op d a b) k = Compute op d a b k
+put (LoadStep d a offset) k = Load d a offset k
+put (StoreStep b a offset) k = Store b a offset k
+put (CodeOfStep d number) k = CodeOf d number k
+put (BuildStep d words) k = Build d words k
+put (RequestStep d n) k = Request d n k
+put (TakeStep n) k = Take n k
+put (EnvironmentStep number a b d) k = Environment number a b d d k
+put (CallStep d number words) k = Call d number words k
+put (CallAtStep d f words) k = CallAt d f words k
+put (IfStep cond a b one other) k = If cond a b (code_of one) (code_of other) k
+
+-- steps in order, and behind them a code
+abbrev pub ahead : List Step → Code → Code
+ahead [] k = k
+ahead (step ∷ steps) k = put step (ahead steps k)
+
+-- these steps are those before, and behind them what is put in front of a code
+abbrev pub Adds : List Step → List Step → (Code → Code) → Type 0
+Adds before after front = (k : Code) → ahead after k ≡ ahead before (front k)

@@ -1,0 +1,109 @@
+// The end of a program: its answer is shown by its type.
+
+ghost use Rattle.std.specs.Prelude.{◌≡◌, IfOk, OnOk};
+ghost use Rattle.grift_base.specs.Types.{DynRow};
+ghost use Rattle.type_graph.specs.Rows.{row_of};
+ghost use Rattle.rv_isa.specs.declared.inst.Cond.TheVariants.{Eq};
+ghost use Rattle.low_ir.specs.declared.code.LowSource.TheVariants.{Word, Number};
+ghost use Rattle.low_ir.specs.Procedures.{Done, If};
+ghost use Rattle.low_ir.specs.Views.{code_of, proc_of};
+ghost use Rattle.lower.specs.Lowered.{ends, entry_proc, show_by, show_compound, show_kept};
+ghost use Rattle.lower.specs.Steps.{Adds};
+
+use crate::steps::{Step, Steps};
+use grift_base::lists::OutOfMemory;
+use low_ir::code::LowSource::{Number, Word};
+use low_ir::code::{LowCode, LowSource, LowSources, WordOp};
+use low_ir::programs::LowProc;
+use rv_isa::inst::Cond;
+use std::alloc::Global;
+use type_graph::rows::Row;
+
+// The run ends with an answer of a kind and a word.
+fn ends(alloc: Global, kind: u64, word: LowSource) -> Result<LowCode, OutOfMemory>
+    ensures { IfOk result (λ code. code_of code ≡ ends kind word) }
+{
+    let mut steps = Steps::new(alloc);
+    steps.push(Step::Environment(0, Number(kind), word, 1))?;
+    steps.before(LowCode::Return(Number(0)))
+}
+
+// The end for what Dyn keeps where the kind of its type, in word 1, is this one.
+fn ends_if(
+    alloc: Global,
+    steps: &mut Steps,
+    type_kind: u64,
+    kind: u64,
+    word: LowSource,
+) -> Result<(), OutOfMemory>
+    ensures { OnOk result (Adds steps.old.steps.items steps.new.steps.items
+        (λ k. If Eq (Word 1) (Number type_kind) (ends kind word) Done k)) }
+{
+    let end = ends(alloc, kind, word)?;
+    steps.push(Step::If(Cond::Eq, Word(1), Number(type_kind), end, LowCode::Done))
+}
+
+// The end for a value in Dyn that has parts, whose type's kind is in word 1.
+fn show_compound(alloc: Global) -> Result<LowCode, OutOfMemory>
+    ensures { IfOk result (λ code. code_of code ≡ show_compound) }
+{
+    let mut steps = Steps::new(alloc);
+    ends_if(alloc, &mut steps, 20, 3, Number(0))?;
+    ends_if(alloc, &mut steps, 21, 4, Number(0))?;
+    ends_if(alloc, &mut steps, 22, 5, Number(0))?;
+    steps.before(ends(alloc, 6, Number(0))?)
+}
+
+// The end for any value in Dyn, whose type's kind is in word 1, and whose word is in word 2.
+fn show_kept(alloc: Global) -> Result<LowCode, OutOfMemory>
+    ensures { IfOk result (λ code. code_of code ≡ show_kept) }
+{
+    let mut steps = Steps::new(alloc);
+    ends_if(alloc, &mut steps, 16, 0, Word(2))?;
+    ends_if(alloc, &mut steps, 17, 1, Word(2))?;
+    ends_if(alloc, &mut steps, 18, 2, Number(0))?;
+    steps.before(show_compound(alloc)?)
+}
+
+// The end for a value in Dyn, whose address is in word 0.
+fn show_dyn(alloc: Global) -> Result<LowCode, OutOfMemory>
+    ensures { IfOk result (λ code. code_of code ≡ show_by DynRow) }
+{
+    let mut steps = Steps::new(alloc);
+    steps.push(Step::Load(1, Word(0), 8))?;
+    steps.push(Step::Load(1, Word(1), 0))?;
+    steps.push(Step::Compute(WordOp::And, 1, Word(1), Number(255)))?;
+    steps.push(Step::Load(2, Word(0), 16))?;
+    steps.before(show_kept(alloc)?)
+}
+
+// The end of a program whose answer, of a type of this row, is in word 0.
+fn show_by(alloc: Global, row: &Row) -> Result<LowCode, OutOfMemory>
+    ensures { IfOk result (λ code. code_of code ≡ show_by (row_of row.now)) }
+{
+    match row {
+        Row::Int => ends(alloc, 0, Word(0)),
+        Row::Bool => ends(alloc, 1, Word(0)),
+        Row::Unit => ends(alloc, 2, Number(0)),
+        Row::Dyn => show_dyn(alloc),
+        Row::Fun(..) => ends(alloc, 3, Number(0)),
+        Row::Tuple(_) => ends(alloc, 4, Number(0)),
+        Row::Ref(_) => ends(alloc, 5, Number(0)),
+        Row::Vect(_) => ends(alloc, 6, Number(0)),
+    }
+}
+
+/// The procedure that a program begins with: it calls the flat one of this number, and ends with its answer, shown by
+/// the row of its type.
+pub fn entry_proc(alloc: Global, entry: u32, answer: &Row) -> Result<LowProc, OutOfMemory>
+    ensures { IfOk result (λ proc. proc_of proc ≡ entry_proc entry (row_of answer.now)) }
+{
+    let mut steps = Steps::new(alloc);
+    let words = LowSources::from_slice(alloc, &[Number(0)])?;
+    steps.push(Step::Call(0, entry, words))?;
+    Ok(LowProc {
+        params: 0,
+        words: 3,
+        code: steps.before(show_by(alloc, answer)?)?,
+    })
+}

@@ -1,0 +1,342 @@
+// Operations: what gives a value and calls no procedure of the program.
+
+ghost use Rattle.std.specs.Prelude.{◌≡◌, ◌<◌, ◌∷◌, [], length, slice_get, IfOk, OnOk};
+ghost use Rattle.low_ir.specs.declared.code.LowSource.TheVariants.{Word, Number};
+ghost use Rattle.low_ir.specs.declared.code.WordOp.TheVariants.{Xor, Slt, Sltu};
+ghost use Rattle.flat_ir.specs.declared.code.Operation.TheVariants.{ProjDyn};
+ghost use Rattle.low_ir.specs.Procedures.{Done, Set, Compute, Load, Store, Build, Environment, Call};
+ghost use Rattle.low_ir.specs.Views.{code_of};
+ghost use Rattle.lower.specs.Emit.{cast_word, fetch, fetch_all, found, found_all, header, of_kind, operator, part};
+ghost use Rattle.lower.specs.Emit.{perform};
+ghost use Rattle.lower.specs.Emit.{source_at, turned};
+ghost use Rattle.lower.specs.Numbering.{operand_word, test_word};
+ghost use Rattle.lower.specs.Steps.{put, Adds};
+
+use crate::numbering::{Shape, TEST_PLACE};
+use crate::operands::{fetch, fetch_all};
+use crate::served::Served;
+use crate::steps::{Step, Steps};
+use flat_ir::code::{Operand, Operands, Operation};
+use grift_base::lists::OutOfMemory;
+use grift_base::operators::PrimOp;
+use grift_base::places::LabelId;
+use low_ir::code::LowSource::{Number, Word};
+use low_ir::code::{LowCode, LowSource, LowSources, WordOp};
+use rv_isa::inst::Cond;
+use std::alloc::Global;
+
+/// The kind of tuples.
+const TUPLE: u64 = 4;
+
+/// The kind of boxes.
+const BOX: u64 = 5;
+
+/// A part of a tuple has a number below this.
+const MOST_PARTS: i64 = 8;
+
+/// The header of an object of a kind with so many words, of height 0.
+pub fn header(kind: u64, count: u64) -> Result<u64, OutOfMemory>
+    requires { kind < 256 }
+    ensures { IfOk result (λ word. word ≡ header kind count) }
+{
+    if count <= u32::MAX as u64 {
+        Ok(kind + 4294967296 * count)
+    } else {
+        Err(OutOfMemory)
+    }
+}
+
+/// The source at a place, 0 where there is none.
+pub fn source_at(sources: &LowSources, place: u64) -> LowSource
+    ensures { result ≡ source_at sources.now place }
+{
+    match sources.get(place) {
+        Some(source) => *source,
+        None => Number(0),
+    }
+}
+
+/// What code needs to be made: where memory comes from, the procedures that serve, and what is known of the procedure.
+#[derive(Clone, Copy)]
+pub struct Emitter<'a> {
+    pub alloc: Global,
+    pub run: &'a Served,
+    pub shape: Shape,
+}
+
+impl Emitter<'_> {
+    /// A code of one step.
+    pub fn only(&self, step: Step) -> Result<LowCode, OutOfMemory>
+        ensures { IfOk result (λ code. code_of code ≡ put step Done) }
+    {
+        let mut steps = Steps::new(self.alloc);
+        steps.push(step)?;
+        steps.before(LowCode::Done)
+    }
+
+    /// Goes one way where the object at an address is of a kind, and else the other.
+    pub fn of_kind(
+        &self,
+        steps: &mut Steps,
+        object: LowSource,
+        kind: u64,
+        ways: (LowCode, LowCode),
+    ) -> Result<(), OutOfMemory>
+        ensures { OnOk result (Adds steps.old.steps.items steps.new.steps.items
+            (λ k. of_kind self.now.shape object kind (code_of ways.0) (code_of ways.1) k)) }
+    {
+        let test = self.shape.operand_word(TEST_PLACE)?;
+        let (one, other) = ways;
+        steps.push(Step::Load(test, object, 0))?;
+        steps.push(Step::Compute(WordOp::And, test, Word(test), Number(255)))?;
+        steps.push(Step::If(Cond::Eq, Word(test), Number(kind), one, other))
+    }
+
+    // A procedure is called, and its answer put into a word.
+    fn call(
+        &self,
+        steps: &mut Steps,
+        d: u32,
+        number: u32,
+        words: &[LowSource],
+    ) -> Result<(), OutOfMemory>
+        ensures { OnOk result (Adds steps.old.steps.items steps.new.steps.items (λ k. Call d number words.now k)) }
+    {
+        let words = LowSources::from_slice(self.alloc, words)?;
+        steps.push(Step::Call(d, number, words))
+    }
+
+    // A comparison whose answer is turned.
+    fn compare_turned(
+        &self,
+        steps: &mut Steps,
+        d: u32,
+        a: LowSource,
+        b: LowSource,
+    ) -> Result<(), OutOfMemory>
+        ensures { OnOk result (Adds steps.old.steps.items steps.new.steps.items (λ k. Compute Slt d a b (turned d k))) }
+    {
+        steps.push(Step::Compute(WordOp::Slt, d, a, b))?;
+        steps.push(Step::Compute(WordOp::Xor, d, Word(d), Number(1)))
+    }
+
+    // Whether two words are the same.
+    fn equal(
+        &self,
+        steps: &mut Steps,
+        d: u32,
+        a: LowSource,
+        b: LowSource,
+    ) -> Result<(), OutOfMemory>
+        ensures { OnOk result (Adds steps.old.steps.items steps.new.steps.items
+            (λ k. Compute Xor d a b (Compute Sltu d (Word d) (Number 1) k))) }
+    {
+        steps.push(Step::Compute(WordOp::Xor, d, a, b))?;
+        steps.push(Step::Compute(WordOp::Sltu, d, Word(d), Number(1)))
+    }
+
+    // An environment call that goes on, with the value `()`.
+    fn environment(
+        &self,
+        steps: &mut Steps,
+        d: u32,
+        number: u64,
+        word: LowSource,
+    ) -> Result<(), OutOfMemory>
+        ensures { OnOk result (Adds steps.old.steps.items steps.new.steps.items
+            (λ k. Environment number word (Number 0) (test_word self.now.shape) (test_word self.now.shape)
+            (Set d (Number 0) k))) }
+    {
+        let test = self.shape.operand_word(TEST_PLACE)?;
+        steps.push(Step::Environment(number, word, Number(0), test))?;
+        steps.push(Step::Set(d, Number(0)))
+    }
+
+    // What is in a box.
+    fn unbox(&self, steps: &mut Steps, d: u32, a: LowSource) -> Result<(), OutOfMemory>
+        ensures { OnOk result (Adds steps.old.steps.items steps.new.steps.items (λ k.
+            of_kind self.now.shape a 5 (Load d a 8 Done)
+            (Call d self.now.run.now.read (Number 0 ∷ a ∷ Number 0 ∷ []) Done) k)) }
+    {
+        let loaded = self.only(Step::Load(d, a, 8))?;
+        let words = LowSources::from_slice(self.alloc, &[Number(0), a, Number(0)])?;
+        let read = self.only(Step::Call(d, self.run.read, words))?;
+        self.of_kind(steps, a, BOX, (loaded, read))
+    }
+
+    // A new value for a box.
+    fn set_box(
+        &self,
+        steps: &mut Steps,
+        d: u32,
+        a: LowSource,
+        b: LowSource,
+    ) -> Result<(), OutOfMemory>
+        ensures { OnOk result (Adds steps.old.steps.items steps.new.steps.items (λ k.
+            of_kind self.now.shape a 5 (Store b a 8 (Set d (Number 0) Done))
+            (Call d self.now.run.now.write (Number 0 ∷ a ∷ Number 0 ∷ b ∷ []) Done) k)) }
+    {
+        let mut stored = Steps::new(self.alloc);
+        stored.push(Step::Store(b, a, 8))?;
+        stored.push(Step::Set(d, Number(0)))?;
+        let stored = stored.before(LowCode::Done)?;
+        let words = LowSources::from_slice(self.alloc, &[Number(0), a, Number(0), b])?;
+        let written = self.only(Step::Call(d, self.run.write, words))?;
+        self.of_kind(steps, a, BOX, (stored, written))
+    }
+
+    // A box with a value.
+    fn make_box(&self, steps: &mut Steps, d: u32, a: LowSource) -> Result<(), OutOfMemory>
+        ensures { OnOk result (Adds steps.old.steps.items steps.new.steps.items
+            (λ k. Build d (Number (header 5 1) ∷ a ∷ []) k)) }
+    {
+        let words = LowSources::from_slice(self.alloc, &[Number(header(BOX, 1)?), a])?;
+        steps.push(Step::Build(d, words))
+    }
+
+    // An operator of up to three sources.
+    fn operator(
+        &self,
+        steps: &mut Steps,
+        d: u32,
+        primitive: PrimOp,
+        sources: (LowSource, LowSource, LowSource),
+    ) -> Result<(), OutOfMemory>
+        ensures { OnOk result (Adds steps.old.steps.items steps.new.steps.items
+            (λ k. operator self.now.run.now self.now.shape d primitive sources.0 sources.1 sources.2 k)) }
+    {
+        let (a, b, c) = sources;
+        match primitive {
+            PrimOp::Add => steps.push(Step::Compute(WordOp::Add, d, a, b)),
+            PrimOp::Sub => steps.push(Step::Compute(WordOp::Sub, d, a, b)),
+            PrimOp::Mul => self.call(steps, d, self.run.multiply, &[a, b]),
+            PrimOp::Quot => self.call(steps, d, self.run.divide, &[a, b, Number(0)]),
+            PrimOp::Rem => self.call(steps, d, self.run.divide, &[a, b, Number(1)]),
+            PrimOp::Lt => steps.push(Step::Compute(WordOp::Slt, d, a, b)),
+            PrimOp::Gt => steps.push(Step::Compute(WordOp::Slt, d, b, a)),
+            PrimOp::Le => self.compare_turned(steps, d, b, a),
+            PrimOp::Ge => self.compare_turned(steps, d, a, b),
+            PrimOp::Eq => self.equal(steps, d, a, b),
+            PrimOp::Not => steps.push(Step::Compute(WordOp::Xor, d, a, Number(1))),
+            PrimOp::PrintInt => self.environment(steps, d, 1, a),
+            PrimOp::Newline => self.environment(steps, d, 2, Number(10)),
+            PrimOp::ReadInt => self.environment(steps, d, 7, Number(0)),
+            PrimOp::MakeBox => self.make_box(steps, d, a),
+            PrimOp::Unbox => self.unbox(steps, d, a),
+            PrimOp::BoxSet => self.set_box(steps, d, a, b),
+            PrimOp::MakeVector => self.call(steps, d, self.run.fill, &[a, b]),
+            PrimOp::VectorRef => self.call(steps, d, self.run.read, &[Number(1), a, b]),
+            PrimOp::VectorSet => self.call(steps, d, self.run.write, &[Number(1), a, b, c]),
+            PrimOp::VectorLength => self.call(steps, d, self.run.read, &[Number(2), a, Number(0)]),
+        }
+    }
+
+    // A part of what a source is: of a tuple, or by the procedure for parts.
+    fn part(&self, steps: &mut Steps, d: u32, a: LowSource, i: i64) -> Result<(), OutOfMemory>
+        ensures { OnOk result (Adds steps.old.steps.items steps.new.steps.items
+            (λ k. part self.now.run.now self.now.shape d a i k)) }
+    {
+        let words = [a, Number(i.cast_unsigned()), Number(0), Number(0)];
+        if 0 <= i && i < MOST_PARTS {
+            let loaded = self.only(Step::Load(d, a, 8 + 8 * i as u32))?;
+            let words = LowSources::from_slice(self.alloc, &words)?;
+            let taken = self.only(Step::Call(d, self.run.project, words))?;
+            self.of_kind(steps, a, TUPLE, (loaded, taken))
+        } else {
+            self.call(steps, d, self.run.project, &words)
+        }
+    }
+
+    // A part of a tuple.
+    fn proj(&self, steps: &mut Steps, d: u32, operand: Operand, i: &i64) -> Result<(), OutOfMemory>
+        ensures { OnOk result (Adds steps.old.steps.items steps.new.steps.items (λ k.
+            fetch self.now.shape (operand_word self.now.shape 0) operand (part self.now.run.now self.now.shape d
+            (found self.now.shape (operand_word self.now.shape 0) operand) i.now k))) }
+    {
+        let source = fetch(steps, self.shape, 0, operand)?;
+        self.part(steps, d, source, *i)?;
+        Ok(())
+    }
+
+    // A part of what Dyn holds, and the label to blame.
+    fn proj_dyn(
+        &self,
+        steps: &mut Steps,
+        d: u32,
+        operand: Operand,
+        i: &i64,
+        label: LabelId,
+    ) -> Result<(), OutOfMemory>
+        ensures { OnOk result (Adds steps.old.steps.items steps.new.steps.items (λ k.
+            perform self.now.run.now self.now.shape d (ProjDyn operand i.now label) k)) }
+    {
+        let source = fetch(steps, self.shape, 0, operand)?;
+        let part = Number(i.cast_unsigned());
+        let words = [source, part, Number(1), Number(label.0 as u64)];
+        self.call(steps, d, self.run.project, &words)?;
+        Ok(())
+    }
+
+    // The word that is handed on for a cast.
+    fn cast_word(&self, number: u32) -> u64
+        ensures { result ≡ cast_word (slice_get self.now.run.now.cast_at number) }
+    {
+        match self.run.cast_at.get(number as u64) {
+            Some(word) => *word,
+            None => 0,
+        }
+    }
+
+    /// The value of an operation is put into a word.
+    pub fn perform(
+        &self,
+        steps: &mut Steps,
+        d: u32,
+        operation: &Operation,
+    ) -> Result<(), OutOfMemory>
+        ensures { OnOk result (Adds steps.old.steps.items steps.new.steps.items
+            (λ k. perform self.now.run.now self.now.shape d operation.now k)) }
+    {
+        let shape = self.shape;
+        match operation {
+            Operation::Move(operand) => {
+                let source = fetch(steps, shape, 0, *operand)?;
+                steps.push(Step::Set(d, source))
+            }
+            Operation::Prim(operator, operands) => {
+                let found = fetch_all(self.alloc, steps, shape, 0, operands)?;
+                let sources = (
+                    source_at(&found, 0),
+                    source_at(&found, 1),
+                    source_at(&found, 2),
+                );
+                self.operator(steps, d, *operator, sources)
+            }
+            Operation::Cast(operand, number) => {
+                let source = fetch(steps, shape, 0, *operand)?;
+                self.call(
+                    steps,
+                    d,
+                    self.run.cast,
+                    &[source, Number(self.cast_word(*number))],
+                )
+            }
+            Operation::Tuple(parts) => self.tuple(steps, d, parts),
+            Operation::Proj(operand, i) => self.proj(steps, d, *operand, i),
+            Operation::ProjDyn(operand, i, label) => self.proj_dyn(steps, d, *operand, i, *label),
+        }
+    }
+
+    // A tuple of operands.
+    fn tuple(&self, steps: &mut Steps, d: u32, parts: &Operands) -> Result<(), OutOfMemory>
+        ensures { OnOk result (Adds steps.old.steps.items steps.new.steps.items (λ k.
+            fetch_all self.now.shape 0 parts.now (Build d (Number (header 4 (length parts.now))
+            ∷ found_all self.now.shape 0 parts.now) k))) }
+    {
+        let found = fetch_all(self.alloc, steps, self.shape, 0, parts)?;
+        let first = Number(header(TUPLE, parts.len())?);
+        let mut words = LowSources::from_slice(self.alloc, &[first])?;
+        words.extend(found.as_slice())?;
+        steps.push(Step::Build(d, words))
+    }
+}

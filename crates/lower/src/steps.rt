@@ -1,0 +1,100 @@
+// Code without its end: steps that are gathered one after another, since code begins with its first step.
+
+ghost use Rattle.std.specs.Prelude.{◌≡◌, ◌++◌, ◌∷◌, [], IfOk, OnOk};
+ghost use Rattle.low_ir.specs.Views.{code_of};
+ghost use Rattle.lower.specs.Steps.{put, ahead, Adds};
+
+use grift_base::lists::OutOfMemory;
+use low_ir::code::{LowCode, LowSource, LowSources, WordOp};
+use rv_isa::inst::Cond;
+use std::alloc::Global;
+
+/// A step of code, without what is done next.
+#[derive(Drop)]
+pub enum Step {
+    Set(u32, LowSource),
+    Compute(WordOp, u32, LowSource, LowSource),
+    Load(u32, LowSource, u32),
+    Store(LowSource, LowSource, u32),
+    CodeOf(u32, u32),
+    Build(u32, LowSources),
+    Request(u32, LowSource),
+    Take(LowSource),
+    Environment(u64, LowSource, LowSource, u32),
+    Call(u32, u32, LowSources),
+    CallAt(u32, LowSource, LowSources),
+    If(Cond, LowSource, LowSource, LowCode, LowCode),
+}
+
+impl Step {
+    // The step, and behind it this code.
+    fn put(self, alloc: Global, rest: LowCode) -> Result<LowCode, OutOfMemory>
+        ensures { IfOk result (λ code. code_of code ≡ put self (code_of rest)) }
+    {
+        let rest = Box::new(alloc, rest)?;
+        Ok(match self {
+            Step::Set(d, a) => LowCode::Set(d, a, rest),
+            Step::Compute(op, d, a, b) => LowCode::Compute(op, d, a, b, rest),
+            Step::Load(d, a, offset) => LowCode::Load(d, a, offset, rest),
+            Step::Store(b, a, offset) => LowCode::Store(b, a, offset, rest),
+            Step::CodeOf(d, k) => LowCode::CodeOf(d, k, rest),
+            Step::Build(d, words) => LowCode::Build(d, words, rest),
+            Step::Request(d, n) => LowCode::Request(d, n, rest),
+            Step::Take(n) => LowCode::Take(n, rest),
+            Step::Environment(number, a, b, d) => LowCode::Environment(number, a, b, d, d, rest),
+            Step::Call(d, k, words) => LowCode::Call(d, k, words, rest),
+            Step::CallAt(d, f, words) => LowCode::CallAt(d, f, words, rest),
+            Step::If(cond, a, b, one, other) => {
+                let one = Box::new(alloc, one)?;
+                let other = Box::new(alloc, other)?;
+                LowCode::If(cond, a, b, one, other, rest)
+            }
+        })
+    }
+}
+
+/// Steps in order, the last one last.
+#[derive(Drop)]
+pub struct Steps {
+    alloc: Global,
+    steps: Vec<Step>,
+}
+
+impl Steps {
+    /// No step.
+    pub fn new(alloc: Global) -> Steps
+        ensures { result.steps.items ≡ [] }
+    {
+        Steps {
+            alloc,
+            steps: Vec::new(alloc),
+        }
+    }
+
+    // Adds a step at the end.
+    fn append(&mut self, step: Step) -> Result<(), OutOfMemory>
+        ensures { OnOk result (self.new.steps.items ≡ self.old.steps.items ++ step ∷ []) }
+    {
+        self.steps.push(step)?;
+        Ok(())
+    }
+
+    /// Adds a step at the end.
+    pub fn push(&mut self, step: Step) -> Result<(), OutOfMemory>
+        ensures { OnOk result (Adds self.old.steps.items self.new.steps.items (put step)) }
+    {
+        self.append(step)?;
+        Ok(())
+    }
+
+    /// All steps, and behind them this code.
+    pub fn before(mut self, end: LowCode) -> Result<LowCode, OutOfMemory>
+        ensures { IfOk result (λ code. code_of code ≡ ahead self.steps.items (code_of end)) }
+    {
+        let mut code = end;
+        while let Some(step) = self.steps.pop() {
+            code = step.put(self.alloc, code)?;
+        }
+        Ok(code)
+    }
+}

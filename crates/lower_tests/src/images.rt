@@ -1,0 +1,86 @@
+// What first-order programs come to on the emulator.
+
+ghost use Rattle.rv_machine.specs.Start.{IsRegionSize, IsStackSize};
+
+use flat_ir::programs::FlatProgram;
+use grift_base::lists::{Bytes, OutOfMemory};
+use grift_base::places::LabelTable;
+use grift_base::verdicts::{Answer, AnswerKind};
+use grift_base::words::{Statics, WordList};
+use grift_base::worlds::World;
+use low_ir::code::{LowCode, LowSource};
+use low_ir::programs::{LowProc, LowProgram};
+use lower::lowering::lowered;
+use lower::served::Served;
+use rv_emulator::flat::FlatRam;
+use rv_emulator::machine::Machine;
+use rv_emulator::stops::Stop;
+use rv_select::images::image_of;
+use std::alloc::Global;
+use type_graph::rows::Row;
+
+// The number of the first procedure that serves, for programs of two procedures.
+const FIRST: u32 = 3;
+
+// The words that each procedure that serves takes.
+const TAKEN: [u32; 8] = [2, 4, 8, 3, 4, 2, 2, 3];
+
+// The procedures that serve, none of which is called by these programs.
+fn served(alloc: Global) -> Served {
+    Served {
+        cast: FIRST,
+        project: FIRST + 1,
+        apply: FIRST + 2,
+        read: FIRST + 3,
+        write: FIRST + 4,
+        fill: FIRST + 5,
+        multiply: FIRST + 6,
+        divide: FIRST + 7,
+        cast_at: WordList::new(alloc),
+    }
+}
+
+// The program over words of a program of two procedures, with procedures that serve behind it.
+fn low_program(alloc: Global, flat: &FlatProgram, answer: &Row) -> Result<LowProgram, OutOfMemory> {
+    let mut procs = lowered(alloc, &served(alloc), flat, answer)?;
+    for params in TAKEN {
+        procs.push(LowProc {
+            params,
+            words: params,
+            code: LowCode::Return(LowSource::Number(0)),
+        })?;
+    }
+    Ok(LowProgram {
+        procs,
+        entry: 2,
+        statics: Statics::new(alloc),
+    })
+}
+
+// What a program of two procedures comes to in a region and a stack of these sizes; none where it isn't closed.
+pub(crate) fn comes_to(
+    alloc: Global,
+    flat: &FlatProgram,
+    answer: &Row,
+    region: u64,
+    stack: u64,
+) -> Result<Option<Stop>, OutOfMemory>
+    requires region { IsRegionSize region }
+    requires stack { IsStackSize stack }
+{
+    let low = low_program(alloc, flat, answer)?;
+    if !flat.is_closed() || !low.is_closed() {
+        return Ok(None);
+    }
+    let image = image_of(alloc, &low, &LabelTable::new(alloc))?;
+    let size = image.loaded().len() as u64 + region + stack;
+    let ram = FlatRam::new(alloc, size)?;
+    let world = World::new(alloc, Bytes::new(alloc));
+    let mut machine = Machine::load(alloc, &image, ram, region, stack, world)?;
+    Ok(Some(machine.run(1_000_000_000)))
+}
+
+// The answer of a kind with this word.
+pub(crate) fn answer(kind: AnswerKind, word: i64) -> Option<Stop> {
+    Some(Stop::Ended(Answer { kind, word }))
+}

@@ -1,0 +1,8 @@
+//! Tests of first-order programs that are lowered, as images on the emulator. They stand in a crate of their own, since
+//! the tests of a crate are proved with all of that crate once more.
+#![tactic(auto)]
+
+#[cfg(test)]
+mod images;
+#[cfg(test)]
+mod programs;
