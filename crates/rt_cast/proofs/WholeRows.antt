@@ -58,6 +58,76 @@ free_target TupleType e = e
 free_target RefType e = e
 free_target VecType e = e
 
+-- the words of a closure, a tuple, a box or a vector say nothing of other objects
+free_wanted : (kind : ObjectKind) (count : ℕ) → is_free kind ≡ true → wanted_words kind count ≡ []
+free_wanted Closure count e = refl
+free_wanted Proxy count e = absurd (let z : ⊥ = cc in z)
+free_wanted Dyn count e = absurd (let z : ⊥ = cc in z)
+free_wanted Tuple count e = refl
+free_wanted Boxed count e = refl
+free_wanted Vector count e = refl
+free_wanted FailObject count e = absurd (let z : ⊥ = cc in z)
+free_wanted Fun count e = absurd (let z : ⊥ = cc in z)
+free_wanted Tup count e = absurd (let z : ⊥ = cc in z)
+free_wanted Ref count e = absurd (let z : ⊥ = cc in z)
+free_wanted Vec count e = absurd (let z : ⊥ = cc in z)
+free_wanted InjectObject count e = absurd (let z : ⊥ = cc in z)
+free_wanted ProjectObject count e = absurd (let z : ⊥ = cc in z)
+free_wanted IntType count e = absurd (let z : ⊥ = cc in z)
+free_wanted BoolType count e = absurd (let z : ⊥ = cc in z)
+free_wanted UnitType count e = absurd (let z : ⊥ = cc in z)
+free_wanted DynType count e = absurd (let z : ⊥ = cc in z)
+free_wanted FunType count e = absurd (let z : ⊥ = cc in z)
+free_wanted TupleType count e = absurd (let z : ⊥ = cc in z)
+free_wanted RefType count e = absurd (let z : ⊥ = cc in z)
+free_wanted VecType count e = absurd (let z : ⊥ = cc in z)
+
+free_high : (kind : ObjectKind) (y : ℕ) → is_free kind ≡ true → HasHeight kind 0 y
+free_high Closure y e = tt
+free_high Proxy y e = absurd (let z : ⊥ = cc in z)
+free_high Dyn y e = absurd (let z : ⊥ = cc in z)
+free_high Tuple y e = tt
+free_high Boxed y e = tt
+free_high Vector y e = tt
+free_high FailObject y e = absurd (let z : ⊥ = cc in z)
+free_high Fun y e = absurd (let z : ⊥ = cc in z)
+free_high Tup y e = absurd (let z : ⊥ = cc in z)
+free_high Ref y e = absurd (let z : ⊥ = cc in z)
+free_high Vec y e = absurd (let z : ⊥ = cc in z)
+free_high InjectObject y e = absurd (let z : ⊥ = cc in z)
+free_high ProjectObject y e = absurd (let z : ⊥ = cc in z)
+free_high IntType y e = absurd (let z : ⊥ = cc in z)
+free_high BoolType y e = absurd (let z : ⊥ = cc in z)
+free_high UnitType y e = absurd (let z : ⊥ = cc in z)
+free_high DynType y e = absurd (let z : ⊥ = cc in z)
+free_high FunType y e = absurd (let z : ⊥ = cc in z)
+free_high TupleType y e = absurd (let z : ⊥ = cc in z)
+free_high RefType y e = absurd (let z : ⊥ = cc in z)
+free_high VecType y e = absurd (let z : ⊥ = cc in z)
+
+free_stands : (kind : ObjectKind) → is_free kind ≡ true → is_type kind ≡ false
+free_stands Closure e = refl
+free_stands Proxy e = absurd (let z : ⊥ = cc in z)
+free_stands Dyn e = absurd (let z : ⊥ = cc in z)
+free_stands Tuple e = refl
+free_stands Boxed e = refl
+free_stands Vector e = refl
+free_stands FailObject e = absurd (let z : ⊥ = cc in z)
+free_stands Fun e = absurd (let z : ⊥ = cc in z)
+free_stands Tup e = absurd (let z : ⊥ = cc in z)
+free_stands Ref e = absurd (let z : ⊥ = cc in z)
+free_stands Vec e = absurd (let z : ⊥ = cc in z)
+free_stands InjectObject e = absurd (let z : ⊥ = cc in z)
+free_stands ProjectObject e = absurd (let z : ⊥ = cc in z)
+free_stands IntType e = absurd (let z : ⊥ = cc in z)
+free_stands BoolType e = absurd (let z : ⊥ = cc in z)
+free_stands UnitType e = absurd (let z : ⊥ = cc in z)
+free_stands DynType e = absurd (let z : ⊥ = cc in z)
+free_stands FunType e = absurd (let z : ⊥ = cc in z)
+free_stands TupleType e = absurd (let z : ⊥ = cc in z)
+free_stands RefType e = absurd (let z : ⊥ = cc in z)
+free_stands VecType e = absurd (let z : ⊥ = cc in z)
+
 type_is : (row : TypeRow) → is_type (kind_of_type row) ≡ true
 type_is IntRow = refl
 type_is BoolRow = refl
@@ -242,3 +312,123 @@ module _ (setting : Setting) (l : Layout) (m : Memory) (objects : List Object) (
             },
             sym long,
           )
+
+      -- the same for an object that is told in full
+      as_told : (o other : Object) → o ≡ other → HoldsObject m own o
+          → own + bytes_of o ≤ l.region + bytes_of_all objects
+          → (HoldsObject m own other → own + bytes_of other ≤ l.region + bytes_of_all objects → Here other) → Here o
+      as_told o other e h le go =
+          subst Here (sym e) (go (subst (HoldsObject m own) e h)
+          (subst (λ x. own + bytes_of x ≤ l.region + bytes_of_all objects) e le))
+
+      word_low : (w y : ℕ) → CoercionWord l before w y → y < 65536
+      word_low w y (IdWord z e) = omega (arith, e)
+      word_low w y (ObjectWord kind count ws there c lt) = lt
+
+      whole_here : (o : Object) → HoldsObject m own o → own + bytes_of o ≤ l.region + bytes_of_all objects
+          → IsWhole l before o → Here o
+      whole_here o h le (WholeFail label e) =
+          as_told o (Fixed (header 8 0 1) (label ∷ [])) e h le (λ h2 le2.
+          here (Fixed (header 8 0 1) (label ∷ [])) FailObject 0 1 h2 le2 refl (omega arith) refl refl tt refl refl)
+      whole_here o h le (WholeMiddle kind y ws e width lt highs) =
+          let other = Fixed (header (kind_number kind) (suc y) (length ws)) ws in
+          as_told o other e h le (λ h2 le2.
+          let each = each_wanted ws (own + 8) y (omega (arith, even)) (omega (arith, le2, fits)) h2.1 highs in
+          here other (middle_kind kind) (suc y) (length ws) h2 le2 refl lt refl
+          (middle_count kind (length ws) width.0)
+          (subst (λ x. AreWanted T own (own + 8) x) (sym (middle_wanted kind (length ws))) each.0)
+          (subst (λ v. HasHeight (middle_kind kind) (suc y) v)
+          (sym (ap (λ x. highest T (own + 8) x) (middle_wanted kind (length ws)) ∙ each.1)) (middle_high kind y))
+          (middle_stands kind))
+      whole_here o h le (WholeInject wg wt y type e word held) =
+          let other = Fixed (header 13 (max y (height_in l type)) 2) (wg ∷ wt ∷ []) in
+          as_told o other e h le (λ h2 le2.
+          let first = tells (own + 8) wg (omega (arith, even)) (omega (arith, le2, fits)) h2.1.0 in
+          let second = tells (own + 8 + 8) wt (omega (arith, even)) (omega (arith, le2, fits)) h2.1.1.0 in
+          let g = coercion_is wg y word in
+          let k = type_held wt type held in
+          let a = ap (coercion_height T) first ∙ g.1 in
+          let b = ap (height_behind T) second ∙ k.1 in
+          let lt = word_low wg y word in
+          let tall = types.low type in
+          here other InjectObject (max y (height_in l type)) 2 h2 le2 refl (omega (arith, lt, tall)) refl refl
+          ((wg, first, g.0), ((wt, second, k.0), tt)) (omega (arith, a, b)) refl)
+      whole_here o h le (WholeProject wt label wi y type e held word) =
+          let other = Fixed (header 14 (max (height_in l type) y) 3) (wt ∷ label ∷ wi ∷ []) in
+          as_told o other e h le (λ h2 le2.
+          let first = tells (own + 8) wt (omega (arith, even)) (omega (arith, le2, fits)) h2.1.0 in
+          let second = tells (own + 8 + 8) label (omega (arith, even)) (omega (arith, le2, fits)) h2.1.1.0 in
+          let third = tells (own + 8 + 8 + 8) wi (omega (arith, even)) (omega (arith, le2, fits)) h2.1.1.1.0 in
+          let g = coercion_is wi y word in
+          let k = type_held wt type held in
+          let a = ap (coercion_height T) third ∙ g.1 in
+          let b = ap (height_behind T) first ∙ k.1 in
+          let lt = word_low wi y word in
+          let tall = types.low type in
+          here other ProjectObject (max (height_in l type) y) 3 h2 le2 refl (omega (arith, lt, tall)) refl refl
+          ((wt, first, k.0), ((label, second, tt), ((wi, third, g.0), tt))) (omega (arith, a, b)) refl)
+      whole_here o h le (WholeProxy wa wc kind y ws e solid there lower) =
+          let other = Fixed (header 2 0 2) (wa ∷ wc ∷ []) in
+          as_told o other e h le (λ h2 le2.
+          let first = tells (own + 8) wa (omega (arith, even)) (omega (arith, le2, fits)) h2.1.0 in
+          let second = tells (own + 8 + 8) wc (omega (arith, even)) (omega (arith, le2, fits)) h2.1.1.0 in
+          let middle = Fixed (header (kind_number kind) y (length ws)) ws in
+          here other Proxy 0 2 h2 le2 refl (omega arith) refl refl
+          ((wa, first, address own wa is_target solid.kind 0 solid.count solid.object
+          (stands before os is wa solid.object solid.there) solid.head (omega arith)
+          (free_target solid.kind solid.free)),
+          ((wc, second, address own wc is_middle (middle_kind kind) y (length ws) middle
+          (stands before os is wc middle there) refl (omega (arith, lower, low)) (middle_is kind)), tt)) tt refl)
+      whole_here o h le (WholeDyn wt wx type e held) =
+          let other = Fixed (header 3 0 2) (wt ∷ wx ∷ []) in
+          as_told o other e h le (λ h2 le2.
+          here other Dyn 0 2 h2 le2 refl (omega arith) refl refl tt tt refl)
+      whole_here o h le (WholeOther kind count e long free allowed) =
+          here o kind 0 count h le e (omega arith) long allowed
+          (subst (λ x. AreWanted T own (own + 8) x) (sym (free_wanted kind count free)) tt)
+          (free_high kind (highest T (own + 8) (wanted_words kind count)) free) (free_stands kind free)
+
+  size_even : (o : Object) → (n : ℕ) × (bytes_of o ≡ 8 * n)
+  size_even (Fixed header words) = (1 + length words, omega arith)
+  size_even (Cell header count) = (1 + count, omega arith)
+
+  -- the objects from here on fill the range to the end
+  fills : (before os : List Object) (is : objects ≡ before ++ os) → (l.region + bytes_of_all before) % 8 ≡ 0
+      → Holds m (l.region + bytes_of_all before) os → Wholes l before os
+      → (headers : List Header)
+      × Fills T Region (l.region + bytes_of_all objects) (l.region + bytes_of_all before) headers
+      (l.region + bytes_of_all objects)
+  fills before [] is even h w =
+      let all : bytes_of_all objects ≡ bytes_of_all (before ++ []) = ap bytes_of_all is in
+      let same = ap bytes_of_all (append-nil before) in
+      ([], omega (arith, all, same))
+  fills before (o ∷ os) is even h w =
+      let all : bytes_of_all objects ≡ bytes_of_all before + bytes_of_all (o ∷ os) =
+          ap bytes_of_all is ∙ bytes_append before (o ∷ os) in
+      let one = whole_here before (o ∷ os) is even o h.0 (omega (arith, all)) w.0 in
+      let next : bytes_of_all (before ++ o ∷ []) ≡ bytes_of_all before + bytes_of_all (o ∷ []) =
+          bytes_append before (o ∷ []) in
+      let size = size_even o in
+      let at : l.region + bytes_of_all before + bytes_of o ≡ l.region + bytes_of_all (before ++ o ∷ []) =
+          omega (arith, next) in
+      let rest =
+          fills (before ++ o ∷ []) os (is ∙ sym (append_assoc before (o ∷ []) os)) (omega (arith, even, next, size.1))
+          (subst (λ n. Holds m n os) at h.1) w.1 in
+      let there : l.region + bytes_of_all (before ++ o ∷ []) ≡ l.region + bytes_of_all before + (8 + 8 * one.0.count) =
+          sym at ∙ ap (λ n. l.region + bytes_of_all before + n) (sym one.2) in
+      (one.0 ∷ rest.0, (one.1, subst (λ n. Fills T Region (l.region + bytes_of_all objects) n rest.0
+      (l.region + bytes_of_all objects)) there rest.1))
+
+-- the region is filled by whole objects
+pub filled_rows : (setting : Setting) (l : Layout) (objects : List Object) (h : Heap) → Placed setting l → TypesStand l
+    → l.tallest ≤ 65534 → Filled setting l objects h → IsFilled setting.top h.memory l.region h.alloc
+filled_rows setting l objects h placed types low f =
+    let e : l.region + 0 ≡ l.region = omega arith in
+    let all =
+        fills setting l h.memory objects placed types low f.statics_stand f.objects_stand
+        (subst (λ n. n ≤ setting.top) f.ends f.fits) [] objects refl
+        (subst (λ n. n % 8 ≡ 0) (sym e) placed.even_region) (subst (λ n. Holds h.memory n objects) (sym e) f.objects_stand)
+        f.whole in
+    subst (λ n. IsFilled setting.top h.memory l.region n) (sym f.ends)
+    (all.0, subst (λ n. Fills (telling setting.top h.memory) Region (l.region + bytes_of_all objects) n all.0
+    (l.region + bytes_of_all objects)) e all.1)
