@@ -104,11 +104,9 @@ module _ {V : Type 0} (reading : Halt → Ending V) (setting : Setting) (l : Lay
       object = h.solid.object;
       there = there_still l old new w h.solid.object g h.solid.there;
       kind = h.solid.kind;
-      height = h.solid.height;
       count = h.solid.count;
       head = h.solid.head;
-      low = h.solid.low;
-      other = h.solid.other;
+      free = h.solid.free;
     };
   }
 

@@ -1,5 +1,5 @@
 -- What cast does.
-use Rattle.std.proofs.Common.{◌≡◌, inl, inr, ℕ, suc, ◌+◌, ◌*◌, ◌^◌, ◌<◌, ◌≤◌, true}
+use Rattle.std.proofs.Common.{true, false, ◌≡◌, inl, inr, ℕ, suc, ◌+◌, ◌*◌, ◌^◌, ◌<◌, ◌≤◌}
 use Rattle.std.proofs.Common.{List, [], ◌∷◌, ◌++◌, Some, refl, ap₂}
 use Rattle.std.proofs.Common.{subst, arith}
 use Rattle.std.specs.Prelude.{nat_lt, length}
@@ -20,6 +20,13 @@ use Rattle.coercion_norm.specs.Normal.{IsNormal}
 use Rattle.coercion_norm.proofs.Public.{compose_height, coerce_height, compose_normal, coerce_normal, bound_from_height}
 use Rattle.coercion_norm.proofs.Public.{height_from_bound}
 use Rattle.rt_cast.specs.Costs.{compose_cost, cast_cost}
+use Rattle.object_layout.specs.declared.kinds.Kind.{Kind as ObjectKind}
+use Rattle.object_layout.specs.declared.kinds.Kind.TheVariants.{Closure, Proxy, Dyn, Tuple, Boxed, Vector, Fun, Tup}
+use Rattle.object_layout.specs.declared.kinds.Kind.TheVariants.{Ref, Vec, IntType, BoolType, UnitType, DynType}
+use Rattle.object_layout.specs.declared.kinds.Kind.TheVariants.{FunType, TupleType, RefType, VecType}
+use Rattle.object_layout.specs.declared.kinds.Kind.TheVariants.{Fail as FailObject, Inject as InjectObject}
+use Rattle.object_layout.specs.declared.kinds.Kind.TheVariants.{Project as ProjectObject}
+use Rattle.object_layout.specs.Kinds.{kind_number as number_of, is_free}
 use Rattle.rt_cast.specs.Objects.{Object, Fixed, header_of}
 use Rattle.rt_cast.specs.Held.{There, header, kind_number, Held}
 use Rattle.rt_cast.specs.WholeObjects.{IsSolid, WholeProxy, WholeDyn}
@@ -40,10 +47,58 @@ use Rattle.rt_cast.specs.Carried.{CarriedBy, IsLow}
 use Rattle.rt_cast.specs.MergedValues.{Merged, Base, Solid, Proxied, InDyn, Outcome, Stuck, Gives as GivesValue, Blames}
 use Rattle.rt_cast.proofs.CastCases.{wrap, rewrap, apply_plain, apply_final, open_dyn, apply}
 use Rattle.rt_cast.specs.MergedValues.{then_outcome}
+use Rattle.std.specs.Prelude.{◌==◌}
 use Rattle.rt_cast.proofs.Walks.{Walk}
 use Rattle.rt_cast.specs.Held.{rows_in, height_in}
 use Rattle.rt_cast.specs.CastCodes.{cast_code, cast_kinds}
 use Rattle.rt_cast.proofs.CoerceRuns.{all_cast}
+
+small_kind : (kind : ObjectKind) → number_of kind < 256
+small_kind Closure = omega arith
+small_kind Proxy = omega arith
+small_kind Dyn = omega arith
+small_kind Tuple = omega arith
+small_kind Boxed = omega arith
+small_kind Vector = omega arith
+small_kind FailObject = omega arith
+small_kind Fun = omega arith
+small_kind Tup = omega arith
+small_kind Ref = omega arith
+small_kind Vec = omega arith
+small_kind InjectObject = omega arith
+small_kind ProjectObject = omega arith
+small_kind IntType = omega arith
+small_kind BoolType = omega arith
+small_kind UnitType = omega arith
+small_kind DynType = omega arith
+small_kind FunType = omega arith
+small_kind TupleType = omega arith
+small_kind RefType = omega arith
+small_kind VecType = omega arith
+
+-- a closure, a tuple, a box or a vector is no proxy
+free_no_proxy : (kind : ObjectKind) → is_free kind ≡ true → (number_of kind == 2) ≡ false
+free_no_proxy Closure e = refl
+free_no_proxy Proxy e = absurd (let z : ⊥ = cc in z)
+free_no_proxy Dyn e = refl
+free_no_proxy Tuple e = refl
+free_no_proxy Boxed e = refl
+free_no_proxy Vector e = refl
+free_no_proxy FailObject e = refl
+free_no_proxy Fun e = refl
+free_no_proxy Tup e = refl
+free_no_proxy Ref e = refl
+free_no_proxy Vec e = refl
+free_no_proxy InjectObject e = refl
+free_no_proxy ProjectObject e = refl
+free_no_proxy IntType e = refl
+free_no_proxy BoolType e = refl
+free_no_proxy UnitType e = refl
+free_no_proxy DynType e = refl
+free_no_proxy FunType e = refl
+free_no_proxy TupleType e = refl
+free_no_proxy RefType e = refl
+free_no_proxy VecType e = refl
 
 zero_more : (n : ℕ) → n ≡ n + 0
 zero_more n = omega arith
@@ -231,11 +286,11 @@ module _ {V : Type 0} (walk : Walk V) (low : walk.l.tallest ≤ 65534) (A : Type
       (λ rests. if_false walk objects fine (kind_number kind) 8 refl refl (no_middle kind 8 (inl refl))
       (if_false walk objects fine (kind_number kind) 13 refl refl (no_middle kind 13 (inr (omega arith)))
       (if_false walk objects fine (kind_number kind) 14 refl refl (no_middle kind 14 (inr (omega arith)))
-      (loads_at walk objects fine wv (header s.kind s.height s.count) refl (subst (λ x. WordThere walk h (wv + 0) x)
+      (loads_at walk objects fine wv (header (number_of s.kind) 0 s.count) refl (subst (λ x. WordThere walk h (wv + 0) x)
       s.head (subst (λ m. WordThere walk h m (header_of s.object)) (zero_more wv) z)) refl
-      (computes walk objects fine (header s.kind s.height s.count) 255 s.kind refl refl (kind_read s.kind s.height
-      s.count s.low) refl
-      (if_false walk objects fine s.kind 2 refl refl s.other
+      (computes walk objects fine (header (number_of s.kind) 0 s.count) 255 (number_of s.kind) refl refl (kind_read (number_of s.kind) 0
+      s.count (small_kind s.kind)) refl
+      (if_false walk objects fine (number_of s.kind) 2 refl refl (free_no_proxy s.kind s.free)
       (proxied a kind cs nc lc objects objects (grows_not objects) h fine waiting 10 _ _ (Word 0) (Word 1) wv wc refl
       refl refl hv hc go))))))))
       (omega arith, omega arith)

@@ -383,7 +383,7 @@ module _ {V : Type 0} (walk : Walk V) where
           (type_small objects h fine hd.1 kept hd.4, tt),
         ),
       ) (WholeInject w hd.1 y kept (ap (λ n. Fixed (header 13 n 2)
-      (w ∷ hd.1 ∷ [])) (no_max y (th kept))) (coercion_word walk.l new e w held) (type_still objects new hd.1 kept
+      (w ∷ hd.1 ∷ [])) (no_max y (th kept))) (coercion_word walk.l new e w (omega (arith, low)) held) (type_still objects new hd.1 kept
       hd.4)) refl
       (λ h'' fine''. let later = new ++ Fixed (header 13 H 2) (w ∷ hd.1 ∷ []) ∷ [] in go later h'' h'.alloc 12 _ _
       (Word 10) (grows_on objects new later grows (one_more walk new (Fixed (header 13 H 2) (w ∷ hd.1 ∷ []))))
@@ -459,7 +459,7 @@ module _ {V : Type 0} (walk : Walk V) where
       ) (WholeProject hc.0 label
       (final_word e w) y wanted (ap (λ n. Fixed (header 14 n 3) (hc.0 ∷ label ∷ final_word e w ∷ []))
       (no_max (th wanted) y)) (type_still objects new hc.0 wanted hc.3) (coercion_word walk.l new (final e)
-      (final_word e w) (final_held walk.l new e w held))) refl
+      (final_word e w) (omega (arith, low)) (final_held walk.l new e w held))) refl
       (λ h'' fine''. let later = new ++ Fixed (header 14 H 3) (hc.0 ∷ label ∷ final_word e w ∷ []) ∷ [] in go later h''
       h'.alloc 12 _ _ (Word 10) (grows_on objects new later grows (one_more walk new (Fixed (header 14 H 3)
       (hc.0 ∷ label ∷ final_word e w ∷ [])))) fine'' (

@@ -20,3 +20,4 @@ mod CastReaching
 mod ProjectRuns
 mod ProjectReaching
 mod Samples
+mod WholeRows

@@ -22,6 +22,10 @@ use Rattle.rt_cast.specs.Costs.{parts_cost}
 use Rattle.rt_cast.specs.Objects.{Object, Fixed, bytes_of_all}
 use Rattle.coercion_norm.specs.Nodes.{KindHasWidth}
 use Rattle.rt_cast.specs.Held.{HasWidth, Layout, There, header, kind_number, Held, AreHeld, height_in}
+use Rattle.object_layout.specs.declared.kinds.Kind.TheVariants.{Fail as FailObject, Inject as InjectObject}
+use Rattle.object_layout.specs.declared.kinds.Kind.TheVariants.{Project as ProjectObject}
+use Rattle.object_layout.specs.Kinds.{is_coercion}
+use Rattle.coercion_norm.specs.StaticObjects.{middle_kind}
 use Rattle.rt_cast.specs.WholeObjects.{CoercionWord, IdWord, ObjectWord, Highest, WholeMiddle}
 use Rattle.rt_cast.specs.PartCodes.{results, finish_code, parts_code, middle_code, raise_code, proc}
 use Rattle.rt_cast.proofs.Objects.{object_behind, chosen_true, AreSmall}
@@ -197,32 +201,33 @@ is_id_word l objects (Middle kind parts) w far h = let x = far w _ _ h.1 in grin
 is_id_word l objects (Inject g kept) w far h = let x = far w _ _ h.2 in grind (arith, x)
 is_id_word l objects (Project wanted label i) w far h = let x = far w _ _ h.2 in grind (arith, x)
 
-pub kind_range : (kind : Kind) → (8 ≤ kind_number kind) × (kind_number kind ≤ 14)
-kind_range FunKind = (omega arith, omega arith)
-kind_range TupKind = (omega arith, omega arith)
-kind_range RefKind = (omega arith, omega arith)
-kind_range VecKind = (omega arith, omega arith)
+middle_coercion : (kind : Kind) → is_coercion (middle_kind kind) ≡ true
+middle_coercion FunKind = refl
+middle_coercion TupKind = refl
+middle_coercion RefKind = refl
+middle_coercion VecKind = refl
 
-pub coercion_word : (l : Layout) (objects : List Object) (c : Coercion) (w : ℕ) → Held l objects c w → CoercionWord l
-    objects w (coercion_height (height_in l) c)
-coercion_word l objects Id w h = IdWord h refl
-coercion_word l objects (Fail label) w h = ObjectWord 8 1 (label ∷ []) h (omega arith) (omega arith)
-coercion_word l objects (Middle kind parts) w h = let z = kind_range kind in ObjectWord (kind_number kind) (length h.0)
-    h.0 h.1 z.0 z.1
-coercion_word l objects (Inject g kept) w h = ObjectWord 13 2 (h.0 ∷ h.1 ∷ []) h.2 (omega arith) (omega arith)
-coercion_word l objects (Project wanted label i) w h = ObjectWord 14 3 (h.0 ∷ label ∷ h.1 ∷ []) h.2 (omega arith)
-    (omega arith)
+pub coercion_word : (l : Layout) (objects : List Object) (c : Coercion) (w : ℕ)
+    → coercion_height (height_in l) c < 65536 → Held l objects c w
+    → CoercionWord l objects w (coercion_height (height_in l) c)
+coercion_word l objects Id w lt h = IdWord h refl
+coercion_word l objects (Fail label) w lt h = ObjectWord FailObject 1 (label ∷ []) h refl lt
+coercion_word l objects (Middle kind parts) w lt h =
+    ObjectWord (middle_kind kind) (length h.0) h.0 h.1 (middle_coercion kind) lt
+coercion_word l objects (Inject g kept) w lt h = ObjectWord InjectObject 2 (h.0 ∷ h.1 ∷ []) h.2 refl lt
+coercion_word l objects (Project wanted label i) w lt h =
+    ObjectWord ProjectObject 3 (h.0 ∷ label ∷ h.1 ∷ []) h.2 refl lt
 
-highest_words : (l : Layout) (objects : List Object) (cs : Coercions) (ws : List ℕ) → AreHeld l objects cs ws
-    → Highest l objects ws (highest (height_in l) cs)
-highest_words l objects NoCoercions [] h = refl
-highest_words l objects NoCoercions (w ∷ ws) h = absurd h
-highest_words l objects (CoercionThen c cs) [] h = absurd h
-highest_words l objects (CoercionThen c cs) (w ∷ ws) h = (
+highest_words : (l : Layout) (objects : List Object) (cs : Coercions) (ws : List ℕ)
+    → highest (height_in l) cs < 65536 → AreHeld l objects cs ws → Highest l objects ws (highest (height_in l) cs)
+highest_words l objects NoCoercions [] lt h = refl
+highest_words l objects NoCoercions (w ∷ ws) lt h = absurd h
+highest_words l objects (CoercionThen c cs) [] lt h = absurd h
+highest_words l objects (CoercionThen c cs) (w ∷ ws) lt h = (
   coercion_height (height_in l) c,
   highest (height_in l) cs,
-  coercion_word l objects c w h.0,
-  highest_words l objects cs ws h.1,
+  coercion_word l objects c w (omega arith) h.0,
+  highest_words l objects cs ws (omega arith) h.1,
   refl,
 )
 
@@ -408,8 +413,9 @@ module _ {V : Type 0} (walk : Walk V) where
                 all_small now h fine at.W total 0 (λ i lt. at.held i (omega arith)),
               )
               (WholeMiddle kind m ws (ap (λ n. Fixed (header (kind_number kind) (suc m) n) ws) (sym long))
-              (subst (HasWidth walk.l kind) (sym long) wide) (subst (Highest walk.l now ws) (omega (arith, tall))
-              (highest_words walk.l now (list_of E total 0) ws (all_held now at.W total 0 (λ i lt. at.held i
+              (subst (HasWidth walk.l kind) (sym long) wide) (omega (arith, lt))
+              (subst (Highest walk.l now ws) (omega (arith, tall))
+              (highest_words walk.l now (list_of E total 0) ws (omega (arith, tall, lt)) (all_held now at.W total 0 (λ i lt. at.held i
               (omega arith)))))) refl
               (λ h' fine'. go (now ++ Fixed head ws ∷ []) h' h.alloc 24 _ _ (Word 7) (grows_on objects now (now ++ Fixed
               head ws ∷ []) grows (one_more now (Fixed head ws))) fine' (subst (λ c. Held walk.l (now ++ Fixed head

@@ -10,6 +10,8 @@ use Rattle.coercion_norm.specs.Coercions.{Coercion, Coercions, Id, Fail, Middle}
 use Rattle.coercion_norm.specs.Coercions.{Inject, Project, NoCoercions, CoercionThen, rows_of, kind_of, slots_of}
 use Rattle.coercion_norm.specs.Heights.{coercion_height, AreHeights}
 use Rattle.coercion_norm.specs.Nodes.{KindHasWidth}
+use Rattle.coercion_norm.specs.StaticObjects.{middle_kind, type_kind as kind_of_type}
+use Rattle.object_layout.specs.Kinds.{kind_number as number_of}
 use Rattle.rt_cast.specs.Objects.{Object, Fixed, object_at}
 
 -- what each run is told: the types and their addresses, how many parts a coercion has at most, the static objects,
@@ -28,20 +30,10 @@ abbrev pub header : ℕ → ℕ → ℕ → ℕ
 header kind height count = kind + height * 65536 + count * 4294967296
 
 abbrev pub type_kind : TypeRow → ℕ
-type_kind IntRow = 16
-type_kind BoolRow = 17
-type_kind UnitRow = 18
-type_kind DynRow = 19
-type_kind (FunRow parameters answer) = 20
-type_kind (TupleRow parts) = 21
-type_kind (RefRow content) = 22
-type_kind (VectRow content) = 23
+type_kind row = number_of (kind_of_type row)
 
 abbrev pub kind_number : Kind → ℕ
-kind_number FunKind = 9
-kind_number TupKind = 10
-kind_number RefKind = 11
-kind_number VecKind = 12
+kind_number kind = number_of (middle_kind kind)
 
 module _ (l : Layout) where
   -- the row of a type

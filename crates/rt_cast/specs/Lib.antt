@@ -7,6 +7,7 @@ pub mod CoerceCodes
 pub mod CastCodes
 pub mod Procs
 pub mod States
+pub mod ToldRows
 pub mod Costs
 pub mod MergedValues
 pub mod PartValues

@@ -3,27 +3,26 @@
 use Rattle.std.specs.Prelude.{max, ◌==◌, ◌≡◌, ℕ, suc, ◌+◌, ◌*◌, ◌<◌, ◌≤◌, true, false, List, [], ◌∷◌, ◌++◌, length}
 use Rattle.coercion_norm.specs.declared.middles.MiddleKind.{MiddleKind as Kind}
 use Rattle.object_layout.specs.declared.kinds.Kind.{Kind as ObjectKind}
-use Rattle.object_layout.specs.Kinds.{kind_number as number_of, is_free, allows_count}
+use Rattle.object_layout.specs.Kinds.{kind_number as number_of, is_free, is_coercion, allows_count}
 use Rattle.rt_cast.specs.Objects.{Object, Fixed, header_of, bytes_of}
 use Rattle.rt_cast.specs.Held.{Layout, There, HoldsType, header, kind_number, height_in, HasWidth}
 
 module _ (l : Layout) (objects : List Object) where
-  -- an object that is no proxy
+  -- a closure, a tuple, a box or a vector
   pub record IsSolid (w : ℕ) : Type 0 where
     pub object : Object
     pub there : There l objects w object
-    pub kind : ℕ
-    pub height : ℕ
+    pub kind : ObjectKind
     pub count : ℕ
-    pub head : header_of object ≡ header kind height count
-    pub low : kind < 256
-    pub other : (kind == 2) ≡ false
+    pub head : header_of object ≡ header (number_of kind) 0 count
+    pub free : is_free kind ≡ true
 
   -- the word is 0, or a coercion's of this height
   pub data CoercionWord (w y : ℕ) : Type 0 where
     IdWord : w ≡ 0 → y ≡ 0 → CoercionWord w y
-    ObjectWord : (kind count : ℕ) (ws : List ℕ) → There l objects w (Fixed (header kind y count) ws) → 8 ≤ kind
-        → kind ≤ 14 → CoercionWord w y
+    ObjectWord : (kind : ObjectKind) (count : ℕ) (ws : List ℕ)
+        → There l objects w (Fixed (header (number_of kind) y count) ws) → is_coercion kind ≡ true → y < 65536
+        → CoercionWord w y
 
   -- these words are coercions', the highest of this height
   abbrev pub Highest : List ℕ → ℕ → Type 0
@@ -34,7 +33,7 @@ module _ (l : Layout) (objects : List Object) where
   pub data IsWhole (o : Object) : Type 0 where
     WholeFail : (label : ℕ) → o ≡ Fixed (header 8 0 1) (label ∷ []) → IsWhole o
     WholeMiddle : (kind : Kind) (y : ℕ) (ws : List ℕ)
-        → o ≡ Fixed (header (kind_number kind) (suc y) (length ws)) ws → HasWidth l kind (length ws) → Highest ws y
+        → o ≡ Fixed (header (kind_number kind) (suc y) (length ws)) ws → HasWidth l kind (length ws) → suc y < 65536 → Highest ws y
         → IsWhole o
     WholeInject : (wg wt y type : ℕ) → o ≡ Fixed (header 13 (max y (height_in l type)) 2) (wg ∷ wt ∷ [])
         → CoercionWord wg y → HoldsType l objects wt type → IsWhole o

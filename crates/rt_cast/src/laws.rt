@@ -13,13 +13,14 @@ ghost use Rattle.coercion_norm.specs.CoercionTables.{IsSound, cast_of, compositi
 ghost use Rattle.coercion_norm.specs.Heights.{coercion_height};
 ghost use Rattle.rt_cast.specs.Costs.{coerce_cost, compose_cost, cast_cost, tuple_cost, project_cost};
 ghost use Rattle.rt_cast.specs.Objects.{Object};
-ghost use Rattle.rt_cast.specs.Held.{Layout, Held, HoldsType, height_in};
+ghost use Rattle.rt_cast.specs.Held.{Layout, Held, HoldsType, TypesStand, height_in};
 ghost use Rattle.rt_cast.specs.Procs.{Stand, coerce_proc, compose_proc, cast_proc, project_proc};
 ghost use Rattle.rt_cast.specs.Procs.{cast_procs};
 ghost use Rattle.rt_cast.specs.PartValues.{part_value, dyn_part_value};
 ghost use Rattle.rt_cast.specs.MergedValues.{Merged, Outcome, Stuck, cast_value};
 ghost use Rattle.rt_cast.specs.Carried.{IsLow, IsVery, Carries, HaveParts, ComesToOutcome};
-ghost use Rattle.rt_cast.specs.States.{Filled, IsReady, ComesToHeld, heap_of};
+ghost use Rattle.rt_cast.specs.States.{Heap, Placed, Filled, IsReady, ComesToHeld, heap_of};
+ghost use Rattle.rt_cast.specs.ToldRows.{IsFilled};
 
 /// In any storage of whole objects that holds two coercions, and whatever waits, compose comes to a return of a word
 /// that holds their composition, or the region is exhausted. Nothing that was there changes, whole objects fill the
@@ -83,6 +84,14 @@ pub fn parts_in_dyn_are_answered<V>()
         (wv k label : ℕ) → dyn_part_value head parts l.types k label u ≡ r → (r ≡ Stuck → ⊥) → Carries l objects u wv
         → ComesToOutcome reading setting l s (IsVery l) objects (project_proc first) (wv ∷ k ∷ 0 ∷ label ∷ []) r
         (project_cost l.width l.tallest) (4 * l.tallest + 7) }
+{}
+
+/// What the other laws say of every state on the way is what a walk of the region asks for: whole objects fill the range
+/// from its start to the allocation word without gaps, in what the memory tells.
+pub fn objects_fill_the_region()
+    ensures { (setting : Setting) (l : Layout) (objects : List Object) (h : Heap) → Placed setting l → TypesStand l
+        → l.tallest ≤ MOST_HEIGHT → Filled setting l objects h
+        → IsFilled setting.top h.memory l.region h.alloc }
 {}
 
 /// The procedures are closed wherever they stand in a program, so each calls only procedures of the set, and hands on
