@@ -118,12 +118,7 @@ fn casts_stand_where_types_differ(rt: HostRuntime) -> Result<(), Fail> {
 
 #[test]
 fn casts_stand_in_the_order_in_which_they_are_formed(rt: HostRuntime) -> Result<(), Fail> {
-    let alloc = rt.alloc();
-    let program = parse_program(alloc, &read(alloc, b"(: (: #t Dyn) Int)")?)?;
-    let mut types = TypeTable::new(alloc)?;
-    let Ok(elab) = insert(alloc, &program, &mut types) else {
-        return Err(Fail::from("the program is refused"));
-    };
+    let done = elaborate_text(rt.alloc(), b"(: (: #t Dyn) Int)")?;
     let first = CastEntry::Cast {
         label: LabelId(0),
         from: TypeId(0),
@@ -137,8 +132,8 @@ fn casts_stand_in_the_order_in_which_they_are_formed(rt: HostRuntime) -> Result<
         inside: Some(0),
     };
     let labels = [Pos { line: 1, col: 4 }, Pos { line: 1, col: 1 }];
-    assert_eq!(rt; elab.ty, TypeId(2));
-    assert_eq!(rt; elab.labels.as_slice(), labels.as_slice());
-    assert_eq!(rt; elab.casts.as_slice(), [first, second].as_slice());
+    assert_eq!(rt; done.elab.ty, TypeId(2));
+    assert_eq!(rt; done.elab.labels.as_slice(), labels.as_slice());
+    assert_eq!(rt; done.elab.casts.as_slice(), [first, second].as_slice());
     Ok(())
 }
