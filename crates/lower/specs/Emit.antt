@@ -136,15 +136,15 @@ module _ (run : Served) where
   operator s d VectorSet a b c k = CallOf d run.write (Number 1 ∷ a ∷ b ∷ c ∷ []) k
   operator s d VectorLength a b c k = CallOf d run.read (Number 2 ∷ a ∷ Number 0 ∷ []) k
 
-  -- a part of what a source is: of a tuple, or by the procedure, which is told whether the part is one of Dyn's
+  -- a part of what a source is: of a tuple, or by the procedure, whose third word is 1 for a tuple and 0 for Dyn
   abbrev pub part : Shape → ℕ → LowSource → ℤ → Code → Code
   part s d a (pos i) k =
       if nat_lt i 8
       then of_kind s a 4 (Load d a (8 + 8 * i) Done)
-      (CallOf d run.project (a ∷ Number i ∷ Number 0 ∷ Number 0 ∷ []) Done) k
-      else CallOf d run.project (a ∷ Number (cast_unsigned w64 (pos i)) ∷ Number 0 ∷ Number 0 ∷ []) k
+      (CallOf d run.project (a ∷ Number i ∷ Number 1 ∷ Number 0 ∷ []) Done) k
+      else CallOf d run.project (a ∷ Number (cast_unsigned w64 (pos i)) ∷ Number 1 ∷ Number 0 ∷ []) k
   part s d a (negsuc i) k =
-      CallOf d run.project (a ∷ Number (cast_unsigned w64 (negsuc i)) ∷ Number 0 ∷ Number 0 ∷ []) k
+      CallOf d run.project (a ∷ Number (cast_unsigned w64 (negsuc i)) ∷ Number 1 ∷ Number 0 ∷ []) k
 
   -- the value of an operation is put into a word
   abbrev pub perform : Shape → ℕ → Operation → Code → Code
@@ -161,7 +161,7 @@ module _ (run : Served) where
   perform s d (ProjDyn o i label) k =
       fetch s (operand_word s 0) o (
       CallOf d run.project
-      (found s (operand_word s 0) o ∷ Number (cast_unsigned w64 i) ∷ Number 1 ∷ Number label.0 ∷ []) k)
+      (found s (operand_word s 0) o ∷ Number (cast_unsigned w64 i) ∷ Number 0 ∷ Number label.0 ∷ []) k)
 
 -- ---- groups
 

@@ -236,7 +236,7 @@ impl Emitter<'_> {
         ensures { OnOk result (Adds steps.old.steps.items steps.new.steps.items
             (λ k. part self.now.run.now self.now.shape d a i k)) }
     {
-        let words = [a, Number(i.cast_unsigned()), Number(0), Number(0)];
+        let words = [a, Number(i.cast_unsigned()), Number(1), Number(0)];
         if 0 <= i && i < MOST_PARTS {
             let loaded = self.only(Step::Load(d, a, 8 + 8 * i as u32))?;
             let words = LowSources::from_slice(self.alloc, &words)?;
@@ -272,7 +272,7 @@ impl Emitter<'_> {
     {
         let source = fetch(steps, self.shape, 0, operand)?;
         let part = Number(i.cast_unsigned());
-        let words = [source, part, Number(1), Number(label.0 as u64)];
+        let words = [source, part, Number(0), Number(label.0 as u64)];
         self.call(steps, d, self.run.project, &words)?;
         Ok(())
     }
