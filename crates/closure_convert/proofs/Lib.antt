@@ -8,3 +8,4 @@ mod Standing
 mod Fine
 mod Closing
 mod Typed
+mod Examples
