@@ -1,9 +1,11 @@
 -- Lists of whole objects are rows of whole objects in what the memory tells.
 use Rattle.std.proofs.Common.{◌≡◌, ◌⊎◌, inl, inr, ℕ, zero, suc, ◌+◌, ◌*◌, ◌^◌, ◌%◌, ◌<◌, ◌≤◌, Bool, true, false, max}
-use Rattle.std.proofs.Common.{List, [], ◌∷◌, ◌++◌, length, replicate, Option, Some, None, refl, sym, ap, ap₂, ◌∙◌, subst}
+use Rattle.std.proofs.Common.{List, [], ◌∷◌, ◌++◌, length, replicate, Option, Some, None, refl, sym, ap, ap₂, ◌∙◌}
+use Rattle.std.proofs.Common.{subst}
 use Rattle.std.proofs.Common.{append_assoc, append-nil, map, arith}
 use Rattle.std.specs.Prelude.{◌==◌, ◌&&◌, nat_le, if◌then◌else◌}
-use Rattle.grift_base.specs.Types.{TypeRow, IntRow, BoolRow, UnitRow, DynRow, FunRow, TupleRow, RefRow, VectRow, parts_of}
+use Rattle.grift_base.specs.Types.{TypeRow, IntRow, BoolRow, UnitRow, DynRow, FunRow, TupleRow, RefRow, VectRow}
+use Rattle.grift_base.specs.Types.{parts_of}
 use Rattle.rv_machine.specs.Memory.{Memory, load_bytes}
 use Rattle.low_ir.specs.Run.{Setting}
 use Rattle.coercion_norm.specs.declared.middles.MiddleKind.{MiddleKind as Kind}
@@ -19,11 +21,13 @@ use Rattle.object_layout.specs.declared.kinds.Kind.TheVariants.{Fail as FailObje
 use Rattle.object_layout.specs.declared.kinds.Kind.TheVariants.{Project as ProjectObject, Fun, Tup, Ref, Vec}
 use Rattle.object_layout.specs.declared.kinds.Kind.TheVariants.{IntType, BoolType, UnitType, DynType, FunType}
 use Rattle.object_layout.specs.declared.kinds.Kind.TheVariants.{TupleType, RefType, VecType}
-use Rattle.object_layout.specs.declared.kinds.Wanted.TheVariants.{Coercion, TypeAddress, Target, Middle as MiddleAddress}
+use Rattle.object_layout.specs.declared.kinds.Wanted.TheVariants.{Coercion, TypeAddress, Target}
+use Rattle.object_layout.specs.declared.kinds.Wanted.TheVariants.{Middle as MiddleAddress}
 use Rattle.object_layout.specs.declared.wholes.Area.TheVariants.{Region}
 use Rattle.object_layout.specs.Kinds.{kind_number as number_of, kind_of, is_free, is_coercion, is_target, is_middle}
 use Rattle.object_layout.specs.Kinds.{is_type, allows_count, wanted_words}
-use Rattle.object_layout.specs.Wholes.{Telling, header_at, height_of, height_behind, coercion_height, highest, IsAddress}
+use Rattle.object_layout.specs.Wholes.{Telling, header_at, height_of, height_behind, coercion_height, highest}
+use Rattle.object_layout.specs.Wholes.{IsAddress}
 use Rattle.object_layout.specs.Wholes.{IsWanted, AreWanted, HasHeight, IsWhole as IsWholeHere, Fills}
 use Rattle.rt_cast.specs.Objects.{Object, Fixed, Cell, header_of, bytes_of, bytes_of_all, HasWord, HoldsWords}
 use Rattle.rt_cast.specs.Objects.{HoldsObject, Holds, object_at}
@@ -227,7 +231,8 @@ module _ (setting : Setting) (l : Layout) (m : Memory) (objects : List Object) (
   head_told own at kind y count o s e lt =
       let w : HasWord m at (header (number_of kind) y count) = subst (HasWord m at) e s.head in
       let small = w.small in
-      told_header T at kind y count lt (omega (arith, small)) (tells at (header (number_of kind) y count) s.even s.room w)
+      told_header T at kind y count lt (omega (arith, small)) (tells at (header (number_of kind) y count) s.even s.room
+          w)
 
   address : (own at : ℕ) (named : ObjectKind → Bool) (kind : ObjectKind) (y count : ℕ) (o : Object) → Stands own at o
       → header_of o ≡ header (number_of kind) y count → y < 65536 → named kind ≡ true → IsAddress T named own at
@@ -259,13 +264,15 @@ module _ (setting : Setting) (l : Layout) (m : Memory) (objects : List Object) (
         → IsWanted T own TypeAddress w × (height_behind T (Some w) ≡ height_in l type)
     type_held w type t =
         let words = map l.type_at (parts_of (rows_in l type)) in
-        let o = Fixed (header (type_kind (rows_in l type)) (height_in l type) (length (parts_of (rows_in l type)))) words in
+        let o = Fixed (header (type_kind (rows_in l type)) (height_in l type) (length (parts_of (rows_in l type))))
+            words in
         let s =
             stands before os is w o
             (inl (subst (λ n. object_at l.statics l.first n ≡ Some o) (sym t.is) (types.stands type t.known))) in
         let lt : height_in l type < 65536 = let z = types.low type in omega arith in
         (
-          address own w is_type (kind_of_type (rows_in l type)) (height_in l type) (length (parts_of (rows_in l type))) o s
+          address own w is_type (kind_of_type (rows_in l type)) (height_in l type) (length (parts_of (rows_in l type)))
+              o s
           refl lt (type_is (rows_in l type)),
           ap height_of (head_told own w (kind_of_type (rows_in l type)) (height_in l type)
           (length (parts_of (rows_in l type))) o s refl lt),
@@ -427,7 +434,8 @@ filled_rows setting l objects h placed types low f =
     let all =
         fills setting l h.memory objects placed types low f.statics_stand f.objects_stand
         (subst (λ n. n ≤ setting.top) f.ends f.fits) [] objects refl
-        (subst (λ n. n % 8 ≡ 0) (sym e) placed.even_region) (subst (λ n. Holds h.memory n objects) (sym e) f.objects_stand)
+        (subst (λ n. n % 8 ≡ 0) (sym e) placed.even_region) (subst (λ n. Holds h.memory n objects) (sym e)
+            f.objects_stand)
         f.whole in
     subst (λ n. IsFilled setting.top h.memory l.region n) (sym f.ends)
     (all.0, subst (λ n. Fills (telling setting.top h.memory) Region (l.region + bytes_of_all objects) n all.0
