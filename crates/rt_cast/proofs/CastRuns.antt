@@ -178,7 +178,7 @@ module _ {V : Type 0} (walk : Walk V) (low : walk.l.tallest ≤ 65534) (A : Type
   GoesOn B objects waiting (Blames label) = (new : List Object) (h : Heap) (count : ℕ) (locals : Locals) (rests : List
       Code) (waiting : List Waiting) (a b : LowSource) (d e : ℕ) (rest : Code) → Grows objects new → Fine walk.setting
       walk.l walk.around new h → word_of locals a ≡ Some label → word_of locals b ≡ Some 0 → Reached End
-          (state count locals
+      (state count locals
       (Environment 3 a b d e rest) rests waiting h)
 
   abbrev pub CastDoes : ℕ → ℕ → Coercion → Merged A → Outcome A → Type 0
@@ -193,9 +193,9 @@ module _ {V : Type 0} (walk : Walk V) (low : walk.l.tallest ≤ 65534) (A : Type
   reads : {B : Budget} → (objects : List Object) (h : Heap) (fine : Fine walk.setting walk.l walk.around objects h)
       (waiting : List Waiting) (wv wc k y m : ℕ) (ws : List ℕ) → There walk.l objects wc (Fixed (header k y m) ws)
       → k < 256 → ((rests : List Code) → Reached B (state 10 (cast_read wv wc (header k y m) k) (cast_kinds walk.first)
-          rests
+      rests
       waiting h)) → Reached (More 3 0 B) (state 10 (bind 0 (wv ∷ wc ∷ []) no_locals) (cast_code walk.first) [] waiting
-          h)
+      h)
   reads objects h fine waiting wv wc k y m ws there lt go =
       let z = not_zero walk objects h fine wc (header k y m) ws there in
       at_most walk
@@ -253,7 +253,7 @@ module _ {V : Type 0} (walk : Walk V) (low : walk.l.tallest ≤ 65534) (A : Type
       (wv wc : ℕ) → nat_lt 8 size ≡ true → word_of locals v ≡ Some wv → word_of locals c ≡ Some wc → IsHeld now a wv
       → Held walk.l now (Middle kind cs) wc → GoesOn B objects waiting (GivesValue (Proxied a (Middle kind cs)))
       → Reached (More 1 0 B) (state size locals (Build 8 (Number 8589934594 ∷ v ∷ c ∷ []) (Return (Word 8))) rests
-          waiting h)
+      waiting h)
   proxied a kind cs nc lc objects now grows h fine waiting size locals rests v c wv wc lt ev ec hv hc go =
       let o = Fixed 8589934594 (wv ∷ wc ∷ []) in
       let g = one_more walk now o in
@@ -268,8 +268,7 @@ module _ {V : Type 0} (walk : Walk V) (low : walk.l.tallest ≤ 65534) (A : Type
         ),
       ) (WholeProxy wv wc kind (coercion_height
       (height_in walk.l) (Middle kind cs)) hc.0 refl (is_solid now a wv hv) hc.1 (tall_low (Middle kind cs) lc)) lt
-      (λ h' fine'. go (now ++ o ∷ []) h' h.alloc size _ _ (Word 8) (grows_on objects now (now ++ o ∷ []) grows g) fine'
-          (
+      (λ h' fine'. go (now ++ o ∷ []) h' h.alloc size _ _ (Word 8) (grows_on objects now (now ++ o ∷ []) grows g) fine' (
         wv,
         wc,
         added walk now h fine o,
@@ -294,10 +293,10 @@ module _ {V : Type 0} (walk : Walk V) (low : walk.l.tallest ≤ 65534) (A : Type
       (if_false walk objects fine (kind_number kind) 13 refl refl (no_middle kind 13 (inr (omega arith)))
       (if_false walk objects fine (kind_number kind) 14 refl refl (no_middle kind 14 (inr (omega arith)))
       (loads_at walk objects fine wv (header (number_of s.kind) 0 s.count) refl (subst (λ x. WordThere walk h (wv + 0)
-          x)
+      x)
       s.head (subst (λ m. WordThere walk h m (header_of s.object)) (zero_more wv) z)) refl
       (computes walk objects fine (header (number_of s.kind) 0 s.count) 255 (number_of s.kind) refl refl
-          (kind_read (number_of s.kind) 0
+      (kind_read (number_of s.kind) 0
       s.count (small_kind s.kind)) refl
       (if_false walk objects fine (number_of s.kind) 2 refl refl (free_no_proxy s.kind s.free)
       (proxied a kind cs nc lc objects objects (grows_not objects) h fine waiting 10 _ _ (Word 0) (Word 1) wv wc refl
@@ -371,7 +370,7 @@ module _ {V : Type 0} (walk : Walk V) (low : walk.l.tallest ≤ 65534) (A : Type
       → ((u : Merged A) → GoesOn B objects waiting (k u) → (new : List Object) (h : Heap) (w : ℕ) → Grows objects new
       → Fine walk.setting walk.l walk.around new h → Carried new u w
       → Reached D (state rest.count (set_local d w rest.locals) rest.code rest.rests waiting h)) → GoesOn (Out D)
-          objects
+      objects
       (record { rest = rest; answer = d } ∷ waiting) r
   after B D objects waiting rest d lt Stuck k go on = go
   after B D objects waiting rest d lt (Blames label) k go on = go
