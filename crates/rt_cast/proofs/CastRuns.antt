@@ -268,7 +268,8 @@ module _ {V : Type 0} (walk : Walk V) (low : walk.l.tallest ≤ 65534) (A : Type
         ),
       ) (WholeProxy wv wc kind (coercion_height
       (height_in walk.l) (Middle kind cs)) hc.0 refl (is_solid now a wv hv) hc.1 (tall_low (Middle kind cs) lc)) lt
-      (λ h' fine'. go (now ++ o ∷ []) h' h.alloc size _ _ (Word 8) (grows_on objects now (now ++ o ∷ []) grows g) fine' (
+      (λ h' fine'. go (now ++ o ∷ []) h' h.alloc size _ _ (Word 8)
+      (grows_on objects now (now ++ o ∷ []) grows g) fine' (
         wv,
         wc,
         added walk now h fine o,
