@@ -33,7 +33,8 @@ module _ {V : Type 0} (reading : Halt → Ending V) (setting : Setting) (l : Lay
     -- whatever the procedure comes to, it has come there
     pub ends : (low : l.tallest ≤ 65534) (objects : List Object) (r : Outcome A) → (r ≡ Stuck → ⊥) → (frames words : ℕ)
         (x : Outcome A) → x ≡ r
-        → GoesOn (walk reading setting l first s exhausts ready (ComesTo l setting s IsHeld objects r) frames words) low A
+        → GoesOn (walk reading setting l first s exhausts ready (ComesTo l setting s IsHeld objects r) frames words) low
+        A
         IsHeld still is_solid End objects s.waiting x
     ends low objects r some frames words Stuck q = absurd (some (sym q))
     ends low objects r some frames words (Gives v) q = λ new h' x count locals rests a grows fine held is. record {
@@ -55,25 +56,26 @@ module _ {V : Type 0} (reading : Halt → Ending V) (setting : Setting) (l : Lay
             same = refl;
           });
     }
-    ends low objects r some frames words (Blames label) q = λ new h' count locals rests waiting a b d e rest grows fine is other. record {
-      steps = 0;
-      few = le_refl 0;
-      reach = λ spare.
-          subst (λ y. ComesTo l setting s IsHeld objects y
-          (st (around s) count locals (Environment 3 a b d e rest) rests waiting h')) q (record {
-            new = new;
-            fine = fine;
-            a = a;
-            b = b;
-            d = d;
-            e = e;
-            rest = rest;
-            code = refl;
-            is = is;
-            other = other;
-            same = refl;
-          });
-    }
+    ends low objects r some frames words (Blames label) q =
+        λ new h' count locals rests waiting a b d e rest grows fine is other. record {
+          steps = 0;
+          few = le_refl 0;
+          reach = λ spare.
+              subst (λ y. ComesTo l setting s IsHeld objects y
+              (st (around s) count locals (Environment 3 a b d e rest) rests waiting h')) q (record {
+                new = new;
+                fine = fine;
+                a = a;
+                b = b;
+                d = d;
+                e = e;
+                rest = rest;
+                code = refl;
+                is = is;
+                other = other;
+                same = refl;
+              });
+        }
 
     pub casts : l.tallest ≤ 65534 → (objects : List Object) → Filled setting l objects (heap_of s) → (c : Coercion)
         → IsLow l c → (u : Merged A) (r : Outcome A) → cast_value head l.types c u ≡ r → (r ≡ Stuck → ⊥)
@@ -85,7 +87,8 @@ module _ {V : Type 0} (reading : Halt → Ending V) (setting : Setting) (l : Lay
         by_cast w low A IsHeld still is_solid c lc.normal below u End objects (heap_of s)
         (at_first reading setting l first s exhausts ready objects filled) s.waiting wv wc hv hc
         (ends low objects r some (4 * l.tallest + 6) (9 * cast_cost l.width l.tallest) (apply (rows_in l) l.tallest c u)
-        (decided_cast l ready.types head c lc.normal below u (low_of l ready.types head IsHeld objects u wv hv) r some e)) in
+        (decided_cast l ready.types head c lc.normal below u (low_of l ready.types head IsHeld objects u wv hv) r some
+        e)) in
         (z.steps, (let f = z.few in omega arith), z.reach (record { room = omega arith; left = omega arith }))
       where
         below : NoHigher (rows_in l) c l.tallest

@@ -132,7 +132,8 @@ module _ {V : Type 0} (walk : Walk V) (low : walk.l.tallest ≤ 65534) (A : Type
   type_tall_low : (type : ℕ) → TypeNoHigher R n type → height_in walk.l type ≤ n
   type_tall_low type h = (walk.types.heights type n).0 h
 
-  pub carried_still : (old new : List Object) → Grows old new → (u : Merged A) (w : ℕ) → Carried old u w → Carried new u w
+  pub carried_still : (old new : List Object) → Grows old new → (u : Merged A) (w : ℕ) → Carried old u w → Carried new u
+      w
   carried_still old new g (Base head x) w h = h
   carried_still old new g (Solid a) w h = still old new g a w h
   carried_still old new g (Proxied a c) w h = (
@@ -160,7 +161,8 @@ module _ {V : Type 0} (walk : Walk V) (low : walk.l.tallest ≤ 65534) (A : Type
   solid_small objects h fine a w x = let s = is_solid objects a w x in let z = (header_there walk objects h fine w
       s.object s.there).end in omega arith
 
-  pub carried_small : (objects : List Object) (h : Heap) → Fine walk.setting walk.l walk.around objects h → (u : Merged A)
+  pub carried_small : (objects : List Object) (h : Heap) → Fine walk.setting walk.l walk.around objects h
+      → (u : Merged A)
       (w : ℕ) → Carried objects u w → w < 2 ^ 64
   carried_small objects h fine (Base head x) w c = let e = c.0 in let lt = c.1 in omega arith
   carried_small objects h fine (Solid a) w c = solid_small objects h fine a w c
@@ -175,7 +177,8 @@ module _ {V : Type 0} (walk : Walk V) (low : walk.l.tallest ≤ 65534) (A : Type
       u w → word_of locals a ≡ Some w → Reached B (state count locals (Return a) rests waiting h)
   GoesOn B objects waiting (Blames label) = (new : List Object) (h : Heap) (count : ℕ) (locals : Locals) (rests : List
       Code) (waiting : List Waiting) (a b : LowSource) (d e : ℕ) (rest : Code) → Grows objects new → Fine walk.setting
-      walk.l walk.around new h → word_of locals a ≡ Some label → word_of locals b ≡ Some 0 → Reached End (state count locals
+      walk.l walk.around new h → word_of locals a ≡ Some label → word_of locals b ≡ Some 0 → Reached End
+      (state count locals
       (Environment 3 a b d e rest) rests waiting h)
 
   abbrev pub CastDoes : ℕ → ℕ → Coercion → Merged A → Outcome A → Type 0
@@ -189,8 +192,10 @@ module _ {V : Type 0} (walk : Walk V) (low : walk.l.tallest ≤ 65534) (A : Type
 
   reads : {B : Budget} → (objects : List Object) (h : Heap) (fine : Fine walk.setting walk.l walk.around objects h)
       (waiting : List Waiting) (wv wc k y m : ℕ) (ws : List ℕ) → There walk.l objects wc (Fixed (header k y m) ws)
-      → k < 256 → ((rests : List Code) → Reached B (state 10 (cast_read wv wc (header k y m) k) (cast_kinds walk.first) rests
-      waiting h)) → Reached (More 3 0 B) (state 10 (bind 0 (wv ∷ wc ∷ []) no_locals) (cast_code walk.first) [] waiting h)
+      → k < 256 → ((rests : List Code) → Reached B (state 10 (cast_read wv wc (header k y m) k) (cast_kinds walk.first)
+      rests
+      waiting h)) → Reached (More 3 0 B) (state 10 (bind 0 (wv ∷ wc ∷ []) no_locals) (cast_code walk.first) [] waiting
+      h)
   reads objects h fine waiting wv wc k y m ws there lt go =
       let z = not_zero walk objects h fine wc (header k y m) ws there in
       at_most walk
@@ -247,7 +252,8 @@ module _ {V : Type 0} (walk : Walk V) (low : walk.l.tallest ≤ 65534) (A : Type
       walk.around now h) (waiting : List Waiting) (size : ℕ) (locals : Locals) (rests : List Code) (v c : LowSource)
       (wv wc : ℕ) → nat_lt 8 size ≡ true → word_of locals v ≡ Some wv → word_of locals c ≡ Some wc → IsHeld now a wv
       → Held walk.l now (Middle kind cs) wc → GoesOn B objects waiting (GivesValue (Proxied a (Middle kind cs)))
-      → Reached (More 1 0 B) (state size locals (Build 8 (Number 8589934594 ∷ v ∷ c ∷ []) (Return (Word 8))) rests waiting h)
+      → Reached (More 1 0 B) (state size locals (Build 8 (Number 8589934594 ∷ v ∷ c ∷ []) (Return (Word 8))) rests
+      waiting h)
   proxied a kind cs nc lc objects now grows h fine waiting size locals rests v c wv wc lt ev ec hv hc go =
       let o = Fixed 8589934594 (wv ∷ wc ∷ []) in
       let g = one_more walk now o in
@@ -262,7 +268,8 @@ module _ {V : Type 0} (walk : Walk V) (low : walk.l.tallest ≤ 65534) (A : Type
         ),
       ) (WholeProxy wv wc kind (coercion_height
       (height_in walk.l) (Middle kind cs)) hc.0 refl (is_solid now a wv hv) hc.1 (tall_low (Middle kind cs) lc)) lt
-      (λ h' fine'. go (now ++ o ∷ []) h' h.alloc size _ _ (Word 8) (grows_on objects now (now ++ o ∷ []) grows g) fine' (
+      (λ h' fine'. go (now ++ o ∷ []) h' h.alloc size _ _ (Word 8)
+      (grows_on objects now (now ++ o ∷ []) grows g) fine' (
         wv,
         wc,
         added walk now h fine o,
@@ -286,9 +293,11 @@ module _ {V : Type 0} (walk : Walk V) (low : walk.l.tallest ≤ 65534) (A : Type
       (λ rests. if_false walk objects fine (kind_number kind) 8 refl refl (no_middle kind 8 (inl refl))
       (if_false walk objects fine (kind_number kind) 13 refl refl (no_middle kind 13 (inr (omega arith)))
       (if_false walk objects fine (kind_number kind) 14 refl refl (no_middle kind 14 (inr (omega arith)))
-      (loads_at walk objects fine wv (header (number_of s.kind) 0 s.count) refl (subst (λ x. WordThere walk h (wv + 0) x)
+      (loads_at walk objects fine wv (header (number_of s.kind) 0 s.count) refl (subst (λ x. WordThere walk h (wv + 0)
+      x)
       s.head (subst (λ m. WordThere walk h m (header_of s.object)) (zero_more wv) z)) refl
-      (computes walk objects fine (header (number_of s.kind) 0 s.count) 255 (number_of s.kind) refl refl (kind_read (number_of s.kind) 0
+      (computes walk objects fine (header (number_of s.kind) 0 s.count) 255 (number_of s.kind) refl refl
+      (kind_read (number_of s.kind) 0
       s.count (small_kind s.kind)) refl
       (if_false walk objects fine (number_of s.kind) 2 refl refl (free_no_proxy s.kind s.free)
       (proxied a kind cs nc lc objects objects (grows_not objects) h fine waiting 10 _ _ (Word 0) (Word 1) wv wc refl
@@ -356,11 +365,13 @@ module _ {V : Type 0} (walk : Walk V) (low : walk.l.tallest ≤ 65534) (A : Type
       count locals rests waiting2 a b d e rest (grows_on objects new later g g2)
 
   -- the caller goes on with the value
-  pub after : (B D : Budget) (objects : List Object) (waiting : List Waiting) (rest : Active) (d : ℕ) → nat_lt d rest.count
+  pub after : (B D : Budget) (objects : List Object) (waiting : List Waiting) (rest : Active) (d : ℕ)
+      → nat_lt d rest.count
       ≡ true → (r : Outcome A) (k : Merged A → Outcome A) → GoesOn B objects waiting (then_outcome r k)
       → ((u : Merged A) → GoesOn B objects waiting (k u) → (new : List Object) (h : Heap) (w : ℕ) → Grows objects new
       → Fine walk.setting walk.l walk.around new h → Carried new u w
-      → Reached D (state rest.count (set_local d w rest.locals) rest.code rest.rests waiting h)) → GoesOn (Out D) objects
+      → Reached D (state rest.count (set_local d w rest.locals) rest.code rest.rests waiting h)) → GoesOn (Out D)
+      objects
       (record { rest = rest; answer = d } ∷ waiting) r
   after B D objects waiting rest d lt Stuck k go on = go
   after B D objects waiting rest d lt (Blames label) k go on = go

@@ -224,14 +224,16 @@ module _ {V : Type 0} (walk : Walk V) where
       (next to from label) → (kind : Kind) (n k : ℕ) (b : Bool) → (k == n) ≡ b → (objects : List Object) (h : Heap)
       (fine : Fine walk.setting walk.l walk.around objects h) (waiting : List Waiting) (x y : ℕ) → HoldsType walk.l
       objects x from → HoldsType walk.l objects y to → Answers walk B objects waiting (coercion_part R next
-      (runs_back kind b) from to label) → Reached (More (cost + 4) above B) (state 6 (bind 0 (kind_number kind ∷ n ∷ k ∷ x ∷ y ∷
+      (runs_back kind b) from to label) → Reached (More (cost + 4) above B) (state 6 (bind 0 (kind_number kind ∷ n ∷ k ∷
+      x ∷ y ∷
       label ∷ []) no_locals) (part_code cast_go) [] waiting h)
   cast_part {B = B} cost above next from to label small there back kind n k b t objects h fine waiting x y hx hy go =
       at_most walk (part_runs walk objects h fine waiting cast_go kind n k x y label b t (λ rests. by (runs_back kind b)
       rests go)) (omega arith, omega arith)
     where
       by : (b : Bool) (rests : List Code) → Answers walk B objects waiting (coercion_part R next b from to label)
-          → Reached (One (More cost above B)) (state 6 (bind 0 (kind_number kind ∷ n ∷ k ∷ x ∷ y ∷ label ∷ []) no_locals)
+          → Reached (One (More cost above B)) (state 6 (bind 0 (kind_number kind ∷ n ∷ k ∷ x ∷ y ∷ label ∷ [])
+          no_locals)
           (in_order cast_go b) rests waiting h)
       by true rests go =
           tail_calls walk objects fine (y ∷ x ∷ label ∷ []) (proc 3 11 (coerce_code walk.first)) refl (walk.stands 0 _
@@ -265,7 +267,8 @@ module _ {V : Type 0} (walk : Walk V) where
       → (objects : List Object) (h : Heap) (fine : Fine walk.setting walk.l walk.around objects h) (waiting : List
       Waiting) (wf wt : ℕ) → HoldsType walk.l objects wf from → HoldsType walk.l objects wt to → Answers walk B
       objects waiting (middle kind (coerce_parts R next kind from to label (slots R from) 0))
-      → Reached (More (2 + parts_cost (cost + 4) walk.l.width) (suc above) B) (state 24 (bind 0 (wf ∷ wt ∷ kind_number kind
+      → Reached (More (2 + parts_cost (cost + 4) walk.l.width) (suc above) B)
+      (state 24 (bind 0 (wf ∷ wt ∷ kind_number kind
       ∷ total ∷ label ∷ []) no_locals) (middle_code (raise walk.first) (coerce_part walk.first) offset total) []
       waiting h)
   cast_parts {B = B} cost above next from to label small kind offset index offsets total few many has1 has2 known1
@@ -320,7 +323,8 @@ module _ {V : Type 0} (walk : Walk V) where
       (length walk.l.types))
       → (objects : List Object) (h : Heap) (fine : Fine walk.setting walk.l walk.around objects h) (waiting : List
       Waiting) (wf wt : ℕ) → HoldsType walk.l objects wf from → HoldsType walk.l objects wt to → Answers walk B
-      objects waiting (coerce_middle R (coerce_below R n) (Some kind) from to label) → Reached (More (all_cost n) (suc n)
+      objects waiting (coerce_middle R (coerce_below R n) (Some kind) from to label) → Reached (More (all_cost n)
+      (suc n)
       B) (state 24 (bind 0 (wf ∷ wt ∷ kind_number kind ∷ total ∷ label ∷ []) no_locals) (middle_code (raise walk.first)
       (coerce_part walk.first) offset total) [] waiting h)
   middles_between zero le below from to label small lf lt kind some offset index offsets total few many1 many2 has1 has2
@@ -395,7 +399,8 @@ module _ {V : Type 0} (walk : Walk V) where
       n2 : ℕ
       n2 = length (parts_of (R to))
 
-      by : Sort (R from) → Sort (R to) → Reached (More (22 + all_cost n) (suc n) B) (state 11 L (coerce_alike walk.first) rests
+      by : Sort (R from) → Sort (R to) → Reached (More (22 + all_cost n) (suc n) B)
+          (state 11 L (coerce_alike walk.first) rests
           waiting h)
       by (Plain none less) other =
           at_most walk
@@ -458,7 +463,8 @@ module _ {V : Type 0} (walk : Walk V) where
   -- a Fail is built
   fail_built : {B : Budget} → (label : ℕ) → label < 2 ^ 64 → (objects : List Object) (h : Heap)
       (fine : Fine walk.setting walk.l walk.around objects h) (waiting : List Waiting) (locals : Locals) (rests : List
-      Code) → locals 2 ≡ Some label → Answers walk B objects waiting (Fail label) → Reached (More 1 0 B) (state 11 locals
+      Code) → locals 2 ≡ Some label → Answers walk B objects waiting (Fail label) → Reached (More 1 0 B)
+      (state 11 locals
       coerce_fail rests waiting h)
   fail_built label small objects h fine waiting locals rests is go =
       at_most walk
@@ -499,7 +505,8 @@ module _ {V : Type 0} (walk : Walk V) where
       by : (b : Bool) → (type_kind (R from) == type_kind (R to)) ≡ b → (c : Bool) → (length (parts_of (R from)) ==
           length (parts_of (R to))) ≡ c → (rests : List Code) → Answers walk B objects waiting (cond (b && c)
           (coerce_middle R (coerce_below R n) (kind_of (R from)) from to label) (Fail label))
-          → Reached (More (24 + all_cost n) (suc n) B) (state 11 L (either Eq (Word 4) (Word 6) (either Eq (Word 7) (Word 8)
+          → Reached (More (24 + all_cost n) (suc n) B) (state 11 L (either Eq (Word 4) (Word 6) (either Eq (Word 7)
+          (Word 8)
           (coerce_alike walk.first) coerce_fail) coerce_fail) rests waiting h)
       by false e c f rests go =
           at_most walk
@@ -524,7 +531,8 @@ module _ {V : Type 0} (walk : Walk V) where
   projected : {B : Budget} → (to label : ℕ) → label < 2 ^ 64 → (objects : List Object) (h : Heap)
       (fine : Fine walk.setting walk.l walk.around objects h) (waiting : List Waiting) (from wf wt : ℕ) → type_kind
       (R from) ≡ 19 → HoldsType walk.l objects wt to → Answers walk B objects waiting (Project to label Id)
-      → (rests : List Code) → Reached (More 20 1 B) (state 11 (kinds_read wf wt label from to) (coerce_kinds walk.first) rests
+      → (rests : List Code) → Reached (More 20 1 B) (state 11 (kinds_read wf wt label from to) (coerce_kinds walk.first)
+      rests
       waiting h)
   projected to label small objects h fine waiting from wf wt dyn ht go rests =
       let tk = walk.types.low to in
@@ -563,7 +571,8 @@ module _ {V : Type 0} (walk : Walk V) where
   injected : {B : Budget} → (from to label : ℕ) → (objects : List Object) (h : Heap) (fine : Fine walk.setting walk.l
       walk.around objects h) (waiting : List Waiting) (wf wt : ℕ) → (type_kind (R from) == 19) ≡ false → type_kind
       (R to) ≡ 19 → HoldsType walk.l objects wf from → Answers walk B objects waiting (Inject Id from)
-      → (rests : List Code) → Reached (More 20 1 B) (state 11 (kinds_read wf wt label from to) (coerce_kinds walk.first) rests
+      → (rests : List Code) → Reached (More 20 1 B) (state 11 (kinds_read wf wt label from to) (coerce_kinds walk.first)
+      rests
       waiting h)
   injected from to label objects h fine waiting wf wt other dyn hf go rests =
       let tk = walk.types.low from in
@@ -629,7 +638,8 @@ module _ {V : Type 0} (walk : Walk V) where
 
       by_dyn : (from == to) ≡ false → (b : Bool) → is_dyn (R from) ≡ b → (c : Bool) → is_dyn (R to) ≡ c
           → (rests : List Code) → Answers walk B objects waiting (coerce_by R (coerce_below R n) b c from to label)
-          → Reached (More (28 + all_cost n) (suc n) B) (state 11 (kinds_read wf wt label from to) (coerce_kinds walk.first)
+          → Reached (More (28 + all_cost n) (suc n) B) (state 11 (kinds_read wf wt label from to) (coerce_kinds
+          walk.first)
           rests waiting h)
       by_dyn differ true e true f rests go = let z = walk.types.one_dyn from to hf.known ht.known e f in absurd
           (clash (sym (eq_true from to z) ∙ differ))

@@ -114,7 +114,8 @@ module _ {V : Type 0} (walk : Walk V) where
   fail_second : {B : Budget} → (label : ℕ) (objects : List Object) (h : Heap) (fine : Fine walk.setting walk.l
       walk.around objects h) (waiting : List Waiting) (wc wd k y m : ℕ) (ws : List ℕ) → There walk.l objects wc
       (Fixed (header k y m) ws) → k < 256 → (k == 14) ≡ false → (k == 8) ≡ false → Held walk.l objects (Fail label) wd
-      → Answers walk B objects waiting (Fail label) → ReachedIn walk (More 10 0 B) (st walk.around 12 (bind 0 (wc ∷ wd ∷ [])
+      → Answers walk B objects waiting (Fail label) → ReachedIn walk (More 10 0 B) (st walk.around 12
+      (bind 0 (wc ∷ wd ∷ [])
       no_locals) (compose_code walk.first) [] waiting h)
   fail_second label objects h fine waiting wc wd k y m ws there lt no14 no8 hd go =
       at_most walk

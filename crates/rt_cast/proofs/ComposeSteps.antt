@@ -153,7 +153,8 @@ module _ {V : Type 0} (walk : Walk V) where
       (fine : Fine walk.setting walk.l walk.around objects h) (waiting : List Waiting) (rests : List Code) (w m r : ℕ)
       (args : List LowSource) (x y k n e : ℕ) → r ≤ 8 → m ≤ r → word_of locals (Word w) ≡ Some m → words_of locals args
       ≡ Some (x ∷ y ∷ k ∷ n ∷ e ∷ [])
-      → Reached B (state 24 (bind 0 (x ∷ y ∷ k ∷ n ∷ e ∷ []) no_locals) (middle_code (raise walk.first) whose each_word m) []
+      → Reached B (state 24 (bind 0 (x ∷ y ∷ k ∷ n ∷ e ∷ []) no_locals) (middle_code (raise walk.first) whose each_word
+      m) []
       waiting h) → Reached (More (picks_cost r) 0 B) (state size locals (pick w r which args) rests waiting h)
   picks {B = B} which whose each objects h fine waiting rests w m zero args x y k n e few le is are go =
       let z : m ≡ 0 = omega arith in
@@ -170,15 +171,18 @@ module _ {V : Type 0} (walk : Walk V) where
       num : suc r % 2 ^ 64 ≡ suc r
       num = omega arith
 
-      by : (m ≤ r → Reached (More (picks_cost r) 0 B) (state size locals (pick w r which args) (Done ∷ rests) waiting h))
-          → (m ≡ suc r) ⊎ ((m == suc r) ≡ false) → Reached (More (picks_cost (suc r)) 0 B) (state size locals (pick w (suc r)
+      by : (m ≤ r → Reached (More (picks_cost r) 0 B) (state size locals (pick w r which args) (Done ∷ rests) waiting
+          h))
+          → (m ≡ suc r) ⊎ ((m == suc r) ≡ false) → Reached (More (picks_cost (suc r)) 0 B) (state size locals
+          (pick w (suc r)
           which args) rests waiting h)
       by ih (inl q) =
           at_most walk
           (if_true walk objects fine m (suc r) is (ap Some num) (eq_true m (suc r) q)
           (tail_calls walk objects fine (x ∷ y ∷ k ∷ n ∷ e ∷ []) (middle_proc walk.first whose (suc r)) are
           (each (suc r) few) refl
-          (subst (λ q. Reached B (state 24 (bind 0 (x ∷ y ∷ k ∷ n ∷ e ∷ []) no_locals) (middle_code (raise walk.first) whose
+          (subst (λ q. Reached B (state 24 (bind 0 (x ∷ y ∷ k ∷ n ∷ e ∷ []) no_locals) (middle_code (raise walk.first)
+          whose
           each_word q) [] waiting h)) q go)))
           (omega arith, omega arith)
       by ih (inr q) =
@@ -192,7 +196,8 @@ module _ {V : Type 0} (walk : Walk V) where
       h) (waiting : List Waiting) (go : LowSource → LowSource → Code) (kind : Kind) (n k x y e : ℕ) (b : Bool)
       → (k == n) ≡ b
       → ((rests : List Code) → Reached B (state 6 (bind 0 (kind_number kind ∷ n ∷ k ∷ x ∷ y ∷ e ∷ []) no_locals)
-      (in_order go (runs_back kind b)) rests waiting h)) → Reached (More 3 0 B) (state 6 (bind 0 (kind_number kind ∷ n ∷ k ∷
+      (in_order go (runs_back kind b)) rests waiting h)) → Reached (More 3 0 B)
+      (state 6 (bind 0 (kind_number kind ∷ n ∷ k ∷
       x ∷ y ∷ e ∷ []) no_locals) (part_code go) [] waiting h)
   part_runs objects h fine waiting go FunKind n k x y e true t c =
       at_most walk
@@ -240,7 +245,8 @@ module _ {V : Type 0} (walk : Walk V) where
   abbrev pub ComposeDoes : ℕ → ℕ → Coercion → Coercion → Coercion → Type 0
   ComposeDoes cost above c d e = (B : Budget) (objects : List Object) (h : Heap) → Fine walk.setting walk.l walk.around
       objects h → (waiting : List Waiting) (wc wd : ℕ) → Held walk.l objects c wc → Held walk.l objects d wd
-      → Answers walk B objects waiting e → Reached (More cost above B) (state 12 (bind 0 (wc ∷ wd ∷ []) no_locals) (compose_code
+      → Answers walk B objects waiting e → Reached (More cost above B) (state 12 (bind 0 (wc ∷ wd ∷ []) no_locals)
+      (compose_code
       walk.first) [] waiting h)
 
   abbrev one_read : ℕ → ℕ → ℕ → ℕ → Locals
@@ -266,7 +272,8 @@ module _ {V : Type 0} (walk : Walk V) where
       objects h) (waiting : List Waiting) (wc wd k y m : ℕ) (ws : List ℕ) → There walk.l objects wc
       (Fixed (header k y m) ws) → k < 256 → (k == 14) ≡ false → (k == 8) ≡ false → (k2 y2 m2 : ℕ) (ws2 : List ℕ)
       → There walk.l objects wd (Fixed (header k2 y2 m2) ws2) → k2 < 256 → ((rests : List Code)
-      → Reached B (state 12 (both_read wc wd (header k y m) k (header k2 y2 m2) k2) (compose_third walk.first) rests waiting h))
+      → Reached B (state 12 (both_read wc wd (header k y m) k (header k2 y2 m2) k2) (compose_third walk.first) rests
+      waiting h))
       → Reached (More 8 0 B) (state 12 (bind 0 (wc ∷ wd ∷ []) no_locals) (compose_code walk.first) [] waiting h)
   reads_both objects h fine waiting wc wd k y m ws there lt no14 no8 k2 y2 m2 ws2 there2 lt2 go =
       let z = not_zero walk objects h fine wd (header k2 y2 m2) ws2 there2 in
@@ -299,7 +306,8 @@ module _ {V : Type 0} (walk : Walk V) where
   pub id_second : {B : Budget} → (objects : List Object) (h : Heap) (fine : Fine walk.setting walk.l walk.around objects
       h) (waiting : List Waiting) (wc wd k y m : ℕ) (ws : List ℕ) → There walk.l objects wc (Fixed (header k y m) ws)
       → k < 256 → (k == 14) ≡ false → (k == 8) ≡ false → wd ≡ 0 → (c : Coercion) → Held walk.l objects c wc
-      → Answers walk B objects waiting c → Reached (More 6 0 B) (state 12 (bind 0 (wc ∷ wd ∷ []) no_locals) (compose_code
+      → Answers walk B objects waiting c → Reached (More 6 0 B) (state 12 (bind 0 (wc ∷ wd ∷ []) no_locals)
+      (compose_code
       walk.first) [] waiting h)
   id_second objects h fine waiting wc wd k y m ws there lt no14 no8 z c hc go =
       at_most walk
@@ -383,7 +391,8 @@ module _ {V : Type 0} (walk : Walk V) where
           (type_small objects h fine hd.1 kept hd.4, tt),
         ),
       ) (WholeInject w hd.1 y kept (ap (λ n. Fixed (header 13 n 2)
-      (w ∷ hd.1 ∷ [])) (no_max y (th kept))) (coercion_word walk.l new e w (omega (arith, low)) held) (type_still objects new hd.1 kept
+      (w ∷ hd.1 ∷ [])) (no_max y (th kept))) (coercion_word walk.l new e w (omega (arith, low)) held)
+      (type_still objects new hd.1 kept
       hd.4)) refl
       (λ h'' fine''. let later = new ++ Fixed (header 13 H 2) (w ∷ hd.1 ∷ []) ∷ [] in go later h'' h'.alloc 12 _ _
       (Word 10) (grows_on objects new later grows (one_more walk new (Fixed (header 13 H 2) (w ∷ hd.1 ∷ []))))
@@ -466,7 +475,8 @@ module _ {V : Type 0} (walk : Walk V) where
         hc.0,
         final_word e w,
         subst (λ n. There walk.l later h'.alloc
-            (Fixed (header 14 n 3) (hc.0 ∷ label ∷ final_word e w ∷ []))) (no_max (th wanted) y) (added walk new h' fine'
+            (Fixed (header 14 n 3) (hc.0 ∷ label ∷ final_word e w ∷ []))) (no_max (th wanted) y) (added walk new h'
+            fine'
             (Fixed (header 14 H 3) (hc.0 ∷ label ∷ final_word e w ∷ []))),
         type_still objects later hc.0 wanted hc.3,
         held_still walk.l new later (one_more walk new (Fixed (header 14 H 3) (hc.0 ∷ label ∷ final_word e w ∷ [])))
@@ -579,7 +589,8 @@ module _ {V : Type 0} (walk : Walk V) where
           (kind_number other)
 
       made : (r : ℕ) → HasWidth walk.l kind r → r ≤ n1 → r ≤ n2 → r ≡ min n1 n2 → Answers walk B objects waiting
-          (middle kind (follow_parts next kind cs ds)) → Reached (More (2 + parts_cost (cost + 4) walk.l.width) (suc above)
+          (middle kind (follow_parts next kind cs ds)) → Reached (More (2 + parts_cost (cost + 4) walk.l.width)
+          (suc above)
           B) (state 24 (bind 0 (wc ∷ wd ∷ kind_number kind ∷ n1 ∷ 0 ∷ []) no_locals) (middle_code (raise walk.first)
           (part walk.first) each_word r) [] waiting h)
       made r wide le1 le2 e go =
@@ -602,7 +613,8 @@ module _ {V : Type 0} (walk : Walk V) where
           ((let z = parts_less (cost + 4) r walk.l.width wide.1 in omega arith), omega arith)
 
       by_kind : (b : Bool) → same_kind kind other ≡ b → (rests : List Code)
-          → Reached (More (32 + parts_cost (cost + 4) walk.l.width) (suc above) B) (state 12 L (either Eq (Word 3) (Word 5)
+          → Reached (More (32 + parts_cost (cost + 4) walk.l.width) (suc above) B) (state 12 L (either Eq (Word 3)
+          (Word 5)
           (compose_both walk.first) (Return (Number 0))) rests waiting h)
       by_kind false e rests =
           at_most walk

@@ -357,7 +357,8 @@ module _ {V : Type 0} (walk : Walk V) where
       -- all parts are there
       finished : {B : Budget} → (now : List Object) (h : Heap) (fine : Fine walk.setting walk.l walk.around now h)
           → Grows objects now → (L : Locals) → InPlace now total L → Answers B objects waiting
-          (middle kind (list_of E total 0)) → (rests : List Code) → Reached (More 7 0 B) (state 24 L (finish_code total) rests
+          (middle kind (list_of E total 0)) → (rests : List Code) → Reached (More 7 0 B) (state 24 L (finish_code total)
+          rests
           waiting h)
       finished {B = B} now h fine grows L at go rests = by_some (eq_cases (some_to E total) 0)
           (by_ids (all_id (list_of E total 0)) refl)
@@ -415,7 +416,8 @@ module _ {V : Type 0} (walk : Walk V) where
               (WholeMiddle kind m ws (ap (λ n. Fixed (header (kind_number kind) (suc m) n) ws) (sym long))
               (subst (HasWidth walk.l kind) (sym long) wide) (omega (arith, lt))
               (subst (Highest walk.l now ws) (omega (arith, tall))
-              (highest_words walk.l now (list_of E total 0) ws (omega (arith, tall, lt)) (all_held now at.W total 0 (λ i lt. at.held i
+              (highest_words walk.l now (list_of E total 0) ws (omega (arith, tall, lt)) (all_held now at.W total 0
+              (λ i lt. at.held i
               (omega arith)))))) refl
               (λ h' fine'. go (now ++ Fixed head ws ∷ []) h' h.alloc 24 _ _ (Word 7) (grows_on objects now (now ++ Fixed
               head ws ∷ []) grows (one_more now (Fixed head ws))) fine' (subst (λ c. Held walk.l (now ++ Fixed head
@@ -490,7 +492,8 @@ module _ {V : Type 0} (walk : Walk V) where
       parts_go : {B : Budget} → (j k : ℕ) → k + j ≡ total → ((i : ℕ) → i < total → PartDoes i) → (now : List Object)
           (h : Heap) (fine : Fine walk.setting walk.l walk.around now h) → Grows objects now → (L : Locals)
           → InPlace now k L → Answers B objects waiting (middle kind (list_of E total 0)) → (rests : List Code)
-          → Reached (More (parts_cost cost j) (suc above) B) (state 24 L (parts_code raise part offset total j k) rests waiting
+          → Reached (More (parts_cost cost j) (suc above) B) (state 24 L (parts_code raise part offset total j k) rests
+          waiting
           h)
       parts_go zero k e does now h fine grows L at go rests =
           let q : k ≡ total = omega arith in
@@ -531,7 +534,8 @@ module _ {V : Type 0} (walk : Walk V) where
 
       pub middle_made : {B : Budget} → ((i : ℕ) → i < total → PartDoes i) → (h : Heap) (fine : Fine walk.setting walk.l
           walk.around objects h) → Answers B objects waiting (middle kind (list_of E total 0))
-          → Reached (More (2 + parts_cost cost total) (suc above) B) (state 24 (bind 0 (x ∷ y ∷ kind_number kind ∷ n ∷ extra ∷
+          → Reached (More (2 + parts_cost cost total) (suc above) B) (state 24 (bind 0 (x ∷ y ∷ kind_number kind ∷ n ∷
+          extra ∷
           []) no_locals) (middle_code raise part offset total) [] waiting h)
       middle_made does h fine go =
           at_most walk

@@ -28,16 +28,16 @@ module _ {V : Type 0} (reading : Halt → Ending V) (setting : Setting) (l : Lay
       (tuple_cost l.width l.tallest) (4 * l.tallest + 6)
   tuple_parts low objects filled head parts have u r wv k label e some hv =
       let w =
-          walk reading setting l first s exhausts ready (ComesTo l setting s (IsVery l) objects r) (4 * l.tallest + 6)
-          (9 * tuple_cost l.width l.tallest) in
+      walk reading setting l first s exhausts ready (ComesTo l setting s (IsVery l) objects r) (4 * l.tallest + 6)
+      (9 * tuple_cost l.width l.tallest) in
       let z =
-          tuple_part_done w low ℕ (IsVery l)
-          (λ old new g a x h. very_still reading setting l first s exhausts ready old new g a x h) (λ os a x h. h.solid)
-          head parts End objects (heap_of s) (at_first reading setting l first s exhausts ready objects filled) have
-          s.waiting u wv k label hv r e some
-          (ends reading setting l first s exhausts ready head (IsVery l)
-          (λ old new g a x h. very_still reading setting l first s exhausts ready old new g a x h) (λ os a x h. h.solid)
-          low objects r some (4 * l.tallest + 6) (9 * tuple_cost l.width l.tallest) r refl) in
+      tuple_part_done w low ℕ (IsVery l)
+      (λ old new g a x h. very_still reading setting l first s exhausts ready old new g a x h) (λ os a x h. h.solid)
+      head parts End objects (heap_of s) (at_first reading setting l first s exhausts ready objects filled) have
+      s.waiting u wv k label hv r e some
+      (ends reading setting l first s exhausts ready head (IsVery l)
+      (λ old new g a x h. very_still reading setting l first s exhausts ready old new g a x h) (λ os a x h. h.solid)
+      low objects r some (4 * l.tallest + 6) (9 * tuple_cost l.width l.tallest) r refl) in
       (z.steps, (let f = z.few in omega arith), z.reach (record { room = omega arith; left = omega arith }))
 
   pub dyn_parts : l.tallest ≤ 65534 → (objects : List Object) → Filled setting l objects (heap_of s)
@@ -48,14 +48,14 @@ module _ {V : Type 0} (reading : Halt → Ending V) (setting : Setting) (l : Lay
       (project_cost l.width l.tallest) (4 * l.tallest + 7)
   dyn_parts low objects filled head parts have u r wv k label e some hv =
       let w =
-          walk reading setting l first s exhausts ready (ComesTo l setting s (IsVery l) objects r) (4 * l.tallest + 7)
-          (9 * project_cost l.width l.tallest) in
+      walk reading setting l first s exhausts ready (ComesTo l setting s (IsVery l) objects r) (4 * l.tallest + 7)
+      (9 * project_cost l.width l.tallest) in
       let z =
-          dyn_part_done w low ℕ (IsVery l)
-          (λ old new g a x h. very_still reading setting l first s exhausts ready old new g a x h) (λ os a x h. h.solid)
-          head parts End objects (heap_of s) (at_first reading setting l first s exhausts ready objects filled) have
-          s.waiting u wv k label hv r e some
-          (ends reading setting l first s exhausts ready head (IsVery l)
-          (λ old new g a x h. very_still reading setting l first s exhausts ready old new g a x h) (λ os a x h. h.solid)
-          low objects r some (4 * l.tallest + 7) (9 * project_cost l.width l.tallest) r refl) in
+      dyn_part_done w low ℕ (IsVery l)
+      (λ old new g a x h. very_still reading setting l first s exhausts ready old new g a x h) (λ os a x h. h.solid)
+      head parts End objects (heap_of s) (at_first reading setting l first s exhausts ready objects filled) have
+      s.waiting u wv k label hv r e some
+      (ends reading setting l first s exhausts ready head (IsVery l)
+      (λ old new g a x h. very_still reading setting l first s exhausts ready old new g a x h) (λ os a x h. h.solid)
+      low objects r some (4 * l.tallest + 7) (9 * project_cost l.width l.tallest) r refl) in
       (z.steps, (let f = z.few in omega arith), z.reach (record { room = omega arith; left = omega arith }))

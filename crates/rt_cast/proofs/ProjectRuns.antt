@@ -40,13 +40,15 @@ use Rattle.rt_cast.specs.Carried.{CarriedBy, IsLow, AreCarried, HoldsParts, Have
 use Rattle.rt_cast.proofs.Walks.{Walk}
 use Rattle.rt_cast.proofs.Objects.{none_some, same_some}
 use Rattle.rt_cast.proofs.HeaderNumbers.{eq_true, eq_false, lt_true, lt_false, lt_cases, kind_read, count_read}
-use Rattle.rt_cast.proofs.Steps.{Budget, End, Out, More, at_most, word_there, loads, loads_at, computes, if_true, if_false}
+use Rattle.rt_cast.proofs.Steps.{Budget, End, Out, More, at_most, word_there, loads, loads_at, computes, if_true}
+use Rattle.rt_cast.proofs.Steps.{if_false}
 use Rattle.rt_cast.proofs.Steps.{builds, calls, tail_calls, comes_back}
 use Rattle.rt_cast.proofs.Small.{ReachedIn, grows_not, grows_on, there_still}
 use Rattle.rt_cast.proofs.Middles.{added, one_more}
 use Rattle.rt_cast.proofs.ComposeSteps.{type_there, type_small, type_still, type_numbers}
 use Rattle.rt_cast.proofs.CastCases.{apply}
-use Rattle.rt_cast.proofs.CastRuns.{rebased, after, GoesOn, whole_above, no_higher, carried_still, carried_small, by_cast}
+use Rattle.rt_cast.proofs.CastRuns.{rebased, after, GoesOn, whole_above, no_higher, carried_still, carried_small}
+use Rattle.rt_cast.proofs.CastRuns.{by_cast}
 use Rattle.rt_cast.proofs.CastDecisions.{low_of, by_inject, by_cast as decided_cast}
 
 -- ---- lists and rows
@@ -146,9 +148,12 @@ sight (TupleRow ps) k = by (lt_cases k (length ps))
 part_lower : (rows : ℕ → TypeRow) (t kept part k : ℕ) (ps : List ℕ) → rows kept ≡ TupleRow ps
     → slice_get ps k ≡ Some part → TypeNoHigher rows t kept → (m : ℕ) × (m ≤ t) × TypeNoHigher rows m part
 part_lower rows zero kept part k ps row e h = none_some (sym h ∙ ap kind_of row)
-part_lower rows (suc m) kept part k ps row e h =
-    (m, omega arith, each_has (TypeNoHigher rows m) ps k part
-    (subst (λ r. All (TypeNoHigher rows m) (parts_of r)) row h) e)
+part_lower rows (suc m) kept part k ps row e h = (
+  m,
+  omega arith,
+  each_has (TypeNoHigher rows m) ps k part
+      (subst (λ r. All (TypeNoHigher rows m) (parts_of r)) row h) e,
+)
 
 -- ---- parts of coercions
 
@@ -240,7 +245,8 @@ module _ {V : Type 0} (walk : Walk V) (low : walk.l.tallest ≤ 65534) (A : Type
       → Runs (tuple_cost walk.l.width n) (whole_above walk low A IsHeld still is_solid) B wv k 1 label waiting h
   tuple_part_done B objects h fine tuples waiting (Base hd x) wv k label hv r e some go = absurd (some (sym e))
   tuple_part_done B objects h fine tuples waiting (InDyn kept x) wv k label hv r e some go = absurd (some (sym e))
-  tuple_part_done B objects h fine tuples waiting (Solid a) wv k label hv r e some go = by (slice_get (parts a) k) refl e
+  tuple_part_done B objects h fine tuples waiting (Solid a) wv k label hv r e some go = by (slice_get (parts a) k) refl
+      e
     where
       by : (o : Option (Merged A)) → slice_get (parts a) k ≡ o → with_some o (λ x. Gives x) ≡ r
           → Runs (tuple_cost walk.l.width n) (whole_above walk low A IsHeld still is_solid) B wv k 1 label waiting h
@@ -249,7 +255,7 @@ module _ {V : Type 0} (walk : Walk V) (low : walk.l.tallest ≤ 65534) (A : Type
           let p = part_there objects tuples a wv k x hv f in
           let head4 = header 4 0 (length p.ws) in
           let w = word_there walk objects h fine wv head4 p.ws p.there (suc k) p.word (wv + 8 * k + 8) p.got
-              (omega arith) in
+          (omega arith) in
           at_most walk
           (if_false walk objects fine 1 0 refl refl refl
           (computes walk objects fine k 3 (8 * k) refl refl (let z = w.end in omega (arith, z)) refl
@@ -278,12 +284,12 @@ module _ {V : Type 0} (walk : Walk V) (low : walk.l.tallest ≤ 65534) (A : Type
           let head4 = header 4 0 (length p.ws) in
           let head10 = header 10 (coercion_height (height_in walk.l) (Middle TupKind ps)) (length hc.0) in
           let w = word_there walk objects h fine hv.0 head4 p.ws p.there (suc k) p.word (hv.0 + 8 * k + 8) p.got
-              (omega arith) in
+          (omega arith) in
           let v = word_there walk objects h fine hv.1 head10 hc.0 hc.1 (suc k) q.0 (hv.1 + 8 * k + 8) q.1
-              (omega arith) in
+          (omega arith) in
           let done =
-              decided_cast walk.l walk.types head d ld.normal (no_higher walk low A IsHeld still is_solid d ld) x
-              (low_of walk.l walk.types head IsHeld objects x p.word p.carried) r some g in
+          decided_cast walk.l walk.types head d ld.normal (no_higher walk low A IsHeld still is_solid d ld) x
+          (low_of walk.l walk.types head IsHeld objects x p.word p.carried) r some g in
           let ws2 = hv.0 ∷ hv.1 ∷ [] in
           at_most walk
           (if_false walk objects fine 1 0 refl refl refl
@@ -358,7 +364,8 @@ module _ {V : Type 0} (walk : Walk V) (low : walk.l.tallest ≤ 65534) (A : Type
       → (r : Outcome A) → cast_value head walk.l.types (make part label dyn) y ≡ r → (r ≡ Stuck → ⊥)
       → Goes B objects waiting r
       → ReachedIn walk (More 6 0 B) (state count locals (after_part) rests waiting h)
-  in_dyn B objects h fine waiting count locals rests part dyn label y w known lower isdyn hy l8 l9 lt11 lt10 r e some go =
+  in_dyn B objects h fine waiting count locals rests part dyn label y w known lower isdyn hy l8 l9 lt11 lt10 r e some go
+      =
       by (is_dyn (R part)) refl
     where
       at : ℕ
@@ -371,14 +378,17 @@ module _ {V : Type 0} (walk : Walk V) (low : walk.l.tallest ≤ 65534) (A : Type
       type_head = header (type_kind (R part)) (height_in walk.l part) (length (parts_of (R part)))
 
       coercion_is : (b : Bool) → is_dyn (R part) ≡ b
-          → make part label dyn ≡ coerce_by R (coerce_below R (max (height_in walk.l part) (height_in walk.l dyn))) b true
+          → make part label dyn ≡ coerce_by R (coerce_below R (max (height_in walk.l part) (height_in walk.l dyn))) b
+          true
           part dyn label
       coercion_is b f =
-          ap₂ (λ x z. coerce_by R (coerce_below R (max (height_in walk.l part) (height_in walk.l dyn))) x z part dyn label)
+          ap₂ (λ x z. coerce_by R (coerce_below R (max (height_in walk.l part) (height_in walk.l dyn))) x z part dyn
+          label)
           f isdyn
 
       reads : {D : Budget} → (b : Bool) → (type_kind (R part) == 19) ≡ b
-          → ((rests' : List Code) → ReachedIn walk D (state count (set_local 10 (type_kind (R part)) (set_local 10 type_head locals))
+          → ((rests' : List Code) → ReachedIn walk D (state count (set_local 10 (type_kind (R part)) (set_local 10
+          type_head locals))
           (if_dyn b) rests' waiting h)) → ReachedIn walk (More 3 0 D) (state count locals after_part rests waiting h)
       reads true f go2 =
           at_most walk
@@ -399,7 +409,8 @@ module _ {V : Type 0} (walk : Walk V) (low : walk.l.tallest ≤ 65534) (A : Type
           (if_false walk objects fine (type_kind (R part)) 19 refl refl f (go2 _))))
           (omega arith, omega arith)
 
-      by : (b : Bool) → is_dyn (R part) ≡ b → ReachedIn walk (More 6 0 B) (state count locals after_part rests waiting h)
+      by : (b : Bool) → is_dyn (R part) ≡ b → ReachedIn walk (More 6 0 B) (state count locals after_part rests waiting
+          h)
       by true f =
           let g : Gives y ≡ r = ap (λ c. cast_value head walk.l.types c y) (sym (coercion_is true f)) ∙ e in
           at_most walk
@@ -411,18 +422,31 @@ module _ {V : Type 0} (walk : Walk V) (low : walk.l.tallest ≤ 65534) (A : Type
           let o = Fixed 8589934595 (at ∷ w ∷ []) in
           let grown = one_more walk objects o in
           let g : Gives (InDyn part y) ≡ r =
-              by_inject walk.l walk.types head 2 part y r some
-              (ap (λ c. cast_value head walk.l.types c y) (sym (coercion_is false f)) ∙ e) in
+          by_inject walk.l walk.types head 2 part y r some
+          (ap (λ c. cast_value head walk.l.types c y) (sym (coercion_is false f)) ∙ e) in
           at_most walk
           (reads false (kind_of_dyn (R part) ∙ f)
           (λ rests'. builds walk objects fine 8589934595 (at ∷ w ∷ [])
-          (ap₂ (λ a b. and_more (Some 8589934595) (and_more a (and_more b (Some [])))) l8 l9) (omega arith) (omega arith)
-          (omega arith, (type_small walk objects h fine at part held,
-          (carried_small walk low A IsHeld still is_solid objects h fine y w hy, tt)))
+          (ap₂ (λ a b. and_more (Some 8589934595) (and_more a (and_more b (Some [])))) l8 l9) (omega arith)
+          (omega arith) (
+            omega arith,
+            (
+              type_small walk objects h fine at part held,
+              (carried_small walk low A IsHeld still is_solid objects h fine y w hy, tt),
+            ),
+          )
           (WholeDyn at w part refl held) lt11
-          (λ h' fine'. subst (Goes B objects waiting) (sym g) go (objects ++ o ∷ []) h' h.alloc count _ _ (Word 11) grown
-          fine' (at, w, added walk objects h fine o, type_still walk objects (objects ++ o ∷ []) at part held, lower, f,
-          carried_still walk low A IsHeld still is_solid objects (objects ++ o ∷ []) grown y w hy) refl)))
+          (λ h' fine'. subst (Goes B objects waiting) (sym g) go (objects ++ o ∷ []) h' h.alloc count _ _ (Word 11)
+          grown
+          fine' (
+            at,
+            w,
+            added walk objects h fine o,
+            type_still walk objects (objects ++ o ∷ []) at part held,
+            lower,
+            f,
+            carried_still walk low A IsHeld still is_solid objects (objects ++ o ∷ []) grown y w hy,
+          ) refl)))
           (omega arith, omega arith)
 
   pub dyn_part_done : (B : Budget) (objects : List Object) (h : Heap)
@@ -470,30 +494,35 @@ module _ {V : Type 0} (walk : Walk V) (low : walk.l.tallest ≤ 65534) (A : Type
       no_part : tuple_part (R kept) (pos k) ≡ None → Goes B objects waiting (Blames label)
       no_part none =
           subst (Goes B objects waiting)
-          (sym (ap (λ o. dyn_part_by head parts walk.l.types (part_to_dyn make walk.l.types o label) k label x) (sym none)
+          (sym (ap (λ o. dyn_part_by head parts walk.l.types (part_to_dyn make walk.l.types o label) k label x)
+          (sym none)
           ∙ by_row)) go
 
       with_dyn : (ps : List ℕ) → R kept ≡ TupleRow ps → (part : ℕ) → slice_get ps k ≡ Some part → (dyn : ℕ)
           → dyn_place walk.l.types ≡ Some dyn
-          → then_outcome (part_value head parts walk.l.types k x) (cast_value head walk.l.types (make part label dyn)) ≡ r
+          → then_outcome (part_value head parts walk.l.types k x) (cast_value head walk.l.types (make part label dyn)) ≡
+          r
           → (rests : List Code) → ReachedIn walk (More (tuple_cost walk.l.width n + 12)
-          (suc (whole_above walk low A IsHeld still is_solid)) B) (state 12 L (project_dyn_part walk.first) rests waiting h)
+          (suc (whole_above walk low A IsHeld still is_solid)) B) (state 12 L (project_dyn_part walk.first) rests
+          waiting h)
       with_dyn ps row part got dyn place f rests =
           let known =
-              each_has (λ p. p < length walk.l.types) ps k part
-              (subst (λ y. All (λ p. p < length walk.l.types) (parts_of y)) row (walk.types.parts kept hv.3.known)) got in
+          each_has (λ p. p < length walk.l.types) ps k part
+          (subst (λ y. All (λ p. p < length walk.l.types) (parts_of y)) row (walk.types.parts kept hv.3.known)) got
+          in
           let below = part_lower R n kept part k ps row got ((walk.types.heights kept n).1 hv.4) in
           let tall_part = (walk.types.heights part below.0).0 below.2 in
           let told : slice_get type_words k ≡ Some (walk.l.type_at part) =
-              ap (λ y. slice_get (map walk.l.type_at (parts_of y)) k) row ∙ mapped walk.l.type_at ps k part got in
+          ap (λ y. slice_get (map walk.l.type_at (parts_of y)) k) row ∙ mapped walk.l.type_at ps k part got in
           let w =
-              word_there walk objects h fine hv.0 type_head type_words (type_there walk objects hv.0 kept hv.3) (suc k)
-              (walk.l.type_at part) (8 * k + hv.0 + 8) told (omega arith) in
+          word_there walk objects h fine hv.0 type_head type_words (type_there walk objects hv.0 kept hv.3) (suc k)
+          (walk.l.type_at part) (8 * k + hv.0 + 8) told (omega arith) in
           at_most walk
           (computes walk objects fine k 3 (8 * k) refl refl (let z = w.end in omega (arith, z)) refl
           (computes walk objects fine (8 * k) hv.0 (8 * k + hv.0) refl refl (let z = w.end in omega (arith, z)) refl
           (loads_at walk objects fine (8 * k + hv.0) (walk.l.type_at part) refl w refl
-          (calls walk objects fine (hv.1 ∷ k ∷ 1 ∷ label ∷ []) (project_proc walk.first) refl (walk.stands 3 _ refl) refl
+          (calls walk objects fine (hv.1 ∷ k ∷ 1 ∷ label ∷ []) (project_proc walk.first) refl (walk.stands 3 _ refl)
+          refl
           (tuple_part_done _ objects h fine tuples _ x hv.1 k label hv.6 (part_value head parts walk.l.types k x) refl
           (λ q. some (sym f ∙ ap (λ o. then_outcome o (cast_value head walk.l.types (make part label dyn))) q))
           (after walk low A IsHeld still is_solid B _ objects waiting _ 9 refl (part_value head parts walk.l.types k x)
@@ -508,13 +537,15 @@ module _ {V : Type 0} (walk : Walk V) (low : walk.l.tallest ≤ 65534) (A : Type
       by_dyn : (ps : List ℕ) → R kept ≡ TupleRow ps → (part : ℕ) → slice_get ps k ≡ Some part → (o : Option ℕ)
           → dyn_place walk.l.types ≡ o
           → dyn_part_by head parts walk.l.types (cast_to_dyn make o part label) k label x ≡ r → (rests : List Code)
-          → ReachedIn walk (More (tuple_cost walk.l.width n + 12) (suc (whole_above walk low A IsHeld still is_solid)) B)
+          → ReachedIn walk (More (tuple_cost walk.l.width n + 12) (suc (whole_above walk low A IsHeld still is_solid))
+          B)
           (state 12 L (project_dyn_part walk.first) rests waiting h)
       by_dyn ps row part got None place f rests = absurd (some (sym f))
       by_dyn ps row part got (Some dyn) place f rests = with_dyn ps row part got dyn place f rests
 
       by_sight : Sight (R kept) k → (rests : List Code)
-          → ReachedIn walk (More (tuple_cost walk.l.width n + 14) (suc (whole_above walk low A IsHeld still is_solid)) B)
+          → ReachedIn walk (More (tuple_cost walk.l.width n + 14) (suc (whole_above walk low A IsHeld still is_solid))
+          B)
           (state 12 L (either Eq (Word 7) (Number 21) (either Ltu (Word 1) (Word 6) (project_dyn_part walk.first)
           project_blame) project_blame) rests waiting h)
       by_sight (NotTuple other none) rests =
@@ -525,7 +556,8 @@ module _ {V : Type 0} (walk : Walk V) (low : walk.l.tallest ≤ 65534) (A : Type
       by_sight (Short ps row le) rests =
           let long : length (parts_of (R kept)) ≡ length ps = ap (λ y. length (parts_of y)) row in
           at_most walk
-          (if_true walk objects fine (type_kind (R kept)) 21 refl refl (eq_true (type_kind (R kept)) 21 (ap type_kind row))
+          (if_true walk objects fine (type_kind (R kept)) 21 refl refl (eq_true (type_kind (R kept)) 21 (ap type_kind
+          row))
           (if_false walk objects fine k (length (parts_of (R kept))) refl refl
           (lt_false k (length (parts_of (R kept))) (omega (arith, long, le)))
           (blamed {B = B} objects h fine waiting _ wv k label hv.0 hv.1 kept
@@ -535,7 +567,8 @@ module _ {V : Type 0} (walk : Walk V) (low : walk.l.tallest ≤ 65534) (A : Type
           let long : length (parts_of (R kept)) ≡ length ps = ap (λ y. length (parts_of y)) row in
           let less = inside ps k part got in
           at_most walk
-          (if_true walk objects fine (type_kind (R kept)) 21 refl refl (eq_true (type_kind (R kept)) 21 (ap type_kind row))
+          (if_true walk objects fine (type_kind (R kept)) 21 refl refl (eq_true (type_kind (R kept)) 21 (ap type_kind
+          row))
           (if_true walk objects fine k (length (parts_of (R kept))) refl refl
           (lt_true k (length (parts_of (R kept))) (omega (arith, long, less)))
           (by_dyn ps row part got (dyn_place walk.l.types) refl

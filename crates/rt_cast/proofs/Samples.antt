@@ -58,7 +58,8 @@ unfolding stops setting start load_bytes store_bytes statics
 through_dyn world = refl
 
 -- Int to Dyn to Bool is Fail with the second label
-fails : (world : WorldState) → Answers world (there_and_back 65536 65552 65544 (Load 3 (Word 2) 8 (Return (Word 3)))) 200
+fails : (world : WorldState) → Answers world (there_and_back 65536 65552 65544 (Load 3 (Word 2) 8 (Return (Word 3))))
+    200
     2
 unfolding stops setting start load_bytes store_bytes statics
 fails world = refl

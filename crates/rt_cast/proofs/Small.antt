@@ -92,7 +92,8 @@ module _ {V : Type 0} (walk : Walk V) where
       → ReachedIn B (state_in count locals (Return a) rests waiting h)
 
   pub raised : {B : Budget} → (objects : List Object) (h : Heap) (fine : Fine walk.setting walk.l walk.around objects h)
-      (waiting : List Waiting) (x w y : ℕ) → HasHeight walk.l objects w y → Gives B h waiting (max x y) → ReachedIn (More 6 0 B)
+      (waiting : List Waiting) (x w y : ℕ) → HasHeight walk.l objects w y → Gives B h waiting (max x y) → ReachedIn
+      (More 6 0 B)
       (state_in 3 (bind 0 (x ∷ w ∷ []) no_locals) raise_code [] waiting h)
   raised objects h fine waiting x w y (inl e) go =
       at_most walk
@@ -118,7 +119,8 @@ module _ {V : Type 0} (walk : Walk V) where
 
   keeps : {B : Budget} → (objects : List Object) (h : Heap) (fine : Fine walk.setting walk.l walk.around objects h)
       (waiting : List Waiting) (w k y n : ℕ) (ws : List ℕ) → There walk.l objects w (Fixed (header k y n) ws) → k < 256
-      → (k == 14) ≡ false → Gives B h waiting w → ReachedIn (More 5 0 B) (state_in 2 (bind 0 (w ∷ []) no_locals) final_code [] waiting
+      → (k == 14) ≡ false → Gives B h waiting w → ReachedIn (More 5 0 B) (state_in 2 (bind 0 (w ∷ []) no_locals)
+      final_code [] waiting
       h)
   keeps objects h fine waiting w k y n ws there lt other go =
       let z = not_zero objects h fine w (header k y n) ws there in

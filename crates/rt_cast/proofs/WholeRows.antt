@@ -1,9 +1,11 @@
 -- Lists of whole objects are rows of whole objects in what the memory tells.
 use Rattle.std.proofs.Common.{◌≡◌, ◌⊎◌, inl, inr, ℕ, zero, suc, ◌+◌, ◌*◌, ◌^◌, ◌%◌, ◌<◌, ◌≤◌, Bool, true, false, max}
-use Rattle.std.proofs.Common.{List, [], ◌∷◌, ◌++◌, length, replicate, Option, Some, None, refl, sym, ap, ap₂, ◌∙◌, subst}
+use Rattle.std.proofs.Common.{List, [], ◌∷◌, ◌++◌, length, replicate, Option, Some, None, refl, sym, ap, ap₂, ◌∙◌}
+use Rattle.std.proofs.Common.{subst}
 use Rattle.std.proofs.Common.{append_assoc, append-nil, map, arith}
 use Rattle.std.specs.Prelude.{◌==◌, ◌&&◌, nat_le, if◌then◌else◌}
-use Rattle.grift_base.specs.Types.{TypeRow, IntRow, BoolRow, UnitRow, DynRow, FunRow, TupleRow, RefRow, VectRow, parts_of}
+use Rattle.grift_base.specs.Types.{TypeRow, IntRow, BoolRow, UnitRow, DynRow, FunRow, TupleRow, RefRow, VectRow}
+use Rattle.grift_base.specs.Types.{parts_of}
 use Rattle.rv_machine.specs.Memory.{Memory, load_bytes}
 use Rattle.low_ir.specs.Run.{Setting}
 use Rattle.coercion_norm.specs.declared.middles.MiddleKind.{MiddleKind as Kind}
@@ -19,11 +21,13 @@ use Rattle.object_layout.specs.declared.kinds.Kind.TheVariants.{Fail as FailObje
 use Rattle.object_layout.specs.declared.kinds.Kind.TheVariants.{Project as ProjectObject, Fun, Tup, Ref, Vec}
 use Rattle.object_layout.specs.declared.kinds.Kind.TheVariants.{IntType, BoolType, UnitType, DynType, FunType}
 use Rattle.object_layout.specs.declared.kinds.Kind.TheVariants.{TupleType, RefType, VecType}
-use Rattle.object_layout.specs.declared.kinds.Wanted.TheVariants.{Coercion, TypeAddress, Target, Middle as MiddleAddress}
+use Rattle.object_layout.specs.declared.kinds.Wanted.TheVariants.{Coercion, TypeAddress, Target}
+use Rattle.object_layout.specs.declared.kinds.Wanted.TheVariants.{Middle as MiddleAddress}
 use Rattle.object_layout.specs.declared.wholes.Area.TheVariants.{Region}
 use Rattle.object_layout.specs.Kinds.{kind_number as number_of, kind_of, is_free, is_coercion, is_target, is_middle}
 use Rattle.object_layout.specs.Kinds.{is_type, allows_count, wanted_words}
-use Rattle.object_layout.specs.Wholes.{Telling, header_at, height_of, height_behind, coercion_height, highest, IsAddress}
+use Rattle.object_layout.specs.Wholes.{Telling, header_at, height_of, height_behind, coercion_height, highest}
+use Rattle.object_layout.specs.Wholes.{IsAddress}
 use Rattle.object_layout.specs.Wholes.{IsWanted, AreWanted, HasHeight, IsWhole as IsWholeHere, Fills}
 use Rattle.rt_cast.specs.Objects.{Object, Fixed, Cell, header_of, bytes_of, bytes_of_all, HasWord, HoldsWords}
 use Rattle.rt_cast.specs.Objects.{HoldsObject, Holds, object_at}
@@ -211,7 +215,7 @@ module _ (setting : Setting) (l : Layout) (m : Memory) (objects : List Object) (
       let z = found_within before l.region at o e in
       let r = some_room o in
       let all : bytes_of_all objects ≡ bytes_of_all before + bytes_of_all os =
-          ap bytes_of_all is ∙ bytes_append before os in
+      ap bytes_of_all is ∙ bytes_append before os in
       record {
         head = head_held at o (holds_found m l.region objects at o stand
             (subst (λ xs. object_at xs l.region at ≡ Some o) (sym is) (object_kept before os l.region at o e)));
@@ -227,7 +231,8 @@ module _ (setting : Setting) (l : Layout) (m : Memory) (objects : List Object) (
   head_told own at kind y count o s e lt =
       let w : HasWord m at (header (number_of kind) y count) = subst (HasWord m at) e s.head in
       let small = w.small in
-      told_header T at kind y count lt (omega (arith, small)) (tells at (header (number_of kind) y count) s.even s.room w)
+      told_header T at kind y count lt (omega (arith, small)) (tells at (header (number_of kind) y count) s.even s.room
+      w)
 
   address : (own at : ℕ) (named : ObjectKind → Bool) (kind : ObjectKind) (y count : ℕ) (o : Object) → Stands own at o
       → header_of o ≡ header (number_of kind) y count → y < 65536 → named kind ≡ true → IsAddress T named own at
@@ -248,27 +253,27 @@ module _ (setting : Setting) (l : Layout) (m : Memory) (objects : List Object) (
         (inl z, subst (λ v. coercion_height T (Some v) ≡ y) (sym z) (sym e))
     coercion_is w y (ObjectWord kind count ws there c lt) =
         let s = stands before os is w (Fixed (header (number_of kind) y count) ws) there in
-        let some : (w == 0) ≡ false = let a = s.above in grind (arith, a) in
-        (
+        let some : (w == 0) ≡ false = let a = s.above in grind (arith, a) in (
           inr (address own w is_coercion kind y count (Fixed (header (number_of kind) y count) ws) s refl lt c),
           ap (λ b. if b then 0 else height_of (header_at T w)) some
-          ∙ ap height_of (head_told own w kind y count (Fixed (header (number_of kind) y count) ws) s refl lt),
+              ∙ ap height_of (head_told own w kind y count (Fixed (header (number_of kind) y count) ws) s refl lt),
         )
 
     type_held : (w type : ℕ) → HoldsType l before w type
         → IsWanted T own TypeAddress w × (height_behind T (Some w) ≡ height_in l type)
     type_held w type t =
         let words = map l.type_at (parts_of (rows_in l type)) in
-        let o = Fixed (header (type_kind (rows_in l type)) (height_in l type) (length (parts_of (rows_in l type)))) words in
+        let o = Fixed (header (type_kind (rows_in l type)) (height_in l type) (length (parts_of (rows_in l type))))
+        words in
         let s =
-            stands before os is w o
-            (inl (subst (λ n. object_at l.statics l.first n ≡ Some o) (sym t.is) (types.stands type t.known))) in
-        let lt : height_in l type < 65536 = let z = types.low type in omega arith in
-        (
-          address own w is_type (kind_of_type (rows_in l type)) (height_in l type) (length (parts_of (rows_in l type))) o s
-          refl lt (type_is (rows_in l type)),
+        stands before os is w o
+        (inl (subst (λ n. object_at l.statics l.first n ≡ Some o) (sym t.is) (types.stands type t.known))) in
+        let lt : height_in l type < 65536 = let z = types.low type in omega arith in (
+          address own w is_type (kind_of_type (rows_in l type)) (height_in l type) (length (parts_of (rows_in l type)))
+              o s
+              refl lt (type_is (rows_in l type)),
           ap height_of (head_told own w (kind_of_type (rows_in l type)) (height_in l type)
-          (length (parts_of (rows_in l type))) o s refl lt),
+              (length (parts_of (rows_in l type))) o s refl lt),
         )
 
     each_wanted : (ws : List ℕ) (at y : ℕ) → at % 8 ≡ 0 → at + 8 * length ws ≤ setting.top → HoldsWords m at ws
@@ -295,8 +300,7 @@ module _ (setting : Setting) (l : Layout) (m : Memory) (objects : List Object) (
           → HasHeight kind y (highest T (own + 8) (wanted_words kind count)) → is_type kind ≡ false → Here o
       here o kind y count h le e lt long allowed words high st =
           let w : HasWord m own (header (number_of kind) y count) = subst (HasWord m own) e (head_held own o h) in
-          let small = w.small in
-          (
+          let small = w.small in (
             told kind y count,
             record {
               header =
@@ -373,12 +377,24 @@ module _ (setting : Setting) (l : Layout) (m : Memory) (objects : List Object) (
           let first = tells (own + 8) wa (omega (arith, even)) (omega (arith, le2, fits)) h2.1.0 in
           let second = tells (own + 8 + 8) wc (omega (arith, even)) (omega (arith, le2, fits)) h2.1.1.0 in
           let middle = Fixed (header (kind_number kind) y (length ws)) ws in
-          here other Proxy 0 2 h2 le2 refl (omega arith) refl refl
-          ((wa, first, address own wa is_target solid.kind 0 solid.count solid.object
-          (stands before os is wa solid.object solid.there) solid.head (omega arith)
-          (free_target solid.kind solid.free)),
-          ((wc, second, address own wc is_middle (middle_kind kind) y (length ws) middle
-          (stands before os is wc middle there) refl (omega (arith, lower, low)) (middle_is kind)), tt)) tt refl)
+          here other Proxy 0 2 h2 le2 refl (omega arith) refl refl (
+            (
+              wa,
+              first,
+              address own wa is_target solid.kind 0 solid.count solid.object
+                  (stands before os is wa solid.object solid.there) solid.head (omega arith)
+                  (free_target solid.kind solid.free),
+            ),
+            (
+              (
+                wc,
+                second,
+                address own wc is_middle (middle_kind kind) y (length ws) middle
+                    (stands before os is wc middle there) refl (omega (arith, lower, low)) (middle_is kind),
+              ),
+              tt,
+            ),
+          ) tt refl)
       whole_here o h le (WholeDyn wt wx type e held) =
           let other = Fixed (header 3 0 2) (wt ∷ wx ∷ []) in
           as_told o other e h le (λ h2 le2.
@@ -404,20 +420,25 @@ module _ (setting : Setting) (l : Layout) (m : Memory) (objects : List Object) (
       ([], omega (arith, all, same))
   fills before (o ∷ os) is even h w =
       let all : bytes_of_all objects ≡ bytes_of_all before + bytes_of_all (o ∷ os) =
-          ap bytes_of_all is ∙ bytes_append before (o ∷ os) in
+      ap bytes_of_all is ∙ bytes_append before (o ∷ os) in
       let one = whole_here before (o ∷ os) is even o h.0 (omega (arith, all)) w.0 in
       let next : bytes_of_all (before ++ o ∷ []) ≡ bytes_of_all before + bytes_of_all (o ∷ []) =
-          bytes_append before (o ∷ []) in
+      bytes_append before (o ∷ []) in
       let size = size_even o in
       let at : l.region + bytes_of_all before + bytes_of o ≡ l.region + bytes_of_all (before ++ o ∷ []) =
-          omega (arith, next) in
+      omega (arith, next) in
       let rest =
-          fills (before ++ o ∷ []) os (is ∙ sym (append_assoc before (o ∷ []) os)) (omega (arith, even, next, size.1))
-          (subst (λ n. Holds m n os) at h.1) w.1 in
+      fills (before ++ o ∷ []) os (is ∙ sym (append_assoc before (o ∷ []) os)) (omega (arith, even, next, size.1))
+      (subst (λ n. Holds m n os) at h.1) w.1 in
       let there : l.region + bytes_of_all (before ++ o ∷ []) ≡ l.region + bytes_of_all before + (8 + 8 * one.0.count) =
-          sym at ∙ ap (λ n. l.region + bytes_of_all before + n) (sym one.2) in
-      (one.0 ∷ rest.0, (one.1, subst (λ n. Fills T Region (l.region + bytes_of_all objects) n rest.0
-      (l.region + bytes_of_all objects)) there rest.1))
+      sym at ∙ ap (λ n. l.region + bytes_of_all before + n) (sym one.2) in (
+        one.0 ∷ rest.0,
+        (
+          one.1,
+          subst (λ n. Fills T Region (l.region + bytes_of_all objects) n rest.0
+              (l.region + bytes_of_all objects)) there rest.1,
+        ),
+      )
 
 -- the region is filled by whole objects
 pub filled_rows : (setting : Setting) (l : Layout) (objects : List Object) (h : Heap) → Placed setting l → TypesStand l
@@ -425,10 +446,13 @@ pub filled_rows : (setting : Setting) (l : Layout) (objects : List Object) (h : 
 filled_rows setting l objects h placed types low f =
     let e : l.region + 0 ≡ l.region = omega arith in
     let all =
-        fills setting l h.memory objects placed types low f.statics_stand f.objects_stand
-        (subst (λ n. n ≤ setting.top) f.ends f.fits) [] objects refl
-        (subst (λ n. n % 8 ≡ 0) (sym e) placed.even_region) (subst (λ n. Holds h.memory n objects) (sym e) f.objects_stand)
-        f.whole in
-    subst (λ n. IsFilled setting.top h.memory l.region n) (sym f.ends)
-    (all.0, subst (λ n. Fills (telling setting.top h.memory) Region (l.region + bytes_of_all objects) n all.0
-    (l.region + bytes_of_all objects)) e all.1)
+    fills setting l h.memory objects placed types low f.statics_stand f.objects_stand
+    (subst (λ n. n ≤ setting.top) f.ends f.fits) [] objects refl
+    (subst (λ n. n % 8 ≡ 0) (sym e) placed.even_region) (subst (λ n. Holds h.memory n objects) (sym e)
+    f.objects_stand)
+    f.whole in
+    subst (λ n. IsFilled setting.top h.memory l.region n) (sym f.ends) (
+      all.0,
+      subst (λ n. Fills (telling setting.top h.memory) Region (l.region + bytes_of_all objects) n all.0
+          (l.region + bytes_of_all objects)) e all.1,
+    )

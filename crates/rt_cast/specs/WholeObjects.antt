@@ -33,8 +33,8 @@ module _ (l : Layout) (objects : List Object) where
   pub data IsWhole (o : Object) : Type 0 where
     WholeFail : (label : ℕ) → o ≡ Fixed (header 8 0 1) (label ∷ []) → IsWhole o
     WholeMiddle : (kind : Kind) (y : ℕ) (ws : List ℕ)
-        → o ≡ Fixed (header (kind_number kind) (suc y) (length ws)) ws → HasWidth l kind (length ws) → suc y < 65536 → Highest ws y
-        → IsWhole o
+        → o ≡ Fixed (header (kind_number kind) (suc y) (length ws)) ws → HasWidth l kind (length ws) → suc y < 65536
+        → Highest ws y → IsWhole o
     WholeInject : (wg wt y type : ℕ) → o ≡ Fixed (header 13 (max y (height_in l type)) 2) (wg ∷ wt ∷ [])
         → CoercionWord wg y → HoldsType l objects wt type → IsWhole o
     WholeProject : (wt label wi y type : ℕ)

@@ -62,8 +62,8 @@ pub fn casts_are_made<V>()
         (cast_cost l.width l.tallest) (4 * l.tallest + 6) }
 {}
 
-/// Project, with 1 as its third word, comes to what the merged mode makes of a part of a tuple: the part as it is, or, of a
-/// tuple with a proxy, the part cast by the proxy's coercion for it.
+/// Project, with 1 as its third word, comes to what the merged mode makes of a part of a tuple: the part as it is, or,
+/// of a tuple with a proxy, the part cast by the proxy's coercion for it.
 pub fn parts_of_tuples_are_answered<V>()
     ensures { (reading : Halt → Ending V) (setting : Setting) (l : Layout) (first : ℕ) (s : LowState)
         → reading (Lacks Region) ≡ Exhausted → IsReady setting l first → l.tallest ≤ MOST_HEIGHT
@@ -86,8 +86,8 @@ pub fn parts_in_dyn_are_answered<V>()
         (project_cost l.width l.tallest) (4 * l.tallest + 7) }
 {}
 
-/// What the other laws say of every state on the way is what a walk of the region asks for: whole objects fill the range
-/// from its start to the allocation word without gaps, in what the memory tells.
+/// What the other laws say of every state on the way is what a walk of the region asks for: whole objects fill the
+/// range from its start to the allocation word without gaps, in what the memory tells.
 pub fn objects_fill_the_region()
     ensures { (setting : Setting) (l : Layout) (objects : List Object) (h : Heap) → Placed setting l → TypesStand l
         → l.tallest ≤ MOST_HEIGHT → Filled setting l objects h
