@@ -138,7 +138,7 @@ chain_source false p (ExprThen e (ExprThen f rest)) h =
     (h.0, tt, chain_source false p (ExprThen f rest) h.1)
 
 int_written : (p : Pos) → IsWrittenType (int_at p)
-int_written p = (refl, omega arith)
+int_written p = ((refl, tt), omega arith)
 
 one_fits : FitsSigned w64 (pos 1)
 one_fits = omega arith
@@ -168,7 +168,7 @@ repeat_source p names i a b e ha hb he =
       (goes_on_source p (Source i) (Fresh names.bound), (he, call), tt),
       (int_written p, tt),
       omega arith,
-      (refl, omega arith),
+      ((refl, tt), omega arith),
     ) in
     loop_source p names a b NoLets (counting p names (Source i) e) NoExprs ha hb tt lambda tt (omega arith)
 
@@ -189,7 +189,7 @@ into_source p names value i a b c t d e ha hb ht hd he =
 
 type_written : (p : Pos) (type : Option TypeExpr) → MayBeWritten type → IsWrittenType (type_or_dyn p type)
 type_written p (Some t) h = h
-type_written p None h = (refl, omega arith)
+type_written p None h = ((refl, tt), omega arith)
 
 -- ---- operators
 
