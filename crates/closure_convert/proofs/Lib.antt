@@ -8,4 +8,3 @@ mod Standing
 mod Fine
 mod Closing
 mod Typed
-mod Examples
