@@ -106,10 +106,10 @@ module _ {V : Type 0} (program : Program V) where
     jumps s target c h there p go =
         jump program P Q target (as_at s c) h there p (λ pc at. go pc (as_stands (at (record s { pc = pc }) refl)))
 
-    pub falls : {most : ℕ} (s : State) {cond : Cond} {a b mark : ℕ} {xs : List RealItem}
+    pub goes_past : {most : ℕ} (s : State) {cond : Cond} {a b mark : ℕ} {xs : List RealItem}
         → Stands s.pc (Branch cond a b mark ∷ xs) → HasItem xs → holds cond (reg s a) (reg s b) ≡ false → P s
         → ((pc : ℕ) → Stands pc xs → Then most (record s { pc = pc })) → ThenOn (suc most) s
-    falls s c h test p go = falls_through program P Q (as_at s c) h test p (λ pc at. go pc (as_stands at))
+    goes_past s c h test p go = falls_through program P Q (as_at s c) h test p (λ pc at. go pc (as_stands at))
 
     pub taken : {most : ℕ} (s : State) {cond : Cond} {a b mark : ℕ} {xs : List RealItem} (target : ℕ)
         → Stands s.pc (Branch cond a b mark ∷ xs) → holds cond (reg s a) (reg s b) ≡ true

@@ -10,6 +10,7 @@ pub mod SlotSteps
 pub mod InStack
 pub mod StackSizes
 pub mod WordCounts
+pub mod Spared
 pub mod SlotDistinct
 pub mod SlotConditions
 pub mod SlotRuns

@@ -27,7 +27,7 @@ use Rattle.rv_select.specs.Stacks.{stack_of}
 use Rattle.rv_select.proofs.Bounded.{DoesWithin}
 use Rattle.rv_select.proofs.PutWords.{OnlyIn}
 use Rattle.rv_select.proofs.Items.{Then, ThenOn, as_at, regrouped, stands_small, stands_aligned, mark_stands}
-use Rattle.rv_select.proofs.Items.{does, jumps, falls, taken, addresses, lands, words}
+use Rattle.rv_select.proofs.Items.{does, jumps, goes_past, taken, addresses, lands, words}
 use Rattle.rv_select.proofs.Frames.{Slotting, none_is, readable_low, low_reg, other_get, get_only, scratch_same}
 use Rattle.rv_select.proofs.Frames.{set_fits, fits_only, stored_fits, program, virtual_setting, M, N, Stand, rest_of}
 use Rattle.rv_select.proofs.Frames.{has_rest, HasHome, Stacked, stack_is, stack_high, stack_same, Body, On}
@@ -177,7 +177,7 @@ module _ {V : Type 0} (w : Slotting V) where
           (next a.pc a.stands)
       tested n2 c2 false h next =
           let s2 : State = record s { regs = regs2; pc = n2 } in
-          falls (program w) (Way w t t1) Q s2 c2 tt (less false h) (way_first w t t1 s2 (seen2 n2))
+          goes_past (program w) (Way w t t1) Q s2 c2 tt (less false h) (way_first w t t1 s2 (seen2 n2))
           (λ n3 c3. next n3 c3)
 
   -- behind the test the frame is made, with the link

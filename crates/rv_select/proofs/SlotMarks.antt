@@ -21,7 +21,7 @@ use Rattle.rv_select.specs.declared.code.VirtualItem.TheVariants.{Mark, Procedur
 use Rattle.rv_select.specs.Run.{Found, VirtualState, value, mark_from, mark_place, procedure_from, procedure_at}
 use Rattle.rv_select.specs.Run.{item_step}
 use Rattle.rv_select.specs.Slots.{frame_size, register_for, fetch_items, word_items, expand, expand_all, final_items}
-use Rattle.rv_select.proofs.Items.{regrouped, past_mark, MarkStands, mark_stands, jumps, falls, taken}
+use Rattle.rv_select.proofs.Items.{regrouped, past_mark, MarkStands, mark_stands, jumps, goes_past, taken}
 use Rattle.rv_select.proofs.Frames.{Slotting, none_is, some_is, equal_of, code, program, virtual_setting, Stand}
 use Rattle.rv_select.proofs.Frames.{rest_of, has_rest, HasHome, Body, On, has_room, seen_of, Way, way_first}
 use Rattle.rv_select.proofs.Frames.{body_scratch, body_at}
@@ -201,7 +201,7 @@ module _ {V : Type 0} (w : Slotting V) where
       decided x y xe ye false h =
           let t1 : VirtualState = record t { pc = suc t.pc } in
           sim_go w {most = 27} t t1 s (omega arith) (has_room w t s on.body) (at_branch x y xe ye t1 (λ s2 body same c2.
-          falls (program w) (Way w t t1) (On w t1) s2 c2 (has_rest w f (suc t.pc)) (same ∙ h)
+          goes_past (program w) (Way w t t1) (On w t1) s2 c2 (has_rest w f (suc t.pc)) (same ∙ h)
           (way_first w t t1 s2 (seen_of w t s2 body)) (λ n c3.
           is_there (program w) (Way w t t1) (On w t1) (record {
             body = body_at w t (record s2 { pc = n }) (suc t.pc) t.known

@@ -11,7 +11,7 @@ use Rattle.rv_select.specs.declared.code.VirtualItem.TheVariants.{TailCall, Tail
 use Rattle.rv_select.specs.Run.{is_fixed}
 use Rattle.rv_select.specs.declared.code.Place.{Place}
 use Rattle.rv_select.specs.declared.code.Place.TheVariants.{InReg, Slot}
-use Rattle.rv_select.specs.Holding.{place_of, reads, writes, Among, NoneAt, SparedByCall, SparedBy, falls, target}
+use Rattle.rv_select.specs.Holding.{place_of, reads, writes, Among, NoneAt, SparedByCall, SparedBy, has_next, target}
 use Rattle.rv_select.specs.Holding.{IsHolding}
 
 -- each virtual register has a slot of its own
@@ -70,7 +70,7 @@ NextOk M L (x ∷ xs) = (a : VReg) → before M x L a ≡ true → L a ≡ true
 abbrev pub Good : (ℕ → VReg → Bool) → (VReg → Bool) → List VirtualItem → Type 0
 Good M L [] = Unit {0}
 Good M L (x ∷ xs) =
-    ReadsHeld x (before M x L) × (falls x ≡ true → NextOk M (after x (before M x L)) xs)
+    ReadsHeld x (before M x L) × (has_next x ≡ true → NextOk M (after x (before M x L)) xs)
     × ((m : ℕ) (a : VReg) → target x ≡ Some m → M m a ≡ true → after x (before M x L) a ≡ true)
     × Good M (after x (before M x L)) xs
 
@@ -159,14 +159,14 @@ module _ (M : ℕ → VReg → Bool) where
   reads_at (y ∷ ys) L (suc p) x a g e h = reads_at ys (after y (before M y L)) p x a g.3 e h
 
   next_at : (xs : List VirtualItem) (L : VReg → Bool) (p : ℕ) (x : VirtualItem) (a : VReg) → Good M L xs
-      → slice_get xs p ≡ Some x → falls x ≡ true → walk M L xs (suc p) a ≡ true → Among a (writes x)
+      → slice_get xs p ≡ Some x → has_next x ≡ true → walk M L xs (suc p) a ≡ true → Among a (writes x)
       ⊎ ((walk M L xs p a ≡ true) × SparedBy own x (place_of own a))
   next_at [] L zero x a g e f h = absurd (let z : ⊥ = cc in z)
   next_at [] L (suc p) x a g e f h = absurd (let z : ⊥ = cc in z)
   next_at (y ∷ ys) L zero x a g e f h =
       let same : y ≡ x = cc in
       subst (λ z. Among a (writes z) ⊎ ((before M y L a ≡ true) × SparedBy own z (place_of own a))) same
-      (after_flow y (before M y L) a (behind ys (g.1 (subst (λ z. falls z ≡ true) (sym same) f)) h))
+      (after_flow y (before M y L) a (behind ys (g.1 (subst (λ z. has_next z ≡ true) (sym same) f)) h))
     where
       behind : (zs : List VirtualItem) → NextOk M (after y (before M y L)) zs
           → walk M (after y (before M y L)) zs zero a ≡ true → after y (before M y L) a ≡ true
@@ -211,7 +211,7 @@ module _ (M : ℕ → VReg → Bool) where
     allowed = λ v r e. absurd (no_place v r e);
     start = none;
     procedures = λ p k first count v e. procedure_at_place items L p k first count (Virtual v) e;
-    reads = λ p x a e h. reads_at items L p x a g e h;
+    finds = λ p x a e h. reads_at items L p x a g e h;
     flows = λ p q x a e f h. ⊎_elim (λ k. next_at items L p x a g e k.0 (subst (λ z. walk M L items z a ≡ true) k.1 h))
         (λ k. target_at items L p k.0 x a g e k.1 (sym (mark_at items L q k.0 a k.2) ∙ h)) f;
   }
