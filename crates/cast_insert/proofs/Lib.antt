@@ -19,5 +19,6 @@ pub mod Onto
 pub mod Loops
 pub mod Bodies
 pub mod Room
+pub mod Rules
 pub mod Elaborated
 pub mod Public

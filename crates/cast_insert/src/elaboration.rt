@@ -1,5 +1,5 @@
 // The elaboration of expressions, form by form.
-#![tactic(auto, using(crate::proofs::Loops::loop_steps, crate::proofs::Room::room_steps), unfolding(crate::specs::Making::then_make))]
+#![tactic(auto, using(crate::proofs::Rules::loop_rules), unfolding(crate::specs::Making::then_make))]
 
 ghost use Rattle.std.specs.Prelude.{◌≡◌, ◌≤◌, ◌==◌, ◌∷◌, ◌++◌, [], None, IfOk, OnOk, length, map};
 ghost use Rattle.grift_base.specs.Types.{row_at};

@@ -1,5 +1,5 @@
 // The heads of a `letrec`.
-#![tactic(auto, using(crate::proofs::Loops::head_steps, crate::proofs::Room::room_steps), unfolding(crate::specs::Making::then_make))]
+#![tactic(auto, using(crate::proofs::Rules::head_rules), unfolding(crate::specs::Making::then_make))]
 
 ghost use Rattle.std.specs.Prelude.{◌≡◌, ◌≤◌, ◌∷◌, ◌++◌, [], true, IfOk, OnOk, length};
 ghost use Rattle.type_graph.specs.Rows.{places_of};

@@ -1,5 +1,5 @@
 // Forms whose parts are elaborated.
-#![tactic(auto, using(crate::proofs::Steps::steps, crate::proofs::Room::room_steps), unfolding(crate::specs::Making::then_make))]
+#![tactic(auto, using(crate::proofs::Rules::rules), unfolding(crate::specs::Making::then_make))]
 
 ghost use Rattle.std.specs.Prelude.{◌≡◌, ◌≤◌, ◌∷◌, IfOk, None, OnOk, length};
 ghost use Rattle.grift_base.specs.Types.{TupleRow, row_at, tuple_part};

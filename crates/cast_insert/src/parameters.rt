@@ -1,5 +1,5 @@
 // Parameters: their types, and their variables.
-#![tactic(auto, using(crate::proofs::Steps::steps, crate::proofs::Room::room_steps), unfolding(crate::specs::Making::then_make))]
+#![tactic(auto, using(crate::proofs::Rules::rules), unfolding(crate::specs::Making::then_make))]
 
 ghost use Rattle.std.specs.Prelude.{◌≡◌, IfOk, OnOk, length};
 ghost use Rattle.type_graph.specs.Rows.{places_of};

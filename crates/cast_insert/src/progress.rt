@@ -1,5 +1,5 @@
 // What the elaboration has so far, and its small steps.
-#![tactic(auto, using(crate::proofs::Steps::steps, crate::proofs::Room::room_steps), unfolding(crate::specs::Making::then_make))]
+#![tactic(auto, using(crate::proofs::Rules::rules), unfolding(crate::specs::Making::then_make))]
 
 ghost use Rattle.std.specs.Prelude.{◌≡◌, ◌<◌, Some, true, IfOk, OnOk, [], length};
 ghost use Rattle.grift_base.specs.Types.{parts_of, row_at};

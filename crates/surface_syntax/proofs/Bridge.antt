@@ -25,7 +25,7 @@ use Rattle.surface_syntax.specs.Walk.{walk_letrecs, walk_range}
 use Rattle.surface_syntax.specs.Expansion.{Naming, ◌>>=◌ as ◌>>>=◌, give, chain_of, fresh, loop_names, repeat_of}
 use Rattle.surface_syntax.specs.Expansion.{repeat_into_of, type_or_dyn, expand, expand_all, expand_lambda, expand_lets}
 use Rattle.surface_syntax.specs.Expansion.{expand_letrecs}
-use Rattle.surface_syntax.specs.Pass.{Parsing, then_with, with_names, named, refuse, ParsedRange, parse, parse_list}
+use Rattle.surface_syntax.specs.Pass.{Parsing, then_with, paired, named, refuse, ParsedRange, parse, parse_list}
 use Rattle.surface_syntax.specs.Pass.{parse_part, parse_each, parse_within, parse_lambda, parse_binding, parse_lets}
 use Rattle.surface_syntax.specs.Pass.{parse_member, parse_lambda_form, parse_letrecs, parse_range}
 
@@ -50,7 +50,7 @@ expand_range r = ◌>>>=◌ (expand r.first) (λ first. ◌>>>=◌ (expand r.bou
 lambda_form : (p : Pos) (w_l : Walked LambdaWritten) (names : ℕ)
     → then_with (expanded expand_lambda w_l names) (λ l names. Reads (ExprAt p (LambdaNode l), names))
     ≡ expanded expand (followed_by w_l (λ l. Reads (FormAt p (LambdaForm l)))) names
-unfolding then_with followed_by with_names ◌>>>=◌
+unfolding then_with followed_by paired ◌>>>=◌
 lambda_form p (Refuses kind p_) names = refl
 lambda_form p (Reads l) names = refl
 
@@ -58,29 +58,29 @@ call : (p : Pos) (w_f : Walked Form) (w_es : Walked Forms) (names : ℕ)
     → then_with (expanded expand w_f names)
     (λ f names. then_with (expanded expand_all w_es names) (λ es names. Reads (ExprAt p (CallNode f es), names)))
     ≡ expanded expand (followed_by w_f (λ f. followed_by w_es (λ es. Reads (FormAt p (CallForm f es))))) names
-unfolding then_with followed_by with_names ◌>>>=◌
+unfolding then_with followed_by paired ◌>>>=◌
 call p (Refuses kind p_) w_es names = refl
 call p (Reads f) (Refuses kind p_) names = refl
 call p (Reads f) (Reads es) names = refl
 
 let_form : (p : Pos) (w_done : Walked Bool) (w_ls : Walked LetForms) (w_es : Walked Forms) (names : ℕ)
-    → then_with (with_names w_done names) (λ done names. then_with (expanded expand_lets w_ls names)
+    → then_with (paired w_done names) (λ done names. then_with (expanded expand_lets w_ls names)
     (λ ls names. then_with (expanded expand_all w_es names) (λ es names. Reads (ExprAt p (LetNode ls es), names))))
     ≡ expanded expand (followed_by w_done (λ done. followed_by w_ls
     (λ ls. followed_by w_es (λ es. Reads (FormAt p (LetForm ls es)))))) names
-unfolding then_with followed_by with_names ◌>>>=◌
+unfolding then_with followed_by paired ◌>>>=◌
 let_form p (Refuses kind p_) w_ls w_es names = refl
 let_form p (Reads done) (Refuses kind p_) w_es names = refl
 let_form p (Reads done) (Reads ls) (Refuses kind p_) names = refl
 let_form p (Reads done) (Reads ls) (Reads es) names = refl
 
 letrec_form : (p : Pos) (w_done : Walked Bool) (w_ls : Walked LetrecForms) (w_es : Walked Forms) (names : ℕ)
-    → then_with (with_names w_done names) (λ done names. then_with (expanded expand_letrecs w_ls names)
+    → then_with (paired w_done names) (λ done names. then_with (expanded expand_letrecs w_ls names)
     (λ ls names. then_with (expanded expand_all w_es names)
     (λ es names. Reads (ExprAt p (LetrecNode ls es), names))))
     ≡ expanded expand (followed_by w_done (λ done. followed_by w_ls
     (λ ls. followed_by w_es (λ es. Reads (FormAt p (LetrecForm ls es)))))) names
-unfolding then_with followed_by with_names ◌>>>=◌
+unfolding then_with followed_by paired ◌>>>=◌
 letrec_form p (Refuses kind p_) w_ls w_es names = refl
 letrec_form p (Reads done) (Refuses kind p_) w_es names = refl
 letrec_form p (Reads done) (Reads ls) (Refuses kind p_) names = refl
@@ -92,26 +92,26 @@ if_form : (p : Pos) (w_c : Walked Form) (w_t : Walked Form) (w_e : Walked Form) 
     (λ t names. then_with (expanded expand w_e names) (λ e names. Reads (ExprAt p (IfNode c t e), names))))
     ≡ expanded expand (followed_by w_c (λ c. followed_by w_t
     (λ t. followed_by w_e (λ e. Reads (FormAt p (IfForm c t e)))))) names
-unfolding then_with followed_by with_names ◌>>>=◌
+unfolding then_with followed_by paired ◌>>>=◌
 if_form p (Refuses kind p_) w_t w_e names = refl
 if_form p (Reads c) (Refuses kind p_) w_e names = refl
 if_form p (Reads c) (Reads t) (Refuses kind p_) names = refl
 if_form p (Reads c) (Reads t) (Reads e) names = refl
 
 begin_form : (p : Pos) (w_done : Walked Bool) (w_es : Walked Forms) (names : ℕ)
-    → then_with (with_names w_done names) (λ done names. then_with (expanded expand_all w_es names)
+    → then_with (paired w_done names) (λ done names. then_with (expanded expand_all w_es names)
     (λ es names. Reads (ExprAt p (BeginNode es), names)))
     ≡ expanded expand (followed_by w_done (λ done. followed_by w_es (λ es. Reads (FormAt p (BeginForm es))))) names
-unfolding then_with followed_by with_names ◌>>>=◌
+unfolding then_with followed_by paired ◌>>>=◌
 begin_form p (Refuses kind p_) w_es names = refl
 begin_form p (Reads done) (Refuses kind p_) names = refl
 begin_form p (Reads done) (Reads es) names = refl
 
 ascribe : (p : Pos) (w_e : Walked Form) (w_t : Walked TypeExpr) (names : ℕ)
     → then_with (expanded expand w_e names)
-    (λ e names. then_with (with_names w_t names) (λ t names. Reads (ExprAt p (AscribeNode e t), names)))
+    (λ e names. then_with (paired w_t names) (λ t names. Reads (ExprAt p (AscribeNode e t), names)))
     ≡ expanded expand (followed_by w_e (λ e. followed_by w_t (λ t. Reads (FormAt p (AscribeForm e t))))) names
-unfolding then_with followed_by with_names ◌>>>=◌
+unfolding then_with followed_by paired ◌>>>=◌
 ascribe p (Refuses kind p_) w_t names = refl
 ascribe p (Reads e) (Refuses kind p_) names = refl
 ascribe p (Reads e) (Reads t) names = refl
@@ -119,14 +119,14 @@ ascribe p (Reads e) (Reads t) names = refl
 all_of : (p : Pos) (w_es : Walked Forms) (names : ℕ)
     → then_with (expanded expand_all w_es names) (λ es names. Reads (chain_of true p es, names))
     ≡ expanded expand (followed_by w_es (λ es. Reads (FormAt p (AndForm es)))) names
-unfolding then_with followed_by with_names ◌>>>=◌
+unfolding then_with followed_by paired ◌>>>=◌
 all_of p (Refuses kind p_) names = refl
 all_of p (Reads es) names = refl
 
 any_of : (p : Pos) (w_es : Walked Forms) (names : ℕ)
     → then_with (expanded expand_all w_es names) (λ es names. Reads (chain_of false p es, names))
     ≡ expanded expand (followed_by w_es (λ es. Reads (FormAt p (OrForm es)))) names
-unfolding then_with followed_by with_names ◌>>>=◌
+unfolding then_with followed_by paired ◌>>>=◌
 any_of p (Refuses kind p_) names = refl
 any_of p (Reads es) names = refl
 
@@ -137,7 +137,7 @@ repeat_form : (p : Pos) (w_r : Walked Range) (w_e : Walked Form) (names : ℕ)
     (λ loop names. Reads (repeat_of p loop r.counter r.first r.bound e, names))))
     ≡ expanded expand (followed_by w_r (λ r. followed_by w_e
     (λ e. Reads (FormAt p (RepeatForm r.counter r.first r.bound e))))) names
-unfolding then_with followed_by with_names ◌>>>=◌
+unfolding then_with followed_by paired ◌>>>=◌
 repeat_form p (Refuses kind p_) w_e names = refl
 repeat_form p (Reads r) (Refuses kind p_) names = refl
 repeat_form p (Reads r) (Reads e) names = refl
@@ -155,7 +155,7 @@ repeat_rest : (p : Pos) (r : Range) (start : Walked (Bound Form)) (form : Walked
     ))))))
     ≡ expanded expand (followed_by start (λ s. followed_by form (λ e.
     Reads (FormAt p (RepeatIntoForm r.counter r.first r.bound s.name s.written s.value e))))) names
-unfolding then_with followed_by with_names ◌>>>=◌
+unfolding then_with followed_by paired ◌>>>=◌
 repeat_rest p r (Refuses kind q) form names = refl
 repeat_rest p r (Reads s) (Refuses kind q) names = refl
 repeat_rest p r (Reads s) (Reads e) names = refl
@@ -173,31 +173,31 @@ repeat_into : (p : Pos) (range : Walked Range) (start : List ℕ → Walked (Bou
     ))))))
     ≡ expanded expand (followed_by range (λ r. followed_by (start r.counter) (λ s. followed_by form (λ e.
     Reads (FormAt p (RepeatIntoForm r.counter r.first r.bound s.name s.written s.value e)))))) names
-unfolding then_with followed_by with_names ◌>>>=◌
+unfolding then_with followed_by paired ◌>>>=◌
 repeat_into p (Refuses kind q) start form names = refl
 repeat_into p (Reads r) start form names = repeat_rest p r (start r.counter) form names
 
 wrong : (p : Pos) (done : Walked Bool) (r : Pos) (names : ℕ)
-    → then_with {B = Expr} (with_names done names) (λ done names. Refuses BadForm r)
+    → then_with {B = Expr} (paired done names) (λ done names. Refuses BadForm r)
     ≡ expanded expand (followed_by done (λ done. Refuses BadForm r)) names
-unfolding then_with followed_by with_names
+unfolding then_with followed_by paired
 wrong p (Reads done) r names = refl
 wrong p (Refuses kind q) r names = refl
 
 tuple_form : (p : Pos) (w_done : Walked Bool) (w_es : Walked Forms) (names : ℕ)
-    → then_with (with_names w_done names) (λ done names. then_with (expanded expand_all w_es names)
+    → then_with (paired w_done names) (λ done names. then_with (expanded expand_all w_es names)
     (λ es names. Reads (ExprAt p (TupleNode es), names)))
     ≡ expanded expand (followed_by w_done (λ done. followed_by w_es (λ es. Reads (FormAt p (TupleForm es))))) names
-unfolding then_with followed_by with_names ◌>>>=◌
+unfolding then_with followed_by paired ◌>>>=◌
 tuple_form p (Refuses kind p_) w_es names = refl
 tuple_form p (Reads done) (Refuses kind p_) names = refl
 tuple_form p (Reads done) (Reads es) names = refl
 
 operation : (p : Pos) (o : PrimOp) (w_done : Walked Bool) (w_es : Walked Forms) (names : ℕ)
-    → then_with (with_names w_done names) (λ done names. then_with (expanded expand_all w_es names)
+    → then_with (paired w_done names) (λ done names. then_with (expanded expand_all w_es names)
     (λ es names. Reads (ExprAt p (PrimNode o es), names)))
     ≡ expanded expand (followed_by w_done (λ done. followed_by w_es (λ es. Reads (FormAt p (PrimForm o es))))) names
-unfolding then_with followed_by with_names ◌>>>=◌
+unfolding then_with followed_by paired ◌>>>=◌
 operation p o (Refuses kind p_) w_es names = refl
 operation p o (Reads done) (Refuses kind p_) names = refl
 operation p o (Reads done) (Reads es) names = refl
@@ -206,20 +206,20 @@ one_more : (w_e : Walked Form) (w_es : Walked Forms) (names : ℕ)
     → then_with (expanded expand w_e names)
     (λ e names. then_with (expanded expand_all w_es names) (λ es names. Reads (ExprThen e es, names)))
     ≡ expanded expand_all (followed_by w_e (λ e. followed_by w_es (λ es. Reads (FormThen e es)))) names
-unfolding then_with followed_by with_names ◌>>>=◌
+unfolding then_with followed_by paired ◌>>>=◌
 one_more (Refuses kind p_) w_es names = refl
 one_more (Reads e) (Refuses kind p_) names = refl
 one_more (Reads e) (Reads es) names = refl
 
 typed_lambda : (p : Pos) (w_done : Walked Bool) (w_ps : Walked (List Param)) (w_t : Walked TypeExpr)
     (w_es : Walked Forms) (names : ℕ)
-    → then_with (with_names w_done names) (λ done names. then_with (with_names w_ps names)
-    (λ ps names. then_with (with_names w_t names)
+    → then_with (paired w_done names) (λ done names. then_with (paired w_ps names)
+    (λ ps names. then_with (paired w_t names)
     (λ t names. then_with (expanded expand_all w_es names) (λ es names. Reads (LambdaAt p ps (Some t) es, names)))))
     ≡ expanded expand_lambda (followed_by w_done
     (λ done. followed_by w_ps (λ ps. followed_by w_t
     (λ t. followed_by w_es (λ es. Reads (LambdaFrom p ps (Some t) es)))))) names
-unfolding then_with followed_by with_names ◌>>>=◌
+unfolding then_with followed_by paired ◌>>>=◌
 typed_lambda p (Refuses kind p_) w_ps w_t w_es names = refl
 typed_lambda p (Reads done) (Refuses kind p_) w_t w_es names = refl
 typed_lambda p (Reads done) (Reads ps) (Refuses kind p_) w_es names = refl
@@ -227,35 +227,35 @@ typed_lambda p (Reads done) (Reads ps) (Reads t) (Refuses kind p_) names = refl
 typed_lambda p (Reads done) (Reads ps) (Reads t) (Reads es) names = refl
 
 plain_lambda : (p : Pos) (w_done : Walked Bool) (w_ps : Walked (List Param)) (w_es : Walked Forms) (names : ℕ)
-    → then_with (with_names w_done names) (λ done names. then_with (with_names w_ps names)
+    → then_with (paired w_done names) (λ done names. then_with (paired w_ps names)
     (λ ps names. then_with (expanded expand_all w_es names) (λ es names. Reads (LambdaAt p ps None es, names))))
     ≡ expanded expand_lambda (followed_by w_done
     (λ done. followed_by w_ps (λ ps. followed_by w_es (λ es. Reads (LambdaFrom p ps None es))))) names
-unfolding then_with followed_by with_names ◌>>>=◌
+unfolding then_with followed_by paired ◌>>>=◌
 plain_lambda p (Refuses kind p_) w_ps w_es names = refl
 plain_lambda p (Reads done) (Refuses kind p_) w_es names = refl
 plain_lambda p (Reads done) (Reads ps) (Refuses kind p_) names = refl
 plain_lambda p (Reads done) (Reads ps) (Reads es) names = refl
 
 plain_binding : (w_x : Walked (List ℕ)) (w_e : Walked Form) (names : ℕ)
-    → then_with (with_names w_x names) (λ x names. then_with (expanded expand w_e names)
+    → then_with (paired w_x names) (λ x names. then_with (expanded expand w_e names)
     (λ e names. Reads (record { name = x; written = None; value = e }, names)))
     ≡ expanded (expand_bound expand) (followed_by w_x
     (λ x. followed_by w_e (λ e. Reads (record { name = x; written = None; value = e })))) names
-unfolding then_with followed_by with_names ◌>>>=◌
+unfolding then_with followed_by paired ◌>>>=◌
 plain_binding (Refuses kind p_) w_e names = refl
 plain_binding (Reads x) (Refuses kind p_) names = refl
 plain_binding (Reads x) (Reads e) names = refl
 
 typed_binding : (w_x : Walked (List ℕ)) (w_done : Walked Bool) (w_t : Walked TypeExpr) (w_e : Walked Form) (names : ℕ)
-    → then_with (with_names w_x names) (λ x names. then_with (with_names w_done names)
-    (λ done names. then_with (with_names w_t names)
+    → then_with (paired w_x names) (λ x names. then_with (paired w_done names)
+    (λ done names. then_with (paired w_t names)
     (λ t names. then_with (expanded expand w_e names)
     (λ e names. Reads (record { name = x; written = Some t; value = e }, names)))))
     ≡ expanded (expand_bound expand) (followed_by w_x
     (λ x. followed_by w_done (λ done. followed_by w_t
     (λ t. followed_by w_e (λ e. Reads (record { name = x; written = Some t; value = e })))))) names
-unfolding then_with followed_by with_names ◌>>>=◌
+unfolding then_with followed_by paired ◌>>>=◌
 typed_binding (Refuses kind p_) w_done w_t w_e names = refl
 typed_binding (Reads x) (Refuses kind p_) w_t w_e names = refl
 typed_binding (Reads x) (Reads done) (Refuses kind p_) w_e names = refl
@@ -263,26 +263,26 @@ typed_binding (Reads x) (Reads done) (Reads t) (Refuses kind p_) names = refl
 typed_binding (Reads x) (Reads done) (Reads t) (Reads e) names = refl
 
 plain_member : (w_x : Walked (List ℕ)) (w_e : Walked LambdaWritten) (names : ℕ)
-    → then_with (with_names w_x names) (λ x names. then_with (expanded expand_lambda w_e names)
+    → then_with (paired w_x names) (λ x names. then_with (expanded expand_lambda w_e names)
     (λ e names. Reads (record { name = x; written = None; value = e }, names)))
     ≡ expanded (expand_bound expand_lambda)
     (followed_by w_x (λ x. followed_by w_e (λ e. Reads (record { name = x; written = None; value = e })))) names
-unfolding then_with followed_by with_names ◌>>>=◌
+unfolding then_with followed_by paired ◌>>>=◌
 plain_member (Refuses kind p_) w_e names = refl
 plain_member (Reads x) (Refuses kind p_) names = refl
 plain_member (Reads x) (Reads e) names = refl
 
 typed_member : (w_x : Walked (List ℕ)) (w_done : Walked Bool) (w_t : Walked TypeExpr) (w_e : Walked LambdaWritten)
     (names : ℕ)
-    → then_with (with_names w_x names) (λ x names. then_with (with_names w_done names)
-    (λ done names. then_with (with_names w_t names)
+    → then_with (paired w_x names) (λ x names. then_with (paired w_done names)
+    (λ done names. then_with (paired w_t names)
     (λ t names. then_with (expanded expand_lambda w_e names)
     (λ e names. Reads (record { name = x; written = Some t; value = e }, names)))))
     ≡ expanded (expand_bound expand_lambda)
     (followed_by w_x (λ x. followed_by w_done
     (λ done. followed_by w_t (λ t. followed_by w_e
     (λ e. Reads (record { name = x; written = Some t; value = e })))))) names
-unfolding then_with followed_by with_names ◌>>>=◌
+unfolding then_with followed_by paired ◌>>>=◌
 typed_member (Refuses kind p_) w_done w_t w_e names = refl
 typed_member (Reads x) (Refuses kind p_) w_t w_e names = refl
 typed_member (Reads x) (Reads done) (Refuses kind p_) w_e names = refl
@@ -290,12 +290,12 @@ typed_member (Reads x) (Reads done) (Reads t) (Refuses kind p_) names = refl
 typed_member (Reads x) (Reads done) (Reads t) (Reads e) names = refl
 
 range : (w_x : Walked (List ℕ)) (w_a : Walked Form) (w_b : Walked Form) (names : ℕ)
-    → then_with (with_names w_x names) (λ x names. then_with (expanded expand w_a names)
+    → then_with (paired w_x names) (λ x names. then_with (expanded expand w_a names)
     (λ a names. then_with (expanded expand w_b names)
     (λ b names. Reads (record { counter = x; first = a; bound = b }, names))))
     ≡ expanded expand_range (followed_by w_x
     (λ x. followed_by w_a (λ a. followed_by w_b (λ b. Reads (record { counter = x; first = a; bound = b }))))) names
-unfolding then_with followed_by with_names ◌>>>=◌
+unfolding then_with followed_by paired ◌>>>=◌
 range (Refuses kind p_) w_a w_b names = refl
 range (Reads x) (Refuses kind p_) w_b names = refl
 range (Reads x) (Reads a) (Refuses kind p_) names = refl
@@ -307,7 +307,7 @@ lets_then : (one : Bound Form) (others : Walked LetForms) (names : ℕ)
     (λ others names. Reads (LetThen (Source one.name) one.written one.value others, names)))
     ≡ expanded expand_lets (followed_by others (λ others. Reads (LetFormThen one.name one.written one.value others)))
     names
-unfolding then_with followed_by with_names ◌>>>=◌
+unfolding then_with followed_by paired ◌>>>=◌
 lets_then one (Reads others) names = refl
 lets_then one (Refuses kind p) names = refl
 
@@ -317,7 +317,7 @@ lets_more : (one : Walked (Bound Form)) (others : List ℕ → Walked LetForms) 
     (λ others names. Reads (LetThen (Source one.name) one.written one.value others, names)))
     ≡ expanded expand_lets (followed_by one (λ one. followed_by (others one.name)
     (λ others. Reads (LetFormThen one.name one.written one.value others)))) names
-unfolding then_with followed_by with_names ◌>>>=◌
+unfolding then_with followed_by paired ◌>>>=◌
 lets_more (Refuses kind p) others names = refl
 lets_more (Reads one) others names = lets_then one (others one.name) names
 
@@ -328,7 +328,7 @@ letrecs_then : (one : Bound LambdaWritten) (others : Walked LetrecForms) (names 
     ≡ expanded expand_letrecs (followed_by others
     (λ others. Reads (LetrecFormThen one.name one.written one.value others)))
     names
-unfolding then_with followed_by with_names ◌>>>=◌
+unfolding then_with followed_by paired ◌>>>=◌
 letrecs_then one (Reads others) names = refl
 letrecs_then one (Refuses kind p) names = refl
 
@@ -338,7 +338,7 @@ letrecs_more : (one : Walked (Bound LambdaWritten)) (others : List ℕ → Walke
     (λ others names. Reads (LetrecThen (Source one.name) one.written one.value others, names)))
     ≡ expanded expand_letrecs (followed_by one (λ one. followed_by (others one.name)
     (λ others. Reads (LetrecFormThen one.name one.written one.value others)))) names
-unfolding then_with followed_by with_names ◌>>>=◌
+unfolding then_with followed_by paired ◌>>>=◌
 letrecs_more (Refuses kind p) others names = refl
 letrecs_more (Reads one) others names = letrecs_then one (others one.name) names
 
@@ -377,7 +377,7 @@ mutual
       (λ i. λ names. then_with (parse_lambda_is p rest i names) (λ l names. Reads (ExprAt p (LambdaNode l), names)))
       ∙ fun_ext (λ names. lambda_form p (walk_lambda p rest) names)
   parse_list_is p (word q Let ▹ list r bindings ▹ body) =
-      (λ i. λ names. then_with (with_names (some p body) names)
+      (λ i. λ names. then_with (paired (some p body) names)
       (λ done names. then_with (parse_lets_is [] bindings i names)
       (λ ls names. then_with (parse_each_is body i names) (λ es names. Reads (ExprAt p (LetNode ls es), names)))))
       ∙ fun_ext (λ names. let_form p (some p body) (walk_lets [] bindings) (walk_each body) names)
@@ -386,7 +386,7 @@ mutual
   parse_list_is p (word q Let ▹ (word r w) ▹ body) = fun_ext (λ names. wrong p (some p body) r names)
   parse_list_is p (word q Let ▹ (name r x t) ▹ body) = fun_ext (λ names. wrong p (some p body) r names)
   parse_list_is p (word q Letrec ▹ list r bindings ▹ body) =
-      (λ i. λ names. then_with (with_names (some p body) names)
+      (λ i. λ names. then_with (paired (some p body) names)
       (λ done names. then_with (parse_letrecs_is [] bindings i names)
       (λ ls names. then_with (parse_each_is body i names)
       (λ es names. Reads (ExprAt p (LetrecNode ls es), names)))))
@@ -401,12 +401,12 @@ mutual
       (λ t names. then_with (parse_is e i names) (λ e names. Reads (ExprAt p (IfNode c t e), names)))))
       ∙ fun_ext (λ names. if_form p (walk c) (walk t) (walk e) names)
   parse_list_is p (word q Begin ▹ body) =
-      (λ i. λ names. then_with (with_names (some p body) names)
+      (λ i. λ names. then_with (paired (some p body) names)
       (λ done names. then_with (parse_each_is body i names) (λ es names. Reads (ExprAt p (BeginNode es), names))))
       ∙ fun_ext (λ names. begin_form p (some p body) (walk_each body) names)
   parse_list_is p (word q Colon ▹ e ▹ t ▹ end) =
       (λ i. λ names. then_with (parse_is e i names)
-      (λ e names. then_with (with_names (walk_type t) names)
+      (λ e names. then_with (paired (walk_type t) names)
       (λ type names. Reads (ExprAt p (AscribeNode e type), names))))
       ∙ fun_ext (λ names. ascribe p (walk e) (walk_type t) names)
   parse_list_is p (word q And ▹ operands) =
@@ -434,7 +434,7 @@ mutual
       )))))))
       ∙ fun_ext (λ names. repeat_into p (walk_range h) (λ x. walk_binding (x ∷ []) c) (walk e) names)
   parse_list_is p (word q Tuple ▹ parts) =
-      (λ i. λ names. then_with (with_names (some p parts) names)
+      (λ i. λ names. then_with (paired (some p parts) names)
       (λ done names. then_with (parse_within_is 8 parts i names)
       (λ es names. Reads (ExprAt p (TupleNode es), names))))
       ∙ fun_ext (λ names. tuple_form p (some p parts) (walk_within 8 parts) names)
@@ -442,7 +442,7 @@ mutual
       (λ i. λ names. then_with (parse_is e i names) (λ e. parse_part p e k))
       ∙ fun_ext (λ names. projection p (walk e) k names)
   parse_list_is p (word q (Operator o) ▹ operands) =
-      (λ i. λ names. then_with (with_names (test (nat_eq (how_many operands) (operand_count o)) BadForm p) names)
+      (λ i. λ names. then_with (paired (test (nat_eq (how_many operands) (operand_count o)) BadForm p) names)
       (λ done names. then_with (parse_each_is operands i names)
       (λ es names. Reads (ExprAt p (PrimNode o es), names))))
       ∙ fun_ext (λ names. operation p o (test (nat_eq (how_many operands) (operand_count o)) BadForm p)
@@ -472,16 +472,16 @@ mutual
 
   pub parse_lambda_is : (p : Pos) (ds : Sexprs) → parse_lambda p ds ≡ expanded expand_lambda (walk_lambda p ds)
   parse_lambda_is p (ps ▹ word c Colon ▹ t ▹ body) =
-      (λ i. λ names. then_with (with_names (some p body) names)
-      (λ done names. then_with (with_names (walk_param_list ps) names)
-      (λ params names. then_with (with_names (walk_type t) names)
+      (λ i. λ names. then_with (paired (some p body) names)
+      (λ done names. then_with (paired (walk_param_list ps) names)
+      (λ params names. then_with (paired (walk_type t) names)
       (λ result names. then_with (parse_each_is body i names)
       (λ es names. Reads (LambdaAt p params (Some result) es, names))))))
       ∙ fun_ext (λ names. typed_lambda p (some p body) (walk_param_list ps) (walk_type t) (walk_each body) names)
   parse_lambda_is p (ps ▹ word c Colon ▹ end) = refl
   parse_lambda_is p (ps ▹ body) =
-      (λ i. λ names. then_with (with_names (some p body) names)
-      (λ done names. then_with (with_names (walk_param_list ps) names)
+      (λ i. λ names. then_with (paired (some p body) names)
+      (λ done names. then_with (paired (walk_param_list ps) names)
       (λ params names. then_with (parse_each_is body i names)
       (λ es names. Reads (LambdaAt p params None es, names)))))
       ∙ fun_ext (λ names. plain_lambda p (some p body) (walk_param_list ps) (walk_each body) names)
@@ -490,14 +490,14 @@ mutual
   pub parse_binding_is : (seen : List (List ℕ)) (s : Sexpr)
       → parse_binding seen s ≡ expanded (expand_bound expand) (walk_binding seen s)
   parse_binding_is seen (list p (x ▹ e ▹ end)) =
-      (λ i. λ names. then_with (with_names (binder seen x) names)
+      (λ i. λ names. then_with (paired (binder seen x) names)
       (λ bytes names. then_with (parse_is e i names)
       (λ e names. Reads (record { name = bytes; written = None; value = e }, names))))
       ∙ fun_ext (λ names. plain_binding (binder seen x) (walk e) names)
   parse_binding_is seen (list p (x ▹ c ▹ t ▹ e ▹ end)) =
-      (λ i. λ names. then_with (with_names (binder seen x) names)
-      (λ bytes names. then_with (with_names (colon c) names)
-      (λ done names. then_with (with_names (walk_type t) names)
+      (λ i. λ names. then_with (paired (binder seen x) names)
+      (λ bytes names. then_with (paired (colon c) names)
+      (λ done names. then_with (paired (walk_type t) names)
       (λ type names. then_with (parse_is e i names)
       (λ e names. Reads (record { name = bytes; written = Some type; value = e }, names))))))
       ∙ fun_ext (λ names. typed_binding (binder seen x) (colon c) (walk_type t) (walk e) names)
@@ -515,14 +515,14 @@ mutual
   pub parse_member_is : (seen : List (List ℕ)) (s : Sexpr)
       → parse_member seen s ≡ expanded (expand_bound expand_lambda) (walk_member seen s)
   parse_member_is seen (list p (x ▹ e ▹ end)) =
-      (λ i. λ names. then_with (with_names (binder seen x) names)
+      (λ i. λ names. then_with (paired (binder seen x) names)
       (λ bytes names. then_with (parse_lambda_form_is e i names)
       (λ l names. Reads (record { name = bytes; written = None; value = l }, names))))
       ∙ fun_ext (λ names. plain_member (binder seen x) (walk_lambda_form e) names)
   parse_member_is seen (list p (x ▹ c ▹ t ▹ e ▹ end)) =
-      (λ i. λ names. then_with (with_names (binder seen x) names)
-      (λ bytes names. then_with (with_names (colon c) names)
-      (λ done names. then_with (with_names (walk_type t) names)
+      (λ i. λ names. then_with (paired (binder seen x) names)
+      (λ bytes names. then_with (paired (colon c) names)
+      (λ done names. then_with (paired (walk_type t) names)
       (λ type names. then_with (parse_lambda_form_is e i names)
       (λ l names. Reads (record { name = bytes; written = Some type; value = l }, names))))))
       ∙ fun_ext (λ names. typed_member (binder seen x) (colon c) (walk_type t) (walk_lambda_form e) names)
@@ -543,7 +543,7 @@ mutual
 
   pub parse_range_is : (s : Sexpr) → parse_range s ≡ expanded expand_range (walk_range s)
   parse_range_is (list r (i_ ▹ a ▹ b ▹ end)) =
-      (λ i. λ names. then_with (with_names (binder [] i_) names)
+      (λ i. λ names. then_with (paired (binder [] i_) names)
       (λ counter names. then_with (parse_is a i names)
       (λ first names. then_with (parse_is b i names)
       (λ bound names. Reads (record { counter = counter; first = first; bound = bound }, names)))))

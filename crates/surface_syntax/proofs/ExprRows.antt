@@ -17,7 +17,7 @@ use Rattle.surface_syntax.specs.Marked.{reserved_at, marked_symbol}
 use Rattle.surface_syntax.specs.Trees.{Expr, ExprAt, ProjNode, LambdaAt, ExprThen}
 use Rattle.surface_syntax.specs.Walking.{Reads, Refuses, some, is_colon, is_lambda_at}
 use Rattle.surface_syntax.specs.Walk.{walk_type, walk_param_list}
-use Rattle.surface_syntax.specs.Pass.{Parsing, then_with, with_names, parse, parse_list, parse_part, parse_each}
+use Rattle.surface_syntax.specs.Pass.{Parsing, then_with, paired, parse, parse_list, parse_part, parse_each}
 use Rattle.surface_syntax.specs.Pass.{parse_within, parse_lambda, parse_binding, parse_member, parse_lambda_form}
 use Rattle.surface_syntax.specs.Pass.{parse_range}
 use Rattle.surface_syntax.specs.Parts.{parse_call}
@@ -35,13 +35,13 @@ pub then_refuses : {A B : Type 0} (kind : RefusalKind) (p : Pos) (next : A → P
 unfolding then_with
 then_refuses kind p next = refl
 
-pub names_reads : {A : Type 0} (a : A) (names : ℕ) → with_names (Reads a) names ≡ Reads (a, names)
-unfolding with_names
+pub names_reads : {A : Type 0} (a : A) (names : ℕ) → paired (Reads a) names ≡ Reads (a, names)
+unfolding paired
 names_reads a names = refl
 
 pub names_refuses : {A : Type 0} (kind : RefusalKind) (p : Pos) (names : ℕ)
-    → with_names {A = A} (Refuses kind p) names ≡ Refuses kind p
-unfolding with_names
+    → paired {A = A} (Refuses kind p) names ≡ Refuses kind p
+unfolding paired
 names_refuses kind p names = refl
 
 -- ---- so many expressions

@@ -17,7 +17,7 @@ use Rattle.surface_syntax.specs.Trees.{TypeExpr, Param, ExprAt, LambdaNode, Ascr
 use Rattle.surface_syntax.specs.Walking.{Walked, Reads, Refuses, followed_by, test, binder, colon}
 use Rattle.surface_syntax.specs.Walk.{walk_type, walk_param_list}
 use Rattle.surface_syntax.specs.TopWalk.{has_body}
-use Rattle.surface_syntax.specs.Pass.{Parsing, ParsedRange, then_with, with_names, parse, parse_list, parse_lambda}
+use Rattle.surface_syntax.specs.Pass.{Parsing, ParsedRange, then_with, paired, parse, parse_list, parse_lambda}
 use Rattle.surface_syntax.specs.Pass.{parse_binding, parse_member, parse_lambda_form, parse_range}
 use Rattle.surface_syntax.specs.Parts.{parse_behind}
 use Rattle.surface_syntax.specs.Forms.{parse_operands, applied_to, headed_of, lambda_from}
@@ -31,26 +31,26 @@ use Rattle.surface_syntax.proofs.FormRows.{lambda_lacks, lambda_has}
 
 -- what is read, in another form
 plain_as : {A B C : Type 0} (w : Walked A) (f : A → B) (next : B → Parsing C) (names : ℕ)
-    → then_with (with_names w names) (λ a names. next (f a) names)
-    ≡ then_with (with_names (followed_by w (λ a. Reads (f a))) names) next
-unfolding then_with with_names followed_by
+    → then_with (paired w names) (λ a names. next (f a) names)
+    ≡ then_with (paired (followed_by w (λ a. Reads (f a))) names) next
+unfolding then_with paired followed_by
 plain_as (Reads a) f next names = refl
 plain_as (Refuses kind p) f next names = refl
 
 -- the last line
 plain_last : {A B C : Type 0} (first : Walked (A × ℕ)) (w : Walked C) (f : A → C → B)
-    → then_with first (λ a names. then_with (with_names w names) (λ c names. Reads (f a c, names)))
-    ≡ then_with first (λ a names. with_names (followed_by w (λ c. Reads (f a c))) names)
-unfolding then_with with_names followed_by
+    → then_with first (λ a names. then_with (paired w names) (λ c names. Reads (f a c, names)))
+    ≡ then_with first (λ a names. paired (followed_by w (λ c. Reads (f a c))) names)
+unfolding then_with paired followed_by
 plain_last (Refuses kind p) w f = refl
 plain_last (Reads done) (Refuses kind p) f = refl
 plain_last (Reads done) (Reads c) f = refl
 
 -- a test, and what is known where it holds
 plain_test : {A C : Type 0} (b : Bool) (p : Pos) (a : A) (next : A → Parsing C) (names : ℕ)
-    → then_with (with_names (test b BadForm p) names) (λ done. next a)
-    ≡ then_with (with_names (followed_by (test b BadForm p) (λ done. Reads a)) names) next
-unfolding then_with with_names followed_by
+    → then_with (paired (test b BadForm p) names) (λ done. next a)
+    ≡ then_with (paired (followed_by (test b BadForm p) (λ done. Reads a)) names) next
+unfolding then_with paired followed_by
 plain_test true p a next names = refl
 plain_test false p a next names = refl
 
@@ -58,11 +58,11 @@ plain_test false p a next names = refl
 plain_typed : {A : Type 0} (x : Walked (List ℕ)) (c : Walked Bool) (t : Walked TypeExpr)
     (next : List ℕ → TypeExpr → Parsing A) (after : List ℕ × Option TypeExpr → Parsing A) (names : ℕ)
     → ((bytes : List ℕ) (type : TypeExpr) → after (bytes, Some type) ≡ next bytes type)
-    → then_with (with_names x names) (λ bytes names. then_with (with_names c names) (λ done names.
-    then_with (with_names t names) (λ type names. next bytes type names)))
-    ≡ then_with (with_names (followed_by x (λ bytes. followed_by (followed_by c (λ done. followed_by t (λ type.
+    → then_with (paired x names) (λ bytes names. then_with (paired c names) (λ done names.
+    then_with (paired t names) (λ type names. next bytes type names)))
+    ≡ then_with (paired (followed_by x (λ bytes. followed_by (followed_by c (λ done. followed_by t (λ type.
     Reads (Some type)))) (λ type. Reads (bytes, type)))) names) after
-unfolding then_with with_names followed_by
+unfolding then_with paired followed_by
 plain_typed (Refuses kind p) c t next after names e = refl
 plain_typed (Reads x) (Refuses kind p) t next after names e = refl
 plain_typed (Reads x) (Reads c) (Refuses kind p) next after names e = refl
@@ -72,21 +72,21 @@ plain_typed (Reads x) (Reads c) (Reads t) next after names e = sym (ap (λ after
 
 lambda_parted : (p : Pos) (ps : Sexpr) (rest : Sexprs) (names : ℕ) (b : Bool) → has_body rest ≡ b
     → parse_lambda p (ps ▹ rest) names
-    ≡ then_with {A = Sexpr × Sexprs} (with_names (followed_by (test b BadForm p) (λ done. Reads (ps, rest))) names)
-    (λ parts names. then_with (with_names (walk_param_list parts.0) names)
+    ≡ then_with {A = Sexpr × Sexprs} (paired (followed_by (test b BadForm p) (λ done. Reads (ps, rest))) names)
+    (λ parts names. then_with (paired (walk_param_list parts.0) names)
     (λ params names. parse_behind p params parts.1 names))
-unfolding then_with with_names followed_by
+unfolding then_with paired followed_by
 lambda_parted p ps rest names true e = lambda_has p ps rest names e
 lambda_parted p ps rest names false e = lambda_lacks p ps rest names e
 
 pub lambda_row : (p : Pos) (ds : Sexprs) (names : ℕ) → parse_lambda p ds names ≡ lambda_from p ds names
-unfolding then_with with_names
+unfolding then_with paired
 lambda_row p end names = refl
 lambda_row p (ps ▹ rest) names = lambda_parted p ps rest names (has_body rest) refl
 
 pub behind_row : (p : Pos) (params : List Param) (ds : Sexprs) (names : ℕ)
     → parse_behind p params ds names ≡ behind_from p params ds names
-unfolding then_with with_names followed_by
+unfolding then_with paired followed_by
 behind_row p params end names = refl
 behind_row p params ((word q Lambda) ▹ rest) names = refl
 behind_row p params ((word q Let) ▹ rest) names = refl
@@ -110,7 +110,7 @@ behind_row p params ((name q x t) ▹ rest) names = refl
 behind_row p params ((list q ds) ▹ rest) names = refl
 
 pub function_row : (s : Sexpr) (names : ℕ) → parse_lambda_form s names ≡ function_from s names
-unfolding then_with with_names
+unfolding then_with paired
 function_row (number r n) names = refl
 function_row (truth_value r b) names = refl
 function_row (word r w) names = refl
@@ -141,7 +141,7 @@ function_row (list r ((list q ds) ▹ rest)) names = refl
 -- the form that a word other than `->` heads
 headed_row : (p q : Pos) (w : Word) (rest : Sexprs) (names : ℕ) → is_arrow_word w ≡ false
     → parse_list p (word q w ▹ rest) names ≡ headed_of w p rest names
-unfolding then_with with_names followed_by
+unfolding then_with paired followed_by
 headed_row p q Lambda rest names e =
     ap (λ w. then_with w (λ lambda names. Reads (ExprAt p (LambdaNode lambda), names))) (lambda_row p rest names)
 headed_row p q Let end names e = refl
@@ -214,7 +214,7 @@ list_row p s rest w names e f =
 
 pub binding_row : (seen : List (List ℕ)) (s : Sexpr) (names : ℕ)
     → parse_binding seen s names ≡ binding_from seen s names
-unfolding then_with with_names followed_by
+unfolding then_with paired followed_by
 binding_row seen (number r n) names = refl
 binding_row seen (truth_value r b) names = refl
 binding_row seen (word r w) names = refl
@@ -235,7 +235,7 @@ binding_row seen (list r (x ▹ c ▹ t ▹ e ▹ f ▹ more)) names = refl
 
 pub member_row : (seen : List (List ℕ)) (s : Sexpr) (names : ℕ)
     → parse_member seen s names ≡ member_from seen s names
-unfolding then_with with_names followed_by
+unfolding then_with paired followed_by
 member_row seen (number r n) names = refl
 member_row seen (truth_value r b) names = refl
 member_row seen (word r w) names = refl
@@ -257,7 +257,7 @@ member_row seen (list r (x ▹ c ▹ t ▹ e ▹ f ▹ more)) names = refl
 -- ---- the head of a `repeat`
 
 pub range_row : (s : Sexpr) (names : ℕ) → parse_range s names ≡ range_from s names
-unfolding then_with with_names followed_by
+unfolding then_with paired followed_by
 range_row (number r n) names = refl
 range_row (truth_value r b) names = refl
 range_row (word r w) names = refl
@@ -272,10 +272,10 @@ range_row (list r (a ▹ b ▹ c ▹ d ▹ more)) names = refl
 
 -- a call without fresh names, as the last line
 pub plain_answers : {A R : Type 0} (result : Result R FrontFault) (view : R → A) (w : Walked A) (names : ℕ)
-    → Answers result view w → Parses result view names (with_names w names)
-unfolding with_names
-plain_answers (Ok r) view w names h = ap (λ w. with_names w names) h
-plain_answers (Err (Refused refusal)) view w names h = ap (λ w. with_names w names) h
+    → Answers result view w → Parses result view names (paired w names)
+unfolding paired
+plain_answers (Ok r) view w names h = ap (λ w. paired w names) h
+plain_answers (Err (Refused refusal)) view w names h = ap (λ w. paired w names) h
 plain_answers (Err OutOfMemory) view w names h = tt
 
 pub none_of : {A : Type 0} (o : Option A) → ((a : A) → o ≡ Some a → ⊥) → o ≡ None

@@ -19,7 +19,7 @@ use Rattle.surface_syntax.specs.Trees.{TypeExpr, Param, Expr, ExprAt, ProjNode, 
 use Rattle.surface_syntax.specs.Walking.{Walked, Reads, Refuses, followed_by, binder, colon, is_colon}
 use Rattle.surface_syntax.specs.Walk.{walk_type, walk_param_list}
 use Rattle.surface_syntax.specs.TopWalk.{has_body}
-use Rattle.surface_syntax.specs.Pass.{Parsing, then_with, with_names, parse, parse_list, parse_part, parse_each}
+use Rattle.surface_syntax.specs.Pass.{Parsing, then_with, paired, parse, parse_list, parse_part, parse_each}
 use Rattle.surface_syntax.specs.Pass.{parse_lambda, parse_binding, parse_member, parse_lambda_form}
 use Rattle.surface_syntax.specs.Parts.{part_number, typed_name, parse_behind}
 use Rattle.surface_syntax.specs.Claims.{Answers, Parses}
@@ -61,30 +61,30 @@ bind_err {A} {B} {R} {S} first next view wider names new fault given result e f 
 
 -- the same of what needs no fresh names
 pub plain_reads : {A : Type 0} (walked : Walked A) (a : A) (names : ℕ) → walked ≡ Reads a
-    → with_names walked names ≡ Reads (a, names)
-unfolding with_names
-plain_reads walked a names e = ap (λ w. with_names w names) e
+    → paired walked names ≡ Reads (a, names)
+unfolding paired
+plain_reads walked a names e = ap (λ w. paired w names) e
 
 plain_stops : {A R S : Type 0} (walked : Walked A) (view : R → A) (wider : S → A) (names new : ℕ) (fault : FrontFault)
-    → Answers (stopped {R = R} fault) view walked → Parses (stopped {R = S} fault) wider new (with_names walked names)
-unfolding with_names
-plain_stops walked view wider names new (Refused refusal) h = ap (λ w. with_names w names) h
+    → Answers (stopped {R = R} fault) view walked → Parses (stopped {R = S} fault) wider new (paired walked names)
+unfolding paired
+plain_stops walked view wider names new (Refused refusal) h = ap (λ w. paired w names) h
 plain_stops walked view wider names new OutOfMemory h = tt
 
 pub plain_err : {A B R S : Type 0} (walked : Walked A) (next : A → Parsing B) (view : R → A) (wider : S → B)
     (names new : ℕ) (fault : FrontFault) (given : Result R FrontFault) (result : Result S FrontFault)
     → given ≡ Err fault → result ≡ Err fault → Answers given view walked
-    → Parses result wider new (then_with (with_names walked names) next)
+    → Parses result wider new (then_with (paired walked names) next)
 plain_err {A} {B} {R} {S} walked next view wider names new fault given result e f h =
-    subst (λ r. Parses r wider new (then_with (with_names walked names) next)) (sym f)
-    (stops (with_names walked names) next view wider names new fault
+    subst (λ r. Parses r wider new (then_with (paired walked names) next)) (sym f)
+    (stops (paired walked names) next view wider names new fault
     (plain_stops walked view view names names fault (subst (λ g. Answers g view walked) e h)))
 
 -- ---- lambdas
 
 pub lambda_lacks : (p : Pos) (ps : Sexpr) (rest : Sexprs) (names : ℕ) → has_body rest ≡ false
     → parse_lambda p (ps ▹ rest) names ≡ Refuses BadForm p
-unfolding then_with with_names
+unfolding then_with paired
 lambda_lacks p ps end names e = refl
 lambda_lacks p ps (word q Lambda ▹ rest) names e = absurd (let z : ⊥ = cc in z)
 lambda_lacks p ps (word q Let ▹ rest) names e = absurd (let z : ⊥ = cc in z)
@@ -110,8 +110,8 @@ lambda_lacks p ps (list q ds ▹ rest) names e = absurd (let z : ⊥ = cc in z)
 
 pub lambda_has : (p : Pos) (ps : Sexpr) (rest : Sexprs) (names : ℕ) → has_body rest ≡ true
     → parse_lambda p (ps ▹ rest) names
-    ≡ then_with (with_names (walk_param_list ps) names) (λ params. parse_behind p params rest)
-unfolding then_with with_names
+    ≡ then_with (paired (walk_param_list ps) names) (λ params. parse_behind p params rest)
+unfolding then_with paired
 lambda_has p ps end names e = absurd (let z : ⊥ = cc in z)
 lambda_has p ps (word q Lambda ▹ rest) names e = refl
 lambda_has p ps (word q Let ▹ rest) names e = refl
@@ -139,11 +139,11 @@ lambda_has p ps (list q ds ▹ rest) names e = refl
 
 pub typed_then : {A : Type 0} (x : Walked (List ℕ)) (c : Walked Bool) (t : Walked TypeExpr)
     (next : List ℕ → TypeExpr → Parsing A) (names : ℕ)
-    → then_with (with_names x names) (λ bytes names. then_with (with_names c names) (λ done names.
-    then_with (with_names t names) (λ type names. next bytes type names)))
-    ≡ then_with {A = List ℕ × TypeExpr} (with_names (followed_by x (λ bytes. followed_by c (λ done.
+    → then_with (paired x names) (λ bytes names. then_with (paired c names) (λ done names.
+    then_with (paired t names) (λ type names. next bytes type names)))
+    ≡ then_with {A = List ℕ × TypeExpr} (paired (followed_by x (λ bytes. followed_by c (λ done.
     followed_by t (λ type. Reads (bytes, type))))) names) (λ named names. next named.0 named.1 names)
-unfolding then_with with_names followed_by
+unfolding then_with paired followed_by
 typed_then (Refuses kind p) c t next names = refl
 typed_then (Reads x) (Refuses kind p) t next names = refl
 typed_then (Reads x) (Reads c) (Refuses kind p) next names = refl

@@ -3,7 +3,7 @@ use Rattle.std.proofs.Common.{◌≡◌, List, [], ◌∷◌, ◌++◌, map, ref
 use Rattle.surface_syntax.specs.declared.tops.Part.{Part as RustPart}
 use Rattle.surface_syntax.specs.Expansion.{Part, Rest, closed, before, ending, joined, whole}
 use Rattle.surface_syntax.specs.TopParts.{part_of}
-use Rattle.surface_syntax.proofs.TopRows.{last_part}
+use Rattle.surface_syntax.proofs.Rows.{last_part}
 
 -- these forms, one before the other, before a rest
 abbrev pub onto : List Part → Rest → Rest

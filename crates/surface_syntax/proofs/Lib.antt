@@ -17,7 +17,7 @@ mod FormParts
 mod Shapes
 mod Loops
 mod Bridge
-mod TopRows
+mod Rows
 mod TopBridge
 mod Joined
 mod Sound

@@ -39,12 +39,12 @@ abbrev pub refuse : {A : Type 0} → RefusalKind → Pos → Parsing A
 refuse kind p = λ names. Refuses kind p
 
 -- what needs no fresh names
-unfoldable pub with_names : {A : Type 0} → Walked A → ℕ → Walked (A × ℕ)
-with_names (Reads a) names = Reads (a, names)
-with_names (Refuses kind p) names = Refuses kind p
+unfoldable pub paired : {A : Type 0} → Walked A → ℕ → Walked (A × ℕ)
+paired (Reads a) names = Reads (a, names)
+paired (Refuses kind p) names = Refuses kind p
 
 abbrev pub plain : {A : Type 0} → Walked A → Parsing A
-plain w = λ names. with_names w names
+plain w = λ names. paired w names
 
 -- what is never refused
 abbrev pub named : {A : Type 0} → Naming A → Parsing A

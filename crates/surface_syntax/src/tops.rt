@@ -1,5 +1,5 @@
 // Forms of programs from s-expressions. `names` counts the fresh names so far.
-#![tactic(auto, using(crate::proofs::TopRows::top_steps), unfolding(crate::specs::Pass::then_with, crate::specs::Pass::with_names))]
+#![tactic(auto, using(crate::proofs::Rows::top), unfolding(crate::specs::Pass::then_with, crate::specs::Pass::paired))]
 
 ghost use Rattle.std.specs.Prelude.{◌≡◌, ◌≤◌, ◌++◌, ◌∷◌, [], List, ℕ, length, map, IfOk};
 ghost use Rattle.sexpr_reader.specs.View.{datum_of, datums_of};

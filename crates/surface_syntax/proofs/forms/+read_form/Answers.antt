@@ -5,7 +5,7 @@ use Rattle.sexpr_reader.specs.declared.sexps.SexpList.{the_lemmas}
 use Rattle.sexpr_reader.specs.View.{datum_of, datums_of}
 use Rattle.surface_syntax.specs.Marked.{marked, all_marked}
 use Rattle.surface_syntax.specs.Walking.{Reads}
-use Rattle.surface_syntax.specs.Pass.{then_with, with_names, parse_list}
+use Rattle.surface_syntax.specs.Pass.{then_with, paired, parse_list}
 use Rattle.surface_syntax.specs.Views.{expr_of, exprs_of, params_of, lambda_of}
 use Rattle.surface_syntax.specs.Parts.{range_of, bound_of, member_of}
 use Rattle.surface_syntax.specs.Forms.{headed_of, lambda_from}
@@ -111,22 +111,22 @@ member-returns-clause-member t c =
     (refl)))
 
 pub call-returns-in_err-function : goal.call-returns-in_err-function
-unfolding then_with with_names
+unfolding then_with paired
 call-returns-in_err-function t c =
     grind (arith, form_steps)
 
 pub call-returns-in_err-arguments : goal.call-returns-in_err-arguments
-unfolding then_with with_names
+unfolding then_with paired
 call-returns-in_err-arguments t c =
     grind (arith, form_steps)
 
 pub call-returns : goal.call-returns
-unfolding then_with with_names
+unfolding then_with paired
 call-returns t c =
     grind (arith, form_steps)
 
 pub each-returns-in_err-first : goal.each-returns-in_err-first
-unfolding then_with with_names
+unfolding then_with paired
 each-returns-in_err-first t c =
     grind (arith, form_steps)
 
@@ -311,42 +311,42 @@ letrec_form-returns t c =
     (refl)))
 
 pub letrecs-returns-in_err-first : goal.letrecs-returns-in_err-first
-unfolding then_with with_names
+unfolding then_with paired
 letrecs-returns-in_err-first t c =
     grind (arith, form_steps)
 
 pub lets-returns-in_err-first : goal.lets-returns-in_err-first
-unfolding then_with with_names
+unfolding then_with paired
 lets-returns-in_err-first t c =
     grind (arith, form_steps)
 
 pub list-returns-in_default-word_at : goal.list-returns-in_default-word_at
-unfolding then_with with_names
+unfolding then_with paired
 list-returns-in_default-word_at t c =
     grind (arith, form_steps)
 
 pub list-returns-then-is_arrow : goal.list-returns-then-is_arrow
-unfolding then_with with_names
+unfolding then_with paired
 list-returns-then-is_arrow t c =
     grind (arith, form_steps)
 
 pub within-returns-then-room-eq0 : goal.within-returns-then-room-eq0
-unfolding then_with with_names
+unfolding then_with paired
 within-returns-then-room-eq0 t c =
     grind (arith, form_steps)
 
 pub within-returns-in_err-first : goal.within-returns-in_err-first
-unfolding then_with with_names
+unfolding then_with paired
 within-returns-in_err-first t c =
     grind (arith, form_steps)
 
 pub within-returns-in_err-rest : goal.within-returns-in_err-rest
-unfolding then_with with_names
+unfolding then_with paired
 within-returns-in_err-rest t c =
     grind (arith, form_steps)
 
 pub within-returns : goal.within-returns
-unfolding then_with with_names
+unfolding then_with paired
 within-returns t c =
     grind (arith, form_steps)
 

@@ -6,7 +6,7 @@ use Rattle.surface_syntax.specs.Pass.{parse_define}
 use Rattle.surface_syntax.specs.TopParts.{part_of}
 use Rattle.surface_syntax.specs.Claims.{Parses}
 use Rattle.surface_syntax.proofs.Shapes.{one_first}
-use Rattle.surface_syntax.proofs.TopRows.{is_named}
+use Rattle.surface_syntax.proofs.Rows.{is_named}
 use Rattle.surface_syntax.proofs.tops.define.Goals as goal
 
 pub returns-in_default-node : goal.returns-in_default-node

@@ -8,7 +8,7 @@ use Rattle.surface_syntax.specs.TopParts.{part_of}
 use Rattle.surface_syntax.specs.Claims.{Parses}
 use Rattle.surface_syntax.proofs.FormRows.{bind_reads, bind_ok, bind_err, plain_reads, plain_err}
 use Rattle.surface_syntax.proofs.Shapes.{one_first}
-use Rattle.surface_syntax.proofs.TopRows.{define_function}
+use Rattle.surface_syntax.proofs.Rows.{define_function}
 use Rattle.surface_syntax.proofs.tops.define_function.Goals as goal
 
 pub returns-in_err-params-clause-part : goal.returns-in_err-params-clause-part

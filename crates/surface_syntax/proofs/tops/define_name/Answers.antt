@@ -1,7 +1,7 @@
 use Rattle.std.proofs.Common.{[], ◌∷◌, ◌++◌, ap, ◌∙◌}
 use Rattle.sexpr_reader.specs.View.{datum_of}
 use Rattle.surface_syntax.specs.Marked.{marked}
-use Rattle.surface_syntax.proofs.TopRows.{grows_with}
+use Rattle.surface_syntax.proofs.Rows.{grows_with}
 use Rattle.surface_syntax.proofs.tops.define_name.Goals as goal
 
 pub returns-in_default-deref-clause-run : goal.returns-in_default-deref-clause-run

@@ -3,7 +3,7 @@ use Rattle.sexpr_reader.specs.View.{datums_of}
 use Rattle.surface_syntax.specs.Marked.{all_marked, how_many}
 use Rattle.surface_syntax.specs.Pass.{parse_tops}
 use Rattle.surface_syntax.specs.TopParts.{part_of}
-use Rattle.surface_syntax.proofs.TopRows.{behind_parts}
+use Rattle.surface_syntax.proofs.Rows.{behind_parts}
 use Rattle.surface_syntax.proofs.tops.parts.Given as goal
 
 -- the forms so far and what the pass reads behind them are what it reads in all

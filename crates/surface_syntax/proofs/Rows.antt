@@ -27,7 +27,7 @@ use Rattle.surface_syntax.specs.Walk.{walk_type, walk_params}
 use Rattle.surface_syntax.specs.TopWalk.{has_body, run_for}
 use Rattle.surface_syntax.specs.TopTable.{is_lambda_form}
 use Rattle.surface_syntax.specs.Expansion.{Part, ExprPart, ValuePart, FunctionPart}
-use Rattle.surface_syntax.specs.Pass.{Parsing, then_with, with_names, parse, parse_lambda, parse_lambda_form}
+use Rattle.surface_syntax.specs.Pass.{Parsing, then_with, paired, parse, parse_lambda, parse_lambda_form}
 use Rattle.surface_syntax.specs.Pass.{parse_bound, parse_define, parse_top, parse_tops, run_behind}
 use Rattle.surface_syntax.specs.Parts.{parse_behind}
 use Rattle.surface_syntax.specs.TopParts.{part_of, parse_named, is_definition, parse_definition, Grows}
@@ -230,19 +230,19 @@ top_expression run (list r (list l ds ▹ f)) names e = refl
 
 pub define_lacks : (run : List (List ℕ)) (p r : Pos) (head body : Sexprs) (names : ℕ) → has_body body ≡ false
     → parse_define run p (list r head ▹ body) names ≡ Refuses BadForm p
-unfolding then_with with_names
+unfolding then_with paired
 define_lacks run p r end body names e =
-    ap (λ b. then_with {B = Part} (with_names (test b BadForm p) names) (λ done names. Refuses BadForm r)) e
+    ap (λ b. then_with {B = Part} (paired (test b BadForm p) names) (λ done names. Refuses BadForm r)) e
 define_lacks run p r (x ▹ params) body names e =
-    ap (λ b. then_with (with_names (test b BadForm p) names) (λ done names. then_with (with_names (binder run x) names)
+    ap (λ b. then_with (paired (test b BadForm p) names) (λ done names. then_with (paired (binder run x) names)
     (λ bytes names. then_with (parse_lambda p (list r params ▹ body) names)
     (λ lambda names. Reads (FunctionPart p bytes None lambda, names))))) e
 
 pub define_nothing : (run : List (List ℕ)) (p r : Pos) (body : Sexprs) (names : ℕ) → has_body body ≡ true
     → parse_define run p (list r end ▹ body) names ≡ Refuses BadForm r
-unfolding then_with with_names
+unfolding then_with paired
 define_nothing run p r body names e =
-    ap (λ b. then_with {B = Part} (with_names (test b BadForm p) names) (λ done names. Refuses BadForm r)) e
+    ap (λ b. then_with {B = Part} (paired (test b BadForm p) names) (λ done names. Refuses BadForm r)) e
 
 then_twice : {A B C : Type 0} (w : Walked (A × ℕ)) (f : A → Parsing B) (g : B → Parsing C)
     → then_with (then_with w f) g ≡ then_with w (λ a names. then_with (f a names) g)
@@ -252,27 +252,27 @@ then_twice (Refuses kind p) f g = refl
 
 lambda_then : (p : Pos) (x : Walked (List ℕ)) (lambda : Parsing LambdaExpr) (params : Walked (List Param))
     (behind : List Param → Parsing LambdaExpr) (names : ℕ)
-    → ((names : ℕ) → lambda names ≡ then_with (with_names params names) behind)
-    → then_with (with_names x names) (λ bytes names. then_with (lambda names)
+    → ((names : ℕ) → lambda names ≡ then_with (paired params names) behind)
+    → then_with (paired x names) (λ bytes names. then_with (lambda names)
     (λ lambda names. Reads (FunctionPart p bytes None lambda, names)))
-    ≡ then_with (with_names x names) (λ bytes names. then_with (with_names params names)
+    ≡ then_with (paired x names) (λ bytes names. then_with (paired params names)
     (λ params names. then_with (behind params names)
     (λ lambda names. Reads (FunctionPart p bytes None lambda, names))))
-unfolding then_with with_names
+unfolding then_with paired
 lambda_then p (Refuses kind q) lambda params behind names h = refl
 lambda_then p (Reads bytes) lambda params behind names h =
     ap (λ m. then_with m (λ lambda names. Reads (FunctionPart p bytes None lambda, names))) (h names)
-    ∙ then_twice (with_names params names) behind (λ lambda names. Reads (FunctionPart p bytes None lambda, names))
+    ∙ then_twice (paired params names) behind (λ lambda names. Reads (FunctionPart p bytes None lambda, names))
 
 pub define_function : (run : List (List ℕ)) (p r : Pos) (x : Sexpr) (params body : Sexprs) (names : ℕ)
     → has_body body ≡ true
     → parse_define run p (list r (x ▹ params) ▹ body) names
-    ≡ then_with (with_names (binder run x) names) (λ bytes names. then_with (with_names (walk_params 6 [] params) names)
+    ≡ then_with (paired (binder run x) names) (λ bytes names. then_with (paired (walk_params 6 [] params) names)
     (λ params names. then_with (parse_behind p params body names)
     (λ lambda names. Reads (FunctionPart p bytes None lambda, names))))
-unfolding then_with with_names
+unfolding then_with paired
 define_function run p r x params body names e =
-    ap (λ b. then_with (with_names (test b BadForm p) names) (λ done names. then_with (with_names (binder run x) names)
+    ap (λ b. then_with (paired (test b BadForm p) names) (λ done names. then_with (paired (binder run x) names)
     (λ bytes names. then_with (parse_lambda p (list r params ▹ body) names)
     (λ lambda names. Reads (FunctionPart p bytes None lambda, names))))) e
     ∙ lambda_then p (binder run x) (parse_lambda p (list r params ▹ body)) (walk_params 6 [] params)
@@ -402,7 +402,7 @@ pub tops_done : (before : List Part) (room : ℕ) (run : List (List ℕ)) (names
 tops_done before zero run names w same = sym same ∙ ap (λ list. Reads (list, names)) (append-nil before)
 tops_done before (suc room) run names w same = sym same ∙ ap (λ list. Reads (list, names)) (append-nil before)
 
-pub ruleset top_steps = (
+pub ruleset top = (
   run_stays,
   run_ends,
   bound_function,
