@@ -8,7 +8,7 @@ use Rattle.grift_base.specs.declared.refusals.FrontFault.TheVariants.{Refused, O
 use Rattle.sexpr_reader.specs.Datum.{Datums}
 use Rattle.sexpr_reader.specs.Grammar.{Reads}
 use Rattle.sexpr_reader.specs.Refused.{IsRefused as HasRefusedTokens}
-use Rattle.surface_syntax.specs.Marked.{all_marked}
+use Rattle.surface_syntax.specs.Marked.{all_marked, how_many}
 use Rattle.surface_syntax.specs.Trees.{Expr}
 use Rattle.surface_syntax.specs.Walking.{Refuses}
 use Rattle.surface_syntax.specs.TopWalk.{walk_program}
@@ -21,6 +21,11 @@ pub record ReadsAs (text : List ℕ) (program : Expr) : Type 0 where
   pub datums : Datums
   pub reads : Reads text datums
   pub forms : AreExpr (all_marked datums) program
+
+-- the text reads as so many forms of a program, and this is its expression
+pub record IsProgramOf (text : List ℕ) (program : Expr) (forms : ℕ) : Type 0 where
+  pub reads : ReadsAs text program
+  pub count : forms ≡ how_many (all_marked reads.datums)
 
 -- the program that the text reads as is elaborated, or refused, so
 pub record ElaboratesTo (text : List ℕ) (outcome : Outcome) : Type 0 where

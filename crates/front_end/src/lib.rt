@@ -5,21 +5,25 @@ ghost use Rattle.std.specs.Prelude.{◌≡◌, ◌≤◌, ℕ, List, IfOk, IfErr
 ghost use Rattle.grift_base.specs.Sizes.{source_limit};
 ghost use Rattle.core_calc.specs.Typing.{ProgramTermHasType};
 ghost use Rattle.core_calc.specs.Views.{term_of};
-ghost use Rattle.cast_insert.specs.Outcomes.{Outcome, Elaborates};
+ghost use Rattle.surface_syntax.specs.Views.{expr_of};
+ghost use Rattle.cast_insert.specs.Elaboration.{elaborate_program};
+ghost use Rattle.cast_insert.specs.Outcomes.{Outcome, Elaborates, outcome_of};
 ghost use Rattle.cast_insert.specs.Views.{entries_of};
-ghost use Rattle.front_end.specs.Texts.{HasOutcome, IsFault};
+ghost use Rattle.front_end.specs.Texts.{HasOutcome, IsFault, IsProgramOf};
 ghost use Rattle.front_end.specs.Placed.{PlacesAll};
 
 use cast_insert::insertion::{Elab, insert};
 use grift_base::refusals::FrontFault;
 use sexpr_reader::read;
 use std::alloc::Global;
+use surface_syntax::exprs::Program;
 use surface_syntax::parse_program;
 use type_graph::tables::TypeTable;
 
-/// A source that was elaborated: its types, and its program with all casts.
+/// A source that was elaborated: its program, the types, and the program with all casts.
 #[derive(Drop)]
 pub struct Elaborated {
+    pub program: Program,
     pub types: TypeTable,
     pub elab: Elab,
 }
@@ -30,6 +34,11 @@ pub fn elaborate_text(alloc: Global, text: &[u8]) -> Result<Elaborated, FrontFau
     requires { length text.now ≤ source_limit }
     ensures outcome { IfOk result (λ done. HasOutcome text.now (Elaborates (term_of done.elab.core) done.elab.ty.0
         done.types done.elab.labels (entries_of done.elab.casts))) }
+    ensures program { IfOk result (λ done.
+        IsProgramOf text.now (expr_of done.program.body) done.program.forms) }
+    ensures elaborated { IfOk result (λ done. outcome_of (elaborate_program (expr_of done.program.body))
+        ≡ Elaborates (term_of done.elab.core) done.elab.ty.0 done.types done.elab.labels
+        (entries_of done.elab.casts)) }
     ensures typed { IfOk result (λ done.
         ProgramTermHasType done.types (length done.elab.labels) (term_of done.elab.core) done.elab.ty.0) }
     ensures refused { IfErr result (IsFault text.now) }
@@ -38,7 +47,11 @@ pub fn elaborate_text(alloc: Global, text: &[u8]) -> Result<Elaborated, FrontFau
     let program = parse_program(alloc, &forms)?;
     let mut types = TypeTable::new(alloc)?;
     let elab = insert(alloc, &program, &mut types)?;
-    Ok(Elaborated { types, elab })
+    Ok(Elaborated {
+        program,
+        types,
+        elab,
+    })
 }
 
 /// Each text has an outcome, and no more than one: it is elaborated in one way, or refused for one fault at one place.

@@ -21,6 +21,17 @@ returns-clause-outcome c =
     (read_as c.args.text.now (datums_of c.in_ok-forms.forms) (expr_of c.in_ok-program.program.body)
     c.in_ok-forms.ensures.reading c.in_ok-program.ensures.program) c.in_ok-elab.ensures.answer
 
+pub returns-clause-program : goal.returns-clause-program
+returns-clause-program c =
+    record {
+      reads = record {
+        datums = datums_of c.in_ok-forms.forms;
+        reads = c.in_ok-forms.ensures.reading;
+        forms = c.in_ok-program.ensures.program;
+      };
+      count = c.in_ok-program.ensures.count;
+    }
+
 pub insert-requires-clause-source : goal.insert-requires-clause-source
 insert-requires-clause-source c =
     read_programs_are_sources c.args.text.now (datums_of c.in_ok-forms.forms)
