@@ -27,6 +27,10 @@ mod TypePlacing
 mod PartWords
 mod CoercionPlacing
 mod NodePlacing
+mod ObjectLists
+mod TypeObjects
+mod NodeObjects
+mod StaticLemmas
 mod LaterTypes
 mod IdAndDyn
 mod LabelLemmas

@@ -9,6 +9,10 @@ pub mod CoercionTables
 pub mod Samples
 pub mod Texts
 pub mod StaticObjects
+pub mod Objects
+pub mod ObjectsOfRows
+pub mod Held
+pub mod Statics
 pub mod Placed
 pub mod Modes
 pub mod MergedMode

@@ -1,5 +1,5 @@
 -- Objects that are placed one after the other: what holds of those that stand there so far.
-use Rattle.std.specs.Prelude.{◌≡◌, ℕ, ◌+◌, ◌*◌, ◌<◌, ◌≤◌, false, List, ◌++◌, length, slice_index}
+use Rattle.std.specs.Prelude.{◌≡◌, ℕ, ◌+◌, ◌*◌, ◌<◌, ◌≤◌, false, List, ◌++◌, length, Some, slice_index}
 use Rattle.grift_base.specs.Types.{TypeRows}
 use Rattle.type_graph.specs.Trees.{height}
 use Rattle.object_layout.specs.declared.wholes.Area.TheVariants.{Statics as InStatics}
@@ -9,6 +9,10 @@ use Rattle.coercion_norm.specs.Heights.{coercion_height}
 use Rattle.coercion_norm.specs.Nodes.{Node, tree_of}
 use Rattle.coercion_norm.specs.StaticObjects.{HoldsCoercion, HoldsType, Tells, coercion_headers, type_header}
 use Rattle.coercion_norm.specs.StaticObjects.{type_headers, up_to}
+use Rattle.coercion_norm.specs.Objects.{Object, object_at, words_of_all}
+use Rattle.coercion_norm.specs.ObjectsOfRows.{object_of_type, type_objects}
+use Rattle.coercion_norm.specs.Held.{Held}
+use Rattle.coercion_norm.specs.Statics.{layout_over, told_objects}
 
 -- The words from `start` on are the objects of the first types, as many as are told, and each type's address is told.
 pub record ArePlacedTypes (types : TypeRows) (start : ℕ) (words type_at : List ℕ) (many : ℕ) : Type 0 where
@@ -51,3 +55,25 @@ pub record ArePlaced (types : TypeRows) (nodes : List Node) (start : ℕ) (words
   pub above : (c : ℕ) → c < many → is_id (tree_of nodes c) ≡ false → start ≤ slice_index coercion_at c
   pub zero_low : (c : ℕ) → c < many → slice_index coercion_at c ≡ 0
       → coercion_height (height types) (tree_of nodes c) ≡ 0
+
+-- ---- the objects themselves
+
+-- The words are those of the objects of the first types, as many as are told: each stands at the address that is told
+-- for it, and its parts at those that are told for them.
+pub record SayTypes (types : TypeRows) (start : ℕ) (words type_at : List ℕ) (many : ℕ) : Type 0 where
+  pub as_many : length type_at ≡ many
+  pub says : words ≡ words_of_all (type_objects types (λ type. slice_index type_at type) many)
+  pub stand : (type : ℕ) → type < many
+      → object_at (type_objects types (λ t. slice_index type_at t) many) start (slice_index type_at type)
+      ≡ Some (object_of_type types (λ t. slice_index type_at t) type)
+  pub rising : (type other : ℕ) → type < other → other < many → slice_index type_at type < slice_index type_at other
+
+-- The words are those of the objects of all types and of the first coercions, as many as words are told for them, and
+-- these words hold the coercions, whatever stands behind.
+pub record SayCoercions (types : TypeRows) (nodes : List Node) (start : ℕ) (words type_at coercion_at : List ℕ)
+    (many : ℕ) : Type 0 where
+  pub as_many : length coercion_at ≡ many
+  pub says : words ≡ words_of_all (told_objects types nodes type_at coercion_at many)
+  pub held : (more objects : List Object) (region tallest c : ℕ) → c < many
+      → Held (layout_over types type_at start (told_objects types nodes type_at coercion_at many ++ more) region
+      tallest) objects (tree_of nodes c) (slice_index coercion_at c)

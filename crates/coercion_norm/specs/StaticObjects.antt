@@ -1,12 +1,10 @@
 -- How words hold types and coercions, and the objects that stand for the rows of tables.
-use Rattle.std.specs.Prelude.{false}
-use Rattle.std.specs.Prelude.{◌≡◌, ℕ, zero, suc, ◌+◌, ◌*◌, ◌<◌, List, [], ◌∷◌, ◌++◌, length, map}
+use Rattle.std.specs.Prelude.{◌≡◌, ℕ, zero, suc, ◌+◌, List, [], ◌∷◌, ◌++◌, length, map}
 use Rattle.std.specs.Prelude.{Some}
 use Rattle.std.specs.Prelude.{slice_index}
 use Rattle.grift_base.specs.Types.{TypeRow, TypeRows, IntRow, BoolRow, UnitRow, DynRow, FunRow, TupleRow, RefRow}
 use Rattle.grift_base.specs.Types.{VectRow}
 use Rattle.grift_base.specs.Types.{parts_of}
-use Rattle.grift_base.specs.declared.words.Statics.{Statics}
 use Rattle.type_graph.specs.Trees.{height}
 use Rattle.object_layout.specs.declared.headers.Header.{Header}
 use Rattle.object_layout.specs.declared.kinds.Kind.{Kind as ObjectKind}
@@ -15,16 +13,14 @@ use Rattle.object_layout.specs.declared.kinds.Kind.TheVariants.{Ref as RefObject
 use Rattle.object_layout.specs.declared.kinds.Kind.TheVariants.{Inject as InjectObject, Project as ProjectObject}
 use Rattle.object_layout.specs.declared.kinds.Kind.TheVariants.{IntType, BoolType, UnitType, DynType, FunType}
 use Rattle.object_layout.specs.declared.kinds.Kind.TheVariants.{TupleType, RefType, VecType}
-use Rattle.object_layout.specs.declared.wholes.Area.TheVariants.{Statics as InStatics}
 use Rattle.object_layout.specs.Kinds.{kind_number}
 use Rattle.object_layout.specs.Headers.{packed}
-use Rattle.object_layout.specs.Wholes.{Telling, IsNth, IsRow, StartsAt, header_at}
+use Rattle.object_layout.specs.Wholes.{Telling, header_at}
 use Rattle.coercion_norm.specs.Coercions.{Kind, FunKind, TupKind, RefKind, VecKind, Coercion, Coercions, Id, Fail}
 use Rattle.coercion_norm.specs.Coercions.{Middle}
-use Rattle.coercion_norm.specs.Coercions.{Inject, Project, NoCoercions, CoercionThen, is_id, rows_of}
+use Rattle.coercion_norm.specs.Coercions.{Inject, Project, NoCoercions, CoercionThen, rows_of}
 use Rattle.coercion_norm.specs.Heights.{coercion_height}
 use Rattle.coercion_norm.specs.Nodes.{Node, IdNode, FailNode, MiddleNode, InjectNode, ProjectNode, tree_of}
-use Rattle.coercion_norm.specs.declared.cast_rows.CastRow.{CastRow}
 
 -- ---- headers
 
@@ -103,7 +99,7 @@ node_object type_at coercion_at high (ProjectNode wanted label i) =
     packed (header ProjectObject high 3) ∷ slice_index type_at wanted ∷ label ∷ slice_index coercion_at i ∷ []
 
 -- what a function gives for the numbers below another, one after the other
-abbrev pub up_to : (ℕ → List Header) → ℕ → List Header
+abbrev pub up_to : {A : Type 0} → (ℕ → List A) → ℕ → List A
 up_to give zero = []
 up_to give (suc n) = up_to give n ++ give n
 
@@ -163,31 +159,3 @@ module _ (memory : Telling) where
       pub StandCoercions : Coercions → ℕ → Type 0
       StandCoercions NoCoercions at = Unit {0}
       StandCoercions (CoercionThen c rest) at = Stands (HoldsCoercion c) at × StandCoercions rest (at + 8)
-
--- ---- statics
-
--- what a function gives for each place of a list, where it has so many
-abbrev pub HasWordEach : List ℕ → ℕ → (ℕ → ℕ → Type 0) → Type 0
-HasWordEach words many Holds =
-    (length words ≡ many) × ((place : ℕ) → place < many → Holds (slice_index words place) place)
-
--- The statics of these tables and casts from an address on. In each memory that has their words there, whole objects
--- fill them without gaps, one for each type and one for each coercion but Id, and the words that are told for types and
--- coercions hold these. The word of a type is the address at which its object begins, and so is that of a coercion but
--- Id. The word of a cast is that of its coercion. No coercion but Id has the word 0, unless the statics begin at 0.
-pub record AreStatics (types : TypeRows) (nodes : List Node) (casts : List CastRow) (start : ℕ) (statics : Statics)
-    : Type 0 where
-  pub whole : (memory : Telling) → Tells memory start statics.words
-      → IsRow memory InStatics start (static_headers types nodes) (start + 8 * length statics.words)
-  pub type_words : (memory : Telling) → Tells memory start statics.words
-      → HasWordEach statics.type_at (length types) (HoldsType memory types)
-  pub coercion_words : (memory : Telling) → Tells memory start statics.words
-      → HasWordEach statics.coercion_at (length nodes) (λ word c. HoldsCoercion memory types (tree_of nodes c) word)
-  pub type_starts : (memory : Telling) → Tells memory start statics.words → (type : ℕ) → type < length types
-      → IsNth start (static_headers types nodes) type (slice_index statics.type_at type) (type_header types type)
-  pub coercion_starts : (memory : Telling) → Tells memory start statics.words → (c : ℕ) → c < length nodes
-      → is_id (tree_of nodes c) ≡ false
-      → StartsAt start (static_headers types nodes) (slice_index statics.coercion_at c)
-  pub cast_words : statics.cast_at ≡ map (λ cast. slice_index statics.coercion_at cast.coercion.0) casts
-  pub only_id : 0 < start → (c : ℕ) → c < length nodes → slice_index statics.coercion_at c ≡ 0
-      → tree_of nodes c ≡ Id

@@ -10,8 +10,9 @@ ghost use Rattle.coercion_norm.specs.Coercions.{is_id};
 ghost use Rattle.coercion_norm.specs.CoercionTables.{FitsTypes};
 ghost use Rattle.coercion_norm.specs.Heights.{coercion_height};
 ghost use Rattle.coercion_norm.specs.Nodes.{Node, coercion_places, node_of, node_parts, tree_of};
-ghost use Rattle.coercion_norm.specs.Placed.{ArePlaced, ArePlacedTypes};
-ghost use Rattle.coercion_norm.specs.StaticObjects.{AreStatics, header, node_object, type_kind, type_object, words_at};
+ghost use Rattle.coercion_norm.specs.Placed.{ArePlaced, ArePlacedTypes, SayCoercions, SayTypes};
+ghost use Rattle.coercion_norm.specs.Statics.{AreStatics};
+ghost use Rattle.coercion_norm.specs.StaticObjects.{header, node_object, type_kind, type_object, words_at};
 
 use crate::cast_rows::{CastRow, CastRows};
 use crate::nodes::{CoercionId, CoercionNode};
@@ -40,6 +41,7 @@ pub fn place_rows(
     requires casts { All (λ cast. cast.coercion.0 < length table.now.nodes) casts.now }
     ensures { IfOk result (λ statics. AreStatics types.now table.now.nodes casts.now start statics) }
 {
+    types.len();
     let mut words = WordList::new(alloc);
     let type_at = place_types(alloc, &mut words, types, start)?;
     let coercion_at = place_coercions(alloc, &mut words, types, table, type_at.as_slice(), start)?;
@@ -61,7 +63,8 @@ fn place_types(
 ) -> Result<WordList, OutOfMemory>
     requires empty { words.old ≡ [] }
     requires low { start < 2 ^ 32 }
-    ensures { IfOk result (λ type_at. ArePlacedTypes types.now start words.new type_at (length types.now)) }
+    ensures placed { IfOk result (λ type_at. ArePlacedTypes types.now start words.new type_at (length types.now)) }
+    ensures said { IfOk result (λ type_at. SayTypes types.now start words.new type_at (length types.now)) }
 {
     let mut type_at = WordList::new(alloc);
     for t in 0..types.len() {
@@ -85,8 +88,11 @@ fn place_coercions(
     requires low { start < 2 ^ 32 }
     requires fits { FitsTypes types.now table.now }
     requires types { ArePlacedTypes types.now start words.old type_at.now (length types.now) }
-    ensures { IfOk result (λ coercion_at. ArePlaced types.now table.now.nodes start words.new type_at.now coercion_at
-        (length table.now.nodes)) }
+    requires said { SayTypes types.now start words.old type_at.now (length types.now) }
+    ensures placed { IfOk result (λ coercion_at. ArePlaced types.now table.now.nodes start words.new type_at.now
+        coercion_at (length table.now.nodes)) }
+    ensures said { IfOk result (λ coercion_at. SayCoercions types.now table.now.nodes start words.new type_at.now
+        coercion_at (length table.now.nodes)) }
 {
     types.len();
     let mut coercion_at = WordList::new(alloc);
