@@ -13,8 +13,8 @@ use Rattle.coercion_norm.specs.Modes.{Bare, Wrapped, Injected, Decision, NoCast,
 use Rattle.coercion_norm.specs.MergedMode.{applied, proxied, rewrapped, shape_has_head, middle_head, width}
 use Rattle.coercion_norm.proofs.Public.{coerce_enough, compose_enough, bound_from_height, height_from_bound}
 use Rattle.coercion_norm.proofs.Public.{coerce_height, coerce_normal, flat_after_middle, compose_height, compose_normal}
-use Rattle.rt_cast.specs.Held.{Layout, TypesStand, rows_in, height_in}
-use Rattle.rt_cast.specs.Objects.{Object}
+use Rattle.coercion_norm.specs.Held.{Layout, TypesStand, rows_in, height_in}
+use Rattle.coercion_norm.specs.Objects.{Object}
 use Rattle.rt_cast.specs.Carried.{IsLow, CarriedBy}
 use Rattle.rt_cast.specs.MergedValues.{Merged, Base, Solid, Proxied, InDyn, Outcome, Stuck, Gives, Blames, then_outcome}
 use Rattle.rt_cast.specs.MergedValues.{decided, shape_of, cast_to, cast_value}

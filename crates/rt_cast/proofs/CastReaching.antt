@@ -10,12 +10,12 @@ use Rattle.coercion_norm.specs.Coercions.{Coercion}
 use Rattle.coercion_norm.specs.Heights.{NoHigher}
 use Rattle.coercion_norm.proofs.Public.{bound_from_height}
 use Rattle.rt_cast.specs.Costs.{cast_cost}
-use Rattle.rt_cast.specs.Objects.{Object}
-use Rattle.rt_cast.specs.Held.{Layout, Held, rows_in, height_in}
+use Rattle.coercion_norm.specs.Objects.{Object}
+use Rattle.coercion_norm.specs.Held.{Layout, Held, rows_in, height_in}
 use Rattle.rt_cast.specs.WholeObjects.{IsSolid}
 use Rattle.rt_cast.specs.Procs.{cast_proc}
 use Rattle.rt_cast.specs.States.{Grows, Filled, IsReady, around, heap_of, st}
-use Rattle.rt_cast.specs.MergedValues.{Merged, Base, Solid, Proxied, InDyn, Outcome, Stuck, Gives, Blames, cast_value}
+use Rattle.rt_cast.specs.MergedValues.{Merged, Solid, Outcome, Stuck, Gives, Blames, cast_value}
 use Rattle.rt_cast.specs.Carried.{IsLow, CarriedBy, Carries, IsVery, ComesTo, ComesToOutcome}
 use Rattle.rt_cast.proofs.Walks.{Walk}
 use Rattle.rt_cast.proofs.Steps.{End}
@@ -57,7 +57,7 @@ module _ {V : Type 0} (reading : Halt → Ending V) (setting : Setting) (l : Lay
           });
     }
     ends low objects r some frames words (Blames label) q =
-        λ new h' count locals rests waiting a b d e rest grows fine is other. record {
+        λ new h' count locals rests waiting a b d e rest grows fine is other first second. record {
           steps = 0;
           few = le_refl 0;
           reach = λ spare.
@@ -73,6 +73,8 @@ module _ {V : Type 0} (reading : Halt → Ending V) (setting : Setting) (l : Lay
                 code = refl;
                 is = is;
                 other = other;
+                first = first;
+                second = second;
                 same = refl;
               });
         }
@@ -114,13 +116,13 @@ module _ {V : Type 0} (reading : Halt → Ending V) (setting : Setting) (l : Lay
   }
 
   -- over what stands under proxies as it stands
-  pub very_casts : l.tallest ≤ 65534 → (objects : List Object) → Filled setting l objects (heap_of s)
+  pub casts_are_made : l.tallest ≤ 65534 → (objects : List Object) → Filled setting l objects (heap_of s)
       → (head : ℕ → TypeHead) (c : Coercion) → IsLow l c → (u : Merged ℕ) (r : Outcome ℕ)
       → cast_value head l.types c u ≡ r → (r ≡ Stuck → ⊥) → (wv wc : ℕ) → Carries l objects u wv
       → Held l objects c wc
       → ComesToOutcome reading setting l s (IsVery l) objects (cast_proc first) (wv ∷ wc ∷ []) r
       (cast_cost l.width l.tallest) (4 * l.tallest + 6)
-  very_casts low objects filled head c lc u r e some wv wc hv hc =
+  casts_are_made low objects filled head c lc u r e some wv wc hv hc =
       casts head (IsVery l) (λ old new g a w h. very_still old new g a w h) (λ os a w h. h.solid) low objects filled c
       lc
       u r e some wv wc hv hc

@@ -27,8 +27,9 @@ use Rattle.object_layout.specs.declared.kinds.Kind.TheVariants.{FunType, TupleTy
 use Rattle.object_layout.specs.declared.kinds.Kind.TheVariants.{Fail as FailObject, Inject as InjectObject}
 use Rattle.object_layout.specs.declared.kinds.Kind.TheVariants.{Project as ProjectObject}
 use Rattle.object_layout.specs.Kinds.{kind_number as number_of, is_free}
-use Rattle.rt_cast.specs.Objects.{Object, Fixed, header_of}
-use Rattle.rt_cast.specs.Held.{There, header, kind_number, Held}
+use Rattle.coercion_norm.specs.Objects.{Object, Fixed, header_of}
+use Rattle.coercion_norm.specs.Held.{There, Held}
+use Rattle.coercion_norm.specs.ObjectsOfRows.{header, kind_number}
 use Rattle.rt_cast.specs.WholeObjects.{IsSolid, WholeProxy, WholeDyn}
 use Rattle.rt_cast.specs.Procs.{coerce_proc, compose_proc, cast_proc}
 use Rattle.rt_cast.specs.PartCodes.{either}
@@ -49,7 +50,7 @@ use Rattle.rt_cast.proofs.CastCases.{wrap, rewrap, apply_plain, apply_final, ope
 use Rattle.rt_cast.specs.MergedValues.{then_outcome}
 use Rattle.std.specs.Prelude.{◌==◌}
 use Rattle.rt_cast.proofs.Walks.{Walk}
-use Rattle.rt_cast.specs.Held.{rows_in, height_in}
+use Rattle.coercion_norm.specs.Held.{rows_in, height_in}
 use Rattle.rt_cast.specs.CastCodes.{cast_code, cast_kinds}
 use Rattle.rt_cast.proofs.CoerceRuns.{all_cast}
 
@@ -177,9 +178,8 @@ module _ {V : Type 0} (walk : Walk V) (low : walk.l.tallest ≤ 65534) (A : Type
       u w → word_of locals a ≡ Some w → Reached B (state count locals (Return a) rests waiting h)
   GoesOn B objects waiting (Blames label) = (new : List Object) (h : Heap) (count : ℕ) (locals : Locals) (rests : List
       Code) (waiting : List Waiting) (a b : LowSource) (d e : ℕ) (rest : Code) → Grows objects new → Fine walk.setting
-      walk.l walk.around new h → word_of locals a ≡ Some label → word_of locals b ≡ Some 0 → Reached End
-      (state count locals
-      (Environment 3 a b d e rest) rests waiting h)
+      walk.l walk.around new h → word_of locals a ≡ Some label → word_of locals b ≡ Some 0 → d < count → e < count
+      → Reached End (state count locals (Environment 3 a b d e rest) rests waiting h)
 
   abbrev pub CastDoes : ℕ → ℕ → Coercion → Merged A → Outcome A → Type 0
   CastDoes cost above c u r = (B : Budget) (objects : List Object) (h : Heap) → Fine walk.setting walk.l walk.around
@@ -243,7 +243,8 @@ module _ {V : Type 0} (walk : Walk V) (low : walk.l.tallest ≤ 65534) (A : Type
       (reads objects h fine waiting wv wc 8 0 1 (label ∷ []) hc (omega arith)
       (λ rests. if_true walk objects fine 8 8 refl refl refl
       (loads walk objects fine wc (header 8 0 1) (label ∷ []) 1 label refl hc refl refl refl
-      (go objects h 10 _ _ waiting (Word 4) (Number 0) 4 5 (Return (Number 0)) (grows_not objects) fine refl refl))))
+      (go objects h 10 _ _ waiting (Word 4) (Number 0) 4 5 (Return (Number 0)) (grows_not objects) fine refl refl
+      (omega arith) (omega arith)))))
       (omega arith, omega arith)
 
   -- a proxy is built in this heap

@@ -59,8 +59,8 @@ module _ (procs : List Proc) (first : ℕ) (s : Stand procs first) where
   pair_closed : proc_closed procs (pair_proc first) ≡ true
   pair_closed = rw (s 5 _ refl, s 7 _ refl) refl
 
-  pub all_closed : each_closed procs (cast_procs first) ≡ true
-  all_closed =
+  pub procedures_are_closed-closed : each_closed procs (cast_procs first) ≡ true
+  procedures_are_closed-closed =
       and_so _ _ coerce_closed (and_so _ _ compose_closed (and_so _ _ cast_closed (and_so _ _ project_closed
       (and_so _ _ part_closed (and_so _ _ refl (and_so _ _ refl (and_so _ _ coerce_part_closed
       (and_so _ _ pair_closed each_middle))))))))

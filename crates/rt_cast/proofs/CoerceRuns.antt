@@ -28,9 +28,10 @@ use Rattle.coercion_norm.specs.Heights.{coercion_height, NoHigher, TypeNoHigher}
 use Rattle.coercion_norm.proofs.Public.{coerce_height}
 use Rattle.coercion_norm.proofs.Public.{height_from_bound, slot_lower}
 use Rattle.rt_cast.specs.Costs.{parts_cost, coerce_cost}
-use Rattle.rt_cast.specs.Objects.{Object, Fixed}
-use Rattle.rt_cast.specs.Held.{HasWidth, There, header, kind_number, type_kind, Held, HoldsType}
-use Rattle.rt_cast.specs.Held.{rows_in, height_in}
+use Rattle.coercion_norm.specs.Objects.{Object, Fixed}
+use Rattle.coercion_norm.specs.Held.{HasWidth, There, Held, HoldsType}
+use Rattle.coercion_norm.specs.ObjectsOfRows.{header, kind_number, type_kind}
+use Rattle.coercion_norm.specs.Held.{rows_in, height_in}
 use Rattle.rt_cast.specs.WholeObjects.{IdWord, WholeFail, WholeInject, WholeProject}
 use Rattle.rt_cast.specs.Procs.{middle_proc}
 use Rattle.rt_cast.specs.PartCodes.{middle_code, raise_code, either}

@@ -18,8 +18,9 @@ use Rattle.coercion_norm.specs.Normal.{IsNormal, is_flat, is_project}
 use Rattle.coercion_norm.proofs.Public.{compose_height, coerce_height, final_height, compose_normal, coerce_normal}
 use Rattle.coercion_norm.proofs.Public.{height_from_bound}
 use Rattle.rt_cast.specs.Costs.{both_cost, coerce_cost, middle_cost, meet_cost, compose_cost}
-use Rattle.rt_cast.specs.Objects.{Object, Fixed}
-use Rattle.rt_cast.specs.Held.{There, header, kind_number, Held, rows_in, height_in}
+use Rattle.coercion_norm.specs.Objects.{Object, Fixed}
+use Rattle.coercion_norm.specs.Held.{There, Held, rows_in, height_in}
+use Rattle.coercion_norm.specs.ObjectsOfRows.{header, kind_number}
 use Rattle.rt_cast.specs.ComposeCodes.{compose_code}
 use Rattle.low_ir.specs.Steps.{no_locals}
 use Rattle.rt_cast.proofs.Steps.{Budget, More, at_most, if_true, if_false}

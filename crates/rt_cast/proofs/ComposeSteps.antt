@@ -23,9 +23,10 @@ use Rattle.coercion_norm.specs.Composition.{middle, final}
 use Rattle.coercion_norm.specs.Composition.{follow_part, follow_parts}
 use Rattle.coercion_norm.specs.Heights.{coercion_height}
 use Rattle.rt_cast.specs.Costs.{parts_cost, both_cost}
-use Rattle.rt_cast.specs.Objects.{Object, Fixed, object_at}
-use Rattle.rt_cast.specs.Held.{HasWidth, Layout, There, header, kind_number, type_kind, Held, HoldsType}
-use Rattle.rt_cast.specs.Held.{rows_in, height_in}
+use Rattle.coercion_norm.specs.Objects.{Object, Fixed, object_at}
+use Rattle.coercion_norm.specs.Held.{HasWidth, Layout, There, Held, HoldsType}
+use Rattle.coercion_norm.specs.ObjectsOfRows.{header, kind_number, type_kind}
+use Rattle.coercion_norm.specs.Held.{rows_in, height_in}
 use Rattle.rt_cast.specs.WholeObjects.{WholeInject, WholeProject}
 use Rattle.rt_cast.specs.Procs.{middle_proc, part_proc}
 use Rattle.rt_cast.specs.PartCodes.{middle_code, raise_code, final_code, either}

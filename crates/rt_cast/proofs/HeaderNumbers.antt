@@ -5,7 +5,7 @@ use Rattle.std.specs.Prelude.{◌==◌, nat_lt}
 use Rattle.std.proofs.lemmas.Nat.{and_mask}
 use Rattle.low_ir.specs.Operations.{compute}
 use Rattle.low_ir.specs.declared.code.WordOp.TheVariants.{Add, And, Sll, Srl}
-use Rattle.rt_cast.specs.Held.{header}
+use Rattle.coercion_norm.specs.ObjectsOfRows.{header}
 
 pub eq_true : (a b : ℕ) → a ≡ b → (a == b) ≡ true
 eq_true a b e = grind arith

@@ -19,16 +19,18 @@ use Rattle.coercion_norm.specs.Coercions.{CoercionThen, is_id, all_id}
 use Rattle.coercion_norm.specs.Composition.{middle}
 use Rattle.coercion_norm.specs.Heights.{coercion_height, highest}
 use Rattle.rt_cast.specs.Costs.{parts_cost}
-use Rattle.rt_cast.specs.Objects.{Object, Fixed, bytes_of_all}
+use Rattle.coercion_norm.specs.Objects.{Object, Fixed, bytes_of_all}
 use Rattle.coercion_norm.specs.Nodes.{KindHasWidth}
-use Rattle.rt_cast.specs.Held.{HasWidth, Layout, There, header, kind_number, Held, AreHeld, height_in}
+use Rattle.coercion_norm.specs.Held.{HasWidth, Layout, There, Held, AreHeld, height_in}
+use Rattle.coercion_norm.specs.ObjectsOfRows.{header, kind_number}
 use Rattle.object_layout.specs.declared.kinds.Kind.TheVariants.{Fail as FailObject, Inject as InjectObject}
 use Rattle.object_layout.specs.declared.kinds.Kind.TheVariants.{Project as ProjectObject}
 use Rattle.object_layout.specs.Kinds.{is_coercion}
 use Rattle.coercion_norm.specs.StaticObjects.{middle_kind}
 use Rattle.rt_cast.specs.WholeObjects.{CoercionWord, IdWord, ObjectWord, Highest, WholeMiddle}
 use Rattle.rt_cast.specs.PartCodes.{results, finish_code, parts_code, middle_code, raise_code, proc}
-use Rattle.rt_cast.proofs.Objects.{object_behind, chosen_true, AreSmall}
+use Rattle.coercion_norm.proofs.Public.{object_behind}
+use Rattle.rt_cast.proofs.Objects.{chosen_true, AreSmall}
 use Rattle.rt_cast.proofs.HeaderNumbers.{eq_true, eq_cases, lt_true}
 use Rattle.rt_cast.proofs.HeaderNumbers.{header_small}
 use Rattle.rt_cast.proofs.Steps.{Budget, More, at_most, sets_word, loads}

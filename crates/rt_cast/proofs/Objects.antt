@@ -1,12 +1,14 @@
 -- Objects are only added, and what is held stays held.
-use Rattle.std.proofs.Common.{◌≡◌, inl, ℕ, zero, suc, ◌+◌, ◌*◌, ◌^◌, ◌%◌, ◌<◌, ◌≤◌, Bool, true, false}
+use Rattle.std.proofs.Common.{◌≡◌, inl, ℕ, zero, suc, ◌+◌, ◌*◌, ◌^◌, ◌<◌, ◌≤◌, Bool, true, false}
 use Rattle.std.proofs.Common.{cond, nat_eq, List, [], ◌∷◌, ◌++◌, length, Some, None, refl, sym, ap, ◌∙◌}
-use Rattle.std.proofs.Common.{subst, arith, eqb-true, ne_eqb}
+use Rattle.std.proofs.Common.{subst, arith, eqb-true}
 use Rattle.std.specs.Prelude.{slice_get}
 use Rattle.rv_machine.specs.Memory.{Memory, store_bytes}
 use Rattle.rv_machine.proofs.Public.{stored_outside, load_stored, load_other}
 use Rattle.low_ir.specs.Steps.{store_words}
-use Rattle.rt_cast.specs.Objects.{Object, Fixed, Cell, bytes_of, bytes_of_all, object_at, HasWord, HoldsWords}
+use Rattle.coercion_norm.specs.Objects.{Object, Fixed, Cell, bytes_of, bytes_of_all, object_at, words_of, words_of_all}
+use Rattle.coercion_norm.proofs.Public.{bytes_of_words}
+use Rattle.rt_cast.specs.Objects.{HasWord, HoldsWords}
 use Rattle.rt_cast.specs.Objects.{HoldsObject, Holds}
 
 pub none_some : {A B : Type 0} {a : A} → None ≡ Some a → B
@@ -23,65 +25,6 @@ chosen_true b x y e = ap (λ c. cond c x y) e
 
 pub chosen_false : {A : Type 0} (b : Bool) (x y : A) → b ≡ false → cond b x y ≡ y
 chosen_false b x y e = ap (λ c. cond c x y) e
-
--- an object keeps its place as objects are added
-pub object_kept : (xs ys : List Object) (from at : ℕ) (o : Object) → object_at xs from at ≡ Some o → object_at
-    (xs ++ ys) from at ≡ Some o
-object_kept [] ys from at o e = none_some e
-object_kept (x ∷ xs) ys from at o e = by_test (object_kept xs ys (from + bytes_of x) at o) (nat_eq at from) e
-  where
-    by_test : (object_at xs (from + bytes_of x) at ≡ Some o → object_at (xs ++ ys) (from + bytes_of x) at ≡ Some o)
-        → (b : Bool) → cond b (Some x) (object_at xs (from + bytes_of x) at) ≡ Some o → cond b (Some x)
-        (object_at (xs ++ ys) (from + bytes_of x) at) ≡ Some o
-    by_test ih true k = k
-    by_test ih false k = ih k
-
-some_bytes : (o : Object) → 0 < bytes_of o
-some_bytes (Fixed header words) = omega arith
-some_bytes (Cell header count) = omega arith
-
--- behind these objects stand the others
-pub object_behind : (xs ys : List Object) (from at : ℕ) → from + bytes_of_all xs ≤ at → object_at (xs ++ ys) from at ≡
-    object_at ys (from + bytes_of_all xs) at
-object_behind [] ys from at le = let e : from ≡ from + 0 = omega arith in ap (λ n. object_at ys n at) e
-object_behind (x ∷ xs) ys from at le =
-    let p = some_bytes x in
-    let apart : nat_eq at from ≡ false = ne_eqb at from (λ e. omega (arith, p)) in
-    let e : from + bytes_of x + bytes_of_all xs ≡ from + (bytes_of x + bytes_of_all xs) = omega arith in
-    chosen_false (nat_eq at from) (Some x) (object_at (xs ++ ys) (from + bytes_of x) at) apart
-    ∙ (object_behind xs ys (from + bytes_of x) at (omega arith)
-    ∙ ap (λ n. object_at ys n at) e)
-
-pub bytes_append : (xs ys : List Object) → bytes_of_all (xs ++ ys) ≡ bytes_of_all xs + bytes_of_all ys
-bytes_append [] ys = omega arith
-bytes_append (x ∷ xs) ys = let ih = bytes_append xs ys in omega arith
-
--- an object lies between the start and the end, at a multiple of 8 where the start is one
-pub record Within (from end at size : ℕ) : Type 0 where
-  pub low : from ≤ at
-  pub high : at + size ≤ end
-  pub even : from % 8 ≡ 0 → at % 8 ≡ 0
-
-pub found_within : (os : List Object) (from at : ℕ) (o : Object) → object_at os from at ≡ Some o → Within from
-    (from + bytes_of_all os) at (bytes_of o)
-found_within [] from at o e = none_some e
-found_within (x ∷ os) from at o e = by_test (found_within os (from + bytes_of x) at o) (nat_eq at from) refl e
-  where
-    size : (y : Object) → (n : ℕ) × (bytes_of y ≡ 8 * n)
-    size (Fixed header words) = (1 + length words, omega arith)
-    size (Cell header count) = (1 + count, omega arith)
-
-    by_test : (object_at os (from + bytes_of x) at ≡ Some o → Within (from + bytes_of x) (from + bytes_of x +
-        bytes_of_all os) at (bytes_of o)) → (b : Bool) → nat_eq at from ≡ b → cond b (Some x) (object_at os
-        (from + bytes_of x) at) ≡ Some o → Within from (from + (bytes_of x + bytes_of_all os)) at (bytes_of o)
-    by_test ih true b k =
-        let e : at ≡ from = eqb-true at from b in
-        let s : bytes_of x ≡ bytes_of o = ap bytes_of (same_some x o k) in
-        record { low = omega arith; high = omega arith; even = λ h. omega arith }
-    by_test ih false b k =
-        let w = ih k in
-        let s = size x in
-        record { low = omega (arith, w.low); high = omega (arith, w.high); even = λ h. w.even (omega (arith, s.1)) }
 
 -- what stands at the place of an object
 pub holds_found : (m : Memory) (from : ℕ) (os : List Object) (at : ℕ) (o : Object) → Holds m from os → object_at os from
@@ -101,6 +44,33 @@ word_found m at [] i w to h e t = none_some e
 word_found m at (x ∷ ws) zero w to h e t =
     let a : at ≡ to = omega arith in subst (λ n. HasWord m n w) a (subst (HasWord m at) (same_some x w e) h.0)
 word_found m at (x ∷ ws) (suc i) w to h e t = word_found m (at + 8) ws i w to h.1 e (omega arith)
+
+-- ---- words of objects
+
+words_split : (m : Memory) (at : ℕ) (xs ys : List ℕ) → HoldsWords m at (xs ++ ys)
+    → HoldsWords m at xs × HoldsWords m (at + 8 * length xs) ys
+words_split m at [] ys h =
+    let e : at ≡ at + 8 * 0 = omega arith in (tt, subst (λ n. HoldsWords m n ys) e h)
+words_split m at (x ∷ xs) ys h =
+    let rest = words_split m (at + 8) xs ys h.1 in
+    let e : at + 8 + 8 * length xs ≡ at + 8 * length (x ∷ xs) = omega arith in
+    ((h.0, rest.0), subst (λ n. HoldsWords m n ys) e rest.1)
+
+first_of_words : (m : Memory) (at : ℕ) (o : Object) → HoldsWords m at (words_of o) → HoldsObject m at o
+first_of_words m at (Fixed header words) h = h
+first_of_words m at (Cell header count) h = h.0
+
+-- objects stand where their words do
+pub objects_stand_where_their_words_do : (m : Memory) (at : ℕ) (os : List Object) → HoldsWords m at (words_of_all os)
+    → Holds m at os
+objects_stand_where_their_words_do m at [] h = tt
+objects_stand_where_their_words_do m at (o ∷ os) h =
+    let both = words_split m at (words_of o) (words_of_all os) h in
+    let e : at + 8 * length (words_of o) ≡ at + bytes_of o = let b = bytes_of_words o in omega (arith, b) in (
+      first_of_words m at o both.0,
+      objects_stand_where_their_words_do m (at + bytes_of o) os
+          (subst (λ n. HoldsWords m n (words_of_all os)) e both.1),
+    )
 
 -- ---- memory
 

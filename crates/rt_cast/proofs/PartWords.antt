@@ -10,8 +10,8 @@ use Rattle.coercion_norm.specs.Coercions.{CoercionThen, is_end, runs_back}
 use Rattle.coercion_norm.specs.Composition.{follow_part, follow_parts}
 use Rattle.coercion_norm.specs.Heights.{NoHigher, AllNoHigher}
 use Rattle.coercion_norm.specs.Normal.{IsNormal, AreNormal}
-use Rattle.rt_cast.specs.Objects.{Object}
-use Rattle.rt_cast.specs.Held.{Layout, Held, AreHeld}
+use Rattle.coercion_norm.specs.Objects.{Object}
+use Rattle.coercion_norm.specs.Held.{Layout, Held, AreHeld}
 use Rattle.rt_cast.proofs.Middles.{list_of}
 
 abbrev pub count : Coercions → ℕ

@@ -1,19 +1,17 @@
 -- What project does.
-use Rattle.std.proofs.Common.{◌≡◌, ◌⊎◌, inl, inr, ℕ, zero, suc, ◌+◌, ◌*◌, ◌^◌, ◌%◌, ◌<◌, ◌≤◌, Bool, true, false, cond}
+use Rattle.std.proofs.Common.{◌≡◌, ◌⊎◌, inl, inr, ℕ, zero, suc, ◌+◌, ◌*◌, ◌<◌, ◌≤◌, Bool, true, false, cond}
 use Rattle.std.proofs.Common.{List, [], ◌∷◌, ◌++◌, map, Option, Some, None, refl, sym, ap, ap₂, ◌∙◌, subst, arith}
 use Rattle.std.proofs.Common.{length}
-use Rattle.std.specs.Prelude.{◌==◌, nat_lt, slice_get, slice_index, slice_index_or, max, All, pos}
+use Rattle.std.specs.Prelude.{◌==◌, nat_lt, slice_get, max, All, pos}
 use Rattle.std.proofs.lemmas.List.Elements.{All-head, All-tail}
 use Rattle.grift_base.specs.Types.{TypeHead, TypeRow, TypeRows, IntRow, BoolRow, UnitRow, DynRow, FunRow, TupleRow}
 use Rattle.grift_base.specs.Types.{RefRow, VectRow, is_dyn, parts_of, row_at, tuple_part, dyn_from, dyn_place}
-use Rattle.low_ir.specs.Operations.{compute}
-use Rattle.low_ir.specs.declared.code.LowSource.{LowSource}
 use Rattle.low_ir.specs.declared.code.LowSource.TheVariants.{Word, Number}
-use Rattle.low_ir.specs.declared.code.WordOp.TheVariants.{Add, And, Sll, Srl}
+use Rattle.low_ir.specs.declared.code.WordOp.TheVariants.{And}
 use Rattle.rv_isa.specs.declared.inst.Cond.TheVariants.{Eq, Ltu}
 use Rattle.low_ir.specs.Procedures.{Code, Compute, Load, Build, Return}
 use Rattle.low_ir.specs.Steps.{Locals, no_locals, set_local}
-use Rattle.low_ir.specs.Run.{Active, Waiting, LowState, bind, and_more}
+use Rattle.low_ir.specs.Run.{Waiting, LowState, bind, and_more}
 use Rattle.coercion_norm.specs.declared.middles.MiddleKind.{MiddleKind as Kind}
 use Rattle.coercion_norm.specs.declared.middles.MiddleKind.TheVariants.{Fun as FunKind, Tup as TupKind}
 use Rattle.coercion_norm.specs.declared.middles.MiddleKind.TheVariants.{Ref as RefKind, Vec as VecKind}
@@ -22,14 +20,15 @@ use Rattle.coercion_norm.specs.Coercions.{CoercionThen, kind_of, rows_of}
 use Rattle.coercion_norm.specs.CoercionTables.{cast_of}
 use Rattle.coercion_norm.specs.Composition.{coerce_by, coerce_below}
 use Rattle.coercion_norm.specs.Heights.{coercion_height, highest, NoHigher, TypeNoHigher}
-use Rattle.coercion_norm.specs.Modes.{DynPart, PartCast, NoPart, NoType, part_to_dyn, cast_to_dyn, kept_part}
+use Rattle.coercion_norm.specs.Modes.{part_to_dyn, cast_to_dyn, kept_part}
 use Rattle.coercion_norm.specs.MergedMode.{part_at, tuple_coercion}
 use Rattle.coercion_norm.specs.Normal.{IsNormal, AreNormal}
-use Rattle.rt_cast.specs.Costs.{cast_cost, tuple_cost, project_cost}
-use Rattle.rt_cast.specs.Objects.{Object, Fixed}
-use Rattle.rt_cast.specs.Held.{There, header, kind_number, type_kind, Held, AreHeld, HoldsType, rows_in, height_in}
+use Rattle.rt_cast.specs.Costs.{tuple_cost, project_cost}
+use Rattle.coercion_norm.specs.Objects.{Object, Fixed}
+use Rattle.coercion_norm.specs.Held.{There, Held, AreHeld, HoldsType, rows_in, height_in}
+use Rattle.coercion_norm.specs.ObjectsOfRows.{header, type_kind}
 use Rattle.rt_cast.specs.WholeObjects.{IsSolid, WholeDyn}
-use Rattle.rt_cast.specs.CastCodes.{project_code, project_dyn, project_dyn_part, project_tuple, project_blame}
+use Rattle.rt_cast.specs.CastCodes.{project_code, project_dyn_part, project_blame}
 use Rattle.rt_cast.specs.PartCodes.{either}
 use Rattle.rt_cast.specs.Procs.{cast_proc, project_proc}
 use Rattle.rt_cast.specs.States.{Grows, Heap, Fine, st}
@@ -39,14 +38,13 @@ use Rattle.rt_cast.specs.PartValues.{with_some, part_value, dyn_part_by, dyn_par
 use Rattle.rt_cast.specs.Carried.{CarriedBy, IsLow, AreCarried, HoldsParts, HaveParts}
 use Rattle.rt_cast.proofs.Walks.{Walk}
 use Rattle.rt_cast.proofs.Objects.{none_some, same_some}
-use Rattle.rt_cast.proofs.HeaderNumbers.{eq_true, eq_false, lt_true, lt_false, lt_cases, kind_read, count_read}
-use Rattle.rt_cast.proofs.Steps.{Budget, End, Out, More, at_most, word_there, loads, loads_at, computes, if_true}
+use Rattle.rt_cast.proofs.HeaderNumbers.{eq_true, lt_true, lt_false, lt_cases, kind_read, count_read}
+use Rattle.rt_cast.proofs.Steps.{Budget, More, at_most, word_there, loads, loads_at, computes, if_true}
 use Rattle.rt_cast.proofs.Steps.{if_false}
-use Rattle.rt_cast.proofs.Steps.{builds, calls, tail_calls, comes_back}
-use Rattle.rt_cast.proofs.Small.{ReachedIn, grows_not, grows_on, there_still}
+use Rattle.rt_cast.proofs.Steps.{builds, calls, tail_calls}
+use Rattle.rt_cast.proofs.Small.{ReachedIn, grows_not}
 use Rattle.rt_cast.proofs.Middles.{added, one_more}
 use Rattle.rt_cast.proofs.ComposeSteps.{type_there, type_small, type_still, type_numbers}
-use Rattle.rt_cast.proofs.CastCases.{apply}
 use Rattle.rt_cast.proofs.CastRuns.{rebased, after, GoesOn, whole_above, no_higher, carried_still, carried_small}
 use Rattle.rt_cast.proofs.CastRuns.{by_cast}
 use Rattle.rt_cast.proofs.CastDecisions.{low_of, by_inject, by_cast as decided_cast}
@@ -353,7 +351,8 @@ module _ {V : Type 0} (walk : Walk V) (low : walk.l.tallest ≤ 65534) (A : Type
       → ReachedIn walk (More 0 0 B) (state 12 (dyn_read wv k label wt wx kept) project_blame rests waiting h)
   blamed objects h fine waiting rests wv k label wt wx kept go =
       at_most walk
-      (go objects h 12 _ rests waiting (Word 3) (Number 0) 4 5 (Return (Number 0)) (grows_not objects) fine refl refl)
+      (go objects h 12 _ rests waiting (Word 3) (Number 0) 4 5 (Return (Number 0)) (grows_not objects) fine refl refl
+      (omega arith) (omega arith))
       (omega arith, omega arith)
 
   -- the part in a Dyn that keeps its type, unless that is Dyn

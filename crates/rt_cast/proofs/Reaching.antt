@@ -9,8 +9,8 @@ use Rattle.coercion_norm.specs.CoercionTables.{IsSound, cast_of, composition_of}
 use Rattle.coercion_norm.specs.Heights.{coercion_height}
 use Rattle.coercion_norm.proofs.Public.{bound_from_height}
 use Rattle.rt_cast.specs.Costs.{coerce_cost, compose_cost}
-use Rattle.rt_cast.specs.Objects.{Object}
-use Rattle.rt_cast.specs.Held.{Layout, Held, HoldsType, rows_in, height_in}
+use Rattle.coercion_norm.specs.Objects.{Object}
+use Rattle.coercion_norm.specs.Held.{Layout, Held, HoldsType, rows_in, height_in}
 use Rattle.rt_cast.specs.Procs.{coerce_proc, compose_proc}
 use Rattle.rt_cast.specs.States.{Filled, Fine, OnTheWay, HeldAt, IsReady, ComesToHeld, around, heap_of}
 use Rattle.rt_cast.proofs.Walks.{Walk}
@@ -49,12 +49,13 @@ module _ {V : Type 0} (reading : Halt → Ending V) (setting : Setting) (l : Lay
     types = ready.types;
   }
 
-  pub composes : (objects : List Object) → Filled setting l objects (heap_of s) → (c d : Coercion) (wc wd : ℕ)
+  pub compositions_are_held : (objects : List Object) → Filled setting l objects (heap_of s)
+      → (c d : Coercion) (wc wd : ℕ)
       → IsSound l.types c → IsSound l.types d → Held l objects c wc → Held l objects d wd
       → ComesToHeld reading setting l s objects (compose_proc first) (wc ∷ wd ∷ []) (composition_of l.types c d)
       (compose_cost l.width (max (coercion_height (height_in l) c) (coercion_height (height_in l) d)))
       (4 * max (coercion_height (height_in l) c) (coercion_height (height_in l) d) + 4)
-  composes objects filled c d wc wd sc sd hc hd =
+  compositions_are_held objects filled c d wc wd sc sd hc hd =
       let n = max (coercion_height (height_in l) c) (coercion_height (height_in l) d) in
       let most = compose_cost l.width n in
       let Q = HeldAt setting l (around s) objects s.waiting (composition_of l.types c d) in
@@ -85,12 +86,13 @@ module _ {V : Type 0} (reading : Halt → Ending V) (setting : Setting) (l : Lay
       in
       (z.steps, (let f = z.few in omega arith), z.reach (record { room = omega arith; left = omega arith }))
 
-  pub coerces : (objects : List Object) → Filled setting l objects (heap_of s) → (from to label wf wt : ℕ)
+  pub coercions_of_casts_are_held : (objects : List Object) → Filled setting l objects (heap_of s)
+      → (from to label wf wt : ℕ)
       → HoldsType l objects wf from → HoldsType l objects wt to → label < 2 ^ 64
       → ComesToHeld reading setting l s objects (coerce_proc first) (wf ∷ wt ∷ label ∷ [])
       (cast_of l.types from to label) (coerce_cost l.width (max (height_in l from) (height_in l to)))
       (max (height_in l from) (height_in l to) + 1)
-  coerces objects filled from to label wf wt hf ht small =
+  coercions_of_casts_are_held objects filled from to label wf wt hf ht small =
       let n = max (height_in l from) (height_in l to) in
       let most = coerce_cost l.width n in
       let Q = HeldAt setting l (around s) objects s.waiting (cast_of l.types from to label) in

@@ -11,15 +11,16 @@ use Rattle.low_ir.specs.declared.code.LowSource.{LowSource}
 use Rattle.low_ir.specs.declared.code.LowSource.TheVariants.{Word, Number}
 use Rattle.low_ir.specs.Procedures.{Code, Return}
 use Rattle.low_ir.specs.Run.{Waiting, LowState, word_of, bind}
-use Rattle.rt_cast.specs.Objects.{Object, Fixed, object_at}
-use Rattle.rt_cast.specs.Held.{Layout, There, header, kind_number, Held, height_in}
+use Rattle.coercion_norm.specs.Objects.{Object, Fixed, object_at}
+use Rattle.coercion_norm.specs.Held.{Layout, There, Held, height_in}
+use Rattle.coercion_norm.specs.ObjectsOfRows.{header, kind_number}
 use Rattle.coercion_norm.specs.declared.middles.MiddleKind.{MiddleKind as Kind}
 use Rattle.coercion_norm.specs.declared.middles.MiddleKind.TheVariants.{Fun as FunKind, Tup as TupKind}
 use Rattle.coercion_norm.specs.declared.middles.MiddleKind.TheVariants.{Ref as RefKind, Vec as VecKind}
 use Rattle.coercion_norm.specs.Coercions.{Coercion, Id, Fail, Middle, Inject, Project}
 use Rattle.coercion_norm.specs.Heights.{coercion_height}
 use Rattle.rt_cast.specs.PartCodes.{raise_code, final_code}
-use Rattle.rt_cast.proofs.Objects.{object_kept}
+use Rattle.coercion_norm.proofs.Public.{object_kept}
 use Rattle.rt_cast.proofs.HeaderNumbers.{eq_true, eq_false, lt_true, lt_false, lt_cases, kind_read, height_read}
 use Rattle.rt_cast.proofs.Steps.{Budget, More, at_most, word_there, Comes, loads}
 use Rattle.rt_cast.proofs.Steps.{computes, if_true, if_false}

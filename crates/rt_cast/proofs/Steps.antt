@@ -18,12 +18,15 @@ use Rattle.low_ir.specs.declared.code.LowSource.{LowSource}
 use Rattle.low_ir.specs.Procedures.{Code, Set, Compute, Load, Build, Call, If, Return, TailCall, Proc}
 use Rattle.low_ir.specs.Run.{Active, Waiting, LowState, LowShown, word_of, words_of, bind}
 use Rattle.low_ir.specs.Run.{low_machine, load, sets, and_more, code_turns}
-use Rattle.rt_cast.specs.Objects.{Object, Fixed, Cell, header_of, bytes_of, HasWord}
+use Rattle.coercion_norm.specs.Objects.{Object, Fixed, Cell, header_of, bytes_of}
+use Rattle.rt_cast.specs.Objects.{HasWord}
 use Rattle.rt_cast.specs.Objects.{HoldsWords, HoldsObject, Holds}
-use Rattle.rt_cast.specs.Held.{Layout, There}
+use Rattle.coercion_norm.specs.Held.{Layout, There}
 use Rattle.rt_cast.specs.WholeObjects.{IsWhole, Wholes}
-use Rattle.rt_cast.proofs.Objects.{found_within, holds_found, word_found, AreSmall, stored_words, bytes_below}
-use Rattle.rt_cast.proofs.Objects.{holds_below, holds_append, bytes_append}
+use Rattle.coercion_norm.proofs.Public.{found_within}
+use Rattle.rt_cast.proofs.Objects.{holds_found, word_found, AreSmall, stored_words, bytes_below}
+use Rattle.coercion_norm.proofs.Public.{bytes_append}
+use Rattle.rt_cast.proofs.Objects.{holds_below, holds_append}
 use Rattle.rt_cast.proofs.Objects.{none_some, same_some}
 use Rattle.rt_cast.proofs.Walks.{Walk}
 

@@ -3,8 +3,8 @@ use Rattle.std.proofs.Common.{◌≡◌, ℕ, ◌≤◌, List, length}
 use Rattle.run_laws.specs.Runs.{Ending, Exhausted}
 use Rattle.rv_machine.specs.State.{Halt, Lacks, Region}
 use Rattle.low_ir.specs.Run.{Setting, Active, Waiting, LowState, code_turns}
-use Rattle.rt_cast.specs.Objects.{Object}
-use Rattle.rt_cast.specs.Held.{Layout, TypesStand}
+use Rattle.coercion_norm.specs.Objects.{Object}
+use Rattle.coercion_norm.specs.Held.{Layout, TypesStand}
 use Rattle.rt_cast.specs.Procs.{Stand}
 use Rattle.rt_cast.specs.States.{Heap, Around, Fine, Placed}
 

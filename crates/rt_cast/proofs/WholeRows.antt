@@ -1,6 +1,6 @@
 -- Lists of whole objects are rows of whole objects in what the memory tells.
-use Rattle.std.proofs.Common.{◌≡◌, ◌⊎◌, inl, inr, ℕ, zero, suc, ◌+◌, ◌*◌, ◌^◌, ◌%◌, ◌<◌, ◌≤◌, Bool, true, false, max}
-use Rattle.std.proofs.Common.{List, [], ◌∷◌, ◌++◌, length, replicate, Option, Some, None, refl, sym, ap, ap₂, ◌∙◌}
+use Rattle.std.proofs.Common.{◌≡◌, inl, inr, ℕ, suc, ◌+◌, ◌*◌, ◌%◌, ◌<◌, ◌≤◌, Bool, true, false, max}
+use Rattle.std.proofs.Common.{List, [], ◌∷◌, ◌++◌, length, replicate, Some, None, refl, sym, ap, ap₂, ◌∙◌}
 use Rattle.std.proofs.Common.{subst}
 use Rattle.std.proofs.Common.{append_assoc, append-nil, map, arith}
 use Rattle.std.specs.Prelude.{◌==◌, ◌&&◌, nat_le, if◌then◌else◌}
@@ -21,23 +21,26 @@ use Rattle.object_layout.specs.declared.kinds.Kind.TheVariants.{Fail as FailObje
 use Rattle.object_layout.specs.declared.kinds.Kind.TheVariants.{Project as ProjectObject, Fun, Tup, Ref, Vec}
 use Rattle.object_layout.specs.declared.kinds.Kind.TheVariants.{IntType, BoolType, UnitType, DynType, FunType}
 use Rattle.object_layout.specs.declared.kinds.Kind.TheVariants.{TupleType, RefType, VecType}
-use Rattle.object_layout.specs.declared.kinds.Wanted.TheVariants.{Coercion, TypeAddress, Target}
-use Rattle.object_layout.specs.declared.kinds.Wanted.TheVariants.{Middle as MiddleAddress}
+use Rattle.object_layout.specs.declared.kinds.Wanted.TheVariants.{Coercion, TypeAddress}
 use Rattle.object_layout.specs.declared.wholes.Area.TheVariants.{Region}
-use Rattle.object_layout.specs.Kinds.{kind_number as number_of, kind_of, is_free, is_coercion, is_target, is_middle}
+use Rattle.object_layout.specs.Kinds.{kind_number as number_of, is_free, is_coercion, is_target, is_middle}
 use Rattle.object_layout.specs.Kinds.{is_type, allows_count, wanted_words}
 use Rattle.object_layout.specs.Wholes.{Telling, header_at, height_of, height_behind, coercion_height, highest}
 use Rattle.object_layout.specs.Wholes.{IsAddress}
 use Rattle.object_layout.specs.Wholes.{IsWanted, AreWanted, HasHeight, IsWhole as IsWholeHere, Fills}
-use Rattle.rt_cast.specs.Objects.{Object, Fixed, Cell, header_of, bytes_of, bytes_of_all, HasWord, HoldsWords}
-use Rattle.rt_cast.specs.Objects.{HoldsObject, Holds, object_at}
-use Rattle.rt_cast.specs.Held.{Layout, There, HoldsType, TypesStand, HasWidth, header, kind_number, type_kind}
-use Rattle.rt_cast.specs.Held.{rows_in, height_in}
-use Rattle.rt_cast.specs.WholeObjects.{IsSolid, CoercionWord, IdWord, ObjectWord, Highest, IsWhole, Wholes, WholeFail}
+use Rattle.coercion_norm.specs.Objects.{Object, Fixed, Cell, header_of, bytes_of, bytes_of_all}
+use Rattle.rt_cast.specs.Objects.{HasWord, HoldsWords}
+use Rattle.coercion_norm.specs.Objects.{object_at}
+use Rattle.rt_cast.specs.Objects.{HoldsObject, Holds}
+use Rattle.coercion_norm.specs.Held.{Layout, There, HoldsType, TypesStand, HasWidth}
+use Rattle.coercion_norm.specs.ObjectsOfRows.{header, kind_number, type_kind}
+use Rattle.coercion_norm.specs.Held.{rows_in, height_in}
+use Rattle.rt_cast.specs.WholeObjects.{CoercionWord, IdWord, ObjectWord, Highest, IsWhole, Wholes, WholeFail}
 use Rattle.rt_cast.specs.WholeObjects.{WholeMiddle, WholeInject, WholeProject, WholeProxy, WholeDyn, WholeOther}
 use Rattle.rt_cast.specs.States.{Heap, Filled, Placed}
 use Rattle.rt_cast.specs.ToldRows.{telling, IsFilled}
-use Rattle.rt_cast.proofs.Objects.{found_within, holds_found, object_kept, bytes_append}
+use Rattle.coercion_norm.proofs.Public.{found_within, object_kept, bytes_append}
+use Rattle.rt_cast.proofs.Objects.{holds_found}
 
 free_target : (kind : ObjectKind) → is_free kind ≡ true → is_target kind ≡ true
 free_target Closure e = refl
@@ -441,9 +444,9 @@ module _ (setting : Setting) (l : Layout) (m : Memory) (objects : List Object) (
       )
 
 -- the region is filled by whole objects
-pub filled_rows : (setting : Setting) (l : Layout) (objects : List Object) (h : Heap) → Placed setting l → TypesStand l
-    → l.tallest ≤ 65534 → Filled setting l objects h → IsFilled setting.top h.memory l.region h.alloc
-filled_rows setting l objects h placed types low f =
+pub objects_fill_the_region : (setting : Setting) (l : Layout) (objects : List Object) (h : Heap) → Placed setting l
+    → TypesStand l → l.tallest ≤ 65534 → Filled setting l objects h → IsFilled setting.top h.memory l.region h.alloc
+objects_fill_the_region setting l objects h placed types low f =
     let e : l.region + 0 ≡ l.region = omega arith in
     let all =
     fills setting l h.memory objects placed types low f.statics_stand f.objects_stand

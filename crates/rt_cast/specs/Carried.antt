@@ -11,8 +11,9 @@ use Rattle.low_ir.specs.Run.{Setting, LowState, word_of, low_machine}
 use Rattle.coercion_norm.specs.Coercions.{Coercion}
 use Rattle.coercion_norm.specs.Heights.{coercion_height}
 use Rattle.coercion_norm.specs.Normal.{IsNormal}
-use Rattle.rt_cast.specs.Objects.{Object, Fixed}
-use Rattle.rt_cast.specs.Held.{Layout, There, header, Held, HoldsType, rows_in, height_in}
+use Rattle.coercion_norm.specs.Objects.{Object, Fixed}
+use Rattle.coercion_norm.specs.Held.{Layout, There, Held, HoldsType, rows_in, height_in}
+use Rattle.coercion_norm.specs.ObjectsOfRows.{header}
 use Rattle.rt_cast.specs.WholeObjects.{IsSolid}
 use Rattle.rt_cast.specs.States.{Grows, Fine, OnTheWay, around, heap_of, entered}
 use Rattle.rt_cast.specs.MergedValues.{Merged, Base, Solid, Proxied, InDyn, Outcome, Stuck, Gives, Blames}
@@ -75,7 +76,7 @@ module _ (l : Layout) where
       pub waits : t.waiting ≡ s.waiting
       pub same : t.world ≡ s.world
 
-    -- the environment call that blames the label
+    -- the environment call that blames the label, whose words are those of the procedure that makes it
     pub record BlamesAt (label : ℕ) (t : LowState) : Type 0 where
       pub new : List Object
       pub fine : Fine setting l (around s) new (heap_of t)
@@ -87,6 +88,8 @@ module _ (l : Layout) where
       pub code : t.active.code ≡ Environment 3 a b d e rest
       pub is : word_of t.active.locals a ≡ Some label
       pub other : word_of t.active.locals b ≡ Some 0
+      pub first : d < t.active.count
+      pub second : e < t.active.count
       pub same : t.world ≡ s.world
 
     abbrev pub ComesTo : Outcome A → LowState → Type 0

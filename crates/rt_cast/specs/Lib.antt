@@ -1,5 +1,4 @@
 pub mod Objects
-pub mod Held
 pub mod WholeObjects
 pub mod PartCodes
 pub mod ComposeCodes

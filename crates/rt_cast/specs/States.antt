@@ -10,8 +10,9 @@ use Rattle.low_ir.specs.Procedures.{Code, Proc, Return}
 use Rattle.low_ir.specs.Steps.{Locals, no_locals}
 use Rattle.low_ir.specs.Run.{Setting, Waiting, LowState, bind, word_of, low_machine, low_turns}
 use Rattle.coercion_norm.specs.Coercions.{Coercion}
-use Rattle.rt_cast.specs.Objects.{Object, Holds, bytes_of_all}
-use Rattle.rt_cast.specs.Held.{Layout, Held, TypesStand}
+use Rattle.coercion_norm.specs.Objects.{Object, bytes_of_all}
+use Rattle.rt_cast.specs.Objects.{Holds}
+use Rattle.coercion_norm.specs.Held.{Layout, Held, TypesStand}
 use Rattle.rt_cast.specs.WholeObjects.{Wholes}
 use Rattle.rt_cast.specs.Procs.{Stand}
 

@@ -1,11 +1,12 @@
 -- Lists of whole objects: each says of objects before it what its kind asks for, no proxy stands on a proxy, and no
 -- proxy's coercion is higher than the tallest.
-use Rattle.std.specs.Prelude.{max, ◌==◌, ◌≡◌, ℕ, suc, ◌+◌, ◌*◌, ◌<◌, ◌≤◌, true, false, List, [], ◌∷◌, ◌++◌, length}
+use Rattle.std.specs.Prelude.{max, ◌≡◌, ℕ, suc, ◌+◌, ◌*◌, ◌<◌, ◌≤◌, true, List, [], ◌∷◌, ◌++◌, length}
 use Rattle.coercion_norm.specs.declared.middles.MiddleKind.{MiddleKind as Kind}
 use Rattle.object_layout.specs.declared.kinds.Kind.{Kind as ObjectKind}
 use Rattle.object_layout.specs.Kinds.{kind_number as number_of, is_free, is_coercion, allows_count}
-use Rattle.rt_cast.specs.Objects.{Object, Fixed, header_of, bytes_of}
-use Rattle.rt_cast.specs.Held.{Layout, There, HoldsType, header, kind_number, height_in, HasWidth}
+use Rattle.coercion_norm.specs.Objects.{Object, Fixed, header_of, bytes_of}
+use Rattle.coercion_norm.specs.Held.{Layout, There, HoldsType, height_in, HasWidth}
+use Rattle.coercion_norm.specs.ObjectsOfRows.{header, kind_number}
 
 module _ (l : Layout) (objects : List Object) where
   -- a closure, a tuple, a box or a vector

@@ -3,6 +3,7 @@
 ghost use Rattle.std.specs.Prelude.{◌≡◌, ℕ, ◌+◌, ◌*◌, ◌<◌, ◌≤◌, ◌^◌, max, true, List, [], ◌∷◌, length};
 ghost use Rattle.grift_base.specs.Types.{TypeHead};
 ghost use Rattle.run_laws.specs.Runs.{Ending, Exhausted};
+ghost use Rattle.rv_machine.specs.Memory.{Memory};
 ghost use Rattle.rv_machine.specs.State.{Halt, Lacks, Region};
 ghost use Rattle.low_ir.specs.Procedures.{Proc};
 ghost use Rattle.low_ir.specs.Closed.{each_closed};
@@ -11,9 +12,10 @@ ghost use Rattle.type_graph.specs.declared.tables.TheConstants.{MOST_HEIGHT};
 ghost use Rattle.coercion_norm.specs.Coercions.{Coercion};
 ghost use Rattle.coercion_norm.specs.CoercionTables.{IsSound, cast_of, composition_of};
 ghost use Rattle.coercion_norm.specs.Heights.{coercion_height};
+ghost use Rattle.coercion_norm.specs.Held.{Layout, Held, HoldsType, TypesStand, height_in};
+ghost use Rattle.coercion_norm.specs.Objects.{Object, words_of_all};
 ghost use Rattle.rt_cast.specs.Costs.{coerce_cost, compose_cost, cast_cost, tuple_cost, project_cost};
-ghost use Rattle.rt_cast.specs.Objects.{Object};
-ghost use Rattle.rt_cast.specs.Held.{Layout, Held, HoldsType, TypesStand, height_in};
+ghost use Rattle.rt_cast.specs.Objects.{Holds, HoldsWords};
 ghost use Rattle.rt_cast.specs.Procs.{Stand, coerce_proc, compose_proc, cast_proc, project_proc};
 ghost use Rattle.rt_cast.specs.Procs.{cast_procs};
 ghost use Rattle.rt_cast.specs.PartValues.{part_value, dyn_part_value};
@@ -92,6 +94,12 @@ pub fn objects_fill_the_region()
     ensures { (setting : Setting) (l : Layout) (objects : List Object) (h : Heap) → Placed setting l → TypesStand l
         → l.tallest ≤ MOST_HEIGHT → Filled setting l objects h
         → IsFilled setting.top h.memory l.region h.alloc }
+{}
+
+/// Where the words of objects stand in memory, the objects do.
+pub fn objects_stand_where_their_words_do()
+    ensures { (m : Memory) (at : ℕ) (objects : List Object) → HoldsWords m at (words_of_all objects)
+        → Holds m at objects }
 {}
 
 /// The procedures are closed wherever they stand in a program, so each calls only procedures of the set, and hands on
