@@ -15,7 +15,7 @@ use Rattle.rv_machine.specs.Memory.{first_address}
 use Rattle.rv_machine.specs.Registers.{zero_regs}
 use Rattle.rv_machine.specs.Image.{IsImage, statics_len, code_len}
 use Rattle.rv_machine.specs.State.{Layout, State, Halt, Lacks, Stack}
-use Rattle.rv_machine.specs.Start.{start_of, start_regs}
+use Rattle.rv_machine.specs.Start.{start_of, start_regs, fresh_world}
 use Rattle.rv_machine.specs.Mach.{machine_by, IsReading}
 use Rattle.rv_machine.specs.Real.{plain_setting, real_machine}
 use Rattle.low_ir.specs.Procedures.{Proc}
@@ -37,6 +37,7 @@ use Rattle.rv_select.specs.Images.{IsImageOfWords}
 use Rattle.rv_select.proofs.Frames.{set_fits}
 use Rattle.rv_select.proofs.Closedness.{closed_entry}
 use Rattle.rv_select.proofs.ImageBytes.{parts_small, memory_bytes}
+use Rattle.rv_select.proofs.ProcAddresses.{have_addresses}
 
 -- what a real state shows below the last two passes
 below_code : (bound : ℕ) (s : State) (v : Shown)
@@ -229,6 +230,10 @@ module _ {image : List ℕ} {procs : List Proc} {entry : ℕ} {statics : List �
   pub is_image_of_words : IsImageOfWords image procs entry statics labels
   is_image_of_words = record {
     is_image = is;
+    addresses = have_addresses procs entry statics registers (start_of image 0 0 (fresh_world []))
+        is.addresses.sound selected slotted;
+    whole = whole;
+    small = parts_small is whole;
     runs = λ reading out p told region stack world given never.
         follows_words p told region stack world given reading never out;
     in_stack = λ reading sound p told region stack world given never.

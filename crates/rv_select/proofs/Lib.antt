@@ -15,6 +15,7 @@ pub mod SlotDistinct
 pub mod SlotConditions
 pub mod SlotRuns
 pub mod SlotClaims
+pub mod ProcAddresses
 pub mod ImageBytes
 pub mod ImageRuns
 pub mod Public

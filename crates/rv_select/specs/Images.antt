@@ -1,5 +1,5 @@
 -- What the image of a closed program over words is to the program.
-use Rattle.std.specs.Prelude.{ℕ, ◌+◌, ◌<◌, ◌≤◌, ◌≡◌, List, length, Some, slice_get}
+use Rattle.std.specs.Prelude.{ℕ, ◌+◌, ◌^◌, ◌<◌, ◌≤◌, ◌≡◌, List, length, Some, slice_get}
 use Rattle.grift_base.specs.World.{WorldState}
 use Rattle.grift_base.specs.declared.places.Pos.{Pos}
 use Rattle.grift_base.specs.declared.verdicts.Verdict.{Verdict}
@@ -7,6 +7,7 @@ use Rattle.run_laws.specs.Runs.{Ending, Exhausted, NeverWrong, FollowsBy, Any}
 use Rattle.run_laws.specs.Machines.{Machine, run}
 use Rattle.run_laws.specs.Meters.{unspent, metered, each_one, Spends, OfRest}
 use Rattle.rv_isa.specs.declared.real.RealItem.{RealItem}
+use Rattle.rv_machine.specs.Image.{IsImage, statics_len, code_len}
 use Rattle.rv_machine.specs.State.{State, Halt, Lacks, Stack}
 use Rattle.rv_machine.specs.Start.{start_of, IsRegionSize, IsStackSize}
 use Rattle.rv_machine.specs.Mach.{machine_by, IsReading}
@@ -92,9 +93,19 @@ RunsInStack reading image procs entry statics =
     → FollowsWords reading (low_in_stack reading (words_setting procs told s) (room_in s))
     (low_start (words_setting procs told s) p s.memory s.world) s
 
+-- the mark of each of so many procedures has an address, which is a word, and no two have the same
+pub record HaveAddresses (items : List RealItem) (statics : List ℕ) (many : ℕ) : Type 0 where
+  pub there : (k : ℕ) → k < many
+      → (at : ℕ) × (mark_address (item_address items statics) items k ≡ Some at) × (at < 2 ^ 64)
+  pub apart : (j k at : ℕ) → j < many → k < many → mark_address (item_address items statics) items j ≡ Some at
+      → mark_address (item_address items statics) items k ≡ Some at → j ≡ k
+
 -- the image of a program over words, with these words of statics and these labels
 pub record IsImageOfWords (image : List ℕ) (procs : List Proc) (entry : ℕ) (statics : List ℕ) (labels : List Pos) :
     Type 0 where
   pub is_image : IsImageOf image (words_code procs entry) statics labels
+  pub addresses : HaveAddresses (words_code procs entry) statics (length procs)
+  pub whole : IsImage image
+  pub small : statics_len image + code_len image < 2 ^ 46
   pub runs : (reading : Halt → Ending Verdict) → RunsAsProgram reading image procs entry statics
   pub in_stack : (reading : Halt → Ending Verdict) → RunsInStack reading image procs entry statics

@@ -149,8 +149,8 @@ pub(crate) fn machine_of(
     Machine::load(alloc, image, ram, region, stack, world)
 }
 
-// What the program comes to in a region and a stack of these sizes, and whether it prints this text; none where it isn't
-// closed.
+// What the program comes to in a region and a stack of these sizes, and whether it prints this text; none where it is
+// not closed.
 pub(crate) fn prints(
     alloc: Global,
     low: &LowProgram,
