@@ -2,3 +2,10 @@ pub mod Numbering
 pub mod Emit
 pub mod Lowered
 pub mod Steps
+pub mod Serving
+pub mod Sets
+pub mod CoveredPrograms
+pub mod CarriedValues
+pub mod RelatedStates
+pub mod SimulationServices
+pub mod SimulationClaims

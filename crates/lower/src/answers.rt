@@ -24,7 +24,7 @@ fn ends(alloc: Global, kind: u64, word: LowSource) -> Result<LowCode, OutOfMemor
     ensures { IfOk result (λ code. code_of code ≡ ends kind word) }
 {
     let mut steps = Steps::new(alloc);
-    steps.push(Step::Environment(0, Number(kind), word, 1))?;
+    steps.push(Step::Environment(0, Number(kind), word, 1, 1))?;
     steps.before(LowCode::Return(Number(0)))
 }
 

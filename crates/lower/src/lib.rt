@@ -3,10 +3,15 @@
 
 mod answers;
 mod bodies;
+mod copies;
 mod groups;
+pub mod laws;
 pub mod lowering;
+pub mod merged;
 pub mod numbering;
 mod operands;
 mod operations;
+pub mod schemes;
 pub mod served;
+pub mod simulation_laws;
 mod steps;

@@ -148,7 +148,7 @@ impl Emitter<'_> {
             (Set d (Number 0) k))) }
     {
         let test = self.shape.operand_word(TEST_PLACE)?;
-        steps.push(Step::Environment(number, word, Number(0), test))?;
+        steps.push(Step::Environment(number, word, Number(0), test, test))?;
         steps.push(Step::Set(d, Number(0)))
     }
 

@@ -20,7 +20,7 @@ pub enum Step {
     Build(u32, LowSources),
     Request(u32, LowSource),
     Take(LowSource),
-    Environment(u64, LowSource, LowSource, u32),
+    Environment(u64, LowSource, LowSource, u32, u32),
     Call(u32, u32, LowSources),
     CallAt(u32, LowSource, LowSources),
     If(Cond, LowSource, LowSource, LowCode, LowCode),
@@ -41,7 +41,7 @@ impl Step {
             Step::Build(d, words) => LowCode::Build(d, words, rest),
             Step::Request(d, n) => LowCode::Request(d, n, rest),
             Step::Take(n) => LowCode::Take(n, rest),
-            Step::Environment(number, a, b, d) => LowCode::Environment(number, a, b, d, d, rest),
+            Step::Environment(number, a, b, d, e) => LowCode::Environment(number, a, b, d, e, rest),
             Step::Call(d, k, words) => LowCode::Call(d, k, words, rest),
             Step::CallAt(d, f, words) => LowCode::CallAt(d, f, words, rest),
             Step::If(cond, a, b, one, other) => {
@@ -85,6 +85,15 @@ impl Steps {
     {
         self.append(step)?;
         Ok(())
+    }
+
+    /// Adds a step at the end, and hands on the code that is done behind it.
+    pub fn add<'a>(&mut self, step: Step, rest: &'a LowCode) -> Result<&'a LowCode, OutOfMemory>
+        ensures added { OnOk result (Adds self.old.steps.items self.new.steps.items (put step)) }
+        ensures rest { IfOk result (λ code. code.now ≡ rest.now) }
+    {
+        self.push(step)?;
+        Ok(rest)
     }
 
     /// All steps, and behind them this code.

@@ -1,0 +1,375 @@
+-- A value that no body waits for is the program's answer in both runs.
+use Rattle.std.proofs.Common.{◌≡◌, inl, inr, ℕ, zero, suc, ◌+◌, ◌*◌, ◌%◌, ◌^◌, ◌<◌, Bool, true, false, List}
+use Rattle.std.proofs.Common.{[]}
+use Rattle.std.proofs.Common.{◌∷◌, length, Some, refl, sym, ap, ◌∙◌, subst, arith, pos}
+use Rattle.std.specs.Prelude.{if◌then◌else◌, ◌&&◌, not}
+use Rattle.std.specs.Int.{w64, cast_signed}
+use Rattle.grift_base.specs.Types.{TypeRow, IntRow, BoolRow, UnitRow, DynRow, FunRow, TupleRow, RefRow, VectRow, is_dyn}
+use Rattle.grift_base.specs.Types.{equal_heads, head_of, row_at, TypeHead, IntHead, BoolHead, UnitHead, DynHead}
+use Rattle.grift_base.specs.World.{WorldState}
+use Rattle.grift_base.specs.EnvironmentCall.{environment_call, ends as ends_call}
+use Rattle.grift_base.specs.declared.verdicts.Answer.{Answer as AnAnswer}
+use Rattle.grift_base.specs.declared.verdicts.AnswerKind.TheVariants.{Int, Bool as Truth, Unit as UnitKind, Function}
+use Rattle.grift_base.specs.declared.verdicts.AnswerKind.TheVariants.{Tuple as TupleKind, Boxed, Vector}
+use Rattle.grift_base.specs.declared.verdicts.Verdict.TheVariants.{Answer as AnswerVerdict}
+use Rattle.grift_base.specs.declared.worlds.EnvEffect.TheVariants.{Ended as Answers}
+use Rattle.run_laws.specs.Runs.{Verdict as EndsWith, Wrong}
+use Rattle.low_ir.specs.declared.code.LowSource.{LowSource}
+use Rattle.low_ir.specs.declared.code.LowSource.TheVariants.{Word, Number}
+use Rattle.low_ir.specs.Procedures.{Code, Return as ReturnCode}
+use Rattle.low_ir.specs.Steps.{Locals, no_locals, set_local}
+use Rattle.low_ir.specs.Run.{LowState, word_of}
+use Rattle.coercion_norm.specs.AnswerTypes.{fits_type, run_head, row_has_head}
+use Rattle.coercion_norm.specs.Coercions.{Coercion}
+use Rattle.coercion_norm.specs.RunValues.{RunInt, RunBool, RunUnit, RunFun, RunTuple, RunLoc, RunWrap, RunInject, shown}
+use Rattle.coercion_norm.specs.ValueSteps.{Return}
+use Rattle.flat_ir.specs.Machine.{FlatValue, FlatStore, FlatState, flat_arity, flat_state_at}
+use Rattle.std.proofs.lemmas.Nat.{and_mask}
+use Rattle.grift_base.specs.Types.{TypeRows, VectHead, RefHead, parts_of}
+use Rattle.rv_isa.specs.declared.inst.Cond.TheVariants.{Eq}
+use Rattle.rv_machine.specs.Memory.{load_bytes}
+use Rattle.rv_machine.specs.Real.{holds}
+use Rattle.low_ir.specs.declared.code.WordOp.TheVariants.{And}
+use Rattle.low_ir.specs.Operations.{compute}
+use Rattle.low_ir.specs.Procedures.{Done, If}
+use Rattle.low_ir.specs.Steps.{may_load}
+use Rattle.coercion_norm.specs.Coercions.{rows_of}
+use Rattle.coercion_norm.specs.Held.{TypesStand, There, type_object, rows_in, height_in}
+use Rattle.coercion_norm.specs.ObjectsOfRows.{header, type_kind}
+use Rattle.lower.specs.Lowered.{show_kept}
+use Rattle.lower.proofs.HeapFilled.{word_there, header_there}
+use Rattle.lower.proofs.WordSteps.{Comes, Calm, here, loads, computes, if_true, if_false, falls_through, comes_back}
+use Rattle.lower.proofs.RelationKept.{word_other}
+use Rattle.coercion_norm.specs.Objects.{Object}
+use Rattle.rt_cast.specs.States.{Heap, Filled}
+use Rattle.lower.specs.Lowered.{show_by, ends}
+use Rattle.lower.specs.RelatedStates.{entry_waiting}
+use Rattle.lower.proofs.WordSteps.{at}
+use Rattle.lower.proofs.WordArithmetic.{word_read}
+use Rattle.lower.proofs.RelationKept.{word_here}
+use Rattle.lower.proofs.WordOperands.{and_true}
+use Rattle.lower.proofs.SimulationWay.{Program, Seen, Stopping, Settled, Filling}
+use Rattle.lower.proofs.SimulationGives.{CarriedHere}
+
+calls_ending : (kind x labels : ℕ) (world : WorldState)
+    → environment_call 0 kind x labels world ≡ record { effect = ends_call kind x; world = world }
+unfolding environment_call
+calls_ending kind x labels world = refl
+
+pub true_false : {A : Type 0} → false ≡ true → A
+true_false e = absurd (clash e)
+  where
+    clash : false ≡ true → ⊥
+    clash h = cc
+
+row_head : (types : TypeRows) (type : ℕ) (head : TypeHead) → row_has_head (row_at types type) head ≡ true
+    → equal_heads head (head_of (rows_of types type)) ≡ true
+row_head [] type head e = true_false e
+row_head (x ∷ types) zero head e = e
+row_head (x ∷ types) (suc type) head e = row_head types type head e
+
+module _ (program : Program) (typed : TypesStand program.l) (places : List ℕ) (objects : List Object) (h : Heap)
+    (world : WorldState)
+    (filled : Filled program.setting program.l objects h) (store : FlatStore Coercion) (v : FlatValue Coercion) where
+  abbrev f : FlatState Coercion
+  f = flat_state_at program.procs program.told (Return v) [] store world
+
+  seen : (t : LowState) → t.world ≡ world → Filling program t → Seen program f t
+  seen t e filling = record { output = ap (λ w. w.output) e; filling = filling }
+
+  -- the procedure that the program begins with ends the run
+  ends_so : (kind : ℕ) (source : LowSource) (x : ℕ) (a : AnAnswer) (words : Locals) (rests : List Code)
+      → word_of words source ≡ Some x → ends_call (kind % 2 ^ 64) x ≡ Answers a
+      → Stopping program f (EndsWith (AnswerVerdict a)) (at world h [] 3 rests words (ends kind source))
+  ends_so kind source x a words rests e is =
+      let t = at world h [] 3 rests words (ends kind source) in
+      let last = at world h [] 3 rests words (ReturnCode (Number 0)) in
+      let called : environment_call 0 (kind % 2 ^ 64) x (length program.setting.labels) world
+      ≡ record { effect = Answers a; world = world } =
+      calls_ending (kind % 2 ^ 64) x (length program.setting.labels) world
+      ∙ ap (λ effect. record { effect = effect; world = world }) is in
+      record {
+        now = seen t refl (objects, filled);
+        last = last;
+        stops = rw (e, called) refl;
+        seen = seen last refl (objects, filled);
+      }
+
+  module _ (a : AnAnswer) where
+    abbrev Stops : LowState → Type 0
+    Stops t = Stopping program f (EndsWith (AnswerVerdict a)) t
+
+    abbrev Shows : List Code → Locals → Code → Type 0
+    Shows rests words code =
+        Comes program.setting (Seen program f) (Stopping program f (EndsWith (AnswerVerdict a)))
+        (at world h [] 3 rests words code)
+
+    abbrev calm : Calm program.setting (Seen program f) (Stopping program f (EndsWith (AnswerVerdict a))) world h
+    calm active waiting = record { output = refl; filling = (objects, filled) }
+
+    ended : (kind : ℕ) (source : LowSource) (x : ℕ) (words : Locals) (rests : List Code) → word_of words source ≡ Some x
+        → ends_call (kind % 2 ^ 64) x ≡ Answers a → Shows rests words (ends kind source)
+    ended kind source x words rests e is =
+        here program.setting (Seen program f) (Stopping program f (EndsWith (AnswerVerdict a)))
+        (at world h [] 3 rests words (ends kind source)) (ends_so kind source x a words rests e is)
+
+    -- the kind of the type is this one, or another
+    takes : (n : ℕ) (one rest : Code) (words : Locals) → words 1 ≡ Some n → holds Eq n (n % 2 ^ 64) ≡ true
+        → Shows (rest ∷ []) words one → Shows [] words (If Eq (Word 1) (Number n) one Done rest)
+    takes n one rest words e same c =
+        if_true program.setting (Seen program f) (Stopping program f (EndsWith (AnswerVerdict a))) calm n (n % 2 ^ 64) e
+        refl same c
+
+    skips : (n m : ℕ) (one rest : Code) (words : Locals) → words 1 ≡ Some m → holds Eq m (n % 2 ^ 64) ≡ false
+        → Shows [] words rest → Shows [] words (If Eq (Word 1) (Number n) one Done rest)
+    skips n m one rest words e other c =
+        if_false program.setting (Seen program f) (Stopping program f (EndsWith (AnswerVerdict a))) calm m (n % 2 ^ 64)
+        e refl other
+        (falls_through program.setting (Seen program f) (Stopping program f (EndsWith (AnswerVerdict a))) calm c)
+
+  -- a value can be the answer of a type of this row
+  abbrev FitsRow : TypeRow → FlatValue Coercion → Type 0
+  FitsRow answer (RunInject u kept) =
+      (equal_heads DynHead (head_of answer) ≡ true)
+      × (equal_heads (run_head (flat_arity program.procs) u) (head_of (rows_in program.l kept)) ≡ true)
+  FitsRow answer (RunInt n) = equal_heads IntHead (head_of answer) ≡ true
+  FitsRow answer (RunBool b) = equal_heads BoolHead (head_of answer) ≡ true
+  FitsRow answer RunUnit = equal_heads UnitHead (head_of answer) ≡ true
+  FitsRow answer (RunFun code captured) =
+      equal_heads (run_head (flat_arity program.procs) (RunFun code captured)) (head_of answer) ≡ true
+  FitsRow answer (RunTuple values) =
+      equal_heads (run_head (flat_arity program.procs) (RunTuple values)) (head_of answer) ≡ true
+  FitsRow answer (RunLoc cell is_vector) =
+      equal_heads (if is_vector then VectHead else RefHead) (head_of answer) ≡ true
+  FitsRow answer (RunWrap v cast) = Unit {0}
+
+  -- what is in Dyn, by the row of the type that is kept
+  -- what is in Dyn, by the row of the type that is kept
+  shows_kept : (row : TypeRow) → is_dyn row ≡ false → (u : FlatValue Coercion) (w : ℕ)
+      → CarriedHere program places objects u w
+      → equal_heads (run_head (flat_arity program.procs) u) (head_of row) ≡ true → (words : Locals)
+      → words 1 ≡ Some (type_kind row) → words 2 ≡ Some w → Shows (shown u) [] words show_kept
+  shows_kept DynRow solid u w c e words kind is = true_false (sym solid)
+  shows_kept IntRow solid (RunInt n) w c e words kind is =
+      let a : AnAnswer = record { kind = Int; word = n } in
+      takes a 16 _ _ words kind refl
+      (ended a 0 (Word 2) w words _ is (ap (λ z. Answers (record { kind = Int; word = z }))
+      (ap (cast_signed w64) c.0 ∙ word_read n c.1)))
+  shows_kept BoolRow solid (RunBool true) w c e words kind is =
+      skips (record { kind = Truth; word = pos 1 }) 16 17 _ _ words kind refl
+      (takes (record { kind = Truth; word = pos 1 }) 17 _ _ words kind refl
+      (ended (record { kind = Truth; word = pos 1 }) 1 (Word 2) 1 words _ (is ∙ ap Some c) refl))
+  shows_kept BoolRow solid (RunBool false) w c e words kind is =
+      skips (record { kind = Truth; word = pos 0 }) 16 17 _ _ words kind refl
+      (takes (record { kind = Truth; word = pos 0 }) 17 _ _ words kind refl
+      (ended (record { kind = Truth; word = pos 0 }) 1 (Word 2) 0 words _ (is ∙ ap Some c) refl))
+  shows_kept UnitRow solid RunUnit w c e words kind is =
+      skips (record { kind = UnitKind; word = pos 0 }) 16 18 _ _ words kind refl
+      (skips (record { kind = UnitKind; word = pos 0 }) 17 18 _ _ words kind refl
+      (takes (record { kind = UnitKind; word = pos 0 }) 18 _ _ words kind refl
+      (ended (record { kind = UnitKind; word = pos 0 }) 2 (Number 0) 0 words _ (refl) refl)))
+  shows_kept (FunRow parameters answer) solid (RunFun code captured) w c e words kind is =
+      skips (record { kind = Function; word = pos 0 }) 16 20 _ _ words kind refl
+      (skips (record { kind = Function; word = pos 0 }) 17 20 _ _ words kind refl
+      (skips (record { kind = Function; word = pos 0 }) 18 20 _ _ words kind refl
+      (takes (record { kind = Function; word = pos 0 }) 20 _ _ words kind refl
+      (ended (record { kind = Function; word = pos 0 }) 3 (Number 0) 0 words _ (refl) refl))))
+  shows_kept (TupleRow parts) solid (RunTuple values) w c e words kind is =
+      skips (record { kind = TupleKind; word = pos 0 }) 16 21 _ _ words kind refl
+      (skips (record { kind = TupleKind; word = pos 0 }) 17 21 _ _ words kind refl
+      (skips (record { kind = TupleKind; word = pos 0 }) 18 21 _ _ words kind refl
+      (skips (record { kind = TupleKind; word = pos 0 }) 20 21 _ _ words kind refl
+      (takes (record { kind = TupleKind; word = pos 0 }) 21 _ _ words kind refl
+      (ended (record { kind = TupleKind; word = pos 0 }) 4 (Number 0) 0 words _ (refl) refl)))))
+  shows_kept (RefRow content) solid (RunLoc cell false) w c e words kind is =
+      skips (record { kind = Boxed; word = pos 0 }) 16 22 _ _ words kind refl
+      (skips (record { kind = Boxed; word = pos 0 }) 17 22 _ _ words kind refl
+      (skips (record { kind = Boxed; word = pos 0 }) 18 22 _ _ words kind refl
+      (skips (record { kind = Boxed; word = pos 0 }) 20 22 _ _ words kind refl
+      (skips (record { kind = Boxed; word = pos 0 }) 21 22 _ _ words kind refl
+      (takes (record { kind = Boxed; word = pos 0 }) 22 _ _ words kind refl
+      (ended (record { kind = Boxed; word = pos 0 }) 5 (Number 0) 0 words _ (refl) refl))))))
+  shows_kept (VectRow content) solid (RunLoc cell true) w c e words kind is =
+      skips (record { kind = Vector; word = pos 0 }) 16 23 _ _ words kind refl
+      (skips (record { kind = Vector; word = pos 0 }) 17 23 _ _ words kind refl
+      (skips (record { kind = Vector; word = pos 0 }) 18 23 _ _ words kind refl
+      (skips (record { kind = Vector; word = pos 0 }) 20 23 _ _ words kind refl
+      (skips (record { kind = Vector; word = pos 0 }) 21 23 _ _ words kind refl
+      (skips (record { kind = Vector; word = pos 0 }) 22 23 _ _ words kind refl
+      (ended (record { kind = Vector; word = pos 0 }) 6 (Number 0) 0 words _ (refl) refl))))))
+  shows_kept row solid (RunLoc cell true) w c e words kind is = true_false e
+  shows_kept row solid (RunLoc cell false) w c e words kind is = true_false e
+  shows_kept row solid (RunWrap v cast) w c e words kind is = absurd c.2
+  shows_kept row solid v w c e words kind is = true_false e
+
+  kind_told : (k height n : ℕ) → k < 256 → compute And (k + height * 65536 + n * 4294967296) 255 ≡ k
+  kind_told k height n lt = and_mask (k + height * 65536 + n * 4294967296) 8 ∙ omega arith
+
+  few_kinds : (row : TypeRow) → type_kind row < 256
+  few_kinds IntRow = omega arith
+  few_kinds BoolRow = omega arith
+  few_kinds UnitRow = omega arith
+  few_kinds DynRow = omega arith
+  few_kinds (FunRow parameters answer) = omega arith
+  few_kinds (TupleRow parts) = omega arith
+  few_kinds (RefRow content) = omega arith
+  few_kinds (VectRow content) = omega arith
+
+  -- a value in Dyn
+  shows_dyn : (u : FlatValue Coercion) (kept w : ℕ) → CarriedHere program places objects (RunInject u kept) w
+      → equal_heads (run_head (flat_arity program.procs) u) (head_of (rows_in program.l kept)) ≡ true
+      → (words : Locals) → words 0 ≡ Some w → Shows (shown u) [] words (show_by DynRow)
+  shows_dyn u kept w c fit words is =
+      let a = shown u in
+      let P = Seen program f in
+      let Q = Stopping program f (EndsWith (AnswerVerdict (shown u))) in
+      let row = rows_in program.l kept in
+      let head = header (type_kind (rows_in program.l kept)) (height_in program.l kept)
+      (length (parts_of (rows_in program.l kept))) in
+      let type_there = word_there program.setting program.l program.placed objects h filled w (header 3 0 2)
+      (c.0 ∷ c.1 ∷ []) c.2 1 c.0 (w + 8) refl (omega arith) in
+      let inner_there = word_there program.setting program.l program.placed objects h filled w (header 3 0 2)
+      (c.0 ∷ c.1 ∷ []) c.2 2 c.1 (w + 16) refl (omega arith) in
+      let head_there = header_there program.setting program.l program.placed objects h filled c.0
+      (type_object program.l kept)
+      (subst (λ n. There program.l objects n (type_object program.l kept)) (sym c.3.is)
+      (inl (typed.stands kept c.3.known))) in
+      let none : c.0 ≡ c.0 + 0 = omega arith in
+      let one = set_local 1 c.0 words in
+      let two = set_local 1 head one in
+      let three = set_local 1 (type_kind (rows_in program.l kept)) two in
+      let four = set_local 2 c.1 three in
+      let still : three 0 ≡ Some w =
+      word_other 1 (type_kind (rows_in program.l kept)) two 0 (λ e. omega (arith, e))
+      ∙ (word_other 1 head one 0 (λ e. omega (arith, e))
+      ∙ (word_other 1 c.0 words 0 (λ e. omega (arith, e)) ∙ is)) in
+      loads program.setting P Q (calm a) w c.0 is type_there.may type_there.is (let z = type_there.end in omega arith)
+      (omega arith)
+      (loads program.setting P Q (calm a) c.0 head (word_here 1 c.0 words)
+      (subst (λ n. may_load program.setting.top n ≡ true) none head_there.may)
+      (subst (λ n. load_bytes 8 h.memory n ≡ head) none head_there.is) (let z = head_there.end in omega arith)
+      (omega arith)
+      (computes program.setting P Q (calm a) head 255 (type_kind (rows_in program.l kept)) (word_here 1 head one) refl
+      (kind_told (type_kind (rows_in program.l kept)) (height_in program.l kept)
+      (length (parts_of (rows_in program.l kept))) (few_kinds (rows_in program.l kept))) (omega arith)
+      (loads program.setting P Q (calm a) w c.1 still inner_there.may inner_there.is
+      (let z = inner_there.end in omega arith) (omega arith)
+      (shows_kept (rows_in program.l kept) c.5 u c.1 c.6 fit four
+      (word_other 2 c.1 three 1 (λ e. omega (arith, e)) ∙ word_here 1 (type_kind (rows_in program.l kept)) two)
+      (word_here 2 c.1 three)))))
+
+  -- by the row of the answer's type
+  shows : (answer : TypeRow) → (v : FlatValue Coercion) (w : ℕ) → CarriedHere program places objects v w
+      → FitsRow answer v → (words : Locals) → words 0 ≡ Some w → Shows (shown v) [] words (show_by answer)
+  shows DynRow (RunInject u kept) w c e words is = shows_dyn u kept w c e.1 words is
+  shows DynRow (RunInt n) w c e words is = true_false e
+  shows DynRow (RunBool b) w c e words is = true_false e
+  shows DynRow RunUnit w c e words is = true_false e
+  shows DynRow (RunFun code captured) w c e words is = true_false e
+  shows DynRow (RunTuple values) w c e words is = true_false e
+  shows DynRow (RunLoc cell true) w c e words is = true_false e
+  shows DynRow (RunLoc cell false) w c e words is = true_false e
+  shows answer (RunInject u kept) w c e words is = true_false e.0
+  shows IntRow (RunInt n) w c e words is =
+      let a : AnAnswer = record { kind = Int; word = n } in
+      ended a 0 (Word 0) w words [] is (ap (λ z. Answers (record { kind = Int; word = z }))
+      (ap (cast_signed w64) c.0 ∙ word_read n c.1))
+  shows BoolRow (RunBool true) w c e words is =
+      ended (record { kind = Truth; word = pos 1 }) 1 (Word 0) 1 words [] (is ∙ ap Some c) refl
+  shows BoolRow (RunBool false) w c e words is =
+      ended (record { kind = Truth; word = pos 0 }) 1 (Word 0) 0 words [] (is ∙ ap Some c) refl
+  shows UnitRow RunUnit w c e words is =
+      ended (record { kind = UnitKind; word = pos 0 }) 2 (Number 0) 0 words [] refl refl
+  shows (FunRow parameters answer) (RunFun code captured) w c e words is =
+      ended (record { kind = Function; word = pos 0 }) 3 (Number 0) 0 words [] refl refl
+  shows (TupleRow parts) (RunTuple values) w c e words is =
+      ended (record { kind = TupleKind; word = pos 0 }) 4 (Number 0) 0 words [] refl refl
+  shows (RefRow content) (RunLoc cell false) w c e words is =
+      ended (record { kind = Boxed; word = pos 0 }) 5 (Number 0) 0 words [] refl refl
+  shows (VectRow content) (RunLoc cell true) w c e words is =
+      ended (record { kind = Vector; word = pos 0 }) 6 (Number 0) 0 words [] refl refl
+  shows answer (RunWrap v cast) w c e words is = absurd c.2
+  shows answer (RunLoc cell true) w c e words is = true_false e
+  shows answer (RunLoc cell false) w c e words is = true_false e
+  shows answer v w c e words is = true_false e
+
+  pub answered : (size : ℕ) (rests : List Code) (words : Locals) (source : LowSource) (w : ℕ)
+      → word_of words source ≡ Some w → CarriedHere program places objects v w
+      → Settled program f (at world h (entry_waiting program.answer ∷ []) size rests words (ReturnCode source))
+  answered size rests words source w is c =
+      by_test (fits_type (flat_arity program.procs) program.told.types v program.told.answer) refl
+    where
+      t : LowState
+      t = at world h (entry_waiting program.answer ∷ []) size rests words (ReturnCode source)
+
+      row_fits : (head : TypeHead) → row_has_head (row_at program.told.types program.told.answer) head ≡ true
+          → equal_heads head (head_of program.answer) ≡ true
+      row_fits head e = ap (λ o. row_has_head o head) (sym program.answer_is) ∙ e
+
+      fitting : (v : FlatValue Coercion) → CarriedHere program places objects v w
+          → fits_type (flat_arity program.procs) program.told.types v program.told.answer ≡ true
+          → FitsRow program.answer v
+      fitting (RunInject u kept) c e =
+          let x = and_true (row_has_head (row_at program.told.types program.told.answer) DynHead)
+          (not (row_has_head (row_at program.told.types kept) DynHead)
+          && fits_type (flat_arity program.procs) program.told.types u kept) e in
+          let y = and_true (not (row_has_head (row_at program.told.types kept) DynHead))
+          (fits_type (flat_arity program.procs) program.told.types u kept) x.1 in
+          (row_fits DynHead x.0, inside u c.6 y.0 y.1)
+        where
+          not_true : (b : Bool) → not b ≡ true → b ≡ false
+          not_true true e = true_false e
+          not_true false e = refl
+
+          kept_fits : (head : TypeHead) → row_has_head (row_at program.told.types kept) head ≡ true
+              → equal_heads head (head_of (rows_in program.l kept)) ≡ true
+          kept_fits head e =
+              row_head program.l.types kept head
+              (ap (λ rows. row_has_head (row_at rows kept) head) (sym program.types_are) ∙ e)
+
+          inside : (u : FlatValue Coercion) → CarriedHere program places objects u c.1
+              → not (row_has_head (row_at program.told.types kept) DynHead) ≡ true
+              → fits_type (flat_arity program.procs) program.told.types u kept ≡ true
+              → equal_heads (run_head (flat_arity program.procs) u) (head_of (rows_in program.l kept)) ≡ true
+          inside (RunInject q other) x solid e =
+              true_false (sym (not_true (row_has_head (row_at program.told.types kept) DynHead) solid)
+              ∙ (and_true (row_has_head (row_at program.told.types kept) DynHead)
+              (not (row_has_head (row_at program.told.types other) DynHead)
+              && fits_type (flat_arity program.procs) program.told.types q other) e).0)
+          inside (RunWrap q cast) x solid e = absurd x.2
+          inside (RunInt n) x solid e = kept_fits IntHead e
+          inside (RunBool b) x solid e = kept_fits BoolHead e
+          inside RunUnit x solid e = kept_fits UnitHead e
+          inside (RunFun code captured) x solid e =
+              kept_fits (run_head (flat_arity program.procs) (RunFun code captured)) e
+          inside (RunTuple values) x solid e =
+              kept_fits (run_head (flat_arity program.procs) (RunTuple values)) e
+          inside (RunLoc cell is_vector) x solid e = kept_fits (if is_vector then VectHead else RefHead) e
+      fitting (RunInt n) c e = row_fits IntHead e
+      fitting (RunBool b) c e = row_fits BoolHead e
+      fitting RunUnit c e = row_fits UnitHead e
+      fitting (RunFun code captured) c e = row_fits (run_head (flat_arity program.procs) (RunFun code captured)) e
+      fitting (RunTuple values) c e = row_fits (run_head (flat_arity program.procs) (RunTuple values)) e
+      fitting (RunLoc cell is_vector) c e =
+          row_fits (run_head {C = Coercion} (flat_arity program.procs) (RunLoc cell is_vector)) e
+      fitting (RunWrap u cast) c e = absurd c.2
+
+      by_test : (b : Bool) → fits_type (flat_arity program.procs) program.told.types v program.told.answer ≡ b
+          → Settled program f t
+      by_test false e =
+          inr (record {
+            seen = seen t refl (objects, filled);
+            e = Wrong;
+            is = ap (λ b. Some (if b then EndsWith (AnswerVerdict (shown v)) else Wrong)) e;
+            ends = tt;
+          })
+      by_test true e =
+          let q = comes_back program.setting (Seen program f) (Stopping program f (EndsWith (AnswerVerdict (shown v))))
+          (calm (shown v)) w is (omega arith)
+          (shows program.answer v w c (fitting v c e) (set_local 0 w no_locals) (word_here 0 w no_locals)) in
+          inr (record {
+            seen = seen t refl (objects, filled);
+            e = EndsWith (AnswerVerdict (shown v));
+            is = ap (λ b. Some (if b then EndsWith (AnswerVerdict (shown v)) else Wrong)) e;
+            ends = record { steps = q.steps; reach = q.reach };
+          })

@@ -1,0 +1,63 @@
+-- Sets of procedures that serve, and that of the merged scheme.
+use Rattle.std.specs.Prelude.{ℕ, ◌+◌, ◌≡◌, true, List, [], ◌∷◌, ◌++◌, Some, slice_get}
+use Rattle.low_ir.specs.declared.code.LowSource.TheVariants.{Word}
+use Rattle.low_ir.specs.Procedures.{Proc, Return}
+use Rattle.low_ir.specs.Closed.{each_closed}
+use Rattle.rt_cast.specs.Procs.{cast_procs}
+use Rattle.rt_refs.specs.Quotients.{ref_procs}
+use Rattle.lower.specs.declared.served.ProcSet.{ProcSet}
+use Rattle.lower.specs.declared.served.Served.{Served}
+use Rattle.lower.specs.Serving.{Serve}
+
+-- the procedures of a set stand in a program, numbered from a first number on
+abbrev pub StandFrom : List Proc → ℕ → List Proc → Type 0
+StandFrom procs first set = (k : ℕ) (p : Proc) → slice_get set k ≡ Some p → slice_get procs (k + first) ≡ Some p
+
+-- Wherever a set stands in a program, those of its procedures that have a number in `numbers` serve, and all of them
+-- are closed.
+pub record ServesAnywhere (set : List Proc) (first : ℕ) (numbers : Served) : Type 0 where
+  pub serve : (procs : List Proc) → StandFrom procs first set → Serve numbers procs
+  pub closed : (procs : List Proc) → StandFrom procs first set → each_closed procs set ≡ true
+
+-- the numbers that a set tells
+abbrev pub numbers_of : ProcSet → Served
+numbers_of set = record {
+  cast = set.cast;
+  project = set.project;
+  apply = set.apply;
+  read = set.read;
+  write = set.write;
+  fill = set.fill;
+  multiply = set.multiply;
+  divide = set.divide;
+  cast_at = [];
+}
+
+-- the same numbers, with the words of casts
+abbrev pub with_casts : Served → List ℕ → Served
+with_casts numbers words = record numbers { cast_at = words }
+
+-- ---- the merged scheme
+
+-- a procedure that isn't built yet, and is never called: it answers the first of the words that it takes
+abbrev pub unbuilt : ℕ → Proc
+unbuilt count = record { params = count; words = count; code = Return (Word 0) }
+
+-- Casts and what they call; apply, read, write and fill, which aren't built yet; products and quotients. They are
+-- numbered from the first on.
+abbrev pub merged_procs : ℕ → List Proc
+merged_procs first = cast_procs first ++ unbuilt 8 ∷ unbuilt 3 ∷ unbuilt 4 ∷ unbuilt 2 ∷ ref_procs (31 + first)
+
+-- the numbers of those that code calls
+abbrev pub merged_numbers : ℕ → Served
+merged_numbers first = record {
+  cast = 2 + first;
+  project = 3 + first;
+  apply = 27 + first;
+  read = 28 + first;
+  write = 29 + first;
+  fill = 30 + first;
+  multiply = 33 + first;
+  divide = 34 + first;
+  cast_at = [];
+}

@@ -1,0 +1,78 @@
+// Copies of procedures: a list hands out no element of its own, so procedures of one list go into another as copies.
+
+ghost use Rattle.std.specs.Prelude.{◌≡◌, ◌++◌, IfOk, OnOk};
+ghost use Rattle.low_ir.specs.Views.{code_of, procs_of};
+ghost use Rattle.lower.specs.Steps.{words_named};
+
+use crate::steps::{Step, Steps};
+use grift_base::lists::OutOfMemory;
+use low_ir::code::{LowCode, LowSources};
+use low_ir::programs::{LowProc, LowProcs};
+use std::alloc::Global;
+
+// A copy of the words that the first step of code hands on.
+fn copied_words(alloc: Global, code: &LowCode) -> Result<LowSources, OutOfMemory>
+    ensures { IfOk result (λ words. words ≡ words_named (code_of code.now)) }
+{
+    match code {
+        LowCode::Build(_, words, _) => LowSources::from_slice(alloc, words.as_slice()),
+        LowCode::Call(_, _, words, _) => LowSources::from_slice(alloc, words.as_slice()),
+        LowCode::CallAt(_, _, words, _) => LowSources::from_slice(alloc, words.as_slice()),
+        LowCode::TailCall(_, words) => LowSources::from_slice(alloc, words.as_slice()),
+        LowCode::TailCallAt(_, words) => LowSources::from_slice(alloc, words.as_slice()),
+        _ => Ok(LowSources::new(alloc)),
+    }
+}
+
+// A copy of code. Recursion goes into branches alone.
+#[cycle(copies)]
+fn copied(alloc: Global, code: &LowCode) -> Result<LowCode, OutOfMemory>
+    ensures { IfOk result (λ copy. code_of copy ≡ code_of code.now) }
+{
+    let mut steps = Steps::new(alloc);
+    let mut left = code;
+    loop {
+        let words = copied_words(alloc, left)?;
+        match left {
+            LowCode::Done => return steps.before(LowCode::Done),
+            LowCode::Set(d, a, rest) => left = steps.add(Step::Set(*d, *a), rest)?,
+            LowCode::Compute(op, d, a, b, rest) => {
+                left = steps.add(Step::Compute(*op, *d, *a, *b), rest)?
+            }
+            LowCode::Load(d, a, at, rest) => left = steps.add(Step::Load(*d, *a, *at), rest)?,
+            LowCode::Store(b, a, at, rest) => left = steps.add(Step::Store(*b, *a, *at), rest)?,
+            LowCode::CodeOf(d, k, rest) => left = steps.add(Step::CodeOf(*d, *k), rest)?,
+            LowCode::Build(d, _, rest) => left = steps.add(Step::Build(*d, words), rest)?,
+            LowCode::Request(d, n, rest) => left = steps.add(Step::Request(*d, *n), rest)?,
+            LowCode::Take(n, rest) => left = steps.add(Step::Take(*n), rest)?,
+            LowCode::Environment(number, a, b, d, e, rest) => {
+                left = steps.add(Step::Environment(*number, *a, *b, *d, *e), rest)?
+            }
+            LowCode::Call(d, k, _, rest) => left = steps.add(Step::Call(*d, *k, words), rest)?,
+            LowCode::CallAt(d, f, _, rest) => left = steps.add(Step::CallAt(*d, *f, words), rest)?,
+            LowCode::If(cond, a, b, one, other, rest) => {
+                let branches = (copied(alloc, one)?, copied(alloc, other)?);
+                left = steps.add(Step::If(*cond, *a, *b, branches.0, branches.1), rest)?
+            }
+            LowCode::Return(a) => return steps.before(LowCode::Return(*a)),
+            LowCode::TailCall(k, _) => return steps.before(LowCode::TailCall(*k, words)),
+            LowCode::TailCallAt(f, _) => return steps.before(LowCode::TailCallAt(*f, words)),
+        }
+    }
+}
+
+// Copies of these procedures go to the end of a list.
+pub fn push_copies(alloc: Global, procs: &mut LowProcs, more: &[LowProc]) -> Result<(), OutOfMemory>
+    ensures { OnOk result (procs_of procs.new ≡ procs_of procs.old ++ procs_of more.now) }
+{
+    let mut left = more;
+    while let [proc, rest @ ..] = left {
+        procs.push(LowProc {
+            params: proc.params,
+            words: proc.words,
+            code: copied(alloc, &proc.code)?,
+        })?;
+        left = rest;
+    }
+    Ok(())
+}

@@ -1,0 +1,35 @@
+// Laws of lowering. A function here does nothing: its contract is a law, proved for all programs.
+
+ghost use Rattle.std.specs.Prelude.{◌≡◌, true, ℕ, suc, List, length};
+ghost use Rattle.grift_base.specs.Types.{TypeRow};
+ghost use Rattle.flat_ir.specs.Bodies.{Proc as FlatProc};
+ghost use Rattle.flat_ir.specs.Closed.{is_closed as is_closed_flat};
+ghost use Rattle.low_ir.specs.Closed.{each_closed, is_closed};
+ghost use Rattle.low_ir.specs.Procedures.{Proc};
+ghost use Rattle.lower.specs.declared.served.Served.{Served};
+ghost use Rattle.lower.specs.Lowered.{lowered};
+ghost use Rattle.lower.specs.Serving.{Serve, all_have_words};
+ghost use Rattle.lower.specs.Sets.{merged_numbers, merged_procs, with_casts};
+
+use rt_cast::laws::procedures_are_closed;
+
+/// The procedures over words of a closed flat program, none of whose operators has more than eight operands, are closed
+/// and begin with the one behind the flat program's, whatever procedures serve them: those have only to stand there by
+/// the numbers that were told, to take as many words as they are handed, and to be closed there themselves.
+pub fn lowered_programs_are_closed()
+    ensures { (run : Served) (flat : List FlatProc) (entry : ℕ) (answer : TypeRow) (serving : List Proc)
+        → is_closed_flat flat entry ≡ true → all_have_words flat ≡ true
+        → Serve run (lowered run flat entry answer serving)
+        → each_closed (lowered run flat entry answer serving) serving ≡ true
+        → is_closed (lowered run flat entry answer serving) (length flat) ≡ true }
+{}
+
+/// So they are with the procedures of the merged scheme behind them, whatever the words of casts are.
+pub fn merged_programs_are_closed()
+    ensures { (words : List ℕ) (flat : List FlatProc) (entry : ℕ) (answer : TypeRow)
+        → is_closed_flat flat entry ≡ true → all_have_words flat ≡ true → let first : ℕ = suc (length flat) in
+        is_closed (lowered (with_casts (merged_numbers first) words) flat entry answer (merged_procs first))
+        (length flat) ≡ true }
+{
+    procedures_are_closed();
+}

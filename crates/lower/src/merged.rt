@@ -1,0 +1,144 @@
+// The scheme of the merged mode.
+
+ghost use Rattle.std.specs.Prelude.{◌≡◌, ◌<◌, ◌^◌, ℕ, suc, true, All, IfOk, Some, length};
+ghost use Rattle.grift_base.specs.Types.{TypeRow, row_at};
+ghost use Rattle.rv_machine.specs.declared.TheConstants.{FIRST_ADDRESS};
+ghost use Rattle.coercion_norm.specs.CoercionTables.{FitsTypes};
+ghost use Rattle.coercion_norm.specs.Statics.{AreStatics};
+ghost use Rattle.flat_ir.specs.Closed.{is_closed as is_closed_flat};
+ghost use Rattle.flat_ir.specs.Views.{procs_of as flat_procs_of};
+ghost use Rattle.low_ir.specs.Closed.{is_closed};
+ghost use Rattle.low_ir.specs.Views.{proc_of, procs_of};
+ghost use Rattle.lower.specs.Lowered.{lowered};
+ghost use Rattle.lower.specs.Serving.{all_have_words, all_narrow};
+ghost use Rattle.lower.specs.Sets.{merged_numbers, merged_procs, unbuilt, with_casts};
+
+use crate::copies::push_copies;
+use crate::schemes::{Scheme, lower_over};
+use crate::served::ProcSet;
+use coercion_norm::cast_rows::CastRows;
+use coercion_norm::placing::place_rows;
+use coercion_norm::tables::CoercionTable;
+use flat_ir::programs::{FlatProcs, FlatProgram};
+use grift_base::lists::OutOfMemory;
+use grift_base::words::Statics;
+use low_ir::code::{LowCode, LowSource};
+use low_ir::programs::{LowProc, LowProcs, LowProgram};
+use rt_cast::laws::procedures_are_closed;
+use rt_cast::procs::cast_procs;
+use rt_refs::procs::ref_procs;
+use rv_machine::FIRST_ADDRESS;
+use std::alloc::Global;
+use type_graph::tables::TypeTable;
+
+/// Casts by coercions: a value has one wrapper at most.
+#[derive(Clone, Copy, Debug)]
+pub struct Merged;
+
+// A procedure that isn't built yet, and is never called.
+fn unbuilt(params: u32) -> LowProc
+    ensures { proc_of result ≡ unbuilt params }
+{
+    LowProc {
+        params,
+        words: params,
+        code: LowCode::Return(LowSource::Word(0)),
+    }
+}
+
+// Casts and what they call; apply, read, write and fill; products and quotients.
+fn merged_procs(alloc: Global, first: u32) -> Result<LowProcs, OutOfMemory>
+    requires { first < 2 ^ 31 }
+    ensures { IfOk result (λ procs. procs_of procs ≡ merged_procs first) }
+{
+    let mut procs = cast_procs(alloc, first)?;
+    procs.push(unbuilt(8))?;
+    procs.push(unbuilt(3))?;
+    procs.push(unbuilt(4))?;
+    procs.push(unbuilt(2))?;
+    let last = ref_procs(alloc, 31 + first, 2 + first)?;
+    push_copies(alloc, &mut procs, last.as_slice())?;
+    Ok(procs)
+}
+
+impl Scheme for Merged {
+    ghost use Rattle.lower.specs.Sets.{merged_numbers, merged_procs};
+
+    ghost procs_from = { λ _ first. merged_procs first };
+
+    ghost numbers_from = { λ _ first. merged_numbers first };
+
+    fn statics(
+        &self,
+        alloc: Global,
+        types: &TypeTable,
+        table: &CoercionTable,
+        casts: &CastRows,
+        start: u64,
+    ) -> Result<Statics, OutOfMemory> {
+        place_rows(alloc, types, table, casts, start)
+    }
+
+    fn procs(&self, alloc: Global, first: u32) -> Result<ProcSet, OutOfMemory> {
+        procedures_are_closed();
+        Ok(ProcSet {
+            procs: merged_procs(alloc, first)?,
+            cast: 2 + first,
+            project: 3 + first,
+            apply: 27 + first,
+            read: 28 + first,
+            write: 29 + first,
+            fill: 30 + first,
+            multiply: 33 + first,
+            divide: 34 + first,
+        })
+    }
+}
+
+// One more than the greatest number of 32 bits.
+const BEYOND: u64 = 4_294_967_296;
+
+// Whether the captured names of each procedure, and one more, can be counted by a number of 32 bits.
+fn are_narrow(procs: &FlatProcs) -> bool
+    ensures { result ≡ all_narrow (flat_procs_of procs.now) }
+{
+    let mut left = procs.as_slice();
+    while let [proc, rest @ ..] = left {
+        if proc.captured as u64 + 1 >= BEYOND || proc.group as u64 >= BEYOND {
+            return false;
+        }
+        left = rest;
+    }
+    true
+}
+
+/// The program over words of a flat program over the merged scheme. What stands in memory are its types and coercions,
+/// from the first address on. It is closed where the flat program is, and no operator has more operands than there are
+/// words for.
+pub fn lower(
+    alloc: Global,
+    flat: &FlatProgram,
+    types: &TypeTable,
+    casts: &CastRows,
+    coercions: &CoercionTable,
+) -> Result<LowProgram, OutOfMemory>
+    requires answer { flat.now.answer.0 < length types.now }
+    requires fits { FitsTypes types.now coercions.now }
+    requires casts { All (λ cast. cast.coercion.0 < length coercions.now.nodes) casts.now }
+    ensures procs { IfOk result (λ low. (answer : TypeRow) → row_at types.now flat.now.answer.0 ≡ Some answer
+        → let first : ℕ = suc (length flat.now.procs) in procs_of low.procs
+        ≡ lowered (with_casts (merged_numbers first) low.statics.cast_at) (flat_procs_of flat.now.procs)
+        flat.now.entry answer (merged_procs first)) }
+    ensures entry { IfOk result (λ low. low.entry ≡ length flat.now.procs) }
+    ensures statics { IfOk result (λ low.
+        AreStatics types.now coercions.now.nodes casts.now FIRST_ADDRESS low.statics) }
+    ensures closed { IfOk result (λ low. is_closed_flat (flat_procs_of flat.now.procs) flat.now.entry ≡ true
+        → all_have_words (flat_procs_of flat.now.procs) ≡ true → is_closed (procs_of low.procs) low.entry ≡ true) }
+    ensures narrow { IfOk result (λ low. all_narrow (flat_procs_of flat.now.procs) ≡ true) }
+{
+    if !are_narrow(&flat.procs) {
+        return Err(OutOfMemory);
+    }
+    let statics = place_rows(alloc, types, coercions, casts, FIRST_ADDRESS)?;
+    lower_over(alloc, flat, types, statics, &Merged)
+}

@@ -1,0 +1,144 @@
+// Schemes: what stands in memory for casts, and which procedures serve.
+
+ghost use Rattle.std.specs.Prelude.{ℕ, suc, true, List, Some, All, IfOk, length};
+ghost use Rattle.std.specs.Prelude.{◌≡◌, ◌<◌, ◌≤◌, ◌%◌, ◌^◌};
+ghost use Rattle.grift_base.specs.Types.{TypeRow, row_at};
+ghost use Rattle.coercion_norm.specs.CoercionTables.{FitsTypes};
+ghost use Rattle.flat_ir.specs.Closed.{is_closed as is_closed_flat};
+ghost use Rattle.flat_ir.specs.Views.{procs_of as flat_procs_of};
+ghost use Rattle.low_ir.specs.Closed.{is_closed};
+ghost use Rattle.low_ir.specs.Procedures.{Proc};
+ghost use Rattle.low_ir.specs.Views.{procs_of};
+ghost use Rattle.lower.specs.declared.served.Served.{Served};
+ghost use Rattle.lower.specs.Lowered.{lowered};
+ghost use Rattle.lower.specs.Serving.{all_have_words};
+ghost use Rattle.lower.specs.Sets.{ServesAnywhere, numbers_of, with_casts};
+
+use crate::copies::push_copies;
+use crate::lowering::lowered;
+use crate::served::{ProcSet, Served};
+use coercion_norm::cast_rows::CastRows;
+use coercion_norm::tables::CoercionTable;
+use flat_ir::programs::FlatProgram;
+use grift_base::lists::OutOfMemory;
+use grift_base::words::{Statics, WordList};
+use low_ir::programs::LowProgram;
+use rv_machine::FIRST_ADDRESS;
+use std::alloc::Global;
+use type_graph::tables::TypeTable;
+
+// No program has more procedures than this in front of those that serve.
+const MOST_PROCS: u64 = 2_147_483_646;
+
+/// A way to make casts, and what else isn't done in place.
+pub trait Scheme {
+    // the procedures, numbered without gaps from a first number on
+    ghost procs_from: { Self → ℕ → List Proc };
+
+    // the numbers of those that code calls
+    ghost numbers_from: { Self → ℕ → Served };
+
+    /// What stands in memory from the address `start` on, before the code, with a word for each cast.
+    fn statics(
+        &self,
+        alloc: Global,
+        types: &TypeTable,
+        table: &CoercionTable,
+        casts: &CastRows,
+        start: u64,
+    ) -> Result<Statics, OutOfMemory>
+        requires aligned { start % 8 ≡ 0 }
+        requires low { start < 2 ^ 32 }
+        requires fits { FitsTypes types.now table.now }
+        requires casts { All (λ cast. cast.coercion.0 < length table.now.nodes) casts.now }
+        ensures { IfOk result (λ statics. length statics.cast_at ≡ length casts.now) };
+
+    /// The procedures, numbered from `first` on, 64 at most. Wherever they stand in a program, they are closed there,
+    /// and take what they are handed.
+    fn procs(&self, alloc: Global, first: u32) -> Result<ProcSet, OutOfMemory>
+        requires { first < 2 ^ 31 }
+        ensures procs { IfOk result (λ set. procs_of set.procs ≡ procs_from self.now first) }
+        ensures numbers { IfOk result (λ set. numbers_of set ≡ numbers_from self.now first) }
+        ensures few { IfOk result (λ set. length set.procs ≤ 64) }
+        ensures serves { IfOk result (λ set.
+            ServesAnywhere (procs_from self.now first) first (numbers_from self.now first)) };
+}
+
+// The numbers of the procedures of a set, and the words of casts.
+fn served_by(alloc: Global, set: &ProcSet, statics: &Statics) -> Result<Served, OutOfMemory>
+    ensures { IfOk result (λ run. run ≡ with_casts (numbers_of set.now) statics.now.cast_at) }
+{
+    Ok(Served {
+        cast: set.cast,
+        project: set.project,
+        apply: set.apply,
+        read: set.read,
+        write: set.write,
+        fill: set.fill,
+        multiply: set.multiply,
+        divide: set.divide,
+        cast_at: WordList::from_slice(alloc, statics.cast_at.as_slice())?,
+    })
+}
+
+/// The program over words of a flat program, over what stands in memory for its casts: the procedures that the
+/// definition gives, and behind them those of the scheme.
+pub fn lower_over<S: Scheme>(
+    alloc: Global,
+    flat: &FlatProgram,
+    types: &TypeTable,
+    statics: Statics,
+    scheme: &S,
+) -> Result<LowProgram, OutOfMemory>
+    requires answer { flat.now.answer.0 < length types.now }
+    ensures procs { IfOk result (λ low. (answer : TypeRow) → row_at types.now flat.now.answer.0 ≡ Some answer
+        → let first : ℕ = suc (length flat.now.procs) in procs_of low.procs
+        ≡ lowered (with_casts (S.numbers_from scheme.now first) low.statics.cast_at) (flat_procs_of flat.now.procs)
+        flat.now.entry answer (S.procs_from scheme.now first)) }
+    ensures entry { IfOk result (λ low. low.entry ≡ length flat.now.procs) }
+    ensures statics { IfOk result (λ low. low.statics ≡ statics) }
+    ensures closed { IfOk result (λ low. is_closed_flat (flat_procs_of flat.now.procs) flat.now.entry ≡ true
+        → all_have_words (flat_procs_of flat.now.procs) ≡ true → is_closed (procs_of low.procs) low.entry ≡ true) }
+{
+    let entry = flat.procs.len();
+    if entry > MOST_PROCS {
+        return Err(OutOfMemory);
+    }
+    let entry = entry as u32;
+    let set = scheme.procs(alloc, entry + 1)?;
+    let run = served_by(alloc, &set, &statics)?;
+    let mut procs = lowered(alloc, &run, flat, types.row(flat.answer))?;
+    push_copies(alloc, &mut procs, set.procs.as_slice())?;
+    Ok(LowProgram {
+        procs,
+        entry,
+        statics,
+    })
+}
+
+/// The program over words of a flat program, whose casts are made as the scheme says: the procedures that the
+/// definition gives, behind them those of the scheme, and what stands in memory for its casts. It is closed where the
+/// flat program is, and no operator has more operands than there are words for.
+pub fn lower_with<S: Scheme>(
+    alloc: Global,
+    flat: &FlatProgram,
+    types: &TypeTable,
+    casts: &CastRows,
+    coercions: &CoercionTable,
+    scheme: &S,
+) -> Result<LowProgram, OutOfMemory>
+    requires answer { flat.now.answer.0 < length types.now }
+    requires fits { FitsTypes types.now coercions.now }
+    requires casts { All (λ cast. cast.coercion.0 < length coercions.now.nodes) casts.now }
+    ensures procs { IfOk result (λ low. (answer : TypeRow) → row_at types.now flat.now.answer.0 ≡ Some answer
+        → let first : ℕ = suc (length flat.now.procs) in procs_of low.procs
+        ≡ lowered (with_casts (S.numbers_from scheme.now first) low.statics.cast_at) (flat_procs_of flat.now.procs)
+        flat.now.entry answer (S.procs_from scheme.now first)) }
+    ensures entry { IfOk result (λ low. low.entry ≡ length flat.now.procs) }
+    ensures casts { IfOk result (λ low. length low.statics.cast_at ≡ length casts.now) }
+    ensures closed { IfOk result (λ low. is_closed_flat (flat_procs_of flat.now.procs) flat.now.entry ≡ true
+        → all_have_words (flat_procs_of flat.now.procs) ≡ true → is_closed (procs_of low.procs) low.entry ≡ true) }
+{
+    let statics = scheme.statics(alloc, types, coercions, casts, FIRST_ADDRESS)?;
+    lower_over(alloc, flat, types, statics, scheme)
+}
