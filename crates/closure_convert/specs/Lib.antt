@@ -1,2 +1,10 @@
 pub mod Conversion
 pub mod Bounds
+pub mod Numbers
+pub mod Waits
+pub mod Scopes
+pub mod Keeping
+pub mod Converting
+pub mod Programs
+pub mod Uses
+pub mod Free

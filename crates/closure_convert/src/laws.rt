@@ -1,20 +1,24 @@
 // Laws of closure conversion. Each function has an empty body: its contract is a law, proved for all terms.
 
-ghost use Rattle.std.specs.Prelude.{◌≡◌, false, true, ℕ, List};
+ghost use Rattle.std.specs.Prelude.{◌≡◌, ◌++◌, Bool, cond, false, true, ℕ, List};
+ghost use Rattle.std.specs.List.{list_all};
 ghost use Rattle.run_laws.specs.Runs.{Any, FollowsBy, NeverWrong};
 ghost use Rattle.type_graph.specs.TypeTables.{HaveWidths};
+ghost use Rattle.grift_base.specs.Tables.{HasNoRepeats};
 ghost use Rattle.grift_base.specs.Types.{TypeRows};
 ghost use Rattle.core_calc.specs.Substitution.{is_among};
 ghost use Rattle.core_calc.specs.Typing.{ProgramTermHasType};
 ghost use Rattle.coercion_norm.specs.AnswerTypes.{Told};
 ghost use Rattle.coercion_norm.specs.MergedMode.{merging};
 ghost use Rattle.coercion_norm.specs.Modes.{TypeCast, piling};
-ghost use Rattle.coer_core.specs.Counts.{free_names, run_in};
-ghost use Rattle.coer_core.specs.Terms.{RowTerm, core_of};
+ghost use Rattle.coer_core.specs.Counts.{each_once, free_names, free_names_of_members, names_besides, run_in};
+ghost use Rattle.coer_core.specs.Terms.{RowMembers, RowTerm, core_of};
 ghost use Rattle.flat_ir.specs.Closed.{is_closed};
 ghost use Rattle.flat_ir.specs.Counts.{flat_run_in};
 ghost use Rattle.closure_convert.specs.Bounds.{CountsKept};
-ghost use Rattle.closure_convert.specs.Conversion.{converted, made};
+ghost use Rattle.closure_convert.specs.Conversion.{captures, converted, made};
+ghost use Rattle.closure_convert.specs.Free.{is_free, is_free_in_a_member};
+ghost use Rattle.closure_convert.specs.Uses.{Use, procs_uses, term_uses};
 
 /// The procedures of a term that reads back to a program term are closed where no type is too wide, and no name is free
 /// in the term.
@@ -44,4 +48,29 @@ pub fn procedures_follow_their_term()
         → FollowsBy CountsKept Any
         (flat_run_in (converted term) (made term) (merging told.types casts) told input)
         (run_in (merging told.types casts) told term input) }
+{}
+
+/// A group captures the names that are bound outside it and free in one of its members, each once. They stand in order
+/// of first appearance: names that appear in a first part stand before those that first appear behind it.
+pub fn captured_names_are_free_in_a_member()
+    ensures free { (names : List ℕ) (members : RowMembers) (name : ℕ)
+        → is_among name (captures names members)
+        ≡ cond (is_among name names) false (is_free_in_a_member name members) }
+    ensures once { (names : List ℕ) (members : RowMembers) → HasNoRepeats (captures names members) }
+    ensures met { (names : List ℕ) (members : RowMembers)
+        → captures names members ≡ each_once (names_besides names (free_names_of_members members)) }
+    ensures order { (first rest : List ℕ)
+        → each_once (first ++ rest) ≡ each_once first ++ names_besides first (each_once rest) }
+{}
+
+/// The names of a term's list of free names are those that are free in it.
+pub fn free_names_are_free()
+    ensures { (term : RowTerm) (name : ℕ) → is_among name (free_names term) ≡ is_free name term }
+{}
+
+/// An operator, a part of Dyn or a cast stands in the procedures of a term only where it stands in the term: each test
+/// that all of the term's pass is passed by those of its procedures.
+pub fn procedures_use_what_their_term_uses()
+    ensures { (term : RowTerm) (test : Use → Bool)
+        → list_all test (term_uses term) ≡ true → list_all test (procs_uses (converted term)) ≡ true }
 {}

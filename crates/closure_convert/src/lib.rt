@@ -1,4 +1,9 @@
 //! Closure conversion: what the procedures of a term are, and that their run follows the run with environments.
 #![tactic(auto)]
 
+mod conversion;
 pub mod laws;
+mod names;
+mod numbers;
+pub mod program;
+mod waits;

@@ -1,0 +1,44 @@
+use Rattle.std.proofs.Common.{◌≡◌, true, subst, sym}
+use Rattle.run_laws.specs.Runs.{Any, FollowsBy}
+use Rattle.coercion_norm.specs.Modes.{piling}
+use Rattle.coercion_norm.specs.MergedMode.{merging}
+use Rattle.coer_core.specs.Counts.{run_in}
+use Rattle.coer_core.specs.Views.{row_term_of}
+use Rattle.flat_ir.specs.Closed.{is_closed}
+use Rattle.flat_ir.specs.Counts.{flat_run_in}
+use Rattle.closure_convert.specs.Bounds.{CountsKept}
+use Rattle.closure_convert.specs.Conversion.{converted, made}
+use Rattle.closure_convert.proofs.Closing.{converted_closed}
+use Rattle.closure_convert.proofs.Standing.{converted_follows}
+use Rattle.closure_convert.proofs.Typed.{typed_closed, typed_fine}
+use Rattle.closure_convert.proofs.program.convert.Goals as goal
+
+pub returns-clause-closed : goal.returns-clause-closed
+returns-clause-closed c = λ casts types labels type widths h.
+    let term = row_term_of c.args.program.now.body in
+    subst (λ procs. is_closed procs c.in_ok-procs.entry ≡ true)
+    (sym (c.in_ok-procs.ensures.procs (typed_closed casts types labels term type h.3)))
+    (subst (λ entry. is_closed (converted term) entry ≡ true) (sym c.in_ok-procs.ensures.entry)
+    (converted_closed term (typed_fine casts types labels term type widths h.3)))
+
+pub returns-clause-piled : goal.returns-clause-piled
+returns-clause-piled c = λ closed casts told input never.
+    let term = row_term_of c.args.program.now.body in
+    let mode = piling told.types casts in
+    subst (λ procs. FollowsBy CountsKept Any (flat_run_in procs c.in_ok-procs.entry mode told input)
+    (run_in mode told term input))
+    (sym (c.in_ok-procs.ensures.procs closed))
+    (subst (λ entry. FollowsBy CountsKept Any (flat_run_in (converted term) entry mode told input)
+    (run_in mode told term input)) (sym c.in_ok-procs.ensures.entry)
+    (converted_follows mode told term input closed never))
+
+pub returns-clause-merged : goal.returns-clause-merged
+returns-clause-merged c = λ closed casts told input never.
+    let term = row_term_of c.args.program.now.body in
+    let mode = merging told.types casts in
+    subst (λ procs. FollowsBy CountsKept Any (flat_run_in procs c.in_ok-procs.entry mode told input)
+    (run_in mode told term input))
+    (sym (c.in_ok-procs.ensures.procs closed))
+    (subst (λ entry. FollowsBy CountsKept Any (flat_run_in (converted term) entry mode told input)
+    (run_in mode told term input)) (sym c.in_ok-procs.ensures.entry)
+    (converted_follows mode told term input closed never))

@@ -1,0 +1,62 @@
+// Programs of procedures.
+
+ghost use Rattle.std.specs.Prelude.{◌≡◌, ℕ, List, false, true, IfOk};
+ghost use Rattle.run_laws.specs.Runs.{Any, FollowsBy, NeverWrong};
+ghost use Rattle.type_graph.specs.TypeTables.{HaveWidths};
+ghost use Rattle.grift_base.specs.Types.{TypeRows};
+ghost use Rattle.core_calc.specs.Typing.{ProgramTermHasType};
+ghost use Rattle.coercion_norm.specs.AnswerTypes.{Told};
+ghost use Rattle.coercion_norm.specs.MergedMode.{merging};
+ghost use Rattle.coercion_norm.specs.Modes.{TypeCast, piling};
+ghost use Rattle.coer_core.specs.Counts.{run_in};
+ghost use Rattle.coer_core.specs.Terms.{core_of};
+ghost use Rattle.coer_core.specs.Views.{row_term_of};
+ghost use Rattle.flat_ir.specs.Closed.{is_closed};
+ghost use Rattle.flat_ir.specs.Counts.{flat_run_in};
+ghost use Rattle.flat_ir.specs.Views.{procs_of};
+ghost use Rattle.closure_convert.specs.Bounds.{CountsKept};
+ghost use Rattle.closure_convert.specs.Conversion.{converted, made};
+ghost use Rattle.closure_convert.specs.Programs.{HasNoFreeNames};
+
+use crate::conversion::Converter;
+use coer_core::program::CoerProgram;
+use flat_ir::programs::FlatProgram;
+use grift_base::lists::OutOfMemory;
+use std::alloc::Global;
+
+#[cfg(test)]
+mod tests;
+
+/// The procedures of a program, of which the last is the one to begin with, and the type of its answer. Where no name
+/// is free in the program's term, they are those that the definition gives, and their run follows the run of the term
+/// with environments, for all casts and every input, in both modes, where that never goes wrong: both have made as
+/// many wrap steps at moments that correspond, and words asked for, active frames and turns are bounded by those of
+/// the given run. Where the term reads back to a program term, and no type is too wide, the procedures are closed.
+pub fn convert(alloc: Global, program: &CoerProgram) -> Result<FlatProgram, OutOfMemory>
+    ensures procs { IfOk result (λ flat. HasNoFreeNames (row_term_of program.now.body)
+        → procs_of flat.procs ≡ converted (row_term_of program.now.body)) }
+    ensures entry { IfOk result (λ flat. flat.entry ≡ made (row_term_of program.now.body)) }
+    ensures answer { IfOk result (λ flat. flat.answer ≡ program.now.answer) }
+    ensures closed { IfOk result (λ flat. (casts : List TypeCast) (types : TypeRows) (labels : ℕ) (type : ℕ)
+        → HaveWidths types → ProgramTermHasType types labels (core_of casts (row_term_of program.now.body)) type
+        → is_closed (procs_of flat.procs) flat.entry ≡ true) }
+    ensures piled { IfOk result (λ flat. HasNoFreeNames (row_term_of program.now.body)
+        → (casts : List TypeCast) (told : Told) (input : List ℕ)
+        → NeverWrong (run_in (piling told.types casts) told (row_term_of program.now.body) input)
+        → FollowsBy CountsKept Any
+        (flat_run_in (procs_of flat.procs) flat.entry (piling told.types casts) told input)
+        (run_in (piling told.types casts) told (row_term_of program.now.body) input)) }
+    ensures merged { IfOk result (λ flat. HasNoFreeNames (row_term_of program.now.body)
+        → (casts : List TypeCast) (told : Told) (input : List ℕ)
+        → NeverWrong (run_in (merging told.types casts) told (row_term_of program.now.body) input)
+        → FollowsBy CountsKept Any
+        (flat_run_in (procs_of flat.procs) flat.entry (merging told.types casts) told input)
+        (run_in (merging told.types casts) told (row_term_of program.now.body) input)) }
+{
+    let (procs, entry) = Converter::program(alloc, &program.body)?;
+    Ok(FlatProgram {
+        procs,
+        entry,
+        answer: program.answer,
+    })
+}
