@@ -1,0 +1,93 @@
+// Tables of types and coercions that fit each other.
+
+ghost use Rattle.std.specs.Prelude.{◌≡◌};
+
+use coercion_compose::compositions::compose;
+use coercion_norm::cast_rows::CastRows;
+use coercion_norm::casts::coerce;
+use coercion_norm::nodes::CoercionId;
+use coercion_norm::placing::place_rows;
+use coercion_norm::tables::CoercionTable;
+use grift_base::lists::OutOfMemory;
+use grift_base::places::{LabelId, TypeId};
+use grift_base::words::Statics;
+use rv_machine::FIRST_ADDRESS;
+use std::alloc::Global;
+use std::marker::Model;
+use std::test::Fail;
+use type_graph::tables::TypeTable;
+
+#[derive(Drop)]
+pub(crate) struct Pool {
+    types: TypeTable,
+    table: CoercionTable,
+}
+
+impl Model for Pool {
+    ghost use Rattle.grift_base.specs.Types.{TypeRows};
+    ghost use Rattle.coercion_norm.specs.CoercionTables.{FitsTypes, NodeTable};
+
+    ghost Value = { TypeRows × NodeTable };
+
+    ghost view = { λ a. (a.types, a.table) };
+
+    ghost invariant = { λ a. FitsTypes a.types a.table };
+}
+
+impl Pool {
+    // No coercions but Id.
+    pub(crate) fn new(alloc: Global, types: TypeTable) -> Result<Pool, OutOfMemory> {
+        let table = CoercionTable::new(alloc)?;
+        Ok(Pool { types, table })
+    }
+
+    pub(crate) fn table(&self) -> &CoercionTable {
+        &self.table
+    }
+
+    // The height of a coercion.
+    pub(crate) fn height(&self, c: CoercionId) -> Result<u32, Fail> {
+        if c.0 >= self.table.len() {
+            return Err(Fail::from("no coercion is there"));
+        }
+        Ok(self.table.height(c))
+    }
+
+    // The coercion of a cast.
+    pub(crate) fn cast(
+        &mut self,
+        alloc: Global,
+        from: TypeId,
+        to: TypeId,
+        label: LabelId,
+    ) -> Result<CoercionId, Fail> {
+        if from.0 >= self.types.len() || to.0 >= self.types.len() {
+            return Err(Fail::from("no type is there"));
+        }
+        Ok(coerce(alloc, &mut self.table, &self.types, from, to, label)?)
+    }
+
+    // The composition of two coercions.
+    pub(crate) fn compose(
+        &mut self,
+        alloc: Global,
+        c: CoercionId,
+        d: CoercionId,
+    ) -> Result<CoercionId, Fail> {
+        if c.0 >= self.table.len() || d.0 >= self.table.len() {
+            return Err(Fail::from("no coercion is there"));
+        }
+        Ok(compose(alloc, &mut self.table, &self.types, c, d)?)
+    }
+
+    // The objects of all types and coercions.
+    pub(crate) fn place(&self, alloc: Global) -> Result<Statics, OutOfMemory> {
+        place_rows(
+            alloc,
+            &self.types,
+            &self.table,
+            &CastRows::new(alloc),
+            FIRST_ADDRESS,
+        )
+    }
+}

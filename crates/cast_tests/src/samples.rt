@@ -1,0 +1,179 @@
+// Types of height at most three, of which many differ only in where they have Dyn.
+
+use crate::random::Random;
+use grift_base::places::TypeId;
+use std::alloc::Global;
+use std::test::Fail;
+use type_graph::rows::{Row, TypeIds};
+use type_graph::tables::TypeTable;
+
+// Functions, tuples, references and vectors.
+pub(crate) const CLASSES: u64 = 4;
+
+// How many types there are of a height and a class.
+const VARIANTS: u64 = 6;
+
+// How many types there are of a height.
+const LEVEL: u64 = 24;
+
+// The types of height 0, 1, 2 and 3 in order, each height by its classes; and Dyn.
+#[derive(Drop)]
+pub(crate) struct Sample {
+    made: Vec<TypeId>,
+    dynamic: TypeId,
+}
+
+// Puts a row into a table that it fits.
+pub(crate) fn put(types: &mut TypeTable, row: Row) -> Result<TypeId, Fail> {
+    if !types.fits(&row) {
+        return Err(Fail::from("the row does not fit"));
+    }
+    Ok(types.intern(row)?)
+}
+
+// Random types, in a table.
+pub(crate) fn random_types(
+    alloc: Global,
+    random: &mut Random,
+) -> Result<(TypeTable, Sample), Fail> {
+    let mut types = TypeTable::new(alloc)?;
+    let dynamic = put(&mut types, Row::Dyn)?;
+    let made = Vec::new(alloc);
+    let mut sample = Sample { made, dynamic };
+    let int = put(&mut types, Row::Int)?;
+    let truth = put(&mut types, Row::Bool)?;
+    let unit = put(&mut types, Row::Unit)?;
+    for base in [int, truth, unit, int] {
+        sample.add_same(base)?;
+    }
+    sample.add_heights(alloc, random, &mut types)?;
+    Ok((types, sample))
+}
+
+impl Sample {
+    // The types above the base types.
+    fn add_heights(
+        &mut self,
+        alloc: Global,
+        random: &mut Random,
+        types: &mut TypeTable,
+    ) -> Result<(), Fail> {
+        for below in 0..3 {
+            self.add_height(alloc, random, types, below)?;
+        }
+        Ok(())
+    }
+
+    // A class of which all types are one.
+    fn add_same(&mut self, base: TypeId) -> Result<(), Fail> {
+        for _ in 0..VARIANTS {
+            self.made.push(base)?;
+        }
+        Ok(())
+    }
+
+    // The types above a height.
+    fn add_height(
+        &mut self,
+        alloc: Global,
+        random: &mut Random,
+        types: &mut TypeTable,
+        below: u64,
+    ) -> Result<(), Fail> {
+        for class in 0..CLASSES {
+            self.add_class(alloc, random, types, below, class)?;
+        }
+        Ok(())
+    }
+
+    // The types above a height of a class.
+    fn add_class(
+        &mut self,
+        alloc: Global,
+        random: &mut Random,
+        types: &mut TypeTable,
+        below: u64,
+        class: u64,
+    ) -> Result<(), Fail> {
+        for _ in 0..VARIANTS {
+            let row = self.row(alloc, random, below, class)?;
+            self.made.push(put(types, row)?)?;
+        }
+        Ok(())
+    }
+
+    // A row of a class whose highest part is of a height. Rows of both have equally many parts: those of base types as
+    // many as there may be, the others few.
+    fn row(&self, alloc: Global, random: &mut Random, below: u64, class: u64) -> Result<Row, Fail> {
+        let (parameters, parts) = if below == 0 { (6, 8) } else { (1, 2) };
+        match class {
+            0 => {
+                let parameters = self.parts(alloc, random, below, parameters)?;
+                let result = self.part(random, below, 3)?;
+                Ok(Row::Fun(parameters, result))
+            }
+            1 => Ok(Row::Tuple(self.parts(alloc, random, below, parts)?)),
+            2 => Ok(Row::Ref(self.part(random, below, 0)?)),
+            _ => Ok(Row::Vect(self.part(random, below, 1)?)),
+        }
+    }
+
+    // So many parts, of one class after the other.
+    fn parts(
+        &self,
+        alloc: Global,
+        random: &mut Random,
+        below: u64,
+        many: u64,
+    ) -> Result<TypeIds, Fail> {
+        let mut parts = TypeIds::new(alloc);
+        for k in 0..many {
+            parts.push(self.part(random, below, k % CLASSES)?)?;
+        }
+        Ok(parts)
+    }
+
+    // A part: mostly of a height and a class, now and then Dyn or any type of at most that height.
+    fn part(&self, random: &mut Random, below: u64, class: u64) -> Result<TypeId, Fail> {
+        match random.below(8) {
+            0 | 1 => Ok(self.dynamic),
+            2 => self.at(random.below(LEVEL)),
+            _ => self.one_of(random, below, class),
+        }
+    }
+
+    // One of the types of a height and a class.
+    pub(crate) fn one_of(
+        &self,
+        random: &mut Random,
+        height: u64,
+        class: u64,
+    ) -> Result<TypeId, Fail> {
+        let first = height
+            .wrapping_mul(LEVEL)
+            .wrapping_add(class.wrapping_mul(VARIANTS));
+        self.at(first.wrapping_add(random.below(VARIANTS)))
+    }
+
+    // The type at a place.
+    fn at(&self, place: u64) -> Result<TypeId, Fail> {
+        match self.made.as_slice().get(place as usize) {
+            Some(made) => Ok(*made),
+            None => Err(Fail::from("no such type is made")),
+        }
+    }
+
+    // Two types: mostly of one height and class, now and then one of them Dyn, or any two.
+    pub(crate) fn pair(&self, random: &mut Random) -> Result<(TypeId, TypeId), Fail> {
+        let height = random.below(4);
+        let class = random.below(CLASSES);
+        let first = self.one_of(random, height, class)?;
+        let second = self.one_of(random, height, class)?;
+        Ok(match random.below(8) {
+            0 => (self.dynamic, second),
+            1 => (first, self.dynamic),
+            2 => (self.at(random.below(LEVEL * 4))?, second),
+            _ => (first, second),
+        })
+    }
+}
