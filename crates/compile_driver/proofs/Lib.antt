@@ -1,0 +1,3 @@
+mod FirstPlaces
+mod Allowed
+pub mod Public

@@ -1,0 +1,4 @@
+// What of a source isn't compiled yet.
+#![tactic(auto)]
+
+pub mod unbuilt;
