@@ -270,7 +270,8 @@ fn words(rt: HostRuntime) -> Result<(), NoMemory> {
     Ok(())
 }
 
-// What is put on a sink is one put: the first call is met exactly where there is something to put, and the second never.
+// What is put on a sink is one put: the first call is met exactly where there is something to put, and the second is
+// never met.
 #[test]
 fn devices_that_fail(rt: HostRuntime) -> Result<(), NoMemory> {
     let silent = run_of(b"42");
