@@ -1,0 +1,29 @@
+-- What the elaboration of a source that is built answers.
+use Rattle.std.proofs.Common.{◌≡◌, ℕ, List, refl, subst}
+use Rattle.grift_base.specs.declared.places.Pos.{Pos}
+use Rattle.grift_base.specs.Types.{TypeRows}
+use Rattle.core_calc.specs.Terms.{Term}
+use Rattle.surface_syntax.specs.Trees.{Expr}
+use Rattle.cast_insert.specs.Making.{Entry, Made, Makes, Refuses, Typed}
+use Rattle.cast_insert.specs.Elaboration.{elaborate_program}
+use Rattle.cast_insert.specs.Outcomes.{Elaborates, outcome_of}
+use Rattle.front_end.specs.Placed.{IsAllowed, IsPlaced}
+use Rattle.front_end.proofs.Public.{elaborated_programs_are_placed}
+use Rattle.compile_driver.specs.Unbuilt.{is_built}
+
+placed_at : (program : Expr) (made : Made Typed) (term : Term) (type : ℕ) (types : TypeRows) (labels : List Pos)
+    (casts : List Entry) → elaborate_program program ≡ made
+    → outcome_of made ≡ Elaborates term type types labels casts → IsAllowed is_built program
+    → IsPlaced is_built casts term
+placed_at program (Makes e work) term type types labels casts is same allowed =
+    let t : e.term ≡ term = cc in
+    let c : work.casts ≡ casts = cc in
+    subst (λ entries. IsPlaced is_built entries term) c
+    (subst (λ x. IsPlaced is_built work.casts x) t (elaborated_programs_are_placed is_built program e work allowed is))
+placed_at program (Refuses kind place) term type types labels casts is same allowed = cc
+
+pub placed_of : (program : Expr) (term : Term) (type : ℕ) (types : TypeRows) (labels : List Pos) (casts : List Entry)
+    → outcome_of (elaborate_program program) ≡ Elaborates term type types labels casts → IsAllowed is_built program
+    → IsPlaced is_built casts term
+placed_of program term type types labels casts same allowed =
+    placed_at program (elaborate_program program) term type types labels casts refl same allowed
