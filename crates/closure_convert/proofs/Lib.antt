@@ -27,5 +27,3 @@ mod Freeness
 mod Answering
 mod Leaving
 mod GroupsClosed
-mod FewOperands
-pub mod Public

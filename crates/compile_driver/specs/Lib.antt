@@ -1,2 +1,1 @@
 pub mod Unbuilt
-pub mod Compiling

@@ -1,5 +1,4 @@
-// Sources compiled to images.
+// What of a source isn't compiled yet.
 #![tactic(auto)]
 
-pub mod compiling;
-mod unbuilt;
+pub mod unbuilt;
