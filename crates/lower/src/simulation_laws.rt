@@ -1,5 +1,5 @@
-//! The run over words follows the run of numbered procedures. A function here does nothing: its contract is a law, proved
-//! for all programs.
+//! The run over words follows the run of numbered procedures. A function here does nothing: its contract is a
+//! law, proved for all programs.
 
 ghost use Rattle.std.specs.Prelude.{◌≡◌, ◌≤◌, ℕ, List, Some, slice_get, true};
 ghost use Rattle.grift_base.specs.Types.{TypeRow, row_at};
