@@ -26,7 +26,8 @@ abbrev types : TypeRows
 types =
     IntRow ∷ BoolRow ∷ DynRow ∷ FunRow (0 ∷ []) 0 ∷ FunRow (2 ∷ []) 2 ∷ FunRow (0 ∷ []) 2 ∷ UnitRow ∷ RefRow 0
     ∷ RefRow 2 ∷ VectRow 0 ∷ VectRow 2 ∷ TupleRow (0 ∷ 1 ∷ []) ∷ TupleRow (2 ∷ 2 ∷ []) ∷ FunRow [] 0
-    ∷ FunRow (0 ∷ 0 ∷ []) 0 ∷ FunRow (2 ∷ 2 ∷ []) 2 ∷ FunRow (0 ∷ []) 1 ∷ FunRow (4 ∷ []) 0 ∷ []
+    ∷ FunRow (0 ∷ 0 ∷ []) 0 ∷ FunRow (2 ∷ 2 ∷ []) 2 ∷ FunRow (0 ∷ []) 1 ∷ FunRow (4 ∷ []) 0
+    ∷ FunRow (1 ∷ []) 0 ∷ FunRow (2 ∷ 0 ∷ []) 0 ∷ FunRow (2 ∷ 2 ∷ []) 0 ∷ []
 
 abbrev in_line : ℕ → Pos
 in_line line = record { line = line; col = 1 }
@@ -149,6 +150,17 @@ first_argument_blamed : EndsAlike
     (two (Cast (BoolLit true) 1 2 0) (Cast (BoolLit false) 1 2 1))) 2 (Blame (in_line 3)) [] 1
 unfolding digits
 first_argument_blamed = (refl, refl, refl, refl, refl, refl, refl, refl)
+
+-- a cast of a function tests no types of parameters: what is never called blames nothing
+argument_types_later : EndsAlike (let_one 9 (Cast (Cast identity 3 2 0) 2 18 1) (int 5)) 0 (number 5) [] 1
+argument_types_later = (refl, refl, refl, refl, refl, refl, refl, refl)
+
+-- all casts of the first argument come before those of the second: the inner wrapper blames the first, though the outer
+-- one would blame the second
+arguments_one_by_one : EndsAlike
+    (Call (Cast (Cast (Lambda (0 ∷ 1 ∷ []) (Var 0) 14) 14 19 0) 19 20 1)
+    (two (Cast (BoolLit true) 1 2 2) (Cast (BoolLit false) 1 2 2))) 0 (Blame (in_line 1)) [] 2
+arguments_one_by_one = (refl, refl, refl, refl, refl, refl, refl, refl)
 
 -- arguments are evaluated, with what they print, before a cast of one blames
 printed_before : EndsAlike
