@@ -292,7 +292,7 @@ module _ (procs : List Proc) where
             let a = ev.2 in omega (arith, n, a),
           ))
       code_bound (RowPrim op terms) scope depth next ev st h =
-          gather_bound terms scope depth next [] _ ev st h tt (λ os last le bs n. bs)
+          gather_bound terms scope depth next [] _ ev.0 st h tt (λ os last le bs n. bs)
 
       gather_bound : (terms : RowTerms) (scope : Scope) (depth next : ℕ) (before : List Operand) (finish : List Operand
           → Body) → FineFor terms → StandsFor procs terms next → ScopeBound depth scope → OperandsBound c g depth before
@@ -442,7 +442,7 @@ module _ (procs : List Proc) where
     front_of (RowProj term i) next ev st = front_of term next ev st
     front_of (RowProjDyn term i label) next ev st = front_of term next ev st
     front_of (RowTuple terms) next ev st = front_for terms next ev.0 st
-    front_of (RowPrim op terms) next ev st = front_for terms next ev st
+    front_of (RowPrim op terms) next ev st = front_for terms next ev.0 st
 
     front_for : (terms : RowTerms) (next : ℕ) → FineFor terms → StandsFor procs terms next
         → Front (procs_for terms next)

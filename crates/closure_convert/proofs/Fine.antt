@@ -1,5 +1,5 @@
 -- Terms whose integers have 64 bits, whose functions have at most six parameters, whose calls hand on at most six
--- arguments, and whose tuples have one to eight parts.
+-- arguments, whose tuples have one to eight parts, and whose operators have eight operands at most.
 use Rattle.std.proofs.Common.{◌≡◌, ℕ, suc, ◌≤◌, true, length}
 use Rattle.std.specs.Int.{int_wrap, w64}
 use Rattle.std.specs.Ordering.{int_eq}
@@ -7,10 +7,10 @@ use Rattle.coer_core.specs.Terms.{RowTerm, RowTerms, RowMembers, RowBindings, Ro
 use Rattle.coer_core.specs.Terms.{RowLambda, RowGroup, RowLet, RowCall, RowIf, RowSeq, RowCast, RowProj, RowProjDyn}
 use Rattle.coer_core.specs.Terms.{RowTuple, RowPrim, NoRowTerms, RowTermThen, NoRowMembers, RowMemberThen}
 use Rattle.coer_core.specs.Terms.{NoRowBindings, RowBindingThen}
+use Rattle.closure_convert.specs.Uses.{how_many}
 
 abbrev pub count : RowTerms → ℕ
-count NoRowTerms = 0
-count (RowTermThen term rest) = suc (count rest)
+count = how_many
 
 abbrev mutual
   pub Fine : RowTerm → Type 0
@@ -28,7 +28,7 @@ abbrev mutual
   Fine (RowProj term k) = Fine term
   Fine (RowProjDyn term k label) = Fine term
   Fine (RowTuple parts) = FineFor parts × (1 ≤ count parts) × (count parts ≤ 8)
-  Fine (RowPrim operator operands) = FineFor operands
+  Fine (RowPrim operator operands) = FineFor operands × (count operands ≤ 8)
 
   pub FineFor : RowTerms → Type 0
   FineFor NoRowTerms = Unit {0}

@@ -27,3 +27,5 @@ mod Freeness
 mod Answering
 mod Leaving
 mod GroupsClosed
+mod FewOperands
+pub mod Public

@@ -1,17 +1,21 @@
 -- A term that reads back to a program term is closed, and fine.
 use Rattle.std.proofs.Common.{◌≡◌, ◌⊎◌, inl, inr, ⊎_elim, ℕ, suc, Bool, true, false, cond, nat_eq, List}
 use Rattle.std.proofs.Common.{[], ◌∷◌, ◌++◌, length, Option, Some, None, slice_get, refl, sym, ap, ◌∙◌, arith}
-use Rattle.std.proofs.Common.{eqb-true}
+use Rattle.std.proofs.Common.{eqb-true, ◌≤◌, subst}
 use Rattle.std.specs.Int.{w64}
 use Rattle.std.specs.Ordering.{int_eq}
 use Rattle.std.proofs.lemmas.Int.{int_wrap_fits}
 use Rattle.std.proofs.lemmas.Cmp.{int_eq_equiv}
 use Rattle.grift_base.specs.Types.{TypeRows, FunRow}
+use Rattle.grift_base.specs.declared.operators.PrimOp.{PrimOp}
+use Rattle.grift_base.specs.declared.operators.PrimOp.TheVariants.{Add, Sub, Mul, Quot, Rem, Lt, Le, Eq, Ge, Gt, Not}
+use Rattle.grift_base.specs.declared.operators.PrimOp.TheVariants.{PrintInt, Newline, ReadInt, MakeBox, Unbox, BoxSet}
+use Rattle.grift_base.specs.declared.operators.PrimOp.TheVariants.{MakeVector, VectorRef, VectorSet, VectorLength}
 use Rattle.type_graph.specs.TypeTables.{HaveWidths}
 use Rattle.core_calc.specs.Terms.{both_in_front}
 use Rattle.core_calc.specs.Substitution.{is_among, bind, entry_of}
 use Rattle.core_calc.specs.Typing.{Context, CellType, HasType, HaveTypes, LastHasType, MembersHaveTypes}
-use Rattle.core_calc.specs.Typing.{BindingsHaveTypes, member_types}
+use Rattle.core_calc.specs.Typing.{BindingsHaveTypes, OperatorHasType, member_types}
 use Rattle.coercion_norm.specs.Modes.{TypeCast}
 use Rattle.coer_core.specs.Terms.{RowTerm, RowTerms, RowMembers, RowBindings, RowInt, RowBool, RowUnit, RowVar}
 use Rattle.coer_core.specs.Terms.{RowLambda, RowGroup, RowLet, RowCall, RowIf, RowSeq, RowCast, RowProj, RowProjDyn}
@@ -23,6 +27,36 @@ use Rattle.coer_core.specs.Counts.{free_names_of_bindings, row_member_names, row
 use Rattle.closure_convert.proofs.Relation.{none_some, same_some, false_true}
 use Rattle.closure_convert.proofs.Fine.{count, Fine, FineFor, FineIn, FineBy}
 use Rattle.closure_convert.proofs.Standing.{IsClosedTerm}
+
+-- ---- operators
+
+shape : (operands these : List ℕ) → operands ≡ these → length these ≤ 8 → length operands ≤ 8
+shape operands these e h = subst (λ xs. length xs ≤ 8) (sym e) h
+
+-- an operator that has a type has eight operands at most
+few_operands : (types : TypeRows) (operator : PrimOp) (operands : List ℕ) (type : ℕ)
+    → OperatorHasType types operator operands type → length operands ≤ 8
+few_operands types Add operands type h = shape operands _ h.0.2 (omega arith)
+few_operands types Sub operands type h = shape operands _ h.0.2 (omega arith)
+few_operands types Mul operands type h = shape operands _ h.0.2 (omega arith)
+few_operands types Quot operands type h = shape operands _ h.0.2 (omega arith)
+few_operands types Rem operands type h = shape operands _ h.0.2 (omega arith)
+few_operands types Lt operands type h = shape operands _ h.0.2 (omega arith)
+few_operands types Le operands type h = shape operands _ h.0.2 (omega arith)
+few_operands types Eq operands type h = shape operands _ h.0.2 (omega arith)
+few_operands types Ge operands type h = shape operands _ h.0.2 (omega arith)
+few_operands types Gt operands type h = shape operands _ h.0.2 (omega arith)
+few_operands types Not operands type h = shape operands _ h.0.1 (omega arith)
+few_operands types PrintInt operands type h = shape operands _ h.0.1 (omega arith)
+few_operands types Newline operands type h = shape operands _ h.0 (omega arith)
+few_operands types ReadInt operands type h = shape operands _ h.0 (omega arith)
+few_operands types MakeBox operands type h = shape operands _ h.1 (omega arith)
+few_operands types Unbox operands type h = shape operands _ h.1 (omega arith)
+few_operands types BoxSet operands type h = shape operands _ h.2 (omega arith)
+few_operands types MakeVector operands type h = shape operands _ h.2 (omega arith)
+few_operands types VectorRef operands type h = shape operands _ h.2 (omega arith)
+few_operands types VectorSet operands type h = shape operands _ h.3 (omega arith)
+few_operands types VectorLength operands type h = shape operands _ h.1.1 (omega arith)
 
 -- ---- names with types
 
@@ -254,7 +288,10 @@ module _ (casts : List TypeCast) where
             let few = h.3 in
             let many = h.4 in
             (fine_for parts context h.0 h.1, omega (arith, n, few), omega (arith, n, many))
-        fine (RowPrim operator operands) context type h = fine_for operands context h.0 h.1
+        fine (RowPrim operator operands) context type h =
+            let n = count_is operands context h.0 h.1 in
+            let few = few_operands types operator h.0 type h.2 in
+            (fine_for operands context h.0 h.1, omega (arith, n, few))
 
         fine_for : (terms : RowTerms) (context : Context) (term_types : List ℕ)
             → HaveTypes types labels cells context (core_terms casts terms) term_types → FineFor terms

@@ -1,7 +1,8 @@
 -- What stands in procedures stands in their term.
-use Rattle.std.proofs.Common.{◌≡◌, ℕ, suc, ◌+◌, Bool, true, false, ◌&&◌, List, [], ◌∷◌, ◌++◌, Option, Some, None}
-use Rattle.std.proofs.Common.{refl, sym}
-use Rattle.std.proofs.Common.{ap, ◌∙◌, length}
+use Rattle.std.proofs.Common.{◌≡◌, ℕ, suc, ◌+◌, Bool, true, false, ◌&&◌, List, [], ◌∷◌, ◌++◌, Option, Some, None, refl}
+use Rattle.std.proofs.Common.{sym}
+use Rattle.std.proofs.Common.{ap, ◌∙◌, length, subst, arith}
+use Rattle.std.proofs.lemmas.List.{length-append}
 use Rattle.std.specs.List.{list_all}
 use Rattle.coer_core.specs.Terms.{RowTerm, RowTerms, RowMembers, RowBindings, RowInt, RowBool, RowUnit, RowVar}
 use Rattle.coer_core.specs.Terms.{RowLambda, RowGroup, RowLet, RowCall, RowIf, RowSeq, RowCast, RowProj, RowProjDyn}
@@ -14,10 +15,10 @@ use Rattle.flat_ir.specs.declared.code.Operation.TheVariants.{Prim, Cast, Tuple,
 use Rattle.flat_ir.specs.Bodies.{Body, Choose, Give, Proc}
 use Rattle.closure_convert.specs.Conversion.{Scope, alone, atom, bind_operands, call_of, captures, code, converted}
 use Rattle.closure_convert.specs.Conversion.{entry_proc, fun_scope, gather, gather_let, label_id, made, made_by}
-use Rattle.closure_convert.specs.Conversion.{made_for}
 use Rattle.closure_convert.specs.Conversion.{made_in, nothing_known, numbered, own_procs, placed, procs_by, procs_for}
 use Rattle.closure_convert.specs.Conversion.{procs_in, procs_of, sequence}
-use Rattle.closure_convert.specs.Uses.{Use, binding_uses, body_uses, member_uses, procs_uses, term_uses, terms_uses}
+use Rattle.closure_convert.specs.Uses.{Use, OperatorUse, binding_uses, body_uses, how_many, member_uses, procs_uses}
+use Rattle.closure_convert.specs.Uses.{term_uses, terms_uses}
 use Rattle.closure_convert.proofs.Relation.{false_true}
 
 module _ (P : Use → Type 0) where
@@ -40,12 +41,18 @@ module _ (P : Use → Type 0) where
   placed_uses : (o : Option Operand) (d : ℕ) (inner : Body) (rest : Operand → ℕ → Body) → All (body_uses inner)
       → ((p : Operand) (e : ℕ) → All (body_uses (rest p e))) → All (body_uses (placed o d inner rest))
   placed_uses (Some p) d inner rest h k = k p d
-  placed_uses None d inner rest h k = joined (body_uses inner) (body_uses (rest (Local d) (suc d))) h (k (Local d)
-      (suc d))
+  placed_uses None d inner rest h k =
+      joined (body_uses inner) (body_uses (rest (Local d) (suc d))) h (k (Local d) (suc d))
 
   call_uses : (os : List Operand) → All (body_uses (call_of os))
   call_uses [] = tt
   call_uses (f ∷ os) = tt
+
+  none_before : (all rest : ℕ) → all ≡ 0 + rest → all ≡ rest
+  none_before all rest e = omega (arith, e)
+
+  one_more : (before rest all behind : ℕ) → behind ≡ before + 1 → all ≡ behind + rest → all ≡ before + suc rest
+  one_more before rest all behind b e = omega (arith, b, e)
 
   mutual
     code_uses : (t : RowTerm) (s : Scope) (d n : ℕ) → All (term_uses t) → All (body_uses (code t s d n))
@@ -70,7 +77,7 @@ module _ (P : Use → Type 0) where
         (λ os. call_of os))
         (code_uses f s d n (first (term_uses f) (terms_uses args) h))
         (λ o later. gather_uses args s later (n + made f) (o ∷ []) (λ os. call_of os)
-        (behind (term_uses f) (terms_uses args) h) (λ os. call_uses os))
+        (behind (term_uses f) (terms_uses args) h) (λ os e. call_uses os))
     code_uses (RowIf c a b) s d n h =
         let k = behind (term_uses c) (term_uses a ++ term_uses b) h in
         placed_uses (atom c s) d (code c s d n) (λ o later. Choose o (code a s later (n + made c))
@@ -87,19 +94,27 @@ module _ (P : Use → Type 0) where
     code_uses (RowProjDyn t k label) s d n h =
         placed_uses (atom t s) d (code t s d n) (λ o later. Give (ProjDyn o k (label_id label))) (code_uses t s d n h.1)
         (λ o later. (h.0, tt))
-    code_uses (RowTuple parts) s d n h = gather_uses parts s d n [] (λ os. Give (Tuple os)) h (λ os. tt)
-    code_uses (RowPrim operator terms) s d n h = gather_uses terms s d n [] (λ os. Give (Prim operator os)) h.1
-        (λ os. (h.0, tt))
+    code_uses (RowTuple parts) s d n h = gather_uses parts s d n [] (λ os. Give (Tuple os)) h (λ os e. tt)
+    code_uses (RowPrim operator terms) s d n h =
+        gather_uses terms s d n [] (λ os. Give (Prim operator os)) h.1
+        (λ os e. (
+          subst (λ count. P (OperatorUse operator count)) (sym (none_before (length os) (how_many terms) e))
+              h.0,
+          tt,
+        ))
 
     gather_uses : (ts : RowTerms) (s : Scope) (d n : ℕ) (before : List Operand) (finish : List Operand → Body)
-        → All (terms_uses ts) → ((os : List Operand) → All (body_uses (finish os)))
+        → All (terms_uses ts)
+        → ((os : List Operand) → length os ≡ length before + how_many ts → All (body_uses (finish os)))
         → All (body_uses (gather ts s d n before finish))
-    gather_uses NoRowTerms s d n before finish h k = k before
+    gather_uses NoRowTerms s d n before finish h k = k before (omega arith)
     gather_uses (RowTermThen t rest) s d n before finish h k =
         placed_uses (atom t s) d (code t s d n) (λ o later. gather rest s later (n + made t) (before ++ o ∷ []) finish)
         (code_uses t s d n (first (term_uses t) (terms_uses rest) h))
         (λ o later. gather_uses rest s later (n + made t) (before ++ o ∷ []) finish
-        (behind (term_uses t) (terms_uses rest) h) k)
+        (behind (term_uses t) (terms_uses rest) h)
+        (λ os e. k os (one_more (length before) (how_many rest) (length os) (length (before ++ o ∷ []))
+        (length-append before (o ∷ [])) e)))
 
     let_uses : (bs : RowBindings) (s : Scope) (d n : ℕ) (before : List Operand) (finish : List Operand → ℕ → Body)
         → All (binding_uses bs) → ((os : List Operand) (e : ℕ) → All (body_uses (finish os e)))
@@ -162,8 +177,8 @@ module _ (P : Use → Type 0) where
         (binding_procs bindings n (first (binding_uses bindings) (term_uses body) h))
         (term_procs body (n + made_by bindings) (behind (binding_uses bindings) (term_uses body) h))
     term_procs (RowCall f args) n h =
-        procs_joined (procs_of f n) (procs_for args (n + made f)) (term_procs f n (first (term_uses f)
-        (terms_uses args) h))
+        procs_joined (procs_of f n) (procs_for args (n + made f))
+        (term_procs f n (first (term_uses f) (terms_uses args) h))
         (terms_procs args (n + made f) (behind (term_uses f) (terms_uses args) h))
     term_procs (RowIf c a b) n h =
         let k = behind (term_uses c) (term_uses a ++ term_uses b) h in
@@ -182,22 +197,22 @@ module _ (P : Use → Type 0) where
     terms_procs : (ts : RowTerms) (n : ℕ) → All (terms_uses ts) → All (procs_uses (procs_for ts n))
     terms_procs NoRowTerms n h = tt
     terms_procs (RowTermThen t rest) n h =
-        procs_joined (procs_of t n) (procs_for rest (n + made t)) (term_procs t n (first (term_uses t)
-        (terms_uses rest) h))
+        procs_joined (procs_of t n) (procs_for rest (n + made t))
+        (term_procs t n (first (term_uses t) (terms_uses rest) h))
         (terms_procs rest (n + made t) (behind (term_uses t) (terms_uses rest) h))
 
     member_procs : (ms : RowMembers) (n : ℕ) → All (member_uses ms) → All (procs_uses (procs_in ms n))
     member_procs NoRowMembers n h = tt
     member_procs (RowMemberThen name parameters t type rest) n h =
-        procs_joined (procs_of t n) (procs_in rest (n + made t)) (term_procs t n (first (term_uses t)
-        (member_uses rest) h))
+        procs_joined (procs_of t n) (procs_in rest (n + made t))
+        (term_procs t n (first (term_uses t) (member_uses rest) h))
         (member_procs rest (n + made t) (behind (term_uses t) (member_uses rest) h))
 
     binding_procs : (bs : RowBindings) (n : ℕ) → All (binding_uses bs) → All (procs_uses (procs_by bs n))
     binding_procs NoRowBindings n h = tt
     binding_procs (RowBindingThen name t rest) n h =
-        procs_joined (procs_of t n) (procs_by rest (n + made t)) (term_procs t n (first (term_uses t)
-        (binding_uses rest) h))
+        procs_joined (procs_of t n) (procs_by rest (n + made t))
+        (term_procs t n (first (term_uses t) (binding_uses rest) h))
         (binding_procs rest (n + made t) (behind (term_uses t) (binding_uses rest) h))
 
   converted_all : (t : RowTerm) → All (term_uses t) → All (procs_uses (converted t))

@@ -1,5 +1,5 @@
 -- Which operators, parts of Dyn and casts stand in a term, and which in procedures.
-use Rattle.std.specs.Prelude.{ℕ, ℤ, List, [], ◌∷◌, ◌++◌}
+use Rattle.std.specs.Prelude.{ℕ, suc, nat_le, ℤ, Bool, true, List, [], ◌∷◌, ◌++◌, length}
 use Rattle.grift_base.specs.declared.operators.PrimOp.{PrimOp}
 use Rattle.coer_core.specs.Terms.{RowTerm, RowTerms, RowMembers, RowBindings, RowInt, RowBool, RowUnit, RowVar}
 use Rattle.coer_core.specs.Terms.{RowLambda, RowGroup, RowLet, RowCall, RowIf, RowSeq, RowCast, RowProj, RowProjDyn}
@@ -9,11 +9,15 @@ use Rattle.flat_ir.specs.declared.code.Operation.{Operation}
 use Rattle.flat_ir.specs.declared.code.Operation.TheVariants.{Move, Prim, Cast, Tuple, Proj, ProjDyn}
 use Rattle.flat_ir.specs.Bodies.{Body, Give, Call, Choose, LetBody, LetGroup, Proc}
 
--- what is listed: an operator, a part of Dyn with its label, or a cast by its number
+-- what is listed: an operator with the number of its operands, a part of Dyn with its label, or a cast by its number
 pub data Use : Type 0 where
-  OperatorUse : PrimOp → Use
+  OperatorUse : PrimOp → ℕ → Use
   DynPartUse : ℤ → ℕ → Use
   CastUse : ℕ → Use
+
+abbrev pub how_many : RowTerms → ℕ
+how_many NoRowTerms = 0
+how_many (RowTermThen term rest) = suc (how_many rest)
 
 abbrev mutual
   pub term_uses : RowTerm → List Use
@@ -31,7 +35,7 @@ abbrev mutual
   term_uses (RowProj term k) = term_uses term
   term_uses (RowProjDyn term k label) = DynPartUse k label ∷ term_uses term
   term_uses (RowTuple parts) = terms_uses parts
-  term_uses (RowPrim operator operands) = OperatorUse operator ∷ terms_uses operands
+  term_uses (RowPrim operator operands) = OperatorUse operator (how_many operands) ∷ terms_uses operands
 
   pub terms_uses : RowTerms → List Use
   terms_uses NoRowTerms = []
@@ -47,7 +51,7 @@ abbrev mutual
 
 abbrev pub operation_uses : Operation → List Use
 operation_uses (Move o) = []
-operation_uses (Prim operator os) = OperatorUse operator ∷ []
+operation_uses (Prim operator os) = OperatorUse operator (length os) ∷ []
 operation_uses (Cast o number) = CastUse number ∷ []
 operation_uses (Tuple os) = []
 operation_uses (Proj o k) = []
@@ -63,3 +67,9 @@ body_uses (LetGroup slot first count captured rest) = body_uses rest
 abbrev pub procs_uses : List Proc → List Use
 procs_uses [] = []
 procs_uses (proc ∷ rest) = body_uses proc.body ++ procs_uses rest
+
+-- an operator has eight operands at most
+abbrev pub has_few_operands : Use → Bool
+has_few_operands (OperatorUse operator count) = nat_le count 8
+has_few_operands (DynPartUse k label) = true
+has_few_operands (CastUse number) = true

@@ -18,7 +18,7 @@ ghost use Rattle.flat_ir.specs.Counts.{flat_run_in};
 ghost use Rattle.closure_convert.specs.Bounds.{CountsKept};
 ghost use Rattle.closure_convert.specs.Conversion.{captures, converted, made};
 ghost use Rattle.closure_convert.specs.Free.{is_free, is_free_in_a_member};
-ghost use Rattle.closure_convert.specs.Uses.{Use, procs_uses, term_uses};
+ghost use Rattle.closure_convert.specs.Uses.{Use, has_few_operands, procs_uses, term_uses};
 
 /// The procedures of a term that reads back to a program term are closed where no type is too wide, and no name is free
 /// in the term.
@@ -73,4 +73,11 @@ pub fn free_names_are_free()
 pub fn procedures_use_what_their_term_uses()
     ensures { (term : RowTerm) (test : Use → Bool)
         → list_all test (term_uses term) ≡ true → list_all test (procs_uses (converted term)) ≡ true }
+{}
+
+/// No operator in the procedures of a program term has more than eight operands.
+pub fn operators_have_few_operands()
+    ensures { (casts : List TypeCast) (types : TypeRows) (labels : ℕ) (term : RowTerm) (type : ℕ)
+        → HaveWidths types → ProgramTermHasType types labels (core_of casts term) type
+        → list_all has_few_operands (procs_uses (converted term)) ≡ true }
 {}
