@@ -1,1 +1,2 @@
 pub mod Unbuilt
+pub mod Compiling

@@ -113,9 +113,13 @@ abbrev pub first_from : Option Pos → List Pos → Option Pos
 first_from found [] = found
 first_from found (place ∷ rest) = first_from (Some (earlier found place)) rest
 
--- the first place of what isn't compiled yet, if there is one
+-- the places of all that isn't compiled yet
+abbrev pub unbuilt_places : Expr → TypeRows → List Pos → List Entry → List Pos
+unbuilt_places program types labels casts = unbuilt program ++ unbuilt_casts types labels casts
+
+-- the first of them, if there is one
 abbrev pub first_unbuilt : Expr → TypeRows → List Pos → List Entry → Option Pos
-first_unbuilt program types labels casts = first_from None (unbuilt program ++ unbuilt_casts types labels casts)
+first_unbuilt program types labels casts = first_from None (unbuilt_places program types labels casts)
 
 -- one of these places, before which none of them stands
 pub record IsFirst (places : List Pos) (place : Pos) : Type 0 where

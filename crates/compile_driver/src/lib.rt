@@ -1,4 +1,5 @@
-// What of a source isn't compiled yet.
+// Sources compiled to images.
 #![tactic(auto)]
 
-pub mod unbuilt;
+pub mod compiling;
+mod unbuilt;

@@ -1,0 +1,228 @@
+-- An image follows the program that its source is.
+use Rattle.std.proofs.Common.{◌≡◌, ℕ, zero, suc, ◌<◌, ◌^◌, true, List, [], ◌∷◌, ◌++◌, length, map, Some, refl, sym, ◌∙◌}
+use Rattle.std.proofs.Common.{ap, subst}
+use Rattle.std.proofs.Common.{slice_get, arith}
+use Rattle.std.specs.Prelude.{All}
+use Rattle.std.proofs.lemmas.List.{length-map}
+use Rattle.std.proofs.lemmas.List.Elements.{All-nil, All-cons, All-head, All-tail}
+use Rattle.grift_base.specs.Types.{TypeRow, TypeRows, row_at}
+use Rattle.grift_base.specs.declared.places.Pos.{Pos}
+use Rattle.grift_base.specs.declared.words.Statics.{Statics}
+use Rattle.run_laws.specs.Machines.{run}
+use Rattle.run_laws.specs.Runs.{Any, Follows, FollowsBy, NeverWrong}
+use Rattle.run_laws.proofs.Public.{follows_is_transitive, follows_of, follower_never_goes_wrong}
+use Rattle.rv_machine.specs.Memory.{first_address}
+use Rattle.rv_machine.specs.Mach.{mach, machine, ending_of}
+use Rattle.rv_machine.specs.Start.{IsRegionSize, IsStackSize, fresh_world, start_of}
+use Rattle.core_calc.specs.Terms.{Term}
+use Rattle.core_calc.specs.Calculus.{Program, calc}
+use Rattle.core_calc.specs.Typing.{ProgramTermHasType}
+use Rattle.coercion_norm.specs.AnswerTypes.{Told}
+use Rattle.coercion_norm.specs.MergedMode.{merging}
+use Rattle.coercion_norm.specs.Modes.{TypeCast, row_casts}
+use Rattle.coercion_norm.specs.CoercionTables.{cast_of}
+use Rattle.coercion_norm.specs.Nodes.{Node, IsTree}
+use Rattle.coercion_norm.specs.Statics.{AreStatics}
+use Rattle.coercion_norm.specs.declared.cast_rows.CastRow.{CastRow}
+use Rattle.coer_core.specs.Counts.{run_in, told_of}
+use Rattle.coer_core.specs.FlatCasts.{AreFlatCasts}
+use Rattle.coer_core.specs.Programs.{HaveCoercions, tallest_of}
+use Rattle.coer_core.specs.Terms.{RowTerm, core_of}
+use Rattle.coer_core.proofs.Public.{merged_runs_follow_the_calculus-follows}
+use Rattle.coer_core.proofs.Public.{merged_runs_follow_the_calculus-never_wrong}
+use Rattle.flat_ir.specs.Bodies.{Proc as FlatProc}
+use Rattle.flat_ir.specs.Closed.{is_closed}
+use Rattle.flat_ir.specs.Counts.{flat_run_in}
+use Rattle.closure_convert.specs.Conversion.{converted, made}
+use Rattle.closure_convert.specs.Programs.{HasNoFreeNames}
+use Rattle.closure_convert.proofs.Public.{procedures_follow_their_term-merged}
+use Rattle.closure_convert.proofs.Public.{procedures_of_program_terms_are_closed-names}
+use Rattle.low_ir.specs.Procedures.{Proc}
+use Rattle.low_ir.specs.Run.{low_machine, low_start}
+use Rattle.lower.specs.declared.served.Served.{Served}
+use Rattle.lower.specs.CoveredPrograms.{all_covered}
+use Rattle.lower.specs.Lowered.{low_proc, entry_proc, lowered}
+use Rattle.lower.specs.SimulationClaims.{AreNarrow, IsLowered}
+use Rattle.lower.specs.Serving.{all_narrow}
+use Rattle.lower.specs.Sets.{merged_numbers, merged_procs, with_casts}
+use Rattle.lower.proofs.Public.{words_follow_procedures-storage, merged_procedures_answer_products}
+use Rattle.lower.proofs.Public.{merged_procedures_make_casts, procedures_are_narrow, stand_behind}
+use Rattle.rv_select.specs.Images.{IsImageOfWords}
+use Rattle.compile_driver.specs.Compiling.{FollowsProgram}
+use Rattle.compile_driver.proofs.HeldCasts.{hold_casts, tallest_low}
+use Rattle.compile_driver.proofs.Starting.{told, setting, layout, runs_in, code_addresses, are_placed}
+use Rattle.compile_driver.proofs.Starting.{statics_hold}
+
+-- ---- from the calculus to numbered procedures
+
+-- a program term, as a term with numbered casts between types without parts
+pub record IsPassed (program : Program) (casts : List TypeCast) (rows : RowTerm) (answer : ℕ) : Type 0 where
+  pub reads : core_of casts rows ≡ program.term
+  pub typed : ProgramTermHasType program.types (length program.labels) program.term answer
+  pub flat : AreFlatCasts program.types casts
+
+module _ {program : Program} {casts : List TypeCast} {rows : RowTerm} {answer : ℕ}
+    (passed : IsPassed program casts rows answer) where
+  pub no_free_names : HasNoFreeNames rows
+  no_free_names =
+      procedures_of_program_terms_are_closed-names casts program.types (length program.labels) rows answer
+      (subst (λ t. ProgramTermHasType program.types (length program.labels) t answer) (sym passed.reads) passed.typed)
+
+  never : (input : List ℕ)
+      → NeverWrong (run_in (merging program.types casts) (told_of program answer) rows input)
+  never input =
+      merged_runs_follow_the_calculus-never_wrong casts program rows input answer (sym passed.reads) passed.typed
+      passed.flat
+
+  flat_follows : (input : List ℕ)
+      → Follows (flat_run_in (converted rows) (made rows) (merging program.types casts) (told_of program answer) input)
+      (calc program input)
+  flat_follows input =
+      follows_is_transitive
+      (follows_of (procedures_follow_their_term-merged casts (told_of program answer) rows input no_free_names
+      (never input)))
+      (merged_runs_follow_the_calculus-follows casts program rows input answer (sym passed.reads) passed.typed
+      passed.flat)
+
+-- a term that reads back to a program term has no free names
+pub no_names : (casts : List TypeCast) (types : TypeRows) (labels : ℕ) (rows : RowTerm) (answer : ℕ)
+    → ProgramTermHasType types labels (core_of casts rows) answer → HasNoFreeNames rows
+no_names casts types labels rows answer typed =
+    procedures_of_program_terms_are_closed-names casts types labels rows answer typed
+
+abbrev HasCoercion : TypeRows → List Node → CastRow → Type 0
+HasCoercion types nodes row = IsTree nodes row.coercion.0 (cast_of types row.from.0 row.to.0 row.label.0)
+
+-- the coercion of each cast is in the table
+pub casts_within : (types : TypeRows) (nodes : List Node) (rows : List CastRow) → HaveCoercions types nodes rows
+    → All (λ (row : CastRow). row.coercion.0 < length nodes) rows
+casts_within types nodes [] h = All-nil (λ (row : CastRow). row.coercion.0 < length nodes)
+casts_within types nodes (row ∷ rows) h =
+    let first : IsTree nodes row.coercion.0 (cast_of types row.from.0 row.to.0 row.label.0)
+    = All-head (HasCoercion types nodes) row rows h in
+    All-cons (λ (r : CastRow). r.coercion.0 < length nodes) row rows first.within
+    (casts_within types nodes rows (All-tail (HasCoercion types nodes) row rows h))
+
+-- ---- from numbered procedures to an image
+
+-- the procedure to begin with stands behind the flat ones
+entry_there : (xs : List Proc) (p : Proc) (rest : List Proc) (n : ℕ) → length xs ≡ n
+    → slice_get (xs ++ p ∷ rest) n ≡ Some p
+entry_there [] p rest zero e = refl
+entry_there [] p rest (suc n) e = cc
+entry_there (x ∷ xs) p rest zero e = cc
+entry_there (x ∷ xs) p rest (suc n) e = entry_there xs p rest n (omega (arith, e))
+
+-- the procedures behind those of a program, and the numbers of those that its code calls
+abbrev pub serving : List FlatProc → List Proc
+serving procs = merged_procs (suc (length procs))
+
+abbrev pub run_by : List FlatProc → Statics → Served
+run_by procs statics = with_casts (merged_numbers (suc (length procs))) statics.cast_at
+
+-- the image is that of the procedures of a program, lowered, behind the statics of its types and coercions
+pub record IsMade (program : Program) (nodes : List Node) (rows : List CastRow) (procs : List FlatProc) (entry : ℕ)
+    (row : TypeRow) (statics : Statics) (image : List ℕ) : Type 0 where
+  pub image_is : IsImageOfWords image (lowered (run_by procs statics) procs entry row (serving procs)) (length procs)
+      statics.words program.labels
+  pub statics_are : AreStatics program.types nodes rows first_address statics
+  pub coercions : HaveCoercions program.types nodes rows
+  pub words : All (λ w. w < 2 ^ 64) statics.words
+  pub cast_words : All (λ w. w < 2 ^ 64) statics.cast_at
+  pub closed : is_closed procs entry ≡ true
+  pub covered : all_covered procs ≡ true
+  pub narrow : AreNarrow procs
+
+module _ {program : Program} {rows : List CastRow} {term : RowTerm} {answer : ℕ} {nodes : List Node} {row : TypeRow}
+    {statics : Statics} {image : List ℕ}
+    (passed : IsPassed program (row_casts rows) term answer) (row_is : row_at program.types answer ≡ Some row)
+    (made_so : IsMade program nodes rows (converted term) (made term) row statics image) where
+  pub follows_program : FollowsProgram image program
+  follows_program region stack input r s =
+      let procs = converted term in
+      let entry = made term in
+      let first = suc (length procs) in
+      let run = run_by procs statics in
+      let is = made_so.image_is in
+      let at = made_so.statics_are in
+      let world = fresh_world input in
+      let there = entry_there (map (low_proc run) procs) (entry_proc entry row) (serving procs) (length procs)
+      (length-map procs (low_proc run)) in
+      let st = start_of image region stack world in
+      let set = setting is at made_so.words region stack r s world in
+      let tallest = tallest_of program.types (row_casts rows) in
+      let l = layout is at made_so.words region stack r s world tallest in
+      let placed = are_placed is at made_so.words region stack r s world tallest in
+      let types = at.types_stand [] st.layout.region tallest in
+      let low_casts = tallest_low program.types types.heights types.low (row_casts rows) in
+      let stand = stand_behind run procs entry row (serving procs) in
+      let flat = flat_follows passed input in
+      let low = words_follow_procedures-storage set l run procs entry row (serving procs) st.memory
+      (told_of program answer) (row_casts rows)
+      (record {
+        procs_are = refl;
+        addresses = code_addresses is at made_so.words region stack r s world;
+        placed = placed;
+        begins = refl;
+        fits = omega arith;
+        statics = statics_hold is at made_so.words region stack r s world tallest;
+      })
+      is.is_image.labels_are row_is made_so.closed made_so.covered made_so.narrow
+      (merged_procedures_answer_products set first statics.cast_at stand) refl passed.flat
+      (merged_procedures_make_casts set first statics.cast_at stand l placed types low_casts)
+      (hold_casts at made_so.coercions made_so.cast_words (merged_numbers first) st.layout.region) types input
+      (follower_never_goes_wrong flat) in
+      let words = is.runs ending_of refl (entry_proc entry row) (told is at made_so.words region stack r s world) region
+      stack world (runs_in is at made_so.words region stack r s world (entry_proc entry row) there)
+      (follower_never_goes_wrong (follows_of low)) in
+      follows_is_transitive (follows_of words.follows) (follows_is_transitive (follows_of low) flat)
+
+-- ---- what the passes answer
+
+-- what is known of the answers of the passes of a program
+pub record Passes (program : Program) (nodes : List Node) (rows : List CastRow) (term : RowTerm) (row : TypeRow)
+    (procs : List FlatProc) (count entry : ℕ) (low : List Proc) (low_entry : ℕ) (statics : Statics)
+    (image : List ℕ) : Type 0 where
+  pub procs_are : procs ≡ converted term
+  pub entry_is : entry ≡ made term
+  pub counted : count ≡ length procs
+  pub low_is : low ≡ lowered (with_casts (merged_numbers (suc count)) statics.cast_at) procs entry row
+      (merged_procs (suc count))
+  pub begins : low_entry ≡ count
+  pub image_is : IsImageOfWords image low low_entry statics.words program.labels
+  pub statics_are : AreStatics program.types nodes rows first_address statics
+  pub coercions : HaveCoercions program.types nodes rows
+  pub words : All (λ w. w < 2 ^ 64) statics.words
+  pub cast_words : All (λ w. w < 2 ^ 64) statics.cast_at
+  pub closed : is_closed procs entry ≡ true
+  pub covered : all_covered (converted term) ≡ true
+  pub narrow : all_narrow procs ≡ true
+
+module _ {program : Program} {nodes : List Node} {rows : List CastRow} {term : RowTerm} {row : TypeRow}
+    {procs : List FlatProc} {count entry : ℕ} {low : List Proc} {low_entry : ℕ} {statics : Statics} {image : List ℕ}
+    (p : Passes program nodes rows term row procs count entry low low_entry statics image) where
+  counted_so : count ≡ length (converted term)
+  counted_so = p.counted ∙ ap length p.procs_are
+
+  low_so : low ≡ lowered (run_by (converted term) statics) (converted term) (made term) row (serving (converted term))
+  low_so =
+      p.low_is ∙ (ap (λ n. lowered (with_casts (merged_numbers (suc n)) statics.cast_at) procs entry row
+      (merged_procs (suc n))) counted_so
+      ∙ (ap (λ ps. lowered (run_by (converted term) statics) ps entry row (serving (converted term))) p.procs_are
+      ∙ ap (λ e. lowered (run_by (converted term) statics) (converted term) e row (serving (converted term)))
+      p.entry_is))
+
+  pub are_made : IsMade program nodes rows (converted term) (made term) row statics image
+  are_made = record {
+    image_is = subst (λ n. IsImageOfWords image (lowered (run_by (converted term) statics) (converted term)
+        (made term) row (serving (converted term))) n statics.words program.labels) (p.begins ∙ counted_so)
+        (subst (λ ps. IsImageOfWords image ps low_entry statics.words program.labels) low_so p.image_is);
+    statics_are = p.statics_are;
+    coercions = p.coercions;
+    words = p.words;
+    cast_words = p.cast_words;
+    closed = subst (λ e. is_closed (converted term) e ≡ true) p.entry_is
+        (subst (λ ps. is_closed ps entry ≡ true) p.procs_are p.closed);
+    covered = p.covered;
+    narrow = procedures_are_narrow (converted term) (subst (λ ps. all_narrow ps ≡ true) p.procs_are p.narrow);
+  }

@@ -1,0 +1,97 @@
+-- The words that are handed on for casts hold their coercions.
+use Rattle.std.proofs.Common.{◌≡◌, ℕ, zero, suc, ◌<◌, ◌≤◌, ◌^◌, max, List, [], ◌∷◌, length, map, Option, Some, None}
+use Rattle.std.proofs.Common.{refl}
+use Rattle.std.proofs.Common.{sym, ap, ◌∙◌, subst, slice_get, arith}
+use Rattle.std.specs.Prelude.{All, slice_index}
+use Rattle.std.proofs.lemmas.Option.{slice_get_within}
+use Rattle.std.proofs.lemmas.List.{length-map}
+use Rattle.grift_base.specs.Types.{TypeRows}
+use Rattle.grift_base.specs.declared.words.Statics.{Statics}
+use Rattle.type_graph.specs.Trees.{height}
+use Rattle.coercion_norm.specs.Coercions.{Coercion, rows_of}
+use Rattle.coercion_norm.specs.CoercionTables.{cast_of}
+use Rattle.coercion_norm.specs.Heights.{AreHeights}
+use Rattle.coercion_norm.specs.Held.{Layout, Held}
+use Rattle.coercion_norm.specs.Modes.{TypeCast, row_cast, row_casts}
+use Rattle.coercion_norm.specs.Nodes.{Node, IsTree, tree_of}
+use Rattle.coercion_norm.specs.Statics.{AreStatics, layout_of}
+use Rattle.coercion_norm.specs.declared.cast_rows.CastRow.{CastRow}
+use Rattle.coercion_norm.proofs.Public.{coerce_no_higher, coerce_normal}
+use Rattle.coer_core.specs.Programs.{HaveCoercions, cast_height, tallest_of}
+use Rattle.rt_cast.specs.Carried.{IsLow}
+use Rattle.lower.specs.declared.served.Served.{Served}
+use Rattle.lower.specs.Emit.{cast_word}
+use Rattle.lower.specs.Sets.{with_casts}
+use Rattle.lower.specs.SimulationServices.{HoldCasts}
+use Rattle.compile_driver.proofs.FlatCasts.{at}
+
+word_at : (words : List ℕ) (k : ℕ) → k < length words → cast_word (slice_get words k) ≡ slice_index words k
+word_at [] k h = omega (arith, h)
+word_at (w ∷ words) zero h = refl
+word_at (w ∷ words) (suc k) h = word_at words k (omega (arith, h))
+
+word_there : (words : List ℕ) (k : ℕ) → k < length words → slice_get words k ≡ Some (slice_index words k)
+word_there [] k h = absurd (omega (arith, h))
+word_there (w ∷ words) zero h = refl
+word_there (w ∷ words) (suc k) h = word_there words k (omega (arith, h))
+
+-- the row of a cast
+row_of_cast : (rows : List CastRow) (k : ℕ) (cast : TypeCast) → slice_get (row_casts rows) k ≡ Some cast
+    → (row : CastRow) × (slice_get rows k ≡ Some row) × (row_cast row ≡ cast)
+row_of_cast [] k cast e = cc
+row_of_cast (row ∷ rows) zero cast e = (row, refl, cc)
+row_of_cast (row ∷ rows) (suc k) cast e = row_of_cast rows k cast e
+
+-- no cast is higher than the tallest
+as_tall : (types : TypeRows) (casts : List TypeCast) (k : ℕ) (cast : TypeCast) → slice_get casts k ≡ Some cast
+    → cast_height types cast ≤ tallest_of types casts
+as_tall types [] k cast e = cc
+as_tall types (other ∷ casts) zero cast e =
+    let same : other ≡ cast = cc in
+    subst (λ c. cast_height types c ≤ max (cast_height types other) (tallest_of types casts)) same (omega arith)
+as_tall types (other ∷ casts) (suc k) cast e =
+    let rest = as_tall types casts k cast e in omega (arith, rest)
+
+-- the tallest is no higher than types may be
+pub tallest_low : (types : TypeRows) → AreHeights (rows_of types) (height types)
+    → ((type : ℕ) → height types type < 65535) → (casts : List TypeCast) → tallest_of types casts ≤ 65534
+tallest_low types heights low [] = omega arith
+tallest_low types heights low (cast ∷ casts) =
+    let rest = tallest_low types heights low casts in
+    let one = coerce_no_higher (rows_of types) (height types) heights
+    (max (height types cast.from) (height types cast.to)) cast.from cast.to cast.label in
+    let a = low cast.from in
+    let b = low cast.to in omega (arith, rest, one, a, b)
+
+module _ {types : TypeRows} {nodes : List Node} {rows : List CastRow} {start : ℕ} {statics : Statics}
+    (placed : AreStatics types nodes rows start statics) (made : HaveCoercions types nodes rows)
+    (words : All (λ w. w < 2 ^ 64) statics.cast_at) (numbers : Served) (region : ℕ) where
+  abbrev layout : Layout
+  layout = layout_of types nodes start statics [] region (tallest_of types (row_casts rows))
+
+  as_many : length statics.cast_at ≡ length rows
+  as_many =
+      ap length placed.cast_words ∙ length-map rows
+      (λ (cast : CastRow). slice_index statics.coercion_at cast.coercion.0)
+
+  pub hold_casts : HoldCasts layout (with_casts numbers statics.cast_at) (row_casts rows)
+  hold_casts number cast e =
+      let row = row_of_cast rows number cast e in
+      let less : number < length statics.cast_at =
+      subst (λ n. number < n) (sym as_many) (slice_get_within rows number row.0 row.1) in
+      let tree = at (λ (r : CastRow). IsTree nodes r.coercion.0 (cast_of types r.from.0 r.to.0 r.label.0)) rows made
+      number row.0 row.1 in
+      let word = word_at statics.cast_at number less in
+      let held = placed.casts_held [] [] region (tallest_of types (row_casts rows)) number row.0 row.1 in (
+        subst (λ c. Held layout [] (cast_of types c.from c.to c.label) (cast_word (slice_get statics.cast_at number)))
+            row.2 (subst (λ w. Held layout [] (cast_of types row.0.from.0 row.0.to.0 row.0.label.0) w) (sym word)
+            (subst (λ c. Held layout [] c (slice_index statics.cast_at number)) tree.is held)),
+        record {
+          normal = coerce_normal (rows_of types) (max (height types cast.from) (height types cast.to)) cast.from cast.to
+              cast.label;
+          low = as_tall types (row_casts rows) number cast e;
+        },
+        subst (λ w. w < 2 ^ 64) (sym word)
+            (at (λ w. w < 2 ^ 64) statics.cast_at words number (slice_index statics.cast_at number)
+            (word_there statics.cast_at number less)),
+      )

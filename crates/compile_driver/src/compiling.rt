@@ -1,0 +1,105 @@
+// Images from sources.
+
+ghost use Rattle.std.specs.Prelude.{◌≡◌, ◌<◌, ◌^◌, ◌≤◌, All, IfOk, IfErr, length, true};
+ghost use Rattle.grift_base.specs.Sizes.{source_limit};
+ghost use Rattle.rv_machine.specs.Image.{IsImage};
+ghost use Rattle.core_calc.specs.Typing.{ProgramTermHasType};
+ghost use Rattle.core_calc.specs.Views.{term_of};
+ghost use Rattle.cast_insert.specs.Views.{entries_of};
+ghost use Rattle.front_end.specs.Placed.{IsPlaced};
+ghost use Rattle.compile_driver.specs.Compiling.{FollowsProgram, HasProgram, IsFault, IsTold, program_of};
+ghost use Rattle.compile_driver.specs.Compiling.{program_over, tallest_in};
+ghost use Rattle.compile_driver.specs.Unbuilt.{is_built, is_flat};
+
+use crate::unbuilt::first_unbuilt;
+use assembler::image::Image;
+use cast_insert::insertion::Elab;
+use closure_convert::program::convert;
+use coer_core::program::to_coercions;
+use front_end::elaborate_text;
+use grift_base::lists::OutOfMemory;
+use grift_base::refusals::{FrontFault, Refusal, RefusalKind};
+use lower::merged::lower;
+use rv_select::images::image_of;
+use std::alloc::Global;
+use type_graph::tables::TypeTable;
+
+/// A source that was compiled: its image, its types, its program with all casts, the greatest height of the coercions
+/// of its casts, and how many forms it has at top level.
+#[derive(Drop)]
+pub struct Compiled {
+    pub image: Image,
+    pub types: TypeTable,
+    pub elab: Elab,
+    pub tallest: u32,
+    pub forms: u32,
+}
+
+// An image, and the greatest height of the coercions of its casts.
+#[derive(Drop)]
+struct Made {
+    image: Image,
+    tallest: u32,
+}
+
+// Nothing to do: each word of a list is below 2 ^ 64.
+fn are_words(words: &[u64])
+    ensures { All (λ w. w < 2 ^ 64) words.now }
+{
+    let mut left = words;
+    while let [word, rest @ ..] = left {
+        let _word = *word;
+        left = rest;
+    }
+}
+
+// The image of a program with all casts, in which nothing stands that isn't compiled yet.
+fn made_of(alloc: Global, types: &TypeTable, elab: &Elab) -> Result<Made, OutOfMemory>
+    requires typed { ProgramTermHasType types.now (length elab.now.labels) (term_of elab.now.core) elab.now.ty.0 }
+    requires placed { IsPlaced is_built (entries_of elab.now.casts) (term_of elab.now.core) }
+    requires flat { All (λ entry. is_flat types.now entry ≡ true) (entries_of elab.now.casts) }
+    ensures whole { IfOk result (λ made. IsImage made.image) }
+    ensures tallest { IfOk result (λ made. made.tallest ≡ tallest_in types.now elab.now) }
+    ensures follows { IfOk result (λ made. FollowsProgram made.image (program_over types.now elab.now)) }
+{
+    types.len();
+    let coer = to_coercions(alloc, &elab.core, types)?;
+    let flat = convert(alloc, &coer)?;
+    types.row(coer.answer);
+    let low = lower(alloc, &flat, types, &coer.casts, &coer.coercions)?;
+    are_words(low.statics.words.as_slice());
+    are_words(low.statics.cast_at.as_slice());
+    let image = image_of(alloc, &low, &elab.labels)?;
+    Ok(Made {
+        image,
+        tallest: coer.tallest,
+    })
+}
+
+/// Compiles a source: it is read, parsed and elaborated, casts become coercions, functions become procedures, and these
+/// become words and instructions. The image follows the source's program, for every region, stack and input. A source
+/// is refused as it is read, parsed or elaborated, or as a bad form at the first place of what isn't compiled yet.
+pub fn compile(alloc: Global, text: &[u8]) -> Result<Compiled, FrontFault>
+    requires { length text.now ≤ source_limit }
+    ensures source { IfOk result (λ compiled. HasProgram text.now (program_of compiled)) }
+    ensures told { IfOk result (λ compiled. IsTold text.now compiled) }
+    ensures whole { IfOk result (λ compiled. IsImage compiled.image) }
+    ensures follows { IfOk result (λ compiled. FollowsProgram compiled.image (program_of compiled)) }
+    ensures refused { IfErr result (IsFault text.now) }
+{
+    let done = elaborate_text(alloc, text)?;
+    if let Some(pos) = first_unbuilt(&done.program, &done.types, &done.elab) {
+        return Err(FrontFault::Refused(Refusal {
+            kind: RefusalKind::BadForm,
+            pos,
+        }));
+    }
+    let made = made_of(alloc, &done.types, &done.elab)?;
+    Ok(Compiled {
+        image: made.image,
+        types: done.types,
+        elab: done.elab,
+        tallest: made.tallest,
+        forms: done.program.forms,
+    })
+}
