@@ -19,30 +19,25 @@ use Rattle.grift_base.specs.declared.shelves.LoadFault.TheVariants.{Failed as Sh
 use Rattle.grift_base.specs.declared.shelves.LoadFault.TheVariants.{OutOfMemory as ShelfMemory}
 use Rattle.grift_base.specs.declared.verdicts.Verdict.{Verdict}
 use Rattle.grift_base.specs.declared.verdicts.Verdict.TheVariants.{Answer, Blame, Trap, RegionOut, StackOut, StepsSpent}
-use Rattle.core_calc.specs.Terms.{Term}
 use Rattle.core_calc.specs.Calculus.{Program, calc}
 use Rattle.rv_machine.specs.State.{State, Region, Stack, Halt, Ended, Lacks, GoesWrong}
 use Rattle.rv_machine.specs.Start.{IsRegionSize, IsStackSize, start_of, fresh_world}
 use Rattle.rv_machine.specs.Mach.{mach, moment_of}
 use Rattle.rv_machine.proofs.Public.{run_is_its_turns-states}
 use Rattle.front_end.specs.Texts.{IsFault as IsFrontFault}
-use Rattle.grift_cli.specs.Answers.{IsFault}
+use Rattle.compile_driver.specs.Compiling.{FollowsProgram, IsFault}
 use Rattle.grift_cli.specs.Calls.{CallSeen, PutsNothing, AsksFor, FailsNoLoad, HasLoaded, size_limit}
 use Rattle.grift_cli.specs.Checking.{ElaboratesFile, PutsLines}
 use Rattle.grift_cli.specs.Commands.{Command, Run, Exec, Check, file_of, IsCommand}
-use Rattle.grift_cli.specs.Elaboration.{HasExprType, place_of}
 use Rattle.grift_cli.specs.Outcome.{IsCompiled, IsImageFile, HasEndedBy, ComesTo, Says}
-use Rattle.grift_cli.specs.Program.{FollowsProgram, IsTypedProgram, program_of}
 use Rattle.grift_cli.specs.Reporting.{load_report, source_report, image_report}
 use Rattle.grift_cli.specs.Running.{RunsWell, Runs, Executes}
 use Rattle.grift_cli.specs.Runs.{run_within, printed, verdict_of_run}
 use Rattle.grift_cli.specs.declared.commands.Limits.{Limits}
-use Rattle.grift_cli.specs.declared.elaboration.ExprType.{ExprType}
 use Rattle.grift_cli.specs.declared.reports.Report.{Report}
 use Rattle.grift_cli.specs.declared.reports.Report.TheVariants.{HasVerdict, HasFault, Checked, Refused, ImageRefused}
 use Rattle.grift_cli.specs.declared.reports.Report.TheVariants.{WordsRefused, LoadFailed, PutFailed}
 use Rattle.grift_cli.specs.declared.reports.Report.TheVariants.{NoMemory, TooLong}
-use Rattle.grift_cli.proofs.ProgramTerms.{program_term}
 
 -- ---- the run of an image and of its program
 
@@ -50,10 +45,6 @@ use Rattle.grift_cli.proofs.ProgramTerms.{program_term}
 pub runs_well : (limits : Limits) (image : List ℕ) (program : Program) → IsRegionSize limits.region
     → IsStackSize limits.stack → FollowsProgram image program → RunsWell limits image
 runs_well limits image program r k f = follower_never_goes_wrong (f limits.region limits.stack [] r k)
-
--- a term that has a type makes a typed program
-pub typed_program : (term : Term) (type : ExprType) → HasExprType term type → IsTypedProgram (program_of term)
-typed_program term type h = (place_of type, program_term term type h)
 
 same_verdict : (a b : Verdict) → ◌≡◌ {A = Option Verdict} (Some a) (Some b) → a ≡ b
 same_verdict a b e = cc
@@ -161,10 +152,8 @@ says_no_memory call command bytes l p =
 pub says_source_fault : (call : CallSeen) (file : List ℕ) (limits : Limits) (name : Option (List ℕ)) (text : List ℕ)
     (fault : FrontFault) → HasLoaded call (Run file limits name) text → PutsNothing call → IsFault text fault
     → Says (source_report fault) call
-says_source_fault call file limits name text (SourceRefused refusal) l p f = inl (
-  f.0,
-  record { file = file; limits = limits; name = name; text = text; loaded = l; none = f.1; nothing = p },
-)
+says_source_fault call file limits name text (SourceRefused refusal) l p f =
+    inl (record { file = file; limits = limits; name = name; text = text; loaded = l; refused = f; nothing = p })
 says_source_fault call file limits name text SourceMemory l p f =
     says_no_memory call (Run file limits name) text l p
 
@@ -178,8 +167,7 @@ says_run call limits image (HasVerdict verdict) r k c x = inl (record {
   compiled = c;
   image_put = x.0;
   verdict_is = x.1;
-  within = c.keeps limits.region limits.stack limits.steps [] verdict r k x.1;
-  meant = comes_to limits image (program_of c.term) verdict r k c.follows x.1;
+  meant = comes_to limits image c.program verdict r k c.follows x.1;
   output_put = x.2;
 })
 says_run call limits image PutFailed r k c x =

@@ -1,10 +1,4 @@
-pub mod Forms
-pub mod Elaboration
-pub mod Code
 pub mod Runs
-pub mod Limits
-pub mod Program
-pub mod Source
 pub mod Commands
 pub mod ReadCommands
 pub mod Answers
@@ -13,4 +7,3 @@ pub mod Checking
 pub mod Outcome
 pub mod Running
 pub mod Reporting
-pub mod TermViews

@@ -2,21 +2,19 @@
 use Rattle.std.specs.Prelude.{ℕ, ◌≡◌, ◌≢◌, ◌⊎◌, List, [], Option, Some}
 use Rattle.run_laws.specs.Runs.{Ending, Verdict as EndsWith}
 use Rattle.grift_base.specs.Sink.{SinkSeen, Untouched, Takes, Breaks}
+use Rattle.grift_base.specs.declared.refusals.Refusal.{Refusal}
 use Rattle.grift_base.specs.declared.verdicts.Verdict.{Verdict}
 use Rattle.grift_base.specs.declared.verdicts.Verdict.TheVariants.{Answer, Blame, Trap}
 use Rattle.rv_machine.specs.Image.{IsImage}
 use Rattle.rv_machine.specs.declared.faults.MachineFault.{MachineFault}
-use Rattle.core_calc.specs.Terms.{Term}
 use Rattle.core_calc.specs.Calculus.{Program, calc}
 use Rattle.assembler.specs.Faults.{IsFirstFault}
-use Rattle.grift_cli.specs.Limits.{MayTell, KeepsLimits}
-use Rattle.grift_cli.specs.Program.{FollowsProgram, IsTypedProgram, program_of}
+use Rattle.compile_driver.specs.Compiling.{HasProgram, FollowsProgram, IsRefusedAt}
 use Rattle.grift_cli.specs.Runs.{run_within, printed, verdict_of_run, fault_of_run}
-use Rattle.grift_cli.specs.Source.{IsSource, IsNoSource}
 use Rattle.grift_cli.specs.Commands.{Command, Run, Exec}
 use Rattle.grift_cli.specs.Calls.{CallSeen, PutsNothing, HasLoaded, HasNoCommand, HasNoFile, HasLongFile, LacksFile}
 use Rattle.grift_cli.specs.Checking.{HasChecked, FailsToPutLines, IsRefusedCheck}
-use Rattle.grift_cli.specs.Answers.{bad_form, image_fault}
+use Rattle.grift_cli.specs.Answers.{image_fault}
 use Rattle.grift_cli.specs.declared.commands.Limits.{Limits}
 use Rattle.grift_cli.specs.declared.reports.BadImage.{BadImage}
 use Rattle.grift_cli.specs.declared.reports.Report.{Report}
@@ -36,29 +34,27 @@ OutputFails output out = (output ≢ []) × Breaks output out
 
 -- ---- a source that is compiled and run
 
--- the text is no source of a program
-pub record IsRefused (call : CallSeen) : Type 0 where
+-- the source is refused, so
+pub record IsRefused (call : CallSeen) (refusal : Refusal) : Type 0 where
   pub file : List ℕ
   pub limits : Limits
   pub name : Option (List ℕ)
   pub text : List ℕ
   pub loaded : HasLoaded call (Run file limits name) text
-  pub none : IsNoSource text
+  pub refused : IsRefusedAt text refusal
   pub nothing : PutsNothing call
 
--- the text is the source of a program, whose term is a program term, and which this image follows within the limits
--- of its size; it is to be run within these limits
+-- the text is the source of a program, whose term is a program term, and which this image follows; it is to be run
+-- within these limits
 pub record IsCompiled (call : CallSeen) (limits : Limits) (image : List ℕ) : Type 0 where
   pub file : List ℕ
   pub name : Option (List ℕ)
   pub text : List ℕ
   pub loaded : HasLoaded call (Run file limits name) text
-  pub term : Term
-  pub source : IsSource text term
-  pub typed : IsTypedProgram (program_of term)
+  pub program : Program
+  pub source : HasProgram text program
   pub whole : IsImage image
-  pub follows : FollowsProgram image (program_of term)
-  pub keeps : KeepsLimits image term
+  pub follows : FollowsProgram image program
 
 -- a run that has come to this has ended with the verdict, where that is an answer, a blame or a trap
 abbrev pub HasEndedBy : Verdict → Option (Ending Verdict) → Type 0
@@ -82,8 +78,7 @@ pub record HasRun (call : CallSeen) (verdict : Verdict) : Type 0 where
   pub compiled : IsCompiled call limits image
   pub image_put : Takes image call.img
   pub verdict_is : verdict_of_run (run_within limits image).1 ≡ Some verdict
-  pub within : MayTell compiled.term limits.stack limits.steps verdict
-  pub meant : ComesTo (program_of compiled.term) (printed limits image) verdict
+  pub meant : ComesTo compiled.program (printed limits image) verdict
   pub output_put : Takes (printed limits image) call.out
 
 -- a sink failed when there was an image
@@ -157,7 +152,7 @@ abbrev pub Says : Report → CallSeen → Type 0
 Says (HasVerdict verdict) call = HasRun call verdict ⊎ HasExecuted call verdict
 Says (HasFault fault) call = HasGoneWrong call fault
 Says Checked call = HasChecked call
-Says (Refused refusal) call = ((refusal ≡ bad_form) × IsRefused call) ⊎ IsRefusedCheck call refusal
+Says (Refused refusal) call = IsRefused call refusal ⊎ IsRefusedCheck call refusal
 Says (ImageRefused fault) call = IsNoImageFile call fault
 Says WordsRefused call = HasNoCommand call
 Says LoadFailed call = HasNoFile call

@@ -3,12 +3,6 @@
 
 mod checks;
 pub mod commands;
-mod compile;
-mod elaboration;
-mod forms;
-mod instructions;
 mod reports;
 mod runner;
-mod source;
-mod terms;
 pub mod top;

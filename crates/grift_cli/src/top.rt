@@ -10,13 +10,12 @@ ghost use Rattle.grift_cli.specs.Reporting.{PutsLine, PutsReport, IsAnswered, re
 
 use crate::checks::put_lines;
 use crate::commands::{Command, Limits, read_words};
-use crate::compile::compile;
 use crate::reports::{
     Report, line_of, report_of_image, report_of_load, report_of_source, status_of, status_of_fault,
 };
 use crate::runner::{exec_image, run_image};
-use crate::source::program_of;
 use assembler::image::read_image;
+use compile_driver::compiling::compile;
 use front_end::elaborate_text;
 use grift_base::shelves::Shelf;
 use grift_base::sinks::Sink;
@@ -120,12 +119,9 @@ fn report_of_run<S: Shelf, O: Sink, I: Sink>(
         Ok(text) => text,
         Err(fault) => return report_of_load(fault),
     };
-    match program_of(alloc, text.as_slice()) {
+    match compile(alloc, text.as_slice()) {
         Err(fault) => report_of_source(fault),
-        Ok(program) => match compile(alloc, &program.term, program.answer) {
-            Err(_) => Report::NoMemory,
-            Ok(image) => run_image(alloc, &image, limits, out, img),
-        },
+        Ok(compiled) => run_image(alloc, &compiled.image, limits, out, img),
     }
 }
 

@@ -134,12 +134,12 @@ fn sources(rt: HostRuntime) -> Result<(), NoMemory> {
             b"answer -9223372036854775808\n",
         ),
         (b" \t+7;seven\n;", 0, b"answer 7\n"),
-        (b"9223372036854775808", 1, b"refused bad-form 1:1\n"),
-        (b"", 1, b"refused bad-form 1:1\n"),
-        (b"1 2", 1, b"refused bad-form 1:1\n"),
-        (b"(1)", 1, b"refused bad-form 1:1\n"),
-        (b"#t", 1, b"refused bad-form 1:1\n"),
-        (b"((", 1, b"refused bad-form 1:1\n"),
+        (b"9223372036854775808", 1, b"refused number-range 1:1\n"),
+        (b"", 1, b"refused empty 1:1\n"),
+        (b"1 2", 0, b"answer 2\n"),
+        (b"(1)", 1, b"refused not-function 1:2\n"),
+        (b"#t", 0, b"answer #t\n"),
+        (b"((", 1, b"refused unclosed 1:2\n"),
     ];
     for (file, status, line) in rows {
         let case = run_of(file);
@@ -186,21 +186,303 @@ fn programs(rt: HostRuntime) -> Result<(), NoMemory> {
 
 #[test]
 fn refused_programs(rt: HostRuntime) -> Result<(), NoMemory> {
-    let rows: [&[u8]; 7] = [
-        b"(+ 1 (newline))",
-        b"(+ 1)",
-        b"(begin)",
-        b"(foo)",
-        b"(newline) 1",
-        b"(+ 1 2",
-        b"(print-int (newline))",
+    let rows: [(&[u8], &[u8]); 6] = [
+        (b"(+ 1 (newline))", b"refused not-consistent 1:6\n"),
+        (b"(+ 1)", b"refused bad-form 1:1\n"),
+        (b"(begin)", b"refused bad-form 1:1\n"),
+        (b"(foo)", b"refused unbound 1:2\n"),
+        (b"(+ 1 2", b"refused unclosed 1:1\n"),
+        (b"(print-int (newline))", b"refused not-consistent 1:12\n"),
     ];
-    for file in rows {
+    for (file, line) in rows {
+        let case = run_of(file);
+        assert!(rt; comes_to(rt.alloc(), &case, 1, b"", line)?, "{file:?}");
+    }
+    Ok(())
+}
+
+// What isn't compiled yet is refused at the first place where it stands, by line and column.
+#[test]
+fn programs_that_are_not_compiled_yet(rt: HostRuntime) -> Result<(), NoMemory> {
+    let rows: [(&[u8], &[u8]); 29] = [
+        (
+            b"(let ([f (: (: (lambda ([x : Int]) : Int x) Dyn) (Bool -> Int))]) 5)",
+            b"refused bad-form 1:10\n",
+        ),
+        (
+            b"(let ([f (: (: (lambda ([x : Int]) : Int x) Dyn) (Bool -> Int))]) (f #t))",
+            b"refused bad-form 1:10\n",
+        ),
+        (b"((: (lambda () 1) Dyn) 5)", b"refused bad-form 1:2\n"),
+        (
+            b"(let ([f (lambda ([a : Int] [b : Int]) : Int a)])\n\
+              (let ([g (: f (Dyn Int -> Int))])\n\
+              (let ([h (: g (Dyn Dyn -> Int))])\n(h #t #f))))",
+            b"refused bad-form 2:10\n",
+        ),
+        (
+            b"(tuple-proj (: (: (tuple 1 #t) Dyn) (Tuple Int Int)) 0)",
+            b"refused bad-form 1:13\n",
+        ),
+        (
+            b"(tuple-proj (: (: (tuple 1 #t) Dyn) (Tuple Int Int)) 1)",
+            b"refused bad-form 1:13\n",
+        ),
+        (
+            b"(let ([b (box 1)]) (let ([d (: b (Ref Dyn))]) (begin (box-set! d #t) (unbox b))))",
+            b"refused bad-form 1:10\n",
+        ),
+        (
+            b"(let ([b (box 1)]) (let ([d (: b (Ref Dyn))]) (begin (box-set! d 7) (unbox b))))",
+            b"refused bad-form 1:10\n",
+        ),
+        (
+            b"(letrec ([loop (lambda ([n : Int] [f : (Dyn -> Dyn)]) : (Dyn -> Dyn)\n\
+              (if (= n 0) f (loop (- n 1) (: (: f (Int -> Int)) (Dyn -> Dyn)))))])\n\
+              ((loop 1000 (lambda (x) x)) 7))",
+            b"refused bad-form 2:29\n",
+        ),
+        (
+            b"(letrec ([loop (lambda ([n : Int] [f : (Dyn -> Dyn)]) : (Dyn -> Dyn)\n\
+              (if (= n 0) f (loop (- n 1) (: (: f (Int -> Int)) (Dyn -> Dyn)))))])\n\
+              ((loop 1000 (lambda (x) x)) #t))",
+            b"refused bad-form 2:29\n",
+        ),
+        (
+            b"(vector-ref (make-vector 3 0) 3)",
+            b"refused bad-form 1:1\n",
+        ),
+        (
+            b"(vector-ref (make-vector 3 0) -1)",
+            b"refused bad-form 1:1\n",
+        ),
+        (b"(make-vector -1 0)", b"refused bad-form 1:1\n"),
+        (b"(make-vector 100 0)", b"refused bad-form 1:1\n"),
+        (
+            b"(let ([v (: (make-vector 3 1) (Vect Dyn))]) (begin (vector-set! v 0 #t) (vector-ref v 0)))",
+            b"refused bad-form 1:10\n",
+        ),
+        (b"(+ 1 (unbox (box 2)))", b"refused bad-form 1:6\n"),
+        (b"(if #t 1 (unbox (box 2)))", b"refused bad-form 1:10\n"),
+        (b"(lambda (d) (unbox d))", b"refused bad-form 1:13\n"),
+        (b"(lambda (d) (box-set! d 1))", b"refused bad-form 1:13\n"),
+        (
+            b"(lambda (d) (vector-length d))",
+            b"refused bad-form 1:13\n",
+        ),
+        (
+            b"(lambda (d) (vector-set! d 0 1))",
+            b"refused bad-form 1:13\n",
+        ),
+        (b"(lambda (d) (vector-ref d 0))", b"refused bad-form 1:13\n"),
+        (b"(lambda (d) (d 1))", b"refused bad-form 1:14\n"),
+        (
+            b"(define (add [x : Int]) (lambda ([y : Int]) (+ x y))) ((add 3) 4)",
+            b"refused bad-form 1:25\n",
+        ),
+        (
+            b"(begin (: (tuple 1) Dyn)\n(vector-length (make-vector 1 2)))",
+            b"refused bad-form 1:8\n",
+        ),
+        (
+            b"(lambda (d)\n (begin (tuple-proj d 0) (box 1)))",
+            b"refused bad-form 2:21\n",
+        ),
+        (
+            b"(begin (box 1) (if 1 2 3))",
+            b"refused not-consistent 1:20\n",
+        ),
+        (b"(begin (box 1) (unbox 5))", b"refused not-ref 1:23\n"),
+        (b"(read-int)", b"refused bad-form 1:1\n"),
+    ];
+    for (file, line) in rows {
+        let case = run_of(file);
+        assert!(rt; comes_to(rt.alloc(), &case, 1, b"", line)?, "{file:?}");
+    }
+    Ok(())
+}
+
+#[test]
+fn casts_and_traps(rt: HostRuntime) -> Result<(), NoMemory> {
+    let rows: [(&[u8], u8, &[u8], &[u8]); 18] = [
+        (b"(: (: #t Dyn) Int)", 3, b"", b"blame 1:1\n"),
+        (b"(: (: #t Dyn) Bool)", 0, b"", b"answer #t\n"),
+        (b"(: 5 Dyn)", 0, b"", b"answer 5\n"),
+        (b"(: #f Dyn)", 0, b"", b"answer #f\n"),
+        (b"(: () Dyn)", 0, b"", b"answer ()\n"),
+        (b"(%/ 1 0)", 4, b"", b"trap zero-divisor\n"),
+        (
+            b"(%/ -9223372036854775808 -1)",
+            0,
+            b"",
+            b"answer -9223372036854775808\n",
+        ),
+        (b"(%% -7 2)", 0, b"", b"answer -1\n"),
+        (b"(* 6 7)", 0, b"", b"answer 42\n"),
+        (b"(if (: #f Dyn) 1 (: 2 Dyn))", 0, b"", b"answer 2\n"),
+        (b"(if (: 0 Dyn) 1 2)", 3, b"", b"blame 1:5\n"),
+        (
+            b"(begin (print-int 7) (+ 1 (: (: #t Dyn) Int)))",
+            3,
+            b"7",
+            b"blame 1:27\n",
+        ),
+        (
+            b"((lambda ([x : Int] [y : Int]) x) (begin (print-int 2) (: #t Dyn)) (begin (print-int 3) 1))",
+            3,
+            b"2",
+            b"blame 1:35\n",
+        ),
+        (
+            b"((begin (print-int 1) (lambda ([x : Int]) x)) (begin (print-int 2) 5))",
+            0,
+            b"12",
+            b"answer 5\n",
+        ),
+        (b"((lambda (x) (+ x 1)) #t)", 3, b"", b"blame 1:17\n"),
+        (b"((lambda (x) (+ x 1)) 41)", 0, b"", b"answer 42\n"),
+        (
+            b"(repeat (i 0 5) (s : Int 0) (+ s i))",
+            0,
+            b"",
+            b"answer 10\n",
+        ),
+        (b"(define x 3)", 0, b"", b"answer ()\n"),
+    ];
+    for (file, status, output, line) in rows {
         let case = run_of(file);
         assert!(rt;
-            comes_to(rt.alloc(), &case, 1, b"", b"refused bad-form 1:1\n")?,
+            comes_to(rt.alloc(), &case, status, output, line)?,
             "{file:?}"
         );
+    }
+    Ok(())
+}
+
+#[test]
+fn functions_and_tuples(rt: HostRuntime) -> Result<(), NoMemory> {
+    let rows: [(&[u8], &[u8]); 10] = [
+        (
+            b"(define (fib n) (if (< n 2) n (+ (fib (- n 1)) (fib (- n 2))))) (fib 15)",
+            b"answer 610\n",
+        ),
+        (
+            b"(define (add [x : Int]) : (Int -> Int) (lambda ([y : Int]) (+ x y))) ((add 3) 4)",
+            b"answer 7\n",
+        ),
+        (
+            b"((((lambda ([x : Int]) (lambda ([y : Int]) (lambda ([z : Int]) (- x (- y z))))) 7) 5) 3)",
+            b"answer 5\n",
+        ),
+        (
+            b"(let ([x 1]) (let ([f (lambda () x)]) (let ([x 2]) (+ (* 10 (f)) x))))",
+            b"answer 12\n",
+        ),
+        (
+            b"(define (even [n : Int]) : Bool (if (= n 0) #t (odd (- n 1))))\n\
+              (define (odd [n : Int]) : Bool (if (= n 0) #f (even (- n 1))))\n(even 100001)",
+            b"answer #f\n",
+        ),
+        (
+            b"(let ([t (tuple 1 (tuple #t 5))]) (tuple-proj (tuple-proj t 1) 1))",
+            b"answer 5\n",
+        ),
+        (b"(lambda (x) x)", b"answer #<function>\n"),
+        (b"(tuple 1 2)", b"answer #<tuple>\n"),
+        (
+            b"(and (< 1 2) (not (> 1 2)) (or #f (>= 2 2)))",
+            b"answer #t\n",
+        ),
+        (
+            b"(letrec ([f (lambda ([a : Int] [b : Int] [c : Int] [d : Int] [e : Int] [g : Int]) : Int\n\
+              (if (= a 0) (- b (- c (- d (- e g)))) (f (- a 1) c d e g b)))]) (f 5 1 2 3 4 5))",
+            b"answer 3\n",
+        ),
+    ];
+    for (file, line) in rows {
+        let case = run_of(file);
+        assert!(rt; comes_to(rt.alloc(), &case, 0, b"", line)?, "{file:?}");
+    }
+    Ok(())
+}
+
+#[test]
+fn limits_of_a_run(rt: HostRuntime) -> Result<(), NoMemory> {
+    let steps: &[&str] = &["run", "a", "--steps", "1000"];
+    let stack: &[&str] = &["run", "a", "--stack", "4096"];
+    let region: &[&str] = &["run", "a", "--region", "24"];
+    let little: &[&str] = &["run", "a", "--region", "16"];
+    let loops = b"(letrec ([f (lambda ([x : Int]) : Int (f x))]) (f 0))";
+    let deep = b"(letrec ([f (lambda ([x : Int]) : Int (+ 1 (f x)))]) (f 0))";
+    let calls = b"(letrec ([f (lambda ([n : Int]) : Int (if (= n 0) 7 (g (- n 1))))]\n\
+                  [g (lambda ([n : Int]) : Int (f n))]) (f 1000000))";
+    let tails = b"(letrec ([f (lambda ([n : Int]) : Bool\n\
+                  (if (= n 0) #t (and #t (or #f (let ([m (- n 1)]) (begin 1 (f m)))))))]) (f 100000))";
+    let rows: [(&[&str], &[u8], u8, &[u8]); 7] = [
+        (stack, tails, 0, b"answer #t\n"),
+        (steps, loops, 7, b"spent steps\n"),
+        (stack, deep, 6, b"exhausted stack\n"),
+        (RUN, deep, 6, b"exhausted stack\n"),
+        (RUN, calls, 0, b"answer 7\n"),
+        (region, b"(tuple-proj (tuple 1 2) 0)", 0, b"answer 1\n"),
+        (
+            little,
+            b"(tuple-proj (tuple 1 2) 0)",
+            5,
+            b"exhausted region\n",
+        ),
+    ];
+    for (words, file, status, line) in rows {
+        let case = call_of(words, file);
+        assert!(rt; comes_to(rt.alloc(), &case, status, b"", line)?, "{file:?}");
+    }
+    Ok(())
+}
+
+// So many copies of what stands between two numbers, told the number of each.
+fn numbered(
+    alloc: Global,
+    all: &mut Vec<u8>,
+    count: u32,
+    before: &str,
+    between: &str,
+    behind: &str,
+) -> Result<(), NoMemory> {
+    for number in 0..count {
+        let text = format!(in alloc; "{before}{number}{between}{}{behind}", number + 1)?;
+        all.extend_from_slice(text.as_bytes())?;
+    }
+    Ok(())
+}
+
+// 500 functions each of which calls the next one, and a function that captures 300 names.
+#[test]
+fn long_groups_and_closures(rt: HostRuntime) -> Result<(), NoMemory> {
+    let alloc = rt.alloc();
+    let mut group = Vec::new(alloc);
+    group.extend_from_slice(b"(letrec (")?;
+    numbered(
+        alloc,
+        &mut group,
+        499,
+        "[f",
+        " (lambda ([n : Int]) : Int (f",
+        " n))]\n",
+    )?;
+    group.extend_from_slice(b"[f499 (lambda ([n : Int]) : Int (* n 2))]) (f0 21))")?;
+    let mut closure = Vec::new(alloc);
+    closure.extend_from_slice(b"(let (")?;
+    numbered(alloc, &mut closure, 300, "[x", " ", "]\n")?;
+    closure.extend_from_slice(b") ((lambda () (begin")?;
+    numbered(alloc, &mut closure, 300, " (print-int (- x", " ", "))\n")?;
+    closure.extend_from_slice(b"(+ x0 x299)))))")?;
+    let output = vec![in alloc; b'0'; 300]?;
+    let rows: [(&[u8], &[u8], &[u8]); 2] = [
+        (group.as_slice(), b"", b"answer 42\n"),
+        (closure.as_slice(), output.as_slice(), b"answer 301\n"),
+    ];
+    for (file, output, line) in rows {
+        assert!(rt; comes_to(alloc, &run_of(file), 0, output, line)?);
     }
     Ok(())
 }
@@ -647,8 +929,9 @@ fn checked_sources(rt: HostRuntime) -> Result<(), NoMemory> {
     Ok(())
 }
 
+// A check and a run refuse alike.
 #[test]
-fn sources_that_a_check_refuses(rt: HostRuntime) -> Result<(), NoMemory> {
+fn refused_sources(rt: HostRuntime) -> Result<(), NoMemory> {
     let rows: [(&[u8], &[u8]); 23] = [
         (b"", b"refused empty 1:1\n"),
         (b"; note", b"refused empty 1:1\n"),
@@ -682,8 +965,10 @@ fn sources_that_a_check_refuses(rt: HostRuntime) -> Result<(), NoMemory> {
         (b"\n  (define (f) 1", b"refused unclosed 2:3\n"),
     ];
     for (file, line) in rows {
-        let case = call_of(CHECK, file);
-        assert!(rt; comes_to(rt.alloc(), &case, 1, b"", line)?, "{file:?}");
+        for words in [CHECK, RUN] {
+            let case = call_of(words, file);
+            assert!(rt; comes_to(rt.alloc(), &case, 1, b"", line)?, "{file:?}");
+        }
     }
     Ok(())
 }
@@ -698,7 +983,7 @@ fn copies(alloc: Global, text: &[u8], count: u64) -> Result<Vec<u8>, NoMemory> {
 }
 
 #[test]
-fn limits_of_a_check(rt: HostRuntime) -> Result<(), NoMemory> {
+fn limits_of_a_source(rt: HostRuntime) -> Result<(), NoMemory> {
     let rows: [(&[u8], u64, u8, &[u8]); 4] = [
         (b"(", 201, 1, b"refused too-deep 1:201\n"),
         (b"(", 200, 1, b"refused unclosed 1:200\n"),
@@ -707,8 +992,10 @@ fn limits_of_a_check(rt: HostRuntime) -> Result<(), NoMemory> {
     ];
     for (text, count, status, line) in rows {
         let source = copies(rt.alloc(), text, count)?;
-        let case = call_of(CHECK, source.as_slice());
-        assert!(rt; comes_to(rt.alloc(), &case, status, b"", line)?, "{text:?}");
+        for words in [CHECK, RUN] {
+            let case = call_of(words, source.as_slice());
+            assert!(rt; comes_to(rt.alloc(), &case, status, b"", line)?, "{text:?}");
+        }
     }
     Ok(())
 }
