@@ -137,7 +137,7 @@ impl Sample {
     fn part(&self, random: &mut Random, below: u64, class: u64) -> Result<TypeId, Fail> {
         match random.below(8) {
             0 | 1 => Ok(self.dynamic),
-            2 => self.at(random.below(LEVEL)),
+            2 => self.type_at(random.below(LEVEL)),
             _ => self.one_of(random, below, class),
         }
     }
@@ -152,11 +152,11 @@ impl Sample {
         let first = height
             .wrapping_mul(LEVEL)
             .wrapping_add(class.wrapping_mul(VARIANTS));
-        self.at(first.wrapping_add(random.below(VARIANTS)))
+        self.type_at(first.wrapping_add(random.below(VARIANTS)))
     }
 
     // The type at a place.
-    fn at(&self, place: u64) -> Result<TypeId, Fail> {
+    fn type_at(&self, place: u64) -> Result<TypeId, Fail> {
         match self.made.as_slice().get(place as usize) {
             Some(made) => Ok(*made),
             None => Err(Fail::from("no such type is made")),
@@ -172,7 +172,7 @@ impl Sample {
         Ok(match random.below(8) {
             0 => (self.dynamic, second),
             1 => (first, self.dynamic),
-            2 => (self.at(random.below(LEVEL * 4))?, second),
+            2 => (self.type_at(random.below(LEVEL * 4))?, second),
             _ => (first, second),
         })
     }
