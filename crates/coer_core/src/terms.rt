@@ -15,7 +15,6 @@ use std::mem;
 
 /// A term whose casts are numbers of rows.
 #[cycle(coer)]
-#[derive(Drop)]
 pub enum CoerTerm {
     /// An integer as it is written.
     Int(i64),
@@ -47,6 +46,57 @@ pub enum CoerTerm {
     Tuple(CoerList),
     /// An operator and its operands.
     Prim(PrimOp, CoerList),
+}
+
+impl Drop for CoerTerm {
+    #[cycle(coer)]
+    fn drop(self) {
+        match self {
+            CoerTerm::Int(_) => {}
+            CoerTerm::Bool(_) => {}
+            CoerTerm::Unit => {}
+            CoerTerm::Var(_) => {}
+            CoerTerm::Lambda(a, b, _) => {
+                drop(a);
+                drop(b);
+            }
+            CoerTerm::Group(a, b) => {
+                drop(a);
+                drop(b);
+            }
+            CoerTerm::Let(a, b) => {
+                drop(a);
+                drop(b);
+            }
+            CoerTerm::Call(a, b) => {
+                drop(a);
+                drop(b);
+            }
+            CoerTerm::If(a, b, c) => {
+                drop(a);
+                drop(b);
+                drop(c);
+            }
+            CoerTerm::Seq(a) => {
+                drop(a);
+            }
+            CoerTerm::Coerce(a, _) => {
+                drop(a);
+            }
+            CoerTerm::Proj(a, _) => {
+                drop(a);
+            }
+            CoerTerm::ProjDyn(a, _, _) => {
+                drop(a);
+            }
+            CoerTerm::Tuple(a) => {
+                drop(a);
+            }
+            CoerTerm::Prim(_, b) => {
+                drop(b);
+            }
+        }
+    }
 }
 
 /// Terms in order.

@@ -16,7 +16,7 @@ pub struct CoercionId(pub u32);
 pub type CoercionIds = Items<CoercionId>;
 
 /// A coercion: its constructor, and the places of its parts in the table that the node stands in.
-#[derive(PartialEq, Eq, Hash, Drop, Debug)]
+#[derive(PartialEq, Eq, Hash, Debug)]
 pub enum CoercionNode {
     /// Changes nothing.
     Id,
@@ -34,6 +34,25 @@ pub enum CoercionNode {
     Inject(CoercionId, TypeId),
     /// Out of Dyn: the type that is wanted, the label that is blamed where another is found, and what comes after.
     Project(TypeId, LabelId, CoercionId),
+}
+
+impl Drop for CoercionNode {
+    fn drop(self) {
+        match self {
+            CoercionNode::Id => {}
+            CoercionNode::Fail(_) => {}
+            CoercionNode::Fun(a, _) => {
+                drop(a);
+            }
+            CoercionNode::Tup(a) => {
+                drop(a);
+            }
+            CoercionNode::Ref(_, _) => {}
+            CoercionNode::Vec(_, _) => {}
+            CoercionNode::Inject(_, _) => {}
+            CoercionNode::Project(_, _, _) => {}
+        }
+    }
 }
 
 impl CoercionNode {

@@ -24,7 +24,6 @@ pub type VarIds = Items<VarId>;
 
 /// A term of the calculus.
 #[cycle(core)]
-#[derive(Drop)]
 pub enum Core {
     /// An integer as it is written.
     Int(i64),
@@ -60,6 +59,64 @@ pub enum Core {
     Prim(PrimOp, CoreList),
     /// A value.
     Value(Value),
+}
+
+impl Drop for Core {
+    #[cycle(core)]
+    fn drop(self) {
+        match self {
+            Core::Int(_) => {}
+            Core::Bool(_) => {}
+            Core::Unit => {}
+            Core::Var(_) => {}
+            Core::Lambda(a, b, _) => {
+                drop(a);
+                drop(b);
+            }
+            Core::Group(a, b) => {
+                drop(a);
+                drop(b);
+            }
+            Core::Let(a, b) => {
+                drop(a);
+                drop(b);
+            }
+            Core::Call(a, b) => {
+                drop(a);
+                drop(b);
+            }
+            Core::Enter(a, b) => {
+                drop(a);
+                drop(b);
+            }
+            Core::If(a, b, c) => {
+                drop(a);
+                drop(b);
+                drop(c);
+            }
+            Core::Seq(a) => {
+                drop(a);
+            }
+            Core::Cast(a, _, _, _) => {
+                drop(a);
+            }
+            Core::Proj(a, _) => {
+                drop(a);
+            }
+            Core::ProjDyn(a, _, _) => {
+                drop(a);
+            }
+            Core::Tuple(a) => {
+                drop(a);
+            }
+            Core::Prim(_, b) => {
+                drop(b);
+            }
+            Core::Value(a) => {
+                drop(a);
+            }
+        }
+    }
 }
 
 /// Terms in order.
@@ -109,7 +166,6 @@ pub enum CoreBindings {
 
 /// A value of the calculus.
 #[cycle(core)]
-#[derive(Drop)]
 pub enum Value {
     /// An integer.
     Int(i64),
@@ -129,6 +185,34 @@ pub enum Value {
     Wrap(Box<Value>, TypeId, LabelId, TypeId),
     /// A value in Dyn, and the type that it keeps.
     Inject(Box<Value>, TypeId),
+}
+
+impl Drop for Value {
+    #[cycle(core)]
+    fn drop(self) {
+        match self {
+            Value::Int(_) => {}
+            Value::Bool(_) => {}
+            Value::Unit => {}
+            Value::Fun(a, b, _) => {
+                drop(a);
+                drop(b);
+            }
+            Value::GroupMember(a, _) => {
+                drop(a);
+            }
+            Value::Tuple(a) => {
+                drop(a);
+            }
+            Value::Loc(_, _) => {}
+            Value::Wrap(a, _, _, _) => {
+                drop(a);
+            }
+            Value::Inject(a, _) => {
+                drop(a);
+            }
+        }
+    }
 }
 
 /// Values in order.

@@ -25,7 +25,6 @@ pub enum Operand {
 pub type Operands = Items<Operand>;
 
 /// What gives a value and calls no procedure.
-#[derive(Drop)]
 pub enum Operation {
     /// The value of an operand.
     Move(Operand),
@@ -39,6 +38,23 @@ pub enum Operation {
     Proj(Operand, i64),
     /// A part of the tuple that Dyn holds; the label is blamed where it holds none with that part.
     ProjDyn(Operand, i64, LabelId),
+}
+
+impl Drop for Operation {
+    fn drop(self) {
+        match self {
+            Operation::Move(_) => {}
+            Operation::Prim(_, b) => {
+                drop(b);
+            }
+            Operation::Cast(_, _) => {}
+            Operation::Tuple(a) => {
+                drop(a);
+            }
+            Operation::Proj(_, _) => {}
+            Operation::ProjDyn(_, _, _) => {}
+        }
+    }
 }
 
 /// What a procedure does. A body gives one value; whoever runs it waits for that.

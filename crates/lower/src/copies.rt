@@ -33,31 +33,30 @@ fn copied(alloc: Global, code: &LowCode) -> Result<LowCode, OutOfMemory>
     let mut left = code;
     loop {
         let words = copied_words(alloc, left)?;
-        match left {
+        let (step, rest) = match left {
             LowCode::Done => return steps.before(LowCode::Done),
-            LowCode::Set(d, a, rest) => left = steps.add(Step::Set(*d, *a), rest)?,
-            LowCode::Compute(op, d, a, b, rest) => {
-                left = steps.add(Step::Compute(*op, *d, *a, *b), rest)?
-            }
-            LowCode::Load(d, a, at, rest) => left = steps.add(Step::Load(*d, *a, *at), rest)?,
-            LowCode::Store(b, a, at, rest) => left = steps.add(Step::Store(*b, *a, *at), rest)?,
-            LowCode::CodeOf(d, k, rest) => left = steps.add(Step::CodeOf(*d, *k), rest)?,
-            LowCode::Build(d, _, rest) => left = steps.add(Step::Build(*d, words), rest)?,
-            LowCode::Request(d, n, rest) => left = steps.add(Step::Request(*d, *n), rest)?,
-            LowCode::Take(n, rest) => left = steps.add(Step::Take(*n), rest)?,
+            LowCode::Set(d, a, rest) => (Step::Set(*d, *a), rest),
+            LowCode::Compute(op, d, a, b, rest) => (Step::Compute(*op, *d, *a, *b), rest),
+            LowCode::Load(d, a, at, rest) => (Step::Load(*d, *a, *at), rest),
+            LowCode::Store(b, a, at, rest) => (Step::Store(*b, *a, *at), rest),
+            LowCode::CodeOf(d, k, rest) => (Step::CodeOf(*d, *k), rest),
+            LowCode::Build(d, _, rest) => (Step::Build(*d, words), rest),
+            LowCode::Request(d, n, rest) => (Step::Request(*d, *n), rest),
+            LowCode::Take(n, rest) => (Step::Take(*n), rest),
             LowCode::Environment(number, a, b, d, e, rest) => {
-                left = steps.add(Step::Environment(*number, *a, *b, *d, *e), rest)?
+                (Step::Environment(*number, *a, *b, *d, *e), rest)
             }
-            LowCode::Call(d, k, _, rest) => left = steps.add(Step::Call(*d, *k, words), rest)?,
-            LowCode::CallAt(d, f, _, rest) => left = steps.add(Step::CallAt(*d, *f, words), rest)?,
+            LowCode::Call(d, k, _, rest) => (Step::Call(*d, *k, words), rest),
+            LowCode::CallAt(d, f, _, rest) => (Step::CallAt(*d, *f, words), rest),
             LowCode::If(cond, a, b, one, other, rest) => {
                 let branches = (copied(alloc, one)?, copied(alloc, other)?);
-                left = steps.add(Step::If(*cond, *a, *b, branches.0, branches.1), rest)?
+                (Step::If(*cond, *a, *b, branches.0, branches.1), rest)
             }
             LowCode::Return(a) => return steps.before(LowCode::Return(*a)),
             LowCode::TailCall(k, _) => return steps.before(LowCode::TailCall(*k, words)),
             LowCode::TailCallAt(f, _) => return steps.before(LowCode::TailCallAt(*f, words)),
-        }
+        };
+        left = steps.add(step, rest)?;
     }
 }
 

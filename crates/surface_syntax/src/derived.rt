@@ -13,7 +13,7 @@ ghost use Rattle.surface_syntax.specs.Views.{source_of, lambda_of};
 ghost use Rattle.surface_syntax.specs.Parts.{name_of_binding, type_of_binding, value_of_binding};
 
 use crate::exprs::{Binding, Bindings, Expr, ExprList, ExprNode, LambdaExpr, Member, Members};
-use crate::lists::boxed;
+use crate::lists::{beside, boxed, boxed_beside};
 use crate::names::Ident;
 use crate::types::{Param, Params, TypeExpr, TypeNode};
 use grift_base::lists::{Name, OutOfMemory};
@@ -108,7 +108,7 @@ pub fn one(alloc: Global, expr: Expr) -> Result<ExprList, OutOfMemory>
 pub fn two(alloc: Global, first: Expr, second: Expr) -> Result<ExprList, OutOfMemory>
     ensures { IfOk result (λ list. exprs_of list ≡ two_exprs (expr_of first) (expr_of second)) }
 {
-    let rest = one(alloc, second)?;
+    let (first, rest) = beside(first, one(alloc, second))?;
     cons(alloc, first, rest)
 }
 
@@ -199,8 +199,8 @@ pub fn if_at(
     ensures { IfOk result (λ e. expr_of e ≡ ExprAt pos (IfNode (expr_of condition) (expr_of on_true)
         (expr_of on_false))) }
 {
-    let condition = boxed(alloc, condition)?;
-    let on_true = boxed(alloc, on_true)?;
+    let (condition, (on_true, on_false)) = boxed_beside(alloc, condition, (on_true, on_false))?;
+    let (on_true, (condition, on_false)) = boxed_beside(alloc, on_true, (condition, on_false))?;
     let on_false = boxed(alloc, on_false)?;
     Ok(Expr {
         pos,
@@ -250,8 +250,8 @@ fn typed_binding(name: u32, ty: TypeExpr, value: Expr) -> Binding
     }
 }
 
-// A binding in front of others.
-fn bound_first(alloc: Global, first: Binding, rest: Bindings) -> Result<Bindings, OutOfMemory>
+/// A binding in front of others.
+pub fn bound_first(alloc: Global, first: Binding, rest: Bindings) -> Result<Bindings, OutOfMemory>
     ensures { IfOk result (λ list. lets_of list ≡ LetThen (name_of_binding first) (type_of_binding first)
         (value_of_binding first) (lets_of rest)) }
 {
@@ -280,9 +280,19 @@ fn loop_body(
     ensures { IfOk result (λ body. exprs_of body ≡ one_expr (ExprAt pos (IfNode (goes_on pos (Source counter.now)
         (Fresh bound)) (expr_of turn) (expr_of done)))) }
 {
-    let test = goes_on(alloc, pos, counter, bound)?;
+    let ((turn, done), test) = beside((turn, done), goes_on(alloc, pos, counter, bound))?;
     let body = if_at(alloc, pos, test, turn, done)?;
     one(alloc, body)
+}
+
+// The call for the next count.
+fn next_call(alloc: Global, pos: Pos, function: u32, counter: &Name) -> Result<Expr, OutOfMemory>
+    ensures { IfOk result (λ e. expr_of e ≡ ExprAt pos (CallNode (name_at pos (Fresh function)) (one_expr
+        (next_count pos (Source counter.now))))) }
+{
+    let next = next_count(alloc, pos, counter)?;
+    let next = one(alloc, next)?;
+    call_at(alloc, pos, function, next)
 }
 
 // The turn of a loop that only counts: its body, and the call for the next count.
@@ -296,9 +306,8 @@ fn counting_turn(
     ensures { IfOk result (λ e. expr_of e ≡ ExprAt pos (BeginNode (two_exprs (expr_of body) (ExprAt pos (CallNode
         (name_at pos (Fresh function)) (one_expr (next_count pos (Source counter.now)))))))) }
 {
-    let next = next_count(alloc, pos, counter)?;
-    let next = one(alloc, next)?;
-    let call = call_at(alloc, pos, function, next)?;
+    let call = next_call(alloc, pos, function, counter);
+    let (body, call) = beside(body, call)?;
     let turn = two(alloc, body, call)?;
     Ok(Expr {
         pos,
@@ -382,7 +391,7 @@ fn gathering_turn(
     ensures { IfOk result (λ e. expr_of e ≡ ExprAt pos (CallNode (name_at pos (Fresh function)) (two_exprs
         (next_count pos (Source counter.now)) (expr_of body)))) }
 {
-    let next = next_count(alloc, pos, counter)?;
+    let (body, next) = beside(body, next_count(alloc, pos, counter))?;
     let next = two(alloc, next, body)?;
     call_at(alloc, pos, function, next)
 }
@@ -443,9 +452,9 @@ fn with_function(
         ty: None,
         fun: lambda,
     };
-    let member = boxed(alloc, member)?;
-    let members = Members::Cons(member, boxed(alloc, Members::Nil)?);
     let body = one(alloc, body)?;
+    let (member, body) = boxed_beside(alloc, member, body)?;
+    let members = Members::Cons(member, boxed(alloc, Members::Nil)?);
     Ok(Expr {
         pos,
         node: ExprNode::Letrec(members, body),
@@ -465,9 +474,26 @@ fn loop_bindings(
 {
     let (first, bound) = bounds;
     let bound = typed_binding(names.bound, int_at(pos), bound);
-    let bindings = bound_first(alloc, bound, others)?;
+    let (first, bindings) = beside(first, bound_first(alloc, bound, others))?;
     let start = typed_binding(names.start, int_at(pos), first);
     bound_first(alloc, start, bindings)
+}
+
+// The function of a loop, and the first call of it.
+fn loop_start(
+    alloc: Global,
+    pos: Pos,
+    names: LoopNames,
+    lambda: LambdaExpr,
+    arguments: ExprList,
+) -> Result<ExprList, OutOfMemory>
+    ensures { IfOk result (λ list. exprs_of list ≡ one_expr (ExprAt pos (LetrecNode (LetrecThen (Fresh names.function)
+        None (lambda_of lambda) NoLetrecs) (one_expr (ExprAt pos (CallNode (name_at pos (Fresh names.function))
+        (ExprThen (name_at pos (Fresh names.start)) (exprs_of arguments)))))))) }
+{
+    let (lambda, call) = beside(lambda, loop_call(alloc, pos, names, arguments))?;
+    let body = with_function(alloc, pos, names.function, lambda, call)?;
+    one(alloc, body)
 }
 
 // A loop: its names, its function and the call of it.
@@ -483,10 +509,9 @@ fn loop_of(
     ensures { IfOk result (λ e. expr_of e ≡ loop_of pos names (expr_of bounds.0) (expr_of bounds.1)
         (lets_of others) (lambda_of lambda) (exprs_of arguments)) }
 {
-    let call = loop_call(alloc, pos, names, arguments)?;
-    let body = with_function(alloc, pos, names.function, lambda, call)?;
-    let body = one(alloc, body)?;
-    let bindings = loop_bindings(alloc, pos, names, bounds, others)?;
+    let bindings = loop_bindings(alloc, pos, names, bounds, others);
+    let ((lambda, arguments), bindings) = beside((lambda, arguments), bindings)?;
+    let body = loop_start(alloc, pos, names, lambda, arguments)?;
     Ok(Expr {
         pos,
         node: ExprNode::Let(bindings, body),

@@ -19,7 +19,7 @@ pub struct Expr {
 
 /// What an expression is.
 #[cycle(expr)]
-#[derive(Drop, Debug)]
+#[derive(Debug)]
 pub enum ExprNode {
     /// An integer.
     Int(i64),
@@ -104,6 +104,41 @@ pub enum Members {
     Nil,
     /// The first one, and those behind it.
     Cons(Box<Member>, Box<Members>),
+}
+
+// By hand, so that each place where an expression goes is one call.
+impl Drop for ExprNode {
+    #[cycle(expr)]
+    fn drop(self) {
+        match self {
+            ExprNode::Int(_) | ExprNode::Bool(_) | ExprNode::Unit => {}
+            ExprNode::Name(name) => drop(name),
+            ExprNode::Lambda(lambda) => drop(lambda),
+            ExprNode::Call(function, arguments) => {
+                drop(function);
+                drop(arguments);
+            }
+            ExprNode::Let(bindings, body) => {
+                drop(bindings);
+                drop(body);
+            }
+            ExprNode::Letrec(members, body) => {
+                drop(members);
+                drop(body);
+            }
+            ExprNode::If(condition, on_true, on_false) => {
+                drop(condition);
+                drop(on_true);
+                drop(on_false);
+            }
+            ExprNode::Begin(list) | ExprNode::Tuple(list) | ExprNode::Prim(_, list) => drop(list),
+            ExprNode::Ascribe(inner, ty) => {
+                drop(inner);
+                drop(ty);
+            }
+            ExprNode::Proj(tuple, _, _) => drop(tuple),
+        }
+    }
 }
 
 // Loops, since a list may be longer than the process's stack is deep.

@@ -1,7 +1,7 @@
 // Refusals, and elements of lists.
 #![tactic(auto, using(crate::proofs::Steps::list_steps), unfolding(crate::specs::Walking::followed_by))]
 
-ghost use Rattle.std.specs.Prelude.{◌≡◌, ◌==◌, ◌++◌, ◌∷◌, [], IfOk};
+ghost use Rattle.std.specs.Prelude.{◌≡◌, ◌==◌, ◌++◌, ◌∷◌, [], IfOk, Ok};
 ghost use Rattle.sexpr_reader.specs.View.{datum_of, datums_of};
 ghost use Rattle.surface_syntax.specs.Marked.{marked, all_marked, reserved_at, how_many};
 ghost use Rattle.surface_syntax.specs.Walking.{binder, colon, some, is_colon, is_arrow_at, is_lambda_at};
@@ -154,6 +154,33 @@ pub fn binder(alloc: Global, scope: &mut Scope, sexp: &Sexp) -> Result<Name, Fro
         return refused(RefusalKind::RepeatedName, sexp.pos);
     }
     Ok(Name::from_slice(alloc, name.as_slice())?)
+}
+
+/// A value on the heap, beside one that is kept.
+pub fn boxed_beside<T: Drop, K: Drop>(
+    alloc: Global,
+    value: T,
+    kept: K,
+) -> Result<(Box<T>, K), OutOfMemory>
+    ensures value { IfOk result (λ both. both.0.value ≡ value) }
+    ensures kept { IfOk result (λ both. both.1 ≡ kept) }
+{
+    let value = boxed(alloc, value)?;
+    Ok((value, kept))
+}
+
+/// A value beside what was made; it is dropped where nothing was made.
+pub fn beside<T: Drop, R: Drop>(
+    value: T,
+    made: Result<R, OutOfMemory>,
+) -> Result<(T, R), OutOfMemory>
+    ensures value { IfOk result (λ both. both.0 ≡ value) }
+    ensures made { IfOk result (λ both. made ≡ Ok both.1) }
+{
+    match made {
+        Ok(made) => Ok((value, made)),
+        Err(fault) => Err(fault),
+    }
 }
 
 /// A value on the heap.

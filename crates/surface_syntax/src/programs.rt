@@ -7,9 +7,9 @@ ghost use Rattle.surface_syntax.specs.Views.{expr_of};
 ghost use Rattle.surface_syntax.specs.Parts.{name_of_member, type_of_member, fun_of_member};
 ghost use Rattle.surface_syntax.specs.TopParts.{part_of, rest_of};
 
-use crate::derived::{one, two};
+use crate::derived::{bound_first, one, two};
 use crate::exprs::{Binding, Bindings, Expr, ExprNode, Member, Members};
-use crate::lists::boxed;
+use crate::lists::{beside, boxed_beside};
 use crate::names::Ident;
 use crate::tops::Part;
 use grift_base::lists::OutOfMemory;
@@ -43,17 +43,13 @@ fn with_function(alloc: Global, pos: Pos, member: Member, rest: Rest) -> Result<
     ensures { IfOk result (λ r. rest_of r ≡ with_function pos (name_of_member member) (type_of_member member)
         (fun_of_member member) (rest_of rest)) }
 {
-    let member = boxed(alloc, member)?;
-    match rest {
-        Rest::Alone(body) => {
-            let members = Members::Cons(member, boxed(alloc, Members::Nil)?);
-            Ok(Rest::Run(pos, members, body))
-        }
-        Rest::Run(_, members, body) => {
-            let members = Members::Cons(member, boxed(alloc, members)?);
-            Ok(Rest::Run(pos, members, body))
-        }
-    }
+    let (member, rest) = boxed_beside(alloc, member, rest)?;
+    let (members, body) = match rest {
+        Rest::Alone(body) => (Members::Nil, body),
+        Rest::Run(_, members, body) => (members, body),
+    };
+    let (members, (member, body)) = boxed_beside(alloc, members, (member, body))?;
+    Ok(Rest::Run(pos, Members::Cons(member, members), body))
 }
 
 // A form before the rest.
@@ -62,7 +58,7 @@ fn before(alloc: Global, part: Part, rest: Rest) -> Result<Rest, OutOfMemory>
 {
     match part {
         Part::Expr { pos, expr } => {
-            let rest = closed(alloc, rest)?;
+            let (expr, rest) = beside(expr, closed(alloc, rest))?;
             let both = two(alloc, expr, rest)?;
             Ok(Rest::Alone(Expr {
                 pos,
@@ -76,10 +72,10 @@ fn before(alloc: Global, part: Part, rest: Rest) -> Result<Rest, OutOfMemory>
             value,
         } => {
             let name = Ident::Source(name);
-            let binding = boxed(alloc, Binding { name, ty, value })?;
-            let bindings = Bindings::Cons(binding, boxed(alloc, Bindings::Nil)?);
-            let rest = closed(alloc, rest)?;
-            let body = one(alloc, rest)?;
+            let binding = Binding { name, ty, value };
+            let (binding, rest) = beside(binding, closed(alloc, rest))?;
+            let (binding, body) = beside(binding, one(alloc, rest))?;
+            let bindings = bound_first(alloc, binding, Bindings::Nil)?;
             Ok(Rest::Alone(Expr {
                 pos,
                 node: ExprNode::Let(bindings, body),

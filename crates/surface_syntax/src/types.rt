@@ -19,7 +19,7 @@ pub struct TypeExpr {
 
 /// What a written type is.
 #[cycle(written_type)]
-#[derive(Drop, Debug)]
+#[derive(Debug)]
 pub enum TypeNode {
     /// A type without parts.
     Base(Row),
@@ -40,6 +40,22 @@ pub enum TypeExprs {
     Nil,
     /// The first one, and those behind it.
     Cons(Box<TypeExpr>, Box<TypeExprs>),
+}
+
+// By hand, so that each place where a type goes is one call.
+impl Drop for TypeNode {
+    #[cycle(written_type)]
+    fn drop(self) {
+        match self {
+            TypeNode::Base(row) => drop(row),
+            TypeNode::Fun(parameters, result) => {
+                drop(parameters);
+                drop(result);
+            }
+            TypeNode::Tuple(parts) => drop(parts),
+            TypeNode::Ref(content) | TypeNode::Vect(content) => drop(content),
+        }
+    }
 }
 
 // A loop, since a list may be longer than the process's stack is deep.
