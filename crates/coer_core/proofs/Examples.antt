@@ -27,7 +27,8 @@ types =
     IntRow ∷ BoolRow ∷ DynRow ∷ FunRow (0 ∷ []) 0 ∷ FunRow (2 ∷ []) 2 ∷ FunRow (0 ∷ []) 2 ∷ UnitRow ∷ RefRow 0
     ∷ RefRow 2 ∷ VectRow 0 ∷ VectRow 2 ∷ TupleRow (0 ∷ 1 ∷ []) ∷ TupleRow (2 ∷ 2 ∷ []) ∷ FunRow [] 0
     ∷ FunRow (0 ∷ 0 ∷ []) 0 ∷ FunRow (2 ∷ 2 ∷ []) 2 ∷ FunRow (0 ∷ []) 1 ∷ FunRow (4 ∷ []) 0
-    ∷ FunRow (1 ∷ []) 0 ∷ FunRow (2 ∷ 0 ∷ []) 0 ∷ FunRow (2 ∷ 2 ∷ []) 0 ∷ []
+    ∷ FunRow (1 ∷ []) 0 ∷ FunRow (2 ∷ 0 ∷ []) 0 ∷ FunRow (2 ∷ 2 ∷ []) 0 ∷ FunRow (1 ∷ []) 1 ∷ TupleRow (0 ∷ 0 ∷ [])
+    ∷ FunRow (0 ∷ 4 ∷ []) 4 ∷ RefRow 1 ∷ VectRow 1 ∷ FunRow (2 ∷ []) 0 ∷ []
 
 abbrev in_line : ℕ → Pos
 in_line line = record { line = line; col = 1 }
@@ -155,12 +156,59 @@ first_argument_blamed = (refl, refl, refl, refl, refl, refl, refl, refl)
 argument_types_later : EndsAlike (let_one 9 (Cast (Cast identity 3 2 0) 2 18 1) (int 5)) 0 (number 5) [] 1
 argument_types_later = (refl, refl, refl, refl, refl, refl, refl, refl)
 
+-- called, it is its argument that the cast out of Dyn blames:
+-- (let ([f (: (: (lambda ([x : Int]) : Int x) Dyn) (Bool -> Int))]) (f #t))
+argument_types_at_a_call : EndsAlike
+    (let_one 9 (Cast (Cast identity 3 2 0) 2 18 1) (Call (Var 9) (one (BoolLit true)))) 0 (Blame (in_line 2)) [] 1
+argument_types_at_a_call = (refl, refl, refl, refl, refl, refl, refl, refl)
+
+-- types of parameter and result both clash: what comes between cast and call is done, and the call blames the cast
+argument_and_result_clash : EndsAlike
+    (let_one 9 (Cast (Cast identity 3 2 0) 2 21 1)
+    (Seq (terms_from (Prim PrintInt (one (int 1)) ∷ Call (Var 9) (one (BoolLit true)) ∷ [])))) 1 (Blame (in_line 2))
+    (codes "1") 1
+unfolding digits
+argument_and_result_clash = (refl, refl, refl, refl, refl, refl, refl, refl)
+
+-- only the type of the result clashes: the body runs, and then the cast is blamed
+result_clashes : EndsAlike
+    (Call (Cast (Cast (Lambda (0 ∷ []) (Seq (terms_from (Prim PrintInt (one (Var 0)) ∷ Var 0 ∷ []))) 3) 3 2 0) 2 16 1)
+    (one (int 5))) 1 (Blame (in_line 2)) (codes "5") 1
+unfolding digits
+result_clashes = (refl, refl, refl, refl, refl, refl, refl, refl)
+
+-- two wrappers on one argument, both of which would blame: the outermost comes first
+outermost_wrapper_first : EndsAlike
+    (Call (Cast (Cast identity 3 18 0) 18 26 1) (one (Cast (int 5) 0 2 2))) 0 (Blame (in_line 2)) [] 2
+outermost_wrapper_first = (refl, refl, refl, refl, refl, refl, refl, refl)
+
 -- all casts of the first argument come before those of the second: the inner wrapper blames the first, though the outer
 -- one would blame the second
+-- (let ([f (lambda ([a : Int] [b : Int]) : Int a)])
+-- (let ([g (: f (Dyn Int -> Int))]) (let ([h (: g (Dyn Dyn -> Int))]) (h #t #f))))
 arguments_one_by_one : EndsAlike
-    (Call (Cast (Cast (Lambda (0 ∷ 1 ∷ []) (Var 0) 14) 14 19 0) 19 20 1)
-    (two (Cast (BoolLit true) 1 2 2) (Cast (BoolLit false) 1 2 2))) 0 (Blame (in_line 1)) [] 2
+    (let_one 5 (Lambda (0 ∷ 1 ∷ []) (Var 0) 14) (let_one 6 (Cast (Var 5) 14 19 0) (let_one 7 (Cast (Var 6) 19 20 1)
+    (Call (Var 7) (two (Cast (BoolLit true) 1 2 2) (Cast (BoolLit false) 1 2 2)))))) 0 (Blame (in_line 1)) [] 2
 arguments_one_by_one = (refl, refl, refl, refl, refl, refl, refl, refl)
+
+-- a loop that casts a function there and back at each turn: four wrappers, and at most one proxy
+-- (letrec ([loop (lambda ([n : Int] [f : (Dyn -> Dyn)]) : (Dyn -> Dyn)
+-- (if (= n 0) f (loop (- n 1) (: (: f (Int -> Int)) (Dyn -> Dyn)))))]) ((loop 2 (lambda (x) x)) ARGUMENT))
+abbrev there_and_back : Term → Term
+there_and_back argument =
+    Group (MemberThen 0 (1 ∷ 2 ∷ [])
+    (If (Prim Eq (two (Var 1) (int 0))) (Var 2)
+    (Call (Var 0) (two (Prim Sub (two (Var 1) (int 1))) (Cast (Cast (Var 2) 4 3 0) 3 4 1)))) 23 NoMembers)
+    (Call (Call (Var 0) (two (int 2) (Lambda (3 ∷ []) (Var 3) 4))) (one argument))
+
+cast_in_a_loop : EndsAlike (there_and_back (Cast (int 7) 0 2 2)) 2 (number 7) [] 4
+unfolding int_wrap
+cast_in_a_loop = (refl, refl, refl, refl, refl, refl, refl, refl)
+
+-- the last cast made is the first to see the argument
+blamed_after_a_loop : EndsAlike (there_and_back (Cast (BoolLit true) 1 2 2)) 2 (Blame (in_line 2)) [] 4
+unfolding int_wrap
+blamed_after_a_loop = (refl, refl, refl, refl, refl, refl, refl, refl)
 
 -- arguments are evaluated, with what they print, before a cast of one blames
 printed_before : EndsAlike
@@ -169,6 +217,11 @@ printed_before : EndsAlike
     (Seq (terms_from (Prim PrintInt (one (int 8)) ∷ Cast (int 1) 0 2 1 ∷ []))))) 2 (Blame (in_line 3)) (codes "8") 1
 unfolding digits
 printed_before = (refl, refl, refl, refl, refl, refl, refl, refl)
+
+-- ((: (lambda () 1) Dyn) 5): both casts have the function's place
+called_with_too_many : EndsAlike
+    (Call (Cast (Cast (Lambda [] (Seq (one (int 1))) 13) 13 2 0) 2 5 0) (one (int 5))) 2 (Blame (in_line 1)) [] 0
+called_with_too_many = (refl, refl, refl, refl, refl, refl, refl, refl)
 
 -- through Dyn to a function type with another number of parameters: l1 is blamed
 parameters_differ : EndsAlike
@@ -186,6 +239,27 @@ handed_on = (refl, refl, refl, refl, refl, refl, refl, refl)
 part_through_wrapper : EndsAlike (Proj (Cast (Tuple (two (int 4) (BoolLit true))) 11 12 0) (pos 0)) 2 (number 4) [] 1
 part_through_wrapper = (refl, refl, refl, refl, refl, refl, refl, refl)
 
+-- (tuple-proj (: (: (tuple 1 #t) Dyn) (Tuple Int Int)) PART)
+abbrev cast_tuple : ℕ → Term
+cast_tuple part = Proj (Cast (Cast (Tuple (two (int 1) (BoolLit true))) 11 2 0) 2 22 1) (pos part)
+
+part_that_fits : EndsAlike (cast_tuple 0) 0 (number 1) [] 1
+part_that_fits = (refl, refl, refl, refl, refl, refl, refl, refl)
+
+part_blamed : EndsAlike (cast_tuple 1) 0 (Blame (in_line 2)) [] 1
+part_blamed = (refl, refl, refl, refl, refl, refl, refl, refl)
+
+-- three casts on one tuple: part 0 goes through all of them, part 1 is blamed by the second
+abbrev cast_three_times : ℕ → Term
+cast_three_times part =
+    Proj (Cast (Cast (Cast (Tuple (two (int 4) (BoolLit true))) 11 12 0) 12 22 1) 22 12 2) (pos part)
+
+first_part_through_three : EndsAlike (cast_three_times 0) 2 (number 4) [] 3
+first_part_through_three = (refl, refl, refl, refl, refl, refl, refl, refl)
+
+second_of_three_blamed : EndsAlike (cast_three_times 1) 2 (Blame (in_line 2)) [] 3
+second_of_three_blamed = (refl, refl, refl, refl, refl, refl, refl, refl)
+
 part_of_dyn : EndsAlike (ProjDyn (Cast (Tuple (two (int 4) (BoolLit true))) 11 2 0) (pos 1) 1) 2 (truth 1) [] 0
 part_of_dyn = (refl, refl, refl, refl, refl, refl, refl, refl)
 
@@ -202,6 +276,35 @@ written_through : EndsAlike
     (number 7) [] 1
 written_through = (refl, refl, refl, refl, refl, refl, refl, refl)
 
+-- (let ([b (box 1)]) (let ([d (: b (Ref Dyn))]) (begin (box-set! d VALUE) (unbox b))))
+abbrev set_and_read : Term → Term
+set_and_read value =
+    let_one 0 (Prim MakeBox (one (int 1))) (let_one 1 (Cast (Var 0) 7 8 0)
+    (Seq (terms_from (Prim BoxSet (two (Var 1) value) ∷ Prim Unbox (one (Var 0)) ∷ []))))
+
+set_and_read_an_integer : EndsAlike (set_and_read (Cast (int 7) 0 2 1)) 0 (number 7) [] 1
+set_and_read_an_integer = (refl, refl, refl, refl, refl, refl, refl, refl)
+
+set_to_a_truth_value : EndsAlike (set_and_read (Cast (BoolLit true) 1 2 1)) 0 (Blame (in_line 1)) [] 1
+set_to_a_truth_value = (refl, refl, refl, refl, refl, refl, refl, refl)
+
+-- a box written through two casts, to Dyn and back, which come to no proxy
+written_through_two : EndsAlike
+    (let_one 0 (Prim MakeBox (one (int 1))) (Seq (terms_from
+    (Prim BoxSet (two (Cast (Cast (Var 0) 7 8 0) 8 7 1) (int 9)) ∷ Prim Unbox (one (Var 0)) ∷ [])))) 0 (number 9) [] 2
+written_through_two = (refl, refl, refl, refl, refl, refl, refl, refl)
+
+-- seen as a box of truth values: what is written comes in by the outer cast, and the inner one is blamed
+write_through_two_blamed : EndsAlike
+    (Prim BoxSet (two (Cast (Cast (Prim MakeBox (one (int 1))) 7 8 0) 8 24 1) (BoolLit true))) 6
+    (Blame (in_line 1)) [] 2
+write_through_two_blamed = (refl, refl, refl, refl, refl, refl, refl, refl)
+
+-- and what is read is blamed by the outer one
+read_through_two_blamed : EndsAlike
+    (Prim Unbox (one (Cast (Cast (Prim MakeBox (one (int 1))) 7 8 0) 8 24 1))) 1 (Blame (in_line 2)) [] 2
+read_through_two_blamed = (refl, refl, refl, refl, refl, refl, refl, refl)
+
 -- what is written through a wrapper is no integer: l0 is blamed
 write_blamed : EndsAlike
     (Prim BoxSet (two (Cast (Prim MakeBox (one (int 1))) 7 8 0) (Cast (BoolLit true) 1 2 1))) 6 (Blame (in_line 1)) [] 1
@@ -210,6 +313,17 @@ write_blamed = (refl, refl, refl, refl, refl, refl, refl, refl)
 read_through : EndsAlike
     (Prim VectorRef (two (Cast (Prim MakeVector (two (int 3) (int 8))) 9 10 0) (int 1))) 2 (number 8) [] 1
 read_through = (refl, refl, refl, refl, refl, refl, refl, refl)
+
+-- a vector that goes into Dyn, and comes out as one of Dyn: what is read is an integer in Dyn
+read_after_dyn : EndsAlike
+    (Prim VectorRef (two (Cast (Cast (Prim MakeVector (two (int 3) (int 8))) 9 2 0) 2 10 1) (int 2))) 2 (number 8) [] 1
+read_after_dyn = (refl, refl, refl, refl, refl, refl, refl, refl)
+
+-- out as one of truth values: what is read is blamed by the cast out of Dyn
+read_after_dyn_blamed : EndsAlike
+    (Prim VectorRef (two (Cast (Cast (Prim MakeVector (two (int 3) (int 8))) 9 2 0) 2 25 1) (int 2))) 1
+    (Blame (in_line 2)) [] 1
+read_after_dyn_blamed = (refl, refl, refl, refl, refl, refl, refl, refl)
 
 -- an index outside the vector traps before the written value is cast
 index_first : EndsAlike

@@ -16,7 +16,7 @@ use Rattle.front_end.specs.Placed.{HasCast, HasPart, IsPlaced, ArePlaced, AreMem
 use Rattle.coercion_norm.specs.Modes.{TypeCast, type_cast}
 use Rattle.coer_core.specs.Conversion.{casts_in, casts_in_all, casts_in_members, casts_in_bindings, same_cast}
 use Rattle.coer_core.specs.Conversion.{with_cast, with_casts}
-use Rattle.coer_core.specs.FlatCasts.{HasNoParts, AreFlatCasts}
+use Rattle.lower.specs.CoveredPrograms.{HasNoParts, JoinFlatTypes}
 use Rattle.compile_driver.specs.Unbuilt.{has_no_parts, is_flat}
 
 no_parts : (types : TypeRows) (type : ℕ) (row : Option TypeRow) → row_at types type ≡ row → has_no_parts row ≡ true
@@ -116,7 +116,7 @@ flat_with_all types casts (cast ∷ more) h g =
 -- the casts of a term in order of first use
 pub casts_are_flat : (allowed : PrimOp → Bool) (types : TypeRows) (entries : List Entry) (term : Term)
     → All (λ entry. is_flat types entry ≡ true) entries → IsPlaced allowed entries term
-    → AreFlatCasts types (with_casts [] (casts_in term))
+    → JoinFlatTypes types (with_casts [] (casts_in term))
 casts_are_flat allowed types entries term flat h number cast e =
     at (Flat types) (with_casts [] (casts_in term))
     (flat_with_all types [] (casts_in term) (All-nil (Flat types)) (flat_in allowed types entries flat term h))

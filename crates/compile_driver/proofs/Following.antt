@@ -25,7 +25,7 @@ use Rattle.coercion_norm.specs.Nodes.{Node, IsTree}
 use Rattle.coercion_norm.specs.Statics.{AreStatics}
 use Rattle.coercion_norm.specs.declared.cast_rows.CastRow.{CastRow}
 use Rattle.coer_core.specs.Counts.{run_in, told_of}
-use Rattle.coer_core.specs.FlatCasts.{AreFlatCasts}
+use Rattle.type_graph.specs.TypeTables.{IsOrderedTable}
 use Rattle.coer_core.specs.Programs.{HaveCoercions, tallest_of}
 use Rattle.coer_core.specs.Terms.{RowTerm, core_of}
 use Rattle.coer_core.proofs.Public.{merged_runs_follow_the_calculus-follows}
@@ -40,7 +40,7 @@ use Rattle.closure_convert.proofs.Public.{procedures_of_program_terms_are_closed
 use Rattle.low_ir.specs.Procedures.{Proc}
 use Rattle.low_ir.specs.Run.{low_machine, low_start}
 use Rattle.lower.specs.declared.served.Served.{Served}
-use Rattle.lower.specs.CoveredPrograms.{all_covered}
+use Rattle.lower.specs.CoveredPrograms.{all_covered, JoinFlatTypes}
 use Rattle.lower.specs.Lowered.{low_proc, entry_proc, lowered}
 use Rattle.lower.specs.SimulationClaims.{AreNarrow, IsLowered}
 use Rattle.lower.specs.Serving.{all_narrow}
@@ -59,7 +59,8 @@ use Rattle.compile_driver.proofs.Starting.{statics_hold}
 pub record IsPassed (program : Program) (casts : List TypeCast) (rows : RowTerm) (answer : ℕ) : Type 0 where
   pub reads : core_of casts rows ≡ program.term
   pub typed : ProgramTermHasType program.types (length program.labels) program.term answer
-  pub flat : AreFlatCasts program.types casts
+  pub table : IsOrderedTable program.types
+  pub flat : JoinFlatTypes program.types casts
 
 module _ {program : Program} {casts : List TypeCast} {rows : RowTerm} {answer : ℕ}
     (passed : IsPassed program casts rows answer) where
@@ -72,7 +73,7 @@ module _ {program : Program} {casts : List TypeCast} {rows : RowTerm} {answer : 
       → NeverWrong (run_in (merging program.types casts) (told_of program answer) rows input)
   never input =
       merged_runs_follow_the_calculus-never_wrong casts program rows input answer (sym passed.reads) passed.typed
-      passed.flat
+      passed.table
 
   flat_follows : (input : List ℕ)
       → Follows (flat_run_in (converted rows) (made rows) (merging program.types casts) (told_of program answer) input)
@@ -82,7 +83,7 @@ module _ {program : Program} {casts : List TypeCast} {rows : RowTerm} {answer : 
       (follows_of (procedures_follow_their_term-merged casts (told_of program answer) rows input no_free_names
       (never input)))
       (merged_runs_follow_the_calculus-follows casts program rows input answer (sym passed.reads) passed.typed
-      passed.flat)
+      passed.table)
 
 -- a term that reads back to a program term has no free names
 pub no_names : (casts : List TypeCast) (types : TypeRows) (labels : ℕ) (rows : RowTerm) (answer : ℕ)

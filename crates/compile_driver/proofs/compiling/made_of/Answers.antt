@@ -9,9 +9,9 @@ use Rattle.core_calc.specs.Views.{term_of}
 use Rattle.cast_insert.specs.Views.{entries_of}
 use Rattle.front_end.specs.Placed.{IsPlaced}
 use Rattle.front_end.proofs.Public.{program_type_there}
+use Rattle.lower.specs.CoveredPrograms.{JoinFlatTypes}
 use Rattle.lower.specs.Serving.{all_have_words}
 use Rattle.coercion_norm.specs.Modes.{row_cast, row_casts}
-use Rattle.coer_core.specs.FlatCasts.{AreFlatCasts}
 use Rattle.coer_core.specs.Programs.{tallest_of}
 use Rattle.coer_core.specs.Uses.{NumbersBelow}
 use Rattle.coer_core.specs.Views.{row_term_of}
@@ -105,7 +105,8 @@ returns-clause-follows c =
     (record {
       reads = c.in_ok-coer.ensures.reads;
       typed = answer_typed;
-      flat = subst (AreFlatCasts types) (sym c.in_ok-coer.ensures.order)
+      table = c.len.ensures.table;
+      flat = subst (JoinFlatTypes types) (sym c.in_ok-coer.ensures.order)
           (casts_are_flat is_built types (entries_of elab.casts) (term_of elab.core) c.requires.flat c.requires.placed);
     })
     row_there
