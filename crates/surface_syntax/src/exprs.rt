@@ -7,11 +7,10 @@ use grift_base::lists::OutOfMemory;
 use grift_base::operators::PrimOp;
 use grift_base::places::Pos;
 use std::alloc::Global;
-use std::fmt::{self, Debug, Formatter, Write};
 
 /// An expression and its place. What a derived form expands to has the place of that form.
 #[cycle(expr)]
-#[derive(Drop, Debug)]
+#[derive(Drop)]
 pub struct Expr {
     pub pos: Pos,
     pub node: ExprNode,
@@ -19,7 +18,6 @@ pub struct Expr {
 
 /// What an expression is.
 #[cycle(expr)]
-#[derive(Debug)]
 pub enum ExprNode {
     /// An integer.
     Int(i64),
@@ -53,7 +51,7 @@ pub enum ExprNode {
 
 /// A function: its parameters, its result's type where one is written, and its body.
 #[cycle(expr)]
-#[derive(Drop, Debug)]
+#[derive(Drop)]
 pub struct LambdaExpr {
     pub pos: Pos,
     pub params: Params,
@@ -63,7 +61,7 @@ pub struct LambdaExpr {
 
 /// A name for a value: the name, its type where one is written, and the value.
 #[cycle(expr)]
-#[derive(Drop, Debug)]
+#[derive(Drop)]
 pub struct Binding {
     pub name: Ident,
     pub ty: Option<TypeExpr>,
@@ -72,7 +70,7 @@ pub struct Binding {
 
 /// A name for a function: the name, its type where one is written, and the function.
 #[cycle(expr)]
-#[derive(Drop, Debug)]
+#[derive(Drop)]
 pub struct Member {
     pub name: Ident,
     pub ty: Option<TypeExpr>,
@@ -178,54 +176,6 @@ impl Drop for Members {
     }
 }
 
-impl Debug for ExprList {
-    #[cycle(expr)]
-    fn fmt<W: Write>(&self, f: &mut Formatter<W>) -> fmt::Result {
-        let mut list = self;
-        f.write_str("[")?;
-        while let ExprList::Cons(first, rest) = list {
-            first.fmt(f)?;
-            list = rest;
-            if let ExprList::Cons(..) = list {
-                f.write_str(", ")?;
-            }
-        }
-        f.write_str("]")
-    }
-}
-
-impl Debug for Bindings {
-    #[cycle(expr)]
-    fn fmt<W: Write>(&self, f: &mut Formatter<W>) -> fmt::Result {
-        let mut list = self;
-        f.write_str("[")?;
-        while let Bindings::Cons(first, rest) = list {
-            first.fmt(f)?;
-            list = rest;
-            if let Bindings::Cons(..) = list {
-                f.write_str(", ")?;
-            }
-        }
-        f.write_str("]")
-    }
-}
-
-impl Debug for Members {
-    #[cycle(expr)]
-    fn fmt<W: Write>(&self, f: &mut Formatter<W>) -> fmt::Result {
-        let mut list = self;
-        f.write_str("[")?;
-        while let Members::Cons(first, rest) = list {
-            first.fmt(f)?;
-            list = rest;
-            if let Members::Cons(..) = list {
-                f.write_str(", ")?;
-            }
-        }
-        f.write_str("]")
-    }
-}
-
 impl ExprList {
     ghost use Rattle.std.specs.Prelude.{◌≡◌, IfOk};
     ghost use Rattle.surface_syntax.specs.Views.{expr_of, exprs_of};
@@ -255,7 +205,7 @@ impl ExprList {
 }
 
 /// A program: its one expression, and how many forms its source has at top level.
-#[derive(Drop, Debug)]
+#[derive(Drop)]
 pub struct Program {
     pub body: Expr,
     pub forms: u32,

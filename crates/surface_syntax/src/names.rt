@@ -3,7 +3,7 @@
 use grift_base::lists::Name;
 
 /// A name.
-#[derive(PartialEq, Eq, Hash, Drop, Debug)]
+#[derive(PartialEq, Eq, Hash, Drop)]
 pub enum Ident {
     /// A name of the source, by its bytes.
     Source(Name),

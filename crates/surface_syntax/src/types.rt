@@ -6,12 +6,11 @@ use crate::names::Ident;
 use grift_base::lists::{Items, OutOfMemory};
 use grift_base::places::Pos;
 use std::alloc::Global;
-use std::fmt::{self, Debug, Formatter, Write};
 use type_graph::rows::{Row, TypeIds};
 
 /// A type and its place: that of its word, or of its opening bracket.
 #[cycle(written_type)]
-#[derive(Drop, Debug)]
+#[derive(Drop)]
 pub struct TypeExpr {
     pub pos: Pos,
     pub node: TypeNode,
@@ -19,7 +18,6 @@ pub struct TypeExpr {
 
 /// What a written type is.
 #[cycle(written_type)]
-#[derive(Debug)]
 pub enum TypeNode {
     /// A type without parts.
     Base(Row),
@@ -68,22 +66,6 @@ impl Drop for TypeExprs {
                 TypeExprs::Cons(_, rest) => self = Box::into_inner(rest),
             }
         }
-    }
-}
-
-impl Debug for TypeExprs {
-    #[cycle(written_type)]
-    fn fmt<W: Write>(&self, f: &mut Formatter<W>) -> fmt::Result {
-        let mut list = self;
-        f.write_str("[")?;
-        while let TypeExprs::Cons(first, rest) = list {
-            first.fmt(f)?;
-            list = rest;
-            if let TypeExprs::Cons(..) = list {
-                f.write_str(", ")?;
-            }
-        }
-        f.write_str("]")
     }
 }
 
@@ -172,7 +154,7 @@ impl TypeExprs {
 }
 
 /// A parameter: its place, its name, and its type where one is written.
-#[derive(Drop, Debug)]
+#[derive(Drop)]
 pub struct Param {
     pub pos: Pos,
     pub name: Ident,
