@@ -19,5 +19,4 @@ mod Holding
 mod Addresses
 mod Assembled
 mod Programs
-mod Samples
 pub mod Public

@@ -19,9 +19,6 @@ use rv_isa::real::{RealCode, RealItem};
 use rv_machine::FIRST_ADDRESS;
 use std::alloc::Global;
 
-#[cfg(test)]
-mod tests;
-
 // How many items there may be, and how many words of statics: the bytes of more find no place in any memory.
 const MOST: usize = 1 << 40;
 

@@ -14,9 +14,6 @@ use grift_base::places::Pos;
 use std::alloc::Global;
 use std::marker::Model;
 
-#[cfg(test)]
-mod tests;
-
 // How many bytes the header has.
 const HEADER_LEN: usize = 64;
 

@@ -24,9 +24,6 @@ use flat_ir::programs::FlatProgram;
 use grift_base::lists::OutOfMemory;
 use std::alloc::Global;
 
-#[cfg(test)]
-mod tests;
-
 /// The procedures of a program, of which the last is the one to begin with, and the type of its answer. Where no name
 /// is free in the program's term, they are those that the definition gives, and their run follows the run of the term
 /// with environments, for all casts and every input, in both modes, where that never goes wrong: both have made as

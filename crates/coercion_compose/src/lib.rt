@@ -3,5 +3,3 @@
 
 pub mod compositions;
 pub mod heads;
-#[cfg(test)]
-mod tests;

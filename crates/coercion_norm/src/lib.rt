@@ -8,6 +8,4 @@ pub mod middles;
 pub mod nodes;
 pub mod placing;
 pub mod tables;
-#[cfg(test)]
-mod tests;
 pub mod texts;

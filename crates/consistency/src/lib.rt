@@ -5,5 +5,3 @@ pub mod blends;
 pub mod checks;
 pub mod laws;
 mod pairs;
-#[cfg(test)]
-mod tests;

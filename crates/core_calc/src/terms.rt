@@ -12,9 +12,6 @@ use grift_base::places::{LabelId, TypeId};
 use std::alloc::Global;
 use std::mem;
 
-#[cfg(test)]
-mod tests;
-
 /// The number of a name, which its binder has alone.
 #[derive(Clone, Copy, PartialEq, Eq, Hash, Debug)]
 pub struct VarId(pub u32);

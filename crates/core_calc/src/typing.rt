@@ -23,9 +23,6 @@ use std::alloc::Global;
 use type_graph::rows::Row;
 use type_graph::tables::TypeTable;
 
-#[cfg(test)]
-mod tests;
-
 /// The type of a term without free names. None exactly where the term is no program term over this table, whatever
 /// the number of labels; where there is a type, the term is one over each number of labels that is greater than all
 /// of its own.

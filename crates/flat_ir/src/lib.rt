@@ -8,5 +8,3 @@
 mod closing;
 pub mod code;
 pub mod programs;
-#[cfg(test)]
-mod tests;

@@ -154,33 +154,3 @@ impl<T: Hash> Hash for Items<T> {
         self.items.hash(state);
     }
 }
-
-#[cfg(test)]
-mod tests {
-    use super::*;
-    use indexmap::IndexSet;
-    use std::test::Fail;
-
-    #[test]
-    fn lists_grow_at_the_end(rt: HostRuntime) -> Result<(), Fail> {
-        let mut calls = CallList::new(rt.alloc());
-        assert!(rt; calls.is_empty());
-        calls.push(7)?;
-        calls.extend(&[9, 7])?;
-        assert_eq!(rt; calls.len(), 3);
-        assert_eq!(rt; calls.get(1), Some(&9));
-        assert_eq!(rt; calls.get(3), None);
-        assert_eq!(rt; calls.as_slice(), [7, 9, 7].as_slice());
-        Ok(())
-    }
-
-    #[test]
-    fn names_compare_and_hash(rt: HostRuntime) -> Result<(), Fail> {
-        let mut names = IndexSet::new(rt.alloc());
-        names.insert(Name::from_slice(rt.alloc(), b"even")?)?;
-        names.insert(Name::from_slice(rt.alloc(), b"odd")?)?;
-        names.insert(Name::from_slice(rt.alloc(), b"even")?)?;
-        assert_eq!(rt; names.len(), 2);
-        Ok(())
-    }
-}

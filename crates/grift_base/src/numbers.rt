@@ -38,25 +38,3 @@ pub fn integer(text: &[u8]) -> Option<i64>
 {
     str::from_utf8(text).ok()?.parse().ok()
 }
-
-#[cfg(test)]
-mod tests {
-    use super::*;
-
-    #[test]
-    fn integers_have_values(rt: HostRuntime) {
-        for (text, value) in [
-            ("0", Some(0)),
-            ("+012", Some(12)),
-            ("-9223372036854775808", Some(i64::MIN)),
-            ("9223372036854775808", None),
-        ] {
-            let bytes = text.as_bytes();
-            assert!(rt; is_integer(bytes), "{text}");
-            assert_eq!(rt; integer(bytes), value, "{text}");
-        }
-        for text in ["", "-", "+ 1", "1.", "--1", "0x1"] {
-            assert!(rt; !is_integer(text.as_bytes()), "{text}");
-        }
-    }
-}

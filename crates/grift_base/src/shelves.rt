@@ -8,9 +8,6 @@ use crate::lists::{Bytes, CallList, Name, NamedFiles, Names, OutOfMemory};
 use std::alloc::Global;
 use std::marker::Model;
 
-#[cfg(test)]
-mod tests;
-
 /// Why a file wasn't loaded.
 #[derive(Clone, Copy, PartialEq, Eq, Debug)]
 pub enum LoadFault {

@@ -7,9 +7,6 @@ use crate::lists::{Bytes, CallList, OutOfMemory};
 use std::alloc::Global;
 use std::marker::Model;
 
-#[cfg(test)]
-mod tests;
-
 /// Why bytes weren't taken.
 #[derive(Clone, Copy, PartialEq, Eq, Debug)]
 pub enum SinkFault {

@@ -51,19 +51,3 @@ impl Statics {
         }
     }
 }
-
-#[cfg(test)]
-mod tests {
-    use super::*;
-    use std::test::Fail;
-
-    #[test]
-    fn statics_begin_empty(rt: HostRuntime) -> Result<(), Fail> {
-        let statics = Statics::new(rt.alloc());
-        assert!(rt; statics.words.is_empty());
-        assert!(rt; statics.type_at.is_empty());
-        assert!(rt; statics.coercion_at.is_empty());
-        assert!(rt; statics.cast_at.is_empty());
-        Ok(())
-    }
-}

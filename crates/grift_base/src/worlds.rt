@@ -17,9 +17,6 @@ use itoa::Buffer;
 use std::alloc::Global;
 use std::marker::Model;
 
-#[cfg(test)]
-mod tests;
-
 /// What a program sees of the outside: the bytes that it printed, and its input, of which the bytes below
 /// `place` are read.
 #[derive(Drop)]

@@ -6,9 +6,6 @@ ghost use Rattle.grift_cli.specs.Commands.{Command as WordsCommand, IsNumber, Is
 ghost use Rattle.grift_cli.specs.ReadCommands.{NumberAtFront, LimitsAtFront, IsWithin, TellsNoMore};
 ghost use Rattle.grift_cli.specs.ReadCommands.{GivesImage, GivesNoImage, command_of, name_bytes};
 
-#[cfg(test)]
-mod tests;
-
 // The limits of a run: the greatest that may be told, and what they are where none is told.
 const MOST_REGION: u64 = 1_073_741_824;
 

@@ -22,9 +22,6 @@ use grift_base::sinks::Sink;
 use grift_base::sizes::{IMAGE_LIMIT, SOURCE_LIMIT};
 use std::alloc::Global;
 
-#[cfg(test)]
-mod tests;
-
 /// Does all that the program does, and answers its status.
 pub fn grift<S: Shelf, O: Sink, E: Sink, I: Sink>(
     alloc: Global,

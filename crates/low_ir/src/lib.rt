@@ -10,5 +10,3 @@ mod closing;
 pub mod code;
 pub mod laws;
 pub mod programs;
-#[cfg(test)]
-mod tests;

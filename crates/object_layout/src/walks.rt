@@ -105,6 +105,3 @@ pub fn walk<W: Words>(memory: &W, from: u64, to: u64) -> Result<SpaceReport, Wal
     }
     Ok(report)
 }
-
-#[cfg(test)]
-mod tests;

@@ -9,5 +9,3 @@ pub mod laws;
 mod numbers;
 mod parts;
 pub mod procs;
-#[cfg(test)]
-mod tests;

@@ -5,5 +5,3 @@
 mod codes;
 pub mod laws;
 pub mod procs;
-#[cfg(test)]
-mod tests;

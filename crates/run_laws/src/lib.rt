@@ -15,9 +15,6 @@ ghost use Rattle.run_laws.specs.Reductions.{Reduction, state_after, reduction_ru
 ghost use Rattle.run_laws.specs.Meters.{Metered, unspent, metered, metered_reduction, SameButMeter, each_one, Spends};
 ghost use Rattle.run_laws.specs.Meters.{EndsInTime, ComesInTime};
 
-#[cfg(test)]
-mod tests;
-
 /// Each run that never goes wrong follows itself, and shows the same.
 pub fn each_run_follows_itself<A, V>()
     ensures { (x : Run A V) → NeverWrong x → FollowsBy Same Same x x }

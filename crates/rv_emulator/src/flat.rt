@@ -10,9 +10,6 @@ use assembler::bytes::read_number;
 use grift_base::lists::OutOfMemory;
 use std::alloc::{AllocError, Global};
 
-#[cfg(test)]
-mod tests;
-
 /// A memory of bytes in one vector. Its stores need no memory of the process.
 #[derive(Drop)]
 pub struct FlatRam {

@@ -22,11 +22,6 @@ use rv_machine::FIRST_ADDRESS;
 use std::alloc::Global;
 use std::marker::Model;
 
-#[cfg(test)]
-mod assembled;
-#[cfg(test)]
-mod tests;
-
 /// A machine with an image loaded, over any memory.
 #[derive(Drop)]
 pub struct Machine<R: Ram> {

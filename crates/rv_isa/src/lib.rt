@@ -7,5 +7,3 @@ pub mod fields;
 pub mod inst;
 pub mod number;
 pub mod real;
-#[cfg(test)]
-mod tests;

@@ -9,5 +9,3 @@ mod parts;
 pub mod selection;
 mod slot_parts;
 pub mod slots;
-#[cfg(test)]
-mod tests;

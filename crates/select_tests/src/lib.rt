@@ -7,7 +7,13 @@ mod arithmetic;
 #[cfg(test)]
 mod calls;
 #[cfg(test)]
+mod closed;
+#[cfg(test)]
+mod division;
+#[cfg(test)]
 mod machines;
+#[cfg(test)]
+mod selections;
 #[cfg(test)]
 mod sizes;
 #[cfg(test)]

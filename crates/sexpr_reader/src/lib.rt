@@ -22,9 +22,6 @@ use crate::sexps::SexpList;
 use grift_base::refusals::FrontFault;
 use std::alloc::Global;
 
-#[cfg(test)]
-mod tests;
-
 /// The s-expressions of a source, or the refusal of its first token that is refused. Where no token is, a source with
 /// an open bracket at its end is refused at the innermost of these, and one without any token at its first byte.
 pub fn read(alloc: Global, text: &[u8]) -> Result<SexpList, FrontFault>

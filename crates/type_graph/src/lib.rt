@@ -4,6 +4,4 @@
 pub mod laws;
 pub mod rows;
 pub mod tables;
-#[cfg(test)]
-mod tests;
 pub mod texts;

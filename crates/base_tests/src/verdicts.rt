@@ -1,0 +1,74 @@
+// Verdicts and the lines that tell them.
+
+use grift_base::places::Pos;
+use grift_base::verdicts::{Answer, AnswerKind, Trap, Verdict, verdict_line};
+use std::test::Fail;
+
+#[test]
+fn traps_have_numbers_and_texts(rt: HostRuntime) {
+    let table = [
+        (Trap::ZeroDivisor, 1, "zero-divisor"),
+        (Trap::Index, 2, "index"),
+        (Trap::Length, 3, "length"),
+        (Trap::Input, 4, "input"),
+    ];
+    for (trap, number, text) in table {
+        assert_eq!(rt; trap.number(), number);
+        assert_eq!(rt; trap.text(), text);
+    }
+}
+
+#[test]
+fn answer_kinds_have_numbers(rt: HostRuntime) {
+    let kinds = [
+        AnswerKind::Int,
+        AnswerKind::Bool,
+        AnswerKind::Unit,
+        AnswerKind::Function,
+        AnswerKind::Tuple,
+        AnswerKind::Boxed,
+        AnswerKind::Vector,
+    ];
+    for (number, kind) in kinds.iter().enumerate() {
+        assert_eq!(rt; usize::from(kind.number()), number);
+    }
+}
+
+#[test]
+fn answers_have_lines(rt: HostRuntime) -> Result<(), Fail> {
+    let table = [
+        (AnswerKind::Int, 42, "answer 42\n"),
+        (AnswerKind::Int, i64::MIN, "answer -9223372036854775808\n"),
+        (AnswerKind::Bool, 0, "answer #f\n"),
+        (AnswerKind::Bool, 1, "answer #t\n"),
+        (AnswerKind::Unit, 0, "answer ()\n"),
+        (AnswerKind::Function, 0, "answer #<function>\n"),
+        (AnswerKind::Tuple, 0, "answer #<tuple>\n"),
+        (AnswerKind::Boxed, 0, "answer #<box>\n"),
+        (AnswerKind::Vector, 0, "answer #<vector>\n"),
+    ];
+    for (kind, word, text) in table {
+        let line = verdict_line(rt.alloc(), &Verdict::Answer(Answer { kind, word }))?;
+        assert_eq!(rt; line.as_slice(), text.as_bytes());
+    }
+    Ok(())
+}
+
+#[test]
+fn other_verdicts_have_lines(rt: HostRuntime) -> Result<(), Fail> {
+    let table = [
+        (Verdict::Blame(Pos { line: 3, col: 14 }), "blame 3:14\n"),
+        (Verdict::Trap(Trap::ZeroDivisor), "trap zero-divisor\n"),
+        (Verdict::Trap(Trap::Index), "trap index\n"),
+        (Verdict::Trap(Trap::Length), "trap length\n"),
+        (Verdict::Trap(Trap::Input), "trap input\n"),
+        (Verdict::RegionOut, "exhausted region\n"),
+        (Verdict::StackOut, "exhausted stack\n"),
+        (Verdict::StepsSpent, "spent steps\n"),
+    ];
+    for (verdict, text) in table {
+        let line = verdict_line(rt.alloc(), &verdict)?;
+        assert_eq!(rt; line.as_slice(), text.as_bytes());
+    }
+    Ok(())
+}

@@ -1,0 +1,130 @@
+// What a program does to the outside, and what it learns of it.
+
+use grift_base::lists::Bytes;
+use grift_base::verdicts::{Answer, AnswerKind, Trap};
+use grift_base::worlds::{EnvEffect, World};
+use std::alloc::Global;
+use std::test::Fail;
+
+fn quiet_world(alloc: Global) -> World {
+    World::new(alloc, Bytes::new(alloc))
+}
+
+#[test]
+fn prints(rt: HostRuntime) -> Result<(), Fail> {
+    let mut world = quiet_world(rt.alloc());
+    world.print_int(-7)?;
+    world.print_byte(b'\n')?;
+    assert_eq!(rt; world.output.as_slice(), b"-7\n".as_slice());
+    assert_eq!(rt; world.place, 0);
+    Ok(())
+}
+
+// Of the words 0, 1 and 2 each kind takes the first so many.
+#[test]
+fn ends_with_each_kind(rt: HostRuntime) {
+    let mut world = quiet_world(rt.alloc());
+    for (number, kind, taken) in [
+        (0, AnswerKind::Int, 3),
+        (1, AnswerKind::Bool, 2),
+        (2, AnswerKind::Unit, 1),
+        (3, AnswerKind::Function, 1),
+        (4, AnswerKind::Tuple, 1),
+        (5, AnswerKind::Boxed, 1),
+        (6, AnswerKind::Vector, 1),
+        (7, AnswerKind::Vector, 0),
+    ] {
+        for (word, signed) in [(0, 0), (1, 1), (2, 2)] {
+            let wanted = if word < taken {
+                EnvEffect::Ended(Answer { kind, word: signed })
+            } else {
+                EnvEffect::Refused
+            };
+            assert_eq!(rt;
+                world.env(0, number, word, 0),
+                wanted,
+                "kind {number}, word {word}"
+            );
+        }
+    }
+    assert!(rt; world.output.is_empty());
+}
+
+// In a program with two labels.
+#[test]
+fn makes_each_other_call(rt: HostRuntime) {
+    for (number, a0, effect, text) in [
+        (1, 0, EnvEffect::Next(0, 9), "0"),
+        (
+            1,
+            0x7FFF_FFFF_FFFF_FFFF,
+            EnvEffect::Next(0x7FFF_FFFF_FFFF_FFFF, 9),
+            "9223372036854775807",
+        ),
+        (
+            1,
+            0x8000_0000_0000_0000,
+            EnvEffect::Next(0x8000_0000_0000_0000, 9),
+            "-9223372036854775808",
+        ),
+        (2, 256 + 65, EnvEffect::Next(256 + 65, 9), "A"),
+        (3, 1, EnvEffect::Blamed(1), ""),
+        (3, 2, EnvEffect::Refused, ""),
+        (4, 0, EnvEffect::Refused, ""),
+        (4, 1, EnvEffect::Trapped(Trap::ZeroDivisor), ""),
+        (4, 2, EnvEffect::Trapped(Trap::Index), ""),
+        (4, 3, EnvEffect::Trapped(Trap::Length), ""),
+        (4, 4, EnvEffect::Trapped(Trap::Input), ""),
+        (4, 5, EnvEffect::Refused, ""),
+        (5, 1, EnvEffect::RegionOut, ""),
+        (6, 1, EnvEffect::StackOut, ""),
+        (7, 0, EnvEffect::Refused, ""),
+        (0xFFFF_FFFF_FFFF_FFFF, 0, EnvEffect::Refused, ""),
+    ] {
+        let mut world = quiet_world(rt.alloc());
+        assert_eq!(rt;
+            world.env(number, a0, 9, 2),
+            effect,
+            "call {number} of {a0}"
+        );
+        assert_eq!(rt;
+            world.output.as_slice(),
+            text.as_bytes(),
+            "call {number} of {a0}"
+        );
+    }
+}
+
+// Each number that is read, and the place behind it; the last answer of each input is none.
+#[test]
+fn reads_numbers(rt: HostRuntime) -> Result<(), Fail> {
+    for (input, answers) in [
+        ("+3\n4", [(Some(3), 2), (Some(4), 4), (None, 4)]),
+        (
+            " \t\r\n-17 008\n",
+            [(Some(-17), 7), (Some(8), 11), (None, 12)],
+        ),
+        (
+            "9223372036854775807 -9223372036854775808",
+            [
+                (Some(9223372036854775807), 19),
+                (Some(-9223372036854775808), 40),
+                (None, 40),
+            ],
+        ),
+        (
+            "1 9223372036854775808",
+            [(Some(1), 1), (None, 2), (None, 2)],
+        ),
+        ("2 - 3", [(Some(2), 1), (None, 2), (None, 2)]),
+        ("5 6x 7", [(Some(5), 1), (None, 2), (None, 2)]),
+        (" \x0c8", [(None, 1), (None, 1), (None, 1)]),
+    ] {
+        let mut world = World::new(rt.alloc(), Bytes::from_slice(rt.alloc(), input.as_bytes())?);
+        for (answer, place) in answers {
+            assert_eq!(rt; world.read_int(), answer, "in {input}");
+            assert_eq!(rt; world.place, place, "in {input}");
+        }
+    }
+    Ok(())
+}

@@ -1,0 +1,130 @@
+// Which words are which command.
+
+use grift_cli::commands::{Command, image_name, read_words};
+use std::alloc::{AllocError, Global};
+
+// A run of the file `a` without a name for its image.
+const fn a_run(region: u64, stack: u64, steps: u64) -> Option<Command<'static>> {
+    named_run("a", region, stack, steps, None)
+}
+
+// A run of a file.
+const fn named_run(
+    file: &'static str,
+    region: u64,
+    stack: u64,
+    steps: u64,
+    image: Option<&'static str>,
+) -> Option<Command<'static>> {
+    Some(Command::Run {
+        file,
+        region,
+        stack,
+        steps,
+        input: None,
+        space: false,
+        image,
+    })
+}
+
+// An image in the file `a` that is run.
+const fn an_exec(region: u64, stack: u64, steps: u64) -> Option<Command<'static>> {
+    Some(Command::Exec {
+        file: "a",
+        region,
+        stack,
+        steps,
+        input: None,
+    })
+}
+
+// Words with these texts.
+fn words_of(alloc: Global, texts: &[&str]) -> Result<Vec<String>, AllocError> {
+    let mut words = Vec::new(alloc);
+    for text in texts {
+        words.push(String::from_str(alloc, text)?)?;
+    }
+    Ok(words)
+}
+
+#[test]
+fn words_and_commands(rt: HostRuntime) -> Result<(), AllocError> {
+    let rows: [(&[&str], Option<Command>); 39] = [
+        (&["run", "a"], a_run(16777216, 1048576, 100000000)),
+        (&["exec", "a"], an_exec(16777216, 1048576, 100000000)),
+        (
+            &["run", "--region"],
+            named_run("--region", 16777216, 1048576, 100000000, None),
+        ),
+        (
+            &["run", "a", "--region", "8", "--stack", "16", "--steps", "0"],
+            a_run(8, 16, 0),
+        ),
+        (
+            &["exec", "a", "--stack", "0"],
+            an_exec(16777216, 0, 100000000),
+        ),
+        (
+            &["run", "a", "--region", "1073741824"],
+            a_run(1073741824, 1048576, 100000000),
+        ),
+        (&["run", "a", "--region", "1073741832"], None),
+        (
+            &["run", "a", "--stack", "268435456"],
+            a_run(16777216, 268435456, 100000000),
+        ),
+        (&["run", "a", "--stack", "268435464"], None),
+        (
+            &["exec", "a", "--steps", "9223372036854775807"],
+            an_exec(16777216, 1048576, 9223372036854775807),
+        ),
+        (&["exec", "a", "--steps", "9223372036854775808"], None),
+        (&["run", "a", "--steps", "9999999999999999999"], None),
+        (
+            &["run", "a", "--steps", "0000000000000000005"],
+            a_run(16777216, 1048576, 5),
+        ),
+        (&["run", "a", "--steps", "00000000000000000005"], None),
+        (&["run", "a", "--steps", "+5"], None),
+        (&["run", "a", "--steps", ""], None),
+        (&["run", "a", "--steps"], None),
+        (&["run", "a", "--steps", "5", "--region", "8"], None),
+        (&["run", "a", "--region", "8", "--region", "8"], None),
+        (&["run", "a", "--region", "12"], None),
+        (&["run", "a", "--stack", "12"], None),
+        (
+            &["run", "a", "--image", "b"],
+            named_run("a", 16777216, 1048576, 100000000, Some("b")),
+        ),
+        (
+            &["run", "a", "--steps", "7", "--image", "--image"],
+            named_run("a", 16777216, 1048576, 7, Some("--image")),
+        ),
+        (&["run", "a", "--image", "b", "--steps", "7"], None),
+        (&["run", "a", "--image"], None),
+        (&["run", "a", "--image", ""], None),
+        (&["exec", "a", "--image", "b"], None),
+        (&["run", "--region", "8"], None),
+        (&["run", "a", "--input", "b"], None),
+        (&["run", "a", "--space"], None),
+        (&["run", ""], None),
+        (&["exec", ""], None),
+        (&["check", "a"], Some(Command::Check { file: "a" })),
+        (&["check", ""], None),
+        (&["check", "a", "--steps", "5"], None),
+        (&["check"], None),
+        (&["casts", "a"], None),
+        (&["run"], None),
+        (&[], None),
+    ];
+    for (texts, command) in rows {
+        let words = words_of(rt.alloc(), texts)?;
+        let image = match command {
+            Some(Command::Run { image, .. }) => image,
+            _ => None,
+        };
+        assert!(rt; read_words(words.as_slice()) == command, "{texts:?}");
+        assert!(rt; image_name(words.as_slice()) == image, "{texts:?}");
+    }
+    Ok(())
+}

@@ -1,0 +1,14 @@
+//! Tests of the terms between the front end and code: typed terms, terms with coercions, and closed procedures. They
+//! stand in a crate of their own, since the tests of a crate are proved with all of that crate once more.
+#![tactic(auto)]
+
+#[cfg(test)]
+mod closures;
+#[cfg(test)]
+mod coercions;
+#[cfg(test)]
+mod procedures;
+#[cfg(test)]
+mod terms;
+#[cfg(test)]
+mod typing;

@@ -1,0 +1,16 @@
+//! Tests of the machine: its instructions as words, codes as images, and images on the emulator. They stand in a crate
+//! of their own, since the tests of a crate are proved with all of that crate once more.
+#![tactic(auto)]
+
+#[cfg(test)]
+mod assembled;
+#[cfg(test)]
+mod code;
+#[cfg(test)]
+mod images;
+#[cfg(test)]
+mod instructions;
+#[cfg(test)]
+mod machines;
+#[cfg(test)]
+mod memories;

@@ -1,0 +1,84 @@
+ghost use Rattle.std.specs.Prelude.{◌≡◌, ◌+◌, ◌%◌, ◌≤◌, IfOk};
+ghost use Rattle.std.specs.Int.{byte_len};
+ghost use Rattle.rv_emulator.specs.Widths.{width_of};
+
+use grift_base::lists::OutOfMemory;
+use rv_emulator::flat::FlatRam;
+use rv_emulator::ram::{Ram, Width};
+use std::alloc::Global;
+use std::test::Fail;
+
+const WORD: u64 = 0x0123_4567_89AB_CDEF;
+
+// Stores a word, and loads what then stands there.
+fn stored<R: Ram>(ram: &mut R, at: u64, width: Width, word: u64) -> Result<u64, OutOfMemory>
+    requires aligned { at % byte_len (width_of width) ≡ 0 }
+    requires inside { at + byte_len (width_of width) ≤ R.bytes_len ram.old }
+    ensures { R.bytes_len ram.new ≡ R.bytes_len ram.old }
+{
+    ram.store(at, width, word)?;
+    Ok(ram.load(at, width))
+}
+
+// A memory of the 16 bytes 0 to 15.
+fn counted(alloc: Global) -> Result<FlatRam, OutOfMemory>
+    ensures { IfOk result (λ ram. ⟦<FlatRam as Ram>⟧.bytes_len ram ≡ 16) }
+{
+    let mut ram = FlatRam::new(alloc, 16)?;
+    ram.store(0, Width::B8, 0x0706_0504_0302_0100)?;
+    ram.store(8, Width::B8, 0x0F0E_0D0C_0B0A_0908)?;
+    Ok(ram)
+}
+
+// What is loaded after a store at the first place and at the last, and both halves of the memory then.
+fn at_both_ends(alloc: Global, width: Width, last: u64) -> Result<[u64; 4], OutOfMemory>
+    requires aligned { last % byte_len (width_of width) ≡ 0 }
+    requires inside { last + byte_len (width_of width) ≤ 16 }
+{
+    let mut ram = counted(alloc)?;
+    let first_loaded = stored(&mut ram, 0, width, WORD)?;
+    let last_loaded = stored(&mut ram, last, width, WORD)?;
+    let low = ram.load(0, Width::B8);
+    let high = ram.load(8, Width::B8);
+    Ok([first_loaded, last_loaded, low, high])
+}
+
+#[test]
+fn begins_with_zeros(rt: HostRuntime) -> Result<(), Fail> {
+    let ram = FlatRam::new(rt.alloc(), 16)?;
+    assert_eq!(rt; ram.size(), 16);
+    assert_eq!(rt; ram.load(0, Width::B8), 0);
+    assert_eq!(rt; ram.load(8, Width::B8), 0);
+    Ok(())
+}
+
+#[test]
+fn keeps_each_width(rt: HostRuntime) -> Result<(), Fail> {
+    for (width, last, wanted) in [
+        (
+            Width::B1,
+            15,
+            [0xEF, 0xEF, 0x0706_0504_0302_01EF, 0xEF0E_0D0C_0B0A_0908],
+        ),
+        (
+            Width::B2,
+            14,
+            [0xCDEF, 0xCDEF, 0x0706_0504_0302_CDEF, 0xCDEF_0D0C_0B0A_0908],
+        ),
+        (
+            Width::B4,
+            12,
+            [
+                0x89AB_CDEF,
+                0x89AB_CDEF,
+                0x0706_0504_89AB_CDEF,
+                0x89AB_CDEF_0B0A_0908,
+            ],
+        ),
+        (Width::B8, 8, [WORD, WORD, WORD, WORD]),
+    ] {
+        assert!(rt; last == 16 - width.bytes());
+        assert_eq!(rt; at_both_ends(rt.alloc(), width, last)?, wanted, "{width:?}");
+    }
+    Ok(())
+}
