@@ -85,41 +85,112 @@ fn group_one(
     Ok(CoerTerm::Group(members, Box::new(alloc, body)?))
 }
 
-// The terms of the table, by their numbers.
-fn sample(alloc: Global, number: u32) -> Result<CoerTerm, OutOfMemory> {
+#[derive(Clone, Copy, Debug)]
+enum Sample {
+    // (+ 10 1)
+    Sum,
+    // (let ([x 10]) (+ x x))
+    Let,
+    // ((lambda (x) x) 10)
+    Call,
+    // (lambda (x) (lambda (y) (+ x y)))
+    Nested,
+    // (letrec ([f (lambda (x) (f x))]) (f 10))
+    Group,
+    // (let ([z #t]) (letrec ([f (lambda (x) (+ z x))]) (f 10)))
+    GroupUnderLet,
+    // A hundred functions, each the body of the one before; the innermost uses a name from outside.
+    FunctionsInside,
+    // 10,000 functions, one after another.
+    Functions,
+    // A thousand functions, each bound in the body of the binding before.
+    Bindings,
+    // 80,000 calls of one function, one after another.
+    Calls,
+}
+
+fn term(alloc: Global, sample: Sample) -> Result<CoerTerm, OutOfMemory> {
     let ten = CoerTerm::Int(10);
-    match number {
-        0 => sum(alloc, ten, CoerTerm::Int(1)),
-        1 => let_one(alloc, 0, ten, sum(alloc, var(0), var(0))?),
-        2 => call(alloc, lambda(alloc, 0, var(0))?, ten),
-        3 => {
+    match sample {
+        Sample::Sum => sum(alloc, ten, CoerTerm::Int(1)),
+        Sample::Let => let_one(alloc, 0, ten, sum(alloc, var(0), var(0))?),
+        Sample::Call => call(alloc, lambda(alloc, 0, var(0))?, ten),
+        Sample::Nested => {
             let inner = lambda(alloc, 2, sum(alloc, var(1), var(2))?)?;
             lambda(alloc, 1, inner)
         }
-        4 => group_one(
-            alloc,
-            0,
-            1,
-            call(alloc, var(0), var(1))?,
-            call(alloc, var(0), ten)?,
-        ),
-        _ => {
+        Sample::Group => {
+            let inner = call(alloc, var(0), var(1))?;
+            group_one(alloc, 0, 1, inner, call(alloc, var(0), ten)?)
+        }
+        Sample::GroupUnderLet => {
             let inner = sum(alloc, var(9), var(1))?;
             let group = group_one(alloc, 0, 1, inner, call(alloc, var(0), ten)?)?;
             let_one(alloc, 9, CoerTerm::Bool(true), group)
         }
+        Sample::FunctionsInside => functions_inside(alloc),
+        Sample::Functions => functions(alloc),
+        Sample::Bindings => bindings(alloc),
+        Sample::Calls => calls(alloc),
     }
 }
 
-// Each program is closed, and has as many procedures as are wanted.
+fn functions_inside(alloc: Global) -> Result<CoerTerm, OutOfMemory> {
+    let mut body = var(0);
+    for name in 1..101 {
+        body = lambda(alloc, name, body)?;
+    }
+    let_one(alloc, 0, CoerTerm::Unit, body)
+}
+
+fn functions(alloc: Global) -> Result<CoerTerm, OutOfMemory> {
+    let mut terms = CoerList::new();
+    for _ in 0..10_000 {
+        terms.push_front(alloc, lambda(alloc, 0, var(0))?)?;
+    }
+    Ok(CoerTerm::Seq(terms))
+}
+
+fn bindings(alloc: Global) -> Result<CoerTerm, OutOfMemory> {
+    let mut body = CoerTerm::Unit;
+    for name in 0..1_000 {
+        let function = lambda(alloc, 1_000, var(1_000))?;
+        body = let_one(alloc, name, function, body)?;
+    }
+    Ok(body)
+}
+
+fn calls(alloc: Global) -> Result<CoerTerm, OutOfMemory> {
+    let mut terms = CoerList::new();
+    for _ in 0..80_000 {
+        terms.push_front(alloc, call(alloc, var(0), CoerTerm::Unit)?)?;
+    }
+    let function = lambda(alloc, 1, var(1))?;
+    let_one(alloc, 0, function, CoerTerm::Seq(terms))
+}
+
+// Each program is closed, has as many procedures as are wanted, and begins with the last.
 #[test]
-fn small_programs_have_their_procedures(rt: HostRuntime) -> Result<(), Fail> {
+fn programs_have_their_procedures(rt: HostRuntime) -> Result<(), Fail> {
     let alloc = rt.alloc();
-    for (number, wanted) in [(0, 1), (1, 1), (2, 2), (3, 3), (4, 2), (5, 2)] {
-        let flat = of_term(alloc, sample(alloc, number)?)?;
-        assert_eq!(rt; flat.procs.len(), wanted);
-        assert_eq!(rt; flat.entry as u64 + 1, wanted);
-        assert!(rt; flat.is_closed());
+    for (sample, wanted) in [
+        (Sample::Sum, 1),
+        (Sample::Let, 1),
+        (Sample::Call, 2),
+        (Sample::Nested, 3),
+        (Sample::Group, 2),
+        (Sample::GroupUnderLet, 2),
+        (Sample::FunctionsInside, 101),
+        (Sample::Functions, 10_001),
+        (Sample::Bindings, 1_001),
+        (Sample::Calls, 2),
+    ] {
+        let flat = of_term(alloc, term(alloc, sample)?)?;
+        assert_eq!(rt;
+            (flat.procs.len(), flat.entry as u64 + 1, flat.is_closed()),
+            (wanted, wanted, true),
+            "{sample:?}"
+        );
     }
     Ok(())
 }
@@ -135,70 +206,20 @@ fn captured_by(flat: &FlatProgram, number: u64) -> Option<u32> {
 // The inner function of (lambda (x) (lambda (y) (+ x y))) comes first, and captures x.
 #[test]
 fn an_inner_function_captures(rt: HostRuntime) -> Result<(), Fail> {
-    let flat = of_term(rt.alloc(), sample(rt.alloc(), 3)?)?;
-    assert_eq!(rt; captured_by(&flat, 0), Some(1));
-    assert_eq!(rt; captured_by(&flat, 1), Some(0));
+    let flat = of_term(rt.alloc(), term(rt.alloc(), Sample::Nested)?)?;
+    assert_eq!(rt;
+        [captured_by(&flat, 0), captured_by(&flat, 1)],
+        [Some(1), Some(0)]
+    );
     let Some(outer) = flat.procs.get(1) else {
         return Err(Fail::from("no second procedure"));
     };
     let FlatBody::LetGroup(slot, first, count, operands, _) = &outer.body else {
         return Err(Fail::from("no group"));
     };
-    assert_eq!(rt; (*slot, *first, *count), (1, 0, 1));
-    assert_eq!(rt; operands.as_slice(), [Operand::Local(0)].as_slice());
-    Ok(())
-}
-
-#[test]
-fn functions_inside_functions_hand_on_a_name(rt: HostRuntime) -> Result<(), Fail> {
-    let alloc = rt.alloc();
-    let mut body = var(0);
-    for name in 1..101 {
-        body = lambda(alloc, name, body)?;
-    }
-    let flat = of_term(alloc, let_one(alloc, 0, CoerTerm::Unit, body)?)?;
-    assert_eq!(rt; flat.procs.len(), 101);
-    assert!(rt; flat.is_closed());
-    Ok(())
-}
-
-#[test]
-fn functions_one_after_another(rt: HostRuntime) -> Result<(), Fail> {
-    let alloc = rt.alloc();
-    let mut terms = CoerList::new();
-    for _ in 0..10_000 {
-        terms.push_front(alloc, lambda(alloc, 0, var(0))?)?;
-    }
-    let flat = of_term(alloc, CoerTerm::Seq(terms))?;
-    assert_eq!(rt; flat.entry, 10_000);
-    assert!(rt; flat.is_closed());
-    Ok(())
-}
-
-#[test]
-fn bindings_inside_bindings(rt: HostRuntime) -> Result<(), Fail> {
-    let alloc = rt.alloc();
-    let mut body = CoerTerm::Unit;
-    for name in 0..1_000 {
-        let function = lambda(alloc, 1_000, var(1_000))?;
-        body = let_one(alloc, name, function, body)?;
-    }
-    let flat = of_term(alloc, body)?;
-    assert_eq!(rt; flat.entry, 1_000);
-    assert!(rt; flat.is_closed());
-    Ok(())
-}
-
-#[test]
-fn calls_one_after_another(rt: HostRuntime) -> Result<(), Fail> {
-    let alloc = rt.alloc();
-    let mut terms = CoerList::new();
-    for _ in 0..80_000 {
-        terms.push_front(alloc, call(alloc, var(0), CoerTerm::Unit)?)?;
-    }
-    let function = lambda(alloc, 1, var(1))?;
-    let flat = of_term(alloc, let_one(alloc, 0, function, CoerTerm::Seq(terms))?)?;
-    assert_eq!(rt; flat.entry, 1);
-    assert!(rt; flat.is_closed());
+    assert_eq!(rt;
+        ((*slot, *first, *count), operands.as_slice()),
+        ((1, 0, 1), [Operand::Local(0)].as_slice())
+    );
     Ok(())
 }

@@ -9,6 +9,8 @@ mod coercions;
 #[cfg(test)]
 mod procedures;
 #[cfg(test)]
+mod samples;
+#[cfg(test)]
 mod terms;
 #[cfg(test)]
 mod typing;

@@ -43,14 +43,17 @@ fn two_functions(alloc: Global, captured: Operand) -> Result<FlatProgram, OutOfM
 
 #[test]
 fn names_and_procedures_are_there(rt: HostRuntime) -> Result<(), Fail> {
-    let alloc = rt.alloc();
-    assert!(rt; two_functions(alloc, Operand::Int(3))?.is_closed());
-    assert!(rt; !two_functions(alloc, Operand::Local(0))?.is_closed());
-    let other_entry = FlatProgram {
-        entry: 3,
-        ..two_functions(alloc, Operand::Int(3))?
-    };
-    assert!(rt; !other_entry.is_closed());
+    for (captured, entry, closed) in [
+        (Operand::Int(3), 2, true),
+        (Operand::Local(0), 2, false),
+        (Operand::Int(3), 3, false),
+    ] {
+        let program = FlatProgram {
+            entry,
+            ..two_functions(rt.alloc(), captured)?
+        };
+        assert_eq!(rt; program.is_closed(), closed, "{captured:?} {entry}");
+    }
     Ok(())
 }
 

@@ -21,11 +21,14 @@ fn rising(alloc: Global, end: i64) -> Result<CoreList, OutOfMemory> {
 #[test]
 fn terms_are_built_from_the_front(rt: HostRuntime) -> Result<(), Fail> {
     let terms = rising(rt.alloc(), 3)?;
-    assert!(rt; !terms.is_empty());
-    assert_eq!(rt; terms.len(), 3);
-    assert!(rt; matches!(terms.get(0), Some(Core::Int(0))));
-    assert!(rt; matches!(terms.get(2), Some(Core::Int(2))));
-    assert!(rt; terms.get(3).is_none());
+    assert_eq!(rt; (terms.is_empty(), terms.len()), (false, 3));
+    for (place, wanted) in [(0, Some(0)), (2, Some(2)), (3, None)] {
+        let found = match terms.get(place) {
+            Some(Core::Int(number)) => Some(*number),
+            _ => None,
+        };
+        assert_eq!(rt; found, wanted, "{place}");
+    }
     Ok(())
 }
 
@@ -43,9 +46,11 @@ fn functions_of_a_group_are_built_from_the_front(rt: HostRuntime) -> Result<(), 
         members.push_front(rt.alloc(), member)?;
     }
     let members = members.reversed();
-    assert_eq!(rt; members.len(), 2);
-    assert!(rt; matches!(members.get(1), Some(member) if member.name == VarId(1)));
-    assert!(rt; members.get(2).is_none());
+    let last = matches!(members.get(1), Some(member) if member.name == VarId(1));
+    assert_eq!(rt;
+        (members.len(), last, members.get(2).is_none()),
+        (2, true, true)
+    );
     Ok(())
 }
 
@@ -64,9 +69,11 @@ fn bindings_are_built_from_the_front(rt: HostRuntime) -> Result<(), Fail> {
         )?;
     }
     let bindings = bindings.reversed();
-    assert_eq!(rt; bindings.len(), 2);
-    assert!(rt; matches!(bindings.get(1), Some(binding) if binding.name == VarId(1)));
-    assert!(rt; bindings.get(2).is_none());
+    let last = matches!(bindings.get(1), Some(binding) if binding.name == VarId(1));
+    assert_eq!(rt;
+        (bindings.len(), last, bindings.get(2).is_none()),
+        (2, true, true)
+    );
     Ok(())
 }
 
@@ -78,9 +85,11 @@ fn values_are_built_from_the_front(rt: HostRuntime) -> Result<(), Fail> {
         values.push_front(rt.alloc(), Value::Int(number))?;
     }
     let values = values.reversed();
-    assert_eq!(rt; values.len(), 2);
-    assert!(rt; matches!(values.get(1), Some(Value::Int(1))));
-    assert!(rt; values.get(2).is_none());
+    let last = matches!(values.get(1), Some(Value::Int(1)));
+    assert_eq!(rt;
+        (values.len(), last, values.get(2).is_none()),
+        (2, true, true)
+    );
     Ok(())
 }
 

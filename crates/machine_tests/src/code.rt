@@ -1,24 +1,16 @@
+// Codes as images.
+
 ghost use Rattle.std.specs.Prelude.{◌≡◌, pos};
 ghost use Rattle.rv_isa.specs.declared.inst.Inst.TheVariants.{Addi};
 
+use crate::images::{SMALLEST, bytes_of};
 use assembler::assembly::assemble;
-use grift_base::lists::{Bytes, OutOfMemory};
 use grift_base::places::{LabelTable, Pos};
 use grift_base::words::Statics;
 use rv_isa::inst::Inst;
 use rv_isa::number::{Imm12, Reg};
 use rv_isa::real::{RealCode, RealItem, RealItems};
-use std::alloc::Global;
 use std::test::Fail;
-
-// Bytes in groups of eight, the first byte of a group the highest.
-fn bytes_of(alloc: Global, groups: &[u64]) -> Result<Bytes, OutOfMemory> {
-    let mut bytes = Bytes::new(alloc);
-    for group in groups {
-        bytes.extend(&group.to_be_bytes())?;
-    }
-    Ok(bytes)
-}
 
 // Puts the number 42 into x11.
 fn set() -> Inst
@@ -38,20 +30,7 @@ fn two_instructions_fill_eight_bytes(rt: HostRuntime) -> Result<(), Fail> {
         &Statics::new(rt.alloc()),
         &LabelTable::new(rt.alloc()),
     )?;
-    let wanted = bytes_of(
-        rt.alloc(),
-        &[
-            0x4752_4946_5452_5631,
-            0x4800_0000_0000_0000,
-            0,
-            0x0800_0000_0000_0000,
-            0,
-            0,
-            0,
-            0,
-            0x9305_a002_7300_0000,
-        ],
-    )?;
+    let wanted = bytes_of(rt.alloc(), &SMALLEST)?;
     assert_eq!(rt; image.bytes(), wanted.as_slice());
     Ok(())
 }
@@ -85,7 +64,7 @@ fn marks_labels_and_statics(rt: HostRuntime) -> Result<(), Fail> {
     let image = assemble(rt.alloc(), &RealCode { items }, &statics, &labels)?;
     let wanted = bytes_of(rt.alloc(), &[0x0102_0304_0506_0708, 0x9305_a002_6ff0_dfff])?;
     assert_eq!(rt; image.loaded(), wanted.as_slice());
-    assert_eq!(rt; image.label(0), Some(Pos { line: 3, col: 14 }));
-    assert_eq!(rt; image.label(1), None);
+    let label = Some(Pos { line: 3, col: 14 });
+    assert_eq!(rt; [image.label(0), image.label(1)], [label, None]);
     Ok(())
 }

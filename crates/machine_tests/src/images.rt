@@ -1,4 +1,4 @@
-ghost use Rattle.std.specs.Prelude.{◌<◌};
+// Images as bytes: what is one, what its header and labels say, and the first fault of what is none.
 
 use assembler::image::{Image, ImageFault, is_image, read_image};
 use grift_base::lists::{Bytes, OutOfMemory};
@@ -6,8 +6,8 @@ use grift_base::places::Pos;
 use std::alloc::Global;
 use std::test::Fail;
 
-// An image in groups of eight bytes, the first byte of a group the highest.
-const SMALLEST: [u64; 9] = [
+// The smallest image that answers 42, in groups of eight bytes, the first byte of a group the highest.
+pub(crate) const SMALLEST: [u64; 9] = [
     0x4752_4946_5452_5631,
     0x4800_0000_0000_0000,
     0x0000_0000_0000_0000,
@@ -36,7 +36,8 @@ const LABELLED: [u64; 13] = [
     0x0001_0000_0200_0000,
 ];
 
-fn bytes_of(alloc: Global, groups: &[u64]) -> Result<Bytes, OutOfMemory> {
+// The bytes of such groups.
+pub(crate) fn bytes_of(alloc: Global, groups: &[u64]) -> Result<Bytes, OutOfMemory> {
     let mut bytes = Bytes::new(alloc);
     for group in groups {
         bytes.extend(&group.to_be_bytes())?;
@@ -44,131 +45,98 @@ fn bytes_of(alloc: Global, groups: &[u64]) -> Result<Bytes, OutOfMemory> {
     Ok(bytes)
 }
 
-// The smallest image with one group changed.
-fn changed(alloc: Global, place: usize, group: u64) -> Result<Bytes, OutOfMemory>
-    requires { place < 9 }
-{
-    let mut groups = SMALLEST;
-    groups[place] = group;
-    bytes_of(alloc, &groups)
-}
-
-fn fault_of(alloc: Global, bytes: &[u8]) -> Option<ImageFault> {
-    read_image(alloc, bytes).err()
-}
-
-fn labelled(alloc: Global) -> Result<Image, Fail> {
-    let bytes = bytes_of(alloc, &LABELLED)?;
-    if !is_image(bytes.as_slice()) {
-        return Err("no image")?;
-    }
-    Ok(Image::new(bytes))
+// Whether bytes are an image, and the first fault of those that aren't.
+fn outcome(alloc: Global, bytes: &[u8]) -> (bool, Option<ImageFault>) {
+    (is_image(bytes), read_image(alloc, bytes).err())
 }
 
 #[test]
-fn knows_an_image(rt: HostRuntime) -> Result<(), Fail> {
+fn images_are_whole(rt: HostRuntime) -> Result<(), Fail> {
     let bytes = bytes_of(rt.alloc(), &SMALLEST)?;
-    assert_eq!(rt; bytes.len(), 72);
-    for (len, wanted) in [(72, true), (71, false), (63, false), (7, false), (0, false)] {
-        assert!(rt; len <= bytes.as_slice().len());
-        assert_eq!(rt; is_image(&bytes.as_slice()[..len]), wanted, "{len} bytes");
-    }
-    Ok(())
-}
-
-#[test]
-fn refuses_each_field(rt: HostRuntime) -> Result<(), Fail> {
-    for (place, group) in [
-        (0, 0x0052_4946_5452_5631),
-        (1, 0x4900_0000_0000_0000),
-        (2, 0x0400_0000_0000_0000),
-        (2, 0x0800_0000_0000_0000),
-        (3, 0x0000_0000_0000_0000),
-        (3, 0xf8ff_ffff_ffff_ffff),
-        (4, 0xffff_ffff_0000_0000),
-        (4, 0x0100_0000_0000_0000),
-        (5, 0x0200_0000_0000_0000),
-        (5, 0x0800_0000_0000_0000),
-        (6, 0x0000_0000_0000_0001),
-        (7, 0x0100_0000_0000_0000),
+    for (cut, fault) in [
+        (0, None),
+        (1, Some(ImageFault::BadLength)),
+        (9, Some(ImageFault::BadLength)),
+        (65, Some(ImageFault::BadMagic)),
+        (72, Some(ImageFault::BadMagic)),
     ] {
-        assert!(rt; place < 9);
-        assert!(rt;
-            !is_image(changed(rt.alloc(), place, group)?.as_slice()),
-            "{group:x} at {place}"
+        let left = bytes.as_slice().get(cut..).ok_or("too short")?;
+        let len = left.len();
+        let first = bytes.as_slice().get(..len).ok_or("too short")?;
+        assert_eq!(rt;
+            outcome(rt.alloc(), first),
+            (fault.is_none(), fault),
+            "without {cut} bytes"
         );
     }
-    Ok(())
-}
-
-#[test]
-fn refuses_sums_that_wrap(rt: HostRuntime) -> Result<(), Fail> {
-    let mut groups = SMALLEST;
-    groups[2] = 0x1000_0000_0000_0000;
-    groups[3] = 0xf8ff_ffff_ffff_ffff;
-    assert!(rt; !is_image(bytes_of(rt.alloc(), &groups)?.as_slice()));
-    Ok(())
-}
-
-#[test]
-fn tells_the_header(rt: HostRuntime) -> Result<(), Fail> {
-    let image = labelled(rt.alloc())?;
-    assert_eq!(rt; image.bytes().len(), 104);
-    assert_eq!(rt; image.statics_len(), 8);
-    assert_eq!(rt; image.code_len(), 16);
-    assert_eq!(rt; image.entry(), 4);
-    let loaded = bytes_of(rt.alloc(), &LABELLED[8..11])?;
-    assert_eq!(rt; image.loaded(), loaded.as_slice());
-    Ok(())
-}
-
-#[test]
-fn tells_the_labels(rt: HostRuntime) -> Result<(), Fail> {
-    let image = labelled(rt.alloc())?;
-    let first = Pos { line: 3, col: 7 };
-    let second = Pos { line: 256, col: 2 };
-    assert_eq!(rt; image.label_count(), 2);
-    assert_eq!(rt; image.label(0), Some(first));
-    assert_eq!(rt; image.label(1), Some(second));
-    assert_eq!(rt; image.label(2), None);
-    let labels = image.labels(rt.alloc())?;
-    assert_eq!(rt; labels.as_slice(), [first, second].as_slice());
-    Ok(())
-}
-
-#[test]
-fn reads_an_image(rt: HostRuntime) -> Result<(), Fail> {
-    let bytes = bytes_of(rt.alloc(), &SMALLEST)?;
     let image = read_image(rt.alloc(), bytes.as_slice())?;
     assert_eq!(rt; image.bytes(), bytes.as_slice());
     Ok(())
 }
 
-#[test]
-fn tells_the_first_fault(rt: HostRuntime) -> Result<(), Fail> {
-    let whole = bytes_of(rt.alloc(), &SMALLEST)?;
-    for (len, fault) in [
-        (71, ImageFault::BadLength),
-        (63, ImageFault::BadLength),
-        (7, ImageFault::BadMagic),
-        (0, ImageFault::BadMagic),
-    ] {
-        assert!(rt; len <= whole.as_slice().len());
-        let bytes = &whole.as_slice()[..len];
-        assert_eq!(rt; fault_of(rt.alloc(), bytes), Some(fault), "{len} bytes");
+// The smallest image with these groups changed.
+fn changed(alloc: Global, changes: &[(usize, u64)]) -> Result<Bytes, OutOfMemory> {
+    let mut groups = SMALLEST;
+    for (place, group) in changes {
+        if let Some(old) = groups.get_mut(*place) {
+            *old = *group;
+        }
     }
-    for (place, group, fault) in [
-        (0, 0x0052_4946_5452_5631, ImageFault::BadMagic),
-        (1, 0x4900_0000_0000_0000, ImageFault::BadLength),
-        (5, 0x0200_0000_0000_0000, ImageFault::BadSection),
-    ] {
-        assert!(rt; place < 9);
-        let bytes = changed(rt.alloc(), place, group)?;
+    bytes_of(alloc, &groups)
+}
+
+// The last row has sections whose sum wraps to the right length.
+#[test]
+fn each_field_is_tested(rt: HostRuntime) -> Result<(), Fail> {
+    let rows: [(&[(usize, u64)], ImageFault); 13] = [
+        (&[(0, 0x0052_4946_5452_5631)], ImageFault::BadMagic),
+        (&[(1, 0x4900_0000_0000_0000)], ImageFault::BadLength),
+        (&[(2, 0x0400_0000_0000_0000)], ImageFault::BadSection),
+        (&[(2, 0x0800_0000_0000_0000)], ImageFault::BadSection),
+        (&[(3, 0x0000_0000_0000_0000)], ImageFault::BadSection),
+        (&[(3, 0xf8ff_ffff_ffff_ffff)], ImageFault::BadSection),
+        (&[(4, 0xffff_ffff_0000_0000)], ImageFault::BadSection),
+        (&[(4, 0x0100_0000_0000_0000)], ImageFault::BadSection),
+        (&[(5, 0x0200_0000_0000_0000)], ImageFault::BadSection),
+        (&[(5, 0x0800_0000_0000_0000)], ImageFault::BadSection),
+        (&[(6, 0x0000_0000_0000_0001)], ImageFault::BadSection),
+        (&[(7, 0x0100_0000_0000_0000)], ImageFault::BadSection),
+        (
+            &[(2, 0x1000_0000_0000_0000), (3, 0xf8ff_ffff_ffff_ffff)],
+            ImageFault::BadSection,
+        ),
+    ];
+    for (changes, fault) in rows {
+        let bytes = changed(rt.alloc(), changes)?;
         assert_eq!(rt;
-            fault_of(rt.alloc(), bytes.as_slice()),
-            Some(fault),
-            "{group:x} at {place}"
+            outcome(rt.alloc(), bytes.as_slice()),
+            (false, Some(fault)),
+            "{changes:?}"
         );
     }
+    Ok(())
+}
+
+#[test]
+fn an_image_tells_its_parts(rt: HostRuntime) -> Result<(), Fail> {
+    let bytes = bytes_of(rt.alloc(), &LABELLED)?;
+    let image = read_image(rt.alloc(), bytes.as_slice())?;
+    let lengths = [
+        image.bytes().len() as u64,
+        image.statics_len(),
+        image.code_len(),
+    ];
+    assert_eq!(rt; (lengths, image.entry()), ([104, 8, 16], 4));
+    let loaded = bytes_of(rt.alloc(), &LABELLED[8..11])?;
+    assert_eq!(rt; image.loaded(), loaded.as_slice());
+    let first = Pos { line: 3, col: 7 };
+    let second = Pos { line: 256, col: 2 };
+    let told = [image.label(0), image.label(1), image.label(2)];
+    assert_eq!(rt;
+        (image.label_count(), told),
+        (2, [Some(first), Some(second), None])
+    );
+    let labels = image.labels(rt.alloc())?;
+    assert_eq!(rt; labels.as_slice(), [first, second].as_slice());
     Ok(())
 }

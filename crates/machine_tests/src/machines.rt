@@ -3,7 +3,8 @@
 
 ghost use Rattle.rv_machine.specs.Start.{IsRegionSize, IsStackSize};
 
-use assembler::image::{Image, is_image};
+use crate::images::{SMALLEST, bytes_of};
+use assembler::image::{Image, is_image, read_image};
 use grift_base::lists::{Bytes, OutOfMemory};
 use grift_base::places::Pos;
 use grift_base::verdicts::{Answer, AnswerKind, Trap};
@@ -14,6 +15,7 @@ use rv_emulator::machine::Machine;
 use rv_emulator::stops::Stop;
 use rv_isa::number::Reg;
 use std::alloc::Global;
+use std::test::Fail;
 
 // Extends a list by the bytes of a word of the header.
 fn extend_by(bytes: &mut Bytes, word: u64) -> Result<(), OutOfMemory> {
@@ -78,224 +80,251 @@ fn comes_to(alloc: Global, code: &[u32], printed: &[u8]) -> Option<(Stop, bool)>
     Some((stop, same))
 }
 
-#[test]
-fn answers(rt: HostRuntime) {
-    let rows: [(&[u32], Stop, &[u8]); 7] = [
-        // addi x11, x0, 42; ecall
-        (&[0x02a00593, 0x00000073], ended(AnswerKind::Int, 42), b""),
-        // addi x10, x0, 1; addi x11, x0, 1; ecall
-        (
-            &[0x00100513, 0x00100593, 0x00000073],
-            ended(AnswerKind::Bool, 1),
-            b"",
-        ),
-        // addi x10, x0, 2; ecall
-        (&[0x00200513, 0x00000073], ended(AnswerKind::Unit, 0), b""),
-        // addi x10, x0, 6; ecall
-        (&[0x00600513, 0x00000073], ended(AnswerKind::Vector, 0), b""),
-        // addi x10, x0, 7; ecall: no such kind
-        (&[0x00700513, 0x00000073], Stop::Undefined(65540), b""),
-        // addi x10, x0, 1; addi x11, x0, 2; ecall: no truth value
-        (
-            &[0x00100513, 0x00200593, 0x00000073],
-            Stop::Undefined(65544),
-            b"",
-        ),
-        // addi x10, x0, 2; addi x11, x0, 1; ecall: unit has no word
-        (
-            &[0x00200513, 0x00100593, 0x00000073],
-            Stop::Undefined(65544),
-            b"",
-        ),
-    ];
-    for (code, stop, printed) in rows {
-        assert_eq!(rt;
-            comes_to(rt.alloc(), code, printed),
-            Some((stop, true)),
-            "{code:?}"
-        );
-    }
-}
+// A code, what it comes to, and what it prints.
+type Row = (&'static [u32], Stop, &'static [u8]);
 
-#[test]
-fn calls(rt: HostRuntime) {
-    let rows: [(&[u32], Stop, &[u8]); 9] = [
-        // addi x10, x0, -7; call 1; then 0
-        (
-            &[
-                0xff900513, 0x00100893, 0x00000073, 0x00000513, 0x00050593, 0x00000893, 0x00000073,
-            ],
-            ended(AnswerKind::Int, 0),
-            b"-7",
-        ),
-        // addi x10, x0, 0x141; call 2; then 5
-        (
-            &[
-                0x14100513, 0x00200893, 0x00000073, 0x00000893, 0x00500593, 0x00057513, 0x00000073,
-            ],
-            ended(AnswerKind::Int, 5),
-            b"A",
-        ),
-        // call 3 with label 0
-        (&[0x00300893, 0x00000073], Stop::Blamed(LABEL), b""),
-        // call 3 with label 1, of which there is none
-        (
-            &[0x00300893, 0x00100513, 0x00000073],
-            Stop::Undefined(65544),
-            b"",
-        ),
-        // call 4 with kind 2
-        (
-            &[0x00400893, 0x00200513, 0x00000073],
-            Stop::Trapped(Trap::Index),
-            b"",
-        ),
-        // call 4 with kind 5
-        (
-            &[0x00400893, 0x00500513, 0x00000073],
-            Stop::Undefined(65544),
-            b"",
-        ),
-        // call 5
-        (&[0x00500893, 0x00000073], Stop::RegionOut, b""),
-        // call 6
-        (&[0x00600893, 0x00000073], Stop::StackOut, b""),
-        // call 7
-        (&[0x00700893, 0x00000073], Stop::Undefined(65540), b""),
-    ];
-    for (code, stop, printed) in rows {
-        assert_eq!(rt;
-            comes_to(rt.alloc(), code, printed),
-            Some((stop, true)),
-            "{code:?}"
-        );
-    }
-}
-
-#[test]
-fn stops(rt: HostRuntime) {
-    let rows: [(&[u32], Stop, &[u8]); 14] = [
-        // no instruction
-        (&[0x00000000], Stop::Undefined(65536), b""),
-        // addi x0, x0, 0; ebreak
-        (&[0x00000013, 0x00100073], Stop::Undefined(65540), b""),
-        // two of addi x0, x0, 0, and past the code
-        (&[0x00000013, 0x00000013], Stop::BadAddress(65544), b""),
-        // jal x0, 64: past the code
-        (&[0x0400006f], Stop::BadAddress(65600), b""),
-        // addi x0, x0, 0; ld x1, 0(x0): below memory
-        (&[0x00000013, 0x00003083], Stop::BadAddress(65540), b""),
-        // ld x1, 0(x2): past memory
-        (&[0x00013083], Stop::BadAddress(65536), b""),
-        // ld x11, -8(x2); ecall: the last word of the stack
-        (&[0xff813583, 0x00000073], ended(AnswerKind::Int, 0), b""),
-        // auipc x5, 0; sd x1, 0(x5): into code
-        (&[0x00000297, 0x0012b023], Stop::BadAddress(65540), b""),
-        // addi x5, x0, -3; sd x5, 0(x26); lw x11, 0(x26); ecall
-        (
-            &[0xffd00293, 0x005d3023, 0x000d2583, 0x00000073],
-            ended(AnswerKind::Int, -3),
-            b"",
-        ),
-        // sd x1, 0(x2): past the stack
-        (&[0x00113023], Stop::BadAddress(65536), b""),
-        // ld x1, 4(x26)
-        (&[0x004d3083], Stop::Misaligned(65536), b""),
-        // ld x1, 1(x0): misaligned and below memory
-        (&[0x00103083], Stop::Misaligned(65536), b""),
-        // sh x1, 1(x26)
-        (&[0x001d10a3], Stop::Misaligned(65536), b""),
-        // auipc x5, 0; jalr x0, 6(x5)
-        (&[0x00000297, 0x00628067], Stop::Misaligned(65540), b""),
-    ];
-    for (code, stop, printed) in rows {
-        assert_eq!(rt;
-            comes_to(rt.alloc(), code, printed),
-            Some((stop, true)),
-            "{code:?}"
-        );
-    }
-}
-
-#[test]
-fn arithmetic(rt: HostRuntime) {
-    let rows: [(&[u32], Stop, &[u8]); 6] = [
-        // auipc x5, 0; jalr x1, 9(x5); addi x11, x0, 7; ecall
-        (
-            &[0x00000297, 0x009280e7, 0x00700593, 0x00000073],
-            ended(AnswerKind::Int, 7),
-            b"",
-        ),
-        // addi x5, x0, -1; srli x5, x5, 1; addiw x11, x5, 1; ecall
-        (
-            &[0xfff00293, 0x0012d293, 0x0012859b, 0x00000073],
-            ended(AnswerKind::Int, 0),
-            b"",
-        ),
-        // lui x5, 0x80000; addi x6, x0, 33; sraw x11, x5, x6; ecall
-        (
-            &[0x800002b7, 0x02100313, 0x4062d5bb, 0x00000073],
-            ended(AnswerKind::Int, -1073741824),
-            b"",
-        ),
-        // x5 is -1 and x6 is 1; bltu x6, x5, 8 goes past addi x11, x0, 2
-        (
-            &[
-                0xfff00293, 0x00100313, 0x00100593, 0x00536463, 0x00200593, 0x00000073,
-            ],
-            ended(AnswerKind::Int, 1),
-            b"",
-        ),
-        // addi x0, x0, 5; addi x0, x0, 7; addi x11, x0, 0; ecall
-        (
-            &[0x00500013, 0x00700013, 0x00000593, 0x00000073],
-            ended(AnswerKind::Int, 0),
-            b"",
-        ),
-        // lw and lwu of -2, their difference shifted right by 32
-        (
-            &[
-                0xffe00293, 0x005d2023, 0x000d2303, 0x000d6383, 0x407305b3, 0x4205d593, 0x00000073,
-            ],
-            ended(AnswerKind::Int, -1),
-            b"",
-        ),
-    ];
-    for (code, stop, printed) in rows {
-        assert_eq!(rt;
-            comes_to(rt.alloc(), code, printed),
-            Some((stop, true)),
-            "{code:?}"
-        );
-    }
-}
-
-// The image of 72 bytes that answers 42.
-const SMALLEST: [u8; 72] = [
-    0x47, 0x52, 0x49, 0x46, 0x54, 0x52, 0x56, 0x31, 0x48, 0x00, 0x00, 0x00, 0x00, 0x00, 0x00, 0x00,
-    0x00, 0x00, 0x00, 0x00, 0x00, 0x00, 0x00, 0x00, 0x08, 0x00, 0x00, 0x00, 0x00, 0x00, 0x00, 0x00,
-    0x00, 0x00, 0x00, 0x00, 0x00, 0x00, 0x00, 0x00, 0x00, 0x00, 0x00, 0x00, 0x00, 0x00, 0x00, 0x00,
-    0x00, 0x00, 0x00, 0x00, 0x00, 0x00, 0x00, 0x00, 0x00, 0x00, 0x00, 0x00, 0x00, 0x00, 0x00, 0x00,
-    0x93, 0x05, 0xa0, 0x02, 0x73, 0x00, 0x00, 0x00,
+const ANSWERS: [Row; 7] = [
+    // addi x11, x0, 42; ecall
+    (
+        &[0x02a00593, 0x00000073],
+        Stop::Ended(Answer {
+            kind: AnswerKind::Int,
+            word: 42,
+        }),
+        b"",
+    ),
+    // addi x10, x0, 1; addi x11, x0, 1; ecall
+    (
+        &[0x00100513, 0x00100593, 0x00000073],
+        Stop::Ended(Answer {
+            kind: AnswerKind::Bool,
+            word: 1,
+        }),
+        b"",
+    ),
+    // addi x10, x0, 2; ecall
+    (
+        &[0x00200513, 0x00000073],
+        Stop::Ended(Answer {
+            kind: AnswerKind::Unit,
+            word: 0,
+        }),
+        b"",
+    ),
+    // addi x10, x0, 6; ecall
+    (
+        &[0x00600513, 0x00000073],
+        Stop::Ended(Answer {
+            kind: AnswerKind::Vector,
+            word: 0,
+        }),
+        b"",
+    ),
+    // addi x10, x0, 7; ecall: no such kind
+    (&[0x00700513, 0x00000073], Stop::Undefined(65540), b""),
+    // addi x10, x0, 1; addi x11, x0, 2; ecall: no truth value
+    (
+        &[0x00100513, 0x00200593, 0x00000073],
+        Stop::Undefined(65544),
+        b"",
+    ),
+    // addi x10, x0, 2; addi x11, x0, 1; ecall: unit has no word
+    (
+        &[0x00200513, 0x00100593, 0x00000073],
+        Stop::Undefined(65544),
+        b"",
+    ),
 ];
+
+const CALLS: [Row; 9] = [
+    // addi x10, x0, -7; call 1; then 0
+    (
+        &[
+            0xff900513, 0x00100893, 0x00000073, 0x00000513, 0x00050593, 0x00000893, 0x00000073,
+        ],
+        Stop::Ended(Answer {
+            kind: AnswerKind::Int,
+            word: 0,
+        }),
+        b"-7",
+    ),
+    // addi x10, x0, 0x141; call 2; then 5
+    (
+        &[
+            0x14100513, 0x00200893, 0x00000073, 0x00000893, 0x00500593, 0x00057513, 0x00000073,
+        ],
+        Stop::Ended(Answer {
+            kind: AnswerKind::Int,
+            word: 5,
+        }),
+        b"A",
+    ),
+    // call 3 with label 0
+    (&[0x00300893, 0x00000073], Stop::Blamed(LABEL), b""),
+    // call 3 with label 1, of which there is none
+    (
+        &[0x00300893, 0x00100513, 0x00000073],
+        Stop::Undefined(65544),
+        b"",
+    ),
+    // call 4 with kind 2
+    (
+        &[0x00400893, 0x00200513, 0x00000073],
+        Stop::Trapped(Trap::Index),
+        b"",
+    ),
+    // call 4 with kind 5
+    (
+        &[0x00400893, 0x00500513, 0x00000073],
+        Stop::Undefined(65544),
+        b"",
+    ),
+    // call 5
+    (&[0x00500893, 0x00000073], Stop::RegionOut, b""),
+    // call 6
+    (&[0x00600893, 0x00000073], Stop::StackOut, b""),
+    // call 7
+    (&[0x00700893, 0x00000073], Stop::Undefined(65540), b""),
+];
+
+const STOPS: [Row; 14] = [
+    // no instruction
+    (&[0x00000000], Stop::Undefined(65536), b""),
+    // addi x0, x0, 0; ebreak
+    (&[0x00000013, 0x00100073], Stop::Undefined(65540), b""),
+    // two of addi x0, x0, 0, and past the code
+    (&[0x00000013, 0x00000013], Stop::BadAddress(65544), b""),
+    // jal x0, 64: past the code
+    (&[0x0400006f], Stop::BadAddress(65600), b""),
+    // addi x0, x0, 0; ld x1, 0(x0): below memory
+    (&[0x00000013, 0x00003083], Stop::BadAddress(65540), b""),
+    // ld x1, 0(x2): past memory
+    (&[0x00013083], Stop::BadAddress(65536), b""),
+    // ld x11, -8(x2); ecall: the last word of the stack
+    (
+        &[0xff813583, 0x00000073],
+        Stop::Ended(Answer {
+            kind: AnswerKind::Int,
+            word: 0,
+        }),
+        b"",
+    ),
+    // auipc x5, 0; sd x1, 0(x5): into code
+    (&[0x00000297, 0x0012b023], Stop::BadAddress(65540), b""),
+    // addi x5, x0, -3; sd x5, 0(x26); lw x11, 0(x26); ecall
+    (
+        &[0xffd00293, 0x005d3023, 0x000d2583, 0x00000073],
+        Stop::Ended(Answer {
+            kind: AnswerKind::Int,
+            word: -3,
+        }),
+        b"",
+    ),
+    // sd x1, 0(x2): past the stack
+    (&[0x00113023], Stop::BadAddress(65536), b""),
+    // ld x1, 4(x26)
+    (&[0x004d3083], Stop::Misaligned(65536), b""),
+    // ld x1, 1(x0): misaligned and below memory
+    (&[0x00103083], Stop::Misaligned(65536), b""),
+    // sh x1, 1(x26)
+    (&[0x001d10a3], Stop::Misaligned(65536), b""),
+    // auipc x5, 0; jalr x0, 6(x5)
+    (&[0x00000297, 0x00628067], Stop::Misaligned(65540), b""),
+];
+
+const ARITHMETIC: [Row; 6] = [
+    // auipc x5, 0; jalr x1, 9(x5); addi x11, x0, 7; ecall
+    (
+        &[0x00000297, 0x009280e7, 0x00700593, 0x00000073],
+        Stop::Ended(Answer {
+            kind: AnswerKind::Int,
+            word: 7,
+        }),
+        b"",
+    ),
+    // addi x5, x0, -1; srli x5, x5, 1; addiw x11, x5, 1; ecall
+    (
+        &[0xfff00293, 0x0012d293, 0x0012859b, 0x00000073],
+        Stop::Ended(Answer {
+            kind: AnswerKind::Int,
+            word: 0,
+        }),
+        b"",
+    ),
+    // lui x5, 0x80000; addi x6, x0, 33; sraw x11, x5, x6; ecall
+    (
+        &[0x800002b7, 0x02100313, 0x4062d5bb, 0x00000073],
+        Stop::Ended(Answer {
+            kind: AnswerKind::Int,
+            word: -1073741824,
+        }),
+        b"",
+    ),
+    // x5 is -1 and x6 is 1; bltu x6, x5, 8 goes past addi x11, x0, 2
+    (
+        &[
+            0xfff00293, 0x00100313, 0x00100593, 0x00536463, 0x00200593, 0x00000073,
+        ],
+        Stop::Ended(Answer {
+            kind: AnswerKind::Int,
+            word: 1,
+        }),
+        b"",
+    ),
+    // addi x0, x0, 5; addi x0, x0, 7; addi x11, x0, 0; ecall
+    (
+        &[0x00500013, 0x00700013, 0x00000593, 0x00000073],
+        Stop::Ended(Answer {
+            kind: AnswerKind::Int,
+            word: 0,
+        }),
+        b"",
+    ),
+    // lw and lwu of -2, their difference shifted right by 32
+    (
+        &[
+            0xffe00293, 0x005d2023, 0x000d2303, 0x000d6383, 0x407305b3, 0x4205d593, 0x00000073,
+        ],
+        Stop::Ended(Answer {
+            kind: AnswerKind::Int,
+            word: -1,
+        }),
+        b"",
+    ),
+];
+
+#[test]
+fn small_images_come_to_their_ends(rt: HostRuntime) {
+    for rows in [ANSWERS.as_slice(), &CALLS, &STOPS, &ARITHMETIC] {
+        for (code, stop, printed) in rows {
+            assert_eq!(rt;
+                comes_to(rt.alloc(), code, printed),
+                Some((*stop, true)),
+                "{code:?}"
+            );
+        }
+    }
+}
 
 // The smallest image, with the default region and stack: one step, and then the end; a run goes on where the one
 // before it came to.
 #[test]
-fn goes_on(rt: HostRuntime) -> Result<(), OutOfMemory> {
-    let alloc = rt.alloc();
-    assert!(rt; is_image(&SMALLEST));
-    let bytes = Bytes::from_slice(alloc, &SMALLEST)?;
-    if is_image(bytes.as_slice()) {
-        let image = Image::new(bytes);
-        let mut machine = machine_of(alloc, &image, 16777216, 1048576)?;
-        assert_eq!(rt; machine.run(0), Stop::StepsSpent);
-        assert_eq!(rt; machine.run(1), Stop::StepsSpent);
-        assert_eq!(rt; machine.pc(), 65540);
-        assert_eq!(rt; machine.reg(Reg::new(11)), 42);
-        assert_eq!(rt; machine.run(1), ended(AnswerKind::Int, 42));
-        assert_eq!(rt; machine.pc(), 65540);
-        assert_eq!(rt; machine.run(7), ended(AnswerKind::Int, 42));
+fn a_run_goes_on(rt: HostRuntime) -> Result<(), Fail> {
+    let bytes = bytes_of(rt.alloc(), &SMALLEST)?;
+    let image = read_image(rt.alloc(), bytes.as_slice())?;
+    let mut machine = machine_of(rt.alloc(), &image, 16777216, 1048576)?;
+    let answer = ended(AnswerKind::Int, 42);
+    for (steps, stop, pc, word) in [
+        (0, Stop::StepsSpent, 65536, 0),
+        (1, Stop::StepsSpent, 65540, 42),
+        (1, answer, 65540, 42),
+        (7, answer, 65540, 42),
+    ] {
+        let came_to = machine.run(steps);
+        assert_eq!(rt;
+            (came_to, machine.pc(), machine.reg(Reg::new(11))),
+            (stop, pc, word)
+        );
     }
     Ok(())
 }
@@ -316,14 +345,13 @@ fn runs_with_several_labels_and_a_large_region(rt: HostRuntime) {
         line: 4_294_967_295,
         col: 12,
     };
-    assert_eq!(rt;
-        blames_from_a_large_region(rt.alloc(), &[LABEL, Pos { line: 1, col: 1 }, last]),
-        Some(Stop::Blamed(last))
-    );
-    assert_eq!(rt;
-        blames_from_a_large_region(rt.alloc(), &[LABEL]),
-        Some(Stop::Undefined(65552))
-    );
+    let rows: [(&[Pos], Stop); 2] = [
+        (&[LABEL, Pos { line: 1, col: 1 }, last], Stop::Blamed(last)),
+        (&[LABEL], Stop::Undefined(65552)),
+    ];
+    for (labels, stop) in rows {
+        assert_eq!(rt; blames_from_a_large_region(rt.alloc(), labels), Some(stop));
+    }
 }
 
 // The word that a machine with this code tells at an address. None where there is no such image, or no memory.
@@ -336,12 +364,13 @@ fn word_at(alloc: Global, code: &[u32], at: u64) -> Option<Option<u64>> {
 #[test]
 fn tells_words(rt: HostRuntime) {
     let code = [0x02a00593, 0x00000073];
-    assert_eq!(rt;
-        word_at(rt.alloc(), &code, 65536),
-        Some(Some(0x0000_0073_02a0_0593))
-    );
-    assert_eq!(rt; word_at(rt.alloc(), &code, 65568), Some(Some(0)));
-    for at in [65576, 65540, 65528] {
-        assert_eq!(rt; word_at(rt.alloc(), &code, at), Some(None));
+    for (at, word) in [
+        (65528, None),
+        (65536, Some(0x0000_0073_02a0_0593)),
+        (65540, None),
+        (65568, Some(0)),
+        (65576, None),
+    ] {
+        assert_eq!(rt; word_at(rt.alloc(), &code, at), Some(word), "{at}");
     }
 }

@@ -1,3 +1,5 @@
+// Memories of bytes.
+
 ghost use Rattle.std.specs.Prelude.{◌≡◌, ◌+◌, ◌%◌, ◌≤◌, IfOk};
 ghost use Rattle.std.specs.Int.{byte_len};
 ghost use Rattle.rv_emulator.specs.Widths.{width_of};

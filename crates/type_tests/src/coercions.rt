@@ -1,7 +1,8 @@
-ghost use Rattle.std.specs.Prelude.{IfOk, OnOk, length, ◌<◌};
-ghost use Rattle.coercion_norm.specs.CoercionTables.{FitsTypes};
-ghost use Rattle.coercion_norm.specs.Nodes.{Grows};
+// Coercions of casts: as nodes of a table, as texts and as statics.
 
+ghost use Rattle.coercion_norm.specs.CoercionTables.{FitsTypes};
+
+use crate::samples::{cast, eleven_types, put};
 use coercion_norm::cast_rows::{CastRow, CastRows};
 use coercion_norm::casts::coerce;
 use coercion_norm::nodes::{CoercionId, CoercionIds, CoercionNode};
@@ -14,33 +15,18 @@ use grift_base::words::{Statics, WordList, Words};
 use object_layout::wholes::{Area, whole_object};
 use std::alloc::Global;
 use std::test::Fail;
-use type_graph::rows::{Row, TypeIds};
+use type_graph::rows::Row;
 use type_graph::tables::TypeTable;
 
-// Puts a row into a table that it fits.
-fn put(types: &mut TypeTable, row: Row) -> Result<TypeId, Fail> {
-    if !types.fits(&row) {
-        return Err(Fail::from("the row does not fit"));
-    }
-    Ok(types.intern(row)?)
-}
+// The label of casts whose label says nothing.
+const LABEL: LabelId = LabelId(7);
 
-// The coercion of a cast between types that are there, and its height.
-fn cast(
-    alloc: Global,
-    table: &mut CoercionTable,
-    types: &TypeTable,
-    from: TypeId,
-    to: TypeId,
-) -> Result<(CoercionId, u32), Fail>
-    requires { FitsTypes types.now table.old }
-    ensures fits { FitsTypes types.now table.new }
-{
-    if from.0 >= types.len() || to.0 >= types.len() {
-        return Err(Fail::from("no type is there"));
+// The height of a coercion that is there.
+fn height(table: &CoercionTable, c: CoercionId) -> Result<u32, Fail> {
+    if c.0 >= table.len() {
+        return Err(Fail::from("no coercion is there"));
     }
-    let c = coerce(alloc, table, types, from, to, LabelId(7))?;
-    Ok((c, table.height(c)))
+    Ok(table.height(c))
 }
 
 // Whether these are the nodes of the table.
@@ -53,42 +39,25 @@ fn stand(table: &CoercionTable, nodes: &[CoercionNode]) -> bool {
     u64::from(table.len()) == nodes.len() as u64
 }
 
-// Int, Bool, Dyn, (Int -> Bool), (Dyn -> Dyn), (Ref Int) and (Ref Dyn), in this order.
-fn sample_types(alloc: Global) -> Result<TypeTable, Fail> {
-    let mut types = TypeTable::new(alloc)?;
-    let int = put(&mut types, Row::Int)?;
-    let truth = put(&mut types, Row::Bool)?;
-    let dynamic = put(&mut types, Row::Dyn)?;
-    let row = Row::Fun(TypeIds::from_slice(alloc, &[int])?, truth);
-    put(&mut types, row)?;
-    let row = Row::Fun(TypeIds::from_slice(alloc, &[dynamic])?, dynamic);
-    put(&mut types, row)?;
-    put(&mut types, Row::Ref(int))?;
-    put(&mut types, Row::Ref(dynamic))?;
-    Ok(types)
-}
-
 #[test]
 fn casts_have_their_coercions(rt: HostRuntime) -> Result<(), Fail> {
     let alloc = rt.alloc();
-    let types = sample_types(alloc)?;
+    let types = eleven_types(alloc)?;
     let mut table = CoercionTable::new(alloc)?;
-    let function = cast(alloc, &mut table, &types, TypeId(3), TypeId(4))?;
-    let reference = cast(alloc, &mut table, &types, TypeId(5), TypeId(6))?;
-    let fail = cast(alloc, &mut table, &types, TypeId(5), TypeId(3))?;
-    assert_eq!(rt; function, (CoercionId(3), 1));
-    assert_eq!(rt; reference, (CoercionId(5), 1));
-    assert_eq!(rt; fail, (CoercionId(6), 0));
+    for (from, to, place, tall) in [(3, 4, 3, 1), (6, 7, 5, 1), (6, 3, 6, 0)] {
+        let c = cast(alloc, &mut table, &types, TypeId(from), TypeId(to), LABEL)?;
+        assert_eq!(rt; (c, height(&table, c)?), (CoercionId(place), tall));
+    }
     let id = CoercionId(0);
     let arguments = CoercionIds::from_slice(alloc, &[CoercionId(1)])?;
     let nodes = [
         CoercionNode::Id,
-        CoercionNode::Project(TypeId(0), LabelId(7), id),
+        CoercionNode::Project(TypeId(0), LABEL, id),
         CoercionNode::Inject(id, TypeId(1)),
         CoercionNode::Fun(arguments, CoercionId(2)),
         CoercionNode::Inject(id, TypeId(0)),
         CoercionNode::Ref(CoercionId(4), CoercionId(1)),
-        CoercionNode::Fail(LabelId(7)),
+        CoercionNode::Fail(LABEL),
     ];
     assert!(rt; stand(&table, &nodes));
     Ok(())
@@ -106,10 +75,9 @@ fn shared_rows_take_few_nodes(rt: HostRuntime) -> Result<(), Fail> {
         to = put(&mut types, Row::Ref(to))?;
     }
     let mut table = CoercionTable::new(alloc)?;
-    let (_, height) = cast(alloc, &mut table, &types, from, to)?;
-    assert_eq!(rt; height, 300);
+    let c = cast(alloc, &mut table, &types, from, to, LABEL)?;
     // two nodes a level, for both directions, but one at the top
-    assert_eq!(rt; table.len(), 1 + 2 * 300 + 1);
+    assert_eq!(rt; (height(&table, c)?, table.len()), (300, 1 + 2 * 300 + 1));
     Ok(())
 }
 
@@ -122,11 +90,7 @@ fn nodes_stand_once(rt: HostRuntime) -> Result<(), Fail> {
     let other = table.intern_node(&types, CoercionNode::Fail(LabelId(4)))?;
     let again = table.intern_node(&types, CoercionNode::Fail(LabelId(3)))?;
     let id = table.intern_node(&types, CoercionNode::Id)?;
-    assert_eq!(rt;
-        (id, fail, other),
-        (CoercionId(0), CoercionId(1), CoercionId(2))
-    );
-    assert_eq!(rt; again, fail);
+    assert_eq!(rt; [id, fail, other, again], [0, 1, 2, 1].map(CoercionId));
     assert_eq!(rt; table.len(), 3);
     Ok(())
 }
@@ -175,23 +139,19 @@ fn have_texts(
 #[test]
 fn coercions_have_texts(rt: HostRuntime) -> Result<(), Fail> {
     let alloc = rt.alloc();
-    let mut types = sample_types(alloc)?;
-    for parts in [[TypeId(0), TypeId(2)], [TypeId(2), TypeId(0)]] {
-        let parts = TypeIds::from_slice(alloc, &parts)?;
-        put(&mut types, Row::Tuple(parts))?;
-    }
+    let types = eleven_types(alloc)?;
     let mut labels = LabelTable::new(alloc);
     labels.intern(Pos { line: 12, col: 3 })?;
     let mut table = CoercionTable::new(alloc)?;
     let rows = [
         (0, 0, "id"),
         (3, 2, "(inject (Int -> Bool))"),
-        (2, 5, "(project (Ref Int) 12:3)"),
-        (3, 5, "(fail 12:3)"),
+        (2, 6, "(project (Ref Int) 12:3)"),
+        (3, 6, "(fail 12:3)"),
         (3, 4, "(fun (project Int 12:3) -> (inject Bool))"),
         (4, 3, "(fun (inject Int) -> (project Bool 12:3))"),
-        (5, 6, "(ref (inject Int) (project Int 12:3))"),
-        (7, 8, "(tuple (inject Int) (project Int 12:3))"),
+        (6, 7, "(ref (inject Int) (project Int 12:3))"),
+        (9, 10, "(tuple (inject Int) (project Int 12:3))"),
     ];
     assert!(rt; have_texts(alloc, &mut table, &types, &labels, &rows)?);
     Ok(())
@@ -268,15 +228,14 @@ fn intern_casts(
     requires { FitsTypes types.now table.old }
     ensures fits { FitsTypes types.now table.new }
 {
-    for (from, to) in [(3, 4), (5, 6), (0, 0)] {
+    for (from, to) in [(3, 4), (6, 7), (0, 0)] {
         let from = TypeId(from);
         let to = TypeId(to);
-        let (coercion, _) = cast(alloc, table, types, from, to)?;
-        let label = LabelId(7);
+        let coercion = cast(alloc, table, types, from, to, LABEL)?;
         casts.intern(CastRow {
             from,
             to,
-            label,
+            label: LABEL,
             coercion,
         })?;
     }
@@ -286,17 +245,17 @@ fn intern_casts(
 #[test]
 fn statics_are_whole_objects(rt: HostRuntime) -> Result<(), Fail> {
     let alloc = rt.alloc();
-    let types = sample_types(alloc)?;
+    let types = eleven_types(alloc)?;
     let mut table = CoercionTable::new(alloc)?;
     let mut casts = CastRows::new(alloc);
     intern_casts(alloc, &mut table, &types, &mut casts)?;
     let statics = place(alloc, &types, &table, &casts)?;
-    assert_eq!(rt; statics.cast_at.as_slice(), [65_696, 65_744, 0].as_slice());
+    assert_eq!(rt; statics.cast_at.as_slice(), [65_784, 65_832, 0].as_slice());
     let memory = Storage {
         words: statics.words,
     };
-    assert!(rt; are_whole(&memory, 7 + 5, statics.type_at.as_slice()));
-    assert!(rt; are_whole(&memory, 7 + 5, statics.coercion_at.as_slice()));
+    assert!(rt; are_whole(&memory, 11 + 5, statics.type_at.as_slice()));
+    assert!(rt; are_whole(&memory, 11 + 5, statics.coercion_at.as_slice()));
     Ok(())
 }
 
@@ -314,8 +273,8 @@ fn casts_stand_once(rt: HostRuntime) -> Result<(), Fail> {
     };
     let mut casts = CastRows::new(rt.alloc());
     assert!(rt; casts.is_empty());
-    let numbers = (casts.intern(row)?, casts.intern(other)?, casts.intern(row)?);
-    assert_eq!(rt; numbers, (0, 1, 0));
+    let numbers = [casts.intern(row)?, casts.intern(other)?, casts.intern(row)?];
+    assert_eq!(rt; numbers, [0, 1, 0]);
     assert_eq!(rt;
         (casts.len(), casts.get(1), casts.get(2)),
         (2, Some(&other), None)

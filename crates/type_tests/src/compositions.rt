@@ -1,6 +1,9 @@
+// Coercions of casts one after the other.
+
 ghost use Rattle.std.specs.Prelude.{IfOk, length, ◌<◌};
 ghost use Rattle.coercion_norm.specs.CoercionTables.{FitsTypes};
 
+use crate::samples::{cast, eleven_types, put};
 use coercion_compose::compositions::compose;
 use coercion_norm::casts::coerce;
 use coercion_norm::nodes::CoercionId;
@@ -10,16 +13,8 @@ use grift_base::lists::Text;
 use grift_base::places::{LabelId, LabelTable, Pos, TypeId};
 use std::alloc::Global;
 use std::test::Fail;
-use type_graph::rows::{Row, TypeIds};
+use type_graph::rows::Row;
 use type_graph::tables::TypeTable;
-
-// Puts a row into a table that it fits.
-fn put(types: &mut TypeTable, row: Row) -> Result<TypeId, Fail> {
-    if !types.fits(&row) {
-        return Err(Fail::from("the row does not fit"));
-    }
-    Ok(types.intern(row)?)
-}
 
 // The text of three casts one after the other, of which the first two have label 0 and the last has label 1.
 fn shown_path(
@@ -51,27 +46,6 @@ fn shown_path(
     Ok(show(alloc, table, types, labels, all)?)
 }
 
-// 0 Int, 1 Bool, 2 Dyn, 3 (Int -> Bool), 4 (Dyn -> Dyn), 5 (Bool -> Int), 6 (Ref Int), 7 (Ref Dyn), 8 (Ref Bool),
-// 9 (Tuple Int Dyn), 10 (Tuple Dyn Int)
-fn sample_types(alloc: Global) -> Result<TypeTable, Fail> {
-    let mut types = TypeTable::new(alloc)?;
-    put(&mut types, Row::Int)?;
-    put(&mut types, Row::Bool)?;
-    put(&mut types, Row::Dyn)?;
-    for (parameter, result) in [(0, 1), (2, 2), (1, 0)] {
-        let parameters = TypeIds::from_slice(alloc, &[TypeId(parameter)])?;
-        put(&mut types, Row::Fun(parameters, TypeId(result)))?;
-    }
-    for content in [0, 2, 1] {
-        put(&mut types, Row::Ref(TypeId(content)))?;
-    }
-    for parts in [[TypeId(0), TypeId(2)], [TypeId(2), TypeId(0)]] {
-        let parts = TypeIds::from_slice(alloc, &parts)?;
-        put(&mut types, Row::Tuple(parts))?;
-    }
-    Ok(types)
-}
-
 // Whether these paths have these texts.
 fn have_texts(
     alloc: Global,
@@ -94,7 +68,7 @@ fn have_texts(
 #[test]
 fn compositions_have_texts(rt: HostRuntime) -> Result<(), Fail> {
     let alloc = rt.alloc();
-    let types = sample_types(alloc)?;
+    let types = eleven_types(alloc)?;
     let mut labels = LabelTable::new(alloc);
     labels.intern(Pos { line: 1, col: 1 })?;
     labels.intern(Pos { line: 2, col: 1 })?;
@@ -135,24 +109,6 @@ fn compose_there(
         return Err(Fail::from("no coercion is there"));
     }
     Ok(compose(alloc, table, types, c, d)?)
-}
-
-// The coercion of a cast between types that are there.
-fn cast(
-    alloc: Global,
-    table: &mut CoercionTable,
-    types: &TypeTable,
-    from: TypeId,
-    to: TypeId,
-    label: LabelId,
-) -> Result<CoercionId, Fail>
-    requires { FitsTypes types.now table.old }
-    ensures fits { FitsTypes types.now table.new }
-{
-    if from.0 >= types.len() || to.0 >= types.len() {
-        return Err(Fail::from("no type is there"));
-    }
-    Ok(coerce(alloc, table, types, from, to, label)?)
 }
 
 // References to references, 300 deep, whose coercions are met twice at each level.
@@ -228,7 +184,7 @@ fn random_paths_compose_alike(
 #[test]
 fn paths_compose_from_either_side(rt: HostRuntime) -> Result<(), Fail> {
     let alloc = rt.alloc();
-    let types = sample_types(alloc)?;
+    let types = eleven_types(alloc)?;
     let mut table = CoercionTable::new(alloc)?;
     assert!(rt; random_paths_compose_alike(alloc, &mut table, &types, 10_000)?);
     Ok(())

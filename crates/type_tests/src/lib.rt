@@ -10,4 +10,6 @@ mod compositions;
 #[cfg(test)]
 mod relations;
 #[cfg(test)]
+mod samples;
+#[cfg(test)]
 mod types;

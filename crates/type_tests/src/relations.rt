@@ -1,35 +1,13 @@
 // Types that are consistent, and their blends.
 
+use crate::samples::{function, put, tuple};
 use consistency::blends::blend;
 use consistency::checks::{consistent, same_head};
 use grift_base::places::TypeId;
 use std::alloc::Global;
 use std::test::Fail;
-use type_graph::rows::{Row, TypeIds};
+use type_graph::rows::Row;
 use type_graph::tables::TypeTable;
-
-// Puts a row into a table that it fits.
-fn put(types: &mut TypeTable, row: Row) -> Result<TypeId, Fail> {
-    if !types.fits(&row) {
-        return Err(Fail::from("the row does not fit"));
-    }
-    Ok(types.intern(row)?)
-}
-
-fn function(
-    alloc: Global,
-    types: &mut TypeTable,
-    parameters: &[TypeId],
-    answer: TypeId,
-) -> Result<TypeId, Fail> {
-    let parameters = TypeIds::from_slice(alloc, parameters)?;
-    put(types, Row::Fun(parameters, answer))
-}
-
-fn tuple(alloc: Global, types: &mut TypeTable, parts: &[TypeId]) -> Result<TypeId, Fail> {
-    let parts = TypeIds::from_slice(alloc, parts)?;
-    put(types, Row::Tuple(parts))
-}
 
 // Whether two types that are there are consistent, and whether they have one head.
 fn compared(alloc: Global, types: &TypeTable, a: TypeId, b: TypeId) -> Result<(bool, bool), Fail> {
@@ -113,13 +91,12 @@ fn types_are_compared(rt: HostRuntime) -> Result<(), Fail> {
         (PAIR, SINGLE, false, false),
     ];
     for (a, b, consistent, same_head) in table {
+        let there = compared(rt.alloc(), &types, a, b)?;
+        let back = compared(rt.alloc(), &types, b, a)?;
         assert_eq!(rt;
-            compared(rt.alloc(), &types, a, b)?,
-            (consistent, same_head)
-        );
-        assert_eq!(rt;
-            compared(rt.alloc(), &types, b, a)?,
-            (consistent, same_head)
+            [there, back],
+            [(consistent, same_head); 2],
+            "{a:?} and {b:?}"
         );
     }
     Ok(())
@@ -138,8 +115,9 @@ fn types_are_blended(rt: HostRuntime) -> Result<(), Fail> {
         (FROM_INT, TO_BOOL, TypeId(12)),
     ];
     for (a, b, expected) in table {
-        assert_eq!(rt; blended(rt.alloc(), &mut types, a, b)?, expected);
-        assert_eq!(rt; blended(rt.alloc(), &mut types, b, a)?, expected);
+        let there = blended(rt.alloc(), &mut types, a, b)?;
+        let back = blended(rt.alloc(), &mut types, b, a)?;
+        assert_eq!(rt; [there, back], [expected; 2], "{a:?} and {b:?}");
     }
     assert_eq!(rt; types.len(), 13);
     Ok(())

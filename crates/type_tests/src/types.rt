@@ -1,19 +1,12 @@
 // Types as rows of a table.
 
+use crate::samples::{function, put, tuple};
 use grift_base::places::TypeId;
 use std::alloc::Global;
 use std::test::Fail;
 use type_graph::rows::{Row, TypeIds};
 use type_graph::tables::TypeTable;
 use type_graph::texts::show_type;
-
-// Puts a row into a table that it fits.
-fn put(types: &mut TypeTable, row: Row) -> Result<TypeId, Fail> {
-    if !types.fits(&row) {
-        return Err(Fail::from("the row does not fit"));
-    }
-    Ok(types.intern(row)?)
-}
 
 // The text of a type that is there.
 fn shown(alloc: Global, types: &TypeTable, t: TypeId) -> Result<String, Fail> {
@@ -62,12 +55,9 @@ fn sample(alloc: Global) -> Result<TypeTable, Fail> {
     for row in [Row::Int, Row::Bool, Row::Unit, Row::Dyn] {
         put(&mut types, row)?;
     }
-    let none = ids(alloc, &[])?;
-    put(&mut types, Row::Fun(none, INT))?;
-    let two = ids(alloc, &[DYN, THUNK])?;
-    put(&mut types, Row::Fun(two, BOOL))?;
-    let parts = ids(alloc, &[FUNCTION, UNIT])?;
-    put(&mut types, Row::Tuple(parts))?;
+    function(alloc, &mut types, &[], INT)?;
+    function(alloc, &mut types, &[DYN, THUNK], BOOL)?;
+    tuple(alloc, &mut types, &[FUNCTION, UNIT])?;
     put(&mut types, Row::Ref(PAIR))?;
     put(&mut types, Row::Vect(PAIR_BOX))?;
     Ok(types)
@@ -76,17 +66,18 @@ fn sample(alloc: Global) -> Result<TypeTable, Fail> {
 #[test]
 fn rows_stand_once_in_order_of_first_use(rt: HostRuntime) -> Result<(), Fail> {
     let mut types = sample(rt.alloc())?;
-    assert_eq!(rt; types.len(), 9);
-    assert_eq!(rt; put(&mut types, Row::Dyn)?, DYN);
-    let parameters = ids(rt.alloc(), &[DYN, THUNK])?;
-    let again = Row::Fun(parameters, BOOL);
-    assert_eq!(rt; types.place_of(&again), Some(FUNCTION));
-    assert_eq!(rt; put(&mut types, again)?, FUNCTION);
-    assert_eq!(rt; types.place_of(&Row::Ref(INT)), None);
-    assert_eq!(rt; types.len(), 9);
+    let known = Row::Fun(ids(rt.alloc(), &[DYN, THUNK])?, BOOL);
+    assert_eq!(rt;
+        (types.place_of(&known), types.place_of(&Row::Ref(INT))),
+        (Some(FUNCTION), None)
+    );
+    let again = (put(&mut types, Row::Dyn)?, put(&mut types, known)?);
+    assert_eq!(rt; (again, types.len()), ((DYN, FUNCTION), 9));
     assert!(rt; *types.row(PAIR_BOX) == Row::Ref(PAIR));
-    assert!(rt; types.same(PAIR, PAIR));
-    assert!(rt; !types.same(PAIR, DYN));
+    assert_eq!(rt;
+        (types.same(PAIR, PAIR), types.same(PAIR, DYN)),
+        (true, false)
+    );
     Ok(())
 }
 
@@ -100,10 +91,13 @@ fn rows_that_do_not_fit_are_told(rt: HostRuntime) -> Result<(), Fail> {
         (8, false, true),
         (9, false, false),
     ] {
-        let parameters = ids(rt.alloc(), &nine[..count])?;
-        assert_eq!(rt; types.fits(&Row::Fun(parameters, INT)), function_fits);
-        let parts = ids(rt.alloc(), &nine[..count])?;
-        assert_eq!(rt; types.fits(&Row::Tuple(parts)), tuple_fits);
+        let function = Row::Fun(ids(rt.alloc(), &nine[..count])?, INT);
+        let tuple = Row::Tuple(ids(rt.alloc(), &nine[..count])?);
+        assert_eq!(rt;
+            (types.fits(&function), types.fits(&tuple)),
+            (function_fits, tuple_fits),
+            "{count}"
+        );
     }
     assert!(rt; !types.fits(&Row::Vect(TypeId(9))));
     Ok(())
@@ -130,8 +124,10 @@ fn types_are_written_and_measured(rt: HostRuntime) -> Result<(), Fail> {
     ];
     for (t, text, height, size) in table {
         let written = shown(rt.alloc(), &types, t)?;
-        assert_eq!(rt; written.as_str(), text);
-        assert_eq!(rt; measured(&types, t)?, (height, size));
+        assert_eq!(rt;
+            (written.as_str(), measured(&types, t)?),
+            (text, (height, size))
+        );
     }
     Ok(())
 }
@@ -141,8 +137,7 @@ fn sizes_are_those_of_trees(rt: HostRuntime) -> Result<(), Fail> {
     let mut types = TypeTable::new(rt.alloc())?;
     let mut part = put(&mut types, Row::Int)?;
     for (height, size) in [(1, 9), (2, 73), (3, 585), (4, 1001), (5, 1001)] {
-        let eight = ids(rt.alloc(), &[part; 8])?;
-        part = put(&mut types, Row::Tuple(eight))?;
+        part = tuple(rt.alloc(), &mut types, &[part; 8])?;
         assert_eq!(rt; measured(&types, part)?, (height, size));
     }
     assert_eq!(rt; types.len(), 6);
