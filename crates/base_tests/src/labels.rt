@@ -9,12 +9,13 @@ fn labels_stand_once_in_order_of_first_use(rt: HostRuntime) -> Result<(), Fail> 
     let second = Pos { line: 3, col: 1 };
     let mut labels = LabelTable::new(rt.alloc());
     assert!(rt; labels.is_empty());
-    assert_eq!(rt; labels.intern(first)?, LabelId(0));
-    assert_eq!(rt; labels.intern(second)?, LabelId(1));
-    assert_eq!(rt; labels.intern(first)?, LabelId(0));
-    assert_eq!(rt; labels.len(), 2);
-    assert_eq!(rt; labels.get(1), Some(&second));
-    assert_eq!(rt; labels.get(2), None);
+    for (pos, place) in [(first, 0), (second, 1), (first, 0)] {
+        assert_eq!(rt; labels.intern(pos)?, LabelId(place));
+    }
+    assert_eq!(rt;
+        (labels.len(), labels.get(1), labels.get(2)),
+        (2, Some(&second), None)
+    );
     assert_eq!(rt; labels.as_slice(), [first, second].as_slice());
     Ok(())
 }

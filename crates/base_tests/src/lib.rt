@@ -24,6 +24,4 @@ mod texts;
 #[cfg(test)]
 mod verdicts;
 #[cfg(test)]
-mod words;
-#[cfg(test)]
 mod worlds;

@@ -1,6 +1,7 @@
 // Lists that grow, and names as elements of sets.
 
 use grift_base::lists::{CallList, Name};
+use grift_base::words::Statics;
 use indexmap::IndexSet;
 use std::test::Fail;
 
@@ -10,9 +11,10 @@ fn lists_grow_at_the_end(rt: HostRuntime) -> Result<(), Fail> {
     assert!(rt; calls.is_empty());
     calls.push(7)?;
     calls.extend(&[9, 7])?;
-    assert_eq!(rt; calls.len(), 3);
-    assert_eq!(rt; calls.get(1), Some(&9));
-    assert_eq!(rt; calls.get(3), None);
+    assert_eq!(rt;
+        (calls.len(), calls.get(1), calls.get(3)),
+        (3, Some(&9), None)
+    );
     assert_eq!(rt; calls.as_slice(), [7, 9, 7].as_slice());
     Ok(())
 }
@@ -25,4 +27,16 @@ fn names_compare_and_hash(rt: HostRuntime) -> Result<(), Fail> {
     names.insert(Name::from_slice(rt.alloc(), b"even")?)?;
     assert_eq!(rt; names.len(), 2);
     Ok(())
+}
+
+#[test]
+fn statics_begin_empty(rt: HostRuntime) {
+    let statics = Statics::new(rt.alloc());
+    let empty = [
+        statics.words.is_empty(),
+        statics.type_at.is_empty(),
+        statics.coercion_at.is_empty(),
+        statics.cast_at.is_empty(),
+    ];
+    assert_eq!(rt; empty, [true; 4]);
 }

@@ -29,8 +29,7 @@ fn kinds_have_numbers_and_texts(rt: HostRuntime) {
         (RefusalKind::TypeTooLarge, 21, "type-too-large"),
     ];
     for (kind, number, text) in table {
-        assert_eq!(rt; kind.number(), number);
-        assert_eq!(rt; kind.text(), text);
+        assert_eq!(rt; (kind.number(), kind.text()), (number, text));
     }
 }
 

@@ -1,3 +1,5 @@
+// Shelves of files in memory.
+
 ghost use Rattle.std.specs.Prelude.{◌≡◌, ◌<◌, length, option_map, IsErrOf, IfOk, IfSome};
 ghost use Rattle.grift_base.specs.Outside.{next_count};
 ghost use Rattle.grift_base.specs.Shelf.{asked_after};
@@ -51,8 +53,11 @@ fn loads(rt: HostRuntime) -> Result<(), Fail> {
         ("a", 4, Ok(3), 2),
     ] {
         let answer = length_of(rt.alloc(), &mut shelf, name, max);
-        assert_eq!(rt; answer, wanted, "{name} up to {max}");
-        assert_eq!(rt; shelf.faults(), faults, "{name} up to {max}");
+        assert_eq!(rt;
+            (answer, shelf.faults()),
+            (wanted, faults),
+            "{name} up to {max}"
+        );
     }
     let loaded = shelf.load(rt.alloc(), "a", 3)?;
     assert_eq!(rt; loaded.as_slice(), b"xyz".as_slice());

@@ -1,3 +1,5 @@
+// Sinks that keep bytes, and sinks that drop them.
+
 ghost use Rattle.std.specs.Prelude.{◌≡◌, ◌++◌, option_map, IsErrOf, OnOk};
 ghost use Rattle.grift_base.specs.Outside.{next_count};
 
@@ -20,10 +22,14 @@ fn keeps_bytes(rt: HostRuntime) -> Result<(), Fail> {
     let mut failing = CallList::new(rt.alloc());
     failing.push(3)?;
     let mut sink = MemSink::new(rt.alloc(), failing)?;
-    assert_eq!(rt; put_twice(&mut sink, b"ab"), Ok(()));
-    assert_eq!(rt; sink.faults(), 0);
-    assert_eq!(rt; put_twice(&mut sink, b"c"), Err(SinkFault::Failed));
-    assert_eq!(rt; sink.faults(), 1);
+    let rows: [(&[u8], Result<(), SinkFault>, u64); 2] = [
+        (b"ab", Ok(()), 0),
+        (b"c", Err(SinkFault::Failed), 1),
+    ];
+    for (bytes, wanted, faults) in rows {
+        let put = put_twice(&mut sink, bytes);
+        assert_eq!(rt; (put, sink.faults()), (wanted, faults));
+    }
     assert_eq!(rt; sink.put(b"d"), Ok(()));
     assert_eq!(rt; sink.bytes(), b"ababcd".as_slice());
     Ok(())
@@ -32,6 +38,6 @@ fn keeps_bytes(rt: HostRuntime) -> Result<(), Fail> {
 #[test]
 fn drops_bytes(rt: HostRuntime) {
     let mut sink = DropSink::new();
-    assert_eq!(rt; put_twice(&mut sink, b"ab"), Ok(()));
-    assert_eq!(rt; sink.faults(), 0);
+    let put = put_twice(&mut sink, b"ab");
+    assert_eq!(rt; (put, sink.faults()), (Ok(()), 0));
 }

@@ -105,8 +105,6 @@ fn a_row_is_reported(rt: HostRuntime) -> Result<(), Fail> {
         stacked: 1,
         highest: 2,
     };
-    assert_eq!(rt; walk(&memory, 65_560, 65_856), Ok(report));
-    assert_eq!(rt; walk(&memory, 65_560, 65_840), Err(WalkFault::Torn(65_824)));
     let empty = SpaceReport {
         bytes: 0,
         objects: 0,
@@ -114,7 +112,13 @@ fn a_row_is_reported(rt: HostRuntime) -> Result<(), Fail> {
         stacked: 0,
         highest: 0,
     };
-    assert_eq!(rt; walk(&memory, 65_560, 65_560), Ok(empty));
+    for (end, wanted) in [
+        (65_856, Ok(report)),
+        (65_840, Err(WalkFault::Torn(65_824))),
+        (65_560, Ok(empty)),
+    ] {
+        assert_eq!(rt; walk(&memory, 65_560, end), wanted, "up to {end}");
+    }
     Ok(())
 }
 
@@ -174,11 +178,9 @@ fn types_are_whole_in_statics_alone(rt: HostRuntime) -> Result<(), Fail> {
         65_536, 65_544, 65_552, 65_560, 65_568, 65_592, 65_608, 65_624,
     ] {
         let end = 65_640;
-        assert!(rt;
-            whole_object(&memory, Area::Statics, end, at).is_some(),
-            "{at}"
-        );
-        assert_eq!(rt; whole_object(&memory, Area::Region, end, at), None, "{at}");
+        let in_statics = whole_object(&memory, Area::Statics, end, at);
+        let in_region = whole_object(&memory, Area::Region, end, at);
+        assert_eq!(rt; (in_statics.is_some(), in_region), (true, None), "{at}");
     }
     Ok(())
 }
@@ -193,17 +195,23 @@ fn a_box_of_two_words(rt: HostRuntime) -> Result<(), Fail> {
         stacked: 0,
         highest: 0,
     };
-    assert_eq!(rt; walk(&memory, 65_536, 65_552), Ok(report));
-    assert_eq!(rt; walk(&memory, 65_536, 65_544), Err(WalkFault::Torn(65_536)));
-    assert_eq!(rt; unpack(0x0000_0001_0002_0305), None);
-    let unpacked = unpack(0x0000_0001_0002_0005);
-    assert_eq!(rt;
-        unpacked,
-        Some(Header {
-            kind: 5,
-            height: 2,
-            count: 1
-        })
-    );
+    for (end, wanted) in [(65_552, Ok(report)), (65_544, Err(WalkFault::Torn(65_536)))] {
+        assert_eq!(rt; walk(&memory, 65_536, end), wanted, "up to {end}");
+    }
     Ok(())
+}
+
+#[test]
+fn headers_are_unpacked(rt: HostRuntime) {
+    let boxed = Header {
+        kind: 5,
+        height: 2,
+        count: 1,
+    };
+    for (word, unpacked) in [
+        (0x0000_0001_0002_0305, None),
+        (0x0000_0001_0002_0005, Some(boxed)),
+    ] {
+        assert_eq!(rt; unpack(word), unpacked, "{word:#018x}");
+    }
 }

@@ -130,21 +130,21 @@ fn texts_are_refused_where_they_first_fail(rt: HostRuntime) -> Result<(), Fail> 
 
 #[test]
 fn lists_nest_two_hundred_deep(rt: HostRuntime) -> Result<(), Fail> {
-    let mut text = vec![in rt.alloc(); b'('; 201]?;
-    let too_deep = Refusal {
-        kind: RefusalKind::TooDeep,
-        pos: Pos { line: 1, col: 201 },
-    };
-    assert_eq!(rt; refusal(rt.alloc(), text.as_slice())?, Some(too_deep));
-    text.truncate(200);
-    let unclosed = Refusal {
-        kind: RefusalKind::Unclosed,
-        pos: Pos { line: 1, col: 200 },
-    };
-    assert_eq!(rt; refusal(rt.alloc(), text.as_slice())?, Some(unclosed));
-    let closing = vec![in rt.alloc(); b')'; 200]?;
-    text.extend_from_slice(closing.as_slice())?;
-    assert_eq!(rt; refusal(rt.alloc(), text.as_slice())?, None);
+    for (opened, closed, wanted) in [
+        (201, 0, Some((RefusalKind::TooDeep, 201))),
+        (200, 0, Some((RefusalKind::Unclosed, 200))),
+        (200, 200, None),
+    ] {
+        let mut text = vec![in rt.alloc(); b'('; opened]?;
+        let closing = vec![in rt.alloc(); b')'; closed]?;
+        text.extend_from_slice(closing.as_slice())?;
+        let refused = refusal(rt.alloc(), text.as_slice())?;
+        let wanted = wanted.map(|(kind, col)| Refusal {
+            kind,
+            pos: Pos { line: 1, col },
+        });
+        assert_eq!(rt; refused, wanted, "{opened} opened, {closed} closed");
+    }
     Ok(())
 }
 

@@ -15,8 +15,10 @@ fn prints(rt: HostRuntime) -> Result<(), Fail> {
     let mut world = quiet_world(rt.alloc());
     world.print_int(-7)?;
     world.print_byte(b'\n')?;
-    assert_eq!(rt; world.output.as_slice(), b"-7\n".as_slice());
-    assert_eq!(rt; world.place, 0);
+    assert_eq!(rt;
+        (world.output.as_slice(), world.place),
+        (b"-7\n".as_slice(), 0)
+    );
     Ok(())
 }
 
@@ -82,14 +84,10 @@ fn makes_each_other_call(rt: HostRuntime) {
         (0xFFFF_FFFF_FFFF_FFFF, 0, EnvEffect::Refused, ""),
     ] {
         let mut world = quiet_world(rt.alloc());
+        let came_to = world.env(number, a0, 9, 2);
         assert_eq!(rt;
-            world.env(number, a0, 9, 2),
-            effect,
-            "call {number} of {a0}"
-        );
-        assert_eq!(rt;
-            world.output.as_slice(),
-            text.as_bytes(),
+            (came_to, world.output.as_slice()),
+            (effect, text.as_bytes()),
             "call {number} of {a0}"
         );
     }
@@ -122,8 +120,8 @@ fn reads_numbers(rt: HostRuntime) -> Result<(), Fail> {
     ] {
         let mut world = World::new(rt.alloc(), Bytes::from_slice(rt.alloc(), input.as_bytes())?);
         for (answer, place) in answers {
-            assert_eq!(rt; world.read_int(), answer, "in {input}");
-            assert_eq!(rt; world.place, place, "in {input}");
+            let number = world.read_int();
+            assert_eq!(rt; (number, world.place), (answer, place), "in {input}");
         }
     }
     Ok(())
