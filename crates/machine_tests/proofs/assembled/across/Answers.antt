@@ -1,5 +1,5 @@
 use Rattle.rv_emulator.proofs.Across.{across_items}
-use Rattle.rv_emulator.proofs.machine.assembled.across.Goals as goal
+use Rattle.machine_tests.proofs.assembled.across.Goals as goal
 
 pub returns : goal.returns
 returns c =
