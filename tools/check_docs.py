@@ -1,7 +1,9 @@
 #!/usr/bin/env python3
-"""Checks the pages: runs each line of their `check` blocks, and looks for each file that they name.
+"""Checks the pages: runs each line of their `check` blocks, looks for each file that they name, and compares the kinds
+of refusals in the table of docs/LANGUAGE.md, which ./grift tells what to do from, with those of the program.
 
-Usage: tools/check_docs.py [--files]. With --files nothing is run, so that the program need not be built.
+Usage: tools/check_docs.py [--files]. With --files nothing is run, so that the program need not be built; else the
+status is 2 where it isn't.
 A line of a `check` block is a source, `=>`, and what `grift check` says of it: `type T, casts N`, or its refusal.
 """
 import pathlib
@@ -10,7 +12,12 @@ import subprocess
 import sys
 import tempfile
 
+sys.dont_write_bytecode = True
+import explain  # noqa: E402 (nothing of it is to stay in the repository)
+
 ROOT = pathlib.Path(__file__).resolve().parent.parent
+PROGRAM = ROOT / "crates" / "grift" / "out" / "grift"
+REFUSALS = ROOT / "crates" / "grift_base" / "src" / "refusals.rt"
 PAGES = [ROOT / "README.md", *sorted((ROOT / "docs").glob("*.md")), *sorted(ROOT.glob("crates/*/README.md"))]
 BLOCK = re.compile(r"^```check\n(.*?)^```$", re.M | re.S)
 QUOTED = re.compile(r"`([^`\n]+)`")
@@ -23,7 +30,7 @@ def said_of(source):
     with tempfile.NamedTemporaryFile("w", suffix=".grift") as file:
         file.write(source)
         file.flush()
-        run = subprocess.run([ROOT / "grift", "check", file.name], capture_output=True, text=True)
+        run = subprocess.run([PROGRAM, "check", file.name], capture_output=True, text=True)
     return ", ".join(run.stdout.splitlines()) if run.returncode == 0 else run.stderr.strip()
 
 
@@ -47,12 +54,26 @@ def faults_of_files(page, names):
             yield f"there is no {name}"
 
 
+def faults_of_refusals():
+    """Kinds of refusals that stand in the program or in the table of the page alone."""
+    there = set(re.findall(r'RefusalKind::\w+ => "([a-z-]+)"', REFUSALS.read_text()))
+    told = set(explain.advice())
+    yield from (f"the table of refusals lacks {kind}" for kind in sorted(there - told))
+    yield from (f"the table of refusals has {kind}, which is none" for kind in sorted(told - there))
+
+
 def main():
+    is_run = "--files" not in sys.argv[1:]
+    if is_run and not PROGRAM.exists():
+        print("the program isn't built: ./grift run examples/answer.grift builds it, and --files needs none")
+        return 2
     names = {path.name for path in ROOT.rglob("*") if "out" not in path.parts and ".git" not in path.parts}
     faults = 0
     for page in PAGES:
         found = list(faults_of_files(page, names))
-        if "--files" not in sys.argv[1:]:
+        if page == explain.LANGUAGE:
+            found += faults_of_refusals()
+        if is_run:
             found += faults_of_examples(page)
         for fault in found:
             print(f"{page.relative_to(ROOT)}: {fault}")
