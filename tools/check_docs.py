@@ -2,6 +2,8 @@
 """Checks the pages: runs each line of their `check` blocks, looks for each file that they name, and compares the kinds
 of refusals in the table of docs/LANGUAGE.md, which ./grift tells what to do from, with those of the program.
 
+In docs/ARCHITECTURE.md each name of a definition, lemma, function, test, edit or crate has to be there, too.
+
 Usage: tools/check_docs.py [--files]. With --files nothing is run, so that the program need not be built; else the
 status is 2 where it isn't.
 A line of a `check` block is a source, `=>`, and what `grift check` says of it: `type T, casts N`, or its refusal.
@@ -22,6 +24,8 @@ PAGES = [ROOT / "README.md", *sorted((ROOT / "docs").glob("*.md")), *sorted(ROOT
 BLOCK = re.compile(r"^```check\n(.*?)^```$", re.M | re.S)
 QUOTED = re.compile(r"`([^`\n]+)`")
 LINKED = re.compile(r"\]\(([^)#:]+)\)")
+ARCHITECTURE = ROOT / "docs" / "ARCHITECTURE.md"
+NAME = re.compile(r"[a-z]+(?:_[a-z0-9]+)+")
 FILE = re.compile(r"[\w+./-]+\.(rt|antt|md|py|grift|edit)|\./grift|(docs|tools|crates|examples)(/[\w+.-]+)*/?")
 
 
@@ -54,6 +58,20 @@ def faults_of_files(page, names):
             yield f"there is no {name}"
 
 
+def names_that_stand():
+    """The words of all sources, the names of must-fail edits and those of crates."""
+    words = {path.stem for path in ROOT.glob("crates/*/must-fail/*.edit")}
+    for kind in ("src/**/*.rt", "specs/**/*.antt", "proofs/**/*.antt"):
+        for path in ROOT.glob(f"crates/*/{kind}"):
+            words.update(NAME.findall(path.read_text()))
+    return words | {path.name for path in ROOT.glob("crates/*")}
+
+
+def faults_of_names(page):
+    wanted = {name for name in QUOTED.findall(page.read_text()) if NAME.fullmatch(name)}
+    yield from (f"nothing is called {name}" for name in sorted(wanted - names_that_stand()))
+
+
 def faults_of_refusals():
     """Kinds of refusals that stand in the program or in the table of the page alone."""
     there = set(re.findall(r'RefusalKind::\w+ => "([a-z-]+)"', REFUSALS.read_text()))
@@ -73,6 +91,8 @@ def main():
         found = list(faults_of_files(page, names))
         if page == explain.LANGUAGE:
             found += faults_of_refusals()
+        if page == ARCHITECTURE:
+            found += faults_of_names(page)
         if is_run:
             found += faults_of_examples(page)
         for fault in found:
