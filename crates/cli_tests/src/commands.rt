@@ -1,7 +1,7 @@
 // Which words are which command.
 
+use crate::words::{NoMemory, words_of};
 use grift_cli::commands::{Command, image_name, read_words};
-use std::alloc::{AllocError, Global};
 
 // A run of the file `a` without a name for its image.
 const fn a_run(region: u64, stack: u64, steps: u64) -> Option<Command<'static>> {
@@ -38,17 +38,8 @@ const fn an_exec(region: u64, stack: u64, steps: u64) -> Option<Command<'static>
     })
 }
 
-// Words with these texts.
-fn words_of(alloc: Global, texts: &[&str]) -> Result<Vec<String>, AllocError> {
-    let mut words = Vec::new(alloc);
-    for text in texts {
-        words.push(String::from_str(alloc, text)?)?;
-    }
-    Ok(words)
-}
-
 #[test]
-fn words_and_commands(rt: HostRuntime) -> Result<(), AllocError> {
+fn words_and_commands(rt: HostRuntime) -> Result<(), NoMemory> {
     let rows: [(&[&str], Option<Command>); 39] = [
         (&["run", "a"], a_run(16777216, 1048576, 100000000)),
         (&["exec", "a"], an_exec(16777216, 1048576, 100000000)),
@@ -123,8 +114,8 @@ fn words_and_commands(rt: HostRuntime) -> Result<(), AllocError> {
             Some(Command::Run { image, .. }) => image,
             _ => None,
         };
-        assert!(rt; read_words(words.as_slice()) == command, "{texts:?}");
-        assert!(rt; image_name(words.as_slice()) == image, "{texts:?}");
+        let read = (read_words(words.as_slice()), image_name(words.as_slice()));
+        assert!(rt; read == (command, image), "{texts:?}");
     }
     Ok(())
 }

@@ -1,105 +1,87 @@
 // Programs that are closed, and programs that aren't.
 
+use crate::machines::{alone, number, set, sources, word};
 use grift_base::lists::OutOfMemory;
-use grift_base::words::Statics;
-use low_ir::code::{LowCode, LowSource, LowSources, WordOp};
-use low_ir::programs::{LowProc, LowProcs, LowProgram};
+use low_ir::code::{LowCode, WordOp};
 use rv_isa::inst::Cond;
 use std::alloc::Global;
 use std::test::Fail;
 
-// A program of one procedure that takes no words and has two.
-fn alone(alloc: Global, code: LowCode) -> Result<LowProgram, OutOfMemory> {
-    let mut procs = LowProcs::new(alloc);
-    procs.push(LowProc {
-        params: 0,
-        words: 2,
-        code,
-    })?;
-    Ok(LowProgram {
-        procs,
-        entry: 0,
-        statics: Statics::new(alloc),
-    })
+#[derive(Clone, Copy, Debug)]
+enum Sample {
+    // The first word is set to a number, and then the second is returned.
+    Returns(u32, u32),
+    // Word 0 is set in the one branch and this one in the other; then word 0 is returned.
+    Branches(u32),
+    // A procedure goes on in place of this one, with no words or with one.
+    CallsWithNone(u32),
+    CallsWithOne(u32),
+    // Code without an end.
+    Ends,
+    // A word is loaded from this offset, and then returned.
+    Loads(u32),
+    // 200,000 sums, one after another.
+    Sums,
 }
 
-// A word is set to a number, and then returned.
-fn sets_and_returns(alloc: Global, set: u32, returned: u32) -> Result<LowCode, OutOfMemory> {
-    let rest = Box::new(alloc, LowCode::Return(LowSource::Word(returned)))?;
-    Ok(LowCode::Set(set, LowSource::Number(7), rest))
+fn code(alloc: Global, sample: Sample) -> Result<LowCode, OutOfMemory> {
+    match sample {
+        Sample::Returns(d, returned) => set(alloc, d, number(7), LowCode::Return(word(returned))),
+        Sample::Branches(other) => branches(alloc, other),
+        Sample::CallsWithNone(k) => Ok(LowCode::TailCall(k, sources(alloc, &[])?)),
+        Sample::CallsWithOne(k) => Ok(LowCode::TailCall(k, sources(alloc, &[number(3)])?)),
+        Sample::Ends => Ok(LowCode::Done),
+        Sample::Loads(offset) => {
+            let rest = Box::new(alloc, LowCode::Return(word(1)))?;
+            Ok(LowCode::Load(1, number(65536), offset, rest))
+        }
+        Sample::Sums => sums(alloc),
+    }
 }
 
-// Word 0 is set in the one branch and another in the other; then word 0 is returned.
 fn branches(alloc: Global, other: u32) -> Result<LowCode, OutOfMemory> {
-    let one = LowCode::Set(0, LowSource::Number(1), Box::new(alloc, LowCode::Done)?);
-    let two = LowCode::Set(other, LowSource::Number(2), Box::new(alloc, LowCode::Done)?);
+    let one = set(alloc, 0, number(1), LowCode::Done)?;
+    let two = set(alloc, other, number(2), LowCode::Done)?;
     Ok(LowCode::If(
         Cond::Eq,
-        LowSource::Number(1),
-        LowSource::Number(1),
+        number(1),
+        number(1),
         Box::new(alloc, one)?,
         Box::new(alloc, two)?,
-        Box::new(alloc, LowCode::Return(LowSource::Word(0)))?,
+        Box::new(alloc, LowCode::Return(word(0)))?,
     ))
 }
 
-// A word is loaded from an offset, and then returned.
-fn loads(alloc: Global, offset: u32) -> Result<LowCode, OutOfMemory> {
-    let rest = Box::new(alloc, LowCode::Return(LowSource::Word(1)))?;
-    Ok(LowCode::Load(1, LowSource::Number(65536), offset, rest))
-}
-
-#[test]
-fn words_are_set_before_they_are_read(rt: HostRuntime) -> Result<(), Fail> {
-    let alloc = rt.alloc();
-    assert!(rt; alone(alloc, sets_and_returns(alloc, 1, 1)?)?.is_closed());
-    assert!(rt; !alone(alloc, sets_and_returns(alloc, 1, 0)?)?.is_closed());
-    assert!(rt; !alone(alloc, sets_and_returns(alloc, 2, 2)?)?.is_closed());
-    Ok(())
-}
-
-#[test]
-fn both_branches_set_what_is_read_behind_them(rt: HostRuntime) -> Result<(), Fail> {
-    let alloc = rt.alloc();
-    assert!(rt; alone(alloc, branches(alloc, 0)?)?.is_closed());
-    assert!(rt; !alone(alloc, branches(alloc, 1)?)?.is_closed());
-    Ok(())
-}
-
-#[test]
-fn calls_hand_on_as_many_words_as_are_taken(rt: HostRuntime) -> Result<(), Fail> {
-    let alloc = rt.alloc();
-    let mut words = LowSources::new(alloc);
-    assert!(rt; alone(alloc, LowCode::TailCall(0, LowSources::new(alloc)))?.is_closed());
-    assert!(rt; !alone(alloc, LowCode::TailCall(1, LowSources::new(alloc)))?.is_closed());
-    words.push(LowSource::Number(3))?;
-    assert!(rt; !alone(alloc, LowCode::TailCall(0, words))?.is_closed());
-    Ok(())
-}
-
-#[test]
-fn code_leaves_and_offsets_are_small(rt: HostRuntime) -> Result<(), Fail> {
-    let alloc = rt.alloc();
-    assert!(rt; !alone(alloc, LowCode::Done)?.is_closed());
-    assert!(rt; alone(alloc, loads(alloc, 2040)?)?.is_closed());
-    assert!(rt; !alone(alloc, loads(alloc, 2048)?)?.is_closed());
-    Ok(())
-}
-
-#[test]
-fn long_code_is_looked_at_and_dropped_without_recursion(rt: HostRuntime) -> Result<(), Fail> {
-    let alloc = rt.alloc();
-    let mut code = LowCode::Return(LowSource::Word(1));
-    for _ in 0..200000 {
+fn sums(alloc: Global) -> Result<LowCode, OutOfMemory> {
+    let mut code = LowCode::Return(word(1));
+    for _ in 0..200_000 {
         let rest = Box::new(alloc, code)?;
-        code = LowCode::Compute(
-            WordOp::Add,
-            1,
-            LowSource::Number(1),
-            LowSource::Number(2),
-            rest,
-        );
+        code = LowCode::Compute(WordOp::Add, 1, number(1), number(2), rest);
     }
-    assert!(rt; alone(alloc, code)?.is_closed());
+    Ok(code)
+}
+
+// Programs of one procedure that takes no words and has two. Words are set before they are read, in both branches of
+// what stands before; calls hand on as many words as are taken; code leaves; offsets are small. The last code is longer
+// than the process's stack is deep.
+#[test]
+fn words_and_procedures_are_there(rt: HostRuntime) -> Result<(), Fail> {
+    for (sample, closed) in [
+        (Sample::Returns(1, 1), true),
+        (Sample::Returns(1, 0), false),
+        (Sample::Returns(2, 2), false),
+        (Sample::Branches(0), true),
+        (Sample::Branches(1), false),
+        (Sample::CallsWithNone(0), true),
+        (Sample::CallsWithNone(1), false),
+        (Sample::CallsWithOne(0), false),
+        (Sample::Ends, false),
+        (Sample::Loads(2040), true),
+        (Sample::Loads(2048), false),
+        (Sample::Sums, true),
+    ] {
+        let low = alone(rt.alloc(), 2, code(rt.alloc(), sample)?)?;
+        assert_eq!(rt; low.is_closed(), closed, "{sample:?}");
+    }
     Ok(())
 }

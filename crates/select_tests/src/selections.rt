@@ -2,10 +2,10 @@
 
 ghost use Rattle.rv_isa.specs.Bits.{IsBelow};
 
+use crate::machines::{alone, number, procedure, program, set, sources, word};
 use grift_base::lists::OutOfMemory;
-use grift_base::words::Statics;
-use low_ir::code::{LowCode, LowSource, LowSources, WordOp};
-use low_ir::programs::{LowProc, LowProcs, LowProgram};
+use low_ir::code::{LowCode, WordOp};
+use low_ir::programs::{LowProcs, LowProgram};
 use rv_isa::inst::Cond;
 use rv_isa::number::Reg;
 use rv_select::code::{VReg, VirtualCode, VirtualItem};
@@ -20,19 +20,17 @@ fn x(number: i64) -> VReg
     VReg::Real(Reg::new(number))
 }
 
-// A program of one procedure that takes no words and has two.
-fn alone(alloc: Global, code: LowCode) -> Result<LowProgram, OutOfMemory> {
-    let mut procs = LowProcs::new(alloc);
-    procs.push(LowProc {
-        params: 0,
-        words: 2,
-        code,
-    })?;
-    Ok(LowProgram {
-        procs,
-        entry: 0,
-        statics: Statics::new(alloc),
-    })
+// The code that is selected for a program that is closed.
+fn selected(alloc: Global, low: &LowProgram) -> Result<VirtualCode, Fail> {
+    if !low.is_closed() {
+        return Err(Fail::from("the program is not closed"));
+    }
+    Ok(select(alloc, low)?)
+}
+
+// The code that is selected for a lone procedure with two words.
+fn selected_alone(alloc: Global, code: LowCode) -> Result<VirtualCode, Fail> {
+    selected(alloc, &alone(alloc, 2, code)?)
 }
 
 // The items of a lone procedure, without the start of the program, the mark of the procedure, and what stands at its
@@ -47,9 +45,7 @@ fn own_items(code: &VirtualCode) -> &[VirtualItem] {
 
 #[test]
 fn a_program_begins_with_a_call_and_its_answer(rt: HostRuntime) -> Result<(), Fail> {
-    let low = alone(rt.alloc(), LowCode::Return(LowSource::Number(42)))?;
-    assert!(rt; low.is_closed());
-    let code = select(rt.alloc(), &low)?;
+    let code = selected_alone(rt.alloc(), LowCode::Return(number(42)))?;
     assert_eq!(rt; code.registers, 2);
     assert_eq!(rt;
         code.items.as_slice(),
@@ -78,19 +74,17 @@ fn a_program_begins_with_a_call_and_its_answer(rt: HostRuntime) -> Result<(), Fa
 #[test]
 fn a_branch_has_two_marks(rt: HostRuntime) -> Result<(), Fail> {
     let alloc = rt.alloc();
-    let one = LowCode::Set(0, LowSource::Number(1), Box::new(alloc, LowCode::Done)?);
-    let other = LowCode::Set(0, LowSource::Number(2), Box::new(alloc, LowCode::Done)?);
+    let one = set(alloc, 0, number(1), LowCode::Done)?;
+    let other = set(alloc, 0, number(2), LowCode::Done)?;
     let code = LowCode::If(
         Cond::Lt,
-        LowSource::Number(7),
-        LowSource::Number(0),
+        number(7),
+        number(0),
         Box::new(alloc, one)?,
         Box::new(alloc, other)?,
-        Box::new(alloc, LowCode::Return(LowSource::Word(0)))?,
+        Box::new(alloc, LowCode::Return(word(0)))?,
     );
-    let low = alone(alloc, code)?;
-    assert!(rt; low.is_closed());
-    let code = select(alloc, &low)?;
+    let code = selected_alone(alloc, code)?;
     assert_eq!(rt;
         own_items(&code),
         [
@@ -112,15 +106,9 @@ fn a_branch_has_two_marks(rt: HostRuntime) -> Result<(), Fail> {
 #[test]
 fn an_object_is_written_before_the_allocation_word_moves(rt: HostRuntime) -> Result<(), Fail> {
     let alloc = rt.alloc();
-    let words = LowSources::from_slice(alloc, &[LowSource::Number(9), LowSource::Number(0)])?;
-    let code = LowCode::Build(
-        1,
-        words,
-        Box::new(alloc, LowCode::Return(LowSource::Word(1)))?,
-    );
-    let low = alone(alloc, code)?;
-    assert!(rt; low.is_closed());
-    let code = select(alloc, &low)?;
+    let words = sources(alloc, &[number(9), number(0)])?;
+    let code = LowCode::Build(1, words, Box::new(alloc, LowCode::Return(word(1)))?);
+    let code = selected_alone(alloc, code)?;
     assert_eq!(rt;
         own_items(&code),
         [
@@ -142,40 +130,20 @@ fn an_object_is_written_before_the_allocation_word_moves(rt: HostRuntime) -> Res
 
 // Two procedures: the second takes two words, and calls itself with their difference in place of the first.
 fn two(alloc: Global) -> Result<LowProgram, OutOfMemory> {
-    let handed = LowSources::from_slice(alloc, &[LowSource::Number(5), LowSource::Number(3)])?;
-    let back = LowSources::from_slice(alloc, &[LowSource::Word(2), LowSource::Word(1)])?;
+    let handed = sources(alloc, &[number(5), number(3)])?;
+    let back = sources(alloc, &[word(2), word(1)])?;
     let tail = Box::new(alloc, LowCode::TailCall(1, back))?;
-    let loops = LowCode::Compute(
-        WordOp::Sub,
-        2,
-        LowSource::Word(0),
-        LowSource::Number(1),
-        tail,
-    );
-    let answer = Box::new(alloc, LowCode::Return(LowSource::Word(0)))?;
+    let loops = LowCode::Compute(WordOp::Sub, 2, word(0), number(1), tail);
+    let answer = Box::new(alloc, LowCode::Return(word(0)))?;
     let mut procs = LowProcs::new(alloc);
-    procs.push(LowProc {
-        params: 0,
-        words: 1,
-        code: LowCode::Call(0, 1, handed, answer),
-    })?;
-    procs.push(LowProc {
-        params: 2,
-        words: 3,
-        code: loops,
-    })?;
-    Ok(LowProgram {
-        procs,
-        entry: 0,
-        statics: Statics::new(alloc),
-    })
+    procs.push(procedure(0, 1, LowCode::Call(0, 1, handed, answer)))?;
+    procs.push(procedure(2, 3, loops))?;
+    Ok(program(alloc, procs))
 }
 
 #[test]
 fn words_are_handed_on_from_x10_on(rt: HostRuntime) -> Result<(), Fail> {
-    let low = two(rt.alloc())?;
-    assert!(rt; low.is_closed());
-    let code = select(rt.alloc(), &low)?;
+    let code = selected(rt.alloc(), &two(rt.alloc())?)?;
     assert_eq!(rt; code.registers, 4);
     let items = code.items.as_slice();
     assert!(rt; items.len() == 33);
@@ -211,41 +179,21 @@ fn words_are_handed_on_from_x10_on(rt: HostRuntime) -> Result<(), Fail> {
 
 // Each kind of code that no other test has, and an end in a call by address.
 fn all_kinds(alloc: Global) -> Result<LowCode, OutOfMemory> {
-    let address = LowSource::Word(0);
-    let mut code = LowCode::TailCallAt(address, LowSources::new(alloc));
-    code = LowCode::CallAt(1, address, LowSources::new(alloc), Box::new(alloc, code)?);
+    let address = word(0);
+    let mut code = LowCode::TailCallAt(address, sources(alloc, &[])?);
+    code = LowCode::CallAt(1, address, sources(alloc, &[])?, Box::new(alloc, code)?);
     code = LowCode::CodeOf(0, 0, Box::new(alloc, code)?);
-    code = LowCode::Environment(
-        1,
-        LowSource::Word(1),
-        LowSource::Number(0),
-        0,
-        1,
-        Box::new(alloc, code)?,
-    );
-    code = LowCode::Take(LowSource::Number(300), Box::new(alloc, code)?);
-    code = LowCode::Store(
-        LowSource::Word(1),
-        LowSource::Word(0),
-        16,
-        Box::new(alloc, code)?,
-    );
-    code = LowCode::Request(0, LowSource::Number(300), Box::new(alloc, code)?);
-    code = LowCode::Load(1, LowSource::Number(65536), 8, Box::new(alloc, code)?);
-    Ok(LowCode::Compute(
-        WordOp::Sll,
-        0,
-        LowSource::Number(3),
-        LowSource::Number(4),
-        Box::new(alloc, code)?,
-    ))
+    code = LowCode::Environment(1, word(1), number(0), 0, 1, Box::new(alloc, code)?);
+    code = LowCode::Take(number(300), Box::new(alloc, code)?);
+    code = LowCode::Store(word(1), word(0), 16, Box::new(alloc, code)?);
+    code = LowCode::Request(0, number(300), Box::new(alloc, code)?);
+    code = LowCode::Load(1, number(65536), 8, Box::new(alloc, code)?);
+    Ok(LowCode::Compute(WordOp::Sll, 0, number(3), number(4), Box::new(alloc, code)?))
 }
 
 #[test]
 fn other_kinds_of_code(rt: HostRuntime) -> Result<(), Fail> {
-    let low = alone(rt.alloc(), all_kinds(rt.alloc())?)?;
-    assert!(rt; low.is_closed());
-    let code = select(rt.alloc(), &low)?;
+    let code = selected_alone(rt.alloc(), all_kinds(rt.alloc())?)?;
     let zero = VReg::Virtual(0);
     let one = VReg::Virtual(1);
     assert_eq!(rt;
@@ -282,18 +230,16 @@ fn other_kinds_of_code(rt: HostRuntime) -> Result<(), Fail> {
 
 // A word is set so many times.
 fn long(alloc: Global, times: u64) -> Result<LowCode, OutOfMemory> {
-    let mut code = LowCode::Return(LowSource::Word(0));
+    let mut code = LowCode::Return(word(0));
     for n in 0..times {
-        code = LowCode::Set(0, LowSource::Number(n), Box::new(alloc, code)?);
+        code = set(alloc, 0, number(n), code)?;
     }
     Ok(code)
 }
 
 #[test]
 fn a_long_code_is_selected_without_recursion(rt: HostRuntime) -> Result<(), Fail> {
-    let low = alone(rt.alloc(), long(rt.alloc(), 200000)?)?;
-    assert!(rt; low.is_closed());
-    let code = select(rt.alloc(), &low)?;
+    let code = selected_alone(rt.alloc(), long(rt.alloc(), 200000)?)?;
     assert_eq!(rt; code.items.len(), 200015);
     Ok(())
 }

@@ -1,26 +1,11 @@
 // Calls over a shelf and sinks in memory.
 
-use grift_base::lists::{Bytes, CallList, Name, NamedFiles, OutOfMemory};
+use crate::words::{NoMemory, words_of};
+use grift_base::lists::{Bytes, CallList, Name, NamedFiles};
 use grift_base::shelves::{LoadFault, MemShelf, Shelf};
 use grift_base::sinks::MemSink;
 use grift_cli::top::grift;
-use std::alloc::{AllocError, Global};
-
-// No memory was left for a test.
-#[derive(Debug, Drop)]
-struct NoMemory;
-
-impl From<OutOfMemory> for NoMemory {
-    fn from(_error: OutOfMemory) -> NoMemory {
-        NoMemory
-    }
-}
-
-impl From<AllocError> for NoMemory {
-    fn from(_error: AllocError) -> NoMemory {
-        NoMemory
-    }
-}
+use std::alloc::Global;
 
 // A call: its words, what the file `a` holds, and the numbers of the calls at which the shelf and the sinks fail.
 #[derive(Clone, Copy)]
@@ -69,16 +54,6 @@ fn shelf_of(alloc: Global, case: &Case) -> Result<MemShelf, NoMemory> {
     files.push((name, Bytes::from_slice(alloc, case.file)?))?;
     let failing = CallList::from_slice(alloc, case.shelf_fails)?;
     Ok(MemShelf::new(alloc, files, failing))
-}
-
-// Words of a command line.
-fn words_of(alloc: Global, texts: &[&str]) -> Result<Vec<String>, NoMemory> {
-    let mut words = Vec::new(alloc);
-    for text in texts {
-        let word = String::from_str(alloc, text)?;
-        words.push(word).map_err(|_| NoMemory)?;
-    }
-    Ok(words)
 }
 
 // Whether a call comes to this status, with this output and this line.
@@ -1115,17 +1090,23 @@ fn written_type(alloc: Global, last: &[u8]) -> Result<Vec<u8>, NoMemory> {
 
 #[test]
 fn types_of_a_thousand_nodes(rt: HostRuntime) -> Result<(), NoMemory> {
-    let formed = formed_type(rt.alloc(), b"1")?;
-    let case = call_of(CHECK, formed.as_slice());
-    assert!(rt; comes_to(rt.alloc(), &case, 0, b"type Int\ncasts 0\n", b"")?);
-    let formed = formed_type(rt.alloc(), b"(box 1)")?;
-    let case = call_of(CHECK, formed.as_slice());
-    assert!(rt; comes_to(rt.alloc(), &case, 1, b"", b"refused type-too-large 5:8\n")?);
-    let written = written_type(rt.alloc(), b"Int")?;
-    let case = call_of(CHECK, written.as_slice());
-    assert!(rt; comes_to(rt.alloc(), &case, 0, b"type Int\ncasts 2\n", b"")?);
-    let written = written_type(rt.alloc(), b"(Ref Int)")?;
-    let case = call_of(CHECK, written.as_slice());
-    assert!(rt; comes_to(rt.alloc(), &case, 1, b"", b"refused type-too-large 2:2\n")?);
+    let rows: [(bool, &[u8], u8, &[u8], &[u8]); 4] = [
+        (true, b"1", 0, b"type Int\ncasts 0\n", b""),
+        (true, b"(box 1)", 1, b"", b"refused type-too-large 5:8\n"),
+        (false, b"Int", 0, b"type Int\ncasts 2\n", b""),
+        (false, b"(Ref Int)", 1, b"", b"refused type-too-large 2:2\n"),
+    ];
+    for (formed, last, status, output, line) in rows {
+        let source = if formed {
+            formed_type(rt.alloc(), last)?
+        } else {
+            written_type(rt.alloc(), last)?
+        };
+        let case = call_of(CHECK, source.as_slice());
+        assert!(rt;
+            comes_to(rt.alloc(), &case, status, output, line)?,
+            "{last:?}"
+        );
+    }
     Ok(())
 }
