@@ -1,4 +1,4 @@
-//! Tests of programs over words: as images on the emulator. They stand in a crate of their own, since the tests of a
+//! Tests of programs over words: which are closed, their code, and their images on the emulator. They stand in a crate of their own, since the tests of a
 //! crate are proved with all of that crate once more.
 #![tactic(auto)]
 
