@@ -630,10 +630,11 @@ fn assembled_words_decode_and_encode(rt: HostRuntime) {
     for (name, rows) in &ASSEMBLED {
         for (numbers, word) in *rows {
             assert_eq!(rt;
-                decode(*word).map(|inst| (parts_of(inst), encode(inst))),
-                Some(((*name, *numbers), *word)),
+                decode(*word).map(parts_of),
+                Some((*name, *numbers)),
                 "at {word:#010x}"
             );
+            assert_eq!(rt; decode(*word).map(encode), Some(*word), "at {word:#010x}");
         }
     }
 }

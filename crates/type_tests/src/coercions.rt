@@ -44,10 +44,16 @@ fn casts_have_their_coercions(rt: HostRuntime) -> Result<(), Fail> {
     let alloc = rt.alloc();
     let types = eleven_types(alloc)?;
     let mut table = CoercionTable::new(alloc)?;
-    for (from, to, place, tall) in [(3, 4, 3, 1), (6, 7, 5, 1), (6, 3, 6, 0)] {
-        let c = cast(alloc, &mut table, &types, TypeId(from), TypeId(to), LABEL)?;
-        assert_eq!(rt; (c, height(&table, c)?), (CoercionId(place), tall));
-    }
+    let function = cast(alloc, &mut table, &types, TypeId(3), TypeId(4), LABEL)?;
+    let reference = cast(alloc, &mut table, &types, TypeId(6), TypeId(7), LABEL)?;
+    let fail = cast(alloc, &mut table, &types, TypeId(6), TypeId(3), LABEL)?;
+    let made = [function, reference, fail];
+    let heights = [
+        height(&table, function)?,
+        height(&table, reference)?,
+        height(&table, fail)?,
+    ];
+    assert!(rt; made == [3, 5, 6].map(CoercionId) && heights == [1, 1, 0]);
     let id = CoercionId(0);
     let arguments = CoercionIds::from_slice(alloc, &[CoercionId(1)])?;
     let nodes = [
