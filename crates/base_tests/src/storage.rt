@@ -117,6 +117,7 @@ fn a_row_is_reported(rt: HostRuntime) -> Result<(), Fail> {
         (65_840, Err(WalkFault::Torn(65_824))),
         (65_560, Ok(empty)),
     ] {
+        assert!(rt; 65_560 <= end);
         assert_eq!(rt; walk(&memory, 65_560, end), wanted, "up to {end}");
     }
     Ok(())
@@ -196,6 +197,7 @@ fn a_box_of_two_words(rt: HostRuntime) -> Result<(), Fail> {
         highest: 0,
     };
     for (end, wanted) in [(65_552, Ok(report)), (65_544, Err(WalkFault::Torn(65_536)))] {
+        assert!(rt; 65_536 <= end);
         assert_eq!(rt; walk(&memory, 65_536, end), wanted, "up to {end}");
     }
     Ok(())
