@@ -69,7 +69,7 @@ def cut(before, behind, width):
 def place(source, line, column, columns):
     """The line of a source with a mark under a column of it, which counts bytes; nothing where there is no such."""
     lines = source.split(b"\n")
-    if line > len(lines) or column > len(lines[line - 1]):
+    if not 1 <= line <= len(lines) or not 1 <= column <= len(lines[line - 1]):
         return []
     text = lines[line - 1]
     before, behind = legible(text[:column - 1]), legible(text[column - 1:].removesuffix(b"\r"))
