@@ -18,7 +18,7 @@ LANGUAGE = ROOT / "docs" / "LANGUAGE.md"
 TABLE = re.compile(r"^\| KIND \| Where \| What to do \|\n\|[-|]+\|\n((?:\|.*\|\n)+)", re.M)
 PLACED = re.compile(r"(?:refused (?P<kind>[a-z-]+)|blame) (?P<line>[0-9]+):(?P<column>[0-9]+)")
 BLAME = "the cast at this expression met a value of another type"
-NOT_COMPILED = "`grift check` takes it, but `grift run` doesn't compile this yet (docs/LANGUAGE.md, \"What runs\")"
+NOT_COMPILED = "`grift check` takes this, but `grift run` doesn't compile it yet (docs/LANGUAGE.md, \"What runs\")"
 OTHER_LINES = {
     "words refused": "`./grift --help` prints the commands",
     "load failed": "there is no such file, or it can't be read",
