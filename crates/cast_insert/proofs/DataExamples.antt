@@ -11,9 +11,10 @@ use Rattle.core_calc.specs.Terms.{IntLit, BoolLit, UnitLit, Cast, Proj, ProjDyn,
 use Rattle.surface_syntax.specs.declared.names.Ident.TheVariants.{Source}
 use Rattle.surface_syntax.specs.Trees.{ExprAt, UnitNode, LetNode, AscribeNode, TupleNode, ProjNode, PrimNode, NoLets}
 use Rattle.surface_syntax.specs.Trees.{LetThen}
-use Rattle.cast_insert.specs.Making.{then_make, Makes, Refuses, CastFrom, PartOf}
+use Rattle.cast_insert.specs.Making.{then_make, Makes, CastFrom, PartOf}
 use Rattle.cast_insert.specs.Elaboration.{elaborate_program}
-use Rattle.cast_insert.proofs.Sketches.{at, answer, int, truth, name, exprs, base}
+use Rattle.cast_insert.specs.Outcomes.{IsRefused}
+use Rattle.cast_insert.proofs.Sketches.{at, answer, comes_to, int, truth, name, exprs, base}
 
 -- (tuple 1 #t)
 tuple_parts : elaborate_program (ExprAt (at 1) (TupleNode (exprs ((int 8 1) ∷ (truth 10 true) ∷ []))))
@@ -31,9 +32,9 @@ unfolding then_make
 part_of_tuple = refl
 
 -- (tuple-proj (tuple 1 2) 2)
-no_such_part : elaborate_program (ExprAt (at 1) (ProjNode (ExprAt (at 13) (TupleNode (exprs ((int 20 1) ∷ (int 22 2)
+no_such_part : comes_to (ExprAt (at 1) (ProjNode (ExprAt (at 13) (TupleNode (exprs ((int 20 1) ∷ (int 22 2)
     ∷ [])))) (pos 2) (at 25)))
-    ≡ Refuses NoSuchPart (at 25)
+    ≡ IsRefused NoSuchPart (at 25)
 unfolding then_make
 no_such_part = refl
 
@@ -53,8 +54,8 @@ unfolding then_make
 part_of_dyn = refl
 
 -- (tuple-proj 5 0)
-part_of_integer : elaborate_program (ExprAt (at 1) (ProjNode (int 13 5) (pos 0) (at 15)))
-    ≡ Refuses NotTuple (at 13)
+part_of_integer : comes_to (ExprAt (at 1) (ProjNode (int 13 5) (pos 0) (at 15)))
+    ≡ IsRefused NotTuple (at 13)
 unfolding then_make
 part_of_integer = refl
 
@@ -89,8 +90,8 @@ unfolding then_make
 unbox_dyn = refl
 
 -- (unbox 5)
-unbox_integer : elaborate_program (ExprAt (at 1) (PrimNode Unbox (exprs ((int 8 5) ∷ []))))
-    ≡ Refuses NotRef (at 8)
+unbox_integer : comes_to (ExprAt (at 1) (PrimNode Unbox (exprs ((int 8 5) ∷ []))))
+    ≡ IsRefused NotRef (at 8)
 unfolding then_make
 unbox_integer = refl
 
@@ -134,9 +135,9 @@ unfolding then_make
 set_dyn = refl
 
 -- (box-set! (box 1) #t)
-set_box_wrong : elaborate_program (ExprAt (at 1) (PrimNode BoxSet (exprs ((ExprAt (at 11) (PrimNode MakeBox (exprs
+set_box_wrong : comes_to (ExprAt (at 1) (PrimNode BoxSet (exprs ((ExprAt (at 11) (PrimNode MakeBox (exprs
     ((int 16 1) ∷ [])))) ∷ (truth 19 true) ∷ []))))
-    ≡ Refuses NotConsistent (at 19)
+    ≡ IsRefused NotConsistent (at 19)
 unfolding then_make
 set_box_wrong = refl
 
@@ -162,8 +163,8 @@ unfolding then_make
 vector_cast = refl
 
 -- (make-vector #t 0)
-vector_wrong : elaborate_program (ExprAt (at 1) (PrimNode MakeVector (exprs ((truth 14 true) ∷ (int 17 0) ∷ []))))
-    ≡ Refuses NotConsistent (at 14)
+vector_wrong : comes_to (ExprAt (at 1) (PrimNode MakeVector (exprs ((truth 14 true) ∷ (int 17 0) ∷ []))))
+    ≡ IsRefused NotConsistent (at 14)
 unfolding then_make
 vector_wrong = refl
 
@@ -245,9 +246,9 @@ unfolding then_make
 length_dyn = refl
 
 -- (vector-length (box 1))
-length_box : elaborate_program (ExprAt (at 1) (PrimNode VectorLength (exprs ((ExprAt (at 16) (PrimNode MakeBox (exprs
+length_box : comes_to (ExprAt (at 1) (PrimNode VectorLength (exprs ((ExprAt (at 16) (PrimNode MakeBox (exprs
     ((int 21 1) ∷ [])))) ∷ []))))
-    ≡ Refuses NotVector (at 16)
+    ≡ IsRefused NotVector (at 16)
 unfolding then_make
 length_box = refl
 
@@ -274,8 +275,8 @@ unfolding then_make
 sum_cast = refl
 
 -- (+ #t x)
-sum_wrong : elaborate_program (ExprAt (at 1) (PrimNode Add (exprs ((truth 4 true) ∷ (name 7 (codes "x")) ∷ []))))
-    ≡ Refuses NotConsistent (at 4)
+sum_wrong : comes_to (ExprAt (at 1) (PrimNode Add (exprs ((truth 4 true) ∷ (name 7 (codes "x")) ∷ []))))
+    ≡ IsRefused NotConsistent (at 4)
 unfolding then_make
 sum_wrong = refl
 
@@ -332,7 +333,7 @@ input = refl
 
 -- (let ([a (tuple 1 1 1 1 1 1 1 1)]) (let ([b (tuple a a a a a a a a)]) (let ([c (tuple b b b b b b b b)]) (tuple c
 -- c))))
-too_large : elaborate_program (ExprAt (at 1) (LetNode (LetThen (Source (codes "a")) None (ExprAt (at 10) (TupleNode
+too_large : comes_to (ExprAt (at 1) (LetNode (LetThen (Source (codes "a")) None (ExprAt (at 10) (TupleNode
     (exprs ((int 17 1) ∷ (int 19 1) ∷ (int 21 1) ∷ (int 23 1) ∷ (int 25 1) ∷ (int 27 1) ∷ (int 29 1) ∷ (int 31 1) ∷
     [])))) NoLets) (exprs ((ExprAt (at 36) (LetNode (LetThen (Source (codes "b")) None (ExprAt (at 45) (TupleNode
     (exprs ((name 52 (codes "a")) ∷ (name 54 (codes "a")) ∷ (name 56 (codes "a")) ∷ (name 58 (codes "a")) ∷ (name 60
@@ -341,6 +342,6 @@ too_large : elaborate_program (ExprAt (at 1) (LetNode (LetThen (Source (codes "a
     "b")) ∷ (name 89 (codes "b")) ∷ (name 91 (codes "b")) ∷ (name 93 (codes "b")) ∷ (name 95 (codes "b")) ∷ (name 97
     (codes "b")) ∷ (name 99 (codes "b")) ∷ (name 101 (codes "b")) ∷ [])))) NoLets) (exprs ((ExprAt (at 106)
     (TupleNode (exprs ((name 113 (codes "c")) ∷ (name 115 (codes "c")) ∷ [])))) ∷ [])))) ∷ [])))) ∷ []))))
-    ≡ Refuses TypeTooLarge (at 106)
+    ≡ IsRefused TypeTooLarge (at 106)
 unfolding then_make
 too_large = refl

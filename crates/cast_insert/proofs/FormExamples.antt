@@ -12,7 +12,8 @@ use Rattle.surface_syntax.specs.Trees.{IfNode, BeginNode, AscribeNode, TupleNode
 use Rattle.surface_syntax.specs.Trees.{NoLetrecs, LetrecThen}
 use Rattle.cast_insert.specs.Making.{then_make, Makes, Refuses, CastFrom}
 use Rattle.cast_insert.specs.Elaboration.{elaborate_program}
-use Rattle.cast_insert.proofs.Sketches.{at, answer, int, truth, name, exprs, param, base, fun_type}
+use Rattle.cast_insert.specs.Outcomes.{IsRefused}
+use Rattle.cast_insert.proofs.Sketches.{at, answer, comes_to, int, truth, name, exprs, param, base, fun_type}
 
 -- 42
 an_integer : elaborate_program (int 1 42)
@@ -36,8 +37,8 @@ unfolding then_make
 unit = refl
 
 -- x
-unbound : elaborate_program (name 1 (codes "x"))
-    ≡ Refuses Unbound (at 1)
+unbound : comes_to (name 1 (codes "x"))
+    ≡ IsRefused Unbound (at 1)
 unfolding then_make
 unbound = refl
 
@@ -65,6 +66,7 @@ ascribed_twice = refl
 -- (: 1 Bool)
 ascribed_wrong : elaborate_program (ExprAt (at 1) (AscribeNode (int 4 1) (base 6 BoolRow)))
     ≡ Refuses NotConsistent (at 1)
+    (record { types = (IntRow ∷ BoolRow ∷ []); labels = []; casts = []; next = 0 })
 unfolding then_make
 ascribed_wrong = refl
 
@@ -83,10 +85,10 @@ unfolding then_make
 ascribed_thrice = refl
 
 -- (: (lambda ([x : Int]) x) (Dyn -> (Ref Int)))
-ascribed_function : elaborate_program (ExprAt (at 1) (AscribeNode (ExprAt (at 4) (LambdaNode (LambdaAt (at 4) ((param
+ascribed_function : comes_to (ExprAt (at 1) (AscribeNode (ExprAt (at 4) (LambdaNode (LambdaAt (at 4) ((param
     13 (codes "x") (Some (base 18 IntRow))) ∷ []) None (exprs ((name 24 (codes "x")) ∷ []))))) (fun_type 27 ((base 28
     DynRow) ∷ []) (TypeAt (at 35) (RefType (base 40 IntRow))))))
-    ≡ Refuses NotConsistent (at 1)
+    ≡ IsRefused NotConsistent (at 1)
 unfolding then_make
 ascribed_function = refl
 
@@ -131,17 +133,17 @@ unfolding then_make
 call_without_cast = refl
 
 -- ((lambda (x) x) 1 2)
-call_wrong_count : elaborate_program (ExprAt (at 1) (CallNode (ExprAt (at 2) (LambdaNode (LambdaAt (at 2) ((param 11
+call_wrong_count : comes_to (ExprAt (at 1) (CallNode (ExprAt (at 2) (LambdaNode (LambdaAt (at 2) ((param 11
     (codes "x") None) ∷ []) None (exprs ((name 14 (codes "x")) ∷ []))))) (exprs ((int 17 1) ∷ (int 19 2) ∷ []))))
-    ≡ Refuses WrongCount (at 1)
+    ≡ IsRefused WrongCount (at 1)
 unfolding then_make
 call_wrong_count = refl
 
 -- ((lambda ([x : Int]) x) #t)
-call_wrong_argument : elaborate_program (ExprAt (at 1) (CallNode (ExprAt (at 2) (LambdaNode (LambdaAt (at 2) ((param
+call_wrong_argument : comes_to (ExprAt (at 1) (CallNode (ExprAt (at 2) (LambdaNode (LambdaAt (at 2) ((param
     11 (codes "x") (Some (base 16 IntRow))) ∷ []) None (exprs ((name 22 (codes "x")) ∷ []))))) (exprs ((truth 25
     true) ∷ []))))
-    ≡ Refuses NotConsistent (at 25)
+    ≡ IsRefused NotConsistent (at 25)
 unfolding then_make
 call_wrong_argument = refl
 
@@ -161,16 +163,16 @@ unfolding then_make
 call_of_dyn = refl
 
 -- (1 2)
-call_of_integer : elaborate_program (ExprAt (at 1) (CallNode (int 2 1) (exprs ((int 4 2) ∷ []))))
-    ≡ Refuses NotFunction (at 2)
+call_of_integer : comes_to (ExprAt (at 1) (CallNode (int 2 1) (exprs ((int 4 2) ∷ []))))
+    ≡ IsRefused NotFunction (at 2)
 unfolding then_make
 call_of_integer = refl
 
 -- ((lambda (x) x) y z)
-count_before_arguments : elaborate_program (ExprAt (at 1) (CallNode (ExprAt (at 2) (LambdaNode (LambdaAt (at 2)
+count_before_arguments : comes_to (ExprAt (at 1) (CallNode (ExprAt (at 2) (LambdaNode (LambdaAt (at 2)
     ((param 11 (codes "x") None) ∷ []) None (exprs ((name 14 (codes "x")) ∷ []))))) (exprs ((name 17 (codes "y")) ∷
     (name 19 (codes "z")) ∷ []))))
-    ≡ Refuses WrongCount (at 1)
+    ≡ IsRefused WrongCount (at 1)
 unfolding then_make
 count_before_arguments = refl
 
@@ -213,9 +215,9 @@ unfolding then_make
 lambda_result_same = refl
 
 -- (lambda ([x : Int]) : Bool #t x)
-lambda_wrong_result : elaborate_program (ExprAt (at 1) (LambdaNode (LambdaAt (at 1) ((param 10 (codes "x") (Some
+lambda_wrong_result : comes_to (ExprAt (at 1) (LambdaNode (LambdaAt (at 1) ((param 10 (codes "x") (Some
     (base 15 IntRow))) ∷ []) (Some (base 23 BoolRow)) (exprs ((truth 28 true) ∷ (name 31 (codes "x")) ∷ [])))))
-    ≡ Refuses NotConsistent (at 31)
+    ≡ IsRefused NotConsistent (at 31)
 unfolding then_make
 lambda_wrong_result = refl
 
@@ -246,9 +248,9 @@ unfolding then_make
 let_outer_names = refl
 
 -- (let ([x : Bool 1]) x)
-let_wrong : elaborate_program (ExprAt (at 1) (LetNode (LetThen (Source (codes "x")) (Some (base 12 BoolRow)) (int 17
+let_wrong : comes_to (ExprAt (at 1) (LetNode (LetThen (Source (codes "x")) (Some (base 12 BoolRow)) (int 17
     1) NoLets) (exprs ((name 21 (codes "x")) ∷ []))))
-    ≡ Refuses NotConsistent (at 17)
+    ≡ IsRefused NotConsistent (at 17)
 unfolding then_make
 let_wrong = refl
 
@@ -286,10 +288,10 @@ unfolding then_make
 letrec_written = refl
 
 -- (letrec ([f : (Bool -> Int) (lambda ([x : Int]) x)]) 1)
-letrec_not_consistent : elaborate_program (ExprAt (at 1) (LetrecNode (LetrecThen (Source (codes "f")) (Some (fun_type
+letrec_not_consistent : comes_to (ExprAt (at 1) (LetrecNode (LetrecThen (Source (codes "f")) (Some (fun_type
     15 ((base 16 BoolRow) ∷ []) (base 24 IntRow))) (LambdaAt (at 29) ((param 38 (codes "x") (Some (base 43 IntRow)))
     ∷ []) None (exprs ((name 49 (codes "x")) ∷ []))) NoLetrecs) (exprs ((int 54 1) ∷ []))))
-    ≡ Refuses NotConsistent (at 29)
+    ≡ IsRefused NotConsistent (at 29)
 unfolding then_make
 letrec_not_consistent = refl
 
@@ -380,14 +382,14 @@ unfolding then_make
 if_second_cast = refl
 
 -- (if 1 2 3)
-if_condition : elaborate_program (ExprAt (at 1) (IfNode (int 5 1) (int 7 2) (int 9 3)))
-    ≡ Refuses NotConsistent (at 5)
+if_condition : comes_to (ExprAt (at 1) (IfNode (int 5 1) (int 7 2) (int 9 3)))
+    ≡ IsRefused NotConsistent (at 5)
 unfolding then_make
 if_condition = refl
 
 -- (if #t 1 #f)
-if_branches : elaborate_program (ExprAt (at 1) (IfNode (truth 5 true) (int 8 1) (truth 10 false)))
-    ≡ Refuses NotConsistent (at 1)
+if_branches : comes_to (ExprAt (at 1) (IfNode (truth 5 true) (int 8 1) (truth 10 false)))
+    ≡ IsRefused NotConsistent (at 1)
 unfolding then_make
 if_branches = refl
 

@@ -34,18 +34,18 @@ use Rattle.cast_insert.proofs.Scoping.{with_names_push}
 -- what was made, as something else
 abbrev pub made_as : {A B : Type 0} → (A → B) → Made A → Made B
 made_as f (Makes a work) = Makes (f a) work
-made_as f (Refuses kind place) = Refuses kind place
+made_as f (Refuses kind place last) = Refuses kind place last
 
 pub made_as_twice : {A B C : Type 0} (f : B → C) (g : A → B) (made : Made A) →
     made_as f (then_make made (λ a work. Makes (g a) work)) ≡ made_as (λ a. f (g a)) made
 unfolding then_make
 made_as_twice f g (Makes a work) = refl
-made_as_twice f g (Refuses kind place) = refl
+made_as_twice f g (Refuses kind place last) = refl
 
 pub made_as_same : {A B : Type 0} (f g : A → B) (made : Made A) → ((a : A) → f a ≡ g a) →
     made_as f made ≡ made_as g made
 made_as_same f g (Makes a work) same = ap (λ b. Makes b work) (same a)
-made_as_same f g (Refuses kind place) same = refl
+made_as_same f g (Refuses kind place last) same = refl
 
 -- ---- heads
 
@@ -69,11 +69,11 @@ heads_more done head name own lambda rest work next whole e so_far =
     ∙ so_far
 
 pub heads_refused : (done : List Head) (name : Ident) (own : Option TypeExpr) (lambda : LambdaExpr)
-    (rest : LetrecMembers) (work : Work) (whole : Made (List Head)) (kind : RefusalKind) (place : Pos) →
-    head_of name own lambda work ≡ Refuses kind place →
-    heads_behind done (heads_of (LetrecThen name own lambda rest) work) ≡ whole → whole ≡ Refuses kind place
+    (rest : LetrecMembers) (work : Work) (whole : Made (List Head)) (kind : RefusalKind) (place : Pos) (last : Work) →
+    head_of name own lambda work ≡ Refuses kind place last →
+    heads_behind done (heads_of (LetrecThen name own lambda rest) work) ≡ whole → whole ≡ Refuses kind place last
 unfolding then_make
-heads_refused done name own lambda rest work whole kind place e so_far =
+heads_refused done name own lambda rest work whole kind place last e so_far =
     sym so_far ∙ ap (λ m. heads_behind done (then_make m (λ h work. then_make (heads_of rest work)
     (λ others work. Makes (h ∷ others) work)))) e
 
@@ -128,15 +128,15 @@ sequence_last done e first environment work next whole made so_far =
     Makes (record { terms = TermThen e.term NoTerms; type = e.type }) work))) made
 
 pub sequence_refused : (done : List Term) (first : Expr) (rest : Exprs) (environment : Environment) (work : Work)
-    (whole : Made Sequence) (kind : RefusalKind) (place : Pos) →
-    elaborate first environment work ≡ Refuses kind place →
+    (whole : Made Sequence) (kind : RefusalKind) (place : Pos) (last : Work) →
+    elaborate first environment work ≡ Refuses kind place last →
     sequence_behind done (elaborate_sequence (ExprThen first rest) environment work) ≡ whole →
-    whole ≡ Refuses kind place
+    whole ≡ Refuses kind place last
 unfolding then_make
-sequence_refused done first NoExprs environment work whole kind place made so_far =
+sequence_refused done first NoExprs environment work whole kind place last made so_far =
     sym so_far ∙ ap (λ m. sequence_behind done (then_make m (λ (e : Typed) work.
     Makes (record { terms = TermThen e.term NoTerms; type = e.type }) work))) made
-sequence_refused done first (ExprThen second rest) environment work whole kind place made so_far =
+sequence_refused done first (ExprThen second rest) environment work whole kind place last made so_far =
     sym so_far ∙ ap (λ m. sequence_behind done (then_make m (λ (e : Typed) work.
     then_make (elaborate_sequence (ExprThen second rest) environment work) (λ others work.
     Makes (record { terms = TermThen e.term others.terms; type = others.type }) work)))) made
@@ -209,21 +209,21 @@ bindings_more done names name own value rest environment e bound wanted variable
 
 pub bindings_refused : (done : List Binding) (names : Environment) (name : Ident) (own : Option TypeExpr)
     (value : Expr) (rest : LetBindings) (environment : Environment) (work : Work) (whole : Made Bound)
-    (kind : RefusalKind) (place : Pos) → elaborate value environment work ≡ Refuses kind place →
+    (kind : RefusalKind) (place : Pos) (last : Work) → elaborate value environment work ≡ Refuses kind place last →
     bound_behind done names (elaborate_bindings (LetThen name own value rest) environment work) ≡ whole →
-    whole ≡ Refuses kind place
+    whole ≡ Refuses kind place last
 unfolding then_make
-bindings_refused done names name own value rest environment work whole kind place a so_far =
+bindings_refused done names name own value rest environment work whole kind place last a so_far =
     sym so_far ∙ ap (λ m. bound_behind done names (then_make m (bindings_from name own value rest environment))) a
 
 pub bindings_unwritten : (done : List Binding) (names : Environment) (name : Ident) (own : Option TypeExpr)
     (value : Expr) (rest : LetBindings) (environment : Environment) (e : Typed) (w0 w1 : Work) (whole : Made Bound)
-    (kind : RefusalKind) (place : Pos) → elaborate value environment w0 ≡ Makes e w1 →
-    written_if own w1 ≡ Refuses kind place →
+    (kind : RefusalKind) (place : Pos) (last : Work) → elaborate value environment w0 ≡ Makes e w1 →
+    written_if own w1 ≡ Refuses kind place last →
     bound_behind done names (elaborate_bindings (LetThen name own value rest) environment w0) ≡ whole →
-    whole ≡ Refuses kind place
+    whole ≡ Refuses kind place last
 unfolding then_make
-bindings_unwritten done names name own value rest environment e w0 w1 whole kind place a b so_far =
+bindings_unwritten done names name own value rest environment e w0 w1 whole kind place last a b so_far =
     sym so_far ∙ ap (λ m. bound_behind done names (then_make m (bindings_from name own value rest environment))) a
     ∙ ap (λ m. bound_behind done names (then_make m (λ wanted work.
     then_make (cast_if (place_of value) wanted e work) (λ bound work. then_make (fresh work) (λ variable work.
@@ -232,12 +232,13 @@ bindings_unwritten done names name own value rest environment e w0 w1 whole kind
 
 pub bindings_uncast : (done : List Binding) (names : Environment) (name : Ident) (own : Option TypeExpr)
     (value : Expr) (rest : LetBindings) (environment : Environment) (e : Typed) (wanted : Option ℕ) (w0 w1 w2 : Work)
-    (whole : Made Bound) (kind : RefusalKind) (place : Pos) → elaborate value environment w0 ≡ Makes e w1 →
-    written_if own w1 ≡ Makes wanted w2 → cast_if (place_of value) wanted e w2 ≡ Refuses kind place →
+    (whole : Made Bound) (kind : RefusalKind) (place : Pos) (last : Work) →
+    elaborate value environment w0 ≡ Makes e w1 →
+    written_if own w1 ≡ Makes wanted w2 → cast_if (place_of value) wanted e w2 ≡ Refuses kind place last →
     bound_behind done names (elaborate_bindings (LetThen name own value rest) environment w0) ≡ whole →
-    whole ≡ Refuses kind place
+    whole ≡ Refuses kind place last
 unfolding then_make
-bindings_uncast done names name own value rest environment e wanted w0 w1 w2 whole kind place a b c so_far =
+bindings_uncast done names name own value rest environment e wanted w0 w1 w2 whole kind place last a b c so_far =
     sym so_far ∙ ap (λ m. bound_behind done names (then_make m (bindings_from name own value rest environment))) a
     ∙ ap (λ m. bound_behind done names (then_make m (λ wanted work.
     then_make (cast_if (place_of value) wanted e work) (λ bound work. then_make (fresh work) (λ variable work.
@@ -281,12 +282,12 @@ members_more done name own lambda rest head heads environment member work next w
 
 pub members_refused : (done : List Member) (name : Ident) (own : Option TypeExpr) (lambda : LambdaExpr)
     (rest : LetrecMembers) (head : Head) (heads : List Head) (environment : Environment) (work : Work)
-    (whole : Made Members) (kind : RefusalKind) (place : Pos) →
-    elaborate_member lambda head environment work ≡ Refuses kind place →
+    (whole : Made Members) (kind : RefusalKind) (place : Pos) (last : Work) →
+    elaborate_member lambda head environment work ≡ Refuses kind place last →
     members_behind done (elaborate_members (LetrecThen name own lambda rest) (head ∷ heads) environment work) ≡ whole →
-    whole ≡ Refuses kind place
+    whole ≡ Refuses kind place last
 unfolding then_make
-members_refused done name own lambda rest head heads environment work whole kind place made so_far =
+members_refused done name own lambda rest head heads environment work whole kind place last made so_far =
     sym so_far ∙ ap (λ m. members_behind done (then_make m (λ (member : MemberBody) work.
     then_make (elaborate_members rest heads environment work) (λ others work.
     Makes (MemberThen head.meaning.variable member.variables member.body head.meaning.type others) work)))) made
@@ -327,10 +328,11 @@ failed_with fault = Err fault
 pub failed_as : {R S A B : Type 0} (fault : FrontFault) (view : S → A) (seen : R → B) (result : Result R FrontFault)
     (after : Work) (part : Made A) (whole : Made B) → result ≡ Err fault →
     Answers (failed_with fault) view after part →
-    ((kind : RefusalKind) (place : Pos) → part ≡ Refuses kind place → whole ≡ Refuses kind place) →
+    ((kind : RefusalKind) (place : Pos) (last : Work) → part ≡ Refuses kind place last →
+    whole ≡ Refuses kind place last) →
     Answers result seen after whole
 failed_as {R} {S} {A} {B} (Refused refusal) view seen result after part whole e answer same =
-    subst (λ (r : Result R FrontFault). Answers r seen after whole) (sym e) (same refusal.kind refusal.pos answer)
+    subst (λ (r : Result R FrontFault). Answers r seen after whole) (sym e) (same refusal.kind refusal.pos after answer)
 failed_as {R} {S} {A} {B} OutOfMemory view seen result after part whole e answer same =
     subst (λ (r : Result R FrontFault). Answers r seen after whole) (sym e) tt
 
@@ -357,13 +359,13 @@ if_joined condition on_true on_false place environment test truth first second w
     if_of place truth (place_of on_true) first (place_of on_false) second work)) d
 
 pub if_first : (condition on_true on_false : Expr) (place : Pos) (environment : Environment)
-    (test truth : Typed) (w0 w1 w2 : Work) (kind : RefusalKind) (at : Pos) →
+    (test truth : Typed) (w0 w1 w2 : Work) (kind : RefusalKind) (at : Pos) (last : Work) →
     elaborate condition environment w0 ≡ Makes test w1 →
     cast_to_row (place_of condition) BoolRow test w1 ≡ Makes truth w2 →
-    elaborate on_true environment w2 ≡ Refuses kind at →
-    elaborate_node (IfNode condition on_true on_false) place environment w0 ≡ Refuses kind at
+    elaborate on_true environment w2 ≡ Refuses kind at last →
+    elaborate_node (IfNode condition on_true on_false) place environment w0 ≡ Refuses kind at last
 unfolding then_make
-if_first condition on_true on_false place environment test truth w0 w1 w2 kind at a b c =
+if_first condition on_true on_false place environment test truth w0 w1 w2 kind at last a b c =
     ap (λ m. then_make m (λ test work. then_make (cast_to_row (place_of condition) BoolRow test work)
     (λ truth work. then_make (elaborate on_true environment work) (λ first work.
     then_make (elaborate on_false environment work) (λ second work.
@@ -375,13 +377,13 @@ if_first condition on_true on_false place environment test truth w0 w1 w2 kind a
     if_of place truth (place_of on_true) first (place_of on_false) second work))) c
 
 pub if_second : (condition on_true on_false : Expr) (place : Pos) (environment : Environment)
-    (test truth first : Typed) (w0 w1 w2 w3 : Work) (kind : RefusalKind) (at : Pos) →
+    (test truth first : Typed) (w0 w1 w2 w3 : Work) (kind : RefusalKind) (at : Pos) (last : Work) →
     elaborate condition environment w0 ≡ Makes test w1 →
     cast_to_row (place_of condition) BoolRow test w1 ≡ Makes truth w2 →
-    elaborate on_true environment w2 ≡ Makes first w3 → elaborate on_false environment w3 ≡ Refuses kind at →
-    elaborate_node (IfNode condition on_true on_false) place environment w0 ≡ Refuses kind at
+    elaborate on_true environment w2 ≡ Makes first w3 → elaborate on_false environment w3 ≡ Refuses kind at last →
+    elaborate_node (IfNode condition on_true on_false) place environment w0 ≡ Refuses kind at last
 unfolding then_make
-if_second condition on_true on_false place environment test truth first w0 w1 w2 w3 kind at a b c d =
+if_second condition on_true on_false place environment test truth first w0 w1 w2 w3 kind at last a b c d =
     ap (λ m. then_make m (λ test work. then_make (cast_to_row (place_of condition) BoolRow test work)
     (λ truth work. then_make (elaborate on_true environment work) (λ first work.
     then_make (elaborate on_false environment work) (λ second work.

@@ -8,6 +8,8 @@ use Rattle.surface_syntax.specs.Trees.{TypeExpr, TypeExprs, TypeAt, BaseType, Fu
 use Rattle.surface_syntax.specs.Trees.{Param}
 use Rattle.surface_syntax.specs.Trees.{Expr, Exprs, ExprAt, IntNode, BoolNode, NameNode, NoExprs, ExprThen}
 use Rattle.cast_insert.specs.Making.{Typed}
+use Rattle.cast_insert.specs.Elaboration.{elaborate_program}
+use Rattle.cast_insert.specs.Outcomes.{Outcome, outcome_of}
 
 abbrev pub at : ℕ → Pos
 at column = record { line = 1; col = column }
@@ -43,3 +45,7 @@ tuple_type column parts = TypeAt (at column) (TupleType (type_list parts))
 
 abbrev pub answer : Term → ℕ → Option ℕ → Typed
 answer term type entry = record { term = term; type = type; entry = entry }
+
+-- what a program comes to
+abbrev pub comes_to : Expr → Outcome
+comes_to program = outcome_of (elaborate_program program)

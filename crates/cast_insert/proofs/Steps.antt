@@ -23,10 +23,10 @@ pub makes_then : {A B : Type 0} (a : A) (work : Work) (next : A → Making B) �
 unfolding then_make
 makes_then a work next = refl
 
-pub refuses_then : {A B : Type 0} (kind : RefusalKind) (place : Pos) (next : A → Making B) →
-    then_make (Refuses kind place) next ≡ Refuses kind place
+pub refuses_then : {A B : Type 0} (kind : RefusalKind) (place : Pos) (last : Work) (next : A → Making B) →
+    then_make (Refuses kind place last) next ≡ Refuses kind place last
 unfolding then_make
-refuses_then kind place next = refl
+refuses_then kind place last next = refl
 
 pub test_makes : (holds : Bool) (kind : RefusalKind) (place : Pos) (work : Work) → holds ≡ true →
     test holds kind place work ≡ Makes true work
@@ -34,7 +34,7 @@ test_makes true kind place work e = refl
 test_makes false kind place work e = cc
 
 pub test_refuses : (holds : Bool) (kind : RefusalKind) (place : Pos) (work : Work) → holds ≡ false →
-    test holds kind place work ≡ Refuses kind place
+    test holds kind place work ≡ Refuses kind place work
 test_refuses true kind place work e = cc
 test_refuses false kind place work e = refl
 

@@ -31,18 +31,18 @@ use Rattle.cast_insert.proofs.Growing.{grow_term, grow_terms}
 -- where there is an answer, this holds of it and of the work after it
 abbrev pub Keeps : {A : Type 0} → (A → Work → Type 0) → Made A → Type 0
 Keeps Holds (Makes a work) = Holds a work
-Keeps Holds (Refuses kind place) = Unit {0}
+Keeps Holds (Refuses kind place last) = Unit {0}
 
 pub then_keeps : {A B : Type 0} (P : A → Work → Type 0) (Q : B → Work → Type 0) (made : Made A) (next : A → Making B) →
     Keeps P made → ((a : A) (after : Work) → P a after → Keeps Q (next a after)) → Keeps Q (then_make made next)
 unfolding then_make
 then_keeps P Q (Makes a after) next h k = k a after h
-then_keeps P Q (Refuses kind place) next h k = tt
+then_keeps P Q (Refuses kind place last) next h k = tt
 
 pub keeps_more : {A : Type 0} (P Q : A → Work → Type 0) (made : Made A) → Keeps P made → ((a : A) (work : Work) → P a
     work → Q a work) → Keeps Q made
 keeps_more P Q (Makes a work) h k = k a work h
-keeps_more P Q (Refuses kind place) h k = tt
+keeps_more P Q (Refuses kind place last) h k = tt
 
 -- ---- work that goes on
 

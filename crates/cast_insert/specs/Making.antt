@@ -35,7 +35,8 @@ pub record Work : Type 0 where
 
 pub data Made (A : Type 0) : Type 0 where
   Makes : A → Work → Made A
-  Refuses : RefusalKind → Pos → Made A
+  -- with the work until then
+  Refuses : RefusalKind → Pos → Work → Made A
 
 abbrev pub Making : Type 0 → Type 0
 Making A = Work → Made A
@@ -43,7 +44,7 @@ Making A = Work → Made A
 -- what was made, and where that is not refused the other
 unfoldable pub then_make : {A B : Type 0} → Made A → (A → Making B) → Made B
 then_make (Makes a work) next = next a work
-then_make (Refuses kind place) next = Refuses kind place
+then_make (Refuses kind place last) next = Refuses kind place last
 
 abbrev pub ◌>>=◌ : {A B : Type 0} → Making A → (A → Making B) → Making B
 ◌>>=◌ first next = λ work. then_make (first work) next
@@ -56,7 +57,7 @@ abbrev pub give : {A : Type 0} → A → Making A
 give a = λ work. Makes a work
 
 abbrev pub refuse : {A : Type 0} → RefusalKind → Pos → Making A
-refuse kind place = λ work. Refuses kind place
+refuse kind place = λ work. Refuses kind place work
 
 abbrev pub form : {A : Type 0} → Forming A → Making A
 form forming = λ work. let done = forming work.types in Makes done.0 (record work { types = done.1 })
@@ -84,7 +85,7 @@ list_entry entry = λ work. Makes (length work.casts) (record work { casts = wor
 
 -- nothing, or a refusal
 abbrev pub test : Bool → RefusalKind → Pos → Making Bool
-test holds kind place = λ work. if holds then Makes holds work else Refuses kind place
+test holds kind place = λ work. if holds then Makes holds work else Refuses kind place work
 
 abbrev pub most_nodes : ℕ
 most_nodes = 1000

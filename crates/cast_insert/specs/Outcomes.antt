@@ -1,5 +1,5 @@
 -- What a call that elaborates a program answers.
-use Rattle.std.specs.Prelude.{◌≡◌, ℕ, List, Result, Ok, Err}
+use Rattle.std.specs.Prelude.{◌≡◌, ℕ, List, [], Result, Ok, Err}
 use Rattle.grift_base.specs.Types.{TypeRows}
 use Rattle.grift_base.specs.declared.places.Pos.{Pos}
 use Rattle.grift_base.specs.declared.refusals.RefusalKind.{RefusalKind}
@@ -18,7 +18,7 @@ pub data Outcome : Type 0 where
 
 abbrev pub outcome_of : Made Typed → Outcome
 outcome_of (Makes e work) = Elaborates e.term e.type work.types work.labels work.casts
-outcome_of (Refuses kind place) = IsRefused kind place
+outcome_of (Refuses kind place last) = IsRefused kind place
 
 -- the answer is the defined outcome, with this table of types, unless memory runs out
 abbrev pub Inserts : Result Elab FrontFault → TypeRows → Made Typed → Type 0
@@ -26,3 +26,13 @@ Inserts (Ok elab) types defined =
     outcome_of defined ≡ Elaborates (term_of elab.core) elab.ty.0 types elab.labels (entries_of elab.casts)
 Inserts (Err (Refused refusal)) types defined = outcome_of defined ≡ IsRefused refusal.kind refusal.pos
 Inserts (Err OutOfMemory) types defined = Unit {0}
+
+-- the rows of types that were formed until the end, or until the refusal
+abbrev pub formed_rows : Made Typed → TypeRows
+formed_rows (Makes e work) = work.types
+formed_rows (Refuses kind place last) = last.types
+
+-- the rows of an empty table after a fault: those that were formed until the refusal, and none where memory runs out
+abbrev pub HasRowsAfter : FrontFault → TypeRows → Made Typed → Type 0
+HasRowsAfter (Refused refusal) types defined = types ≡ formed_rows defined
+HasRowsAfter OutOfMemory types defined = types ≡ []

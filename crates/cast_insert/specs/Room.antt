@@ -1,6 +1,6 @@
 -- What is known of types as they are formed, so that the table of types has room for each row.
 use Rattle.std.specs.Prelude.{◌≡◌, ℕ, ◌<◌, ◌≤◌, All, List, length, Option, Some, None}
-use Rattle.grift_base.specs.Types.{TypeRow, TypeRows, row_at, parts_of}
+use Rattle.grift_base.specs.Types.{TypeRows}
 use Rattle.type_graph.specs.Trees.{height, above_all}
 use Rattle.type_graph.specs.TypeTables.{MayBePart}
 

@@ -58,5 +58,5 @@ meaning_if (Some meaning) = Some (meaning_seen meaning)
 -- the answer is the defined one, with the work after it, unless memory runs out
 abbrev pub Answers : {R A : Type 0} → Result R FrontFault → (R → A) → Work → Made A → Type 0
 Answers (Ok r) view after defined = defined ≡ Makes (view r) after
-Answers (Err (Refused refusal)) view after defined = defined ≡ Refuses refusal.kind refusal.pos
+Answers (Err (Refused refusal)) view after defined = defined ≡ Refuses refusal.kind refusal.pos after
 Answers (Err OutOfMemory) view after defined = Unit {0}

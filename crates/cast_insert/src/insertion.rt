@@ -1,13 +1,14 @@
 // Programs with their casts.
 #![tactic(auto, using(crate::proofs::Elaborated::program_answered))]
 
-ghost use Rattle.std.specs.Prelude.{◌≡◌, [], IfOk, length};
+ghost use Rattle.std.specs.Prelude.{◌≡◌, [], IfErr, IfOk, length};
+ghost use Rattle.type_graph.specs.TypeTables.{IsOrderedTable};
 ghost use Rattle.core_calc.specs.Typing.{ProgramTermHasType};
 ghost use Rattle.core_calc.specs.Views.{term_of};
 ghost use Rattle.surface_syntax.specs.Views.{expr_of};
 ghost use Rattle.cast_insert.specs.Elaboration.{elaborate_program, nothing_yet};
 ghost use Rattle.cast_insert.specs.Programs.{IsSource};
-ghost use Rattle.cast_insert.specs.Outcomes.{Inserts};
+ghost use Rattle.cast_insert.specs.Outcomes.{HasRowsAfter, Inserts};
 ghost use Rattle.cast_insert.specs.Views.{Answers, typed_of, work_of};
 
 use crate::casts::CastList;
@@ -36,21 +37,29 @@ pub struct Elab {
 fn run(alloc: Global, progress: &mut Progress, program: &Program) -> Result<Typed, FrontFault>
     requires source { IsSource (expr_of program.now.body) }
     requires start { work_of progress.old ≡ nothing_yet }
-    ensures { Answers result typed_of (work_of progress.new) (elaborate_program (expr_of program.now.body)) }
+    ensures answer { Answers result typed_of (work_of progress.new) (elaborate_program (expr_of program.now.body)) }
+    ensures table { IsOrderedTable progress.new.types }
 {
     let mut scopes = Scopes::new(alloc);
-    elaborate(alloc, progress, &mut scopes, &program.body)
+    let done = elaborate(alloc, progress, &mut scopes, &program.body);
+    // No row stands twice, and parts stand before wholes.
+    progress.types.len();
+    done
 }
 
 /// The elaboration of a program, which fills an empty table of types; or its first refusal. After a refusal the table
-/// has the rows that were formed so far. `OutOfMemory` comes where no memory is left, or a table is full: a row of a
-/// program that was read is never too wide or too high for its table.
+/// has the rows that were formed until then, in order, each once and behind its parts. `OutOfMemory` comes where no
+/// memory is left, or a table is full: a row of a program that was read is never too wide or too high for its table.
+/// After it the table is empty, as before.
 pub fn insert(alloc: Global, program: &Program, types: &mut TypeTable) -> Result<Elab, FrontFault>
     requires source { IsSource (expr_of program.now.body) }
     requires empty { types.old ≡ [] }
     ensures answer { Inserts result types.new (elaborate_program (expr_of program.now.body)) }
     ensures typed { IfOk result (λ elab.
         ProgramTermHasType types.new (length elab.labels) (term_of elab.core) elab.ty.0) }
+    ensures rows { IfErr result (λ fault.
+        HasRowsAfter fault types.new (elaborate_program (expr_of program.now.body))) }
+    ensures table { IsOrderedTable types.new }
 {
     let mut progress = Progress {
         types: mem::replace(types, TypeTable::new(alloc)?),
@@ -58,13 +67,20 @@ pub fn insert(alloc: Global, program: &Program, types: &mut TypeTable) -> Result
         casts: CastList::new(alloc),
         next: 0,
     };
-    let done = run(alloc, &mut progress, program);
-    *types = progress.types;
-    let e = done?;
-    Ok(Elab {
-        core: Box::into_inner(e.core),
-        ty: e.ty,
-        labels: progress.labels,
-        casts: progress.casts,
-    })
+    match run(alloc, &mut progress, program) {
+        Ok(e) => {
+            *types = progress.types;
+            Ok(Elab {
+                core: Box::into_inner(e.core),
+                ty: e.ty,
+                labels: progress.labels,
+                casts: progress.casts,
+            })
+        }
+        Err(FrontFault::Refused(refusal)) => {
+            *types = progress.types;
+            Err(FrontFault::Refused(refusal))
+        }
+        Err(FrontFault::OutOfMemory) => Err(FrontFault::OutOfMemory),
+    }
 }

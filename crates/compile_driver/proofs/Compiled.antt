@@ -25,7 +25,7 @@ placed_at program (Makes e work) term type types labels casts is same allowed =
     let c : work.casts ≡ casts = cc in
     subst (λ entries. IsPlaced is_built entries term) c
     (subst (λ x. IsPlaced is_built work.casts x) t (elaborated_programs_are_placed is_built program e work allowed is))
-placed_at program (Refuses kind place) term type types labels casts is same allowed = cc
+placed_at program (Refuses kind place last) term type types labels casts is same allowed = cc
 
 pub placed_of : (program : Expr) (term : Term) (type : ℕ) (types : TypeRows) (labels : List Pos) (casts : List Entry)
     → outcome_of (elaborate_program program) ≡ Elaborates term type types labels casts → IsAllowed is_built program

@@ -55,7 +55,7 @@ on a b c f g k entry e = g k entry (f k entry e)
 -- where there is an answer, entries stay, and this holds of the answer and of the entries then
 abbrev Keeps : {A : Type 0} → (A → List Entry → Type 0) → List Entry → Made A → Type 0
 Keeps Holds before (Makes a work) = More before work.casts × Holds a work.casts
-Keeps Holds before (Refuses kind place) = Unit {0}
+Keeps Holds before (Refuses kind place last) = Unit {0}
 
 abbrev Nothing : {A : Type 0} → A → List Entry → Type 0
 Nothing a casts = Unit {0}
@@ -63,7 +63,7 @@ Nothing a casts = Unit {0}
 further : {B : Type 0} (Q : B → List Entry → Type 0) (a b : List Entry) (made : Made B) → More a b → Keeps Q b made
     → Keeps Q a made
 further Q a b (Makes answer work) f h = (on a b work.casts f h.0, h.1)
-further Q a b (Refuses kind place) f h = tt
+further Q a b (Refuses kind place last) f h = tt
 
 then_keeps : {A B : Type 0} (P : A → List Entry → Type 0) (Q : B → List Entry → Type 0) (before : List Entry)
     (made : Made A) (next : A → Making B) → Keeps P before made
@@ -71,12 +71,12 @@ then_keeps : {A B : Type 0} (P : A → List Entry → Type 0) (Q : B → List En
     → Keeps Q before (then_make made next)
 unfolding then_make
 then_keeps P Q before (Makes a after) next h k = further Q before after.casts (next a after) h.0 (k a after h.0 h.1)
-then_keeps P Q before (Refuses kind place) next h k = tt
+then_keeps P Q before (Refuses kind place last) next h k = tt
 
 keeps_more : {A : Type 0} (P Q : A → List Entry → Type 0) (before : List Entry) (made : Made A) → Keeps P before made
     → ((a : A) (casts : List Entry) → P a casts → Q a casts) → Keeps Q before made
 keeps_more P Q before (Makes a work) h k = (h.0, k a work.casts h.1)
-keeps_more P Q before (Refuses kind place) h k = tt
+keeps_more P Q before (Refuses kind place last) h k = tt
 
 -- ---- steps that list no cast
 

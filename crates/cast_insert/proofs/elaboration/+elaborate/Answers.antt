@@ -42,8 +42,8 @@ in_order-returns-in_err-e-clause-answer t c =
     (elaborate (expr_of c.in-Cons.first.value) c.args.scopes.now (work_of c.loop-left.progress)) whole
     (search rules)
     (rw (c.deref.ensures, c.loop-left.invariant.scopes) at c.in_err-e.ensures.answer)
-    (λ kind place refused. sequence_refused (term_list (terms_of c.loop-left.terms)) (expr_of c.in-Cons.first.value)
-    (exprs_of c.in-Cons.rest.value) c.args.scopes.now (work_of c.loop-left.progress) whole kind place refused
+    (λ kind place last refused. sequence_refused (term_list (terms_of c.loop-left.terms))
+    (expr_of c.in-Cons.first.value) (exprs_of c.in-Cons.rest.value) c.args.scopes.now (work_of c.loop-left.progress) whole kind place last refused
     (rw c.in-Cons.is at c.loop-left.invariant.made))
 
 pub in_order-returns-in-Nil-clause-answer : goal.in_order-returns-in-Nil-clause-answer
@@ -155,9 +155,9 @@ if_form-returns-in_err-first-clause-answer t c =
     (elaborate_node (IfNode condition on_true on_false) c.args.pos env (work_of c.args.progress.now))
     (search rules)
     (rw (c.deref-3.ensures, c.in_ok-test.ensures.scopes) at c.in_err-first.ensures.answer)
-    (λ kind at refused. if_first condition on_true on_false c.args.pos env (typed_of c.in_ok-test.test)
+    (λ kind at last refused. if_first condition on_true on_false c.args.pos env (typed_of c.in_ok-test.test)
     (typed_of c.in_ok-truth.truth) (work_of c.args.progress.now) (work_of c.elaborate.new.progress)
-    (work_of c.cast_to_row.new.self) kind at (rw c.deref.ensures at c.in_ok-test.ensures.answer)
+    (work_of c.cast_to_row.new.self) kind at last (rw c.deref.ensures at c.in_ok-test.ensures.answer)
     (rw c.deref-2.ensures at c.in_ok-truth.ensures.answer) refused))
 
 pub if_form-returns-in_err-second-clause-answer : goal.if_form-returns-in_err-second-clause-answer
@@ -172,10 +172,10 @@ if_form-returns-in_err-second-clause-answer t c =
     (search rules)
     (rw (c.deref-4.ensures, c.in_ok-first.ensures.scopes, c.in_ok-test.ensures.scopes)
     at c.in_err-second.ensures.answer)
-    (λ kind at refused. if_second condition on_true on_false c.args.pos env (typed_of c.in_ok-test.test)
+    (λ kind at last refused. if_second condition on_true on_false c.args.pos env (typed_of c.in_ok-test.test)
     (typed_of c.in_ok-truth.truth) (typed_of c.in_ok-first.first) (work_of c.args.progress.now)
-    (work_of c.elaborate.new.progress) (work_of c.cast_to_row.new.self) (work_of c.elaborate-2.new.progress) kind at
-    (rw c.deref.ensures at c.in_ok-test.ensures.answer) (rw c.deref-2.ensures at c.in_ok-truth.ensures.answer)
+    (work_of c.elaborate.new.progress) (work_of c.cast_to_row.new.self) (work_of c.elaborate-2.new.progress)
+    kind at last (rw c.deref.ensures at c.in_ok-test.ensures.answer) (rw c.deref-2.ensures at c.in_ok-truth.ensures.answer)
     (rw (c.deref-3.ensures, c.in_ok-test.ensures.scopes) at c.in_ok-first.ensures.answer) refused))
 
 pub if_form-returns-clause-answer : goal.if_form-returns-clause-answer
