@@ -5,9 +5,15 @@ ghost use Rattle.std.specs.Prelude.{◌≡◌, ◌≤◌, ℕ, List, IfOk, IfErr
 ghost use Rattle.grift_base.specs.Sizes.{source_limit};
 ghost use Rattle.core_calc.specs.Typing.{ProgramTermHasType};
 ghost use Rattle.core_calc.specs.Views.{term_of};
+ghost use Rattle.sexpr_reader.specs.Datum.{Datums};
+ghost use Rattle.sexpr_reader.specs.Grammar.{Reads};
+ghost use Rattle.surface_syntax.specs.Marked.{all_marked};
+ghost use Rattle.surface_syntax.specs.Programs.{AreExpr};
+ghost use Rattle.surface_syntax.specs.Trees.{Expr};
 ghost use Rattle.surface_syntax.specs.Views.{expr_of};
 ghost use Rattle.cast_insert.specs.Elaboration.{elaborate_program};
 ghost use Rattle.cast_insert.specs.Outcomes.{Outcome, Elaborates, outcome_of};
+ghost use Rattle.cast_insert.specs.Programs.{IsSource};
 ghost use Rattle.cast_insert.specs.Views.{entries_of};
 ghost use Rattle.front_end.specs.Texts.{HasOutcome, IsFault, IsProgramOf};
 ghost use Rattle.front_end.specs.Placed.{PlacesAll};
@@ -53,6 +59,12 @@ pub fn elaborate_text(alloc: Global, text: &[u8]) -> Result<Elaborated, FrontFau
         elab,
     })
 }
+
+/// What `parse_program` answers on the s-expressions of a text meets the condition that `insert` has on its program.
+pub fn programs_that_are_read_can_be_elaborated()
+    ensures { (text : List ℕ) (datums : Datums) (program : Expr) → Reads text datums
+        → AreExpr (all_marked datums) program → IsSource program }
+{}
 
 /// Each text has an outcome, and no more than one: it is elaborated in one way, or refused for one fault at one place.
 pub fn a_text_has_one_outcome()
