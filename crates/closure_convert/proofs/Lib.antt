@@ -10,6 +10,7 @@ mod Closing
 mod Typed
 mod Examples
 mod Meeting
+mod Capturing
 mod Meanings
 mod Scoping
 mod Taking

@@ -1,28 +1,15 @@
 -- Meanings of names that are met.
-use Rattle.std.proofs.Common.{◌≡◌, ℕ, Bool, true, false, cond, nat_eq, List, [], ◌∷◌, ◌++◌, Option, Some, None, refl}
+use Rattle.std.proofs.Common.{◌≡◌, ℕ, cond, List, [], ◌∷◌, ◌++◌, Some, None}
 use Rattle.std.proofs.Common.{sym}
 use Rattle.std.proofs.Common.{ap, ◌∙◌, ◌<◌, ◌+◌, suc, drop, length, arith, append_assoc}
 use Rattle.std.proofs.Math.Seq.{drop-cons}
 use Rattle.std.specs.Prelude.{slice_index_or}
-use Rattle.std.specs.Prelude.{is_some, if◌then◌else◌}
+use Rattle.std.specs.Prelude.{is_some}
 use Rattle.core_calc.specs.Substitution.{is_among}
-use Rattle.std.specs.List.{list_any, position_or_len}
-use Rattle.indexmap.specs.IndexSet.{insert_key}
 use Rattle.flat_ir.specs.declared.code.Operand.{Operand}
-use Rattle.flat_ir.specs.declared.code.Operand.TheVariants.{Captured}
 use Rattle.closure_convert.specs.Conversion.{Scope, captured_scope, meanings_of, operand_or_unit}
 use Rattle.closure_convert.specs.Scopes.{Reaches, or_else, over, with_all_free, with_free, with_name}
-use Rattle.closure_convert.proofs.Meeting.{among_with, any_among, captured_place}
-
--- a key that is added to a set is a name that is met
-pub key_met : (captured : List ℕ) (name : ℕ) → insert_key nat_eq captured name ≡ with_name captured name
-key_met captured name =
-    by_test (list_any (nat_eq name) captured)
-    ∙ ap (λ b. cond b captured (captured ++ name ∷ [])) (any_among name captured)
-  where
-    by_test : (b : Bool) → (if b then captured else (captured ++ name ∷ [])) ≡ cond b captured (captured ++ name ∷ [])
-    by_test true = refl
-    by_test false = refl
+use Rattle.closure_convert.proofs.Meeting.{among_with}
 
 -- a name that is bound is no captured one
 pub free_bound_name : (scope : Scope) (captured : List ℕ) (name : ℕ) (o : Operand) → scope name ≡ Some o
@@ -30,26 +17,19 @@ pub free_bound_name : (scope : Scope) (captured : List ℕ) (name : ℕ) (o : Op
 free_bound_name scope captured name o e = sym (ap (λ x. cond (is_some x) captured (with_name captured name)) e)
 
 -- one that is not bound is
-pub free_new_name : (scope : Scope) (captured keys : List ℕ) (name : ℕ) → scope name ≡ None
-    → keys ≡ insert_key nat_eq captured name → keys ≡ with_free scope captured name
-free_new_name scope captured keys name e k =
-    k ∙ key_met captured name ∙ sym (ap (λ x. cond (is_some x) captured (with_name captured name)) e)
+pub free_new_name : (scope : Scope) (captured new : List ℕ) (name : ℕ) → scope name ≡ None
+    → new ≡ with_name captured name → new ≡ with_free scope captured name
+free_new_name scope captured new name e k = k ∙ sym (ap (λ x. cond (is_some x) captured (with_name captured name)) e)
 
 pub meaning_bound : (scope outer : Scope) (name : ℕ) (o : Operand) → scope name ≡ Some o
     → over scope outer name ≡ Some o
 meaning_bound scope outer name o e = ap (λ x. or_else x (outer name)) e
 
-pub meaning_captured : (scope outer : Scope) (captured keys : List ℕ) (name place number : ℕ) → scope name ≡ None
-    → keys ≡ insert_key nat_eq captured name → place ≡ position_or_len (nat_eq name) captured → number ≡ place
-    → Reaches keys outer → over scope outer name ≡ Some (Captured number)
-meaning_captured scope outer captured keys name place number e k p n r =
-    ap (λ x. or_else x (outer name)) e
-    ∙ r.at name (ap (λ x. is_among name x) same ∙ among_with name captured)
-    ∙ ap (λ x. captured_scope x name) same ∙ captured_place name captured
-    ∙ sym (ap (λ x. Some (Captured x)) (n ∙ p))
-  where
-    same : keys ≡ with_name captured name
-    same = k ∙ key_met captured name
+pub meaning_captured : (scope outer : Scope) (captured new : List ℕ) (name : ℕ) (o : Operand) → scope name ≡ None
+    → new ≡ with_name captured name → captured_scope new name ≡ Some o → Reaches new outer
+    → over scope outer name ≡ Some o
+meaning_captured scope outer captured new name o e k given r =
+    ap (λ x. or_else x (outer name)) e ∙ r.at name (ap (is_among name) k ∙ among_with name captured) ∙ given
 
 -- one meaning more
 pub meanings_more : (s : Scope) (before : List Operand) (name : ℕ) (o : Operand) (left rest : List ℕ)

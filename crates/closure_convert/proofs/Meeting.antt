@@ -1,9 +1,8 @@
 -- Names that are met while a function is converted: which it captures, in which order, and how they are numbered.
-use Rattle.std.proofs.Common.{◌≡◌, ℕ, suc, ◌+◌, Bool, true, false, cond, nat_eq, not, ◌||◌, List, [], ◌∷◌, ◌++◌}
-use Rattle.std.proofs.Common.{length, Option}
-use Rattle.std.proofs.Common.{Some, None, refl, sym, ap, ◌∙◌, subst, arith, eqb-true, append_assoc}
+use Rattle.std.proofs.Common.{◌≡◌, ℕ, suc, Bool, true, false, cond, nat_eq, List, [], ◌∷◌, ◌++◌}
+use Rattle.std.proofs.Common.{length}
+use Rattle.std.proofs.Common.{Some, refl, sym, ap, ◌∙◌, arith, eqb-true, append_assoc}
 use Rattle.std.specs.Prelude.{is_some}
-use Rattle.std.specs.List.{list_any, position_or_len}
 use Rattle.core_calc.specs.Substitution.{is_among}
 use Rattle.coer_core.specs.Counts.{names_besides, each_once}
 use Rattle.flat_ir.specs.declared.code.Operand.{Operand}
@@ -11,7 +10,7 @@ use Rattle.flat_ir.specs.declared.code.Operand.TheVariants.{Captured}
 use Rattle.closure_convert.specs.Conversion.{Scope, nothing_known, bind_operands, numbered, captured_scope}
 use Rattle.closure_convert.specs.Scopes.{Reaches, with_name, with_free, with_all_free}
 use Rattle.closure_convert.specs.Converting.{Hides}
-use Rattle.closure_convert.proofs.Relation.{is_itself, chosen_true, chosen_false, false_true, test}
+use Rattle.closure_convert.proofs.Relation.{is_itself, chosen_true, false_true}
 
 -- ---- names in lists
 
@@ -266,15 +265,6 @@ bound_hide names os scope len = record { free = λ captured met. free_bound name
 
 -- ---- numbers of captured names
 
-pub any_among : (name : ℕ) (names : List ℕ) → list_any (nat_eq name) names ≡ is_among name names
-any_among name [] = refl
-any_among name (x ∷ xs) = by_test (nat_eq name x) (any_among name xs)
-  where
-    by_test : (b : Bool) → list_any (nat_eq name) xs ≡ is_among name xs
-        → (b || list_any (nat_eq name) xs) ≡ cond b true (is_among name xs)
-    by_test true ih = refl
-    by_test false ih = ih
-
 captured_more : (name : ℕ) (xs ys : List ℕ) (k : ℕ) (scope : Scope) → is_among name xs ≡ true
     → bind_operands (xs ++ ys) (numbered (λ i. Captured i) (xs ++ ys) k) scope name
     ≡ bind_operands xs (numbered (λ i. Captured i) xs k) scope name
@@ -291,67 +281,6 @@ captured_more name (x ∷ xs) ys k scope e =
         ≡ cond b (Some (Captured k)) (bind_operands xs (numbered (λ i. Captured i) xs (suc k)) scope name)
     by_test true ih h = refl
     by_test false ih h = ih h
-
-place_there : (name : ℕ) (xs : List ℕ) (k : ℕ) (scope : Scope) → is_among name xs ≡ true
-    → bind_operands xs (numbered (λ i. Captured i) xs k) scope name
-    ≡ Some (Captured (k + position_or_len (nat_eq name) xs))
-place_there name [] k scope e = false_true e
-place_there name (x ∷ xs) k scope e = by_test (nat_eq name x) (place_there name xs (suc k) scope) e
-  where
-    zero_more : k ≡ k + 0
-    zero_more = omega arith
-
-    one_more : suc k + position_or_len (nat_eq name) xs ≡ k + (1 + position_or_len (nat_eq name) xs)
-    one_more = omega arith
-
-    by_test : (b : Bool) → (is_among name xs ≡ true
-        → bind_operands xs (numbered (λ i. Captured i) xs (suc k)) scope name
-        ≡ Some (Captured (suc k + position_or_len (nat_eq name) xs)))
-        → cond b true (is_among name xs) ≡ true
-        → cond b (Some (Captured k)) (bind_operands xs (numbered (λ i. Captured i) xs (suc k)) scope name)
-        ≡ Some (Captured (k + cond (not b) (1 + position_or_len (nat_eq name) xs) 0))
-    by_test true ih h = ap (λ n. Some (Captured n)) zero_more
-    by_test false ih h = ih h ∙ ap (λ n. Some (Captured n)) one_more
-
-place_new : (name : ℕ) (xs : List ℕ) (k : ℕ) (scope : Scope) → is_among name xs ≡ false
-    → bind_operands (xs ++ name ∷ []) (numbered (λ i. Captured i) (xs ++ name ∷ []) k) scope name
-    ≡ Some (Captured (k + position_or_len (nat_eq name) xs))
-place_new name [] k scope e =
-    chosen_true (nat_eq name name) (Some (Captured k)) (scope name) (is_itself name)
-    ∙ ap (λ n. Some (Captured n)) zero_more
-  where
-    zero_more : k ≡ k + 0
-    zero_more = omega arith
-place_new name (x ∷ xs) k scope e = by_test (nat_eq name x) (place_new name xs (suc k) scope) e
-  where
-    one_more : suc k + position_or_len (nat_eq name) xs ≡ k + (1 + position_or_len (nat_eq name) xs)
-    one_more = omega arith
-
-    by_test : (b : Bool) → (is_among name xs ≡ false
-        → bind_operands (xs ++ name ∷ []) (numbered (λ i. Captured i) (xs ++ name ∷ []) (suc k)) scope name
-        ≡ Some (Captured (suc k + position_or_len (nat_eq name) xs)))
-        → cond b true (is_among name xs) ≡ false
-        → cond b (Some (Captured k))
-        (bind_operands (xs ++ name ∷ []) (numbered (λ i. Captured i) (xs ++ name ∷ []) (suc k)) scope name)
-        ≡ Some (Captured (k + cond (not b) (1 + position_or_len (nat_eq name) xs) 0))
-    by_test true ih h = false_true (sym h)
-    by_test false ih h = ih h ∙ ap (λ n. Some (Captured n)) one_more
-
--- the number of a captured name is its place, or that behind the others
-pub captured_place : (name : ℕ) (captured : List ℕ)
-    → captured_scope (with_name captured name) name ≡ Some (Captured (position_or_len (nat_eq name) captured))
-captured_place name captured = by_test (is_among name captured) refl
-  where
-    from_none : 0 + position_or_len (nat_eq name) captured ≡ position_or_len (nat_eq name) captured
-    from_none = omega arith
-
-    by_test : (b : Bool) → is_among name captured ≡ b
-        → captured_scope (cond b captured (captured ++ name ∷ [])) name
-        ≡ Some (Captured (position_or_len (nat_eq name) captured))
-    by_test true k =
-        place_there name captured 0 nothing_known k ∙ ap (λ n. Some (Captured n)) from_none
-    by_test false k =
-        place_new name captured 0 nothing_known k ∙ ap (λ n. Some (Captured n)) from_none
 
 pub among_with : (name : ℕ) (captured : List ℕ) → is_among name (with_name captured name) ≡ true
 among_with name captured = by_test (is_among name captured) refl

@@ -1,10 +1,10 @@
 -- Scopes in which names are bound, and in which that is undone.
 use Rattle.std.proofs.Common.{◌≡◌, ℕ, zero, suc, Bool, true, false, cond, nat_eq, List, [], ◌∷◌, ◌++◌, length}
-use Rattle.std.proofs.Common.{Option, Some, None, refl, sym, ap, ◌∙◌, arith, eqb-true, append_assoc, ◌+◌}
+use Rattle.std.proofs.Common.{Option, Some, refl, sym, ap, ◌∙◌, arith, eqb-true, append_assoc, ◌+◌}
 use Rattle.std.proofs.Math.Path.{fun_ext}
 use Rattle.flat_ir.specs.declared.code.Operand.{Operand}
 use Rattle.closure_convert.specs.declared.names.Meaning.{Meaning}
-use Rattle.closure_convert.specs.Conversion.{Scope, nothing_known, bind_operands, numbered, operand_or_unit}
+use Rattle.closure_convert.specs.Conversion.{Scope, nothing_known, bind_operands, numbered}
 use Rattle.closure_convert.specs.Numbers.{counted}
 use Rattle.closure_convert.specs.Scopes.{set_meaning, undone, or_else, over}
 use Rattle.closure_convert.proofs.Relation.{false_true, is_itself}
@@ -90,7 +90,7 @@ counted_more make before left less number next l n =
 
 -- ---- one name that gets a meaning
 
-turned : (a b : ℕ) → nat_eq a b ≡ nat_eq b a
+pub turned : (a b : ℕ) → nat_eq a b ≡ nat_eq b a
 turned a b = by_test (nat_eq a b) refl (nat_eq b a) refl
   where
     by_test : (x : Bool) → nat_eq a b ≡ x → (y : Bool) → nat_eq b a ≡ y → x ≡ y

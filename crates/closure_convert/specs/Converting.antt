@@ -19,7 +19,7 @@ pub record State : Type 0 where
   pub procs : List FlatProc
 
 abbrev pub state_of : Names → List FlatProc → State
-state_of names procs = record { captured = names.captured.keys; procs = procs }
+state_of names procs = record { captured = names.captured; procs = procs }
 
 abbrev pub state : Converter → State
 state converter = state_of converter.names converter.procs

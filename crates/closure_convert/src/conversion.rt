@@ -77,7 +77,7 @@ impl Converter {
         ensures adds { IfOk result (λ r. MatchOption r (self.new ≡ self.old)
             (λ _. Adds (known self.old.names) (state self.old) (state self.new)
             (free_names (row_term_of term.now)) (procs_of (row_term_of term.now)) (made (row_term_of term.now)))) }
-        ensures atom { IfOk result (λ r. (outer : Scope) → Reaches self.new.names.captured.keys outer
+        ensures atom { IfOk result (λ r. (outer : Scope) → Reaches self.new.names.captured outer
             → atom (row_term_of term.now) (seen self.old outer) ≡ r) }
     {
         match term {
@@ -106,7 +106,7 @@ impl Converter {
         ensures adds { OnOk result (Adds (known self.old.names) (state self.old) (state self.new)
             (free_names (row_term_of term.now)) (procs_of (row_term_of term.now))
             (made (row_term_of term.now))) }
-        ensures placed { IfOk result (λ o. (outer : Scope) → Reaches self.new.names.captured.keys outer
+        ensures placed { IfOk result (λ o. (outer : Scope) → Reaches self.new.names.captured outer
             → (rest : Operand → ℕ → Body)
             → ahead waits.new.waits.items (rest o waits.new.depth)
             ≡ ahead waits.old.waits.items (placed (atom (row_term_of term.now) (seen self.old outer)) waits.old.depth
@@ -131,7 +131,7 @@ impl Converter {
         ensures adds { OnOk result (Adds (known self.old.names) (state self.old) (state self.new)
             (free_names_of_all (row_terms_of terms.now)) (procs_for (row_terms_of terms.now))
             (made_for (row_terms_of terms.now))) }
-        ensures gathered { OnOk result ((outer : Scope) → Reaches self.new.names.captured.keys outer
+        ensures gathered { OnOk result ((outer : Scope) → Reaches self.new.names.captured outer
             → (front : List Operand) (finish : List Operand → Body)
             → ahead waits.new.waits.items (finish (front ++ operands.new))
             ≡ ahead waits.old.waits.items (gather (row_terms_of terms.now) (seen self.old outer) waits.old.depth
@@ -159,7 +159,7 @@ impl Converter {
             (made_by (row_bindings_of bindings.now))) }
         ensures names { IfOk result (λ r. names_of r.0 ≡ row_binding_names (row_bindings_of bindings.now)) }
         ensures same { IfOk result (λ r. length r.0 ≡ length r.1) }
-        ensures gathered { IfOk result (λ r. (outer : Scope) → Reaches self.new.names.captured.keys outer
+        ensures gathered { IfOk result (λ r. (outer : Scope) → Reaches self.new.names.captured outer
             → (finish : List Operand → ℕ → Body)
             → ahead waits.new.waits.items (finish r.1 waits.new.depth)
             ≡ ahead waits.old.waits.items (gather_let (row_bindings_of bindings.now)
@@ -184,7 +184,7 @@ impl Converter {
         ensures adds { OnOk result (Adds (known self.old.names) (state self.old) (state self.new)
             (free_names_of_all (row_terms_of terms.now)) (procs_for (row_terms_of terms.now))
             (made_for (row_terms_of terms.now))) }
-        ensures body { IfOk result (λ b. (outer : Scope) → Reaches self.new.names.captured.keys outer
+        ensures body { IfOk result (λ b. (outer : Scope) → Reaches self.new.names.captured outer
             → body_of b ≡ ahead waits.waits.items
             (sequence (row_terms_of terms.now) (seen self.old outer) waits.depth (length self.old.procs))) }
     {
@@ -212,7 +212,7 @@ impl Converter {
             (names_besides (names_of params.now) (free_names (row_term_of body.now))) (procs_of (row_term_of body.now))
             (made (row_term_of body.now))) }
         ensures params { IfOk result (λ f. f.params ≡ length (names_of params.now)) }
-        ensures body { IfOk result (λ f. (outer : Scope) → Reaches self.new.names.captured.keys outer
+        ensures body { IfOk result (λ f. (outer : Scope) → Reaches self.new.names.captured outer
             → body_of f.body ≡ code (row_term_of body.now)
             (bind_operands (names_of params.now) (numbered (λ i. Operand.Local i) (names_of params.now) 0)
             (seen self.old outer))
@@ -236,7 +236,7 @@ impl Converter {
             (free_names_of_members (row_members_of members.now)) (procs_in (row_members_of members.now))
             (made_in (row_members_of members.now))) }
         ensures count { IfOk result (λ fs. length fs.items ≡ row_member_count (row_members_of members.now)) }
-        ensures bodies { IfOk result (λ fs. (outer : Scope) → Reaches self.new.names.captured.keys outer
+        ensures bodies { IfOk result (λ fs. (outer : Scope) → Reaches self.new.names.captured outer
             → parts_of fs.items ≡ bodies (seen self.old outer) (row_members_of members.now) (length self.old.procs)) }
     {
         let mut functions = Vec::new(self.alloc);
@@ -273,10 +273,10 @@ impl Converter {
     // The operands of names.
     fn meanings(&mut self, names: &[u32]) -> Result<Operands, OutOfMemory>
         ensures kept { OnOk result (Kept self.old.names self.new.names) }
-        ensures captured { OnOk result (self.new.names.captured.keys
-            ≡ with_all_free (known self.old.names) self.old.names.captured.keys names.now) }
+        ensures captured { OnOk result (self.new.names.captured
+            ≡ with_all_free (known self.old.names) self.old.names.captured names.now) }
         ensures procs { OnOk result (self.new.procs ≡ self.old.procs) }
-        ensures meanings { IfOk result (λ os. (outer : Scope) → Reaches self.new.names.captured.keys outer
+        ensures meanings { IfOk result (λ os. (outer : Scope) → Reaches self.new.names.captured outer
             → os ≡ meanings_of names.now (seen self.old outer)) }
     {
         let mut operands = Operands::new(self.alloc);
@@ -294,15 +294,15 @@ impl Converter {
         functions: Vec<Function>,
     ) -> Result<(), OutOfMemory>
         ensures kept { OnOk result (Kept self.old.names self.new.names) }
-        ensures captured { OnOk result (self.new.names.captured.keys
-            ≡ with_all_free (known self.old.names) self.old.names.captured.keys inside.now.captured.keys) }
+        ensures captured { OnOk result (self.new.names.captured
+            ≡ with_all_free (known self.old.names) self.old.names.captured inside.now.captured) }
         ensures procs { OnOk result (procs_in_memory self.new.procs ≡ procs_in_memory self.old.procs
-            ++ as_procs (length inside.now.captured.keys) (length functions.items) 0 (parts_of functions.items)) }
+            ++ as_procs (length inside.now.captured) (length functions.items) 0 (parts_of functions.items)) }
         ensures count { OnOk result (length self.new.procs ≡ length self.old.procs + length functions.items) }
-        ensures waits { OnOk result ((outer : Scope) → Reaches self.new.names.captured.keys outer
+        ensures waits { OnOk result ((outer : Scope) → Reaches self.new.names.captured outer
             → Puts waits.old.waits.items waits.new.waits.items (λ rest.
             LetGroup waits.old.depth (length self.old.procs) (length functions.items)
-            (meanings_of inside.now.captured.keys (seen self.old outer)) rest)) }
+            (meanings_of inside.now.captured (seen self.old outer)) rest)) }
         ensures depth { OnOk result (waits.new.depth ≡ waits.old.depth + length functions.items) }
     {
         let names = inside.captured();
@@ -326,7 +326,7 @@ impl Converter {
             (names_besides (names_of params.now) (free_names (row_term_of body.now))) (procs_of (RowLambda
             (names_of params.now) (row_term_of body.now) 0))
             (made (row_term_of body.now) + 0 + 1)) }
-        ensures waits { OnOk result ((outer : Scope) → Reaches self.new.names.captured.keys outer
+        ensures waits { OnOk result ((outer : Scope) → Reaches self.new.names.captured outer
             → Puts waits.old.waits.items waits.new.waits.items (λ rest.
             LetGroup waits.old.depth ((length self.old.procs) + (made (row_term_of body.now) + 0)) 1
             (meanings_of (captures [] (alone (names_of params.now) (row_term_of body.now) 0))
@@ -351,7 +351,7 @@ impl Converter {
             (row_members_of members.now)))
             (λ next. group_procs (row_members_of members.now) next) (made_in
             (row_members_of members.now) + row_member_count (row_members_of members.now))) }
-        ensures body { OnOk result ((outer : Scope) → Reaches self.new.names.captured.keys outer
+        ensures body { OnOk result ((outer : Scope) → Reaches self.new.names.captured outer
             → (body : RowTerm)
             → ahead waits.new.waits.items (code body (seen self.new outer) waits.new.depth
             (length self.new.procs))
@@ -383,7 +383,7 @@ impl Converter {
         ensures adds { OnOk result (Adds (known self.old.names) (state self.old) (state self.new)
             (free_names_of_bindings (row_bindings_of bindings.now)) (procs_by (row_bindings_of bindings.now))
             (made_by (row_bindings_of bindings.now))) }
-        ensures body { OnOk result ((outer : Scope) → Reaches self.new.names.captured.keys outer
+        ensures body { OnOk result ((outer : Scope) → Reaches self.new.names.captured outer
             → (body : RowTerm)
             → ahead waits.new.waits.items (code body (seen self.new outer) waits.new.depth
             (length self.new.procs))
@@ -401,7 +401,7 @@ impl Converter {
         ensures adds { OnOk result (Adds (known self.old.names) (state self.old) (state self.new)
             (free_names (row_term_of term.now)) (procs_of (row_term_of term.now))
             (made (row_term_of term.now))) }
-        ensures body { IfOk result (λ b. (outer : Scope) → Reaches self.new.names.captured.keys outer
+        ensures body { IfOk result (λ b. (outer : Scope) → Reaches self.new.names.captured outer
             → body_of b ≡ code (row_term_of term.now) (seen self.old outer) depth (length self.old.procs)) }
     {
         let mark = self.names.mark();
@@ -417,7 +417,7 @@ impl Converter {
         ensures adds { OnOk result (Adds (known self.old.names) (state self.old) (state self.new)
             (free_names (row_term_of term.now)) (procs_of (row_term_of term.now))
             (made (row_term_of term.now))) }
-        ensures body { IfOk result (λ b. (outer : Scope) → Reaches self.new.names.captured.keys outer
+        ensures body { IfOk result (λ b. (outer : Scope) → Reaches self.new.names.captured outer
             → body_of b ≡ code (row_term_of term.now) (seen self.old outer) depth (length self.old.procs)) }
     {
         let mut waits = Waits::new(self.alloc, depth);

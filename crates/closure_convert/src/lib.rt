@@ -1,6 +1,7 @@
 //! Closure conversion: what the procedures of a term are, and that their run follows the run with environments.
 #![tactic(auto)]
 
+mod captured;
 mod conversion;
 pub mod laws;
 mod names;

@@ -6,11 +6,11 @@ ghost use Rattle.closure_convert.specs.Conversion.{Scope, bind_operands, nothing
 ghost use Rattle.closure_convert.specs.Keeping.{Kept, Opened};
 ghost use Rattle.closure_convert.specs.Scopes.{Reaches, known, over, set_meaning, undone, with_free};
 
-use crate::numbers::narrow;
+use crate::captured::Captured;
 use core_calc::terms::VarId;
 use flat_ir::code::Operand;
 use grift_base::lists::OutOfMemory;
-use indexmap::{IndexMap, IndexSet};
+use indexmap::IndexMap;
 use std::alloc::Global;
 
 // What a name meant before it was bound.
@@ -26,7 +26,7 @@ struct Meaning {
 pub struct Names {
     bound: IndexMap<u32, Operand>,
     before: Vec<Meaning>,
-    captured: IndexSet<u32>,
+    captured: Captured,
 }
 
 impl Names {
@@ -34,12 +34,12 @@ impl Names {
     pub fn new(alloc: Global) -> Names
         ensures known { known result ≡ nothing_known }
         ensures before { result.before.items ≡ [] }
-        ensures captured { result.captured.keys ≡ [] }
+        ensures captured { result.captured ≡ [] }
     {
         Names {
             bound: IndexMap::new(alloc),
             before: Vec::new(alloc),
-            captured: IndexSet::new(alloc),
+            captured: Captured::new(alloc),
         }
     }
 
@@ -113,20 +113,20 @@ impl Names {
     pub fn operand(&mut self, name: u32) -> Result<Operand, OutOfMemory>
         ensures kept { OnOk result (Kept self.old self.new) }
         ensures captured { OnOk result
-            (self.new.captured.keys ≡ with_free (known self.old) self.old.captured.keys name) }
-        ensures meaning { IfOk result (λ o. (outer : Scope) → Reaches self.new.captured.keys outer
+            (self.new.captured ≡ with_free (known self.old) self.old.captured name) }
+        ensures meaning { IfOk result (λ o. (outer : Scope) → Reaches self.new.captured outer
             → over (known self.old) outer name ≡ Some o) }
     {
         if let Some(operand) = self.bound.get(&name) {
             return Ok(*operand);
         }
-        let (place, _) = self.captured.insert_full(name)?;
-        Ok(Operand::Captured(narrow(place as u64)?))
+        let operand = self.captured.operand(name)?;
+        Ok(operand)
     }
 
     /// The captured names in order.
     pub fn captured(&self) -> &[u32]
-        ensures { result.now ≡ self.now.captured.keys }
+        ensures { result.now ≡ self.now.captured }
     {
         self.captured.as_slice()
     }

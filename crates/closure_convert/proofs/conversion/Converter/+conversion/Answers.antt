@@ -1,5 +1,5 @@
 -- The conversion: each function does what its contract says of it.
-use Rattle.std.proofs.Common.{◌≡◌, ◌<◌, ◌≤◌, ℕ, zero, suc, ◌+◌, List, [], ◌∷◌, ◌++◌, length, Some, None, refl, sym, ap}
+use Rattle.std.proofs.Common.{◌≡◌, ◌<◌, ℕ, suc, ◌+◌, List, [], ◌∷◌, ◌++◌, length, refl, sym, ap}
 use Rattle.std.proofs.Common.{◌∙◌}
 use Rattle.std.proofs.Common.{subst, arith}
 use Rattle.std.proofs.Common.{rules}
@@ -7,7 +7,6 @@ use mir.Val.{SFits}
 use mir.Syntax.{w64}
 use Rattle.std.proofs.lemmas.Int.{to_z-of_z}
 use Rattle.std.specs.Prelude.{OnOk}
-use Rattle.grift_base.specs.declared.lists.OutOfMemory.{OutOfMemory}
 use Rattle.core_calc.specs.Views.{names_of}
 use Rattle.coer_core.specs.declared.terms.CoerTerm.{the_lemmas as term_lemmas}
 use Rattle.coer_core.specs.declared.terms.CoerList.{the_lemmas as list_lemmas}
@@ -41,7 +40,7 @@ use Rattle.closure_convert.proofs.Answering.{ends_adds, ends_body, if_ok_then, i
 use Rattle.closure_convert.proofs.Answering.{in_some, on_ok_both, on_ok_then}
 use Rattle.closure_convert.proofs.Binding.{group_body, let_body, no_group_body}
 use Rattle.closure_convert.proofs.GroupsClosed.{Closes, closes_ok, closes_same}
-use Rattle.closure_convert.proofs.Ending.{Coded, Ended, Gathered, body_goes_on, call_ends, cast_ends, coded_in}
+use Rattle.closure_convert.proofs.Ending.{Coded, Gathered, body_goes_on, call_ends, cast_ends, coded_in}
 use Rattle.closure_convert.proofs.Ending.{ended_body, gathered_in, group_goes_on, if_ends, lambda_ends, let_goes_on}
 use Rattle.closure_convert.proofs.Ending.{prim_ends, proj_dyn_ends, proj_ends, seq_ends, tuple_ends}
 use Rattle.closure_convert.proofs.Functions.{Made, function_adds, function_body, functions_adds, functions_more}
@@ -57,7 +56,7 @@ use Rattle.closure_convert.proofs.Opening.{undone_kept}
 use Rattle.closure_convert.proofs.Placing.{Placed, bindings_adds, bindings_more, gather_adds, gather_more, placed_in}
 use Rattle.closure_convert.proofs.Placing.{placed_last, placed_there, sequence_last, sequence_more}
 use Rattle.closure_convert.proofs.Relation.{numbered_long}
-use Rattle.closure_convert.proofs.Scoping.{counted_long, counted_numbered}
+use Rattle.closure_convert.proofs.Scoping.{counted_long}
 use Rattle.closure_convert.proofs.Taking.{names_long}
 use Rattle.closure_convert.proofs.conversion.Converter.+conversion.Goals as goal
 
@@ -400,7 +399,7 @@ function-returns-clause-adds t c =
     (state_of c.bind_all.new.self c.args.self.now.procs) (state c.code.new.self)
     (state_of c.undo.new.self c.code.new.self.procs) (free_names (row_term_of c.args.body.now))
     (procs_of (row_term_of c.args.body.now)) (made (row_term_of c.args.body.now)) inside_is
-    (ap (λ k. k.keys) c.in_ok-bind_all.ensures.captured) refl (ap (λ k. k.keys) c.in_ok-undo.ensures.captured) refl
+    c.in_ok-bind_all.ensures.captured refl c.in_ok-undo.ensures.captured refl
     c.in_ok-body.ensures.adds
 
 pub function-returns-clause-params : goal.function-returns-clause-params
@@ -418,7 +417,7 @@ function-returns-clause-body t c =
     λ outer r. function_body names s (known c.bind_all.new.self) outer (row_term_of c.args.body.now)
     c.in_ok-params.params (length c.args.self.now.procs) (length c.args.self.now.procs) (body_of c.in_ok-body.body)
     inside_is (c.in_ok-params.ensures ∙ c.len-count.ensures ∙ sym (names_long c.args.params.now)) refl
-    (c.in_ok-body.ensures.body outer (subst (λ k. Reaches k.keys outer) c.in_ok-undo.ensures.captured r))
+    (c.in_ok-body.ensures.body outer (subst (λ k. Reaches k outer) c.in_ok-undo.ensures.captured r))
 
 pub functions-loop-left-init : goal.functions-loop-left-init
 functions-loop-left-init t c =
@@ -514,13 +513,13 @@ lambda-returns-clause-adds t c =
     let parameters : List ℕ = names_of c.args.params.now in
     let t : RowTerm = row_term_of c.args.body.now in
     let s : Scope = known c.args.self.now.names in
-    let keys : List ℕ = c.function.new.self.names.captured.keys in
+    let keys : List ℕ = c.function.new.self.names.captured in
     let converted : Converted [] (alone parameters t 0) c.args.self.now.procs c.function.new.self.procs keys
     (parts_of (f ∷ [])) =
     alone_converted parameters t (known c.replace-outside.new.dest)
     (state_of c.replace-outside.new.dest c.args.self.now.procs) (state c.function.new.self) f
     (ap known c.replace-outside.ensures.after ∙ c.new.ensures.known)
-    (ap (λ n. n.captured.keys) c.replace-outside.ensures.after ∙ c.new.ensures.captured) (record {
+    (ap (λ n. n.captured) c.replace-outside.ensures.after ∙ c.new.ensures.captured) (record {
       adds = c.in_ok-function.ensures.adds;
       params = c.in_ok-function.ensures.params;
       body = c.in_ok-function.ensures.body;
@@ -547,13 +546,13 @@ lambda-returns-clause-waits t c =
     let parameters : List ℕ = names_of c.args.params.now in
     let t : RowTerm = row_term_of c.args.body.now in
     let s : Scope = known c.args.self.now.names in
-    let keys : List ℕ = c.function.new.self.names.captured.keys in
+    let keys : List ℕ = c.function.new.self.names.captured in
     let converted : Converted [] (alone parameters t 0) c.args.self.now.procs c.function.new.self.procs keys
     (parts_of (f ∷ [])) =
     alone_converted parameters t (known c.replace-outside.new.dest)
     (state_of c.replace-outside.new.dest c.args.self.now.procs) (state c.function.new.self) f
     (ap known c.replace-outside.ensures.after ∙ c.new.ensures.known)
-    (ap (λ n. n.captured.keys) c.replace-outside.ensures.after ∙ c.new.ensures.captured) (record {
+    (ap (λ n. n.captured) c.replace-outside.ensures.after ∙ c.new.ensures.captured) (record {
       adds = c.in_ok-function.ensures.adds;
       params = c.in_ok-function.ensures.params;
       body = c.in_ok-function.ensures.body;
@@ -630,7 +629,7 @@ group-returns-clause-hides t c =
     let s : Scope = known c.args.self.now.names in
     let d : ℕ = c.args.waits.now.depth in
     let many : ℕ = length c.in_ok-functions.functions.items in
-    let keys : List ℕ = c.functions.new.self.names.captured.keys in
+    let keys : List ℕ = c.functions.new.self.names.captured in
     let inside_is : known c.replace-outside.new.dest ≡ with_siblings names =
     ap known c.replace-outside.ensures.after
     ∙ operands_are (λ i. Sibling i) c.in_ok-names.names c.as_slice.result.now c.as_slice-2.result.now
@@ -638,9 +637,9 @@ group-returns-clause-hides t c =
     (c.as_slice-2.ensures ∙ c.in_ok-siblings.ensures) c.len-count.ensures c.in_ok-bind_all.ensures.known
     ∙ ap (λ ns. bind_operands ns (numbered (λ i. Sibling i) ns 0) (known c.new-inside.result)) c.in_ok-names.ensures
     ∙ ap (bind_operands names (numbered (λ i. Sibling i) names 0)) c.new-inside.ensures.known in
-    let nothing : [] ≡ c.replace-outside.new.dest.captured.keys =
-    sym (ap (λ n. n.captured.keys) c.replace-outside.ensures.after
-    ∙ ap (λ k. k.keys) c.in_ok-bind_all.ensures.captured ∙ c.new-inside.ensures.captured) in
+    let nothing : [] ≡ c.replace-outside.new.dest.captured =
+    sym (ap (λ n. n.captured) c.replace-outside.ensures.after
+    ∙ c.in_ok-bind_all.ensures.captured ∙ c.new-inside.ensures.captured) in
     let converted : Converted names members c.args.self.now.procs c.functions.new.self.procs keys
     (parts_of c.in_ok-functions.functions.items) = record {
       adds = adds_between (known c.replace-outside.new.dest) (with_siblings names)
@@ -693,7 +692,7 @@ group-returns-clause-adds t c =
     let s : Scope = known c.args.self.now.names in
     let d : ℕ = c.args.waits.now.depth in
     let many : ℕ = length c.in_ok-functions.functions.items in
-    let keys : List ℕ = c.functions.new.self.names.captured.keys in
+    let keys : List ℕ = c.functions.new.self.names.captured in
     let inside_is : known c.replace-outside.new.dest ≡ with_siblings names =
     ap known c.replace-outside.ensures.after
     ∙ operands_are (λ i. Sibling i) c.in_ok-names.names c.as_slice.result.now c.as_slice-2.result.now
@@ -701,9 +700,9 @@ group-returns-clause-adds t c =
     (c.as_slice-2.ensures ∙ c.in_ok-siblings.ensures) c.len-count.ensures c.in_ok-bind_all.ensures.known
     ∙ ap (λ ns. bind_operands ns (numbered (λ i. Sibling i) ns 0) (known c.new-inside.result)) c.in_ok-names.ensures
     ∙ ap (bind_operands names (numbered (λ i. Sibling i) names 0)) c.new-inside.ensures.known in
-    let nothing : [] ≡ c.replace-outside.new.dest.captured.keys =
-    sym (ap (λ n. n.captured.keys) c.replace-outside.ensures.after
-    ∙ ap (λ k. k.keys) c.in_ok-bind_all.ensures.captured ∙ c.new-inside.ensures.captured) in
+    let nothing : [] ≡ c.replace-outside.new.dest.captured =
+    sym (ap (λ n. n.captured) c.replace-outside.ensures.after
+    ∙ c.in_ok-bind_all.ensures.captured ∙ c.new-inside.ensures.captured) in
     let converted : Converted names members c.args.self.now.procs c.functions.new.self.procs keys
     (parts_of c.in_ok-functions.functions.items) = record {
       adds = adds_between (known c.replace-outside.new.dest) (with_siblings names)
@@ -748,7 +747,7 @@ group-returns-clause-adds t c =
     on_ok_then c.bind_all-2.result (λ k. adds_between s s (state c.args.self.now) (state c.close.new.self)
     (state c.args.self.now) (state_of c.bind_all-2.new.self c.close.new.self.procs)
     (names_besides names (free_names_of_members members)) (group_procs members)
-    (made_in members + row_member_count members) refl refl refl (ap (λ x. x.keys) k) refl adds)
+    (made_in members + row_member_count members) refl refl refl k refl adds)
     c.bind_all-2.ensures.captured
 
 pub group-returns-clause-body : goal.group-returns-clause-body
@@ -758,7 +757,7 @@ group-returns-clause-body t c =
     let s : Scope = known c.args.self.now.names in
     let d : ℕ = c.args.waits.now.depth in
     let many : ℕ = length c.in_ok-functions.functions.items in
-    let keys : List ℕ = c.functions.new.self.names.captured.keys in
+    let keys : List ℕ = c.functions.new.self.names.captured in
     let inside_is : known c.replace-outside.new.dest ≡ with_siblings names =
     ap known c.replace-outside.ensures.after
     ∙ operands_are (λ i. Sibling i) c.in_ok-names.names c.as_slice.result.now c.as_slice-2.result.now
@@ -766,9 +765,9 @@ group-returns-clause-body t c =
     (c.as_slice-2.ensures ∙ c.in_ok-siblings.ensures) c.len-count.ensures c.in_ok-bind_all.ensures.known
     ∙ ap (λ ns. bind_operands ns (numbered (λ i. Sibling i) ns 0) (known c.new-inside.result)) c.in_ok-names.ensures
     ∙ ap (bind_operands names (numbered (λ i. Sibling i) names 0)) c.new-inside.ensures.known in
-    let nothing : [] ≡ c.replace-outside.new.dest.captured.keys =
-    sym (ap (λ n. n.captured.keys) c.replace-outside.ensures.after
-    ∙ ap (λ k. k.keys) c.in_ok-bind_all.ensures.captured ∙ c.new-inside.ensures.captured) in
+    let nothing : [] ≡ c.replace-outside.new.dest.captured =
+    sym (ap (λ n. n.captured) c.replace-outside.ensures.after
+    ∙ c.in_ok-bind_all.ensures.captured ∙ c.new-inside.ensures.captured) in
     let converted : Converted names members c.args.self.now.procs c.functions.new.self.procs keys
     (parts_of c.in_ok-functions.functions.items) = record {
       adds = adds_between (known c.replace-outside.new.dest) (with_siblings names)
@@ -824,7 +823,7 @@ group-returns-clause-body t c =
     (length c.args.self.now.procs) (length c.close.new.self.procs) some long closes.depth refl (bound k) later
     (group_waits names members s outer (state c.args.self.now) c.functions.new.self.procs keys
     (parts_of c.in_ok-functions.functions.items) c.args.waits.now.waits.items c.close.new.waits.waits.items d many
-    converted (closes.waits outer (subst (λ x. Reaches x.keys outer) e r))))
+    converted (closes.waits outer (subst (λ x. Reaches x outer) e r))))
     c.bind_all-2.ensures.known c.bind_all-2.ensures.captured
 
 pub bindings-bind_all-requires : goal.bindings-bind_all-requires
@@ -858,7 +857,7 @@ bindings-returns-clause-adds t c =
     let s : Scope = known c.args.self.now.names in
     on_ok_then c.bind_all.result (λ k. adds_between s s (state c.args.self.now) (state c.gather_bindings.new.self)
     (state c.args.self.now) (state_of c.bind_all.new.self c.gather_bindings.new.self.procs)
-    (free_names_of_bindings rows) (procs_by rows) (made_by rows) refl refl refl (ap (λ x. x.keys) k) refl
+    (free_names_of_bindings rows) (procs_by rows) (made_by rows) refl refl refl k refl
     c.in_ok-names.ensures.adds) c.bind_all.ensures.captured
 
 pub bindings-returns-clause-body : goal.bindings-returns-clause-body
@@ -878,7 +877,7 @@ bindings-returns-clause-body t c =
     c.gather_bindings.new.waits.waits.items names c.in_ok-names.operands c.args.waits.now.depth
     c.gather_bindings.new.waits.depth (length c.args.self.now.procs) (length c.gather_bindings.new.self.procs)
     c.in_ok-names.ensures.names (bound k) c.in_ok-names.ensures.adds.count
-    (c.in_ok-names.ensures.gathered outer (subst (λ x. Reaches x.keys outer) e r)))
+    (c.in_ok-names.ensures.gathered outer (subst (λ x. Reaches x outer) e r)))
     c.bind_all.ensures.known c.bind_all.ensures.captured
 
 pub code-returns-clause-kept : goal.code-returns-clause-kept
@@ -892,11 +891,11 @@ code-returns-clause-adds t c =
     adds_between s s (state c.args.self.now) (state c.inside.new.self) (state c.args.self.now)
     (state_of c.undo.new.self c.inside.new.self.procs) (free_names (row_term_of c.args.term.now))
     (procs_of (row_term_of c.args.term.now)) (made (row_term_of c.args.term.now)) refl refl refl
-    (ap (λ x. x.keys) c.in_ok-undo.ensures.captured) refl c.in_ok-body.ensures.adds
+    c.in_ok-undo.ensures.captured refl c.in_ok-body.ensures.adds
 
 pub code-returns-clause-body : goal.code-returns-clause-body
 code-returns-clause-body t c =
-    λ outer r. c.in_ok-body.ensures.body outer (subst (λ x. Reaches x.keys outer) c.in_ok-undo.ensures.captured r)
+    λ outer r. c.in_ok-body.ensures.body outer (subst (λ x. Reaches x outer) c.in_ok-undo.ensures.captured r)
 
 pub inside-loop-left-init : goal.inside-loop-left-init
 inside-loop-left-init t c =

@@ -26,7 +26,7 @@ invariant-gather-loop-left l = record {
       (procs_for (row_terms_of l.left)) (made_for (row_terms_of l.left))
       → Adds (known l.fn.self.names) (state l.fn.self) end (free_names_of_all (row_terms_of l.terms))
       (procs_for (row_terms_of l.terms)) (made_for (row_terms_of l.terms));
-  gathered : (outer : Scope) → Reaches l.self.names.captured.keys outer → (front : List Operand)
+  gathered : (outer : Scope) → Reaches l.self.names.captured outer → (front : List Operand)
       (finish : List Operand → Body)
       → ahead l.waits.waits.items (gather (row_terms_of l.left) (seen l.fn.self outer) l.waits.depth
       (length l.self.procs) (front ++ l.operands) finish)
@@ -43,7 +43,7 @@ invariant-gather_bindings-loop-left l = record {
       (made_by (row_bindings_of l.left))
       → Adds (known l.fn.self.names) (state l.fn.self) end (free_names_of_bindings (row_bindings_of l.bindings))
       (procs_by (row_bindings_of l.bindings)) (made_by (row_bindings_of l.bindings));
-  gathered : (outer : Scope) → Reaches l.self.names.captured.keys outer → (finish : List Operand → ℕ → Body)
+  gathered : (outer : Scope) → Reaches l.self.names.captured outer → (finish : List Operand → ℕ → Body)
       → ahead l.waits.waits.items (gather_let (row_bindings_of l.left) (seen l.fn.self outer) l.waits.depth
       (length l.self.procs) l.operands finish)
       ≡ ahead l.fn.waits.waits.items (gather_let (row_bindings_of l.bindings) (seen l.fn.self outer)
@@ -61,7 +61,7 @@ invariant-sequence-loop-left l = record {
       (procs_for (row_terms_of l.left)) (made_for (row_terms_of l.left))
       → Adds (known l.fn.self.names) (state l.fn.self) end (free_names_of_all (row_terms_of l.terms))
       (procs_for (row_terms_of l.terms)) (made_for (row_terms_of l.terms));
-  body : (outer : Scope) → Reaches l.self.names.captured.keys outer
+  body : (outer : Scope) → Reaches l.self.names.captured outer
       → ahead l.waits.waits.items (sequence (row_terms_of l.left) (seen l.fn.self outer) l.waits.depth
       (length l.self.procs))
       ≡ ahead l.fn.waits.waits.items (sequence (row_terms_of l.terms) (seen l.fn.self outer) l.fn.waits.depth
@@ -79,7 +79,7 @@ invariant-functions-loop-left l = record {
       (procs_in (row_members_of l.members)) (made_in (row_members_of l.members));
   count : length l.functions.items + row_member_count (row_members_of l.left)
       ≡ row_member_count (row_members_of l.members);
-  bodies : (outer : Scope) → Reaches l.self.names.captured.keys outer
+  bodies : (outer : Scope) → Reaches l.self.names.captured outer
       → parts_of l.functions.items ++ bodies (seen l.fn.self outer) (row_members_of l.left) (length l.self.procs)
       ≡ bodies (seen l.fn.self outer) (row_members_of l.members) (length l.fn.self.procs);
   smaller : size-CoerMembers l.left ≤ size-CoerMembers l.fn.members;
@@ -92,7 +92,7 @@ invariant-inside-loop-left l = record {
       (procs_of (row_term_of l.left)) (made (row_term_of l.left))
       → Adds (known l.fn.self.names) (state l.fn.self) end (free_names (row_term_of l.term))
       (procs_of (row_term_of l.term)) (made (row_term_of l.term));
-  body : (outer : Scope) → Reaches l.self.names.captured.keys outer
+  body : (outer : Scope) → Reaches l.self.names.captured outer
       → ahead l.waits.waits.items (code (row_term_of l.left) (seen l.self outer) l.waits.depth
       (length l.self.procs))
       ≡ code (row_term_of l.term) (seen l.fn.self outer) l.depth (length l.fn.self.procs);

@@ -16,8 +16,8 @@ loop-name-preserved c =
       kept = kept_then c.args.self.now.names c.loop-name.self.names c.operand.new.self c.loop-name.invariant.kept
           c.in_ok-operand.ensures.kept;
       captured = met_next (known c.loop-name.self.names) (known c.args.self.now.names)
-          c.loop-name.self.names.captured.keys
-          c.operand.new.self.captured.keys c.args.names.now i 0 _ less c.loop-name.invariant.kept.scope
+          c.loop-name.self.names.captured
+          c.operand.new.self.captured c.args.names.now i 0 _ less c.loop-name.invariant.kept.scope
           c.in_ok-operand.ensures.captured c.loop-name.invariant.captured;
       procs = c.loop-name.invariant.procs;
       meanings = λ outer r.
@@ -28,6 +28,6 @@ loop-name-preserved c =
           (subst (λ s. over s outer name ≡ Some c.in_ok-operand.field-0) c.loop-name.invariant.kept.scope
           (c.in_ok-operand.ensures.meaning outer r))
           (c.loop-name.invariant.meanings outer (reaches_less (known c.loop-name.self.names)
-          c.loop-name.self.names.captured.keys name outer
+          c.loop-name.self.names.captured name outer
           (subst (λ k. Reaches k outer) c.in_ok-operand.ensures.captured r)));
     }

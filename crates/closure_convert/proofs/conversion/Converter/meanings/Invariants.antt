@@ -9,10 +9,10 @@ use Rattle.closure_convert.proofs.conversion.Converter.meanings.Given as goal
 abbrev pub invariant-loop-name : goal.invariant-loop-name
 invariant-loop-name l = record {
   kept : Kept l.fn.self.names l.self.names;
-  captured : with_all_free (known l.fn.self.names) l.self.names.captured.keys (drop l.name-index l.names)
-      ≡ with_all_free (known l.fn.self.names) l.fn.self.names.captured.keys l.names;
+  captured : with_all_free (known l.fn.self.names) l.self.names.captured (drop l.name-index l.names)
+      ≡ with_all_free (known l.fn.self.names) l.fn.self.names.captured l.names;
   procs : l.self.procs ≡ l.fn.self.procs;
-  meanings : (outer : Scope) → Reaches l.self.names.captured.keys outer
+  meanings : (outer : Scope) → Reaches l.self.names.captured outer
       → l.operands ++ meanings_of (drop l.name-index l.names) (seen l.fn.self outer)
       ≡ meanings_of l.names (seen l.fn.self outer);
 }

@@ -6,13 +6,11 @@ use Rattle.closure_convert.proofs.names.Names.operand.Goals as goal
 
 pub returns-clause-captured : goal.returns-clause-captured
 returns-clause-captured c =
-    free_new_name (known c.args.self.now) c.args.self.now.captured.keys c.insert_full.new.self.keys c.args.name
-    (sym c.get.ensures.value ∙ ap option_copied c.in_default.is) c.in_ok-place.ensures.keys
+    free_new_name (known c.args.self.now) c.args.self.now.captured c.operand.new.self c.args.name
+    (sym c.get.ensures.value ∙ ap option_copied c.in_default.is) c.in_ok-operand.ensures.names
 
 pub returns-clause-meaning : goal.returns-clause-meaning
 returns-clause-meaning c = λ outer r.
-    meaning_captured (known c.args.self.now) outer c.args.self.now.captured.keys c.insert_full.new.self.keys
-    c.args.name _
-    c.in_ok-narrow.field-0 (sym c.get.ensures.value ∙ ap option_copied c.in_default.is) c.in_ok-place.ensures.keys
-    c.in_ok-place.ensures.index
-    c.in_ok-narrow.ensures r
+    meaning_captured (known c.args.self.now) outer c.args.self.now.captured c.operand.new.self c.args.name
+    c.in_ok-operand.operand (sym c.get.ensures.value ∙ ap option_copied c.in_default.is)
+    c.in_ok-operand.ensures.names c.in_ok-operand.ensures.operand r
