@@ -21,4 +21,5 @@ pub mod Bodies
 pub mod Room
 pub mod Rules
 pub mod Elaborated
+pub mod Listing
 pub mod Public

@@ -15,3 +15,4 @@ pub mod Gathered
 pub mod Heads
 pub mod Bodies
 pub mod Outcomes
+pub mod Listed
