@@ -66,7 +66,7 @@ module _ (final : List Entry) where
   -- the list of casts grew, and where it has become a beginning of the last one, this holds of what was made
   abbrev Ends : {A : Type 0} → (A → Type 0) → Work → Made A → Type 0
   Ends P before (Makes a after) = HasMore before.casts after.casts × (HasMore after.casts final → P a)
-  Ends P before (Refuses kind place) = Unit {0}
+  Ends P before (Refuses kind place last) = Unit {0}
 
   joined : {A B : Type 0} (P : A → Type 0) (Q : B → Type 0) (before mid : Work) (a : A) (made : Made B) →
       HasMore before.casts mid.casts → (HasMore mid.casts final → P a) → Ends (λ b. P a → Q b) mid made →
@@ -75,14 +75,14 @@ module _ (final : List Entry) where
     more_on before.casts mid.casts after.casts more h.0,
     λ last. h.1 last (holds (more_on mid.casts after.casts final h.0 last)),
   )
-  joined P Q before mid a (Refuses kind place) more holds h = tt
+  joined P Q before mid a (Refuses kind place last) more holds h = tt
 
   ends_then : {A B : Type 0} (P : A → Type 0) (Q : B → Type 0) (before : Work) (made : Made A) (next : A → Making B) →
       Ends P before made → ((a : A) (mid : Work) → Ends (λ b. P a → Q b) mid (next a mid)) →
       Ends Q before (then_make made next)
   unfolding then_make
   ends_then P Q before (Makes a mid) next h k = joined P Q before mid a (next a mid) h.0 h.1 (k a mid)
-  ends_then P Q before (Refuses kind place) next h k = tt
+  ends_then P Q before (Refuses kind place last) next h k = tt
 
   given : {A : Type 0} (P : A → Type 0) (a : A) (work : Work) → P a → Ends P work (give a work)
   given P a work p = (same work.casts, λ last. p)
@@ -97,7 +97,7 @@ module _ (final : List Entry) where
   weaker : {A : Type 0} (P Q : A → Type 0) (work : Work) (made : Made A) → ((a : A) → P a → Q a) → Ends P work made →
       Ends Q work made
   weaker P Q work (Makes a after) f h = (h.0, λ last. f a (h.1 last))
-  weaker P Q work (Refuses kind place) f h = tt
+  weaker P Q work (Refuses kind place last) f h = tt
 
   then_quiet : {A B : Type 0} (before : Work) (made : Made A) (next : A → Making B) → Quiet before made →
       ((a : A) (mid : Work) → Quiet mid (next a mid)) → Quiet before (then_make made next)
