@@ -84,10 +84,14 @@ fn makes_each_other_call(rt: HostRuntime) {
         (0xFFFF_FFFF_FFFF_FFFF, 0, EnvEffect::Refused, ""),
     ] {
         let mut world = quiet_world(rt.alloc());
-        let came_to = world.env(number, a0, 9, 2);
         assert_eq!(rt;
-            (came_to, world.output.as_slice()),
-            (effect, text.as_bytes()),
+            world.env(number, a0, 9, 2),
+            effect,
+            "call {number} of {a0}"
+        );
+        assert_eq!(rt;
+            world.output.as_slice(),
+            text.as_bytes(),
             "call {number} of {a0}"
         );
     }
