@@ -114,8 +114,8 @@ fn words_and_commands(rt: HostRuntime) -> Result<(), NoMemory> {
             Some(Command::Run { image, .. }) => image,
             _ => None,
         };
-        let read = (read_words(words.as_slice()), image_name(words.as_slice()));
-        assert!(rt; read == (command, image), "{texts:?}");
+        assert!(rt; read_words(words.as_slice()) == command, "{texts:?}");
+        assert!(rt; image_name(words.as_slice()) == image, "{texts:?}");
     }
     Ok(())
 }
