@@ -1,1 +1,2 @@
+mod Across
 mod Samples

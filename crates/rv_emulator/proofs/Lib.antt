@@ -4,4 +4,3 @@ mod Sound
 mod Runs
 mod Start
 mod Written
-mod Across

@@ -1,4 +1,4 @@
-use Rattle.rv_emulator.proofs.Across.{across_items}
+use Rattle.machine_tests.proofs.Across.{across_items}
 use Rattle.machine_tests.proofs.assembled.across.Goals as goal
 
 pub returns : goal.returns

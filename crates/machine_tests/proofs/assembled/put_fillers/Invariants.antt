@@ -1,5 +1,5 @@
 use Rattle.std.proofs.Common.{◌≡◌, ◌++◌, replicate}
-use Rattle.rv_emulator.proofs.Across.{filler}
+use Rattle.machine_tests.proofs.Across.{filler}
 use Rattle.machine_tests.proofs.assembled.put_fillers.Given as goal
 
 abbrev pub invariant-loop : goal.invariant-loop
