@@ -1,0 +1,10 @@
+mod UpRows
+mod GoingUp
+mod StepsGoUp
+mod RunsGoUp
+mod UpAnswers
+mod Marks
+mod Lines
+mod NoVerdicts
+mod ElaboratedLists
+mod Examples
