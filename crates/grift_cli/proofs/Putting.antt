@@ -19,7 +19,7 @@ use Rattle.grift_cli.specs.declared.commands.Limits.{Limits}
 use Rattle.grift_cli.specs.declared.reports.Report.{Report}
 use Rattle.grift_cli.specs.declared.reports.Report.TheVariants.{HasVerdict, HasFault, Checked, Refused, ImageRefused}
 use Rattle.grift_cli.specs.declared.reports.Report.TheVariants.{WordsRefused, LoadFailed, PutFailed}
-use Rattle.grift_cli.specs.declared.reports.Report.TheVariants.{NoMemory, TooLong}
+use Rattle.grift_cli.specs.declared.reports.Report.TheVariants.{Audited, NoMemory, TooLong}
 
 -- ---- one put
 
@@ -66,6 +66,7 @@ runs_after_put limits image bytes out img (HasFault fault) well b t x = no_fault
 runs_after_put limits image bytes out img PutFailed well b t x = inr (subst (λ xs. Takes xs img) b t, x)
 runs_after_put limits image bytes out img NoMemory well b t x = (inr (subst (λ xs. Takes xs img) b t), x)
 runs_after_put limits image bytes out img Checked well b t x = absurd x.0
+runs_after_put limits image bytes out img Audited well b t x = absurd x.0
 runs_after_put limits image bytes out img (Refused refusal) well b t x = absurd x.0
 runs_after_put limits image bytes out img (ImageRefused fault) well b t x = absurd x.0
 runs_after_put limits image bytes out img WordsRefused well b t x = absurd x.0

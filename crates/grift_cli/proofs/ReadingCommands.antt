@@ -2,7 +2,7 @@
 use Rattle.std.proofs.Common.{ℕ, ◌≡◌, List, [], ◌∷◌, ◌++◌, inl, inr, refl, sym, ap, subst, ◌∙◌, arith}
 use Rattle.std.specs.Prelude.{codes, ◌≢◌, Option, Some, None}
 use Rattle.grift_cli.specs.Commands.{AreNoCommand, Command, Check, Exec, IsCommand, IsCheck, IsExec, IsNameOption}
-use Rattle.grift_cli.specs.Commands.{IsRun, Run}
+use Rattle.grift_cli.specs.Commands.{IsRun, Run, Audit, IsAudit}
 use Rattle.grift_cli.specs.declared.commands.Limits.{Limits}
 use Rattle.grift_cli.specs.ReadCommands.{GivesImage, LimitsAtFront}
 use Rattle.grift_cli.proofs.ReadingLimits.{differ_at, limit_words, limits_front, one_limits}
@@ -105,11 +105,24 @@ one_image words a b p q = elim p [
 pub run_is_not_exec : codes "run" ≢ codes "exec"
 run_is_not_exec = differ_at 0 (codes "run") (codes "exec") (omega arith)
 
-pub run_is_not_check : codes "run" ≢ codes "check"
-run_is_not_check = differ_at 0 (codes "run") (codes "check") (omega arith)
+-- the command is none of those that have a file alone
+abbrev pub MayHaveOptions : List ℕ → Type 0
+MayHaveOptions command = (command ≢ codes "check") × (command ≢ codes "audit")
 
-pub exec_is_not_check : codes "exec" ≢ codes "check"
-exec_is_not_check = differ_at 0 (codes "exec") (codes "check") (omega arith)
+pub run_may_have_options : MayHaveOptions (codes "run")
+run_may_have_options = (
+  differ_at 0 (codes "run") (codes "check") (omega arith),
+  differ_at 0 (codes "run") (codes "audit") (omega arith),
+)
+
+pub exec_may_have_options : MayHaveOptions (codes "exec")
+exec_may_have_options = (
+  differ_at 0 (codes "exec") (codes "check") (omega arith),
+  differ_at 0 (codes "exec") (codes "audit") (omega arith),
+)
+
+check_is_not_audit : codes "check" ≢ codes "audit"
+check_is_not_audit = differ_at 0 (codes "check") (codes "audit") (omega arith)
 
 two_runs : (words : List (List ℕ)) (file other : List ℕ) (limits left : Limits) (image name : Option (List ℕ))
     → ReadsRun words file limits image → ReadsRun words other left name → Run file limits image ≡ Run other left name
@@ -139,19 +152,41 @@ not_both_commands words file other limits left image a b =
 run_and_check : (words : List (List ℕ)) (file other : List ℕ) (limits : Limits) (image : Option (List ℕ))
     → IsRun words file limits image → IsCheck words other → ⊥
 run_and_check words file other limits image a b =
-    run_is_not_check (same_words (codes "run") (codes "check") file other (a.limit_words ++ a.image_words) []
+    run_may_have_options.0 (same_words (codes "run") (codes "check") file other (a.limit_words ++ a.image_words) []
     (sym a.words_are ∙ b.words_are)).first
 
 exec_and_check : (words : List (List ℕ)) (file other : List ℕ) (limits : Limits) → IsExec words file limits
     → IsCheck words other → ⊥
 exec_and_check words file other limits a b =
-    exec_is_not_check (same_words (codes "exec") (codes "check") file other a.limit_words []
+    exec_may_have_options.0 (same_words (codes "exec") (codes "check") file other a.limit_words []
     (sym a.words_are ∙ b.words_are)).first
 
 two_checks : (words : List (List ℕ)) (file other : List ℕ) → IsCheck words file → IsCheck words other
     → Check file ≡ Check other
 two_checks words file other a b =
     ap Check (same_words (codes "check") (codes "check") file other [] [] (sym a.words_are ∙ b.words_are)).second
+
+run_and_audit : (words : List (List ℕ)) (file other : List ℕ) (limits : Limits) (image : Option (List ℕ))
+    → IsRun words file limits image → IsAudit words other → ⊥
+run_and_audit words file other limits image a b =
+    run_may_have_options.1 (same_words (codes "run") (codes "audit") file other (a.limit_words ++ a.image_words) []
+    (sym a.words_are ∙ b.words_are)).first
+
+exec_and_audit : (words : List (List ℕ)) (file other : List ℕ) (limits : Limits) → IsExec words file limits
+    → IsAudit words other → ⊥
+exec_and_audit words file other limits a b =
+    exec_may_have_options.1 (same_words (codes "exec") (codes "audit") file other a.limit_words []
+    (sym a.words_are ∙ b.words_are)).first
+
+check_and_audit : (words : List (List ℕ)) (file other : List ℕ) → IsCheck words file → IsAudit words other → ⊥
+check_and_audit words file other a b =
+    check_is_not_audit (same_words (codes "check") (codes "audit") file other [] []
+    (sym a.words_are ∙ b.words_are)).first
+
+two_audits : (words : List (List ℕ)) (file other : List ℕ) → IsAudit words file → IsAudit words other
+    → Audit file ≡ Audit other
+two_audits words file other a b =
+    ap Audit (same_words (codes "audit") (codes "audit") file other [] [] (sym a.words_are ∙ b.words_are)).second
 
 pub one_command : (words : List (List ℕ)) (first second : Command) → IsCommand words first → IsCommand words second
     → first ≡ second
@@ -171,6 +206,15 @@ one_command words (Check file) (Run other limits image) a b =
     absurd (run_and_check words other file limits image b a)
 one_command words (Exec file limits) (Check other) a b = absurd (exec_and_check words file other limits a b)
 one_command words (Check file) (Exec other limits) a b = absurd (exec_and_check words other file limits b a)
+one_command words (Audit file) (Audit other) a b = two_audits words file other a b
+one_command words (Run file limits image) (Audit other) a b =
+    absurd (run_and_audit words file other limits image a b)
+one_command words (Audit file) (Run other limits image) a b =
+    absurd (run_and_audit words other file limits image b a)
+one_command words (Exec file limits) (Audit other) a b = absurd (exec_and_audit words file other limits a b)
+one_command words (Audit file) (Exec other limits) a b = absurd (exec_and_audit words other file limits b a)
+one_command words (Check file) (Audit other) a b = absurd (check_and_audit words file other a b)
+one_command words (Audit file) (Check other) a b = absurd (check_and_audit words other file b a)
 
 -- ---- what is no command
 
@@ -192,8 +236,13 @@ not_a_check : (words options : List (List ℕ)) (command file other : List ℕ) 
 not_a_check words options command file other e differs a =
     differs (same_words command (codes "check") file other options [] (sym e ∙ a.words_are)).first
 
+not_an_audit : (words options : List (List ℕ)) (command file other : List ℕ) → words ≡ command ∷ file ∷ options
+    → command ≢ codes "audit" → IsAudit words other → ⊥
+not_an_audit words options command file other e differs a =
+    differs (same_words command (codes "audit") file other options [] (sym e ∙ a.words_are)).first
+
 pub no_limits : (words options : List (List ℕ)) (command file : List ℕ) → words ≡ command ∷ file ∷ options
-    → command ≢ codes "check"
+    → MayHaveOptions command
     → ((limits : Limits) (rest : List (List ℕ)) → LimitsAtFront options limits rest → ⊥) → AreNoCommand words
 no_limits words options command file e differs none (Run other limits image) a =
     let r = reads_run words other limits image a in
@@ -201,12 +250,14 @@ no_limits words options command file e differs none (Run other limits image) a =
 no_limits words options command file e differs none (Exec other limits) a =
     none limits [] (exec_front words options command file other limits e (reads_exec words other limits a))
 no_limits words options command file e differs none (Check other) a =
-    not_a_check words options command file other e differs a
+    not_a_check words options command file other e differs.0 a
+no_limits words options command file e differs none (Audit other) a =
+    not_an_audit words options command file other e differs.1 a
 
 -- the words after the limits are no name of an image, or the command is not `run`; they aren't empty, or the command
--- is not `exec`; and it is not `check`
+-- is not `exec`; and it may have options
 pub nothing_fits : (words options left : List (List ℕ)) (command file : List ℕ) (found : Limits)
-    → words ≡ command ∷ file ∷ options → command ≢ codes "check" → LimitsAtFront options found left
+    → words ≡ command ∷ file ∷ options → MayHaveOptions command → LimitsAtFront options found left
     → (command ≡ codes "run" → (image : Option (List ℕ)) → IsNameOption (codes "--image") left image → ⊥)
     → (command ≡ codes "exec" → left ≡ [] → ⊥)
     → AreNoCommand words
@@ -221,7 +272,9 @@ nothing_fits words options left command file found e differs front run exec (Exe
     let l = one_limits options [] left limits found (exec_front words options command file other limits e r) front in
     exec (same_words command (codes "exec") file other options r.options (sym e ∙ r.words_are)).first (sym l.1)
 nothing_fits words options left command file found e differs front run exec (Check other) a =
-    not_a_check words options command file other e differs a
+    not_a_check words options command file other e differs.0 a
+nothing_fits words options left command file found e differs front run exec (Audit other) a =
+    not_an_audit words options command file other e differs.1 a
 
 -- ---- the name of an image
 

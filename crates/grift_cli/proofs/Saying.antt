@@ -11,6 +11,7 @@ use Rattle.assembler.specs.declared.image.ImageFault.TheVariants.{OutOfMemory as
 use Rattle.assembler.specs.Faults.{IsFirstFault}
 use Rattle.grift_base.specs.Outside.{Counts}
 use Rattle.grift_base.specs.Shelf.{Loads, load_failed, asked_after}
+use Rattle.grift_base.specs.declared.places.Pos.{Pos}
 use Rattle.grift_base.specs.declared.refusals.FrontFault.{FrontFault}
 use Rattle.grift_base.specs.declared.refusals.FrontFault.TheVariants.{Refused as SourceRefused}
 use Rattle.grift_base.specs.declared.refusals.FrontFault.TheVariants.{OutOfMemory as SourceMemory}
@@ -25,10 +26,13 @@ use Rattle.rv_machine.specs.Start.{IsRegionSize, IsStackSize, start_of, fresh_wo
 use Rattle.rv_machine.specs.Mach.{mach, moment_of}
 use Rattle.rv_machine.proofs.Public.{run_is_its_turns-states}
 use Rattle.front_end.specs.Texts.{IsFault as IsFrontFault}
+use Rattle.cast_insert.specs.Making.{Entry}
 use Rattle.compile_driver.specs.Compiling.{FollowsProgram, IsFault}
+use Rattle.blame_audit.specs.Claims.{NeverTellsBlame}
 use Rattle.grift_cli.specs.Calls.{CallSeen, PutsNothing, AsksFor, FailsNoLoad, HasLoaded, size_limit}
+use Rattle.grift_cli.specs.Auditing.{IsAuditFile, IsNeverBlamed, PutsAudit}
 use Rattle.grift_cli.specs.Checking.{ElaboratesFile, PutsLines}
-use Rattle.grift_cli.specs.Commands.{Command, Run, Exec, Check, file_of, IsCommand}
+use Rattle.grift_cli.specs.Commands.{Command, Run, Exec, Check, Audit, file_of, IsCommand}
 use Rattle.grift_cli.specs.Outcome.{IsCompiled, IsImageFile, HasEndedBy, ComesTo, Says}
 use Rattle.grift_cli.specs.Reporting.{load_report, source_report, image_report}
 use Rattle.grift_cli.specs.Running.{RunsWell, Runs, Executes}
@@ -37,7 +41,7 @@ use Rattle.grift_cli.specs.declared.commands.Limits.{Limits}
 use Rattle.grift_cli.specs.declared.reports.Report.{Report}
 use Rattle.grift_cli.specs.declared.reports.Report.TheVariants.{HasVerdict, HasFault, Checked, Refused, ImageRefused}
 use Rattle.grift_cli.specs.declared.reports.Report.TheVariants.{WordsRefused, LoadFailed, PutFailed}
-use Rattle.grift_cli.specs.declared.reports.Report.TheVariants.{NoMemory, TooLong}
+use Rattle.grift_cli.specs.declared.reports.Report.TheVariants.{Audited, NoMemory, TooLong}
 
 -- ---- the run of an image and of its program
 
@@ -176,6 +180,7 @@ says_run call limits image NoMemory r k c x =
     inr (inr (record { limits = limits; image = image; compiled = c; image_put = x.0; no_output = x.1 }))
 says_run call limits image (HasFault fault) r k c x = absurd x
 says_run call limits image Checked r k c x = absurd x
+says_run call limits image Audited r k c x = absurd x
 says_run call limits image (Refused refusal) r k c x = absurd x
 says_run call limits image (ImageRefused fault) r k c x = absurd x
 says_run call limits image WordsRefused r k c x = absurd x
@@ -208,6 +213,7 @@ says_exec call limits image PutFailed i x =
 says_exec call limits image NoMemory i x =
     says_no_memory call (Exec i.file limits) image i.loaded (record { out = x; img = i.no_image })
 says_exec call limits image Checked i x = absurd x.0
+says_exec call limits image Audited i x = absurd x.0
 says_exec call limits image (Refused refusal) i x = absurd x.0
 says_exec call limits image (ImageRefused fault) i x = absurd x.0
 says_exec call limits image WordsRefused i x = absurd x.0
@@ -220,14 +226,14 @@ says_exec call limits image TooLong i x = absurd x.0
 pub says_check_fault : (call : CallSeen) (file text : List ℕ) (fault : FrontFault)
     → HasLoaded call (Check file) text → PutsNothing call → IsFrontFault text fault → Says (source_report fault) call
 says_check_fault call file text (SourceRefused refusal) l p f =
-    inr (record { file = file; text = text; loaded = l; refused = f; nothing = p })
+    inr (inl (record { file = file; text = text; loaded = l; refused = f; nothing = p }))
 says_check_fault call file text SourceMemory l p f = says_no_memory call (Check file) text l p
 
 -- the lines of a source are put
 pub says_check : (call : CallSeen) (lines : List ℕ) (report : Report) → ElaboratesFile call lines
     → PutsLines lines call.out report → Says report call
 says_check call lines Checked e x = record { lines = lines; elaborates = e; lines_put = x }
-says_check call lines PutFailed e x = inr (inr (record { lines = lines; elaborates = e; fails = x }))
+says_check call lines PutFailed e x = inr (inr (inl (record { lines = lines; elaborates = e; fails = x })))
 says_check call lines NoMemory e x =
     says_no_memory call (Check e.file) e.text e.loaded (record { out = x; img = e.no_image })
 says_check call lines (HasVerdict verdict) e x = absurd x
@@ -237,3 +243,42 @@ says_check call lines (ImageRefused fault) e x = absurd x
 says_check call lines WordsRefused e x = absurd x
 says_check call lines LoadFailed e x = absurd x
 says_check call lines TooLong e x = absurd x
+says_check call lines Audited e x = absurd x
+
+-- ---- a source whose labels are audited
+
+-- what no run of the program tells, no run of an image tells that follows it
+never_blamed : (program : Program) (place : Pos) → NeverTellsBlame program place → IsNeverBlamed program place
+never_blamed program place never image region stack input n follows r k blames =
+    let (at, out, e) = (follows region stack input r k).back n in
+    never input at (subst (λ ending. EndsAs ending (calc program input at).ending) blames e)
+
+-- the source of an audit is refused
+pub says_audit_fault : (call : CallSeen) (file text : List ℕ) (fault : FrontFault)
+    → HasLoaded call (Audit file) text → PutsNothing call → IsFrontFault text fault → Says (source_report fault) call
+says_audit_fault call file text (SourceRefused refusal) l p f =
+    inr (inr (record { file = file; text = text; loaded = l; refused = f; nothing = p }))
+says_audit_fault call file text SourceMemory l p f = says_no_memory call (Audit file) text l p
+
+-- the lines of an audit are put
+pub says_audit : (call : CallSeen) (program : Program) (casts : List Entry) (report : Report)
+    → IsAuditFile call program casts → PutsAudit program casts call.out report → Says report call
+says_audit call program casts Audited a x = record {
+  program = program;
+  casts = casts;
+  audits = a;
+  lines_put = x.0;
+  never_blamed = λ p place listed at. never_blamed program place (x.1 p place listed at);
+}
+says_audit call program casts PutFailed a x =
+    inr (inr (inr (record { program = program; casts = casts; audits = a; fails = x })))
+says_audit call program casts NoMemory a x =
+    says_no_memory call (Audit a.file) a.text a.loaded (record { out = x; img = a.no_image })
+says_audit call program casts Checked a x = absurd x
+says_audit call program casts (HasVerdict verdict) a x = absurd x
+says_audit call program casts (HasFault fault) a x = absurd x
+says_audit call program casts (Refused refusal) a x = absurd x
+says_audit call program casts (ImageRefused fault) a x = absurd x
+says_audit call program casts WordsRefused a x = absurd x
+says_audit call program casts LoadFailed a x = absurd x
+says_audit call program casts TooLong a x = absurd x

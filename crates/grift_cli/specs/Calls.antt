@@ -4,7 +4,7 @@ use Rattle.grift_base.specs.Outside.{next_count}
 use Rattle.grift_base.specs.Shelf.{ShelfSeen}
 use Rattle.grift_base.specs.Sink.{SinkSeen, Untouched}
 use Rattle.grift_base.specs.Sizes.{source_limit, image_limit}
-use Rattle.grift_cli.specs.Commands.{Command, Run, Exec, Check, file_of, IsCommand, AreNoCommand}
+use Rattle.grift_cli.specs.Commands.{Command, Run, Exec, Check, Audit, file_of, IsCommand, AreNoCommand}
 
 -- its words, and what is seen of the shelf and of the sinks for output and image
 pub record CallSeen : Type 0 where
@@ -36,6 +36,7 @@ abbrev pub size_limit : Command → ℕ
 size_limit (Run file limits image) = source_limit
 size_limit (Exec file limits) = image_limit
 size_limit (Check file) = source_limit
+size_limit (Audit file) = source_limit
 
 -- these bytes were loaded: they are no more than the command's file may have, and they are what the name holds, where
 -- that is told

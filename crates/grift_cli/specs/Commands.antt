@@ -59,17 +59,19 @@ pub record AreLimits (words : List (List ℕ)) (limits : Limits) : Type 0 where
 -- ---- commands
 
 -- a file that is compiled and run, perhaps with a name for its image; an image in a file that is run; a file whose
--- program's type and number of casts are put
+-- program's type and number of casts are put; a file whose program's safe labels are put
 pub data Command : Type 0 where
   Run : List ℕ → Limits → Option (List ℕ) → Command
   Exec : List ℕ → Limits → Command
   Check : List ℕ → Command
+  Audit : List ℕ → Command
 
 -- the name of its file
 abbrev pub file_of : Command → List ℕ
 file_of (Run file limits image) = file
 file_of (Exec file limits) = file
 file_of (Check file) = file
+file_of (Audit file) = file
 
 pub record IsRun (words : List (List ℕ)) (file : List ℕ) (limits : Limits) (image : Option (List ℕ)) : Type 0 where
   pub limit_words : List (List ℕ)
@@ -89,10 +91,15 @@ pub record IsCheck (words : List (List ℕ)) (file : List ℕ) : Type 0 where
   pub words_are : words ≡ codes "check" ∷ file ∷ []
   pub named : file ≢ []
 
+pub record IsAudit (words : List (List ℕ)) (file : List ℕ) : Type 0 where
+  pub words_are : words ≡ codes "audit" ∷ file ∷ []
+  pub named : file ≢ []
+
 abbrev pub IsCommand : List (List ℕ) → Command → Type 0
 IsCommand words (Run file limits image) = IsRun words file limits image
 IsCommand words (Exec file limits) = IsExec words file limits
 IsCommand words (Check file) = IsCheck words file
+IsCommand words (Audit file) = IsAudit words file
 
 -- the words are no command
 abbrev pub AreNoCommand : List (List ℕ) → Type 0

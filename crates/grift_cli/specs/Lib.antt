@@ -4,6 +4,7 @@ pub mod ReadCommands
 pub mod Answers
 pub mod Calls
 pub mod Checking
+pub mod Auditing
 pub mod Outcome
 pub mod Running
 pub mod Reporting

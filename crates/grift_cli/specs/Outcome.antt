@@ -13,6 +13,7 @@ use Rattle.compile_driver.specs.Compiling.{HasProgram, FollowsProgram, IsRefused
 use Rattle.grift_cli.specs.Runs.{run_within, printed, verdict_of_run, fault_of_run}
 use Rattle.grift_cli.specs.Commands.{Command, Run, Exec}
 use Rattle.grift_cli.specs.Calls.{CallSeen, PutsNothing, HasLoaded, HasNoCommand, HasNoFile, HasLongFile, LacksFile}
+use Rattle.grift_cli.specs.Auditing.{HasAudited, FailsToPutAudit, IsRefusedAudit}
 use Rattle.grift_cli.specs.Checking.{HasChecked, FailsToPutLines, IsRefusedCheck}
 use Rattle.grift_cli.specs.Answers.{image_fault}
 use Rattle.grift_cli.specs.declared.commands.Limits.{Limits}
@@ -20,7 +21,7 @@ use Rattle.grift_cli.specs.declared.reports.BadImage.{BadImage}
 use Rattle.grift_cli.specs.declared.reports.Report.{Report}
 use Rattle.grift_cli.specs.declared.reports.Report.TheVariants.{HasVerdict, HasFault, Checked, Refused, ImageRefused}
 use Rattle.grift_cli.specs.declared.reports.Report.TheVariants.{WordsRefused, LoadFailed, PutFailed}
-use Rattle.grift_cli.specs.declared.reports.Report.TheVariants.{NoMemory, TooLong}
+use Rattle.grift_cli.specs.declared.reports.Report.TheVariants.{Audited, NoMemory, TooLong}
 
 -- ---- puts that fail
 
@@ -152,10 +153,13 @@ abbrev pub Says : Report → CallSeen → Type 0
 Says (HasVerdict verdict) call = HasRun call verdict ⊎ HasExecuted call verdict
 Says (HasFault fault) call = HasGoneWrong call fault
 Says Checked call = HasChecked call
-Says (Refused refusal) call = IsRefused call refusal ⊎ IsRefusedCheck call refusal
+Says Audited call = HasAudited call
+Says (Refused refusal) call =
+    IsRefused call refusal ⊎ (IsRefusedCheck call refusal ⊎ IsRefusedAudit call refusal)
 Says (ImageRefused fault) call = IsNoImageFile call fault
 Says WordsRefused call = HasNoCommand call
 Says LoadFailed call = HasNoFile call
 Says TooLong call = HasLongFile call
-Says PutFailed call = FailsToPut call ⊎ (FailsToPutOutput call ⊎ FailsToPutLines call)
+Says PutFailed call =
+    FailsToPut call ⊎ (FailsToPutOutput call ⊎ (FailsToPutLines call ⊎ FailsToPutAudit call))
 Says NoMemory call = LacksFile call ⊎ (LacksImage call ⊎ LacksRun call)

@@ -2,10 +2,11 @@
 use Rattle.std.specs.Prelude.{ℕ, ◌≤◌, ◌%◌, ◌≡◌, false, List, [], ◌∷◌, ◌++◌, codes, Option, Some, None}
 use Rattle.std.specs.Borrow.{Bor}
 use Rattle.rv_machine.specs.Start.{IsRegionSize, IsStackSize}
-use Rattle.grift_cli.specs.Commands.{Command, Run, Exec, Check, IsNumberOption, IsRun, IsExec, IsNameOption}
+use Rattle.grift_cli.specs.Commands.{Command, Run, Exec, Check, Audit, IsNumberOption, IsRun}
 use Rattle.grift_cli.specs.Commands.{IsStepLimit, region_default, stack_default, steps_default}
 use Rattle.grift_cli.specs.declared.commands.Command.{Command as ReadCommand}
 use Rattle.grift_cli.specs.declared.commands.Command.TheVariants.{Run as ReadRun, Exec as ReadExec, Check as ReadCheck}
+use Rattle.grift_cli.specs.declared.commands.Command.TheVariants.{Audit as ReadAudit}
 use Rattle.grift_cli.specs.declared.commands.Limits.{Limits}
 
 -- a multiple, up to a greatest one
@@ -44,12 +45,14 @@ command_of (ReadRun file region stack steps input space image) =
 command_of (ReadExec file region stack steps input) =
     Exec file.now (record { region = region; stack = stack; steps = steps })
 command_of (ReadCheck file) = Check file.now
+command_of (ReadAudit file) = Audit file.now
 
 -- it tells nothing beside this
 abbrev pub TellsNoMore : ReadCommand → Type 0
 TellsNoMore (ReadRun file region stack steps input space image) = (input ≡ None) × (space ≡ false)
 TellsNoMore (ReadExec file region stack steps input) = input ≡ None
 TellsNoMore (ReadCheck file) = Unit {0}
+TellsNoMore (ReadAudit file) = Unit {0}
 
 -- the words are a run command that gives its image this name
 pub record GivesImage (words : List (List ℕ)) (name : List ℕ) : Type 0 where

@@ -44,6 +44,10 @@ pub enum Command<'a> {
     Check {
         file: &'a str,
     },
+    /// A file whose program's safe labels are put.
+    Audit {
+        file: &'a str,
+    },
 }
 
 /// The limits of a run: bytes of the region, bytes of the stack, and instructions.
@@ -193,6 +197,7 @@ pub fn read_words(words: &[String]) -> Option<Command<'_>>
         "run" => run_of(file, options),
         "exec" => exec_of(file, options),
         "check" if options.is_empty() => Some(Command::Check { file }),
+        "audit" if options.is_empty() => Some(Command::Audit { file }),
         _ => None,
     }
 }

@@ -4,10 +4,11 @@ ghost use Rattle.std.specs.Prelude.{◌≡◌, ℕ, List, Option, map, string_by
 ghost use Rattle.grift_base.specs.Shelf.{shelf_seen};
 ghost use Rattle.grift_base.specs.Sink.{SinkSeen, Untouched, sink_seen};
 ghost use Rattle.rv_machine.specs.Start.{IsRegionSize, IsStackSize};
-ghost use Rattle.grift_cli.specs.Commands.{IsRun, IsExec, IsCheck};
+ghost use Rattle.grift_cli.specs.Commands.{IsRun, IsExec, IsCheck, IsAudit};
 ghost use Rattle.grift_cli.specs.Outcome.{Says};
 ghost use Rattle.grift_cli.specs.Reporting.{PutsLine, PutsReport, IsAnswered, report_line, report_status};
 
+use crate::audits::put_audit;
 use crate::checks::put_lines;
 use crate::commands::{Command, Limits, read_words};
 use crate::reports::{
@@ -90,6 +91,7 @@ fn report_of_call<S: Shelf, O: Sink, I: Sink>(
             report_of_exec(alloc, file, limits, shelf, out)
         }
         Command::Check { file } => report_of_check(alloc, file, shelf, out),
+        Command::Audit { file } => report_of_audit(alloc, file, shelf, out),
     }
 }
 
@@ -175,11 +177,36 @@ fn report_of_check<S: Shelf, O: Sink>(
     }
 }
 
+// The report of a call that audits the source in this file.
+fn report_of_audit<S: Shelf, O: Sink>(
+    alloc: Global,
+    file: &str,
+    shelf: &mut S,
+    out: &mut O,
+) -> Report
+    ensures { (words : List (List ℕ)) (img : SinkSeen) → IsAudit words file.now → Untouched img
+        → Says result (record {
+          words = words;
+          shelf = shelf_seen S.holds S.asked S.fault_count shelf.old shelf.new;
+          out = sink_seen O.written O.fault_count out.old out.new;
+          img = img;
+        }) }
+{
+    let text = match shelf.load(alloc, file, SOURCE_LIMIT) {
+        Ok(text) => text,
+        Err(fault) => return report_of_load(fault),
+    };
+    match elaborate_text(alloc, text.as_slice()) {
+        Ok(done) => put_audit(alloc, &done, out),
+        Err(fault) => report_of_source(fault),
+    }
+}
+
 // Puts the line of a report, if it has one, and answers the status.
 fn put_report<E: Sink>(alloc: Global, err: &mut E, report: Report) -> u8
     ensures { PutsReport report (sink_seen E.written E.fault_count err.old err.new) result }
 {
-    if report == Report::Checked {
+    if report == Report::Checked || report == Report::Audited {
         return 0;
     }
     match line_of(alloc, report) {

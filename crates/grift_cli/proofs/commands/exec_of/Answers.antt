@@ -1,8 +1,8 @@
 use Rattle.std.proofs.Common.{map, string_bytes, codes}
-use Rattle.grift_cli.proofs.ReadingCommands.{no_limits, exec_is_not_check}
+use Rattle.grift_cli.proofs.ReadingCommands.{no_limits, exec_may_have_options}
 use Rattle.grift_cli.proofs.commands.exec_of.Goals as goal
 
 pub returns-in_err-limits-clause-command : goal.returns-in_err-limits-clause-command
 returns-in_err-limits-clause-command c words e = rw c.from_residual.ensures (
-    no_limits words (map string_bytes c.args.options.now) (codes "exec") c.args.file.now e exec_is_not_check
+    no_limits words (map string_bytes c.args.options.now) (codes "exec") c.args.file.now e exec_may_have_options
     c.in_err-limits.ensures)

@@ -1,5 +1,4 @@
-use Rattle.std.proofs.Common.{refl, subst}
-use Rattle.rv_machine.specs.Image.{IsImage}
+use Rattle.std.proofs.Common.{refl}
 use Rattle.compile_driver.specs.Compiling.{program_of}
 use Rattle.grift_cli.specs.Commands.{Run}
 use Rattle.grift_cli.proofs.Saying.{runs_well, has_loaded, says_load_fault, says_source_fault, says_run}
