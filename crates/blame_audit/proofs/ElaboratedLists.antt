@@ -44,7 +44,7 @@ outcome_known source was_read = by_answer (elaborate_program source) refl
       λ place entry at. names_known (length after.labels) (length after.types) place entry
           (entries_elaborated source e after was_read is place entry at),
     )
-    by_answer (Refuses kind place) is = tt
+    by_answer (Refuses kind place last) is = tt
 
 module _ (types : TypeRows) (elab : Elab) (is : IsElaborated types elab) where
   known : IsListed (entries_of elab.casts) (term_of elab.core)
