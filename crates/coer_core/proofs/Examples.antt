@@ -28,7 +28,8 @@ types =
     ∷ RefRow 2 ∷ VectRow 0 ∷ VectRow 2 ∷ TupleRow (0 ∷ 1 ∷ []) ∷ TupleRow (2 ∷ 2 ∷ []) ∷ FunRow [] 0
     ∷ FunRow (0 ∷ 0 ∷ []) 0 ∷ FunRow (2 ∷ 2 ∷ []) 2 ∷ FunRow (0 ∷ []) 1 ∷ FunRow (4 ∷ []) 0
     ∷ FunRow (1 ∷ []) 0 ∷ FunRow (2 ∷ 0 ∷ []) 0 ∷ FunRow (2 ∷ 2 ∷ []) 0 ∷ FunRow (1 ∷ []) 1 ∷ TupleRow (0 ∷ 0 ∷ [])
-    ∷ FunRow (0 ∷ 4 ∷ []) 4 ∷ RefRow 1 ∷ VectRow 1 ∷ FunRow (2 ∷ []) 0 ∷ []
+    ∷ FunRow (0 ∷ 4 ∷ []) 4 ∷ RefRow 1 ∷ VectRow 1 ∷ FunRow (2 ∷ []) 0 ∷ FunRow (3 ∷ []) 0 ∷ FunRow (4 ∷ []) 2
+    ∷ TupleRow (2 ∷ 1 ∷ []) ∷ RefRow 3 ∷ RefRow 4 ∷ TupleRow (2 ∷ 2 ∷ 2 ∷ []) ∷ FunRow (21 ∷ []) 2 ∷ []
 
 abbrev in_line : ℕ → Pos
 in_line line = record { line = line; col = 1 }
@@ -334,6 +335,153 @@ index_first = (refl, refl, refl, refl, refl, refl, refl, refl)
 length_through : EndsAlike
     (Prim VectorLength (one (Cast (Prim MakeVector (two (int 3) (int 8))) 9 10 0))) 0 (number 3) [] 1
 length_through = (refl, refl, refl, refl, refl, refl, refl, refl)
+
+-- ---- many casts
+
+-- (Int -> Int) => (Dyn -> Dyn) => (Bool -> Int) => (Dyn -> Int)
+abbrev three_times : Term
+three_times = Cast (Cast (Cast identity 3 4 0) 4 18 1) 18 26 2
+
+-- an integer is refused by the outermost wrapper, a truth value by the innermost
+outermost_of_three : EndsAlike (Call three_times (one (Cast (int 5) 0 2 0))) 0 (Blame (in_line 3)) [] 3
+outermost_of_three = (refl, refl, refl, refl, refl, refl, refl, refl)
+
+innermost_of_three : EndsAlike (Call three_times (one (Cast (BoolLit true) 1 2 1))) 0 (Blame (in_line 1)) [] 3
+innermost_of_three = (refl, refl, refl, refl, refl, refl, refl, refl)
+
+-- (Ref Int) => (Ref Dyn) => (Ref Int) => (Ref Dyn) => (Ref Bool): the first two come to no proxy
+abbrev four_times : Term
+four_times = Cast (Cast (Cast (Cast (Prim MakeBox (one (int 1))) 7 8 0) 8 7 1) 7 8 2) 8 24 1
+
+written_through_four : EndsAlike (Prim BoxSet (two four_times (BoolLit true))) 6 (Blame (in_line 3)) [] 4
+written_through_four = (refl, refl, refl, refl, refl, refl, refl, refl)
+
+read_through_four : EndsAlike (Prim Unbox (one four_times)) 1 (Blame (in_line 2)) [] 4
+read_through_four = (refl, refl, refl, refl, refl, refl, refl, refl)
+
+-- four casts that come to no proxy: what is written stands in the box itself
+four_that_come_to_none : EndsAlike
+    (let_one 0 (Prim MakeBox (one (int 1)))
+    (let_one 1 (Cast (Cast (Cast (Cast (Var 0) 7 8 0) 8 7 1) 7 8 2) 8 7 0)
+    (Seq (terms_from (Prim BoxSet (two (Var 1) (int 9)) ∷ Prim PrintInt (one (Prim Unbox (one (Var 0))))
+    ∷ Prim Unbox (one (Var 1)) ∷ []))))) 0 (number 9) (codes "9") 4
+unfolding digits
+four_that_come_to_none = (refl, refl, refl, refl, refl, refl, refl, refl)
+
+-- ---- tuples, and parts of Dyn
+
+-- in Dyn, out as a tuple of Dyn, and then as one of integers: the last cast is blamed
+part_after_dyn : EndsAlike
+    (Proj (Cast (Cast (Cast (Tuple (two (int 4) (BoolLit true))) 11 2 0) 2 12 1) 12 22 2) (pos 1)) 0
+    (Blame (in_line 3)) [] 2
+part_after_dyn = (refl, refl, refl, refl, refl, refl, refl, refl)
+
+-- out of Dyn as a tuple of three: blamed at once
+another_width : EndsAlike
+    (Proj (Cast (Cast (Tuple (two (int 4) (BoolLit true))) 11 2 0) 2 32 1) (pos 0)) 2 (Blame (in_line 2)) [] 0
+another_width = (refl, refl, refl, refl, refl, refl, refl, refl)
+
+-- a part that was in Dyn stays as it is
+part_from_dyn_to_dyn : EndsAlike
+    (Cast (Proj (Cast (Tuple (two (Cast (int 5) 0 2 0) (BoolLit true))) 29 12 1) (pos 0)) 2 0 2) 0 (number 5) [] 1
+part_from_dyn_to_dyn = (refl, refl, refl, refl, refl, refl, refl, refl)
+
+-- a part of a wrapped tuple in Dyn is in Dyn already; out of it, it is no integer
+part_of_wrapped_in_dyn : EndsAlike
+    (Cast (ProjDyn (Cast (Cast (Tuple (two (int 4) (BoolLit true))) 11 12 0) 12 2 0) (pos 1) 2) 2 0 1) 0
+    (Blame (in_line 2)) [] 1
+part_of_wrapped_in_dyn = (refl, refl, refl, refl, refl, refl, refl, refl)
+
+-- a tuple of two has no part 2
+no_third_part : EndsAlike
+    (ProjDyn (Cast (Tuple (two (int 4) (BoolLit true))) 11 2 0) (pos 2) 2) 2 (Blame (in_line 3)) [] 0
+no_third_part = (refl, refl, refl, refl, refl, refl, refl, refl)
+
+-- ---- vectors
+
+-- into Dyn and out as one of truth values: the length is there, a write is blamed
+length_then_write : EndsAlike
+    (let_one 0 (Cast (Cast (Prim MakeVector (two (int 2) (int 5))) 9 2 0) 2 25 1)
+    (Seq (terms_from (Prim PrintInt (one (Prim VectorLength (one (Var 0))))
+    ∷ Prim VectorSet (terms_from (Var 0 ∷ int 0 ∷ BoolLit true ∷ [])) ∷ [])))) 6 (Blame (in_line 2)) (codes "2") 1
+unfolding digits
+length_then_write = (refl, refl, refl, refl, refl, refl, refl, refl)
+
+-- through two wrappers an index outside traps, though the value would be blamed
+index_through_two : EndsAlike
+    (Prim VectorSet (terms_from (Cast (Cast (Prim MakeVector (two (int 2) (int 5))) 9 10 0) 10 25 1 ∷ int 2
+    ∷ BoolLit true ∷ []))) 6 (TrapVerdict Index) [] 2
+index_through_two = (refl, refl, refl, refl, refl, refl, refl, refl)
+
+-- in Dyn, out as a vector of Dyn, and then as one of truth values
+abbrev vector_through_dyn : Term
+vector_through_dyn = Cast (Cast (Cast (Prim MakeVector (two (int 2) (int 5))) 9 2 0) 2 10 1) 10 25 2
+
+read_through_dyn : EndsAlike (Prim VectorRef (two vector_through_dyn (int 1))) 1 (Blame (in_line 3)) [] 2
+read_through_dyn = (refl, refl, refl, refl, refl, refl, refl, refl)
+
+write_through_dyn : EndsAlike
+    (Prim VectorSet (terms_from (vector_through_dyn ∷ int 0 ∷ BoolLit true ∷ []))) 6 (Blame (in_line 2)) [] 2
+write_through_dyn = (refl, refl, refl, refl, refl, refl, refl, refl)
+
+-- ---- calls
+
+-- three wrappers on two arguments: the first argument is blamed by the innermost wrapper, the second would be by the
+-- outermost
+first_argument_through_three : EndsAlike
+    (Call (Cast (Cast (Cast (Lambda (0 ∷ 1 ∷ []) (Var 0) 14) 14 20 0) 20 19 1) 19 20 2)
+    (two (Cast (BoolLit true) 1 2 1) (Cast (BoolLit false) 1 2 1))) 0 (Blame (in_line 1)) [] 3
+first_argument_through_three = (refl, refl, refl, refl, refl, refl, refl, refl)
+
+-- a function that prints its argument, through three wrappers of its result:
+-- (Int -> Dyn) => (Int -> Int) => (Dyn -> Dyn) => (Int -> Bool)
+abbrev result_through_three : Term → Term
+result_through_three result =
+    Call (Cast (Cast (Cast (Lambda (0 ∷ []) (Seq (terms_from (Prim PrintInt (one (Var 0)) ∷ result ∷ []))) 5) 5 3 0)
+    3 4 1) 4 16 2) (one (int 5))
+
+-- a truth value is refused by the innermost, an integer by the outermost
+result_of_innermost : EndsAlike (result_through_three (Cast (BoolLit true) 1 2 1)) 1 (Blame (in_line 1)) (codes "5") 3
+unfolding digits
+result_of_innermost = (refl, refl, refl, refl, refl, refl, refl, refl)
+
+result_of_outermost : EndsAlike (result_through_three (Cast (int 7) 0 2 1)) 1 (Blame (in_line 3)) (codes "5") 3
+unfolding digits
+result_of_outermost = (refl, refl, refl, refl, refl, refl, refl, refl)
+
+-- there and back, and through Dyn at the same type: three wrappers and no proxy
+there_back_and_through_dyn : EndsAlike
+    (Call (Cast (Cast (Cast (Cast identity 3 4 0) 4 3 1) 3 2 2) 2 3 0) (one (int 5))) 0 (number 5) [] 3
+there_back_and_through_dyn = (refl, refl, refl, refl, refl, refl, refl, refl)
+
+-- ---- functions given to functions
+
+-- calls its argument with 5
+abbrev calls_with_five : Term
+calls_with_five = Lambda (3 ∷ []) (Call (Var 3) (one (int 5))) 27
+
+-- the given function is wrapped when it is handed over; its result is no integer
+given_function_blamed : EndsAlike
+    (Call (Cast calls_with_five 27 28 0) (one (Lambda (1 ∷ []) (Cast (BoolLit true) 1 2 1) 4))) 2 (Blame (in_line 1))
+    [] 2
+given_function_blamed = (refl, refl, refl, refl, refl, refl, refl, refl)
+
+-- there and back: two wrappers on the function and two on its argument
+given_there_and_back : EndsAlike
+    (Call (Cast (Cast calls_with_five 27 28 0) 28 27 1) (one identity)) 0 (number 5) [] 4
+given_there_and_back = (refl, refl, refl, refl, refl, refl, refl, refl)
+
+-- a function of truth values, called with 5: its innermost wrapper, made by the outer cast, is blamed
+given_function_of_another_type : EndsAlike
+    (Call (Cast (Cast calls_with_five 27 28 0) 28 33 1) (one (Lambda (1 ∷ []) (Var 1) 21))) 2 (Blame (in_line 2)) [] 4
+given_function_of_another_type = (refl, refl, refl, refl, refl, refl, refl, refl)
+
+-- a function is written through a wrapped box and read through it: Dyn to Int to Dyn is not Id
+function_in_a_box : EndsAlike
+    (let_one 4 (Prim MakeBox (one identity)) (let_one 5 (Cast (Var 4) 30 31 0)
+    (Seq (terms_from (Prim BoxSet (two (Var 5) (Lambda (3 ∷ []) (Var 3) 4))
+    ∷ Call (Prim Unbox (one (Var 5))) (one (Cast (BoolLit true) 1 2 1)) ∷ []))))) 2 (Blame (in_line 1)) [] 3
+function_in_a_box = (refl, refl, refl, refl, refl, refl, refl, refl)
 
 -- ---- output and traps
 

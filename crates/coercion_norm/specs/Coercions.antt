@@ -1,6 +1,5 @@
 -- Coercions as trees. Types and labels are numbers: a type is a place in a table of types, and a label one in a table
--- of
--- labels. Definitions read types by a function from places to rows; for a table that is `rows_of`.
+-- of labels. Definitions read types by a function from places to rows; for a table that is `rows_of`.
 use Rattle.std.specs.Prelude.{ℕ, Bool, true, false, ◌&&◌, List, [], ◌∷◌, ◌++◌, length, Option, Some, None}
 use Rattle.std.specs.Prelude.{slice_index, slice_index_or}
 use Rattle.grift_base.specs.Types.{TypeRow, TypeRows, IntRow, BoolRow, UnitRow, DynRow, FunRow, TupleRow, RefRow}
