@@ -7,3 +7,22 @@ pub use Rattle.rt_cast.proofs.ProjectReaching.{parts_in_dyn, parts_in_dyn_are_an
 pub use Rattle.rt_cast.proofs.WholeRows.{objects_fill_the_region}
 pub use Rattle.rt_cast.proofs.Closing.{procedures_are_closed-closed}
 pub use Rattle.rt_cast.proofs.Objects.{objects_stand_where_their_words_do}
+-- What proofs about procedures that call these use, so that they walk through their own code as the proofs here do. A
+-- walk and its states:
+pub use Rattle.rt_cast.proofs.Walks.{Walk}
+pub use Rattle.rt_cast.proofs.Small.{ReachedIn, grows_not, grows_on}
+pub use Rattle.rt_cast.proofs.Reaching.{at_first, walk}
+-- steps, one lemma an instruction, with what is left of their number:
+pub use Rattle.rt_cast.proofs.Steps.{Budget, One, Out, Spare, End, More, Comes, goes, one_less, at_most}
+pub use Rattle.rt_cast.proofs.Steps.{sets_word, computes, loads, loads_at, if_true, if_false, calls, comes_back}
+pub use Rattle.rt_cast.proofs.Steps.{tail_calls}
+-- words of objects, and numbers that are told apart:
+pub use Rattle.rt_cast.proofs.Steps.{WordThere, header_there, wholes_more}
+pub use Rattle.rt_cast.proofs.Objects.{none_some, same_some, word_found, holds_append}
+pub use Rattle.rt_cast.proofs.HeaderNumbers.{lt_true, lt_false, eq_true, eq_false, kind_read, count_read}
+-- the call of cast, whose decisions the merged mode makes, and what is held and carried still behind it:
+pub use Rattle.rt_cast.proofs.Middles.{held_still}
+pub use Rattle.rt_cast.proofs.CastCases.{apply}
+pub use Rattle.rt_cast.proofs.CastRuns.{GoesOn, no_higher, whole_above, carried_still, by_cast}
+pub use Rattle.rt_cast.proofs.CastDecisions.{low_of, by_cast as decided_cast}
+pub use Rattle.rt_cast.proofs.CastReaching.{ends}

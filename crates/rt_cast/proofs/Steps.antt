@@ -243,7 +243,7 @@ module _ {V : Type 0} (walk : Walk V) where
       (let r = s.room in omega arith) (let r = s.left in omega arith)
 
   -- one step is gone
-  one_less : {B : Budget} {frames words : ℕ} → Spare (One B) frames words → Spare B frames words
+  pub one_less : {B : Budget} {frames words : ℕ} → Spare (One B) frames words → Spare B frames words
   one_less s = record { room = s.room; left = let r = s.left in omega arith }
 
   one_in : {B : Budget} {frames words : ℕ} → Spare (In B) frames words → Spare B (suc frames) words

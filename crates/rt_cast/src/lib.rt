@@ -2,7 +2,7 @@
 #![tactic(auto)]
 
 mod casting;
-mod codes;
+pub mod codes;
 mod coercing;
 mod composing;
 pub mod laws;

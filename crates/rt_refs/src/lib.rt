@@ -2,6 +2,9 @@
 //! none.
 #![tactic(auto)]
 
+mod calls;
+mod cells;
 mod codes;
+mod fills;
 pub mod laws;
 pub mod procs;

@@ -6,8 +6,12 @@ ghost use Rattle.rt_refs.specs.Products.{sum_code, product_loop, multiply};
 ghost use Rattle.rt_refs.specs.Quotients.{signed_answer, subtract_code, next_bit, quotient_loop, magnitude_code};
 ghost use Rattle.rt_refs.specs.Quotients.{divide};
 ghost use Rattle.rt_refs.specs.Quotients.{sign_code, ref_procs};
+ghost use Rattle.rt_refs.specs.RefProcs.{proxy_procs};
 
+use crate::calls::apply_proc;
+use crate::cells::{read_proc, write_proc};
 use crate::codes::{choose, compute, set};
+use crate::fills::{fill_loop, fill_proc};
 use grift_base::lists::OutOfMemory;
 use low_ir::code::LowSource::{Number, Word};
 use low_ir::code::{LowCode, LowSource, LowSources, WordOp};
@@ -207,5 +211,25 @@ pub fn ref_procs(alloc: Global, first: u32, _cast: u32) -> Result<LowProcs, OutO
     procs.push(quotient_loop(alloc, first + 1)?)?;
     procs.push(multiply(alloc, first)?)?;
     procs.push(divide(alloc, first + 1)?)?;
+    Ok(procs)
+}
+
+/// The same behind those of boxes, vectors and functions with proxies: apply, read, write, fill and its loop. `cast` is
+/// the number of the procedure that casts.
+pub fn proxy_procs(alloc: Global, first: u32, cast: u32) -> Result<LowProcs, OutOfMemory>
+    requires { first + 9 ≤ 2 ^ 32 }
+    ensures { IfOk result (λ procs. procs_of procs ≡ proxy_procs first cast) }
+{
+    let mut procs = LowProcs::new(alloc);
+    procs.push(apply_proc(alloc, cast)?)?;
+    procs.push(read_proc(alloc, cast)?)?;
+    procs.push(write_proc(alloc, cast)?)?;
+    procs.push(fill_proc(alloc, 4 + first)?)?;
+    procs.push(fill_loop(alloc, 4 + first)?)?;
+    let products = 5 + first;
+    procs.push(product_loop(alloc, products)?)?;
+    procs.push(quotient_loop(alloc, products + 1)?)?;
+    procs.push(multiply(alloc, products)?)?;
+    procs.push(divide(alloc, products + 1)?)?;
     Ok(procs)
 }

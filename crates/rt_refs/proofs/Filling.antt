@@ -1,0 +1,527 @@
+-- What fill comes to, from a state in which whole objects fill the region.
+use Rattle.std.proofs.Common.{◌≡◌, ◌⊎◌, inl, inr, ℕ, zero, suc, ◌+◌, ◌*◌, ◌%◌, ◌^◌, ◌<◌, ◌≤◌, Bool, true, false}
+use Rattle.std.proofs.Common.{List, [], ◌∷◌, ◌++◌, length, Some, refl, sym, ap, ◌∙◌, subst, arith}
+use Rattle.std.proofs.Common.{le_refl}
+use Rattle.std.specs.Prelude.{◌==◌, not, nat_lt, nat_le, slice_get, pos, replicate}
+use Rattle.grift_base.specs.EnvironmentCall.{environment_call}
+use Rattle.grift_base.specs.declared.verdicts.Trap.TheVariants.{Length}
+use Rattle.run_laws.specs.Runs.{Ending, Exhausted}
+use Rattle.run_laws.specs.Machines.{Go, Stop, Machine, Reaches, Onward}
+use Rattle.run_laws.proofs.Public.{by_step}
+use Rattle.rv_isa.specs.declared.inst.Cond.{Cond}
+use Rattle.rv_isa.specs.declared.inst.Cond.TheVariants.{Lt}
+use Rattle.rv_machine.specs.Memory.{Memory, store_bytes}
+use Rattle.rv_machine.specs.State.{Halt, Lacks, Region}
+use Rattle.rv_machine.specs.Turn.{plus}
+use Rattle.rv_machine.specs.Real.{holds}
+use Rattle.rv_machine.proofs.Public.{stored_outside, load_stored, load_other}
+use Rattle.low_ir.specs.declared.code.LowSource.{LowSource}
+use Rattle.low_ir.specs.declared.code.LowSource.TheVariants.{Word, Number}
+use Rattle.low_ir.specs.declared.code.WordOp.{WordOp}
+use Rattle.low_ir.specs.declared.code.WordOp.TheVariants.{Add, Sll}
+use Rattle.low_ir.specs.Operations.{compute}
+use Rattle.low_ir.specs.Procedures.{Code, Done, Compute, Store, Request, Take, Call, If, Return, TailCall}
+use Rattle.low_ir.specs.Steps.{Locals, no_locals, set_local, given, only_if, may_store}
+use Rattle.low_ir.specs.Run.{Setting, Waiting, LowState, LowShown, word_of, bind, low_machine, store}
+use Rattle.low_ir.specs.Run.{code_turns}
+use Rattle.object_layout.specs.declared.kinds.Kind.TheVariants.{Vector}
+use Rattle.coercion_norm.specs.Objects.{Object, Fixed, Cell, bytes_of_all}
+use Rattle.coercion_norm.specs.ObjectsOfRows.{header}
+use Rattle.coercion_norm.specs.Held.{Layout}
+use Rattle.coercion_norm.proofs.Public.{bytes_append, last_stands}
+use Rattle.rt_cast.specs.Objects.{HasWord, HoldsWords}
+use Rattle.rt_cast.specs.States.{Heap, Fine, Filled, Placed, OnTheWay, around, heap_of, st}
+use Rattle.rt_cast.specs.WholeObjects.{WholeOther}
+use Rattle.rt_cast.proofs.Public.{eq_true, eq_false, holds_append, wholes_more}
+use Rattle.rt_refs.specs.FillCodes.{fill_loop, fill_code, fill_proc, trap_length}
+use Rattle.rt_refs.specs.FillLaws.{MadeAt, ComesToVector}
+use Rattle.rt_refs.specs.CellLaws.{TrapsAt, ComesWhere}
+use Rattle.rt_refs.proofs.CellSteps.{may_be_stored, le_true, le_cases, holds_same}
+use Rattle.rt_refs.proofs.Signs.{Signed, signed, Positive, Negative}
+
+plus_is : (x n : ℕ) → x + n < 2 ^ 64 → plus x (pos n) ≡ x + n
+plus_is x n h = grind arith
+
+bytes_even : (os : List Object) → bytes_of_all os % 8 ≡ 0
+bytes_even [] = refl
+bytes_even (Fixed head ws ∷ os) = let z = bytes_even os in omega (arith, z)
+bytes_even (Cell head n ∷ os) = let z = bytes_even os in omega (arith, z)
+
+header_is : (n : ℕ) → n < 2 ^ 32 → compute Add (compute Sll n 32) 6 ≡ header 6 0 n
+header_is n lt = omega (arith, lt)
+
+add_is : (a b : ℕ) → a + b < 2 ^ 64 → compute Add a b ≡ a + b
+add_is a b lt = omega (arith, lt)
+
+eight_times : (n : ℕ) → 8 * n < 2 ^ 64 → compute Sll n 3 ≡ 8 * n
+eight_times n lt = omega (arith, lt)
+
+not_true : (b : Bool) → b ≡ false → not b ≡ true
+not_true b e = ap not e
+
+not_false : (b : Bool) → b ≡ true → not b ≡ false
+not_false b e = ap not e
+
+held_all : (n : ℕ) (m : Memory) (at w : ℕ) → ((j : ℕ) → j < n → HasWord m (at + 8 * j) w)
+    → HoldsWords m at (replicate n w)
+held_all zero m at w each = tt
+held_all (suc n) m at w each =
+    let z : at + 8 * 0 ≡ at = omega arith in (
+      subst (λ p. HasWord m p w) z (each 0 (omega arith)),
+      held_all n m (at + 8) w (λ j lt.
+          let y : at + 8 * suc j ≡ at + 8 + 8 * j = omega arith in
+          subst (λ p. HasWord m p w) y (each (suc j) (omega (arith, lt)))),
+    )
+
+module _ {V : Type 0} (reading : Halt → Ending V) (setting : Setting) (l : Layout) (s : LowState)
+    (exhausts : reading (Lacks Region) ≡ Exhausted) (placed : Placed setting l) (begins : l.region ≡ setting.region)
+    (narrow : setting.top ≤ l.region + 2 ^ 34) (own : ℕ) (there : slice_get setting.procs own ≡ Some (fill_loop own))
+    (objects : List Object) (filled : Filled setting l objects (heap_of s)) (n w : ℕ) (small : w < 2 ^ 64) where
+  abbrev N : Machine LowState LowShown V
+  N = low_machine reading setting
+
+  abbrev P : LowState → Type 0
+  P = OnTheWay setting l s 1 (n + 1)
+
+  abbrev Q : LowState → Type 0
+  Q = MadeAt setting l s objects n w
+
+  abbrev a : ℕ
+  a = s.alloc
+
+  -- within so many steps
+  record Within (b : ℕ) (t : LowState) : Type 0 where
+    pub steps : ℕ
+    pub few : steps ≤ b
+    pub reach : Reaches N P Q steps t
+
+  step : {b : ℕ} (t t' : LowState) → N.step t ≡ Go t' → P t → Within b t' → Within (suc b) t
+  step t t' e p c = record {
+    steps = suc c.steps;
+    few = let z = c.few in omega arith;
+    reach = by_step N P Q c.steps t (Go t') e p c.reach;
+  }
+
+  more : {b c : ℕ} {t : LowState} → Within b t → b ≤ c → Within c t
+  more d le = record { steps = d.steps; few = let z = d.few in omega (arith, le); reach = d.reach }
+
+  -- the storage, with another memory
+  abbrev heap : Memory → Heap
+  heap m = record { memory = m; alloc = s.alloc; words = s.words }
+
+  abbrev St : ℕ → Locals → Code → List Code → List Waiting → Heap → LowState
+  St = st (around s)
+
+  -- what lies below the allocation word stays
+  abbrev Below : Memory → Type 0
+  Below m = (j : ℕ) → j < s.alloc → m j ≡ s.memory j
+
+  fine_at : (m : Memory) (words : ℕ) → Below m
+      → Fine setting l (around s) objects (record { memory = m; alloc = s.alloc; words = words })
+  fine_at m words same = record {
+    filled = record {
+      objects_stand =
+          holds_same s.memory m l.region objects (λ j from to. same j (omega (arith, to, filled.ends)))
+          filled.objects_stand;
+      statics_stand =
+          holds_same s.memory m l.first l.statics
+          (λ j from to. same j (omega (arith, to, filled.ends, placed.before))) filled.statics_stand;
+      ends = filled.ends;
+      fits = filled.fits;
+      whole = filled.whole;
+    };
+    beyond = le_refl s.alloc;
+    kept = same;
+  }
+
+  way : (count : ℕ) (locals : Locals) (code : Code) (rests : List Code) (waiting : List Waiting) (m : Memory)
+      (words : ℕ) → Below m → code_turns code ≤ 10 → length waiting ≤ length s.waiting + 1
+      → words ≤ s.words + (n + 1)
+      → P (St count locals code rests waiting (record { memory = m; alloc = s.alloc; words = words }))
+  way count locals code rests waiting m words same turns active asked = record {
+    calm = record { objects = objects; fine = fine_at m words same; same = refl };
+    active = active;
+    asked = asked;
+    turns = turns;
+  }
+
+  module _ {b : ℕ} {count : ℕ} {locals : Locals} {rests : List Code} {waiting : List Waiting} (m : Memory)
+      (same : Below m) (active : length waiting ≤ length s.waiting + 1) where
+    computes : {op : WordOp} {d : ℕ} {x y : LowSource} {rest : Code} (u v z : ℕ) → word_of locals x ≡ Some u
+        → word_of locals y ≡ Some v → compute op u v ≡ z → nat_lt d count ≡ true
+        → Within b (St count (set_local d z locals) rest rests waiting (heap m))
+        → Within (suc b) (St count locals (Compute op d x y rest) rests waiting (heap m))
+    computes {op = op} {d = d} {x = x} {y = y} {rest = rest} u v z e f g lt c =
+        step (St count locals (Compute op d x y rest) rests waiting (heap m))
+        (St count (set_local d z locals) rest rests waiting (heap m)) (rw (e, f, g, lt) refl)
+        (way count locals (Compute op d x y rest) rests waiting m s.words same (omega arith) active (omega arith)) c
+
+    if_true : {cond : Cond} {x y : LowSource} {one other rest : Code} (u v : ℕ) → word_of locals x ≡ Some u
+        → word_of locals y ≡ Some v → holds cond u v ≡ true
+        → Within b (St count locals one (rest ∷ rests) waiting (heap m))
+        → Within (suc b) (St count locals (If cond x y one other rest) rests waiting (heap m))
+    if_true {cond = cond} {x = x} {y = y} {one = one} {other = other} {rest = rest} u v e f g c =
+        step (St count locals (If cond x y one other rest) rests waiting (heap m))
+        (St count locals one (rest ∷ rests) waiting (heap m)) (rw (e, f, g) refl)
+        (way count locals (If cond x y one other rest) rests waiting m s.words same (omega arith) active (omega arith))
+        c
+
+    if_false : {cond : Cond} {x y : LowSource} {one other rest : Code} (u v : ℕ) → word_of locals x ≡ Some u
+        → word_of locals y ≡ Some v → holds cond u v ≡ false
+        → Within b (St count locals other (rest ∷ rests) waiting (heap m))
+        → Within (suc b) (St count locals (If cond x y one other rest) rests waiting (heap m))
+    if_false {cond = cond} {x = x} {y = y} {one = one} {other = other} {rest = rest} u v e f g c =
+        step (St count locals (If cond x y one other rest) rests waiting (heap m))
+        (St count locals other (rest ∷ rests) waiting (heap m)) (rw (e, f, g) refl)
+        (way count locals (If cond x y one other rest) rests waiting m s.words same (omega arith) active (omega arith))
+        c
+
+    stores : {x y : LowSource} {rest : Code} (u v : ℕ) → word_of locals x ≡ Some v → word_of locals y ≡ Some u
+        → may_store setting.region setting.top u ≡ true → u < 2 ^ 64
+        → Within b (St count locals rest rests waiting (heap (store_bytes 8 m u v)))
+        → Within (suc b) (St count locals (Store x y 0 rest) rests waiting (heap m))
+    stores {x = x} {y = y} {rest = rest} u v e f may lt c =
+        let none : u + 0 ≡ u = omega arith in
+        let p : plus u (pos 0) ≡ u = plus_is u 0 (omega (arith, lt)) ∙ none in
+        let next = St count locals rest rests waiting (heap m) in
+        let t = St count locals (Store x y 0 rest) rests waiting (heap m) in
+        let t' = St count locals rest rests waiting (heap (store_bytes 8 m u v)) in
+        step t t' (
+        ap (λ z. given t z (λ q. given t (word_of locals x) (λ y. store reading setting (plus q (pos 0)) y next))) f
+        ∙ (ap (λ z. given t z (λ y. store reading setting (plus u (pos 0)) y next)) e
+        ∙ (ap (λ q. store reading setting q v next) p
+        ∙ ap (λ o. only_if next o (Go t')) may)))
+        (way count locals (Store x y 0 rest) rests waiting m s.words same (omega arith) active (omega arith)) c
+
+  -- so many elements are stored
+  record Wrote (i : ℕ) (m : Memory) : Type 0 where
+    pub below : Below m
+    pub head : HasWord m s.alloc (header 6 0 n)
+    pub each : (j : ℕ) → j < i → HasWord m (s.alloc + 8 + 8 * j) w
+
+  -- where there is room
+  module _ (room : s.alloc + 8 * (n + 1) ≤ setting.top) where
+    end_small : s.alloc + 8 + 8 * n < 2 ^ 64
+    end_small = omega (arith, room, placed.top)
+
+    even : s.alloc % 8 ≡ 0
+    even = let z = bytes_even objects in omega (arith, z, filled.ends, placed.even_region)
+
+    wrote_more : (i : ℕ) (m : Memory) → Wrote i m → Wrote (suc i) (store_bytes 8 m (s.alloc + 8 + 8 * i) w)
+    wrote_more i m h = record {
+      below = λ j lt. stored_outside 8 m (s.alloc + 8 + 8 * i) w j (inl (omega (arith, lt))) ∙ h.below j lt;
+      head = record {
+        is = load_other 8 8 m (s.alloc + 8 + 8 * i) w s.alloc (inl (omega arith)) ∙ h.head.is;
+        small = h.head.small;
+      };
+      each = λ j lt. by_case j lt (j == i) refl;
+    }
+      where
+        by_case : (j : ℕ) → j < suc i → (b : Bool) → (j == i) ≡ b
+            → HasWord (store_bytes 8 m (s.alloc + 8 + 8 * i) w) (s.alloc + 8 + 8 * j) w
+        by_case j lt true e =
+            let same : i ≡ j = grind (arith, e) in
+            subst (λ k. HasWord (store_bytes 8 m (s.alloc + 8 + 8 * i) w) (s.alloc + 8 + 8 * k) w) same
+            (record { is = load_stored 8 m (s.alloc + 8 + 8 * i) w small; small = small })
+        by_case j lt false e =
+            let ne : j < i = grind (arith, e, lt) in
+            let z = h.each j ne in
+            record {
+              is = load_other 8 8 m (s.alloc + 8 + 8 * i) w (s.alloc + 8 + 8 * j) (inl (omega (arith, ne))) ∙ z.is;
+              small = small;
+            }
+
+    abbrev loop_code : Code
+    loop_code = (fill_loop own).code
+
+    -- the loop, called by a procedure that goes on
+    looped : {b : ℕ} (count : ℕ) (locals : Locals) (rest : Code) (rests : List Code) → nat_lt 4 count ≡ true
+        → ((m : Memory) → Wrote n m → Within b (St count (set_local 4 0 locals) rest rests s.waiting (heap m)))
+        → (k i : ℕ) → i + k ≡ n → (m : Memory) → Wrote i m
+        → Within (4 * k + 2 + b)
+        (St 3 (bind 0 ((s.alloc + 8 + 8 * i) ∷ (s.alloc + 8 + 8 * n) ∷ w ∷ []) no_locals) loop_code []
+        (record {
+          rest = record { count = count; locals = locals; code = rest; rests = rests };
+          answer = 4;
+        } ∷ s.waiting) (heap m))
+    looped {b = b} count locals rest rests lt go zero i sum m h =
+        let same : s.alloc + 8 + 8 * i ≡ s.alloc + 8 + 8 * n = omega (arith, sum) in
+        let is : i ≡ n = omega (arith, sum) in
+        let waiting : List Waiting = record {
+          rest = record { count = count; locals = locals; code = rest; rests = rests };
+          answer = 4;
+        } ∷ s.waiting in
+        let asks = bind 0 ((s.alloc + 8 + 8 * i) ∷ (s.alloc + 8 + 8 * n) ∷ w ∷ []) no_locals in
+        more
+        (if_false m h.below (omega arith) (s.alloc + 8 + 8 * i) (s.alloc + 8 + 8 * n) refl refl
+        (not_false _ (eq_true (s.alloc + 8 + 8 * i) (s.alloc + 8 + 8 * n) same))
+        (step (St 3 asks (Return (Number 0)) (Done ∷ []) waiting (heap m))
+        (St count (set_local 4 0 locals) rest rests s.waiting (heap m)) (rw (lt) refl)
+        (way 3 asks (Return (Number 0)) (Done ∷ []) waiting m s.words h.below (omega arith) (omega arith) (omega arith))
+        (go m (subst (λ k. Wrote k m) is h)))) (omega arith)
+    looped {b = b} count locals rest rests lt go (suc k) i sum m h =
+        let inside : i < n = omega (arith, sum) in
+        let waiting : List Waiting = record {
+          rest = record { count = count; locals = locals; code = rest; rests = rests };
+          answer = 4;
+        } ∷ s.waiting in
+        let at : ℕ = s.alloc + 8 + 8 * i in
+        let end : ℕ = s.alloc + 8 + 8 * n in
+        let asks : Locals = bind 0 ((s.alloc + 8 + 8 * i) ∷ (s.alloc + 8 + 8 * n) ∷ w ∷ []) no_locals in
+        let m' = store_bytes 8 m (s.alloc + 8 + 8 * i) w in
+        let h' = wrote_more i m h in
+        let next : compute Add (s.alloc + 8 + 8 * i) 8 ≡ s.alloc + 8 + 8 * suc i =
+        omega (arith, end_small, inside) in
+        let asks' : Locals = set_local 0 (s.alloc + 8 + 8 * suc i) asks in
+        more
+        (if_true m h.below (omega arith) (s.alloc + 8 + 8 * i) (s.alloc + 8 + 8 * n) refl refl
+        (not_true _ (eq_false (s.alloc + 8 + 8 * i) (s.alloc + 8 + 8 * n) (λ e. omega (arith, e, inside))))
+        (stores m h.below (omega arith) (s.alloc + 8 + 8 * i) w refl refl
+        (may_be_stored setting.region setting.top (s.alloc + 8 + 8 * i) (omega (arith, even))
+        (omega (arith, filled.ends, begins)) (omega (arith, room, inside))) (omega (arith, end_small, inside))
+        (computes m' h'.below (omega arith) (s.alloc + 8 + 8 * i) 8 (s.alloc + 8 + 8 * suc i) refl refl next refl
+        (step (St 3 asks' (TailCall own (Word 0 ∷ Word 1 ∷ Word 2 ∷ [])) (Done ∷ []) waiting (heap m'))
+        (St 3 (bind 0 ((s.alloc + 8 + 8 * suc i) ∷ (s.alloc + 8 + 8 * n) ∷ w ∷ []) no_locals) loop_code [] waiting (heap m'))
+        (rw (there) refl)
+        (way 3 asks' (TailCall own (Word 0 ∷ Word 1 ∷ Word 2 ∷ [])) (Done ∷ []) waiting m' s.words h'.below (omega arith)
+        (omega arith) (omega arith))
+        (looped {b = b} count locals rest rests lt go k (suc i) (omega (arith, sum)) m' h'))))) (omega arith)
+
+    -- the header is stored, and nothing else yet
+    begins_with : n < 2 ^ 32 → Wrote 0 (store_bytes 8 s.memory s.alloc (header 6 0 n))
+    begins_with lt = record {
+      below = λ j less. stored_outside 8 s.memory s.alloc (header 6 0 n) j (inl less);
+      head =
+          let z : header 6 0 n < 2 ^ 64 = omega (arith, lt) in
+          record { is = load_stored 8 s.memory s.alloc (header 6 0 n) z; small = z };
+      each = λ j less. absurd (omega (arith, less));
+    }
+
+    -- the vector is there
+    made : (m : Memory) → Wrote n m → (locals : Locals) → locals 3 ≡ Some s.alloc → locals 2 ≡ Some (n + 1)
+        → (rests : List Code) → Within 1 (St 6 locals (Take (Word 2) (Return (Word 3))) rests s.waiting (heap m))
+    made m h locals e3 e2 rests =
+        step (St 6 locals (Take (Word 2) (Return (Word 3))) rests s.waiting (heap m)) t' (
+        let r = le_true (s.alloc + 8 * (n + 1)) setting.top room in rw (e2, r) refl)
+        (way 6 locals (Take (Word 2) (Return (Word 3))) rests s.waiting m s.words h.below (omega arith) (omega arith)
+        (omega arith))
+        (record { steps = 0; few = le_refl 0; reach = reached })
+      where
+        after : Heap
+        after = record { memory = m; alloc = s.alloc + 8 * (n + 1); words = s.words + (n + 1) }
+
+        t' : LowState
+        t' = St 6 locals (Return (Word 3)) rests s.waiting after
+
+        o : Object
+        o = Cell (header 6 0 n) n
+
+        fine : Fine setting l (around s) (objects ++ Cell (header 6 0 n) n ∷ []) after
+        fine = record {
+          filled = record {
+            objects_stand =
+                holds_append m l.region objects (Cell (header 6 0 n) n ∷ [])
+                (fine_at m s.words h.below).filled.objects_stand
+                (subst (λ p. HasWord m p (header 6 0 n)) filled.ends h.head, tt);
+            statics_stand = (fine_at m s.words h.below).filled.statics_stand;
+            ends =
+                let b = bytes_append objects (Cell (header 6 0 n) n ∷ []) in
+                let e = filled.ends in omega (arith, b, e);
+            fits = room;
+            whole =
+                wholes_more l [] objects (Cell (header 6 0 n) n) filled.whole (WholeOther Vector n refl refl refl refl);
+          };
+          beyond = omega arith;
+          kept = h.below;
+        }
+
+        reached : Q t'
+        reached = record {
+          fine = fine;
+          there = last_stands objects [] (Cell (header 6 0 n) n) l.region s.alloc filled.ends;
+          held = held_all n m (s.alloc + 8) w h.each;
+          taken = refl;
+          source = Word 3;
+          code = refl;
+          is = e3;
+          waits = refl;
+          same = refl;
+        }
+
+    filled_in : (rests : List Code)
+        → Within (4 * n + 10) (St 6 (set_local 3 s.alloc (set_local 2 (n + 1) (bind 0 (n ∷ w ∷ []) no_locals))) (
+        Compute Sll 4 (Word 0) (Number 32) (
+        Compute Add 4 (Word 4) (Number 6) (
+        Store (Word 4) (Word 3) 0 (
+        Compute Add 4 (Word 3) (Number 8) (
+        Compute Sll 5 (Word 0) (Number 3) (
+        Compute Add 5 (Word 4) (Word 5) (
+        Call 4 own (Word 4 ∷ Word 5 ∷ Word 1 ∷ []) (
+        Take (Word 2) (Return (Word 3)))))))))) rests s.waiting (heap s.memory))
+    filled_in rests =
+        let few : n < 2 ^ 32 = omega (arith, room, narrow, filled.ends) in
+        let head = header 6 0 n in
+        let m1 = store_bytes 8 s.memory s.alloc head in
+        let h1 = begins_with few in
+        let untouched : Below s.memory = λ j lt. refl in
+        let start : Locals = set_local 3 s.alloc (set_local 2 (n + 1) (bind 0 (n ∷ w ∷ []) no_locals)) in
+        let last : Locals =
+        set_local 5 (s.alloc + 8 + 8 * n) (set_local 5 (8 * n) (set_local 4 (s.alloc + 8)
+        (set_local 4 head (set_local 4 (compute Sll n 32) start)))) in
+        let none : s.alloc + 8 + 8 * 0 ≡ s.alloc + 8 = omega arith in
+        let waiting : List Waiting = record {
+          rest = record { count = 6; locals = last; code = Take (Word 2) (Return (Word 3)); rests = rests };
+          answer = 4;
+        } ∷ s.waiting in
+        more
+        (computes s.memory untouched (omega arith) n 32 (compute Sll n 32) refl refl refl refl
+        (computes s.memory untouched (omega arith) (compute Sll n 32) 6 head refl refl (header_is n few) refl
+        (stores s.memory untouched (omega arith) s.alloc head refl refl
+        (may_be_stored setting.region setting.top s.alloc even (omega (arith, filled.ends, begins))
+        (omega (arith, room))) (omega (arith, room, placed.top))
+        (computes m1 h1.below (omega arith) s.alloc 8 (s.alloc + 8) refl refl
+        (add_is s.alloc 8 (omega (arith, end_small))) refl
+        (computes m1 h1.below (omega arith) n 3 (8 * n) refl refl (eight_times n (omega (arith, end_small))) refl
+        (computes m1 h1.below (omega arith) (s.alloc + 8) (8 * n) (s.alloc + 8 + 8 * n) refl refl
+        (add_is (s.alloc + 8) (8 * n) end_small) refl
+        (step (St 6 last (Call 4 own (Word 4 ∷ Word 5 ∷ Word 1 ∷ []) (Take (Word 2) (Return (Word 3)))) rests s.waiting
+        (heap m1))
+        (St 3 (bind 0 ((s.alloc + 8) ∷ (s.alloc + 8 + 8 * n) ∷ w ∷ []) no_locals) loop_code [] waiting (heap m1))
+        (rw (there) refl)
+        (way 6 last (Call 4 own (Word 4 ∷ Word 5 ∷ Word 1 ∷ []) (Take (Word 2) (Return (Word 3)))) rests s.waiting m1
+        s.words h1.below (omega arith) (omega arith) (omega arith))
+        (subst (λ p. Within (4 * n + 2 + 1) (St 3 (bind 0 (p ∷ (s.alloc + 8 + 8 * n) ∷ w ∷ []) no_locals) loop_code []
+        waiting (heap m1))) none
+        (looped 6 last (Take (Word 2) (Return (Word 3))) rests refl
+        (λ m h. made m h (set_local 4 0 last) refl refl rests) n 0 (omega arith) m1 h1)))))))))
+        (omega arith)
+
+  asked : Locals
+  asked = bind 0 (n ∷ w ∷ []) no_locals
+
+  -- a vector of so many elements, or the region is exhausted
+  pub vectors_are_made : n < 2 ^ 63 → ComesToVector reading setting l s objects (fill_proc own) n w (4 * n + 13)
+  vectors_are_made positive = let z = begun in (z.steps, z.few, z.reach)
+    where
+      untouched : Below s.memory
+      untouched j lt = refl
+
+      not_below : Signed n → holds Lt n 0 ≡ false
+      not_below (Positive lt is e) = e
+      not_below (Negative m ge sum is e) = absurd (omega (arith, ge, positive))
+
+      rest_code : Code
+      rest_code =
+          Compute Sll 4 (Word 0) (Number 32) (
+          Compute Add 4 (Word 4) (Number 6) (
+          Store (Word 4) (Word 3) 0 (
+          Compute Add 4 (Word 3) (Number 8) (
+          Compute Sll 5 (Word 0) (Number 3) (
+          Compute Add 5 (Word 4) (Word 5) (
+          Call 4 own (Word 4 ∷ Word 5 ∷ Word 1 ∷ []) (
+          Take (Word 2) (Return (Word 3)))))))))
+
+      requested : (rests : List Code)
+          → Within (4 * n + 11) (St 6 (set_local 2 (n + 1) (bind 0 (n ∷ w ∷ []) no_locals)) (Request 3 (Word 2) (
+          Compute Sll 4 (Word 0) (Number 32) (
+          Compute Add 4 (Word 4) (Number 6) (
+          Store (Word 4) (Word 3) 0 (
+          Compute Add 4 (Word 3) (Number 8) (
+          Compute Sll 5 (Word 0) (Number 3) (
+          Compute Add 5 (Word 4) (Word 5) (
+          Call 4 own (Word 4 ∷ Word 5 ∷ Word 1 ∷ []) (
+          Take (Word 2) (Return (Word 3))))))))))) rests s.waiting (heap s.memory))
+      requested rests = by_room (le_cases (nat_le (s.alloc + 8 * (n + 1)) setting.top))
+        where
+          locals : Locals
+          locals = set_local 2 (n + 1) (bind 0 (n ∷ w ∷ []) no_locals)
+
+          code : Code
+          code =
+              Compute Sll 4 (Word 0) (Number 32) (
+              Compute Add 4 (Word 4) (Number 6) (
+              Store (Word 4) (Word 3) 0 (
+              Compute Add 4 (Word 3) (Number 8) (
+              Compute Sll 5 (Word 0) (Number 3) (
+              Compute Add 5 (Word 4) (Word 5) (
+              Call 4 own (Word 4 ∷ Word 5 ∷ Word 1 ∷ []) (
+              Take (Word 2) (Return (Word 3)))))))))
+
+          t0 : LowState
+          t0 = St 6 locals (Request 3 (Word 2) code) rests s.waiting (heap s.memory)
+
+          refused : LowState
+          refused = St 6 locals code rests s.waiting
+              (record { memory = s.memory; alloc = s.alloc; words = s.words + (n + 1) })
+
+          first_way : P t0
+          first_way =
+              way 6 locals (Request 3 (Word 2) code) rests s.waiting s.memory s.words untouched (omega arith)
+              (omega arith) (omega arith)
+
+          by_room : (nat_le (s.alloc + 8 * (n + 1)) setting.top ≡ true)
+              ⊎ (nat_le (s.alloc + 8 * (n + 1)) setting.top ≡ false) → Within (4 * n + 11) t0
+          by_room (inl r) =
+              more
+              (step t0 (St 6 (set_local 3 s.alloc locals) code rests s.waiting (heap s.memory)) (rw (r) refl) first_way
+              (filled_in (grind (arith, r)) rests)) (omega arith)
+          by_room (inr r) = record {
+            steps = 1;
+            few = omega arith;
+            reach =
+                by_step N P Q 0 t0 (Stop (reading (Lacks Region)) refused) (rw (r) refl) first_way
+                (subst (λ x. Onward (Stop x refused) P Q) (sym exhausts)
+                (way 6 locals code rests s.waiting s.memory (s.words + (n + 1)) untouched (omega arith) (omega arith)
+                (le_refl (s.words + (n + 1)))));
+          }
+
+      begun : Within (4 * n + 13) (St 6 (bind 0 (n ∷ w ∷ []) no_locals) (fill_code own) [] s.waiting (heap s.memory))
+      begun =
+          more
+          (if_false s.memory untouched (omega arith) n 0 refl refl (not_below (signed n (omega (arith, positive))))
+          (computes s.memory untouched (omega arith) n 1 (n + 1) refl refl (add_is n 1 (omega (arith, positive))) refl
+          (requested _)))
+          (omega arith)
+
+  -- a length below 0 traps
+  pub lengths_below_zero_trap : 2 ^ 63 ≤ n → n < 2 ^ 64
+      → ComesWhere reading setting l s (fill_proc own) (n ∷ w ∷ [])
+      (TrapsAt reading setting l s Length) 1 0
+  unfolding environment_call
+  lengths_below_zero_trap ge fits = (
+    1,
+    le_refl 1,
+    by_step N P' Q' 0 t0 (Go t1) (let e = below (signed n fits) in rw (e) refl) calm (record {
+      objects = objects;
+      fine = fine_at s.memory s.words (λ j lt. refl);
+      last = _;
+      stops = refl;
+      stays = refl;
+      same = refl;
+      same_after = refl;
+    }),
+  )
+    where
+      P' : LowState → Type 0
+      P' = OnTheWay setting l s 0 9
+
+      Q' : LowState → Type 0
+      Q' = TrapsAt reading setting l s Length
+
+      t0 : LowState
+      t0 = St 6 (bind 0 (n ∷ w ∷ []) no_locals) (fill_code own) [] s.waiting (heap s.memory)
+
+      t1 : LowState
+      t1 = St 6 (bind 0 (n ∷ w ∷ []) no_locals) trap_length (Done ∷ []) s.waiting (heap s.memory)
+
+      below : Signed n → holds Lt n 0 ≡ true
+      below (Positive lt is e) = absurd (omega (arith, ge, lt))
+      below (Negative m most sum is e) = e
+
+      calm : P' t0
+      calm = record {
+        calm = record { objects = objects; fine = fine_at s.memory s.words (λ j lt. refl); same = refl };
+        active = omega arith;
+        asked = omega arith;
+        turns = omega arith;
+      }

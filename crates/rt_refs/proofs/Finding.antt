@@ -1,0 +1,146 @@
+-- The cell behind a proxy, or without one.
+use Rattle.std.proofs.Common.{◌≡◌, ◌⊎◌, inl, inr, ℕ, suc, ◌+◌, ◌*◌, ◌<◌, ◌≤◌, false}
+use Rattle.std.proofs.Common.{List, [], ◌∷◌, length, Some, refl, subst, arith}
+use Rattle.std.specs.Prelude.{◌==◌}
+use Rattle.grift_base.specs.Types.{TypeHead}
+use Rattle.low_ir.specs.Procedures.{Code}
+use Rattle.low_ir.specs.Steps.{Locals}
+use Rattle.low_ir.specs.Run.{Waiting, LowState}
+use Rattle.coercion_norm.specs.Coercions.{Coercion, Coercions, Id, Fail, Middle, Inject, Project}
+use Rattle.coercion_norm.specs.declared.middles.MiddleKind.{MiddleKind as Kind}
+use Rattle.coercion_norm.specs.declared.middles.MiddleKind.TheVariants.{Fun as FunKind, Tup as TupKind}
+use Rattle.coercion_norm.specs.declared.middles.MiddleKind.TheVariants.{Ref as RefKind, Vec as VecKind}
+use Rattle.coercion_norm.specs.Heights.{coercion_height}
+use Rattle.coercion_norm.specs.MergedMode.{part_at, cell_coercion}
+use Rattle.coercion_norm.specs.Objects.{Object, Cell}
+use Rattle.coercion_norm.specs.Held.{Held, height_in}
+use Rattle.coercion_norm.specs.ObjectsOfRows.{header, kind_number}
+use Rattle.rt_cast.specs.WholeObjects.{IsSolid}
+use Rattle.rt_cast.specs.States.{Grows, Heap, Fine, st}
+use Rattle.rt_cast.specs.MergedValues.{Merged, Base, Solid, Proxied, InDyn}
+use Rattle.rt_cast.specs.Carried.{CarriedBy, IsLow}
+use Rattle.rt_cast.proofs.Public.{Walk, none_some, same_some, eq_false, kind_read, count_read, Budget, More, at_most}
+use Rattle.rt_cast.proofs.Public.{WordThere, loads, loads_at, computes, sets_word, if_true, if_false, header_there}
+use Rattle.rt_cast.proofs.Public.{ReachedIn}
+use Rattle.rt_refs.specs.CellCodes.{find_cell}
+use Rattle.rt_refs.specs.CellLaws.{cell_behind, CellStands}
+use Rattle.rt_refs.proofs.Calling.{mapped, part_held, part_low}
+use Rattle.rt_refs.proofs.CellSteps.{ends_branch}
+
+zero_more : (n : ℕ) → n ≡ n + 0
+zero_more n = omega arith
+
+pub one_kind : (kind : ℕ) → (kind ≡ 5) ⊎ (kind ≡ 6) → (kind < 256) × ((kind == 2) ≡ false)
+one_kind kind (inl e) = (omega (arith, e), eq_false kind 2 (λ f. omega (arith, e, f)))
+one_kind kind (inr e) = (omega (arith, e), eq_false kind 2 (λ f. omega (arith, e, f)))
+
+-- the part of a coercion between boxes or vectors
+pub record IsPart (k : ℕ) (c d : Coercion) : Type 0 where
+  pub kind : Kind
+  pub parts : Coercions
+  pub is : c ≡ Middle kind parts
+  pub part : part_at parts k ≡ Some d
+
+pub is_part : (k : ℕ) (c d : Coercion) → cell_coercion k c ≡ Some d → IsPart k c d
+is_part k Id d e = none_some e
+is_part k (Fail label) d e = none_some e
+is_part k (Inject g kept) d e = none_some e
+is_part k (Project wanted label i) d e = none_some e
+is_part k (Middle FunKind parts) d e = none_some e
+is_part k (Middle TupKind parts) d e = none_some e
+is_part k (Middle RefKind parts) d e = record { kind = RefKind; parts = parts; is = refl; part = e }
+is_part k (Middle VecKind parts) d e = record { kind = VecKind; parts = parts; is = refl; part = e }
+
+module _ {V : Type 0} (walk : Walk V) (low : walk.l.tallest ≤ 65534) (A : Type 0)
+    (IsHeld : List Object → A → ℕ → Type 0)
+    (still : (old new : List Object) → Grows old new → (a : A) (w : ℕ) → IsHeld old a w → IsHeld new a w)
+    (is_solid : (objects : List Object) (a : A) (w : ℕ) → IsHeld objects a w → IsSolid walk.l objects w)
+    (head : A → TypeHead) where
+  abbrev Carried : List Object → Merged A → ℕ → Type 0
+  Carried = CarriedBy walk.l IsHeld
+
+  abbrev state : ℕ → Locals → Code → List Code → List Waiting → Heap → LowState
+  state = st walk.around
+
+  module _ (B : Budget) (k offset : ℕ) (place : offset ≡ 8 + 8 * k) (objects : List Object) (h : Heap)
+      (fine : Fine walk.setting walk.l walk.around objects h) (waiting : List Waiting) (rests : List Code)
+      (locals : Locals) (rest : Code) (wv : ℕ) (wv_is : locals 1 ≡ Some wv) (ws : List ℕ) where
+    -- it goes on with the cell of what is behind, and with the part of the proxy's coercion
+    abbrev pub FoundGo : A → Coercion → Type 0
+    FoundGo a d =
+        (wa wd : ℕ) (found : Locals) (rests' : List Code) → IsHeld objects a wa
+        → CellStands walk.l objects h.memory wa ws → Held walk.l objects d wd → IsLow walk.l d → found 0 ≡ locals 0
+        → found 1 ≡ Some wa → found 2 ≡ locals 2 → found 3 ≡ locals 3 → found 4 ≡ Some (length ws) → found 5 ≡ Some wd
+        → ReachedIn walk B (state 6 found rest rests' waiting h)
+
+    abbrev pub IsCell : A → Type 0
+    IsCell a = (wa : ℕ) → IsHeld objects a wa → CellStands walk.l objects h.memory wa ws
+
+    abbrev Runs : Type 0
+    Runs = ReachedIn walk (More 9 0 B) (state 6 locals (find_cell offset rest) rests waiting h)
+
+    cell_header : (wa : ℕ) (cell : CellStands walk.l objects h.memory wa ws)
+        → WordThere walk h (wa + 0) (header cell.kind 0 (length ws))
+    cell_header wa cell =
+        subst (λ m. WordThere walk h m (header cell.kind 0 (length ws))) (zero_more wa)
+        (header_there walk objects h fine wa (Cell (header cell.kind 0 (length ws)) (length ws)) cell.there)
+
+    bare : (a : A) → IsHeld objects a wv → IsCell a → FoundGo a Id → Runs
+    bare a held is_cell go =
+        let cell = is_cell wv held in
+        let z = one_kind cell.kind cell.one in
+        let head0 = header cell.kind 0 (length ws) in
+        at_most walk
+        (loads_at walk objects fine wv head0 wv_is (cell_header wv cell) refl
+        (computes walk objects fine head0 255 cell.kind refl refl (kind_read cell.kind 0 (length ws) z.0) refl
+        (if_false walk objects fine cell.kind 2 refl refl z.1
+        (sets_word walk objects fine 0 refl refl
+        (ends_branch walk objects fine
+        (computes walk objects fine head0 32 (length ws) refl refl
+        (count_read cell.kind 0 (length ws) (omega (arith, z.0)) (omega arith)) refl
+        (go wv 0 _ rests held cell refl (record { normal = tt; low = omega arith }) refl wv_is refl refl refl
+        refl)))))))
+        (omega arith, omega arith)
+
+    proxied : (a : A) (c d : Coercion) → Carried objects (Proxied a c) wv → cell_coercion k c ≡ Some d → IsCell a
+        → FoundGo a d → Runs
+    proxied a c d hv e is_cell go =
+        let z = is_part k c d e in
+        let lc : IsLow walk.l (Middle z.kind z.parts) = subst (IsLow walk.l) z.is hv.5 in
+        let hc : Held walk.l objects (Middle z.kind z.parts) hv.1 =
+        subst (λ y. Held walk.l objects y hv.1) z.is hv.4 in
+        let p = part_held walk low A IsHeld still is_solid objects z.parts hc.0 k d hc.2 z.part in
+        let ld = part_low walk low A IsHeld still is_solid z.kind z.parts k d lc z.part in
+        let headc =
+        header (kind_number z.kind) (coercion_height (height_in walk.l) (Middle z.kind z.parts)) (length hc.0) in
+        let cell = is_cell hv.0 hv.3 in
+        let y = one_kind cell.kind cell.one in
+        let head0 = header cell.kind 0 (length ws) in
+        let ws2 = hv.0 ∷ hv.1 ∷ [] in
+        at_most walk
+        (loads walk objects fine wv (header 2 0 2) ws2 0 (header 2 0 2) wv_is hv.2 refl refl refl
+        (computes walk objects fine (header 2 0 2) 255 2 refl refl (kind_read 2 0 2 (omega arith)) refl
+        (if_true walk objects fine 2 2 refl refl refl
+        (loads walk objects fine wv (header 2 0 2) ws2 2 hv.1 wv_is hv.2 refl refl refl
+        (loads walk objects fine hv.1 headc hc.0 (suc k) p.0 refl hc.1 p.1 (omega (arith, place)) refl
+        (loads walk objects fine wv (header 2 0 2) ws2 1 hv.0 wv_is hv.2 refl refl refl
+        (loads_at walk objects fine hv.0 head0 refl (cell_header hv.0 cell) refl
+        (ends_branch walk objects fine
+        (computes walk objects fine head0 32 (length ws) refl refl
+        (count_read cell.kind 0 (length ws) (omega (arith, y.0)) (omega arith)) refl
+        (go hv.0 p.0 _ rests hv.3 cell p.2 ld refl refl refl refl refl refl))))))))))
+        (omega arith, omega arith)
+
+    pub found : (u : Merged A) (a : A) (d : Coercion) → cell_behind k u ≡ Some (a, d) → Carried objects u wv → IsCell a
+        → FoundGo a d → Runs
+    found (Base hd x) a d e hv is_cell go = none_some e
+    found (InDyn kept u) a d e hv is_cell go = none_some e
+    found (Solid b) a d e hv is_cell go =
+        let p : A × Coercion = (b, Id) in
+        let q : A × Coercion = (a, d) in
+        subst (λ z. IsCell z.0 → FoundGo z.0 z.1 → Runs) (same_some p q e) (λ c g. bare b hv c g) is_cell go
+    found (Proxied b c) a d e hv is_cell go =
+        let q : A × Coercion = (a, d) in
+        let m = mapped (λ x. (b, x)) (cell_coercion k c) q e in
+        subst (λ z. IsCell z.0 → FoundGo z.0 z.1 → Runs) m.2 (λ y g. proxied b c m.0 hv m.1 y g)
+        is_cell go

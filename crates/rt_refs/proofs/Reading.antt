@@ -1,0 +1,220 @@
+-- What read comes to, from a state in which whole objects fill the region.
+use Rattle.std.proofs.Common.{◌≡◌, ℕ, ◌+◌, ◌*◌, ◌≤◌, false}
+use Rattle.std.proofs.Common.{List, [], ◌∷◌, length, Some, refl, ap, arith, le_refl}
+use Rattle.std.specs.Prelude.{◌==◌, slice_get}
+use Rattle.grift_base.specs.Types.{TypeHead}
+use Rattle.grift_base.specs.EnvironmentCall.{environment_call}
+use Rattle.grift_base.specs.declared.verdicts.Trap.TheVariants.{Index}
+use Rattle.run_laws.specs.Runs.{Ending, Exhausted}
+use Rattle.rv_machine.specs.State.{Halt, Lacks, Region}
+use Rattle.low_ir.specs.declared.code.LowSource.TheVariants.{Word, Number}
+use Rattle.low_ir.specs.Procedures.{Code, Return, Load, TailCall}
+use Rattle.low_ir.specs.Steps.{Locals, no_locals}
+use Rattle.low_ir.specs.Run.{Setting, LowState, bind, and_more}
+use Rattle.coercion_norm.specs.Coercions.{Coercion}
+use Rattle.coercion_norm.specs.Objects.{Object}
+use Rattle.coercion_norm.specs.ObjectsOfRows.{header}
+use Rattle.coercion_norm.specs.Held.{Layout, rows_in}
+use Rattle.rt_cast.specs.WholeObjects.{IsSolid}
+use Rattle.rt_cast.specs.Costs.{cast_cost}
+use Rattle.rt_cast.specs.ComposeCodes.{cast}
+use Rattle.rt_cast.specs.PartCodes.{either}
+use Rattle.rt_cast.specs.Procs.{cast_proc}
+use Rattle.rt_cast.specs.States.{Grows, Fine, Filled, IsReady, around, heap_of, st}
+use Rattle.rt_cast.specs.MergedValues.{Merged, Outcome, Stuck, cast_value}
+use Rattle.rt_cast.specs.Carried.{CarriedBy, ComesTo}
+use Rattle.rt_cast.proofs.Public.{Walk, lt_true, lt_false, End, More, at_most, loads_at, computes, if_true, if_false}
+use Rattle.rt_cast.proofs.Public.{tail_calls, ReachedIn, at_first, walk, apply, no_higher, by_cast, low_of}
+use Rattle.rt_cast.proofs.Public.{decided_cast, ends, kind_read, count_read, none_some, same_some, WordThere}
+use Rattle.rt_cast.proofs.Public.{header_there, loads}
+use Rattle.rt_refs.specs.CellCodes.{read_code, read_proc, trap_index, find_element}
+use Rattle.rt_refs.specs.CellLaws.{under, cell_behind, CellStands, TrapsAt, TellsAt, ComesWhere}
+use Rattle.rt_refs.proofs.CellSteps.{cell_word, in_list}
+use Rattle.rv_isa.specs.declared.inst.Cond.TheVariants.{Eq}
+use Rattle.low_ir.specs.Operations.{compute}
+use Rattle.low_ir.specs.declared.code.WordOp.TheVariants.{Srl}
+use Rattle.low_ir.specs.Procedures.{Compute}
+use Rattle.coercion_norm.specs.Objects.{Cell}
+use Rattle.rt_cast.specs.MergedValues.{Base, Solid, Proxied, InDyn}
+use Rattle.rt_refs.proofs.CellSteps.{ends_branch}
+use Rattle.std.proofs.Common.{subst, ◌<◌, ◌∙◌}
+use Rattle.low_ir.specs.Steps.{set_local}
+use Rattle.rt_refs.proofs.Finding.{one_kind}
+use Rattle.rt_refs.proofs.Finding.{found}
+
+module _ {V : Type 0} (reading : Halt → Ending V) (setting : Setting) (l : Layout) (first : ℕ) (s : LowState)
+    (exhausts : reading (Lacks Region) ≡ Exhausted) (ready : IsReady setting l first) {A : Type 0} (head : A → TypeHead)
+    (IsHeld : List Object → A → ℕ → Type 0)
+    (still : (old new : List Object) → Grows old new → (a : A) (w : ℕ) → IsHeld old a w → IsHeld new a w)
+    (is_solid : (objects : List Object) (a : A) (w : ℕ) → IsHeld objects a w → IsSolid l objects w)
+    (low : l.tallest ≤ 65534) (objects : List Object) (filled : Filled setting l objects (heap_of s)) (u : Merged A)
+    (wv : ℕ) (hv : CarriedBy l IsHeld objects u wv) (a : A) (d : Coercion) (behind : cell_behind 0 u ≡ Some (a, d))
+    (ws : List ℕ) (cell : (wa : ℕ) → IsHeld objects a wa → CellStands l objects s.memory wa ws) where
+  abbrev read_most : ℕ
+  read_most = cast_cost l.width l.tallest + 15
+
+  abbrev start : ℕ → ℕ → Locals
+  start which i = bind 0 (which ∷ wv ∷ i ∷ []) no_locals
+
+  fine : Fine setting l (around s) objects (heap_of s)
+  fine = at_first reading setting l first s exhausts ready objects filled
+
+  abbrev w : (LowState → Type 0) → Walk V
+  w Q = walk reading setting l first s exhausts ready Q (4 * l.tallest + 6) (9 * (cast_cost l.width l.tallest + 15))
+
+  -- what is read is an element, cast as the proxy has it
+  pub elements_are_read : (which i word : ℕ) → (which == 2) ≡ false → slice_get ws i ≡ Some word → (x : Merged A)
+      → CarriedBy l IsHeld objects x word → (r : Outcome A) → cast_value head l.types d x ≡ r → (r ≡ Stuck → ⊥)
+      → ComesWhere reading setting l s (read_proc (cast first)) (which ∷ wv ∷ i ∷ [])
+      (ComesTo l setting s IsHeld objects r) read_most (4 * l.tallest + 6)
+  elements_are_read which i word other got x hx r e some =
+      let z = begun in
+      (z.steps, (let g = z.few in omega arith), z.reach (record { room = omega arith; left = omega arith }))
+    where
+      v : Walk V
+      v = w (ComesTo l setting s IsHeld objects r)
+
+      begun : ReachedIn v (More (cast_cost l.width l.tallest + 15) (4 * l.tallest + 6) End)
+          (st (around s) 6 (start which i) (read_code (cast first)) [] s.waiting (heap_of s))
+      begun =
+          at_most v
+          (if_false v objects fine which 2 refl refl other
+          (found v low A IsHeld still is_solid head (More (cast_cost l.width l.tallest + 5) (4 * l.tallest + 6) End) 0 8
+          refl objects (heap_of s) fine s.waiting _ (start which i)
+          (find_element (Load 2 (Word 2) 8 (TailCall (cast first) (Word 2 ∷ Word 5 ∷ [])))) wv refl ws u a d behind hv
+          cell
+          (λ wa wd found rests ha cell_is hd ld e0 e1 e2 e3 e4 e5.
+          let inside = in_list ws i word got in
+          let there = cell_word v objects (heap_of s) fine wa (header cell_is.kind 0 (length ws)) ws cell_is.there
+          cell_is.held i word (wa + 8 * i + 8) got refl in
+          let below = no_higher v low A IsHeld still is_solid d ld in
+          let is = decided_cast l ready.types head d ld.normal below x
+          (low_of l ready.types head IsHeld objects x word hx) r some e in
+          at_most v
+          (if_true v objects fine i (length ws) e2 e4 (lt_true i (length ws) inside)
+          (computes v objects fine i 3 (8 * i) e2 refl (let q = there.end in omega (arith, q)) refl
+          (computes v objects fine (8 * i) wa (wa + 8 * i) refl e1 (let q = there.end in omega (arith, q)) refl
+          (loads_at v objects fine (wa + 8 * i) word refl there refl
+          (tail_calls v objects fine (word ∷ wd ∷ []) (cast_proc first)
+          (ap (λ o. and_more (Some word) (and_more o (Some []))) e5) (v.stands 2 _ refl) refl
+          (by_cast v low A IsHeld still is_solid d ld.normal below x End objects (heap_of s) fine s.waiting word wd hx hd
+          (ends reading setting l first s exhausts ready head IsHeld still is_solid low objects r some
+          (4 * l.tallest + 6) (9 * (cast_cost l.width l.tallest + 15)) (apply (rows_in l) l.tallest d x) is)))))))
+          (omega arith, omega arith))))
+          (omega arith, omega arith)
+
+  -- an index outside traps
+  pub indices_outside_trap : (which i : ℕ) → (which == 2) ≡ false → length ws ≤ i
+      → ComesWhere reading setting l s (read_proc (cast first)) (which ∷ wv ∷ i ∷ [])
+      (TrapsAt reading setting l s Index) read_most (4 * l.tallest + 6)
+  unfolding environment_call
+  indices_outside_trap which i other outside =
+      let z = begun in
+      (z.steps, (let g = z.few in omega arith), z.reach (record { room = omega arith; left = omega arith }))
+    where
+      v : Walk V
+      v = w (TrapsAt reading setting l s Index)
+
+      begun : ReachedIn v (More (cast_cost l.width l.tallest + 15) (4 * l.tallest + 6) End)
+          (st (around s) 6 (start which i) (read_code (cast first)) [] s.waiting (heap_of s))
+      begun =
+          at_most v
+          (if_false v objects fine which 2 refl refl other
+          (found v low A IsHeld still is_solid head (More 1 0 End) 0 8
+          refl objects (heap_of s) fine s.waiting _ (start which i)
+          (find_element (Load 2 (Word 2) 8 (TailCall (cast first) (Word 2 ∷ Word 5 ∷ [])))) wv refl ws u a d behind hv
+          cell
+          (λ wa wd found rests ha cell_is hd ld e0 e1 e2 e3 e4 e5.
+          let last : (rests' : List Code)
+          → ReachedIn v End (st (around s) 6 found trap_index rests' s.waiting (heap_of s)) = λ rests'. record {
+            steps = 0;
+            few = le_refl 0;
+            reach = λ spare. record {
+              objects = objects;
+              fine = fine;
+              last = _;
+              stops = refl;
+              stays = refl;
+              same = refl;
+              same_after = refl;
+            };
+          } in
+          at_most v
+          (if_false v objects fine i (length ws) e2 e4 (lt_false i (length ws) outside) (last _))
+          (omega arith, omega arith))))
+          (omega arith, omega arith)
+
+-- how many elements a vector has, whatever its proxy is
+module _ {V : Type 0} (reading : Halt → Ending V) (setting : Setting) (l : Layout) (first : ℕ) (s : LowState)
+    (exhausts : reading (Lacks Region) ≡ Exhausted) (ready : IsReady setting l first) {A : Type 0}
+    (IsHeld : List Object → A → ℕ → Type 0) (objects : List Object) (filled : Filled setting l objects (heap_of s))
+    (ws : List ℕ) where
+  abbrev Tells : LowState → Type 0
+  Tells = TellsAt setting l s objects (length ws)
+
+  abbrev q : Walk V
+  q = walk reading setting l first s exhausts ready Tells 0 (9 * 8)
+
+  fine_here : Fine setting l (around s) objects (heap_of s)
+  fine_here = at_first reading setting l first s exhausts ready objects filled
+
+  told : (wa : ℕ) (locals : Locals) (rests : List Code) → CellStands l objects s.memory wa ws → (head0 : ℕ)
+      → (kind : ℕ) → head0 ≡ header kind 0 (length ws) → kind < 256 → locals 4 ≡ Some head0
+      → ReachedIn q (More 1 0 End) (st (around s) 6 locals (Compute Srl 4 (Word 4) (Number 32) (Return (Word 4))) rests
+      s.waiting (heap_of s))
+  told wa locals rests cell head0 kind is few e4 =
+      let last : ReachedIn q End (st (around s) 6 (set_local 4 (length ws) locals) (Return (Word 4)) rests s.waiting
+      (heap_of s)) = record {
+        steps = 0;
+        few = le_refl 0;
+        reach = λ spare.
+            record { fine = fine_here; source = Word 4; code = refl; is = refl; waits = refl; same = refl };
+      } in
+      at_most q
+      (computes q objects fine_here head0 32 (length ws) e4 refl
+      (ap (λ x. compute Srl x 32) is ∙ count_read kind 0 (length ws) (omega (arith, few)) (omega arith)) refl last)
+      (omega arith, omega arith)
+
+  at_header : (wa : ℕ) (cell : CellStands l objects s.memory wa ws)
+      → WordThere q (heap_of s) (wa + 0) (header cell.kind 0 (length ws))
+  at_header wa cell =
+      let z : wa ≡ wa + 0 = omega arith in
+      subst (λ m. WordThere q (heap_of s) m (header cell.kind 0 (length ws))) z
+      (header_there q objects (heap_of s) fine_here wa (Cell (header cell.kind 0 (length ws)) (length ws)) cell.there)
+
+  pub lengths_are_told : (u : Merged A) (wv : ℕ) → CarriedBy l IsHeld objects u wv → (a : A) → under u ≡ Some a
+      → ((wa : ℕ) → IsHeld objects a wa → CellStands l objects s.memory wa ws) → (i : ℕ)
+      → ComesWhere reading setting l s (read_proc (cast first)) (2 ∷ wv ∷ i ∷ []) Tells 8 0
+  lengths_are_told (Base hd x) wv hv a e cell i = none_some e
+  lengths_are_told (InDyn kept x) wv hv a e cell i = none_some e
+  lengths_are_told (Solid b) wv hv a e cell i =
+      let here = cell wv (subst (λ x. IsHeld objects x wv) (same_some b a e) hv) in
+      let z = one_kind here.kind here.one in
+      let head0 = header here.kind 0 (length ws) in
+      let r : ReachedIn q (More 8 0 End)
+      (st (around s) 6 (bind 0 (2 ∷ wv ∷ i ∷ []) no_locals) (read_code (cast first)) [] s.waiting (heap_of s)) =
+      at_most q
+      (if_true q objects fine_here 2 2 refl refl refl
+      (loads_at q objects fine_here wv head0 refl (at_header wv here) refl
+      (computes q objects fine_here head0 255 here.kind refl refl (kind_read here.kind 0 (length ws) z.0) refl
+      (if_false q objects fine_here here.kind 2 refl refl z.1
+      (ends_branch q objects fine_here (told wv _ _ here head0 here.kind refl z.0 refl))))))
+      (omega arith, omega arith) in
+      (r.steps, (let g = r.few in omega arith), r.reach (record { room = omega arith; left = omega arith }))
+  lengths_are_told (Proxied b c) wv hv a e cell i =
+      let here = cell hv.0 (subst (λ x. IsHeld objects x hv.0) (same_some b a e) hv.3) in
+      let z = one_kind here.kind here.one in
+      let head0 = header here.kind 0 (length ws) in
+      let ws2 = hv.0 ∷ hv.1 ∷ [] in
+      let r : ReachedIn q (More 8 0 End)
+      (st (around s) 6 (bind 0 (2 ∷ wv ∷ i ∷ []) no_locals) (read_code (cast first)) [] s.waiting (heap_of s)) =
+      at_most q
+      (if_true q objects fine_here 2 2 refl refl refl
+      (loads q objects fine_here wv (header 2 0 2) ws2 0 (header 2 0 2) refl hv.2 refl refl refl
+      (computes q objects fine_here (header 2 0 2) 255 2 refl refl (kind_read 2 0 2 (omega arith)) refl
+      (if_true q objects fine_here 2 2 refl refl refl
+      (loads q objects fine_here wv (header 2 0 2) ws2 1 hv.0 refl hv.2 refl refl refl
+      (loads_at q objects fine_here hv.0 head0 refl (at_header hv.0 here) refl
+      (ends_branch q objects fine_here (told hv.0 _ _ here head0 here.kind refl z.0 refl))))))))
+      (omega arith, omega arith) in
+      (r.steps, (let g = r.few in omega arith), r.reach (record { room = omega arith; left = omega arith }))

@@ -1,0 +1,283 @@
+-- What write comes to, from a state in which whole objects fill the region.
+use Rattle.std.proofs.Common.{◌≡◌, inl, inr, ℕ, ◌+◌, ◌*◌, ◌^◌, ◌<◌, ◌≤◌}
+use Rattle.std.proofs.Common.{List, [], ◌∷◌, length, Some, refl, sym, ap, ap₂, subst, arith, le_refl}
+use Rattle.std.specs.Prelude.{slice_get}
+use Rattle.grift_base.specs.Types.{TypeHead}
+use Rattle.grift_base.specs.EnvironmentCall.{environment_call}
+use Rattle.grift_base.specs.declared.verdicts.Trap.TheVariants.{Index}
+use Rattle.run_laws.specs.Runs.{Ending, Exhausted}
+use Rattle.rv_machine.specs.State.{Halt, Lacks, Region}
+use Rattle.low_ir.specs.declared.code.LowSource.TheVariants.{Word, Number}
+use Rattle.low_ir.specs.declared.code.WordOp.TheVariants.{Add, Sll}
+use Rattle.low_ir.specs.Procedures.{Code, Return, Compute, Call, Store, Environment}
+use Rattle.low_ir.specs.Steps.{Locals, no_locals}
+use Rattle.low_ir.specs.Run.{Setting, LowState, bind, and_more}
+use Rattle.coercion_norm.specs.Coercions.{Coercion}
+use Rattle.coercion_norm.specs.Objects.{Object}
+use Rattle.coercion_norm.specs.ObjectsOfRows.{header}
+use Rattle.coercion_norm.specs.Held.{Layout}
+use Rattle.rt_cast.specs.WholeObjects.{IsSolid}
+use Rattle.rt_cast.specs.Costs.{cast_cost}
+use Rattle.rt_cast.specs.ComposeCodes.{cast}
+use Rattle.rt_cast.specs.PartCodes.{either}
+use Rattle.rt_cast.specs.Procs.{cast_proc}
+use Rattle.rt_cast.specs.States.{Grows, Heap, Fine, Filled, IsReady, around, heap_of, st}
+use Rattle.rt_cast.specs.MergedValues.{Merged, Outcome, Stuck, Gives, Blames, cast_value}
+use Rattle.rt_cast.specs.Carried.{CarriedBy}
+use Rattle.rt_cast.proofs.Public.{Walk, lt_true, lt_false, End, More, at_most, computes, if_true, if_false, calls}
+use Rattle.rt_cast.proofs.Public.{ReachedIn, at_first, walk}
+use Rattle.rt_refs.specs.CellCodes.{write_code, write_proc, trap_index}
+use Rattle.rt_refs.specs.CellLaws.{cell_behind, CellStands, CellInRegion, TrapsAt, WriteComes}
+use Rattle.rt_refs.specs.CellLaws.{OnTheWayWriting, ComesWhere, ComesWriting}
+use Rattle.rt_refs.proofs.CellSteps.{in_list, stores, may_be_stored, holds_stored, holds_same}
+use Rattle.rt_refs.proofs.Calling.{cast_behind, Goes}
+use Rattle.rv_machine.specs.Memory.{store_bytes}
+use Rattle.rv_machine.proofs.Public.{stored_outside}
+use Rattle.coercion_norm.proofs.Public.{found_within, object_kept}
+use Rattle.coercion_norm.specs.Objects.{Cell, object_at}
+use Rattle.rv_isa.specs.declared.inst.Cond.TheVariants.{Ltu}
+use Rattle.rt_refs.proofs.Finding.{found}
+
+module _ {V : Type 0} (reading : Halt → Ending V) (setting : Setting) (l : Layout) (first : ℕ) (s : LowState)
+    (exhausts : reading (Lacks Region) ≡ Exhausted) (ready : IsReady setting l first) {A : Type 0} (head : A → TypeHead)
+    (IsHeld : List Object → A → ℕ → Type 0)
+    (still : (old new : List Object) → Grows old new → (a : A) (w : ℕ) → IsHeld old a w → IsHeld new a w)
+    (is_solid : (objects : List Object) (a : A) (w : ℕ) → IsHeld objects a w → IsSolid l objects w)
+    (low : l.tallest ≤ 65534) (begins : l.region ≡ setting.region) (objects : List Object)
+    (filled : Filled setting l objects (heap_of s)) (u : Merged A) (wv : ℕ) (hv : CarriedBy l IsHeld objects u wv)
+    (a : A) (d : Coercion) (behind : cell_behind 1 u ≡ Some (a, d)) (ws : List ℕ)
+    (cell : (wa : ℕ) → IsHeld objects a wa → CellInRegion l objects s.memory wa ws) where
+  abbrev write_most : ℕ
+  write_most = cast_cost l.width l.tallest + 15
+
+  abbrev start : ℕ → ℕ → ℕ → Locals
+  start which i word = bind 0 (which ∷ wv ∷ i ∷ word ∷ []) no_locals
+
+  fine : Fine setting l (around s) objects (heap_of s)
+  fine = at_first reading setting l first s exhausts ready objects filled
+
+  cell_stands : (wa : ℕ) → IsHeld objects a wa → CellStands l objects s.memory wa ws
+  cell_stands wa h =
+      let c = cell wa h in record { kind = c.kind; one = c.one; there = inr c.is; held = c.held }
+
+  -- the walk of a procedure that may change what was there
+  abbrev writing : (LowState → Type 0) → Walk V
+  writing Q = record {
+    reading = reading;
+    setting = setting;
+    l = l;
+    around = around s;
+    P = OnTheWayWriting setting l s (4 * l.tallest + 7) (9 * (cast_cost l.width l.tallest + 15));
+    Q = Q;
+    frames = length s.waiting + (4 * l.tallest + 7);
+    most = s.words + 9 * (cast_cost l.width l.tallest + 15);
+    calm = λ active waiting h objects fine turns few asked. record {
+      objects = objects;
+      filled = fine.filled;
+      same = refl;
+      active = few;
+      asked = asked;
+      turns = turns;
+    };
+    exhausts = exhausts;
+    placed = ready.placed;
+    first = first;
+    stands = ready.stand;
+    types = ready.types;
+  }
+
+  abbrev rest_code : Code
+  rest_code =
+      either Ltu (Word 2) (Word 4) (
+      Call 3 (cast first) (Word 3 ∷ Word 5 ∷ []) (
+      Compute Sll 2 (Word 2) (Number 3) (
+      Compute Add 2 (Word 2) (Word 1) (
+      Store (Word 3) (Word 2) 8 (Return (Number 0)))))
+      ) trap_index
+
+  module _ (i : ℕ) (inside : i < length ws) (r : Outcome A) (y : Merged A) (q : r ≡ Gives y) (new : List Object)
+      (h' : Heap) (word' : ℕ) (grows : Grows objects new)
+      (fine' : Fine setting l (around s) new h') (hy : CarriedBy l IsHeld new y word') (wa : ℕ)
+      (ha : IsHeld objects a wa) where
+    abbrev w : Walk V
+    w = writing (WriteComes setting l s IsHeld objects a i r)
+
+    abbrev after : Heap
+    after = record {
+      memory = store_bytes 8 h'.memory (wa + 8 * i + 8) word';
+      alloc = h'.alloc;
+      words = h'.words;
+    }
+
+    place : object_at new l.region wa ≡ Some (Cell (header (cell wa ha).kind 0 (length ws)) (length ws))
+    place =
+        subst (λ os. object_at os l.region wa ≡ Some (Cell (header (cell wa ha).kind 0 (length ws)) (length ws)))
+        (sym grows.is) (object_kept objects grows.more l.region wa _ (cell wa ha).is)
+
+    filled_after : Filled setting l new after
+    filled_after =
+        let z = found_within new l.region wa _ place in
+        record {
+          objects_stand =
+              holds_stored h'.memory new l.region wa (header (cell wa ha).kind 0 (length ws)) (length ws)
+              (wa + 8 * i + 8) word' fine'.filled.objects_stand place (omega arith) (omega (arith, inside));
+          statics_stand =
+              holds_same h'.memory after.memory l.first l.statics
+              (λ j from to. stored_outside 8 h'.memory (wa + 8 * i + 8) word' j
+              (inl (omega (arith, to, z.low, ready.placed.before)))) fine'.filled.statics_stand;
+          ends = fine'.filled.ends;
+          fits = fine'.filled.fits;
+          whole = fine'.filled.whole;
+        }
+
+    written : (locals : Locals) (rests : List Code)
+        → ReachedIn w End (st (around s) 6 locals (Return (Number 0)) rests s.waiting after)
+    written locals rests = record {
+      steps = 0;
+      few = le_refl 0;
+      reach = λ spare.
+          subst (λ z. WriteComes setting l s IsHeld objects a i z
+          (st (around s) 6 locals (Return (Number 0)) rests s.waiting after)) (sym q) (record {
+            new = new;
+            grows = grows;
+            filled = filled_after;
+            before = h';
+            fine = fine';
+            cell = wa;
+            held = ha;
+            word = word';
+            carried = hy;
+            memory = refl;
+            source = Number 0;
+            code = refl;
+            is = refl;
+            waits = refl;
+            same = refl;
+          });
+    }
+
+    stored : (locals : Locals) (rests : List Code) → locals 1 ≡ Some wa → locals 2 ≡ Some i → locals 3 ≡ Some word'
+        → ReachedIn w (More 3 0 End) (st (around s) 6 locals (
+        Compute Sll 2 (Word 2) (Number 3) (
+        Compute Add 2 (Word 2) (Word 1) (
+        Store (Word 3) (Word 2) 8 (Return (Number 0))))) rests s.waiting h')
+    stored locals rests e1 e2 e3 =
+        let z = found_within new l.region wa _ place in
+        let even = z.even ready.placed.even_region in
+        let p : wa + 8 * i + 8 < 2 ^ 64 =
+        omega (arith, z.high, inside, fine'.filled.ends, fine'.filled.fits, ready.placed.top) in
+        at_most w
+        (computes w new fine' i 3 (8 * i) e2 refl (omega (arith, p)) refl
+        (computes w new fine' (8 * i) wa (wa + 8 * i) refl e1 (omega (arith, p)) refl
+        (stores w new fine' (wa + 8 * i) word' e3 refl
+        (may_be_stored setting.region setting.top (wa + 8 * i + 8) (omega (arith, even))
+        (omega (arith, z.low, begins))
+        (omega (arith, z.high, inside, fine'.filled.ends, fine'.filled.fits))) p
+        (written _ rests))))
+        (omega arith, omega arith)
+
+  -- what is written is stored, as the proxy casts it, or a label is blamed
+  pub elements_are_written : (which i word old : ℕ) → slice_get ws i ≡ Some old → (x : Merged A)
+      → CarriedBy l IsHeld objects x word → (r : Outcome A) → cast_value head l.types d x ≡ r → (r ≡ Stuck → ⊥)
+      → ComesWriting reading setting l s (write_proc (cast first)) (which ∷ wv ∷ i ∷ word ∷ [])
+      (WriteComes setting l s IsHeld objects a i r) write_most (4 * l.tallest + 7)
+  elements_are_written which i word old got x hx r e some =
+      let z = begun in
+      (z.steps, (let g = z.few in omega arith), z.reach (record { room = omega arith; left = omega arith }))
+    where
+      v : Walk V
+      v = writing (WriteComes setting l s IsHeld objects a i r)
+
+      inside : i < length ws
+      inside = in_list ws i old got
+
+      blames : (label : ℕ) → r ≡ Blames label
+          → Goes v low A IsHeld still is_solid End objects s.waiting (Blames label)
+      blames label q = λ new h' count locals rests waiting aa b dd e' rest grows fine' ea eb ld le. record {
+        steps = 0;
+        few = le_refl 0;
+        reach = λ spare.
+            subst (λ y. WriteComes setting l s IsHeld objects a i y
+            (st (around s) count locals (Environment 3 aa b dd e' rest) rests waiting h')) (sym q) (record {
+              new = new;
+              fine = fine';
+              a = aa;
+              b = b;
+              d = dd;
+              e = e';
+              rest = rest;
+              code = refl;
+              is = ea;
+              other = eb;
+              first = ld;
+              second = le;
+              same = refl;
+            });
+      }
+
+      begun : ReachedIn v (More (cast_cost l.width l.tallest + 15) (4 * l.tallest + 7) End)
+          (st (around s) 6 (start which i word) (write_code (cast first)) [] s.waiting (heap_of s))
+      begun =
+          at_most v
+          (found v low A IsHeld still is_solid head (More (cast_cost l.width l.tallest + 6) (4 * l.tallest + 7) End) 1 16
+          refl objects (heap_of s) fine s.waiting [] (start which i word) rest_code wv refl ws u a d behind hv
+          cell_stands
+          (λ wa wd found rests ha cell_is hd ld e0 e1 e2 e3 e4 e5.
+          at_most v
+          (if_true v objects fine i (length ws) e2 e4 (lt_true i (length ws) inside)
+          (calls v objects fine (word ∷ wd ∷ []) (cast_proc first)
+          (ap₂ and_more e3 (ap (λ o. and_more o (Some [])) e5)) (v.stands 2 _ refl) refl
+          (cast_behind v low A IsHeld still is_solid head End (More 3 0 End) objects (heap_of s) fine s.waiting
+          (record {
+            count = 6;
+            locals = found;
+            code =
+                Compute Sll 2 (Word 2) (Number 3) (
+                Compute Add 2 (Word 2) (Word 1) (
+                Store (Word 3) (Word 2) 8 (Return (Number 0))));
+            rests = _;
+          }) 3 refl d ld x word wd hx hd r e some
+          (λ y q new h' word' grows fine' hy. stored i inside r y q new h' word' grows fine' hy wa ha _ _ e1 e2 refl)
+          blames)))
+          (omega arith, omega arith)))
+          (omega arith, omega arith)
+
+  -- an index outside traps, before anything is cast
+  pub writes_outside_trap : (which i word : ℕ) → length ws ≤ i
+      → ComesWhere reading setting l s (write_proc (cast first)) (which ∷ wv ∷ i ∷ word ∷ [])
+      (TrapsAt reading setting l s Index) write_most (4 * l.tallest + 6)
+  unfolding environment_call
+  writes_outside_trap which i word outside =
+      let z = begun in
+      (z.steps, (let g = z.few in omega arith), z.reach (record { room = omega arith; left = omega arith }))
+    where
+      v : Walk V
+      v = walk reading setting l first s exhausts ready (TrapsAt reading setting l s Index)
+          (4 * l.tallest + 6) (9 * (cast_cost l.width l.tallest + 15))
+
+      begun : ReachedIn v (More (cast_cost l.width l.tallest + 15) (4 * l.tallest + 6) End)
+          (st (around s) 6 (start which i word) (write_code (cast first)) [] s.waiting (heap_of s))
+      begun =
+          at_most v
+          (found v low A IsHeld still is_solid head (More 1 0 End) 1 16
+          refl objects (heap_of s) fine s.waiting [] (start which i word) rest_code wv refl ws u a d behind hv
+          cell_stands
+          (λ wa wd found rests ha cell_is hd ld e0 e1 e2 e3 e4 e5.
+          let last : (rests' : List Code)
+          → ReachedIn v End (st (around s) 6 found trap_index rests' s.waiting (heap_of s)) = λ rests'. record {
+            steps = 0;
+            few = le_refl 0;
+            reach = λ spare. record {
+              objects = objects;
+              fine = fine;
+              last = _;
+              stops = refl;
+              stays = refl;
+              same = refl;
+              same_after = refl;
+            };
+          } in
+          at_most v
+          (if_false v objects fine i (length ws) e2 e4 (lt_false i (length ws) outside) (last _))
+          (omega arith, omega arith)))
+          (omega arith, omega arith)
