@@ -10,7 +10,7 @@ pub use Rattle.rt_cast.proofs.Objects.{objects_stand_where_their_words_do}
 -- What proofs about procedures that call these use, so that they walk through their own code as the proofs here do. A
 -- walk and its states:
 pub use Rattle.rt_cast.proofs.Walks.{Walk}
-pub use Rattle.rt_cast.proofs.Small.{ReachedIn, grows_not, grows_on}
+pub use Rattle.rt_cast.proofs.Small.{ReachedIn, grows_not, grows_on, not_zero}
 pub use Rattle.rt_cast.proofs.Reaching.{at_first, walk}
 -- steps, one lemma an instruction, with what is left of their number:
 pub use Rattle.rt_cast.proofs.Steps.{Budget, One, Out, Spare, End, More, Comes, goes, one_less, at_most}
@@ -25,4 +25,4 @@ pub use Rattle.rt_cast.proofs.Middles.{held_still}
 pub use Rattle.rt_cast.proofs.CastCases.{apply}
 pub use Rattle.rt_cast.proofs.CastRuns.{GoesOn, no_higher, whole_above, carried_still, by_cast}
 pub use Rattle.rt_cast.proofs.CastDecisions.{low_of, by_cast as decided_cast}
-pub use Rattle.rt_cast.proofs.CastReaching.{ends}
+pub use Rattle.rt_cast.proofs.CastReaching.{ends, very_still}

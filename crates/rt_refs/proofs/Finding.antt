@@ -1,8 +1,7 @@
--- The cell behind a proxy, or without one.
+-- The cell behind a proxy, or without one, and the part of the proxy's coercion.
 use Rattle.std.proofs.Common.{◌≡◌, ◌⊎◌, inl, inr, ℕ, suc, ◌+◌, ◌*◌, ◌<◌, ◌≤◌, false}
-use Rattle.std.proofs.Common.{List, [], ◌∷◌, length, Some, refl, subst, arith}
+use Rattle.std.proofs.Common.{List, [], ◌∷◌, length, Some, refl, ap, subst, arith}
 use Rattle.std.specs.Prelude.{◌==◌}
-use Rattle.grift_base.specs.Types.{TypeHead}
 use Rattle.low_ir.specs.Procedures.{Code}
 use Rattle.low_ir.specs.Steps.{Locals}
 use Rattle.low_ir.specs.Run.{Waiting, LowState}
@@ -19,11 +18,11 @@ use Rattle.rt_cast.specs.WholeObjects.{IsSolid}
 use Rattle.rt_cast.specs.States.{Grows, Heap, Fine, st}
 use Rattle.rt_cast.specs.MergedValues.{Merged, Base, Solid, Proxied, InDyn}
 use Rattle.rt_cast.specs.Carried.{CarriedBy, IsLow}
-use Rattle.rt_cast.proofs.Public.{Walk, none_some, same_some, eq_false, kind_read, count_read, Budget, More, at_most}
-use Rattle.rt_cast.proofs.Public.{WordThere, loads, loads_at, computes, sets_word, if_true, if_false, header_there}
-use Rattle.rt_cast.proofs.Public.{ReachedIn}
-use Rattle.rt_refs.specs.CellCodes.{find_cell}
-use Rattle.rt_refs.specs.CellLaws.{cell_behind, CellStands}
+use Rattle.rt_cast.proofs.Public.{Walk, none_some, same_some, eq_true, eq_false, kind_read, count_read, not_zero}
+use Rattle.rt_cast.proofs.Public.{Budget, More, at_most, WordThere, loads, loads_at, computes, sets_word, if_true}
+use Rattle.rt_cast.proofs.Public.{if_false, header_there, ReachedIn}
+use Rattle.rt_refs.specs.CellCodes.{find_cell, take_part}
+use Rattle.rt_refs.specs.CellLaws.{cell_behind, under, CellStands}
 use Rattle.rt_refs.proofs.Calling.{mapped, part_held, part_low}
 use Rattle.rt_refs.proofs.CellSteps.{ends_branch}
 
@@ -54,30 +53,48 @@ is_part k (Middle VecKind parts) d e = record { kind = VecKind; parts = parts; i
 module _ {V : Type 0} (walk : Walk V) (low : walk.l.tallest ≤ 65534) (A : Type 0)
     (IsHeld : List Object → A → ℕ → Type 0)
     (still : (old new : List Object) → Grows old new → (a : A) (w : ℕ) → IsHeld old a w → IsHeld new a w)
-    (is_solid : (objects : List Object) (a : A) (w : ℕ) → IsHeld objects a w → IsSolid walk.l objects w)
-    (head : A → TypeHead) where
+    (is_solid : (objects : List Object) (a : A) (w : ℕ) → IsHeld objects a w → IsSolid walk.l objects w) where
   abbrev Carried : List Object → Merged A → ℕ → Type 0
   Carried = CarriedBy walk.l IsHeld
 
   abbrev state : ℕ → Locals → Code → List Code → List Waiting → Heap → LowState
   state = st walk.around
 
-  module _ (B : Budget) (k offset : ℕ) (place : offset ≡ 8 + 8 * k) (objects : List Object) (h : Heap)
-      (fine : Fine walk.setting walk.l walk.around objects h) (waiting : List Waiting) (rests : List Code)
-      (locals : Locals) (rest : Code) (wv : ℕ) (wv_is : locals 1 ≡ Some wv) (ws : List ℕ) where
-    -- it goes on with the cell of what is behind, and with the part of the proxy's coercion
-    abbrev pub FoundGo : A → Coercion → Type 0
-    FoundGo a d =
-        (wa wd : ℕ) (found : Locals) (rests' : List Code) → IsHeld objects a wa
-        → CellStands walk.l objects h.memory wa ws → Held walk.l objects d wd → IsLow walk.l d → found 0 ≡ locals 0
-        → found 1 ≡ Some wa → found 2 ≡ locals 2 → found 3 ≡ locals 3 → found 4 ≡ Some (length ws) → found 5 ≡ Some wd
+  -- the word keeps the coercion of a proxy, and is 0 where there is none
+  abbrev pub KeepsCoercion : List Object → Merged A → ℕ → Type 0
+  KeepsCoercion objects (Solid a) wc = wc ≡ 0
+  KeepsCoercion objects (Proxied a c) wc = Held walk.l objects c wc × IsLow walk.l c
+  KeepsCoercion objects (Base head x) wc = ⊥
+  KeepsCoercion objects (InDyn kept u) wc = ⊥
+
+  pub behind_under : (k : ℕ) (u : Merged A) (a : A) (d : Coercion) → cell_behind k u ≡ Some (a, d) → under u ≡ Some a
+  behind_under k (Base hd x) a d e = none_some e
+  behind_under k (InDyn kept u) a d e = none_some e
+  behind_under k (Solid b) a d e =
+      let p : A × Coercion = (b, Id) in
+      let q : A × Coercion = (a, d) in
+      ap (λ z. Some z.0) (same_some p q e)
+  behind_under k (Proxied b c) a d e =
+      let q : A × Coercion = (a, d) in
+      let m = mapped (λ x. (b, x)) (cell_coercion k c) q e in
+      ap (λ z. Some z.0) m.2
+
+  module _ (B : Budget) (objects : List Object) (h : Heap) (fine : Fine walk.setting walk.l walk.around objects h)
+      (waiting : List Waiting) (rests : List Code) (locals : Locals) (rest : Code) (wv : ℕ)
+      (wv_is : locals 1 ≡ Some wv) (ws : List ℕ) where
+    -- it goes on with the cell of what is behind, and with the proxy's coercion
+    abbrev pub FoundGo : Merged A → A → Type 0
+    FoundGo u a =
+        (wa wc : ℕ) (found : Locals) (rests' : List Code) → IsHeld objects a wa
+        → CellStands walk.l objects h.memory wa ws → KeepsCoercion objects u wc → found 1 ≡ Some wa
+        → found 2 ≡ locals 2 → found 3 ≡ locals 3 → found 4 ≡ Some (length ws) → found 5 ≡ Some wc
         → ReachedIn walk B (state 6 found rest rests' waiting h)
 
     abbrev pub IsCell : A → Type 0
     IsCell a = (wa : ℕ) → IsHeld objects a wa → CellStands walk.l objects h.memory wa ws
 
     abbrev Runs : Type 0
-    Runs = ReachedIn walk (More 9 0 B) (state 6 locals (find_cell offset rest) rests waiting h)
+    Runs = ReachedIn walk (More 8 0 B) (state 6 locals (find_cell rest) rests waiting h)
 
     cell_header : (wa : ℕ) (cell : CellStands walk.l objects h.memory wa ws)
         → WordThere walk h (wa + 0) (header cell.kind 0 (length ws))
@@ -85,7 +102,7 @@ module _ {V : Type 0} (walk : Walk V) (low : walk.l.tallest ≤ 65534) (A : Type
         subst (λ m. WordThere walk h m (header cell.kind 0 (length ws))) (zero_more wa)
         (header_there walk objects h fine wa (Cell (header cell.kind 0 (length ws)) (length ws)) cell.there)
 
-    bare : (a : A) → IsHeld objects a wv → IsCell a → FoundGo a Id → Runs
+    bare : (a : A) → IsHeld objects a wv → IsCell a → FoundGo (Solid a) a → Runs
     bare a held is_cell go =
         let cell = is_cell wv held in
         let z = one_kind cell.kind cell.one in
@@ -98,21 +115,11 @@ module _ {V : Type 0} (walk : Walk V) (low : walk.l.tallest ≤ 65534) (A : Type
         (ends_branch walk objects fine
         (computes walk objects fine head0 32 (length ws) refl refl
         (count_read cell.kind 0 (length ws) (omega (arith, z.0)) (omega arith)) refl
-        (go wv 0 _ rests held cell refl (record { normal = tt; low = omega arith }) refl wv_is refl refl refl
-        refl)))))))
+        (go wv 0 _ rests held cell refl wv_is refl refl refl refl)))))))
         (omega arith, omega arith)
 
-    proxied : (a : A) (c d : Coercion) → Carried objects (Proxied a c) wv → cell_coercion k c ≡ Some d → IsCell a
-        → FoundGo a d → Runs
-    proxied a c d hv e is_cell go =
-        let z = is_part k c d e in
-        let lc : IsLow walk.l (Middle z.kind z.parts) = subst (IsLow walk.l) z.is hv.5 in
-        let hc : Held walk.l objects (Middle z.kind z.parts) hv.1 =
-        subst (λ y. Held walk.l objects y hv.1) z.is hv.4 in
-        let p = part_held walk low A IsHeld still is_solid objects z.parts hc.0 k d hc.2 z.part in
-        let ld = part_low walk low A IsHeld still is_solid z.kind z.parts k d lc z.part in
-        let headc =
-        header (kind_number z.kind) (coercion_height (height_in walk.l) (Middle z.kind z.parts)) (length hc.0) in
+    proxied : (a : A) (c : Coercion) → Carried objects (Proxied a c) wv → IsCell a → FoundGo (Proxied a c) a → Runs
+    proxied a c hv is_cell go =
         let cell = is_cell hv.0 hv.3 in
         let y = one_kind cell.kind cell.one in
         let head0 = header cell.kind 0 (length ws) in
@@ -122,25 +129,70 @@ module _ {V : Type 0} (walk : Walk V) (low : walk.l.tallest ≤ 65534) (A : Type
         (computes walk objects fine (header 2 0 2) 255 2 refl refl (kind_read 2 0 2 (omega arith)) refl
         (if_true walk objects fine 2 2 refl refl refl
         (loads walk objects fine wv (header 2 0 2) ws2 2 hv.1 wv_is hv.2 refl refl refl
-        (loads walk objects fine hv.1 headc hc.0 (suc k) p.0 refl hc.1 p.1 (omega (arith, place)) refl
         (loads walk objects fine wv (header 2 0 2) ws2 1 hv.0 wv_is hv.2 refl refl refl
         (loads_at walk objects fine hv.0 head0 refl (cell_header hv.0 cell) refl
         (ends_branch walk objects fine
         (computes walk objects fine head0 32 (length ws) refl refl
         (count_read cell.kind 0 (length ws) (omega (arith, y.0)) (omega arith)) refl
-        (go hv.0 p.0 _ rests hv.3 cell p.2 ld refl refl refl refl refl refl))))))))))
+        (go hv.0 hv.1 _ rests hv.3 cell (hv.4, hv.5) refl refl refl refl refl)))))))))
         (omega arith, omega arith)
 
-    pub found : (u : Merged A) (a : A) (d : Coercion) → cell_behind k u ≡ Some (a, d) → Carried objects u wv → IsCell a
-        → FoundGo a d → Runs
-    found (Base hd x) a d e hv is_cell go = none_some e
-    found (InDyn kept u) a d e hv is_cell go = none_some e
-    found (Solid b) a d e hv is_cell go =
+    pub found : (u : Merged A) (a : A) → under u ≡ Some a → Carried objects u wv → IsCell a → FoundGo u a → Runs
+    found (Base hd x) a e hv is_cell go = none_some e
+    found (InDyn kept u) a e hv is_cell go = none_some e
+    found (Solid b) a e hv is_cell go =
+        subst (λ z. IsCell z → FoundGo (Solid b) z → Runs) (same_some b a e) (λ c g. bare b hv c g) is_cell go
+    found (Proxied b c) a e hv is_cell go =
+        subst (λ z. IsCell z → FoundGo (Proxied b c) z → Runs) (same_some b a e) (λ y g. proxied b c hv y g) is_cell go
+
+  module _ (B : Budget) (k offset : ℕ) (place : offset ≡ 8 + 8 * k) (objects : List Object) (h : Heap)
+      (fine : Fine walk.setting walk.l walk.around objects h) (waiting : List Waiting) (rests : List Code)
+      (locals : Locals) (rest : Code) (wc : ℕ) (wc_is : locals 5 ≡ Some wc) where
+    -- it goes on with the part
+    abbrev pub PartGo : Coercion → Type 0
+    PartGo d =
+        (wd : ℕ) (found : Locals) (rests' : List Code) → Held walk.l objects d wd → IsLow walk.l d
+        → found 1 ≡ locals 1 → found 2 ≡ locals 2 → found 3 ≡ locals 3 → found 5 ≡ Some wd
+        → ReachedIn walk B (state 6 found rest rests' waiting h)
+
+    abbrev Takes : Type 0
+    Takes = ReachedIn walk (More 3 0 B) (state 6 locals (take_part offset rest) rests waiting h)
+
+    no_part : wc ≡ 0 → PartGo Id → Takes
+    no_part e go =
+        at_most walk
+        (if_true walk objects fine wc 0 wc_is refl (eq_true wc 0 e)
+        (ends_branch walk objects fine
+        (go wc locals rests e (record { normal = tt; low = omega arith }) refl refl refl wc_is)))
+        (omega arith, omega arith)
+
+    one_part : (c d : Coercion) → Held walk.l objects c wc → IsLow walk.l c → cell_coercion k c ≡ Some d → PartGo d
+        → Takes
+    one_part c d held is_low e go =
+        let z = is_part k c d e in
+        let lc : IsLow walk.l (Middle z.kind z.parts) = subst (IsLow walk.l) z.is is_low in
+        let hc : Held walk.l objects (Middle z.kind z.parts) wc =
+        subst (λ y. Held walk.l objects y wc) z.is held in
+        let p = part_held walk low A IsHeld still is_solid objects z.parts hc.0 k d hc.2 z.part in
+        let ld = part_low walk low A IsHeld still is_solid z.kind z.parts k d lc z.part in
+        let headc =
+        header (kind_number z.kind) (coercion_height (height_in walk.l) (Middle z.kind z.parts)) (length hc.0) in
+        let n = not_zero walk objects h fine wc headc hc.0 hc.1 in
+        at_most walk
+        (if_false walk objects fine wc 0 wc_is refl (eq_false wc 0 (λ f. omega (arith, f, n.0)))
+        (loads walk objects fine wc headc hc.0 (suc k) p.0 wc_is hc.1 p.1 (omega (arith, place)) refl
+        (ends_branch walk objects fine (go p.0 _ rests p.2 ld refl refl refl refl))))
+        (omega arith, omega arith)
+
+    pub part_taken : (u : Merged A) (a : A) (d : Coercion) → cell_behind k u ≡ Some (a, d)
+        → KeepsCoercion objects u wc → PartGo d → Takes
+    part_taken (Base hd x) a d e keeps go = none_some e
+    part_taken (InDyn kept u) a d e keeps go = none_some e
+    part_taken (Solid b) a d e keeps go =
         let p : A × Coercion = (b, Id) in
         let q : A × Coercion = (a, d) in
-        subst (λ z. IsCell z.0 → FoundGo z.0 z.1 → Runs) (same_some p q e) (λ c g. bare b hv c g) is_cell go
-    found (Proxied b c) a d e hv is_cell go =
+        subst (λ z. PartGo z.1 → Takes) (same_some p q e) (λ g. no_part keeps g) go
+    part_taken (Proxied b c) a d e keeps go =
         let q : A × Coercion = (a, d) in
         let m = mapped (λ x. (b, x)) (cell_coercion k c) q e in
-        subst (λ z. IsCell z.0 → FoundGo z.0 z.1 → Runs) m.2 (λ y g. proxied b c m.0 hv m.1 y g)
-        is_cell go
+        subst (λ z. PartGo z.1 → Takes) m.2 (λ g. one_part c m.0 keeps.0 keeps.1 m.1 g) go

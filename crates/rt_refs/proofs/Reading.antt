@@ -27,7 +27,7 @@ use Rattle.rt_cast.proofs.Public.{Walk, lt_true, lt_false, End, More, at_most, l
 use Rattle.rt_cast.proofs.Public.{tail_calls, ReachedIn, at_first, walk, apply, no_higher, by_cast, low_of}
 use Rattle.rt_cast.proofs.Public.{decided_cast, ends, kind_read, count_read, none_some, same_some, WordThere}
 use Rattle.rt_cast.proofs.Public.{header_there, loads}
-use Rattle.rt_refs.specs.CellCodes.{read_code, read_proc, trap_index, find_element}
+use Rattle.rt_refs.specs.CellCodes.{read_code, read_proc, trap_index, test_index, take_part, find_element}
 use Rattle.rt_refs.specs.CellLaws.{under, cell_behind, CellStands, TrapsAt, TellsAt, ComesWhere}
 use Rattle.rt_refs.proofs.CellSteps.{cell_word, in_list}
 use Rattle.rv_isa.specs.declared.inst.Cond.TheVariants.{Eq}
@@ -39,8 +39,7 @@ use Rattle.rt_cast.specs.MergedValues.{Base, Solid, Proxied, InDyn}
 use Rattle.rt_refs.proofs.CellSteps.{ends_branch}
 use Rattle.std.proofs.Common.{subst, ◌<◌, ◌∙◌}
 use Rattle.low_ir.specs.Steps.{set_local}
-use Rattle.rt_refs.proofs.Finding.{one_kind}
-use Rattle.rt_refs.proofs.Finding.{found}
+use Rattle.rt_refs.proofs.Finding.{one_kind, behind_under, found, part_taken}
 
 module _ {V : Type 0} (reading : Halt → Ending V) (setting : Setting) (l : Layout) (first : ℕ) (s : LowState)
     (exhausts : reading (Lacks Region) ≡ Exhausted) (ready : IsReady setting l first) {A : Type 0} (head : A → TypeHead)
@@ -48,83 +47,86 @@ module _ {V : Type 0} (reading : Halt → Ending V) (setting : Setting) (l : Lay
     (still : (old new : List Object) → Grows old new → (a : A) (w : ℕ) → IsHeld old a w → IsHeld new a w)
     (is_solid : (objects : List Object) (a : A) (w : ℕ) → IsHeld objects a w → IsSolid l objects w)
     (low : l.tallest ≤ 65534) (objects : List Object) (filled : Filled setting l objects (heap_of s)) (u : Merged A)
-    (wv : ℕ) (hv : CarriedBy l IsHeld objects u wv) (a : A) (d : Coercion) (behind : cell_behind 0 u ≡ Some (a, d))
-    (ws : List ℕ) (cell : (wa : ℕ) → IsHeld objects a wa → CellStands l objects s.memory wa ws) where
-  abbrev read_most : ℕ
-  read_most = cast_cost l.width l.tallest + 15
-
+    (wv : ℕ) (hv : CarriedBy l IsHeld objects u wv) (a : A) (ws : List ℕ)
+    (cell : (wa : ℕ) → IsHeld objects a wa → CellStands l objects s.memory wa ws) where
   abbrev start : ℕ → ℕ → Locals
   start which i = bind 0 (which ∷ wv ∷ i ∷ []) no_locals
 
   fine : Fine setting l (around s) objects (heap_of s)
   fine = at_first reading setting l first s exhausts ready objects filled
 
-  abbrev w : (LowState → Type 0) → Walk V
-  w Q = walk reading setting l first s exhausts ready Q (4 * l.tallest + 6) (9 * (cast_cost l.width l.tallest + 15))
+  abbrev element_code : Code
+  element_code = find_element (Load 2 (Word 2) 8 (TailCall (cast first) (Word 2 ∷ Word 5 ∷ [])))
 
   -- what is read is an element, cast as the proxy has it
-  pub elements_are_read : (which i word : ℕ) → (which == 2) ≡ false → slice_get ws i ≡ Some word → (x : Merged A)
-      → CarriedBy l IsHeld objects x word → (r : Outcome A) → cast_value head l.types d x ≡ r → (r ≡ Stuck → ⊥)
+  pub reads : (d : Coercion) → cell_behind 0 u ≡ Some (a, d) → (which i word : ℕ) → (which == 2) ≡ false
+      → slice_get ws i ≡ Some word → (x : Merged A) → CarriedBy l IsHeld objects x word → (r : Outcome A)
+      → cast_value head l.types d x ≡ r → (r ≡ Stuck → ⊥)
       → ComesWhere reading setting l s (read_proc (cast first)) (which ∷ wv ∷ i ∷ [])
-      (ComesTo l setting s IsHeld objects r) read_most (4 * l.tallest + 6)
-  elements_are_read which i word other got x hx r e some =
+      (ComesTo l setting s IsHeld objects r) (cast_cost l.width l.tallest + 17) (4 * l.tallest + 6)
+  reads d behind which i word other got x hx r e some =
       let z = begun in
       (z.steps, (let g = z.few in omega arith), z.reach (record { room = omega arith; left = omega arith }))
     where
       v : Walk V
-      v = w (ComesTo l setting s IsHeld objects r)
+      v = walk reading setting l first s exhausts ready (ComesTo l setting s IsHeld objects r) (4 * l.tallest + 6)
+          (9 * (cast_cost l.width l.tallest + 17))
 
-      begun : ReachedIn v (More (cast_cost l.width l.tallest + 15) (4 * l.tallest + 6) End)
+      inside : i < length ws
+      inside = in_list ws i word got
+
+      begun : ReachedIn v (More (cast_cost l.width l.tallest + 17) (4 * l.tallest + 6) End)
           (st (around s) 6 (start which i) (read_code (cast first)) [] s.waiting (heap_of s))
       begun =
           at_most v
           (if_false v objects fine which 2 refl refl other
-          (found v low A IsHeld still is_solid head (More (cast_cost l.width l.tallest + 5) (4 * l.tallest + 6) End) 0 8
-          refl objects (heap_of s) fine s.waiting _ (start which i)
-          (find_element (Load 2 (Word 2) 8 (TailCall (cast first) (Word 2 ∷ Word 5 ∷ [])))) wv refl ws u a d behind hv
-          cell
-          (λ wa wd found rests ha cell_is hd ld e0 e1 e2 e3 e4 e5.
-          let inside = in_list ws i word got in
+          (found v low A IsHeld still is_solid (More (cast_cost l.width l.tallest + 8) (4 * l.tallest + 6) End) objects
+          (heap_of s) fine s.waiting _ (start which i) (test_index (take_part 8 element_code)) wv refl ws u a
+          (behind_under v low A IsHeld still is_solid 0 u a d behind) hv cell
+          (λ wa wc found rests ha cell_is keeps e1 e2 e3 e4 e5.
           let there = cell_word v objects (heap_of s) fine wa (header cell_is.kind 0 (length ws)) ws cell_is.there
           cell_is.held i word (wa + 8 * i + 8) got refl in
+          at_most v
+          (if_true v objects fine i (length ws) e2 e4 (lt_true i (length ws) inside)
+          (part_taken v low A IsHeld still is_solid (More (cast_cost l.width l.tallest + 4) (4 * l.tallest + 6) End) 0 8
+          refl objects (heap_of s) fine s.waiting _ found element_code wc e5 u a d behind keeps
+          (λ wd taken rests' hd ld f1 f2 f3 f5.
           let below = no_higher v low A IsHeld still is_solid d ld in
           let is = decided_cast l ready.types head d ld.normal below x
           (low_of l ready.types head IsHeld objects x word hx) r some e in
           at_most v
-          (if_true v objects fine i (length ws) e2 e4 (lt_true i (length ws) inside)
-          (computes v objects fine i 3 (8 * i) e2 refl (let q = there.end in omega (arith, q)) refl
-          (computes v objects fine (8 * i) wa (wa + 8 * i) refl e1 (let q = there.end in omega (arith, q)) refl
+          (computes v objects fine i 3 (8 * i) (f2 ∙ e2) refl (let q = there.end in omega (arith, q)) refl
+          (computes v objects fine (8 * i) wa (wa + 8 * i) refl (f1 ∙ e1) (let q = there.end in omega (arith, q)) refl
           (loads_at v objects fine (wa + 8 * i) word refl there refl
           (tail_calls v objects fine (word ∷ wd ∷ []) (cast_proc first)
-          (ap (λ o. and_more (Some word) (and_more o (Some []))) e5) (v.stands 2 _ refl) refl
+          (ap (λ o. and_more (Some word) (and_more o (Some []))) f5) (v.stands 2 _ refl) refl
           (by_cast v low A IsHeld still is_solid d ld.normal below x End objects (heap_of s) fine s.waiting word wd hx hd
           (ends reading setting l first s exhausts ready head IsHeld still is_solid low objects r some
-          (4 * l.tallest + 6) (9 * (cast_cost l.width l.tallest + 15)) (apply (rows_in l) l.tallest d x) is)))))))
+          (4 * l.tallest + 6) (9 * (cast_cost l.width l.tallest + 17)) (apply (rows_in l) l.tallest d x) is))))))
+          (omega arith, omega arith))))
           (omega arith, omega arith))))
           (omega arith, omega arith)
 
-  -- an index outside traps
-  pub indices_outside_trap : (which i : ℕ) → (which == 2) ≡ false → length ws ≤ i
+  -- an index outside traps, whatever the proxy's coercion is
+  pub outside_reads : under u ≡ Some a → (which i : ℕ) → (which == 2) ≡ false → length ws ≤ i
       → ComesWhere reading setting l s (read_proc (cast first)) (which ∷ wv ∷ i ∷ [])
-      (TrapsAt reading setting l s Index) read_most (4 * l.tallest + 6)
+      (TrapsAt reading setting l s Index) 10 0
   unfolding environment_call
-  indices_outside_trap which i other outside =
+  outside_reads stands which i other outside =
       let z = begun in
       (z.steps, (let g = z.few in omega arith), z.reach (record { room = omega arith; left = omega arith }))
     where
       v : Walk V
-      v = w (TrapsAt reading setting l s Index)
+      v = walk reading setting l first s exhausts ready (TrapsAt reading setting l s Index) 0 (9 * 10)
 
-      begun : ReachedIn v (More (cast_cost l.width l.tallest + 15) (4 * l.tallest + 6) End)
+      begun : ReachedIn v (More 10 0 End)
           (st (around s) 6 (start which i) (read_code (cast first)) [] s.waiting (heap_of s))
       begun =
           at_most v
           (if_false v objects fine which 2 refl refl other
-          (found v low A IsHeld still is_solid head (More 1 0 End) 0 8
-          refl objects (heap_of s) fine s.waiting _ (start which i)
-          (find_element (Load 2 (Word 2) 8 (TailCall (cast first) (Word 2 ∷ Word 5 ∷ [])))) wv refl ws u a d behind hv
-          cell
-          (λ wa wd found rests ha cell_is hd ld e0 e1 e2 e3 e4 e5.
+          (found v low A IsHeld still is_solid (More 1 0 End) objects (heap_of s) fine s.waiting _ (start which i)
+          (test_index (take_part 8 element_code)) wv refl ws u a stands hv cell
+          (λ wa wc found rests ha cell_is keeps e1 e2 e3 e4 e5.
           let last : (rests' : List Code)
           → ReachedIn v End (st (around s) 6 found trap_index rests' s.waiting (heap_of s)) = λ rests'. record {
             steps = 0;
@@ -182,12 +184,12 @@ module _ {V : Type 0} (reading : Halt → Ending V) (setting : Setting) (l : Lay
       subst (λ m. WordThere q (heap_of s) m (header cell.kind 0 (length ws))) z
       (header_there q objects (heap_of s) fine_here wa (Cell (header cell.kind 0 (length ws)) (length ws)) cell.there)
 
-  pub lengths_are_told : (u : Merged A) (wv : ℕ) → CarriedBy l IsHeld objects u wv → (a : A) → under u ≡ Some a
+  pub lengths : (u : Merged A) (wv : ℕ) → CarriedBy l IsHeld objects u wv → (a : A) → under u ≡ Some a
       → ((wa : ℕ) → IsHeld objects a wa → CellStands l objects s.memory wa ws) → (i : ℕ)
       → ComesWhere reading setting l s (read_proc (cast first)) (2 ∷ wv ∷ i ∷ []) Tells 8 0
-  lengths_are_told (Base hd x) wv hv a e cell i = none_some e
-  lengths_are_told (InDyn kept x) wv hv a e cell i = none_some e
-  lengths_are_told (Solid b) wv hv a e cell i =
+  lengths (Base hd x) wv hv a e cell i = none_some e
+  lengths (InDyn kept x) wv hv a e cell i = none_some e
+  lengths (Solid b) wv hv a e cell i =
       let here = cell wv (subst (λ x. IsHeld objects x wv) (same_some b a e) hv) in
       let z = one_kind here.kind here.one in
       let head0 = header here.kind 0 (length ws) in
@@ -201,7 +203,7 @@ module _ {V : Type 0} (reading : Halt → Ending V) (setting : Setting) (l : Lay
       (ends_branch q objects fine_here (told wv _ _ here head0 here.kind refl z.0 refl))))))
       (omega arith, omega arith) in
       (r.steps, (let g = r.few in omega arith), r.reach (record { room = omega arith; left = omega arith }))
-  lengths_are_told (Proxied b c) wv hv a e cell i =
+  lengths (Proxied b c) wv hv a e cell i =
       let here = cell hv.0 (subst (λ x. IsHeld objects x hv.0) (same_some b a e) hv.3) in
       let z = one_kind here.kind here.one in
       let head0 = header here.kind 0 (length ws) in

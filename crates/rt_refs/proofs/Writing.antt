@@ -1,6 +1,6 @@
 -- What write comes to, from a state in which whole objects fill the region.
 use Rattle.std.proofs.Common.{◌≡◌, inl, inr, ℕ, ◌+◌, ◌*◌, ◌^◌, ◌<◌, ◌≤◌}
-use Rattle.std.proofs.Common.{List, [], ◌∷◌, length, Some, refl, sym, ap, ap₂, subst, arith, le_refl}
+use Rattle.std.proofs.Common.{List, [], ◌∷◌, length, Some, refl, sym, ap, ap₂, ◌∙◌, subst, arith, le_refl}
 use Rattle.std.specs.Prelude.{slice_get}
 use Rattle.grift_base.specs.Types.{TypeHead}
 use Rattle.grift_base.specs.EnvironmentCall.{environment_call}
@@ -26,8 +26,8 @@ use Rattle.rt_cast.specs.MergedValues.{Merged, Outcome, Stuck, Gives, Blames, ca
 use Rattle.rt_cast.specs.Carried.{CarriedBy}
 use Rattle.rt_cast.proofs.Public.{Walk, lt_true, lt_false, End, More, at_most, computes, if_true, if_false, calls}
 use Rattle.rt_cast.proofs.Public.{ReachedIn, at_first, walk}
-use Rattle.rt_refs.specs.CellCodes.{write_code, write_proc, trap_index}
-use Rattle.rt_refs.specs.CellLaws.{cell_behind, CellStands, CellInRegion, TrapsAt, WriteComes}
+use Rattle.rt_refs.specs.CellCodes.{write_code, write_proc, trap_index, test_index, take_part, find_element}
+use Rattle.rt_refs.specs.CellLaws.{cell_behind, under, CellStands, CellInRegion, TrapsAt, WriteComes}
 use Rattle.rt_refs.specs.CellLaws.{OnTheWayWriting, ComesWhere, ComesWriting}
 use Rattle.rt_refs.proofs.CellSteps.{in_list, stores, may_be_stored, holds_stored, holds_same}
 use Rattle.rt_refs.proofs.Calling.{cast_behind, Goes}
@@ -36,7 +36,7 @@ use Rattle.rv_machine.proofs.Public.{stored_outside}
 use Rattle.coercion_norm.proofs.Public.{found_within, object_kept}
 use Rattle.coercion_norm.specs.Objects.{Cell, object_at}
 use Rattle.rv_isa.specs.declared.inst.Cond.TheVariants.{Ltu}
-use Rattle.rt_refs.proofs.Finding.{found}
+use Rattle.rt_refs.proofs.Finding.{behind_under, found, part_taken}
 
 module _ {V : Type 0} (reading : Halt → Ending V) (setting : Setting) (l : Layout) (first : ℕ) (s : LowState)
     (exhausts : reading (Lacks Region) ≡ Exhausted) (ready : IsReady setting l first) {A : Type 0} (head : A → TypeHead)
@@ -45,11 +45,8 @@ module _ {V : Type 0} (reading : Halt → Ending V) (setting : Setting) (l : Lay
     (is_solid : (objects : List Object) (a : A) (w : ℕ) → IsHeld objects a w → IsSolid l objects w)
     (low : l.tallest ≤ 65534) (begins : l.region ≡ setting.region) (objects : List Object)
     (filled : Filled setting l objects (heap_of s)) (u : Merged A) (wv : ℕ) (hv : CarriedBy l IsHeld objects u wv)
-    (a : A) (d : Coercion) (behind : cell_behind 1 u ≡ Some (a, d)) (ws : List ℕ)
+    (a : A) (ws : List ℕ)
     (cell : (wa : ℕ) → IsHeld objects a wa → CellInRegion l objects s.memory wa ws) where
-  abbrev write_most : ℕ
-  write_most = cast_cost l.width l.tallest + 15
-
   abbrev start : ℕ → ℕ → ℕ → Locals
   start which i word = bind 0 (which ∷ wv ∷ i ∷ word ∷ []) no_locals
 
@@ -67,10 +64,10 @@ module _ {V : Type 0} (reading : Halt → Ending V) (setting : Setting) (l : Lay
     setting = setting;
     l = l;
     around = around s;
-    P = OnTheWayWriting setting l s (4 * l.tallest + 7) (9 * (cast_cost l.width l.tallest + 15));
+    P = OnTheWayWriting setting l s (4 * l.tallest + 7) (9 * (cast_cost l.width l.tallest + 17));
     Q = Q;
     frames = length s.waiting + (4 * l.tallest + 7);
-    most = s.words + 9 * (cast_cost l.width l.tallest + 15);
+    most = s.words + 9 * (cast_cost l.width l.tallest + 17);
     calm = λ active waiting h objects fine turns few asked. record {
       objects = objects;
       filled = fine.filled;
@@ -86,14 +83,11 @@ module _ {V : Type 0} (reading : Halt → Ending V) (setting : Setting) (l : Lay
     types = ready.types;
   }
 
-  abbrev rest_code : Code
-  rest_code =
-      either Ltu (Word 2) (Word 4) (
-      Call 3 (cast first) (Word 3 ∷ Word 5 ∷ []) (
-      Compute Sll 2 (Word 2) (Number 3) (
-      Compute Add 2 (Word 2) (Word 1) (
-      Store (Word 3) (Word 2) 8 (Return (Number 0)))))
-      ) trap_index
+  abbrev store_code : Code
+  store_code = find_element (Store (Word 3) (Word 2) 8 (Return (Number 0)))
+
+  abbrev part_code : Code
+  part_code = take_part 16 (Call 3 (cast first) (Word 3 ∷ Word 5 ∷ []) store_code)
 
   module _ (i : ℕ) (inside : i < length ws) (r : Outcome A) (y : Merged A) (q : r ≡ Gives y) (new : List Object)
       (h' : Heap) (word' : ℕ) (grows : Grows objects new)
@@ -157,10 +151,7 @@ module _ {V : Type 0} (reading : Halt → Ending V) (setting : Setting) (l : Lay
     }
 
     stored : (locals : Locals) (rests : List Code) → locals 1 ≡ Some wa → locals 2 ≡ Some i → locals 3 ≡ Some word'
-        → ReachedIn w (More 3 0 End) (st (around s) 6 locals (
-        Compute Sll 2 (Word 2) (Number 3) (
-        Compute Add 2 (Word 2) (Word 1) (
-        Store (Word 3) (Word 2) 8 (Return (Number 0))))) rests s.waiting h')
+        → ReachedIn w (More 3 0 End) (st (around s) 6 locals store_code rests s.waiting h')
     stored locals rests e1 e2 e3 =
         let z = found_within new l.region wa _ place in
         let even = z.even ready.placed.even_region in
@@ -177,11 +168,12 @@ module _ {V : Type 0} (reading : Halt → Ending V) (setting : Setting) (l : Lay
         (omega arith, omega arith)
 
   -- what is written is stored, as the proxy casts it, or a label is blamed
-  pub elements_are_written : (which i word old : ℕ) → slice_get ws i ≡ Some old → (x : Merged A)
-      → CarriedBy l IsHeld objects x word → (r : Outcome A) → cast_value head l.types d x ≡ r → (r ≡ Stuck → ⊥)
+  pub writes : (d : Coercion) → cell_behind 1 u ≡ Some (a, d) → (which i word old : ℕ) → slice_get ws i ≡ Some old
+      → (x : Merged A) → CarriedBy l IsHeld objects x word → (r : Outcome A) → cast_value head l.types d x ≡ r
+      → (r ≡ Stuck → ⊥)
       → ComesWriting reading setting l s (write_proc (cast first)) (which ∷ wv ∷ i ∷ word ∷ [])
-      (WriteComes setting l s IsHeld objects a i r) write_most (4 * l.tallest + 7)
-  elements_are_written which i word old got x hx r e some =
+      (WriteComes setting l s IsHeld objects a i r) (cast_cost l.width l.tallest + 17) (4 * l.tallest + 7)
+  writes d behind which i word old got x hx r e some =
       let z = begun in
       (z.steps, (let g = z.few in omega arith), z.reach (record { room = omega arith; left = omega arith }))
     where
@@ -215,54 +207,51 @@ module _ {V : Type 0} (reading : Halt → Ending V) (setting : Setting) (l : Lay
             });
       }
 
-      begun : ReachedIn v (More (cast_cost l.width l.tallest + 15) (4 * l.tallest + 7) End)
+      begun : ReachedIn v (More (cast_cost l.width l.tallest + 17) (4 * l.tallest + 7) End)
           (st (around s) 6 (start which i word) (write_code (cast first)) [] s.waiting (heap_of s))
       begun =
           at_most v
-          (found v low A IsHeld still is_solid head (More (cast_cost l.width l.tallest + 6) (4 * l.tallest + 7) End) 1 16
-          refl objects (heap_of s) fine s.waiting [] (start which i word) rest_code wv refl ws u a d behind hv
-          cell_stands
-          (λ wa wd found rests ha cell_is hd ld e0 e1 e2 e3 e4 e5.
+          (found v low A IsHeld still is_solid (More (cast_cost l.width l.tallest + 9) (4 * l.tallest + 7) End) objects
+          (heap_of s) fine s.waiting [] (start which i word) (test_index part_code) wv refl ws u a
+          (behind_under v low A IsHeld still is_solid 1 u a d behind) hv cell_stands
+          (λ wa wc found rests ha cell_is keeps e1 e2 e3 e4 e5.
           at_most v
           (if_true v objects fine i (length ws) e2 e4 (lt_true i (length ws) inside)
+          (part_taken v low A IsHeld still is_solid (More (cast_cost l.width l.tallest + 5) (4 * l.tallest + 7) End) 1
+          16 refl objects (heap_of s) fine s.waiting _ found (Call 3 (cast first) (Word 3 ∷ Word 5 ∷ []) store_code) wc
+          e5 u a d behind keeps
+          (λ wd taken rests' hd ld f1 f2 f3 f5.
+          at_most v
           (calls v objects fine (word ∷ wd ∷ []) (cast_proc first)
-          (ap₂ and_more e3 (ap (λ o. and_more o (Some [])) e5)) (v.stands 2 _ refl) refl
+          (ap₂ and_more (f3 ∙ e3) (ap (λ o. and_more o (Some [])) f5)) (v.stands 2 _ refl) refl
           (cast_behind v low A IsHeld still is_solid head End (More 3 0 End) objects (heap_of s) fine s.waiting
-          (record {
-            count = 6;
-            locals = found;
-            code =
-                Compute Sll 2 (Word 2) (Number 3) (
-                Compute Add 2 (Word 2) (Word 1) (
-                Store (Word 3) (Word 2) 8 (Return (Number 0))));
-            rests = _;
-          }) 3 refl d ld x word wd hx hd r e some
-          (λ y q new h' word' grows fine' hy. stored i inside r y q new h' word' grows fine' hy wa ha _ _ e1 e2 refl)
-          blames)))
+          (record { count = 6; locals = taken; code = store_code; rests = rests' }) 3 refl d ld x word wd hx hd r e some
+          (λ y q new h' word' grows fine' hy.
+          stored i inside r y q new h' word' grows fine' hy wa ha _ _ (f1 ∙ e1) (f2 ∙ e2) refl)
+          blames))
+          (omega arith, omega arith))))
           (omega arith, omega arith)))
           (omega arith, omega arith)
 
-  -- an index outside traps, before anything is cast
-  pub writes_outside_trap : (which i word : ℕ) → length ws ≤ i
+  -- an index outside traps, whatever the proxy's coercion is, and before anything is cast
+  pub outside_writes : under u ≡ Some a → (which i word : ℕ) → length ws ≤ i
       → ComesWhere reading setting l s (write_proc (cast first)) (which ∷ wv ∷ i ∷ word ∷ [])
-      (TrapsAt reading setting l s Index) write_most (4 * l.tallest + 6)
+      (TrapsAt reading setting l s Index) 9 0
   unfolding environment_call
-  writes_outside_trap which i word outside =
+  outside_writes stands which i word outside =
       let z = begun in
       (z.steps, (let g = z.few in omega arith), z.reach (record { room = omega arith; left = omega arith }))
     where
       v : Walk V
-      v = walk reading setting l first s exhausts ready (TrapsAt reading setting l s Index)
-          (4 * l.tallest + 6) (9 * (cast_cost l.width l.tallest + 15))
+      v = walk reading setting l first s exhausts ready (TrapsAt reading setting l s Index) 0 (9 * 9)
 
-      begun : ReachedIn v (More (cast_cost l.width l.tallest + 15) (4 * l.tallest + 6) End)
+      begun : ReachedIn v (More 9 0 End)
           (st (around s) 6 (start which i word) (write_code (cast first)) [] s.waiting (heap_of s))
       begun =
           at_most v
-          (found v low A IsHeld still is_solid head (More 1 0 End) 1 16
-          refl objects (heap_of s) fine s.waiting [] (start which i word) rest_code wv refl ws u a d behind hv
-          cell_stands
-          (λ wa wd found rests ha cell_is hd ld e0 e1 e2 e3 e4 e5.
+          (found v low A IsHeld still is_solid (More 1 0 End) objects (heap_of s) fine s.waiting []
+          (start which i word) (test_index part_code) wv refl ws u a stands hv cell_stands
+          (λ wa wc found rests ha cell_is keeps e1 e2 e3 e4 e5.
           let last : (rests' : List Code)
           → ReachedIn v End (st (around s) 6 found trap_index rests' s.waiting (heap_of s)) = λ rests'. record {
             steps = 0;
