@@ -29,16 +29,11 @@ use Rattle.rt_cast.proofs.Public.{Walk, none_some, End, More, at_most, loads, ta
 use Rattle.rt_cast.proofs.Public.{at_first, walk, apply, ends, no_higher, by_cast, low_of, decided_cast}
 use Rattle.rt_cast.specs.Procs.{cast_proc}
 use Rattle.rt_refs.specs.Arguments.{Arguments, NoArguments, AllGive, OneBlames, in_front, then_others, arguments_cast}
-use Rattle.rt_refs.specs.Arguments.{word_at}
+use Rattle.rt_refs.specs.Arguments.{handed}
 use Rattle.rt_refs.specs.CallCodes.{argument_words, unwrap_code, call_function, apply_proc}
-use Rattle.rt_refs.specs.CallLaws.{apply_cost, Resumes, CallComes, ComesToCall}
+use Rattle.rt_refs.specs.CallLaws.{apply_cost, Resumes, CallComes, ComesToCall, GoesOnTo}
 use Rattle.rt_refs.proofs.Calling.{Goes, Has, has_words, word_here, word_other, has_below, Casts, casts_of}
 use Rattle.rt_refs.proofs.Calling.{part_held, part_low, Ready, arguments_done}
-
--- the words that apply is handed
-abbrev pub handed : ℕ → List ℕ → List ℕ
-handed wv ws =
-    wv ∷ word_at ws 0 ∷ word_at ws 1 ∷ word_at ws 2 ∷ word_at ws 3 ∷ word_at ws 4 ∷ word_at ws 5 ∷ length ws ∷ []
 
 pub found_in : (wv wa wc address : ℕ) (ws : List ℕ) → length ws ≤ 6
     → Has (set_local 10 address (set_local 9 wc (set_local 8 wa (bind 0 (handed wv ws) no_locals)))) 0 ws
@@ -228,32 +223,29 @@ module _ {V : Type 0} (reading : Halt → Ending V) (setting : Setting) (l : Lay
           (omega arith, omega arith)
 
   -- a function with a proxy: it is about to be entered, with its arguments cast, or a label is blamed
-  pub calls_are_made : l.tallest ≤ 65534 → (objects : List Object) → Filled setting l objects (heap_of s) → (f : A)
+  pub calls_through_proxies : l.tallest ≤ 65534 → (objects : List Object) → Filled setting l objects (heap_of s) → (f : A)
       (c : Coercion) (ds : List Coercion) (e : Coercion) → function_parts c ≡ Some (ds, e)
       → (us : List (Merged A)) (wv : ℕ) (ws : List ℕ) → CarriedBy l IsHeld objects (Proxied f c) wv
       → AreCarried l IsHeld objects us ws → length us ≤ 6 → (address : ℕ) → HasAddress objects f address
       → (r : Arguments A) → arguments_cast heads l.types 0 ds us ≡ r → (r ≡ NoArguments → ⊥)
       → ComesToCall reading setting l first s IsHeld objects (apply_proc (cast first)) (handed wv ws) f address e r
       (many (length us)) (4 * l.tallest + 7)
-  calls_are_made low objects filled f Id ds e split = none_some split
-  calls_are_made low objects filled f (Fail label) ds e split = none_some split
-  calls_are_made low objects filled f (Inject g kept) ds e split = none_some split
-  calls_are_made low objects filled f (Project wanted label i) ds e split = none_some split
-  calls_are_made low objects filled f (Middle TupKind parts) ds e split = none_some split
-  calls_are_made low objects filled f (Middle RefKind parts) ds e split = none_some split
-  calls_are_made low objects filled f (Middle VecKind parts) ds e split = none_some split
-  calls_are_made low objects filled f (Middle FunKind parts) ds e split = function_called low objects filled f parts ds e
+  calls_through_proxies low objects filled f Id ds e split = none_some split
+  calls_through_proxies low objects filled f (Fail label) ds e split = none_some split
+  calls_through_proxies low objects filled f (Inject g kept) ds e split = none_some split
+  calls_through_proxies low objects filled f (Project wanted label i) ds e split = none_some split
+  calls_through_proxies low objects filled f (Middle TupKind parts) ds e split = none_some split
+  calls_through_proxies low objects filled f (Middle RefKind parts) ds e split = none_some split
+  calls_through_proxies low objects filled f (Middle VecKind parts) ds e split = none_some split
+  calls_through_proxies low objects filled f (Middle FunKind parts) ds e split = function_called low objects filled f parts ds e
       split
 
   -- the answer of the function is in its place, and is cast
-  pub answers_are_cast : l.tallest ≤ 65534 → (objects : List Object) → Filled setting l objects (heap_of s)
+  pub answers_cast : l.tallest ≤ 65534 → (objects : List Object) → Filled setting l objects (heap_of s)
       → (head : A → TypeHead) (w : Waiting) (c : Coercion) → Resumes l first objects w c → (u : Merged A) (wv : ℕ)
       → CarriedBy l IsHeld objects u wv → (r : Outcome A) → cast_value head l.types c u ≡ r → (r ≡ Stuck → ⊥)
-      → (k : ℕ) × (k ≤ cast_cost l.width l.tallest + 1)
-      × Reaches (low_machine reading setting)
-      (OnTheWay setting l s (4 * l.tallest + 6) (9 * (cast_cost l.width l.tallest + 1)))
-      (ComesTo l setting s IsHeld objects r) k (record s { active = with_local w.answer wv w.rest })
-  answers_are_cast low objects filled head w c resumes u wv hv r e some =
+      → GoesOnTo reading setting l s IsHeld objects w wv r (cast_cost l.width l.tallest + 1) (4 * l.tallest + 6)
+  answers_cast low objects filled head w c resumes u wv hv r e some =
       let z = begun in
       (z.steps, (let g = z.few in omega arith), z.reach (record { room = omega arith; left = omega arith }))
     where

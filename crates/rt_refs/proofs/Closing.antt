@@ -30,8 +30,8 @@ module _ (procs : List Proc) (first cast : ℕ) (s : Stand procs first cast) (c 
   loop_closed : proc_closed procs (fill_loop (4 + first)) ≡ true
   loop_closed = rw (s 4 _ refl) refl
 
-  pub procedures_are_closed : each_closed procs (proxy_procs first cast) ≡ true
-  procedures_are_closed =
+  pub procedures_are_closed-closed : each_closed procs (proxy_procs first cast) ≡ true
+  procedures_are_closed-closed =
       and_so _ _ apply_closed (and_so _ _ read_closed (and_so _ _ write_closed (and_so _ _ fill_closed
       (and_so _ _ loop_closed products))))
     where

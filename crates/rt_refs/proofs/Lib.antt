@@ -6,6 +6,7 @@ mod Finding
 mod Reading
 mod Writing
 mod Filling
+mod OverObjects
 mod Closing
 mod ArgumentWords
 mod Samples
