@@ -4,13 +4,11 @@ use Rattle.std.proofs.Common.{List, [], ◌∷◌, length, Some, refl, sym, ap, 
 use Rattle.std.proofs.Common.{le_refl}
 use Rattle.grift_base.specs.Types.{TypeHead, TypeRows}
 use Rattle.run_laws.specs.Runs.{Ending, Exhausted}
-use Rattle.run_laws.specs.Machines.{Reaches}
 use Rattle.rv_machine.specs.State.{Halt, Lacks, Region}
 use Rattle.low_ir.specs.declared.code.LowSource.TheVariants.{Word}
 use Rattle.low_ir.specs.Procedures.{CallAt, TailCall, Environment}
 use Rattle.low_ir.specs.Steps.{Locals, no_locals, set_local}
 use Rattle.low_ir.specs.Run.{Setting, Waiting, LowState, words_of, and_more, bind}
-use Rattle.low_ir.specs.Run.{with_local, low_machine}
 use Rattle.coercion_norm.specs.Coercions.{Coercion, Coercions, Id, Fail, Middle, Inject, Project}
 use Rattle.coercion_norm.specs.declared.middles.MiddleKind.TheVariants.{Fun as FunKind, Tup as TupKind}
 use Rattle.coercion_norm.specs.declared.middles.MiddleKind.TheVariants.{Ref as RefKind, Vec as VecKind}
@@ -22,7 +20,7 @@ use Rattle.coercion_norm.specs.ObjectsOfRows.{header}
 use Rattle.rt_cast.specs.WholeObjects.{IsSolid}
 use Rattle.rt_cast.specs.Costs.{cast_cost}
 use Rattle.rt_cast.specs.ComposeCodes.{cast}
-use Rattle.rt_cast.specs.States.{Grows, Fine, Filled, IsReady, OnTheWay, around, heap_of, st}
+use Rattle.rt_cast.specs.States.{Grows, Fine, Filled, IsReady, around, heap_of, st}
 use Rattle.rt_cast.specs.MergedValues.{Merged, Proxied, Outcome, Stuck, Gives, Blames, cast_value}
 use Rattle.rt_cast.specs.Carried.{CarriedBy, AreCarried, IsLow, ComesTo}
 use Rattle.rt_cast.proofs.Public.{Walk, none_some, End, More, at_most, loads, tail_calls, ReachedIn, held_still}
@@ -65,7 +63,8 @@ others_give Stuck r vs e = absurd (let z : ⊥ = cc in z)
 others_give (Gives v) r vs e = in_front_gives v r vs e
 others_give (Blames label) r vs e = absurd (let z : ⊥ = cc in z)
 
-pub as_many_casts : {A : Type 0} (head : ℕ → A → TypeHead) (types : TypeRows) (k : ℕ) (ds : List Coercion) (us vs : List (Merged A))
+pub as_many_casts : {A : Type 0} (head : ℕ → A → TypeHead) (types : TypeRows) (k : ℕ) (ds : List Coercion)
+    (us vs : List (Merged A))
     → arguments_cast head types k ds us ≡ AllGive vs → length ds ≡ length us
 as_many_casts head types k [] [] vs e = refl
 as_many_casts head types k [] (u ∷ us) vs e = absurd (let z : ⊥ = cc in z)
@@ -223,7 +222,8 @@ module _ {V : Type 0} (reading : Halt → Ending V) (setting : Setting) (l : Lay
           (omega arith, omega arith)
 
   -- a function with a proxy: it is about to be entered, with its arguments cast, or a label is blamed
-  pub calls_through_proxies : l.tallest ≤ 65534 → (objects : List Object) → Filled setting l objects (heap_of s) → (f : A)
+  pub calls_through_proxies : l.tallest ≤ 65534 → (objects : List Object) → Filled setting l objects (heap_of s)
+      → (f : A)
       (c : Coercion) (ds : List Coercion) (e : Coercion) → function_parts c ≡ Some (ds, e)
       → (us : List (Merged A)) (wv : ℕ) (ws : List ℕ) → CarriedBy l IsHeld objects (Proxied f c) wv
       → AreCarried l IsHeld objects us ws → length us ≤ 6 → (address : ℕ) → HasAddress objects f address
@@ -237,7 +237,8 @@ module _ {V : Type 0} (reading : Halt → Ending V) (setting : Setting) (l : Lay
   calls_through_proxies low objects filled f (Middle TupKind parts) ds e split = none_some split
   calls_through_proxies low objects filled f (Middle RefKind parts) ds e split = none_some split
   calls_through_proxies low objects filled f (Middle VecKind parts) ds e split = none_some split
-  calls_through_proxies low objects filled f (Middle FunKind parts) ds e split = function_called low objects filled f parts ds e
+  calls_through_proxies low objects filled f (Middle FunKind parts) ds e split = function_called low objects filled f
+      parts ds e
       split
 
   -- the answer of the function is in its place, and is cast
@@ -270,7 +271,8 @@ module _ {V : Type 0} (reading : Halt → Ending V) (setting : Setting) (l : Lay
           (heap_of s))
       begun =
           let below = no_higher v low A IsHeld still is_solid c resumes.low in
-          let is = decided_cast l ready.types head c lc.normal below u (low_of l ready.types head IsHeld objects u wv hv)
+          let is = decided_cast l ready.types head c lc.normal below u (low_of l ready.types head IsHeld
+          objects u wv hv)
           r some e in
           subst (λ code. ReachedIn v (More (cast_cost l.width l.tallest + 1) (4 * l.tallest + 6) End)
           (st (around s) w.rest.count (set_local w.answer wv w.rest.locals) code w.rest.rests s.waiting (heap_of s)))

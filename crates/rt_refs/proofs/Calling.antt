@@ -115,7 +115,8 @@ part_in high (CoercionThen c cs) zero d e =
     let s = ap (coercion_height high) (same_some c d e) in omega (arith, s)
 part_in high (CoercionThen c cs) (suc k) d e = let z = part_in high cs k d e in omega (arith, z)
 
-pub part_normal : (rows : ℕ → TypeRow) (cs : Coercions) (k : ℕ) (d : Coercion) → AreNormal rows cs → part_at cs k ≡ Some d
+pub part_normal : (rows : ℕ → TypeRow) (cs : Coercions) (k : ℕ) (d : Coercion) → AreNormal rows cs
+    → part_at cs k ≡ Some d
     → IsNormal rows d
 part_normal rows NoCoercions k d h e = none_some e
 part_normal rows (CoercionThen c cs) zero d h e = subst (IsNormal rows) (same_some c d e) h.0
@@ -171,7 +172,8 @@ module _ {V : Type 0} (walk : Walk V) (low : walk.l.tallest ≤ 65534) (A : Type
   }
 
   -- a cast made by a procedure that goes on behind it
-  pub cast_behind : (head : A → TypeHead) (B D : Budget) (objects : List Object) (h : Heap) (fine : Fi objects h) (waiting : List Waiting)
+  pub cast_behind : (head : A → TypeHead) (B D : Budget) (objects : List Object) (h : Heap) (fine : Fi objects h)
+      (waiting : List Waiting)
       (rest : Active) (d : ℕ) → nat_lt d rest.count ≡ true → (c : Coercion) → IsLow walk.l c → (u : Merged A)
       (wv wc : ℕ) → Carried objects u wv → Held walk.l objects c wc
       → (r : Outcome A) → cast_value head walk.l.types c u ≡ r → (r ≡ Stuck → ⊥)
@@ -224,7 +226,8 @@ module _ {V : Type 0} (walk : Walk V) (low : walk.l.tallest ≤ 65534) (A : Type
   all_carried_still old new g (u ∷ us) (w ∷ ws) h =
       (carried_still walk low A IsHeld still is_solid old new g u w h.0, all_carried_still old new g us ws h.1)
 
-  module _ (head : ℕ → A → TypeHead) (last : ℕ → Code) (parts : Coercions) (whole : IsLow walk.l (Middle FunKind parts)) (result : Coercion)
+  module _ (head : ℕ → A → TypeHead) (last : ℕ → Code) (parts : Coercions) (whole : IsLow walk.l (Middle FunKind parts))
+      (result : Coercion)
       (number function coercion address : ℕ) (few : number ≤ 6) (waiting : List Waiting) where
     -- the arguments are cast, and the procedure goes on
     abbrev pub Ready : Budget → List Object → List (Merged A) → Type 0
@@ -307,7 +310,8 @@ module _ {V : Type 0} (walk : Walk V) (low : walk.l.tallest ≤ 65534) (A : Type
         (done ++ x ∷ []) (longer done x ∙ ap suc long) B new h' fine' l1 (Done ∷ rests)
         (found_kept (suc k) x l11 number function coercion address
         (eq_false 7 (suc k) (λ q. omega (arith, q, small))) (eq_false 8 (suc k) (λ q. omega (arith, q, small)))
-        (eq_false 9 (suc k) (λ q. omega (arith, q, small))) (eq_false 10 (suc k) (λ q. omega (arith, q, small))) found11)
+        (eq_false 9 (suc k) (λ q. omega (arith, q, small))) (eq_false 10 (suc k) (λ q. omega (arith, q, small)))
+        found11)
         (has_more l1 0 done x (has_below (suc k) x l11 0 done le (has_below 11 p.0 locals 0 done
         (omega (arith, long, small)) has))
         (subst (λ m. l1 (suc m) ≡ Some x) (sym count) (word_here (suc k) x l11)))
@@ -318,11 +322,13 @@ module _ {V : Type 0} (walk : Walk V) (low : walk.l.tallest ≤ 65534) (A : Type
         (held_still walk.l objects new grows (Middle FunKind parts) coercion hc)
         (λ q. some (ap (λ o. then_others o (arguments_cast head walk.l.types (suc k) ds us)) e ∙ ap (in_front v) q))
         (λ vs q new2 h2 words locals2 rests2 grows2 fine2 found2 has2 hvs many2.
-        values (v ∷ vs) (ap (λ o. then_others o (arguments_cast head walk.l.types (suc k) ds us)) e ∙ ap (in_front v) q) new2 h2
+        values (v ∷ vs) (ap (λ o. then_others o (arguments_cast head walk.l.types (suc k) ds us)) e ∙ ap (in_front v) q)
+        new2 h2
         words locals2 rests2 (grows_on objects new new2 grows grows2) fine2 found2 has2
         (subst (λ z. AreCarried walk.l IsHeld new2 z words) (append_assoc pre (v ∷ []) vs) hvs) many2)
         (λ label q new2 h2 size locals2 rests2 waiting2 a b dd ee rest grows2 fine2.
-        blames label (ap (λ o. then_others o (arguments_cast head walk.l.types (suc k) ds us)) e ∙ ap (in_front v) q) new2 h2
+        blames label (ap (λ o. then_others o (arguments_cast head walk.l.types (suc k) ds us)) e ∙ ap (in_front v) q)
+        new2 h2
         size locals2 rests2 waiting2 a b dd ee rest (grows_on objects new new2 grows grows2) fine2))
         (λ label e. blames label (ap (λ o. then_others o (arguments_cast head walk.l.types (suc k) ds us)) e))))))
         (omega arith, omega arith)

@@ -281,9 +281,11 @@ module _ {V : Type 0} (reading : Halt → Ending V) (setting : Setting) (l : Lay
         (omega (arith, filled.ends, begins)) (omega (arith, room, inside))) (omega (arith, end_small, inside))
         (computes m' h'.below (omega arith) (s.alloc + 8 + 8 * i) 8 (s.alloc + 8 + 8 * suc i) refl refl next refl
         (step (St 3 asks' (TailCall own (Word 0 ∷ Word 1 ∷ Word 2 ∷ [])) (Done ∷ []) waiting (heap m'))
-        (St 3 (bind 0 ((s.alloc + 8 + 8 * suc i) ∷ (s.alloc + 8 + 8 * n) ∷ w ∷ []) no_locals) loop_code [] waiting (heap m'))
+        (St 3 (bind 0 ((s.alloc + 8 + 8 * suc i) ∷ (s.alloc + 8 + 8 * n) ∷ w ∷ []) no_locals) loop_code [] waiting
+        (heap m'))
         (rw (there) refl)
-        (way 3 asks' (TailCall own (Word 0 ∷ Word 1 ∷ Word 2 ∷ [])) (Done ∷ []) waiting m' s.words h'.below (omega arith)
+        (way 3 asks' (TailCall own (Word 0 ∷ Word 1 ∷ Word 2 ∷ [])) (Done ∷ []) waiting m' s.words h'.below
+        (omega arith)
         (omega arith) (omega arith))
         (looped {b = b} count locals rest rests lt go k (suc i) (omega (arith, sum)) m' h'))))) (omega arith)
 

@@ -30,17 +30,19 @@ use Rattle.rt_refs.proofs.Writing.{writes, outside_writes}
 module _ {V : Type 0} where
   pub calls_are_made : (reading : Halt → Ending V) (setting : Setting) (l : Layout) (first : ℕ) (s : LowState)
       → reading (Lacks Region) ≡ Exhausted → IsReady setting l first → l.tallest ≤ MOST_HEIGHT
-      → (objects : List Object) → Filled setting l objects (heap_of s) → (heads : ℕ → ℕ → TypeHead) (f : ℕ) (c : Coercion)
-      (ds : List Coercion) (e : Coercion) → function_parts c ≡ Some (ds, e) → (us : List (Merged ℕ)) (wv : ℕ)
-      (ws : List ℕ) → Carries l objects (Proxied f c) wv → AreCarried l (IsVery l) objects us ws → length us ≤ 6
+      → (objects : List Object) → Filled setting l objects (heap_of s)
+      → (heads : ℕ → ℕ → TypeHead) (f : ℕ) (c : Coercion) (ds : List Coercion) (e : Coercion)
+      → function_parts c ≡ Some (ds, e) → (us : List (Merged ℕ)) (wv : ℕ) (ws : List ℕ)
+      → Carries l objects (Proxied f c) wv → AreCarried l (IsVery l) objects us ws → length us ≤ 6
       → (head address : ℕ) (rest : List ℕ) → There l objects f (Fixed head (address ∷ rest)) → (r : Arguments ℕ)
       → arguments_cast heads l.types 0 ds us ≡ r → (r ≡ NoArguments → ⊥)
       → ComesToCall reading setting l first s (IsVery l) objects (apply_proc (cast first)) (handed wv ws) f address e
       r (apply_cost (cast_cost l.width l.tallest) (length us)) (4 * l.tallest + 7)
-  calls_are_made reading setting l first s exhausts ready low objects filled heads f c ds e split us wv ws hv hu few head address rest there r is some =
+  calls_are_made reading setting l first s exhausts ready low objects filled heads f c ds e split us wv ws hv hu few
+      head address rest there r is some =
       calls_through_proxies reading setting l first s exhausts ready heads (IsVery l)
-      (λ old new g a w h. very_still reading setting l first s exhausts ready old new g a w h) (λ os a w h. h.solid) low objects filled f c ds e split us wv ws hv
-      hu few address
+      (λ old new g a w h. very_still reading setting l first s exhausts ready old new g a w h) (λ os a w h. h.solid)
+      low objects filled f c ds e split us wv ws hv hu few address
       (λ wa h. (head, rest, subst (λ n. There l objects n (Fixed head (address ∷ rest))) (sym h.is) there)) r is some
 
   pub answers_are_cast : (reading : Halt → Ending V) (setting : Setting) (l : Layout) (first : ℕ) (s : LowState)
@@ -52,7 +54,8 @@ module _ {V : Type 0} where
       (4 * l.tallest + 6)
   answers_are_cast reading setting l first s exhausts ready low objects filled head w c resumes u wv hv r e some =
       answers_cast reading setting l first s exhausts ready (λ i a. head a) (IsVery l)
-      (λ old new g a w h. very_still reading setting l first s exhausts ready old new g a w h) (λ os a w h. h.solid) low objects filled head w c resumes u wv hv r
+      (λ old new g a w h. very_still reading setting l first s exhausts ready old new g a w h) (λ os a w h. h.solid)
+      low objects filled head w c resumes u wv hv r
       e some
 
   pub elements_are_read : (reading : Halt → Ending V) (setting : Setting) (l : Layout) (first : ℕ) (s : LowState)
@@ -64,8 +67,10 @@ module _ {V : Type 0} where
       → (r ≡ Stuck → ⊥)
       → ComesWhere reading setting l s (read_proc (cast first)) (which ∷ wv ∷ i ∷ [])
       (ComesTo l setting s (IsVery l) objects r) (cast_cost l.width l.tallest + 17) (4 * l.tallest + 6)
-  elements_are_read reading setting l first s exhausts ready low objects filled head u wv hv a d behind ws cell which i word other got x hx r e some =
-      reads reading setting l first s exhausts ready head (IsVery l) (λ old new g a w h. very_still reading setting l first s exhausts ready old new g a w h)
+  elements_are_read reading setting l first s exhausts ready low objects filled head u wv hv a d behind ws cell which i
+      word other got x hx r e some =
+      reads reading setting l first s exhausts ready head (IsVery l) (λ old new g a w h. very_still reading setting l
+      first s exhausts ready old new g a w h)
       (λ os a w h. h.solid) low objects filled u wv hv a ws
       (λ wa h. subst (λ n. CellStands l objects s.memory n ws) (sym h.is) cell) d behind which i word other got x hx r e
       some
@@ -77,9 +82,11 @@ module _ {V : Type 0} where
       → (which i : ℕ) → (which == 2) ≡ false → length ws ≤ i
       → ComesWhere reading setting l s (read_proc (cast first)) (which ∷ wv ∷ i ∷ [])
       (TrapsAt reading setting l s Index) 10 0
-  indices_outside_trap reading setting l first s exhausts ready low objects filled u wv hv a stands ws cell which i other outside =
+  indices_outside_trap reading setting l first s exhausts ready low objects filled u wv hv a stands ws cell which i
+      other outside =
       outside_reads reading setting l first s exhausts ready (λ b. IntHead) (IsVery l)
-      (λ old new g a w h. very_still reading setting l first s exhausts ready old new g a w h) (λ os a w h. h.solid) low objects filled u wv hv a ws
+      (λ old new g a w h. very_still reading setting l first s exhausts ready old new g a w h) (λ os a w h. h.solid)
+      low objects filled u wv hv a ws
       (λ wa h. subst (λ n. CellStands l objects s.memory n ws) (sym h.is) cell) stands which i other outside
 
   pub lengths_are_told : (reading : Halt → Ending V) (setting : Setting) (l : Layout) (first : ℕ) (s : LowState)
@@ -101,8 +108,10 @@ module _ {V : Type 0} where
       → (r : Outcome ℕ) → cast_value head l.types d x ≡ r → (r ≡ Stuck → ⊥)
       → ComesWriting reading setting l s (write_proc (cast first)) (which ∷ wv ∷ i ∷ word ∷ [])
       (WriteComes setting l s (IsVery l) objects a i r) (cast_cost l.width l.tallest + 17) (4 * l.tallest + 7)
-  elements_are_written reading setting l first s exhausts ready low objects filled begins head u wv hv a d behind ws cell which i word old got x hx r e some =
-      writes reading setting l first s exhausts ready head (IsVery l) (λ old new g a w h. very_still reading setting l first s exhausts ready old new g a w h)
+  elements_are_written reading setting l first s exhausts ready low objects filled begins head u wv hv a d behind ws
+      cell which i word old got x hx r e some =
+      writes reading setting l first s exhausts ready head (IsVery l) (λ old new g a w h. very_still reading setting l
+      first s exhausts ready old new g a w h)
       (λ os a w h. h.solid) low begins objects filled u wv hv a ws
       (λ wa h. subst (λ n. CellInRegion l objects s.memory n ws) (sym h.is) cell) d behind which i word old got x hx r e
       some
@@ -114,7 +123,9 @@ module _ {V : Type 0} where
       → CellInRegion l objects s.memory a ws → (which i word : ℕ) → length ws ≤ i
       → ComesWhere reading setting l s (write_proc (cast first)) (which ∷ wv ∷ i ∷ word ∷ [])
       (TrapsAt reading setting l s Index) 9 0
-  writes_outside_trap reading setting l first s exhausts ready low objects filled begins u wv hv a stands ws cell which i word outside =
+  writes_outside_trap reading setting l first s exhausts ready low objects filled begins u wv hv a stands ws cell which
+      i word outside =
       outside_writes reading setting l first s exhausts ready (λ b. IntHead) (IsVery l)
-      (λ old new g a w h. very_still reading setting l first s exhausts ready old new g a w h) (λ os a w h. h.solid) low begins objects filled u wv hv a ws
+      (λ old new g a w h. very_still reading setting l first s exhausts ready old new g a w h) (λ os a w h. h.solid)
+      low begins objects filled u wv hv a ws
       (λ wa h. subst (λ n. CellInRegion l objects s.memory n ws) (sym h.is) cell) stands which i word outside

@@ -18,7 +18,6 @@ use Rattle.coercion_norm.specs.Held.{Layout, rows_in}
 use Rattle.rt_cast.specs.WholeObjects.{IsSolid}
 use Rattle.rt_cast.specs.Costs.{cast_cost}
 use Rattle.rt_cast.specs.ComposeCodes.{cast}
-use Rattle.rt_cast.specs.PartCodes.{either}
 use Rattle.rt_cast.specs.Procs.{cast_proc}
 use Rattle.rt_cast.specs.States.{Grows, Fine, Filled, IsReady, around, heap_of, st}
 use Rattle.rt_cast.specs.MergedValues.{Merged, Outcome, Stuck, cast_value}
@@ -30,7 +29,6 @@ use Rattle.rt_cast.proofs.Public.{header_there, loads}
 use Rattle.rt_refs.specs.CellCodes.{read_code, read_proc, trap_index, test_index, take_part, find_element}
 use Rattle.rt_refs.specs.CellLaws.{under, cell_behind, CellStands, TrapsAt, TellsAt, ComesWhere}
 use Rattle.rt_refs.proofs.CellSteps.{cell_word, in_list}
-use Rattle.rv_isa.specs.declared.inst.Cond.TheVariants.{Eq}
 use Rattle.low_ir.specs.Operations.{compute}
 use Rattle.low_ir.specs.declared.code.WordOp.TheVariants.{Srl}
 use Rattle.low_ir.specs.Procedures.{Compute}
@@ -100,7 +98,8 @@ module _ {V : Type 0} (reading : Halt → Ending V) (setting : Setting) (l : Lay
           (loads_at v objects fine (wa + 8 * i) word refl there refl
           (tail_calls v objects fine (word ∷ wd ∷ []) (cast_proc first)
           (ap (λ o. and_more (Some word) (and_more o (Some []))) f5) (v.stands 2 _ refl) refl
-          (by_cast v low A IsHeld still is_solid d ld.normal below x End objects (heap_of s) fine s.waiting word wd hx hd
+          (by_cast v low A IsHeld still is_solid d ld.normal below x End objects (heap_of s) fine s.waiting word wd
+          hx hd
           (ends reading setting l first s exhausts ready head IsHeld still is_solid low objects r some
           (4 * l.tallest + 6) (9 * (cast_cost l.width l.tallest + 17)) (apply (rows_in l) l.tallest d x) is))))))
           (omega arith, omega arith))))

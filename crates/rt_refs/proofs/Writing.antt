@@ -8,8 +8,7 @@ use Rattle.grift_base.specs.declared.verdicts.Trap.TheVariants.{Index}
 use Rattle.run_laws.specs.Runs.{Ending, Exhausted}
 use Rattle.rv_machine.specs.State.{Halt, Lacks, Region}
 use Rattle.low_ir.specs.declared.code.LowSource.TheVariants.{Word, Number}
-use Rattle.low_ir.specs.declared.code.WordOp.TheVariants.{Add, Sll}
-use Rattle.low_ir.specs.Procedures.{Code, Return, Compute, Call, Store, Environment}
+use Rattle.low_ir.specs.Procedures.{Code, Return, Call, Store, Environment}
 use Rattle.low_ir.specs.Steps.{Locals, no_locals}
 use Rattle.low_ir.specs.Run.{Setting, LowState, bind, and_more}
 use Rattle.coercion_norm.specs.Coercions.{Coercion}
@@ -19,7 +18,6 @@ use Rattle.coercion_norm.specs.Held.{Layout}
 use Rattle.rt_cast.specs.WholeObjects.{IsSolid}
 use Rattle.rt_cast.specs.Costs.{cast_cost}
 use Rattle.rt_cast.specs.ComposeCodes.{cast}
-use Rattle.rt_cast.specs.PartCodes.{either}
 use Rattle.rt_cast.specs.Procs.{cast_proc}
 use Rattle.rt_cast.specs.States.{Grows, Heap, Fine, Filled, IsReady, around, heap_of, st}
 use Rattle.rt_cast.specs.MergedValues.{Merged, Outcome, Stuck, Gives, Blames, cast_value}
@@ -35,7 +33,6 @@ use Rattle.rv_machine.specs.Memory.{store_bytes}
 use Rattle.rv_machine.proofs.Public.{stored_outside}
 use Rattle.coercion_norm.proofs.Public.{found_within, object_kept}
 use Rattle.coercion_norm.specs.Objects.{Cell, object_at}
-use Rattle.rv_isa.specs.declared.inst.Cond.TheVariants.{Ltu}
 use Rattle.rt_refs.proofs.Finding.{behind_under, found, part_taken}
 
 module _ {V : Type 0} (reading : Halt → Ending V) (setting : Setting) (l : Layout) (first : ℕ) (s : LowState)

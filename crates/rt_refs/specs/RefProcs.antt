@@ -1,5 +1,5 @@
--- All procedures of this crate, numbered from a first number on, told the number of the procedure of casts: apply, read,
--- write, fill and its loop, then products and quotients.
+-- All procedures of this crate, numbered from a first number on, told the number of the procedure of casts: apply,
+-- read, write, fill and its loop, then products and quotients.
 use Rattle.std.specs.Prelude.{◌≡◌, ℕ, ◌+◌, List, ◌∷◌, Some, slice_get}
 use Rattle.low_ir.specs.Procedures.{Proc}
 use Rattle.rt_refs.specs.Quotients.{ref_procs}
