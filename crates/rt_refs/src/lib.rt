@@ -1,10 +1,10 @@
-//! Procedures over words that compiled programs call: so far product, quotient and remainder, on a machine that has
-//! none.
+//! Procedures over words that compiled programs call: calls of functions, reads and writes of boxes and vectors,
+//! through proxies or not, vectors that are made, and product, quotient and remainder, on a machine that has none.
 #![tactic(auto)]
 
-mod calls;
-mod cells;
+pub mod calls;
+pub mod cells;
 mod codes;
-mod fills;
+pub mod fills;
 pub mod laws;
 pub mod procs;

@@ -214,8 +214,11 @@ pub fn ref_procs(alloc: Global, first: u32, _cast: u32) -> Result<LowProcs, OutO
     Ok(procs)
 }
 
-/// The same behind those of boxes, vectors and functions with proxies: apply, read, write, fill and its loop. `cast` is
-/// the number of the procedure that casts.
+/// All nine procedures, numbered from `first` on, where `cast` is the number of the procedure that casts. Apply takes
+/// a function with a proxy, six words that begin with its arguments, and how many these are. Read takes what is read
+/// (0 the content of a box, 1 an element of a vector, 2 a vector's length), an address and an index, which is 0 for a
+/// box. Write takes what is written to (0 a box, 1 a vector), an address, an index and a word. Fill takes a length and
+/// a word, and answers a vector; its loop follows. The last four are those of `ref_procs`.
 pub fn proxy_procs(alloc: Global, first: u32, cast: u32) -> Result<LowProcs, OutOfMemory>
     requires { first + 9 ≤ 2 ^ 32 }
     ensures { IfOk result (λ procs. procs_of procs ≡ proxy_procs first cast) }

@@ -13,6 +13,8 @@ mod division;
 #[cfg(test)]
 mod machines;
 #[cfg(test)]
+mod proxies;
+#[cfg(test)]
 mod selections;
 #[cfg(test)]
 mod sizes;
