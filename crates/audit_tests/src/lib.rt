@@ -1,0 +1,10 @@
+//! Tests of the audit: which casts go up, the audits of sources, and the command. They stand in a crate of their own,
+//! since the tests of a crate are proved with all of that crate once more.
+#![tactic(auto)]
+
+#[cfg(test)]
+mod command;
+#[cfg(test)]
+mod goings;
+#[cfg(test)]
+mod sources;
