@@ -3,12 +3,15 @@ use Rattle.std.proofs.Common.{append_assoc, ℕ, zero, suc, ◌+◌, ◌*◌, �
 use Rattle.std.proofs.Common.{ap, arith, take, get_or, length}
 use Rattle.rv_isa.specs.declared.inst.Cond.{Cond}
 use Rattle.low_ir.specs.declared.code.LowSource.{LowSource}
+use Rattle.low_ir.specs.declared.code.WordOp.{WordOp}
 use Rattle.low_ir.specs.Procedures.{Code, If}
 use Rattle.rv_select.specs.declared.code.VReg.TheVariants.{Real, Virtual}
 use Rattle.rv_select.specs.declared.code.VirtualItem.{VirtualItem}
 use Rattle.rv_select.specs.declared.code.VirtualItem.TheVariants.{Move, Store, Branch, Jump, Mark}
 use Rattle.rv_select.specs.Select.{put_item, source_reg, source_items, args_items, params_items, stores_items}
 use Rattle.rv_select.specs.Select.{branch_items, code_items, marks_in}
+use Rattle.rv_select.specs.Select.{compute_items, load_items, store_items, build_items, request_items, take_items}
+use Rattle.rv_select.specs.Select.{call_items, call_at_items}
 
 args_next : (first from i : ℕ) (xs : List LowSource) (d : LowSource) → i < length xs
     → args_items first from (take (suc i) xs)
@@ -125,3 +128,42 @@ pub marks_more : (m m1 m2 m3 m4 : ℕ) (cond : Cond) (a b : LowSource) (one othe
     → m2 ≡ m1 + 1 → m3 ≡ m2 + marks_in other → m4 ≡ m3 + marks_in one
     → m4 + marks_in rest ≡ m + marks_in (If cond a b one other rest)
 marks_more m m1 m2 m3 m4 cond a b one other rest d e f g = omega (arith, d, e, f, g)
+
+-- ---- a step and the rest
+
+-- behind the items of a step stand those of the rest
+pub behind : (i0 i1 xs ys whole : List VirtualItem) → i1 ≡ i0 ++ xs → xs ++ ys ≡ whole → i1 ++ ys ≡ i0 ++ whole
+behind i0 i1 xs ys whole h e = ap (λ z. z ++ ys) h ∙ (append_assoc i0 xs ys ∙ ap (λ z. i0 ++ z) e)
+
+-- so they do behind an operation, and behind each of the others
+pub compute_behind : (first : ℕ) (op : WordOp) (d : ℕ) (a b : LowSource) (i0 i1 ys : List VirtualItem)
+    → i1 ≡ i0 ++ compute_items first op d a b [] → i1 ++ ys ≡ i0 ++ compute_items first op d a b ys
+compute_behind first op d a b i0 i1 ys h = behind i0 i1 _ ys _ h (simp append_assoc refl)
+
+pub load_behind : (first d : ℕ) (a : LowSource) (offset : ℕ) (i0 i1 ys : List VirtualItem)
+    → i1 ≡ i0 ++ load_items first d a offset [] → i1 ++ ys ≡ i0 ++ load_items first d a offset ys
+load_behind first d a offset i0 i1 ys h = behind i0 i1 _ ys _ h (simp append_assoc refl)
+
+pub store_behind : (first : ℕ) (b a : LowSource) (offset : ℕ) (i0 i1 ys : List VirtualItem)
+    → i1 ≡ i0 ++ store_items first b a offset [] → i1 ++ ys ≡ i0 ++ store_items first b a offset ys
+store_behind first b a offset i0 i1 ys h = behind i0 i1 _ ys _ h (simp append_assoc refl)
+
+pub build_behind : (first out d : ℕ) (args : List LowSource) (i0 i1 ys : List VirtualItem)
+    → i1 ≡ i0 ++ build_items first out d args [] → i1 ++ ys ≡ i0 ++ build_items first out d args ys
+build_behind first out d args i0 i1 ys h = behind i0 i1 _ ys _ h (simp append_assoc refl)
+
+pub request_behind : (first out d : ℕ) (a : LowSource) (i0 i1 ys : List VirtualItem)
+    → i1 ≡ i0 ++ request_items first out d a [] → i1 ++ ys ≡ i0 ++ request_items first out d a ys
+request_behind first out d a i0 i1 ys h = behind i0 i1 _ ys _ h (simp append_assoc refl)
+
+pub take_behind : (first : ℕ) (a : LowSource) (i0 i1 ys : List VirtualItem)
+    → i1 ≡ i0 ++ take_items first a [] → i1 ++ ys ≡ i0 ++ take_items first a ys
+take_behind first a i0 i1 ys h = behind i0 i1 _ ys _ h (simp append_assoc refl)
+
+pub call_behind : (first d k : ℕ) (args : List LowSource) (i0 i1 ys : List VirtualItem)
+    → i1 ≡ i0 ++ call_items first d k args [] → i1 ++ ys ≡ i0 ++ call_items first d k args ys
+call_behind first d k args i0 i1 ys h = behind i0 i1 _ ys _ h (simp append_assoc refl)
+
+pub call_at_behind : (first d : ℕ) (f : LowSource) (args : List LowSource) (i0 i1 ys : List VirtualItem)
+    → i1 ≡ i0 ++ call_at_items first d f args [] → i1 ++ ys ≡ i0 ++ call_at_items first d f args ys
+call_at_behind first d f args i0 i1 ys h = behind i0 i1 _ ys _ h (simp append_assoc refl)
