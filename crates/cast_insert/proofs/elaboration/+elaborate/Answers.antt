@@ -43,7 +43,8 @@ in_order-returns-in_err-e-clause-answer t c =
     (search rules)
     (rw (c.deref.ensures, c.loop-left.invariant.scopes) at c.in_err-e.ensures.answer)
     (λ kind place last refused. sequence_refused (term_list (terms_of c.loop-left.terms))
-    (expr_of c.in-Cons.first.value) (exprs_of c.in-Cons.rest.value) c.args.scopes.now (work_of c.loop-left.progress) whole kind place last refused
+    (expr_of c.in-Cons.first.value) (exprs_of c.in-Cons.rest.value) c.args.scopes.now (work_of c.loop-left.progress)
+    whole kind place last refused
     (rw c.in-Cons.is at c.loop-left.invariant.made))
 
 pub in_order-returns-in-Nil-clause-answer : goal.in_order-returns-in-Nil-clause-answer
@@ -175,7 +176,8 @@ if_form-returns-in_err-second-clause-answer t c =
     (λ kind at last refused. if_second condition on_true on_false c.args.pos env (typed_of c.in_ok-test.test)
     (typed_of c.in_ok-truth.truth) (typed_of c.in_ok-first.first) (work_of c.args.progress.now)
     (work_of c.elaborate.new.progress) (work_of c.cast_to_row.new.self) (work_of c.elaborate-2.new.progress)
-    kind at last (rw c.deref.ensures at c.in_ok-test.ensures.answer) (rw c.deref-2.ensures at c.in_ok-truth.ensures.answer)
+    kind at last (rw c.deref.ensures at c.in_ok-test.ensures.answer) (rw c.deref-2.ensures at
+    c.in_ok-truth.ensures.answer)
     (rw (c.deref-3.ensures, c.in_ok-test.ensures.scopes) at c.in_ok-first.ensures.answer) refused))
 
 pub if_form-returns-clause-answer : goal.if_form-returns-clause-answer
