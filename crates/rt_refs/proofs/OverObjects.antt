@@ -118,14 +118,14 @@ module _ {V : Type 0} where
 
   pub writes_outside_trap : (reading : Halt → Ending V) (setting : Setting) (l : Layout) (first : ℕ) (s : LowState)
       → reading (Lacks Region) ≡ Exhausted → IsReady setting l first → l.tallest ≤ MOST_HEIGHT
-      → (objects : List Object) → Filled setting l objects (heap_of s) → l.region ≡ setting.region → (u : Merged ℕ)
+      → (objects : List Object) → Filled setting l objects (heap_of s) → (u : Merged ℕ)
       (wv : ℕ) → Carries l objects u wv → (a : ℕ) → under u ≡ Some a → (ws : List ℕ)
-      → CellInRegion l objects s.memory a ws → (which i word : ℕ) → length ws ≤ i
+      → CellStands l objects s.memory a ws → (which i word : ℕ) → length ws ≤ i
       → ComesWhere reading setting l s (write_proc (cast first)) (which ∷ wv ∷ i ∷ word ∷ [])
       (TrapsAt reading setting l s Index) 9 0
-  writes_outside_trap reading setting l first s exhausts ready low objects filled begins u wv hv a stands ws cell which
+  writes_outside_trap reading setting l first s exhausts ready low objects filled u wv hv a stands ws cell which
       i word outside =
-      outside_writes reading setting l first s exhausts ready (λ b. IntHead) (IsVery l)
+      outside_writes reading setting l first s exhausts ready (IsVery l)
       (λ old new g a w h. very_still reading setting l first s exhausts ready old new g a w h) (λ os a w h. h.solid)
-      low begins objects filled u wv hv a ws
-      (λ wa h. subst (λ n. CellInRegion l objects s.memory n ws) (sym h.is) cell) stands which i word outside
+      low objects filled u wv hv a ws
+      (λ wa h. subst (λ n. CellStands l objects s.memory n ws) (sym h.is) cell) stands which i word outside

@@ -35,6 +35,12 @@ use Rattle.coercion_norm.proofs.Public.{found_within, object_kept}
 use Rattle.coercion_norm.specs.Objects.{Cell, object_at}
 use Rattle.rt_refs.proofs.Finding.{behind_under, found, part_taken}
 
+abbrev store_code : Code
+store_code = find_element (Store (Word 3) (Word 2) 8 (Return (Number 0)))
+
+abbrev part_code : ℕ → Code
+part_code first = take_part 16 (Call 3 (cast first) (Word 3 ∷ Word 5 ∷ []) store_code)
+
 module _ {V : Type 0} (reading : Halt → Ending V) (setting : Setting) (l : Layout) (first : ℕ) (s : LowState)
     (exhausts : reading (Lacks Region) ≡ Exhausted) (ready : IsReady setting l first) {A : Type 0} (head : A → TypeHead)
     (IsHeld : List Object → A → ℕ → Type 0)
@@ -79,12 +85,6 @@ module _ {V : Type 0} (reading : Halt → Ending V) (setting : Setting) (l : Lay
     stands = ready.stand;
     types = ready.types;
   }
-
-  abbrev store_code : Code
-  store_code = find_element (Store (Word 3) (Word 2) 8 (Return (Number 0)))
-
-  abbrev part_code : Code
-  part_code = take_part 16 (Call 3 (cast first) (Word 3 ∷ Word 5 ∷ []) store_code)
 
   module _ (i : ℕ) (inside : i < length ws) (r : Outcome A) (y : Merged A) (q : r ≡ Gives y) (new : List Object)
       (h' : Heap) (word' : ℕ) (grows : Grows objects new)
@@ -209,7 +209,7 @@ module _ {V : Type 0} (reading : Halt → Ending V) (setting : Setting) (l : Lay
       begun =
           at_most v
           (found v low A IsHeld still is_solid (More (cast_cost l.width l.tallest + 9) (4 * l.tallest + 7) End) objects
-          (heap_of s) fine s.waiting [] (start which i word) (test_index part_code) wv refl ws u a
+          (heap_of s) fine s.waiting [] (start which i word) (test_index (part_code first)) wv refl ws u a
           (behind_under v low A IsHeld still is_solid 1 u a d behind) hv cell_stands
           (λ wa wc found rests ha cell_is keeps e1 e2 e3 e4 e5.
           at_most v
@@ -230,6 +230,17 @@ module _ {V : Type 0} (reading : Halt → Ending V) (setting : Setting) (l : Lay
           (omega arith, omega arith)))
           (omega arith, omega arith)
 
+module _ {V : Type 0} (reading : Halt → Ending V) (setting : Setting) (l : Layout) (first : ℕ) (s : LowState)
+    (exhausts : reading (Lacks Region) ≡ Exhausted) (ready : IsReady setting l first) {A : Type 0}
+    (IsHeld : List Object → A → ℕ → Type 0)
+    (still : (old new : List Object) → Grows old new → (a : A) (w : ℕ) → IsHeld old a w → IsHeld new a w)
+    (is_solid : (objects : List Object) (a : A) (w : ℕ) → IsHeld objects a w → IsSolid l objects w)
+    (low : l.tallest ≤ 65534) (objects : List Object) (filled : Filled setting l objects (heap_of s)) (u : Merged A)
+    (wv : ℕ) (hv : CarriedBy l IsHeld objects u wv) (a : A) (ws : List ℕ)
+    (cell : (wa : ℕ) → IsHeld objects a wa → CellStands l objects s.memory wa ws) where
+  fine_here : Fine setting l (around s) objects (heap_of s)
+  fine_here = at_first reading setting l first s exhausts ready objects filled
+
   -- an index outside traps, whatever the proxy's coercion is, and before anything is cast
   pub outside_writes : under u ≡ Some a → (which i word : ℕ) → length ws ≤ i
       → ComesWhere reading setting l s (write_proc (cast first)) (which ∷ wv ∷ i ∷ word ∷ [])
@@ -243,11 +254,12 @@ module _ {V : Type 0} (reading : Halt → Ending V) (setting : Setting) (l : Lay
       v = walk reading setting l first s exhausts ready (TrapsAt reading setting l s Index) 0 (9 * 9)
 
       begun : ReachedIn v (More 9 0 End)
-          (st (around s) 6 (start which i word) (write_code (cast first)) [] s.waiting (heap_of s))
+          (st (around s) 6 (bind 0 (which ∷ wv ∷ i ∷ word ∷ []) no_locals) (write_code (cast first)) [] s.waiting
+          (heap_of s))
       begun =
           at_most v
-          (found v low A IsHeld still is_solid (More 1 0 End) objects (heap_of s) fine s.waiting []
-          (start which i word) (test_index part_code) wv refl ws u a stands hv cell_stands
+          (found v low A IsHeld still is_solid (More 1 0 End) objects (heap_of s) fine_here s.waiting []
+          (bind 0 (which ∷ wv ∷ i ∷ word ∷ []) no_locals) (test_index (part_code first)) wv refl ws u a stands hv cell
           (λ wa wc found rests ha cell_is keeps e1 e2 e3 e4 e5.
           let last : (rests' : List Code)
           → ReachedIn v End (st (around s) 6 found trap_index rests' s.waiting (heap_of s)) = λ rests'. record {
@@ -255,7 +267,7 @@ module _ {V : Type 0} (reading : Halt → Ending V) (setting : Setting) (l : Lay
             few = le_refl 0;
             reach = λ spare. record {
               objects = objects;
-              fine = fine;
+              fine = fine_here;
               last = _;
               stops = refl;
               stays = refl;
@@ -264,6 +276,6 @@ module _ {V : Type 0} (reading : Halt → Ending V) (setting : Setting) (l : Lay
             };
           } in
           at_most v
-          (if_false v objects fine i (length ws) e2 e4 (lt_false i (length ws) outside) (last _))
+          (if_false v objects fine_here i (length ws) e2 e4 (lt_false i (length ws) outside) (last _))
           (omega arith, omega arith)))
           (omega arith, omega arith)
