@@ -4,5 +4,5 @@ use Rattle.rt_refs.proofs.laws.writes_outside_trap.Goals as goal
 pub returns : goal.returns
 returns g c = λ reading setting l first s exhausts ready low objects filled u wv hv a stands ws cell which i word
     outside.
-    writes_outside_trap reading setting l first s exhausts ready low objects filled u wv hv a stands ws cell which i word
-    outside
+    writes_outside_trap reading setting l first s exhausts ready low objects filled u wv hv a stands ws cell which i
+    word outside
