@@ -1,5 +1,5 @@
 -- The merged scheme serves, and the run over words of its programs follows the merged mode.
-use Rattle.std.proofs.Common.{◌≡◌, ℕ, suc, ◌+◌, ◌^◌, ◌<◌, true, List, length, Some}
+use Rattle.std.proofs.Common.{◌≡◌, ℕ, suc, ◌+◌, ◌^◌, ◌<◌, true, List, length, Some, refl}
 use Rattle.grift_base.specs.Types.{TypeRow, row_at}
 use Rattle.run_laws.specs.Machines.{run}
 use Rattle.run_laws.specs.Runs.{Any, FollowsBy, NeverWrong}

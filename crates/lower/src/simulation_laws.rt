@@ -29,9 +29,11 @@ use crate::schemes::Scheme;
 /// every input, where that never goes wrong: whatever the one prints the other prints, and both end by the same
 /// verdict, unless the region is exhausted. At each moment of the run over words the scheme's test holds of the objects
 /// that fill the region up to the allocation word, and of the number of wrap steps at the moment that corresponds.
-pub fn words_follow<S: Scheme>(_scheme: &S)
-    ensures { WordsFollow (S.meaning _scheme.now) (S.procs_from _scheme.now) (S.numbers_from _scheme.now) }
-{}
+pub fn words_follow<S: Scheme>(scheme: &S)
+    ensures { WordsFollow (S.meaning scheme.now) (S.procs_from scheme.now) (S.numbers_from scheme.now) }
+{
+    scheme.serves();
+}
 
 /// So it is in the merged mode, where a value has one proxy at most, with one coercion. At each moment of the run over
 /// words whole objects fill the region up to the allocation word, and are a row without gaps for a walk of it. The

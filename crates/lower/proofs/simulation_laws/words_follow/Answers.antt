@@ -3,7 +3,7 @@ use Rattle.lower.proofs.simulation_laws.words_follow.Goals as goal
 
 pub returns : goal.returns
 returns g c =
-    let s = c.args._scheme.now in
+    let s = c.args.scheme.now in
     let S = g.S.Scheme in
-    words_follow_by (S.meaning s) (g.met.S.Scheme.lawful s) (S.procs_from s) (S.numbers_from s)
-    (g.met.S.Scheme.serves s)
+    words_follow_by (S.meaning s) c.serves.ensures.lawful (S.procs_from s) (S.numbers_from s)
+    c.serves.ensures.everywhere
