@@ -71,13 +71,16 @@ module _ (setting : Setting) (l : Layout) (words : List ℕ) (procs : List Proc)
       (flat_run_in procs entry (merging told.types casts) told input)
   words_follow_procedures-storage =
       follows_by_weaken (StorageIsWhole setting l) Any
-      (λ shown counts x. (x.0, record {
-        objects_stand = x.1.objects_stand;
-        statics_stand = x.1.statics_stand;
-        ends = x.1.ends;
-        fits = x.1.fits;
-        whole = x.1.keeps;
-      })) (λ shown counts x. tt)
+      (λ shown counts x. (
+        x.0,
+        record {
+          objects_stand = x.1.objects_stand;
+          statics_stand = x.1.statics_stand;
+          ends = x.1.ends;
+          fits = x.1.fits;
+          whole = x.1.keeps;
+        },
+      )) (λ shown counts x. tt)
       (words_follow_by merged_meaning merged_laws merged_procs merged_numbers merged_procedures_serve setting l words
       procs entry answer memory told casts input is small labels row types typed held closed covered narrow never)
 

@@ -288,10 +288,8 @@ module _ {V : Type 0} (reading : Halt → Ending V) (setting : Setting) (l : Lay
       (WriteComes setting l s IsHeld objects a i (Blames label)) (cast_cost l.width l.tallest + 18)
       (4 * l.tallest + 7)
   writes_blamed d behind which i word is_box x hx label e =
-      blames_first d behind which i word x hx (Blames label) e (λ z. not_stuck z) is_box label refl
-    where
-      not_stuck : Blames label ≡ Stuck → ⊥
-      not_stuck z = cc
+      blames_first d behind which i word x hx (Blames label) e
+      (λ z. let impossible : ⊥ = cc in impossible) is_box label refl
 
 module _ {V : Type 0} (reading : Halt → Ending V) (setting : Setting) (l : Layout) (first : ℕ) (s : LowState)
     (exhausts : reading (Lacks Region) ≡ Exhausted) (ready : IsReady setting l first) {A : Type 0}
