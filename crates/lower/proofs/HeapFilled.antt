@@ -65,7 +65,8 @@ module _ (meaning : Meaning) (setting : Setting) (l : Layout) (placed : Placed s
     held_there objects h f at o (inl e) = holds_found h.memory l.first l.statics at o f.statics_stand e
     held_there objects h f at o (inr e) = holds_found h.memory l.region objects at o f.objects_stand e
 
-    pub word_there : (objects : List Object) (h : Heap) → Filled meaning setting l number objects h → (at header : ℕ) (ws : List ℕ)
+    pub word_there : (objects : List Object) (h : Heap) → Filled meaning setting l number objects h
+        → (at header : ℕ) (ws : List ℕ)
         → There l objects at (Fixed header ws) → (i w to : ℕ) → slice_get (header ∷ ws) i ≡ Some w → to ≡ at + 8 * i
         → WordThere h.memory to w
     word_there objects h f at header ws e i w to g t =
@@ -81,7 +82,8 @@ module _ (meaning : Meaning) (setting : Setting) (l : Layout) (placed : Placed s
         }
 
     -- the header of any object
-    pub header_there : (objects : List Object) (h : Heap) → Filled meaning setting l number objects h → (at : ℕ) (o : Object)
+    pub header_there : (objects : List Object) (h : Heap) → Filled meaning setting l number objects h
+        → (at : ℕ) (o : Object)
         → There l objects at o → WordThere h.memory at (header_of o)
     header_there objects h f at o e =
         let z = stands objects h f at o e in
@@ -95,7 +97,8 @@ module _ (meaning : Meaning) (setting : Setting) (l : Layout) (placed : Placed s
         }
 
     -- memory that changes above the allocation word
-    pub filled_above : (objects : List Object) (h : Heap) (m : Memory) (words : ℕ) → Filled meaning setting l number objects h
+    pub filled_above : (objects : List Object) (h : Heap) (m : Memory) (words : ℕ)
+        → Filled meaning setting l number objects h
         → ((i : ℕ) → i < h.alloc → m i ≡ h.memory i)
         → Filled meaning setting l number objects (record { memory = m; alloc = h.alloc; words = words })
     filled_above objects h m words f same = record {
@@ -110,7 +113,8 @@ module _ (meaning : Meaning) (setting : Setting) (l : Layout) (placed : Placed s
     }
 
     -- objects that are stored behind the others, of which the test holds
-    pub filled_more : (objects more : List Object) (h : Heap) (m : Memory) (alloc words : ℕ) → Filled meaning setting l number objects h
+    pub filled_more : (objects more : List Object) (h : Heap) (m : Memory) (alloc words : ℕ)
+        → Filled meaning setting l number objects h
         → ((i : ℕ) → i < h.alloc → m i ≡ h.memory i) → Holds m h.alloc more → meaning.Keeps l (objects ++ more) number
         → alloc ≡ h.alloc + bytes_of_all more → alloc ≤ setting.top
         → Filled meaning setting l number (objects ++ more) (record { memory = m; alloc = alloc; words = words })

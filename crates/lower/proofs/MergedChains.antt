@@ -18,7 +18,8 @@ use Rattle.coercion_norm.specs.Normal.{IsNormal, is_project}
 use Rattle.coercion_norm.specs.CoercionTables.{cast_of, composition_of}
 use Rattle.coercion_norm.specs.MergedMode.{merging, shape_has_head, applied, rewrapped, middle_head, width}
 use Rattle.coercion_norm.specs.Modes.{TypeCast, Decision, Wrapping, Rewrapping, Unwrapping, Injecting, NoCast}
-use Rattle.coercion_norm.specs.RunValues.{RunInt, RunBool, RunUnit, RunFun, RunTuple, RunLoc, RunWrap, RunInject, shape_of}
+use Rattle.coercion_norm.specs.RunValues.{RunInt, RunBool, RunUnit, RunFun, RunTuple, RunLoc, RunWrap, RunInject}
+use Rattle.coercion_norm.specs.RunValues.{shape_of}
 use Rattle.coercion_norm.specs.ValueSteps.{CastFrame, Return, On, BlameOf, NoNext, make, decision_wraps}
 use Rattle.coercion_norm.specs.Held.{Layout}
 use Rattle.coercion_norm.specs.Objects.{Object}
@@ -26,7 +27,8 @@ use Rattle.flat_ir.specs.Bodies.{Proc}
 use Rattle.flat_ir.specs.Counts.{decision_at}
 use Rattle.flat_ir.specs.Machine.{FlatValue, FlatFrame, FlatStore, FlatAfter, flat_arity, flat_entered, flat_cast}
 use Rattle.rt_cast.specs.Carried.{IsVery, Carries, GivesAt, BlamesAt, ComesTo}
-use Rattle.rt_cast.specs.MergedValues.{Merged, Solid, Proxied, InDyn, Outcome, Stuck, Gives, Blames, cast_value, cast_to, then_outcome}
+use Rattle.rt_cast.specs.MergedValues.{Merged, Solid, Proxied, InDyn, Outcome, Stuck, Gives, Blames, cast_value}
+use Rattle.rt_cast.specs.MergedValues.{cast_to, then_outcome}
 use Rattle.rt_cast.specs.MergedValues.{decided, shape_of as merged_shape}
 use Rattle.rt_cast.specs.States.{Heap, Placed, Filled as RtFilled, OnTheWay, heap_of}
 use Rattle.lower.specs.CarriedValues.{CarriedIn}
@@ -76,7 +78,8 @@ part_normal rows (Fail label) k d normal e = none_some e
 part_normal rows (Inject g kept) k d normal e = none_some e
 part_normal rows (Project wanted label i) k d normal e = none_some e
 
--- From a state te a procedure comes to the outcome; the numbered procedures come to it by turns, of which all but the last
+-- From a state te a procedure comes to the outcome; the numbered procedures come to it by turns, of which all but the
+-- last
 -- have no step.
 module _ (setting : Setting) (l : Layout) (procs : List Proc) (casts : List TypeCast) (placed : Placed setting l)
     (s : LowState) (places : List ℕ) (objects : List Object) (store : FlatStore Coercion) (at_first : ℕ)
@@ -115,7 +118,8 @@ module _ (setting : Setting) (l : Layout) (procs : List Proc) (casts : List Type
   }
 
   abbrev aim : Rattle.lower.specs.SchemeLaws.Aim merged_meaning setting l procs casts
-  aim focus frames store' n t = Returns merged_meaning setting l procs casts s places objects base focus frames store' n t
+  aim focus frames store' n t =
+      Returns merged_meaning setting l procs casts s places objects base focus frames store' n t
 
   law_at : (r : Outcome ℕ) → total ≡ r → (r ≡ Stuck → ⊥)
       → (k : ℕ) × Reaches (low_machine ending_of setting) (OnTheWay setting l s deep wide)
@@ -224,7 +228,8 @@ module _ (setting : Setting) (l : Layout) (procs : List Proc) (casts : List Type
   shape_is : (u : FlatValue Coercion) (m : Merged ℕ) → L u m → HeadIs u
       → merged_shape heads m ≡ shape_of (flat_arity procs) u
   shape_is u m k h =
-      subst (λ x. merged_shape (λ a. x) m ≡ shape_of (flat_arity procs) u) h (like_shape setting l procs places objects u m k)
+      subst (λ x. merged_shape (λ a. x) m ≡ shape_of (flat_arity procs) u) h
+      (like_shape setting l procs places objects u m k)
 
   abbrev made_at : Decision Coercion → FlatValue Coercion → List (FlatFrame Coercion) → FlatAfter Coercion
   made_at d u frames = make (merging l.types casts) (flat_arity procs) (flat_entered procs) store s.world d u frames
@@ -320,7 +325,8 @@ module _ (setting : Setting) (l : Layout) (procs : List Proc) (casts : List Type
   inject_turn go false kept u m frames dyn k h = inr (inr (refl, refl))
 
   -- of a middle, with the decision on the numbered value
-  middle_by : (go : Coercion → Merged ℕ → Outcome ℕ) (kind : Rattle.coercion_norm.specs.declared.middles.MiddleKind.MiddleKind)
+  middle_by : (go : Coercion → Merged ℕ → Outcome ℕ)
+      (kind : Rattle.coercion_norm.specs.declared.middles.MiddleKind.MiddleKind)
       (cs : Rattle.coercion_norm.specs.Coercions.Coercions) → all_id cs ≡ false
       → (frames : List (FlatFrame Coercion)) (u : FlatValue Coercion) (m : Merged ℕ) → L u m → HeadIs u
       → OneTurn frames (turn (Middle kind cs) u frames) (wraps_in (Middle kind cs) u)
@@ -365,12 +371,14 @@ module _ (setting : Setting) (l : Layout) (procs : List Proc) (casts : List Type
       (cast_to heads l.types (suc d) (Inject Id kept) m)
   injected d kept frames u m dyn k h =
       told (cast_to heads l.types d) (Inject Id kept) frames u m k h
-      (inject_turn (cast_to heads l.types d) (shape_has_head (shape_of (flat_arity procs) u) (head_of (rows_of l.types kept)))
+      (inject_turn (cast_to heads l.types d) (shape_has_head (shape_of (flat_arity procs) u)
+      (head_of (rows_of l.types kept)))
       kept u m frames dyn k h)
 
   abbrev Then : ℕ → FlatAfter Coercion → ℕ → ℕ → Type 0
   Then i x n wraps =
-      After merged_meaning setting l procs casts s most (Goes merged_meaning setting l procs casts s most aim i) x n wraps te
+      After merged_meaning setting l procs casts s most (Goes merged_meaning setting l procs casts s most aim i) x n
+      wraps te
 
   -- from frames on, told what the value before them comes to, the procedure comes to the outcome
   abbrev pub Ends : List (FlatFrame Coercion) → (Outcome ℕ → Outcome ℕ) → Type 0
@@ -505,7 +513,8 @@ module _ (setting : Setting) (l : Layout) (procs : List Proc) (casts : List Type
     bare_part : (u : FlatValue Coercion) (a : ℕ) → L u (Solid a) → Known u a → (frames : List (FlatFrame Coercion))
         (after : Outcome ℕ → Outcome ℕ) → IsStrict after → Ends frames after → total ≡ after (part_of (Solid a))
         → (n : ℕ) → (i : ℕ) × Then i (proj u frames) n 0
-    bare_part (RunTuple values) a like known frames after strict ends e n = by_element (slice_get (row_list values) k) refl
+    bare_part (RunTuple values) a like known frames after strict ends e n =
+        by_element (slice_get (row_list values) k) refl
       where
         by_element : (o : Option (FlatValue Coercion)) → slice_get (row_list values) k ≡ o
             → (i : ℕ) × Then i (on_some o (λ x. On (Return x) frames store s.world)) n 0

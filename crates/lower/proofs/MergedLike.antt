@@ -1,5 +1,6 @@
 -- Values as the procedures of the merged mode see them, and the words that carry them.
-use Rattle.std.proofs.Common.{◌≡◌, inl, inr, ℕ, zero, suc, ◌+◌, ◌*◌, ◌^◌, ◌<◌, ◌≤◌, List, [], ◌∷◌, ◌++◌, length, Some, None}
+use Rattle.std.proofs.Common.{◌≡◌, inl, inr, ℕ, zero, suc, ◌+◌, ◌*◌, ◌^◌, ◌<◌, ◌≤◌, List, [], ◌∷◌, ◌++◌, length, Some}
+use Rattle.std.proofs.Common.{None}
 use Rattle.std.proofs.Common.{Bool, true, false, Option, refl, sym, ap, ◌∙◌, subst, arith, slice_get}
 use Rattle.std.specs.Prelude.{if◌then◌else◌}
 use Rattle.std.specs.Int.{w64, cast_unsigned, int_wrap}
@@ -8,7 +9,8 @@ use Rattle.object_layout.specs.declared.kinds.Kind.TheVariants.{Closure, Tuple a
 use Rattle.low_ir.specs.Run.{Setting}
 use Rattle.coercion_norm.specs.Coercions.{Coercion, rows_of}
 use Rattle.coercion_norm.specs.Normal.{IsNormal}
-use Rattle.coercion_norm.specs.RunValues.{RunInt, RunBool, RunUnit, RunFun, RunTuple, RunLoc, RunWrap, RunInject, shape_of}
+use Rattle.coercion_norm.specs.RunValues.{RunInt, RunBool, RunUnit, RunFun, RunTuple, RunLoc, RunWrap, RunInject}
+use Rattle.coercion_norm.specs.RunValues.{shape_of}
 use Rattle.coercion_norm.specs.AnswerTypes.{run_head}
 use Rattle.coercion_norm.specs.Held.{Layout, There}
 use Rattle.coercion_norm.specs.Objects.{Object, Fixed, Cell}
@@ -57,7 +59,8 @@ module _ (setting : Setting) (l : Layout) (procs : List Proc) (places : List ℕ
   solid_head (RunInject v kept) = solid_head v
   solid_head v = run_head (flat_arity procs) v
 
-  pub like_shape : (v : V) (m : Merged ℕ) → Like v m → merged_shape (λ a. solid_head v) m ≡ shape_of (flat_arity procs) v
+  pub like_shape : (v : V) (m : Merged ℕ) → Like v m → merged_shape (λ a. solid_head v) m ≡ shape_of (flat_arity procs)
+      v
   like_shape (RunInt n) m k = ap (merged_shape (λ a. IntHead)) k.1
   like_shape (RunBool b) m k = ap (merged_shape (λ a. BoolHead)) k.1
   like_shape RunUnit m k = ap (merged_shape (λ a. UnitHead)) k.1
@@ -144,7 +147,8 @@ module _ (setting : Setting) (l : Layout) (procs : List Proc) (places : List ℕ
         clash a b e = cc
 
     pub small : (v : V) (w : ℕ) → C v [] w → w < 2 ^ 64
-    small v w c = carried_small l setting.address procs merged_meaning merged_laws places objects setting placed h filled v
+    small v w c =
+        carried_small l setting.address procs merged_meaning merged_laws places objects setting placed h filled v
         w c
 
     -- what carries a value in proxies is one proxy
@@ -331,7 +335,8 @@ module _ (setting : Setting) (l : Layout) (procs : List Proc) (places : List ℕ
 
     abbrev pub Prepared : ((ℕ → List (Merged ℕ)) → Type 0) → Type 0
     Prepared P =
-        (parts : ℕ → List (Merged ℕ)) × HaveParts l (IsVery l) objects parts × ((b : ℕ) → length (parts b) ≤ 8) × P parts
+        (parts : ℕ → List (Merged ℕ)) × HaveParts l (IsVery l) objects parts × ((b : ℕ) → length (parts b) ≤ 8) × P
+        parts
 
     nothing : (P : (ℕ → List (Merged ℕ)) → Type 0) → P (λ b. []) → Prepared P
     nothing P p = ((λ b. []), (λ b w v. inl refl), (λ b. omega arith), p)

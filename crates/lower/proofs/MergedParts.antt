@@ -18,7 +18,8 @@ use Rattle.coercion_norm.specs.Objects.{Object}
 use Rattle.flat_ir.specs.Bodies.{Proc}
 use Rattle.flat_ir.specs.Machine.{FlatValue, FlatFrame, FlatStore, FlatAfter, flat_arity, flat_entered}
 use Rattle.rt_cast.specs.Carried.{IsVery, Carries, ComesTo}
-use Rattle.rt_cast.specs.MergedValues.{Merged, Base, Solid, Proxied, InDyn, Outcome, Stuck, Gives, Blames, cast_value, then_outcome}
+use Rattle.rt_cast.specs.MergedValues.{Merged, Base, Solid, Proxied, InDyn, Outcome, Stuck, Gives, Blames, cast_value}
+use Rattle.rt_cast.specs.MergedValues.{then_outcome}
 use Rattle.rt_cast.specs.Procs.{Stand}
 use Rattle.rt_cast.specs.States.{Placed, Filled as RtFilled, OnTheWay, entered, heap_of}
 use Rattle.lower.specs.declared.served.Served.{Served}
@@ -80,7 +81,8 @@ far head parts types k few le (Proxied a c) = by_coercion (tuple_coercion c (pos
         → with_some o (λ d. with_some (slice_get (parts a) k) (λ x. cast_value head types d x)) ≡ Stuck
     by_coercion None = refl
     by_coercion (Some d) =
-        ap (λ o. with_some o (λ x. cast_value head types d x)) (past_end (parts a) k (let z = few a in omega (arith, z, le)))
+        ap (λ o. with_some o (λ x. cast_value head types d x)) (past_end (parts a) k
+        (let z = few a in omega (arith, z, le)))
 
 -- the row of a type that is there
 row_is : (types : List Rattle.grift_base.specs.Types.TypeRow) (k : ℕ) (row : Rattle.grift_base.specs.Types.TypeRow)
@@ -373,7 +375,8 @@ module _ (setting : Setting) (l : Layout) (procs : List Proc) (casts : List Type
     pub by_row : (o : Option Rattle.grift_base.specs.Types.TypeRow) → row_at l.types kept ≡ o
         → (most : Spent) × Answers merged_meaning setting l procs casts s most places objects base
         (blame_or_proj (merging l.types casts) (flat_arity procs) (flat_entered procs) store s.world
-        (kept_part (λ from p to. cast_of l.types from to p) l.types o (negsuc n) label) u (negsuc n) label base) number 0
+        (kept_part (λ from p to. cast_of l.types from to p) l.types o (negsuc n) label) u (negsuc n) label base) number
+        0
         (entered s (project_proc first) (w ∷ word ∷ 0 ∷ label ∷ []))
     by_row None e = (record { frames = 0; words = 0 }, (0, refl))
     by_row (Some row) e =
@@ -384,7 +387,8 @@ module _ (setting : Setting) (l : Layout) (procs : List Proc) (casts : List Type
         (blamed u kept m w wx like carries whole word label word refl
         (ap (λ o. dyn_part_by
         (λ a. head_at setting l procs places objects (slice_get (values_of setting l procs places objects u) word))
-        (prepared setting l procs places objects placed (heap_of s) here.filled u m wx like carries).0 l.types o word label
+        (prepared setting l procs places objects placed (heap_of s) here.filled u m wx like carries).0 l.types o word
+        label
         m)
         (ap (λ o. kept_part (λ from p to. cast_of l.types from to p) l.types o (pos word) label) e
         ∙ ap (λ o. part_to_dyn (λ from p to. cast_of l.types from to p) l.types o label) (none_at row e))))
@@ -435,9 +439,11 @@ merged_parts_given setting l procs casts first run_by placed types tallest ready
     room = omega arith;
   };
   gives = λ s number places objects store here base v cast w c part label.
-      gives setting l procs casts first placed types tallest ready s number places objects store here base v cast w c part
+      gives setting l procs casts first placed types tallest ready s number places objects store here base v cast w c
+      part
       label;
   gives_dyn = λ s number places objects store here base v w c part label small fits.
-      gives_dyn setting l procs casts first placed types tallest ready s number places objects store here base v w c part
+      gives_dyn setting l procs casts first placed types tallest ready s number places objects store here base v w c
+      part
       label fits;
 }

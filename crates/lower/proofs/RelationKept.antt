@@ -110,7 +110,8 @@ module _ (setting : Setting) (l : Layout) (run : Served) (procs : List Proc) (an
           let z = k.local i lt in (z.0, same (local_word s i) (named_local s depth i lt) ∙ z.1, z.2);
     }
 
-    pub rest_same : (P : List (FlatFrame meaning.Cast) → Type 0) (s : Shape) (count size : ℕ) (group : Group meaning.Cast)
+    pub rest_same : (P : List (FlatFrame meaning.Cast) → Type 0) (s : Shape) (count size : ℕ)
+        (group : Group meaning.Cast)
         (depth : ℕ) (frames : List (FlatFrame meaning.Cast)) (next : Then) (rests : List Code) (words new : Locals)
         → SameNamed s depth words new → RestHere P s count size group depth frames next rests words
         → RestHere P s count size group depth frames next rests new
@@ -140,7 +141,8 @@ module _ (setting : Setting) (l : Layout) (run : Served) (procs : List Proc) (an
     rest_same P s count size group depth (PrimFrame op done ∷ frames) (Into d k) rests words new same r = r
     rest_same P s count size group depth (EnterFrame f done todo ∷ frames) (Into d k) rests words new same r = r
 
-    pub rest_deeper : (P : List (FlatFrame meaning.Cast) → Type 0) (s : Shape) (count size : ℕ) (group : Group meaning.Cast)
+    pub rest_deeper : (P : List (FlatFrame meaning.Cast) → Type 0) (s : Shape) (count size : ℕ)
+        (group : Group meaning.Cast)
         (depth more : ℕ) (frames : List (FlatFrame meaning.Cast)) (next : Then) (rests : List Code) (words : Locals)
         → depth ≤ more → RestHere P s count size group depth frames next rests words
         → RestHere P s count size group more frames next rests words
@@ -170,7 +172,8 @@ module _ (setting : Setting) (l : Layout) (run : Served) (procs : List Proc) (an
     rest_deeper P s count size group depth more (EnterFrame f done todo ∷ frames) (Into d k) rests words le r = r
 
     -- in a branch, behind which stands what stood behind the place before
-    pub rest_branch : (P : List (FlatFrame meaning.Cast) → Type 0) (s : Shape) (count size : ℕ) (group : Group meaning.Cast)
+    pub rest_branch : (P : List (FlatFrame meaning.Cast) → Type 0) (s : Shape) (count size : ℕ)
+        (group : Group meaning.Cast)
         (depth : ℕ) (frames : List (FlatFrame meaning.Cast)) (d : ℕ) (k : Code) (rests : List Code) (words : Locals)
         → RestHere P s count size group depth frames (Into d k) rests words
         → RestHere P s count size group depth frames (Into d Done) (k ∷ rests) words
@@ -240,8 +243,10 @@ module _ (setting : Setting) (l : Layout) (run : Served) (procs : List Proc) (an
     long = g.long;
     inside = g.inside;
     stands =
-        group_grown l setting.address procs meaning laws places bigger kept objects more group.first g.leader count g.words g.stands;
-    carried = all_grown l setting.address procs meaning laws places bigger kept objects more group.captured g.words g.carried;
+        group_grown l setting.address procs meaning laws places bigger kept objects more group.first g.leader count
+        g.words g.stands;
+    carried = all_grown l setting.address procs meaning laws places bigger kept objects more group.captured g.words
+        g.carried;
   }
 
   pub knows_grown : (s : Shape) (count : ℕ) (group : Group meaning.Cast) (depth : ℕ) (locals : FlatLocals meaning.Cast)
@@ -267,7 +272,8 @@ module _ (setting : Setting) (l : Layout) (run : Served) (procs : List Proc) (an
       → Q frames) → (s : Shape) (count size : ℕ) (group : Group meaning.Cast) (depth : ℕ)
       (frames : List (FlatFrame meaning.Cast)) (next : Then) (rests : List Code) (words : Locals)
       → Rest setting l run procs answer meaning places objects P s count size group depth frames next rests words
-      → Rest setting l run procs answer meaning bigger (objects ++ more) Q s count size group depth frames next rests words
+      → Rest setting l run procs answer meaning bigger (objects ++ more) Q s count size group depth frames next rests
+      words
   rest_grown P Q f s count size group depth frames ToCaller rests words r = f frames r
   rest_grown P Q f s count size group depth [] (Into d k) rests words r = r
   rest_grown P Q f s count size group depth (OwnFrame (Waiting slot rest locals other) ∷ frames) (Into d k) rests

@@ -71,7 +71,8 @@ row_head (x ∷ types) (suc type) head e = row_head types type head e
 
 module _ (program : Program) (typed : TypesStand program.l) (places : List ℕ) (objects : List Object) (h : Heap)
     (world : WorldState)
-    (filled : Filled program.meaning program.setting program.l program.number objects h) (store : FlatStore program.meaning.Cast) (v : FlatValue program.meaning.Cast) where
+    (filled : Filled program.meaning program.setting program.l program.number objects h)
+    (store : FlatStore program.meaning.Cast) (v : FlatValue program.meaning.Cast) where
   abbrev f : FlatState program.meaning.Cast
   f = flat_state_at program.procs program.told (Return v) [] store world
 
@@ -226,7 +227,8 @@ module _ (program : Program) (typed : TypesStand program.l) (places : List ℕ) 
   few_kinds (VectRow content) = omega arith
 
   -- a value in Dyn
-  shows_dyn : (u : FlatValue program.meaning.Cast) (kept w : ℕ) → CarriedHere program places objects (RunInject u kept) w
+  shows_dyn : (u : FlatValue program.meaning.Cast) (kept w : ℕ)
+      → CarriedHere program places objects (RunInject u kept) w
       → equal_heads (run_head (flat_arity program.procs) u) (head_of (rows_in program.l kept)) ≡ true
       → (words : Locals) → words 0 ≡ Some w → Shows (shown u) [] words (show_by DynRow)
   shows_dyn u kept w c fit words is =
@@ -236,9 +238,11 @@ module _ (program : Program) (typed : TypesStand program.l) (places : List ℕ) 
       let row = rows_in program.l kept in
       let head = header (type_kind (rows_in program.l kept)) (height_in program.l kept)
       (length (parts_of (rows_in program.l kept))) in
-      let type_there = word_there program.meaning program.setting program.l program.placed objects h filled w (header 3 0 2)
+      let type_there = word_there program.meaning program.setting program.l program.placed objects h filled w
+      (header 3 0 2)
       (c.0 ∷ c.1 ∷ []) c.2 1 c.0 (w + 8) refl (omega arith) in
-      let inner_there = word_there program.meaning program.setting program.l program.placed objects h filled w (header 3 0 2)
+      let inner_there = word_there program.meaning program.setting program.l program.placed objects h filled w
+      (header 3 0 2)
       (c.0 ∷ c.1 ∷ []) c.2 2 c.1 (w + 16) refl (omega arith) in
       let head_there = header_there program.meaning program.setting program.l program.placed objects h filled c.0
       (type_object program.l kept)

@@ -16,7 +16,8 @@ use Rattle.coercion_norm.specs.Objects.{Object}
 use Rattle.flat_ir.specs.declared.code.Operand.{Operand}
 use Rattle.flat_ir.specs.Bodies.{Call}
 use Rattle.flat_ir.specs.Closed.{operand_bound, operands_bound}
-use Rattle.flat_ir.specs.Machine.{FlatCode, FlatValue, FlatAfter, FlatState, FlatFrame, FlatFocus, FlatStore, Group, value, values, flat_turn, flat_state_at}
+use Rattle.flat_ir.specs.Machine.{FlatCode, FlatValue, FlatAfter, FlatState, FlatFrame, FlatFocus, FlatStore, Group}
+use Rattle.flat_ir.specs.Machine.{value, values, flat_turn, flat_state_at}
 use Rattle.flat_ir.specs.Machine.{Locals as FlatLocals}
 use Rattle.lower.specs.declared.numbering.Shape.{Shape}
 use Rattle.rt_cast.specs.States.{Heap, entered}
@@ -158,7 +159,8 @@ module _ (program : Program) (typed : TypesStand program.l)
       (operands_bound s.captured count depth os && nat_le (length os) 6) fits.bound
 
   few : length os ≤ 6
-  few = let z = (and_true (operands_bound s.captured count depth os) (nat_le (length os) 6) parts.1).1 in grind (arith, z)
+  few =
+      let z = (and_true (operands_bound s.captured count depth os) (nat_le (length os) 6) parts.1).1 in grind (arith, z)
 
   all_bound : (operand_bound s.captured count depth fo && operands_bound s.captured count depth os) ≡ true
   all_bound =
@@ -278,7 +280,8 @@ module _ (program : Program) (typed : TypesStand program.l)
       all r (at f.world h waiting size rests last (TailCall program.run.apply (apply_words a (found_all s 1 os))))
       (let e = apply_handed last w ws all still in
       let there = program.calling.stands.there in
-      let fine = taken program.setting program.run.apply 8 program.calling.proc (handed w ws) program.calling.stands refl
+      let fine = taken program.setting program.run.apply 8 program.calling.proc (handed w ws) program.calling.stands
+      refl
       in rw (e, there, fine) refl)
       (on waiting size rests last (TailCall program.run.apply (apply_words a (found_all s 1 os)))))))
   by_next (Into d k) r w ws now carried all are same =
@@ -309,7 +312,8 @@ module _ (program : Program) (typed : TypesStand program.l)
       (CallOf d program.run.apply (apply_words a (found_all s 1 os)) Done))
       (let e = apply_handed last w ws all still in
       let there = program.calling.stands.there in
-      let fine = taken program.setting program.run.apply 8 program.calling.proc (handed w ws) program.calling.stands refl
+      let fine = taken program.setting program.run.apply 8 program.calling.proc (handed w ws) program.calling.stands
+      refl
       in rw (e, there, fine) refl)
       (on waiting size (k ∷ rests) last (CallOf d program.run.apply (apply_words a (found_all s 1 os)) Done))))
 

@@ -1,5 +1,6 @@
 -- Boxes that code makes, reads and writes in place.
-use Rattle.std.proofs.Common.{◌≡◌, ◌⊎◌, inl, inr, ℕ, zero, suc, ◌+◌, ◌*◌, ◌^◌, ◌<◌, ◌≤◌, List, [], ◌∷◌, ◌++◌, length, Some}
+use Rattle.std.proofs.Common.{◌≡◌, ◌⊎◌, inl, inr, ℕ, zero, suc, ◌+◌, ◌*◌, ◌^◌, ◌<◌, ◌≤◌, List, [], ◌∷◌, ◌++◌, length}
+use Rattle.std.proofs.Common.{Some}
 use Rattle.std.proofs.Common.{true, false, refl, sym, ap, ◌∙◌, subst, arith}
 use Rattle.std.specs.Prelude.{slice_get, slice_set, ◌&&◌}
 use Rattle.rv_machine.specs.Memory.{Memory, store_bytes}
@@ -31,7 +32,8 @@ use Rattle.lower.specs.CarriedValues.{AreCarried, CellHeld, CellsHeld}
 use Rattle.lower.specs.RelatedStates.{Fits}
 use Rattle.lower.proofs.HeapObjects.{Within, found_within, stored_words, bytes_below, holds_same}
 use Rattle.lower.proofs.HeapFilled.{WordThere, header_there, Stands, stands, filled_above, filled_more}
-use Rattle.lower.proofs.HeapCells.{there_is, holds_stored, cell_of, as_many_cells, cells_stored, cells_append, cells_end, cell_word_there}
+use Rattle.lower.proofs.HeapCells.{there_is, holds_stored, cell_of, as_many_cells, cells_stored, cells_append}
+use Rattle.lower.proofs.HeapCells.{cells_end, cell_word_there}
 use Rattle.lower.proofs.CarriedLater.{grown, cells_grown, cells_below, carried_small}
 use Rattle.lower.proofs.RelationKept.{word_here, word_other, rest_grown, callers_grown}
 use Rattle.lower.proofs.WordArithmetic.{header_is}
@@ -170,7 +172,8 @@ module _ (program : Program) (typed : TypesStand program.l)
                   words = h.words + length (header 5 0 1 ∷ w ∷ []);
                 }) waiting size rests (set_local d h.alloc new) k)
             stored top =
-                let filled' = filled_more program.meaning program.setting program.l program.placed objects (box ∷ []) h m
+                let filled' = filled_more program.meaning program.setting program.l program.placed objects (box ∷ []) h
+                m
                 (h.alloc + 8 * length (header 5 0 1 ∷ w ∷ [])) (h.words + length (header 5 0 1 ∷ w ∷ [])) filled below
                 (held.0, tt) (program.laws.keeps_more program.l objects program.number box (record {
                   kind = Boxed;
@@ -184,13 +187,15 @@ module _ (program : Program) (typed : TypesStand program.l)
                 added_there program.l.region objects box [] h.alloc filled.ends in
                 let ends = cells_end program.l program.setting.address program.procs program.meaning places objects
                 program.setting program.placed h filled 0 places f.store cells (omega arith) in
-                let old = cells_grown program.l program.setting.address program.procs program.meaning program.laws places
+                let old = cells_grown program.l program.setting.address program.procs program.meaning program.laws
+                places
                 (places ++ h.alloc ∷ []) kept objects (box ∷ []) 0 m places f.store
                 (cells_below program.l program.setting.address program.procs program.meaning program.laws places objects
                 program.setting program.placed h filled m below places f.store cells) in
                 let moved_at : h.alloc + 8 ≡ h.alloc + 8 = refl in
                 let all = cells_append program.l program.setting.address program.procs program.meaning
-                (places ++ h.alloc ∷ []) (objects ++ box ∷ []) 0 m places f.store h.alloc (value locals group o ∷ []) old
+                (places ++ h.alloc ∷ []) (objects ++ box ∷ []) 0 m places f.store h.alloc (value locals group o ∷ [])
+                old
                 ends (record {
                   head = header 5 0 1;
                   words = w ∷ [];
@@ -202,14 +207,16 @@ module _ (program : Program) (typed : TypesStand program.l)
                     tt,
                   );
                 }) in
-                let rest' = rest_grown program.setting program.l program.run program.procs program.answer program.meaning
+                let rest' = rest_grown program.setting program.l program.run program.procs program.answer
+                program.meaning
                 program.laws places (places ++ h.alloc ∷ []) kept objects (box ∷ [])
                 (CallersHere program places objects waiting)
                 (CallersHere program (places ++ h.alloc ∷ []) (objects ++ box ∷ []) waiting)
                 (λ frames c. callers_grown program.setting program.l program.run program.procs program.answer
                 program.meaning program.laws places (places ++ h.alloc ∷ []) kept objects (box ∷ []) waiting frames c) s
                 count size group depth f.frames next rests words rest in
-                let many = as_many_cells program.l program.setting.address program.procs program.meaning places objects 0
+                let many = as_many_cells program.l program.setting.address program.procs program.meaning places objects
+                0
                 h.memory places f.store cells in
                 here program.setting P Q (at f.world h' waiting size rests (set_local d h.alloc new) k)
                 (settle program typed (places ++ h.alloc ∷ []) (objects ++ box ∷ []) h' f.world filled'
@@ -225,7 +232,8 @@ module _ (program : Program) (typed : TypesStand program.l)
   module _ (cell w n : ℕ) (values : List (FlatValue program.meaning.Cast)) (at_place : slice_get places cell ≡ Some w)
       (there : There program.l objects w (Cell (header 5 0 n) n)) (one_word_long : n ≡ 1)
       (in_store : slice_get f.store cell ≡ Some values) where
-    held_cell : CellHeld program.l program.setting.address program.procs program.meaning places objects h.memory w values
+    held_cell : CellHeld program.l program.setting.address program.procs program.meaning places objects h.memory w
+        values
     held_cell =
         cell_of program.l program.setting.address program.procs program.meaning places objects 0 h.memory places f.store
         cells cell w values at_place in_store
@@ -329,7 +337,8 @@ module _ (program : Program) (typed : TypesStand program.l)
                     (kind_there cell w n (v ∷ []) at_place there (single refl) in_store)
                     (λ last more.
                     let still = one_word (word_of last a) w
-                    (found_all_same read_scene f.world (inl refl) h objects filled waiting size rests s count group depth
+                    (found_all_same read_scene f.world (inl refl) h objects filled waiting size rests s count group
+                    depth
                     locals (o ∷ []) 0 bound (omega arith) new last more ∙ are) in
                     loads program.setting P Q calm w x still word.may word.is (let z = word.end in omega arith) less
                     (falls_through program.setting P Q calm
@@ -365,7 +374,8 @@ module _ (program : Program) (typed : TypesStand program.l)
         (fetch_all s 0 (b ∷ o ∷ [])
         (of_kind s (found s (operand_word s 0) b) 5
         (Store (found s (operand_word s 1) o) (found s (operand_word s 0) b) 8
-        (Set (word_for program places objects s next) (Number 0) Done)) other (code_for program places objects s next))))
+        (Set (word_for program places objects s next) (Number 0) Done)) other
+        (code_for program places objects s next))))
     box_written_here =
         fetch_all_reads write_scene f.world (inl refl) h objects filled waiting size rests s count group depth locals
         (b ∷ o ∷ []) 0 bound (omega arith) wide words fits.knows
@@ -408,7 +418,8 @@ module _ (program : Program) (typed : TypesStand program.l)
                 (at f.world h waiting size rests new (of_kind s to 5 (Store from to 8 (Set d (Number 0) Done)) other k))
             by_cell n at_place there single =
                 comes_on program.setting P Q (is_of_kind write_scene f.world (inl refl) h objects filled waiting size
-                rests s count group depth locals wide words fits.knows to w 5 n (Store from to 8 (Set d (Number 0) Done))
+                rests s count group depth locals wide words fits.knows to w 5 n
+                (Store from to 8 (Set d (Number 0) Done))
                 other k new (omega arith) (and_more_parts (word_of new to) (words_of new (from ∷ [])) w (y ∷ []) are).0
                 (kind_there cell w n old at_place there (single refl) in_store)
                 (λ last more.
@@ -461,7 +472,8 @@ module _ (program : Program) (typed : TypesStand program.l)
                 filled2 = record {
                   objects_stand = holds_stored h.memory objects program.l.region w hc.head 1 (w + 8) y
                       filled.objects_stand is_one (omega arith) (omega arith);
-                  statics_stand = holds_same h.memory (store_bytes 8 h.memory (w + 8) y) program.l.first program.l.statics
+                  statics_stand = holds_same h.memory (store_bytes 8 h.memory (w + 8) y) program.l.first
+                      program.l.statics
                       (λ i p q. stored_outside 8 h.memory (w + 8) y i
                       (inl (omega (arith, q, within.low, program.placed.before)))) filled.statics_stand;
                   ends = filled.ends;
@@ -477,7 +489,8 @@ module _ (program : Program) (typed : TypesStand program.l)
                 cells2 : CellsHeld program.l program.setting.address program.procs program.meaning places objects
                     (store_bytes 8 h.memory (w + 8) y) places (slice_set f.store cell (value locals group o ∷ []))
                 cells2 = cells_stored program.l program.setting.address program.procs program.meaning places objects
-                    h.memory w hc.head 1 (w + 8) y is_one (omega arith) (omega arith) 0 places f.store cells cell at_place
+                    h.memory w hc.head 1 (w + 8) y is_one (omega arith) (omega arith) 0 places f.store cells cell
+                    at_place
                     (value locals group o ∷ []) (record {
                       head = hc.head;
                       words = y ∷ [];

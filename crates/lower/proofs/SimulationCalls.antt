@@ -112,17 +112,20 @@ module _ (program : Program) where
 
   module _ (f : FlatState program.meaning.Cast) (places : List ℕ) (objects : List Object)
       (h : Heap) (filled : Filled program.meaning program.setting program.l program.number objects h)
-      (cells : CellsHeld program.l program.setting.address program.procs program.meaning places objects h.memory places f.store)
+      (cells : CellsHeld program.l program.setting.address program.procs program.meaning places objects h.memory places
+      f.store)
     where
       -- a value is about to be returned to, or the body goes on, of the procedure that was entered with these words
-      pub entered : (p : Proc) (group : Group program.meaning.Cast) (vs : List (FlatValue program.meaning.Cast)) (own : ℕ) (ws : List ℕ)
+      pub entered : (p : Proc) (group : Group program.meaning.Cast) (vs : List (FlatValue program.meaning.Cast))
+          (own : ℕ) (ws : List ℕ)
           (waiting : List LowWaiting) (frames : List (FlatFrame program.meaning.Cast)) (k : ℕ)
           → slice_get program.procs k ≡ Some p
           → OwnGroup program.setting program.l program.run program.procs program.answer program.meaning places objects
           (shape_of p) p.group group own
           → AreCarried program.l program.setting.address program.procs program.meaning places objects (in_row vs) ws
           → length vs ≡ p.params → CallersHere program places objects waiting frames
-          → Runs program.setting program.l program.run program.procs program.answer program.meaning places objects p.body
+          → Runs program.setting program.l program.run program.procs program.answer program.meaning places objects
+          p.body
           (locals_of vs) group frames (record {
             count = levels p.params p.body + 10;
             locals = bind 0 (own ∷ ws) no_locals;
@@ -153,13 +156,16 @@ module _ (program : Program) where
           }
         where
           many : length ws ≡ length vs
-          many = as_many program.l program.setting.address program.procs program.meaning program.laws places objects vs ws carried
+          many =
+              as_many program.l program.setting.address program.procs program.meaning program.laws places objects vs ws
+              carried
 
           at_level : (i : ℕ) → i < p.params → (w : ℕ)
               × (bind 0 (own ∷ ws) no_locals (local_word (shape_of p) i) ≡ Some w)
               × CarriedHere program places objects (locals_of vs i) w
           at_level i lt =
-              let z = carried_at program.l program.setting.address program.procs program.meaning program.laws places objects (in_row vs) ws i
+              let z = carried_at program.l program.setting.address program.procs program.meaning program.laws places
+              objects (in_row vs) ws i
               carried (omega (arith, lt, long, many)) in
               let low = local_low (shape_of p) i lt in (
                 z.0,
@@ -169,10 +175,12 @@ module _ (program : Program) where
               )
 
       module _ (waiting : List LowWaiting) (size : ℕ) (rests : List Code) (words : Locals) (s : Shape)
-          (count depth : ℕ) (group : Group program.meaning.Cast) (locals : FlatLocals program.meaning.Cast) (next : Then)
+          (count depth : ℕ) (group : Group program.meaning.Cast) (locals : FlatLocals program.meaning.Cast)
+          (next : Then)
           (rest : RestHere program places objects waiting s count size group depth f.frames next rests words)
           (fo : Operand) (os : List Operand)
-          (fits : Fits program.setting program.l program.run program.procs program.answer program.meaning places objects s count
+          (fits : Fits program.setting program.l program.run program.procs program.answer program.meaning places objects
+          s count
           size group depth locals words (Call fo os)) where
         parts : (operand_bound s.captured count depth fo ≡ true)
             × (operands_bound s.captured count depth os ≡ true) × (nat_le (length os) 6 ≡ true)
@@ -232,7 +240,8 @@ module _ (program : Program) where
             stands : (rest : List ℕ) × There program.l objects (c.0 + function_offset (length c.2) place)
                 (Fixed (1 + 4294967296 * suc (length rest)) (program.setting.address (first + place) ∷ rest))
             stands =
-                function_there program.l program.setting.address program.procs program.meaning program.laws places objects program.setting
+                function_there program.l program.setting.address program.procs program.meaning program.laws places
+                objects program.setting
                 program.placed h filled first c.0 c.1 place c.2 c.4 c.5
 
             at_word : There program.l objects w
@@ -240,7 +249,8 @@ module _ (program : Program) where
             at_word = subst (λ n. There program.l objects n (Fixed (1 + 4294967296 * suc (length stands.0))
                 (program.setting.address (first + place) ∷ stands.0))) (sym c.3) stands.1
 
-            own : OwnGroup program.setting program.l program.run program.procs program.answer program.meaning places objects
+            own : OwnGroup program.setting program.l program.run program.procs program.answer program.meaning places
+                objects
                 (shape_of p) p.group (record { first = first; captured = captured }) w
             own = record {
               leader = c.0;
@@ -250,14 +260,16 @@ module _ (program : Program) where
               long = ap (λ q. q.captured) (sym proc_same) ∙ member.captured_is;
               inside = (let x = ap (λ q. q.place) (sym proc_same) ∙ member.place_is in
                   let y = ap (λ q. q.group) (sym proc_same) ∙ member.group_is in let z = c.4 in omega (arith, x, y, z));
-              stands = subst (λ n. IsGroup program.l program.setting.address program.procs program.meaning places objects first
+              stands = subst (λ n. IsGroup program.l program.setting.address program.procs program.meaning places
+                  objects first
                   c.0 n c.2) (sym (ap (λ q. q.group) (sym proc_same) ∙ member.group_is)) c.5;
               carried = c.6;
             }
 
             takes : ((length (w ∷ ws) == low.params) && (nat_le low.params 8 && nat_le low.params low.words)) ≡ true
             takes =
-                let m = as_many program.l program.setting.address program.procs program.meaning program.laws places objects
+                let m = as_many program.l program.setting.address program.procs program.meaning program.laws places
+                objects
                 (values locals group os) ws carried in
                 let cl = proc_is_closed program.procs program.closed (first + place) p there in
                 let p6 = cl.params in
@@ -314,7 +326,8 @@ module _ (program : Program) where
             abbrev code_address : ℕ
             code_address = program.setting.address (first + place)
 
-            code_there : WordThere program.meaning program.setting program.l program.placed h.memory (w + 8) code_address
+            code_there : WordThere program.meaning program.setting program.l program.placed h.memory (w + 8)
+                code_address
             code_there =
                 word_there program.meaning program.setting program.l program.placed objects h filled w
                 (1 + 4294967296 * suc (length stands.0)) (code_address ∷ stands.0) at_word 1 code_address (w + 8) refl
@@ -383,9 +396,11 @@ module _ (program : Program) where
                   count,
                   group,
                   depth,
-                  rest_branch program.setting program.l program.run program.procs program.answer program.meaning program.laws places objects
+                  rest_branch program.setting program.l program.run program.procs program.answer program.meaning
+                      program.laws places objects
                       (CallersHere program places objects waiting) s count size group depth f.frames d k rests words'
-                      (rest_same program.setting program.l program.run program.procs program.answer program.meaning program.laws places
+                      (rest_same program.setting program.l program.run program.procs program.answer program.meaning
+                      program.laws places
                       objects
                       (CallersHere program places objects waiting) s count size group depth f.frames (Into d k) rests
                       words words' named r),

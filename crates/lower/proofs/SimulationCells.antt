@@ -89,14 +89,16 @@ module _ (program : Program) (typed : TypesStand program.l)
       by_operands (o ∷ os) b =
           let x = and_true (operand_bound s.captured count depth o) (operands_bound s.captured count depth os) b in
           let c = value_carried (serving_scene program typed f places
-          (flat_operate program.procs (mode_of program) f.store f.world MakeVector [] f.frames) 0) f.world refl h objects
+          (flat_operate program.procs (mode_of program) f.store f.world MakeVector [] f.frames) 0) f.world refl h
+          objects
           filled waiting size rests s count group depth locals o x.0 words fits.knows in
           let cs = by_operands os x.1 in
           (c.0 ∷ cs.0, (c.1, cs.1))
 
   module _ (op : PrimOp) (proc : LowProc) (number params : ℕ) (handed : List ℕ → List ℕ) (args : List LowSource)
       (law : OperatorDone program.meaning program.setting program.l program.procs program.casts program.run op proc
-      handed) (stands : StandsAs program.setting number proc params) (long : (ws : List ℕ) → length (handed ws) ≡ params)
+      handed) (stands : StandsAs program.setting number proc params) (long : (ws : List ℕ) → length (handed ws)
+      ≡ params)
       (on : IsHandedOn program.meaning program.setting program.l program.procs program.casts program.run op
       (values locals group os)) where
     abbrev pub after : FlatAfter program.meaning.Cast
@@ -124,7 +126,8 @@ module _ (program : Program) (typed : TypesStand program.l)
         rest less falls behind rr fall new touches in
         let z = law.does c program.number places objects f.store (record { filled = filled; cells = cells }) f.frames
         (values locals group os) ws carried on in
-        (called program typed f places objects h filled cells waiting size rests words s count depth group next rest less
+        (called program typed f places objects h filled cells waiting size rests words s count depth group next rest
+        less
         falls behind rr fall new touches after 0 number args (handed ws) proc params are stands (long ws) z.0 z.1.0
         z.1.1).1
 
@@ -201,7 +204,8 @@ module _ (program : Program) (typed : TypesStand program.l)
 
   module _ (op : PrimOp) (proc : LowProc) (number params : ℕ) (handed : List ℕ → List ℕ) (args : List LowSource)
       (law : OperatorDone program.meaning program.setting program.l program.procs program.casts program.run op proc
-      handed) (stands : StandsAs program.setting number proc params) (long : (ws : List ℕ) → length (handed ws) ≡ params)
+      handed) (stands : StandsAs program.setting number proc params) (long : (ws : List ℕ) → length (handed ws)
+      ≡ params)
       (on : IsHandedOn program.meaning program.setting program.l program.procs program.casts program.run op
       (values locals group os)) (u : FlatValue program.meaning.Cast) (cast : program.meaning.Cast)
       (others : List (FlatValue program.meaning.Cast)) (wrapped : values locals group os ≡ RunWrap u cast ∷ others)
@@ -224,7 +228,8 @@ module _ (program : Program) (typed : TypesStand program.l)
           (of_kind s (source 0) 5 one (Call d number args Done) k) fits.bound few fits.knows
           (λ ws new carried are changed.
           not_of_kind program typed f places objects h filled waiting size rests s count depth group locals wide
-          (flat_operate program.procs (mode_of program) f.store f.world op (values locals group os) f.frames) 0 (source 0)
+          (flat_operate program.procs (mode_of program) f.store f.world op (values locals group os) f.frames) 0
+          (source 0)
           (at_or_zero ws 0) 5 one (Call d number args Done) k new (omega arith) (λ z. omega (arith, z))
           (λ z. omega (arith, z)) (found_word new ws 0 are)
           (first_wrapped ws (subst (λ vs. AreCarried program.l program.setting.address program.procs program.meaning

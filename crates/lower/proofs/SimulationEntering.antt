@@ -12,7 +12,8 @@ use Rattle.coercion_norm.specs.ValueSteps.{Own, Return, Entering}
 use Rattle.coercion_norm.specs.Held.{TypesStand}
 use Rattle.coercion_norm.specs.Objects.{Object}
 use Rattle.flat_ir.specs.Bodies.{Proc}
-use Rattle.flat_ir.specs.Machine.{FlatCode, FlatValue, FlatValues, FlatFrame, FlatFocus, FlatState, FlatStore, Group, Inside}
+use Rattle.flat_ir.specs.Machine.{FlatCode, FlatValue, FlatValues, FlatFrame, FlatFocus, FlatState, FlatStore, Group}
+use Rattle.flat_ir.specs.Machine.{Inside}
 use Rattle.flat_ir.specs.Machine.{locals_of, flat_state_at}
 use Rattle.lower.specs.Numbering.{function_offset}
 use Rattle.rt_cast.specs.States.{heap_of}

@@ -33,17 +33,20 @@ module _ (program : Program) (places : List ℕ) (objects : List Object) where
       Carried program.setting program.l program.run program.procs program.answer program.meaning places objects v w
 
   abbrev pub CallersHere : List LowWaiting → List (FlatFrame program.meaning.Cast) → Type 0
-  CallersHere waiting frames = Callers program.setting program.l program.run program.procs program.answer program.meaning places
+  CallersHere waiting frames =
+      Callers program.setting program.l program.run program.procs program.answer program.meaning places
       objects waiting frames
 
-  abbrev pub RestHere : List LowWaiting → Shape → ℕ → ℕ → Group program.meaning.Cast → ℕ → List (FlatFrame program.meaning.Cast) → Then
+  abbrev pub RestHere : List LowWaiting → Shape → ℕ → ℕ → Group program.meaning.Cast → ℕ
+      → List (FlatFrame program.meaning.Cast) → Then
       → List Code → Locals → Type 0
   RestHere waiting s count size group depth frames next rests words =
       Rest program.setting program.l program.run program.procs program.answer program.meaning places objects
       (CallersHere waiting) s count size group depth frames next rests words
 
   -- a word that takes a value is one of the procedure
-  pub word_fits : (waiting : List LowWaiting) (s : Shape) (count size : ℕ) (group : Group program.meaning.Cast) (depth : ℕ)
+  pub word_fits : (waiting : List LowWaiting) (s : Shape) (count size : ℕ) (group : Group program.meaning.Cast)
+      (depth : ℕ)
       (frames : List (FlatFrame program.meaning.Cast)) (d : ℕ) (k : Code) (rests : List Code) (words : Locals)
       → RestHere waiting s count size group depth frames (Into d k) rests words → d < size
   word_fits waiting s count size group depth [] d k rests words r = absurd r
@@ -61,7 +64,8 @@ module _ (program : Program) (places : List ℕ) (objects : List Object) where
   -- a value was put into the word that takes it
   pub put_in : (waiting : List LowWaiting) (s : Shape) (count size : ℕ) (group : Group program.meaning.Cast) (depth : ℕ)
       (frames : List (FlatFrame program.meaning.Cast)) (d : ℕ) (k : Code) (rests : List Code) (words new : Locals)
-      (v : FlatValue program.meaning.Cast) (w : ℕ) → RestHere waiting s count size group depth frames (Into d k) rests words
+      (v : FlatValue program.meaning.Cast) (w : ℕ) → RestHere waiting s count size group depth frames (Into d k) rests
+      words
       → CarriedHere v w → new d ≡ Some w → Touches s d words new
       → Gave program.setting program.l program.run program.procs program.answer program.meaning places objects v frames
       (record { count = size; locals = new; code = k; rests = rests }) waiting
@@ -78,7 +82,8 @@ module _ (program : Program) (places : List ℕ) (objects : List Object) where
         is = e;
         carried = c;
         rest =
-            rest_same program.setting program.l program.run program.procs program.answer program.meaning program.laws places objects
+            rest_same program.setting program.l program.run program.procs program.answer program.meaning program.laws
+            places objects
             (CallersHere waiting) s count size group slot (OwnFrame (Waiting slot rest locals other) ∷ frames)
             (Into d k) rests words new same (
               record {
@@ -125,7 +130,8 @@ module _ (program : Program) (places : List ℕ) (objects : List Object) where
       (frames : List (FlatFrame program.meaning.Cast)) (next : Then) (rests : List Code) (words new : Locals)
       (v : FlatValue program.meaning.Cast) (w : ℕ) → RestHere waiting s count size group depth frames next rests words
       → CarriedHere v w → new (word_for s next) ≡ Some w → Touches s (word_for s next) words new
-      → Goes program.setting program.l program.run program.procs program.answer program.meaning places objects (Return v)
+      → Goes program.setting program.l program.run program.procs program.answer program.meaning places objects
+      (Return v)
       frames (record { count = size; locals = new; code = code_for s next; rests = rests }) waiting
   given waiting s count size group depth frames ToCaller rests words new v w r c e touches =
       inr (record { source = Word (test_word s); w = w; code = refl; is = e; carried = c; callers = r })

@@ -44,8 +44,10 @@ use Rattle.lower.proofs.SimulationAnswers.{answered}
 use Rattle.coercion_norm.specs.ValueSteps.{CastFrame, casts_onto}
 
 -- a turn that has no next one
-pub goes_wrong : (program : Program) (f : FlatState program.meaning.Cast) (places : List ℕ) (objects : List Object) (h : Heap)
-    → Filled program.meaning program.setting program.l program.number objects h → (waiting : List LowWaiting) (size : ℕ) (rests : List Code)
+pub goes_wrong : (program : Program) (f : FlatState program.meaning.Cast) (places : List ℕ) (objects : List Object)
+    (h : Heap)
+    → Filled program.meaning program.setting program.l program.number objects h → (waiting : List LowWaiting) (size : ℕ)
+    (rests : List Code)
     (words : Locals) (code : Code) → Follows program f NoNext (at f.world h waiting size rests words code)
 goes_wrong program f places objects h filled waiting size rests words code =
     here program.setting (Way program f (next_state program f NoNext)) (R program (next_state program f NoNext))
@@ -59,11 +61,13 @@ goes_wrong program f places objects h filled waiting size rests words code =
 module _ (program : Program) (typed : TypesStand program.l) where
   -- a value that is given or returned goes with the value of the numbered procedures
   pub returned : (places : List ℕ) (objects : List Object) (h : Heap) (world : WorldState)
-      → Filled program.meaning program.setting program.l program.number objects h → (store : FlatStore program.meaning.Cast) (frames : List (FlatFrame program.meaning.Cast))
+      → Filled program.meaning program.setting program.l program.number objects h
+      → (store : FlatStore program.meaning.Cast) (frames : List (FlatFrame program.meaning.Cast))
       → CellsHeld program.l program.setting.address program.procs program.meaning places objects h.memory places store
       → (v : FlatValue program.meaning.Cast) (waiting : List LowWaiting) (size : ℕ) (rests : List Code) (words : Locals)
       (code : Code)
-      → Goes program.setting program.l program.run program.procs program.answer program.meaning places objects (Return v) frames
+      → Goes program.setting program.l program.run program.procs program.answer program.meaning places objects
+      (Return v) frames
       (record { count = size; locals = words; code = code; rests = rests }) waiting
       → Settled program (flat_state_at program.procs program.told (Return v) frames store world)
       (at world h waiting size rests words code)
@@ -106,11 +110,13 @@ module _ (program : Program) (typed : TypesStand program.l) where
           none cast casts base e = cc
 
   pub settle : (places : List ℕ) (objects : List Object) (h : Heap) (world : WorldState)
-      → Filled program.meaning program.setting program.l program.number objects h → (store : FlatStore program.meaning.Cast) (frames : List (FlatFrame program.meaning.Cast))
+      → Filled program.meaning program.setting program.l program.number objects h
+      → (store : FlatStore program.meaning.Cast) (frames : List (FlatFrame program.meaning.Cast))
       → CellsHeld program.l program.setting.address program.procs program.meaning places objects h.memory places store
       → (v : FlatValue program.meaning.Cast) (waiting : List LowWaiting) (size : ℕ) (rests : List Code) (words : Locals)
       (code : Code)
-      → Goes program.setting program.l program.run program.procs program.answer program.meaning places objects (Return v) frames
+      → Goes program.setting program.l program.run program.procs program.answer program.meaning places objects
+      (Return v) frames
       (record { count = size; locals = words; code = code; rests = rests }) waiting
       → R program (flat_state_at program.procs program.told (Return v) frames store world)
       (at world h waiting size rests words code)
@@ -122,10 +128,13 @@ module _ (program : Program) (typed : TypesStand program.l) where
   -- a turn in which an operation of a body gives a value
   module _ (f : FlatState program.meaning.Cast) (places : List ℕ) (objects : List Object) (h : Heap)
       (filled : Filled program.meaning program.setting program.l program.number objects h)
-      (cells : CellsHeld program.l program.setting.address program.procs program.meaning places objects h.memory places f.store)
+      (cells : CellsHeld program.l program.setting.address program.procs program.meaning places objects h.memory places
+      f.store)
       (waiting : List LowWaiting) (size : ℕ) (rests : List Code) (words : Locals) (s : Shape) (count depth : ℕ)
-      (group : Group program.meaning.Cast) (locals : FlatLocals program.meaning.Cast) (operation : Operation) (next : Then)
-      (fits : Fits program.setting program.l program.run program.procs program.answer program.meaning places objects s count
+      (group : Group program.meaning.Cast) (locals : FlatLocals program.meaning.Cast) (operation : Operation)
+      (next : Then)
+      (fits : Fits program.setting program.l program.run program.procs program.answer program.meaning places objects s
+      count
       size group depth locals words (Give operation))
       (rest : RestHere program places objects waiting s count size group depth f.frames next rests words) where
     pub room : s.params + 10 ≤ size
@@ -214,12 +223,16 @@ module _ (program : Program) (typed : TypesStand program.l) where
         word_less (code_for program places objects s next)
         (λ more h' filled' below w new carried e touches.
         let v = RunTuple (in_row (values locals group os)) in
-        let cells' = cells_later program.l program.setting.address program.procs program.meaning program.laws places objects more h'.memory
-        places f.store (cells_below program.l program.setting.address program.procs program.meaning program.laws places objects
+        let cells' = cells_later program.l program.setting.address program.procs program.meaning program.laws places
+        objects more h'.memory
+        places f.store (cells_below program.l program.setting.address program.procs program.meaning program.laws places
+        objects
         program.setting program.placed h filled h'.memory below places f.store cells) in
-        let rest' = rest_later program.setting program.l program.run program.procs program.answer program.meaning program.laws places objects
+        let rest' = rest_later program.setting program.l program.run program.procs program.answer program.meaning
+        program.laws places objects
         more (CallersHere program places objects waiting) (CallersHere program places (objects ++ more) waiting)
-        (λ frames c. callers_later program.setting program.l program.run program.procs program.answer program.meaning program.laws places
+        (λ frames c. callers_later program.setting program.l program.run program.procs program.answer program.meaning
+        program.laws places
         objects more waiting frames c) s count size group depth f.frames next rests words rest in
         here program.setting (Way program f (next_state program f (after v)))
         (R program (next_state program f (after v)))
@@ -230,7 +243,8 @@ module _ (program : Program) (typed : TypesStand program.l) where
         carried e touches)))
 
     pub part_turns : (o : Operand) (i : ℤ) → operand_bound s.captured count depth o ≡ true
-        → ((u : FlatValue program.meaning.Cast) (cast : program.meaning.Cast) → value locals group o ≡ RunWrap u cast → ⊥)
+        → ((u : FlatValue program.meaning.Cast) (cast : program.meaning.Cast) → value locals group o ≡ RunWrap u cast
+        → ⊥)
         → Follows program f (flat_proj program.procs (mode_of program) f.store f.world
         (value locals group o) i f.frames)
         (at f.world h waiting size rests words (perform program.run s (word_for program places objects s next)

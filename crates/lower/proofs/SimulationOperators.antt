@@ -111,10 +111,13 @@ module _ {C : Type 0} (locals : FlatLocals C) (group : Group C) where
 module _ (program : Program) (typed : TypesStand program.l)
     (f : FlatState program.meaning.Cast) (places : List ℕ) (objects : List Object) (h : Heap)
     (filled : Filled program.meaning program.setting program.l program.number objects h)
-    (cells : CellsHeld program.l program.setting.address program.procs program.meaning places objects h.memory places f.store)
+    (cells : CellsHeld program.l program.setting.address program.procs program.meaning places objects h.memory places
+    f.store)
     (waiting : List LowWaiting) (size : ℕ) (rests : List Code) (words : Locals) (s : Shape) (count depth : ℕ)
-    (group : Group program.meaning.Cast) (locals : FlatLocals program.meaning.Cast) (op : PrimOp) (os : List Operand) (next : Then)
-    (fits : Fits program.setting program.l program.run program.procs program.answer program.meaning places objects s count
+    (group : Group program.meaning.Cast) (locals : FlatLocals program.meaning.Cast) (op : PrimOp) (os : List Operand)
+    (next : Then)
+    (fits : Fits program.setting program.l program.run program.procs program.answer program.meaning places objects s
+    count
     size group depth locals words (Give (Prim op os)))
     (rest : RestHere program places objects waiting s count size group depth f.frames next rests words) where
   abbrev d : ℕ
@@ -127,7 +130,8 @@ module _ (program : Program) (typed : TypesStand program.l)
   abbrev Does : PrimOp → List Operand → FlatAfter program.meaning.Cast → Type 0
   Does op os x = Follows program f x (at f.world h waiting size rests words (perform program.run s d (Prim op os) k))
 
-  gives : (v : FlatValue program.meaning.Cast) (w : ℕ) (new : Locals) → CarriedHere program places objects v w → new d ≡ Some w
+  gives : (v : FlatValue program.meaning.Cast) (w : ℕ) (new : Locals) → CarriedHere program places objects v w
+      → new d ≡ Some w
       → Touches s d words new
       → Follows program f (On (Return v) f.frames f.store f.world) (at f.world h waiting size rests new k)
   gives v w new c e touches =
@@ -315,7 +319,8 @@ module _ (program : Program) (typed : TypesStand program.l)
     calm = λ world h objects filled allowed active waiting. record { output = allowed; filling = (objects, filled) };
   }
 
-  quiet_seen : (s t : LowState) → Quiet s t → s.world ≡ f.world → Filled program.meaning program.setting program.l program.number objects (heap_of s)
+  quiet_seen : (s t : LowState) → Quiet s t → s.world ≡ f.world
+      → Filled program.meaning program.setting program.l program.number objects (heap_of s)
       → Seen program trapped t
   quiet_seen s t q w filled = record {
     output = ap (λ x. x.output) (q.world ∙ w);

@@ -1,5 +1,6 @@
 -- Parts of tuples in wrappers, and of values in Dyn, which a procedure of the scheme gives.
-use Rattle.std.proofs.Common.{◌≡◌, ◌⊎◌, inl, inr, ℕ, ℤ, pos, negsuc, ◌+◌, ◌*◌, ◌^◌, ◌%◌, ◌<◌, ◌≤◌, List, [], ◌∷◌, Option, Some}
+use Rattle.std.proofs.Common.{◌≡◌, ◌⊎◌, inl, inr, ℕ, ℤ, pos, negsuc, ◌+◌, ◌*◌, ◌^◌, ◌%◌, ◌<◌, ◌≤◌, List, [], ◌∷◌}
+use Rattle.std.proofs.Common.{Option, Some}
 use Rattle.std.proofs.Common.{None, Bool, true, false, refl, sym, ap, ◌∙◌, subst, arith, mod-eq_of_lt}
 use Rattle.std.specs.Prelude.{◌&&◌, nat_lt, if◌then◌else◌}
 use Rattle.std.specs.Int.{w64, cast_unsigned, int_wrap}
@@ -16,7 +17,8 @@ use Rattle.flat_ir.specs.declared.code.Operand.{Operand}
 use Rattle.flat_ir.specs.declared.code.Operation.{Operation}
 use Rattle.flat_ir.specs.Bodies.{Give}
 use Rattle.flat_ir.specs.Closed.{operand_bound}
-use Rattle.flat_ir.specs.Machine.{FlatValue, FlatAfter, FlatState, Group, value, values, flat_proj, flat_arity, flat_entered}
+use Rattle.flat_ir.specs.Machine.{FlatValue, FlatAfter, FlatState, Group, value, values, flat_proj, flat_arity}
+use Rattle.flat_ir.specs.Machine.{flat_entered}
 use Rattle.flat_ir.specs.Machine.{Locals as FlatLocals}
 use Rattle.lower.specs.declared.numbering.Shape.{Shape}
 use Rattle.rt_cast.specs.States.{Heap, entered}
@@ -51,7 +53,8 @@ module _ (program : Program) (typed : TypesStand program.l)
     (filled : Filled program.meaning program.setting program.l program.number objects h)
     (cells : CellsHeld program.l program.setting.address program.procs program.meaning places objects h.memory places
     f.store) (waiting : List LowWaiting) (size : ℕ) (rests : List Code) (words : Locals) (s : Shape) (count depth : ℕ)
-    (group : Group program.meaning.Cast) (locals : FlatLocals program.meaning.Cast) (operation : Operation) (o : Operand)
+    (group : Group program.meaning.Cast) (locals : FlatLocals program.meaning.Cast) (operation : Operation)
+    (o : Operand)
     (next : Then)
     (fits : Fits program.setting program.l program.run program.procs program.answer program.meaning places objects s
     count size group depth locals words (Give operation))
@@ -254,7 +257,8 @@ module _ (program : Program) (typed : TypesStand program.l)
             one_word (word_of last a) w
             (found_all_same (serving_scene program typed f places part_after 0) f.world refl h objects filled waiting
             size rests s count group depth locals (o ∷ []) 0 all_bound (omega arith) new last more ∙ are) in
-            let part_word : n % 2 ^ 64 ≡ cast_unsigned w64 i % 2 ^ 64 = ap (λ z. cast_unsigned w64 z % 2 ^ 64) (sym e) in
+            let part_word : n % 2 ^ 64 ≡ cast_unsigned w64 i % 2 ^ 64 = ap (λ z. cast_unsigned w64 z % 2 ^ 64) (sym e)
+            in
             comes_on program.setting (OnServed program f.world.output program.number (program.number + 0))
             (Landed program typed f (next_state program f part_after) (program.number + 0))
             (calls_part part_after (cast_unsigned w64 i % 2 ^ 64) 1 0 part_law

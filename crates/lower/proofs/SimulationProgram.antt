@@ -77,7 +77,8 @@ module _ (meaning : Meaning) (laws : MeaningLaws meaning) (setting : Setting) (l
     calling = does.calling;
   }
 
-  by_layout : TypesStand l → (input : List ℕ) → NeverWrong (flat_run_in procs entry (meaning.mode l.types casts) told input)
+  by_layout : TypesStand l → (input : List ℕ) → NeverWrong (flat_run_in procs entry (meaning.mode l.types casts) told
+      input)
       → FollowsBy (λ shown counts. Passes meaning setting l shown counts.wraps) Any
       (run (low_machine ending_of setting) (low_start setting (entry_proc entry answer) memory (first_world input)))
       (flat_run_in procs entry (meaning.mode l.types casts) told input)

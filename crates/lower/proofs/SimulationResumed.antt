@@ -11,7 +11,8 @@ use Rattle.coercion_norm.specs.ValueSteps.{Own, Return, Entering, CastFrame, cas
 use Rattle.coercion_norm.specs.Held.{TypesStand}
 use Rattle.coercion_norm.specs.Objects.{Object}
 use Rattle.flat_ir.specs.Counts.{decision_at}
-use Rattle.flat_ir.specs.Machine.{FlatValue, FlatFrame, FlatFocus, FlatAfter, FlatState, FlatStore, flat_cast, flat_state_at}
+use Rattle.flat_ir.specs.Machine.{FlatValue, FlatFrame, FlatFocus, FlatAfter, FlatState, FlatStore, flat_cast}
+use Rattle.flat_ir.specs.Machine.{flat_state_at}
 use Rattle.rt_cast.specs.States.{Heap, heap_of}
 use Rattle.lower.specs.Storage.{Filled}
 use Rattle.lower.specs.CarriedValues.{CellsHeld}
@@ -25,7 +26,8 @@ use Rattle.lower.proofs.SimulationServed.{OnServed, Lands, silent_after}
 use Rattle.lower.proofs.SimulationServices.{Served, kept_in_front}
 use Rattle.lower.proofs.SimulationApplied.{serve_step}
 
-module _ (program : Program) (typed : TypesStand program.l) (store : FlatStore program.meaning.Cast) (world : WorldState)
+module _ (program : Program) (typed : TypesStand program.l) (store : FlatStore program.meaning.Cast)
+    (world : WorldState)
     (places : List ℕ) (objects : List Object) (h : Heap)
     (filled : Filled program.meaning program.setting program.l program.number objects h)
     (cells : CellsHeld program.l program.setting.address program.procs program.meaning places objects h.memory places
@@ -95,7 +97,8 @@ module _ (program : Program) (typed : TypesStand program.l) (store : FlatStore p
         (Returns program.meaning program.setting program.l program.procs program.casts c places objects base) law.2.0)
         f refl after program.number wraps (record c { active = with_local u.answer w u.rest }) law.2.1,
     serve_step program typed f c refl law.1 (suc (frames_weight base))
-        (Returns program.meaning program.setting program.l program.procs program.casts c places objects base) lands after
+        (Returns program.meaning program.setting program.l program.procs program.casts c places objects base) lands
+        after
         program.number wraps law.2.0 (at world h (u ∷ us) size rests words (ReturnCode source))
         (record c { active = with_local u.answer w u.rest }) step
         (record { same = refl; filling = inl (objects, filled) }) (record {
@@ -108,7 +111,8 @@ module _ (program : Program) (typed : TypesStand program.l) (store : FlatStore p
   )
     where
       law : (u.answer < u.rest.count) × (most : Spent)
-          × Answers program.meaning program.setting program.l program.procs program.casts c most places objects base after
+          × Answers program.meaning program.setting program.l program.procs program.casts c most places objects base
+          after
           program.number wraps (record c { active = with_local u.answer w u.rest })
       law = program.calling.goes_on c program.number places objects store (record { filled = filled; cells = cells })
           base u cast results resumes v w carried

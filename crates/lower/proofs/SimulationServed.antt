@@ -1,4 +1,5 @@
--- A procedure that serves makes some turns of the numbered procedures: the law that it meets, as the simulation needs it.
+-- A procedure that serves makes some turns of the numbered procedures: the law that it meets, as the simulation needs
+-- it.
 use Rattle.std.proofs.Common.{◌≡◌, ◌⊎◌, inl, inr, ℕ, zero, suc, ◌+◌, ◌<◌, ◌≤◌, List, [], ◌∷◌, Option, Some, None, refl}
 use Rattle.std.proofs.Common.{sym, ap, ◌∙◌, subst, arith, slice_get}
 use Rattle.grift_base.specs.World.{WorldState}
@@ -197,8 +198,11 @@ module _ (program : Program) where
         → f.world ≡ s.world → (t : LowState) → OnWayHere n n t → AfterHere i x n w t
         → ((next_state program f x).world.output ≡ f.world.output)
         × Next (Waits low i) low (i ≡ 0) s.world.output (next_state program f x) n (n + w) t
-    served_on i NoNext n w f fw t here a =
-        (refl, inl (over n (n + w) (omega (arith, a)) (next_state program f NoNext) refl (ap (λ z. z.output) fw) t here))
+    served_on i NoNext n w f fw t here a = (
+      refl,
+      inl (over n (n + w) (omega (arith, a)) (next_state program f NoNext) refl (ap (λ z. z.output) fw) t
+          here),
+    )
     served_on i (BlameOf label) n w f fw t here a =
         (refl, inl (by_label (slice_get program.told.labels label) refl))
       where
@@ -216,14 +220,16 @@ module _ (program : Program) where
             (a.1 place (ap (λ ls. slice_get ls label) program.labels_are ∙ e))
     served_on i (TrapOf trap world) n w f fw t here a = (
       ap (λ z. z.output) (a.1 ∙ sym fw),
-      inl (ends_so n (n + w) (let z = a.0 in omega (arith, z)) (next_state program f (TrapOf trap world)) (TrapVerdict trap)
+      inl (ends_so n (n + w) (let z = a.0 in omega (arith, z)) (next_state program f (TrapOf trap world))
+          (TrapVerdict trap)
           refl (ap (λ z. z.output) a.1) t here a.2),
     )
     served_on zero (On focus frames store world) n w f fw t here a = (
       ap (λ z. z.output) (a.0 ∙ sym fw),
       inr (subst (λ z. (k : ℕ) × (ZeroIsZero → (0 < k) ⊎ (size_of (state_at focus frames store z) ≤ low))
           × Reaches (N program) (OnServed s.world.output n (n + w))
-          (Settled (after_wraps program (n + w)) (state_at focus frames store z)) k t) (sym a.0) (by_steps a.1.0 a.1.1)),
+          (Settled (after_wraps program (n + w)) (state_at focus frames store z)) k t) (sym a.0)
+          (by_steps a.1.0 a.1.1)),
     )
       where
         P : LowState → Type 0
@@ -270,7 +276,8 @@ module _ (program : Program) where
             (reaches_weaken (N program) (OnWayHere n (n + w))
             (Goes program.meaning program.setting program.l program.procs program.casts s most aim (suc i) focus frames
             store (n + w)) (OnServed s.world.output n (n + w))
-            (Waits low (suc i) (state_at focus frames store s.world) (n + w)) (served n (n + w)) (λ u g. further (served_on i) u g) a.1.0 t a.1.1),
+            (Waits low (suc i) (state_at focus frames store s.world) (n + w)) (served n (n + w))
+            (λ u g. further (served_on i) u g) a.1.0 t a.1.1),
       ),
     )
       where

@@ -12,7 +12,8 @@ use Rattle.low_ir.specs.Run.{Waiting as LowWaiting, LowState, words_of, code_ste
 use Rattle.coercion_norm.specs.ValueSteps.{Own, Return, Entering}
 use Rattle.coercion_norm.specs.Held.{TypesStand}
 use Rattle.coercion_norm.specs.Objects.{Object}
-use Rattle.flat_ir.specs.Machine.{FlatValue, FlatFrame, FlatFocus, FlatAfter, FlatState, FlatStore, Group, flat_state_at}
+use Rattle.flat_ir.specs.Machine.{FlatValue, FlatFrame, FlatFocus, FlatAfter, FlatState, FlatStore, Group}
+use Rattle.flat_ir.specs.Machine.{flat_state_at}
 use Rattle.lower.specs.declared.numbering.Shape.{Shape}
 use Rattle.rt_cast.specs.States.{Heap, heap_of, entered}
 use Rattle.lower.specs.Storage.{Filled}
@@ -216,6 +217,7 @@ module _ (program : Program) (typed : TypesStand program.l) (f : FlatState progr
           by_next (inr r) =
               moved program.setting P Q t te step on (record {
                 steps = r.0;
-                reach = reaches_weaken (N program) P (Waits program 0 i (next_state program f x) (program.number + w)) P Q
+                reach = reaches_weaken (N program) P (Waits program 0 i (next_state program f x) (program.number + w)) P
+                    Q
                     (λ u z. z) (λ u z. landed (next_state program f x) (program.number + w) i u z) r.0 te r.2;
               })

@@ -52,12 +52,14 @@ use Rattle.lower.proofs.SimulationTurns.{Does, st, runs_body, gave, gives, call_
 
 module _ (program : Program) (typed : TypesStand program.l) where
   -- a turn of the numbered procedures, from a state that goes with one over words
-  turn_from : (focus : FlatFocus program.meaning.Cast) (frames : List (FlatFrame program.meaning.Cast)) (store : FlatStore program.meaning.Cast)
+  turn_from : (focus : FlatFocus program.meaning.Cast) (frames : List (FlatFrame program.meaning.Cast))
+      (store : FlatStore program.meaning.Cast)
       (world : WorldState) (places : List ℕ) (objects : List Object) (h : Heap)
       → Filled program.meaning program.setting program.l program.number objects h
       → CellsHeld program.l program.setting.address program.procs program.meaning places objects h.memory places store
       → (waiting : List LowWaiting) (size : ℕ) (rests : List Code) (words : Locals) (code : Code)
-      → Goes program.setting program.l program.run program.procs program.answer program.meaning places objects focus frames
+      → Goes program.setting program.l program.run program.procs program.answer program.meaning places objects focus
+      frames
       (record { count = size; locals = words; code = code; rests = rests }) waiting
       → Does program typed (st program typed focus frames store world)
       (flat_turn program.procs (mode_of program) store world focus frames)

@@ -107,7 +107,8 @@ no_wrapper v e u cast is = true_false (sym e ∙ ap is_wrapped is)
 
 module _ (program : Program) (typed : TypesStand program.l) where
   -- a state that goes on
-  abbrev pub st : FlatFocus program.meaning.Cast → List (FlatFrame program.meaning.Cast) → FlatStore program.meaning.Cast → WorldState → FlatState program.meaning.Cast
+  abbrev pub st : FlatFocus program.meaning.Cast → List (FlatFrame program.meaning.Cast)
+      → FlatStore program.meaning.Cast → WorldState → FlatState program.meaning.Cast
   st focus frames store world =
       record { focus = focus; frames = frames; store = store; world = world; ended = None }
 
@@ -126,136 +127,148 @@ module _ (program : Program) (typed : TypesStand program.l) where
   abbrev FallsAt : FlatState program.meaning.Cast → FlatAfter program.meaning.Cast → Type 0
   FallsAt f x = size_of (next_state program f x) < size_of f
 
-  returns_less : (v : FlatValue program.meaning.Cast) (frames : List (FlatFrame program.meaning.Cast)) (store : FlatStore program.meaning.Cast)
+  returns_less : (v : FlatValue program.meaning.Cast) (frames : List (FlatFrame program.meaning.Cast))
+      (store : FlatStore program.meaning.Cast)
       (world : WorldState) (n : ℕ) → frames_weight frames ≤ n
       → size_of (flat_state_at program.procs program.told (Return v) frames store world) ≤ suc n
   returns_less v [] store world n le = omega arith
   returns_less v (frame ∷ frames) store world n le = omega (arith, le)
 
   module _ (op : Operation) (locals : FlatLocals program.meaning.Cast) (group : Group program.meaning.Cast)
-      (frames : List (FlatFrame program.meaning.Cast)) (store : FlatStore program.meaning.Cast) (world : WorldState) where
-    abbrev f : FlatState program.meaning.Cast
-    f = st (Own (Inside (Give op) locals group)) frames store world
+      (frames : List (FlatFrame program.meaning.Cast)) (store : FlatStore program.meaning.Cast) (world : WorldState)
+    where
+      abbrev f : FlatState program.meaning.Cast
+      f = st (Own (Inside (Give op) locals group)) frames store world
 
-    given_falls : (v : FlatValue program.meaning.Cast) (world' : WorldState) → FallsAt f (On (Return v) frames store world')
-    given_falls v world' =
-        let z = returns_less v frames store world' (frames_weight frames) (omega arith) in omega (arith, z)
+      given_falls : (v : FlatValue program.meaning.Cast) (world' : WorldState)
+          → FallsAt f (On (Return v) frames store world')
+      given_falls v world' =
+          let z = returns_less v frames store world' (frames_weight frames) (omega arith) in omega (arith, z)
 
-    wrong_falls : FallsAt f NoNext
-    wrong_falls = omega arith
+      wrong_falls : FallsAt f NoNext
+      wrong_falls = omega arith
 
-    proj_falls : (v : FlatValue program.meaning.Cast) (i : ℤ)
-        → FallsAt f (flat_proj program.procs (mode_of program) store world v i frames)
-    proj_falls (RunTuple vs) (pos i) = by_part (slice_get (row_list vs) i)
-      where
-        by_part : (o : Option (FlatValue program.meaning.Cast)) → FallsAt f (on_some o (λ v. On (Return v) frames store world))
-        by_part None = wrong_falls
-        by_part (Some v) = given_falls v world
-    proj_falls (RunTuple vs) (negsuc i) = wrong_falls
-    proj_falls (RunWrap v c) i = by_cast ((mode_of program).projecting c i)
-      where
-        by_cast : (o : Option program.meaning.Cast)
-            → FallsAt f (on_some o (λ part. On (Return v) (ProjFrame i ∷ CastFrame part ∷ frames) store world))
-        by_cast None = wrong_falls
-        by_cast (Some part) = omega arith
-    proj_falls (RunInt n) i = wrong_falls
-    proj_falls (RunBool b) i = wrong_falls
-    proj_falls RunUnit i = wrong_falls
-    proj_falls (RunFun function captured) i = wrong_falls
-    proj_falls (RunLoc cell is_vector) i = wrong_falls
-    proj_falls (RunInject v kept) i = wrong_falls
+      proj_falls : (v : FlatValue program.meaning.Cast) (i : ℤ)
+          → FallsAt f (flat_proj program.procs (mode_of program) store world v i frames)
+      proj_falls (RunTuple vs) (pos i) = by_part (slice_get (row_list vs) i)
+        where
+          by_part : (o : Option (FlatValue program.meaning.Cast))
+              → FallsAt f (on_some o (λ v. On (Return v) frames store world))
+          by_part None = wrong_falls
+          by_part (Some v) = given_falls v world
+      proj_falls (RunTuple vs) (negsuc i) = wrong_falls
+      proj_falls (RunWrap v c) i = by_cast ((mode_of program).projecting c i)
+        where
+          by_cast : (o : Option program.meaning.Cast)
+              → FallsAt f (on_some o (λ part. On (Return v) (ProjFrame i ∷ CastFrame part ∷ frames) store world))
+          by_cast None = wrong_falls
+          by_cast (Some part) = omega arith
+      proj_falls (RunInt n) i = wrong_falls
+      proj_falls (RunBool b) i = wrong_falls
+      proj_falls RunUnit i = wrong_falls
+      proj_falls (RunFun function captured) i = wrong_falls
+      proj_falls (RunLoc cell is_vector) i = wrong_falls
+      proj_falls (RunInject v kept) i = wrong_falls
 
-    on_ints : (go : ℤ → ℤ → FlatAfter program.meaning.Cast) → ((a b : ℤ) → FallsAt f (go a b)) → (vs : List (FlatValue program.meaning.Cast))
-        → FallsAt f (run_on_ints (mode_of program) (flat_arity program.procs)
-        (flat_entered program.procs) store world go vs)
-    on_ints go does (RunInt a ∷ RunInt b ∷ []) = does a b
-    on_ints go does _ = wrong_falls
+      on_ints : (go : ℤ → ℤ → FlatAfter program.meaning.Cast) → ((a b : ℤ) → FallsAt f (go a b))
+          → (vs : List (FlatValue program.meaning.Cast))
+          → FallsAt f (run_on_ints (mode_of program) (flat_arity program.procs)
+          (flat_entered program.procs) store world go vs)
+      on_ints go does (RunInt a ∷ RunInt b ∷ []) = does a b
+      on_ints go does _ = wrong_falls
 
-    on_int : (go : ℤ → FlatAfter program.meaning.Cast) → ((a : ℤ) → FallsAt f (go a)) → (vs : List (FlatValue program.meaning.Cast))
-        → FallsAt f (run_on_int (mode_of program) (flat_arity program.procs)
-        (flat_entered program.procs) store world go vs)
-    on_int go does (RunInt a ∷ []) = does a
-    on_int go does _ = wrong_falls
+      on_int : (go : ℤ → FlatAfter program.meaning.Cast) → ((a : ℤ) → FallsAt f (go a))
+          → (vs : List (FlatValue program.meaning.Cast))
+          → FallsAt f (run_on_int (mode_of program) (flat_arity program.procs)
+          (flat_entered program.procs) store world go vs)
+      on_int go does (RunInt a ∷ []) = does a
+      on_int go does _ = wrong_falls
 
-    on_bool : (go : Bool → FlatAfter program.meaning.Cast) → ((b : Bool) → FallsAt f (go b)) → (vs : List (FlatValue program.meaning.Cast))
-        → FallsAt f (run_on_bool (mode_of program) (flat_arity program.procs)
-        (flat_entered program.procs) store world go vs)
-    on_bool go does (RunBool b ∷ []) = does b
-    on_bool go does _ = wrong_falls
+      on_bool : (go : Bool → FlatAfter program.meaning.Cast) → ((b : Bool) → FallsAt f (go b))
+          → (vs : List (FlatValue program.meaning.Cast))
+          → FallsAt f (run_on_bool (mode_of program) (flat_arity program.procs)
+          (flat_entered program.procs) store world go vs)
+      on_bool go does (RunBool b ∷ []) = does b
+      on_bool go does _ = wrong_falls
 
-    newline_falls : (vs : List (FlatValue program.meaning.Cast))
-        → FallsAt f (run_newline (mode_of program) (flat_arity program.procs)
-        (flat_entered program.procs) store world vs
-        frames)
-    newline_falls [] = given_falls RunUnit (printing (codes "\n") world)
-    newline_falls (v ∷ vs) = wrong_falls
+      newline_falls : (vs : List (FlatValue program.meaning.Cast))
+          → FallsAt f (run_newline (mode_of program) (flat_arity program.procs)
+          (flat_entered program.procs) store world vs
+          frames)
+      newline_falls [] = given_falls RunUnit (printing (codes "\n") world)
+      newline_falls (v ∷ vs) = wrong_falls
 
-    divided_falls : (t : Bool) (v : FlatValue program.meaning.Cast)
-        → FallsAt f (if t then TrapOf ZeroDivisor world else On (Return v) frames store world)
-    divided_falls true v = omega arith
-    divided_falls false v = given_falls v world
+      divided_falls : (t : Bool) (v : FlatValue program.meaning.Cast)
+          → FallsAt f (if t then TrapOf ZeroDivisor world else On (Return v) frames store world)
+      divided_falls true v = omega arith
+      divided_falls false v = given_falls v world
 
-    operator_falls : (op : PrimOp) → is_plain op ≡ true → (vs : List (FlatValue program.meaning.Cast))
-        → FallsAt f (flat_operate program.procs (mode_of program) store world op vs frames)
-    operator_falls Add c vs =
-        on_ints (λ a b. On (Return (RunInt (int_wrap w64 (a +ℤ b)))) frames store world)
-        (λ a b. given_falls (RunInt (int_wrap w64 (a +ℤ b))) world) vs
-    operator_falls Sub c vs =
-        on_ints (λ a b. On (Return (RunInt (int_wrap w64 (a -ℤ b)))) frames store world)
-        (λ a b. given_falls (RunInt (int_wrap w64 (a -ℤ b))) world) vs
-    operator_falls Lt c vs =
-        on_ints (λ a b. On (Return (RunBool (int_lt a b))) frames store world)
-        (λ a b. given_falls (RunBool (int_lt a b)) world) vs
-    operator_falls Gt c vs =
-        on_ints (λ a b. On (Return (RunBool (int_lt b a))) frames store world)
-        (λ a b. given_falls (RunBool (int_lt b a)) world) vs
-    operator_falls Le c vs =
-        on_ints (λ a b. On (Return (RunBool (int_le a b))) frames store world)
-        (λ a b. given_falls (RunBool (int_le a b)) world) vs
-    operator_falls Ge c vs =
-        on_ints (λ a b. On (Return (RunBool (int_le b a))) frames store world)
-        (λ a b. given_falls (RunBool (int_le b a)) world) vs
-    operator_falls Equal c vs =
-        on_ints (λ a b. On (Return (RunBool (int_eq a b))) frames store world)
-        (λ a b. given_falls (RunBool (int_eq a b)) world) vs
-    operator_falls Not c vs =
-        on_bool (λ b. On (Return (RunBool (not b))) frames store world) (λ b. given_falls (RunBool (not b)) world) vs
-    operator_falls PrintInt c vs =
-        on_int (λ a. On (Return RunUnit) frames store (printing (signed_decimal a) world))
-        (λ a. given_falls RunUnit (printing (signed_decimal a) world)) vs
-    operator_falls Newline c vs = newline_falls vs
-    operator_falls Mul c vs =
-        on_ints (λ a b. On (Return (RunInt (int_wrap w64 (a *ℤ b)))) frames store world)
-        (λ a b. given_falls (RunInt (int_wrap w64 (a *ℤ b))) world) vs
-    operator_falls Quot c vs =
-        on_ints (λ a b. if int_eq b (pos 0) then TrapOf ZeroDivisor world
-        else On (Return (RunInt (int_wrapping_div w64 a b))) frames store world)
-        (λ a b. divided_falls (int_eq b (pos 0)) (RunInt (int_wrapping_div w64 a b))) vs
-    operator_falls Rem c vs =
-        on_ints (λ a b. if int_eq b (pos 0) then TrapOf ZeroDivisor world
-        else On (Return (RunInt (int_rem a b))) frames store world)
-        (λ a b. divided_falls (int_eq b (pos 0)) (RunInt (int_rem a b))) vs
-    operator_falls ReadInt c vs = true_false c
-    operator_falls MakeBox c vs = true_false c
-    operator_falls Unbox c vs = true_false c
-    operator_falls BoxSet c vs = true_false c
-    operator_falls MakeVector c vs = true_false c
-    operator_falls VectorRef c vs = true_false c
-    operator_falls VectorSet c vs = true_false c
-    operator_falls VectorLength c vs = true_false c
+      operator_falls : (op : PrimOp) → is_plain op ≡ true → (vs : List (FlatValue program.meaning.Cast))
+          → FallsAt f (flat_operate program.procs (mode_of program) store world op vs frames)
+      operator_falls Add c vs =
+          on_ints (λ a b. On (Return (RunInt (int_wrap w64 (a +ℤ b)))) frames store world)
+          (λ a b. given_falls (RunInt (int_wrap w64 (a +ℤ b))) world) vs
+      operator_falls Sub c vs =
+          on_ints (λ a b. On (Return (RunInt (int_wrap w64 (a -ℤ b)))) frames store world)
+          (λ a b. given_falls (RunInt (int_wrap w64 (a -ℤ b))) world) vs
+      operator_falls Lt c vs =
+          on_ints (λ a b. On (Return (RunBool (int_lt a b))) frames store world)
+          (λ a b. given_falls (RunBool (int_lt a b)) world) vs
+      operator_falls Gt c vs =
+          on_ints (λ a b. On (Return (RunBool (int_lt b a))) frames store world)
+          (λ a b. given_falls (RunBool (int_lt b a)) world) vs
+      operator_falls Le c vs =
+          on_ints (λ a b. On (Return (RunBool (int_le a b))) frames store world)
+          (λ a b. given_falls (RunBool (int_le a b)) world) vs
+      operator_falls Ge c vs =
+          on_ints (λ a b. On (Return (RunBool (int_le b a))) frames store world)
+          (λ a b. given_falls (RunBool (int_le b a)) world) vs
+      operator_falls Equal c vs =
+          on_ints (λ a b. On (Return (RunBool (int_eq a b))) frames store world)
+          (λ a b. given_falls (RunBool (int_eq a b)) world) vs
+      operator_falls Not c vs =
+          on_bool (λ b. On (Return (RunBool (not b))) frames store world) (λ b. given_falls (RunBool (not b)) world) vs
+      operator_falls PrintInt c vs =
+          on_int (λ a. On (Return RunUnit) frames store (printing (signed_decimal a) world))
+          (λ a. given_falls RunUnit (printing (signed_decimal a) world)) vs
+      operator_falls Newline c vs = newline_falls vs
+      operator_falls Mul c vs =
+          on_ints (λ a b. On (Return (RunInt (int_wrap w64 (a *ℤ b)))) frames store world)
+          (λ a b. given_falls (RunInt (int_wrap w64 (a *ℤ b))) world) vs
+      operator_falls Quot c vs =
+          on_ints (λ a b. if int_eq b (pos 0) then TrapOf ZeroDivisor world
+          else On (Return (RunInt (int_wrapping_div w64 a b))) frames store world)
+          (λ a b. divided_falls (int_eq b (pos 0)) (RunInt (int_wrapping_div w64 a b))) vs
+      operator_falls Rem c vs =
+          on_ints (λ a b. if int_eq b (pos 0) then TrapOf ZeroDivisor world
+          else On (Return (RunInt (int_rem a b))) frames store world)
+          (λ a b. divided_falls (int_eq b (pos 0)) (RunInt (int_rem a b))) vs
+      operator_falls ReadInt c vs = true_false c
+      operator_falls MakeBox c vs = true_false c
+      operator_falls Unbox c vs = true_false c
+      operator_falls BoxSet c vs = true_false c
+      operator_falls MakeVector c vs = true_false c
+      operator_falls VectorRef c vs = true_false c
+      operator_falls VectorSet c vs = true_false c
+      operator_falls VectorLength c vs = true_false c
 
   -- ---- each turn, from a state of the procedures over words that goes with it
 
-  module _ (frames : List (FlatFrame program.meaning.Cast)) (store : FlatStore program.meaning.Cast) (world : WorldState) (places : List ℕ)
-      (objects : List Object) (h : Heap) (filled : Filled program.meaning program.setting program.l program.number objects h)
-      (cells : CellsHeld program.l program.setting.address program.procs program.meaning places objects h.memory places store)
+  module _ (frames : List (FlatFrame program.meaning.Cast)) (store : FlatStore program.meaning.Cast)
+      (world : WorldState) (places : List ℕ)
+      (objects : List Object) (h : Heap) (filled : Filled program.meaning program.setting program.l program.number
+      objects h)
+      (cells : CellsHeld program.l program.setting.address program.procs program.meaning places objects h.memory places
+      store)
     where
       abbrev GoesHere : FlatFocus program.meaning.Cast → Active → List LowWaiting → Type 0
-      GoesHere focus active waiting = Goes program.setting program.l program.run program.procs program.answer program.meaning
+      GoesHere focus active waiting =
+          Goes program.setting program.l program.run program.procs program.answer program.meaning
           places
           objects focus frames active waiting
 
-      abbrev FitsHere : Shape → ℕ → ℕ → Group program.meaning.Cast → ℕ → FlatLocals program.meaning.Cast → Locals → Body → Type 0
+      abbrev FitsHere : Shape → ℕ → ℕ → Group program.meaning.Cast → ℕ → FlatLocals program.meaning.Cast → Locals → Body
+          → Type 0
       FitsHere s count size group depth locals words body = Fits program.setting program.l program.run program.procs
           program.answer program.meaning places objects s count size group depth locals words body
 
@@ -264,7 +277,8 @@ module _ (program : Program) (typed : TypesStand program.l) where
         At code = at world h waiting size rests words code
 
         -- a body runs
-        module _ (locals : FlatLocals program.meaning.Cast) (group : Group program.meaning.Cast) (s : Shape) (count depth : ℕ)
+        module _ (locals : FlatLocals program.meaning.Cast) (group : Group program.meaning.Cast) (s : Shape)
+            (count depth : ℕ)
             (next : Then) where
           abbrev fl : Body → FlatState program.meaning.Cast
           fl body = st (Own (Inside body locals group)) frames store world
@@ -358,7 +372,8 @@ module _ (program : Program) (typed : TypesStand program.l) where
           makes_box (o ∷ []) fits rest =
               as_placed MakeBox (o ∷ []) (On (Return (RunLoc (length store) false)) frames
               (store ++ (value locals group o ∷ []) ∷ []) world)
-              (box_made program typed (fl (Give (Prim MakeBox (o ∷ [])))) places objects h filled cells waiting size rests
+              (box_made program typed (fl (Give (Prim MakeBox (o ∷ [])))) places objects h filled cells waiting size
+              rests
               words s count depth group locals (Prim MakeBox (o ∷ [])) next fits rest o fits.bound)
               (returns_less' (RunLoc (length store) false) (store ++ (value locals group o ∷ []) ∷ []))
             where
@@ -376,8 +391,10 @@ module _ (program : Program) (typed : TypesStand program.l) where
                   (flat_operate program.procs (mode_of program) store world Unbox vs frames) 0
                   (At (give program.run s (Prim Unbox os) next))
               by_values (RunWrap u c ∷ others) e =
-                  subst (λ vs. Placed Unbox os (flat_operate program.procs (mode_of program) store world Unbox vs frames))
-                  e (as_served Unbox os (box_read program typed (fl (Give (Prim Unbox os))) places objects h filled cells
+                  subst (λ vs. Placed Unbox os (flat_operate program.procs (mode_of program) store world Unbox vs
+                  frames))
+                  e (as_served Unbox os (box_read program typed (fl (Give (Prim Unbox os))) places objects h filled
+                  cells
                   waiting size rests words s count depth group locals Unbox os next fits rest u c others e))
               by_values (RunLoc cell false ∷ []) e = by_content (slice_get store cell) refl
                 where
@@ -396,7 +413,8 @@ module _ (program : Program) (typed : TypesStand program.l) where
                       (subst (λ os'. Follows program (fl (Give (Prim Unbox os))) (On (Return v) frames store world)
                       (At (perform program.run s (word_for program places objects s next) (Prim Unbox os')
                       (code_for program places objects s next)))) (sym one.1)
-                      (box_read_here program typed (fl (Give (Prim Unbox os))) places objects h filled cells waiting size
+                      (box_read_here program typed (fl (Give (Prim Unbox os))) places objects h filled cells waiting
+                      size
                       rests words s count depth group locals (Prim Unbox os) next fits rest one.0
                       (subst (λ os'. operands_bound s.captured count depth os' ≡ true) one.1 fits.bound) cell one.2 v is
                       (CallOf (word_for program places objects s next) program.run.read
@@ -412,7 +430,8 @@ module _ (program : Program) (typed : TypesStand program.l) where
                   (flat_operate program.procs (mode_of program) store world BoxSet vs frames) 0
                   (At (give program.run s (Prim BoxSet os) next))
               by_values (RunWrap u c ∷ others) e =
-                  subst (λ vs. Placed BoxSet os (flat_operate program.procs (mode_of program) store world BoxSet vs frames))
+                  subst (λ vs. Placed BoxSet os (flat_operate program.procs (mode_of program) store world BoxSet vs
+                  frames))
                   e (as_served BoxSet os (box_written program typed (fl (Give (Prim BoxSet os))) places objects h filled
                   cells waiting size rests words s count depth group locals BoxSet os next fits rest u c others e))
               by_values (RunLoc cell false ∷ v ∷ []) e = by_content (slice_get store cell) refl
@@ -436,7 +455,8 @@ module _ (program : Program) (typed : TypesStand program.l) where
                       (code_for program places objects s next)))) (sym two.2)
                       (box_written_here program typed (fl (Give (Prim BoxSet os))) places objects h filled cells waiting
                       size rests words s count depth group locals (Prim BoxSet os) next fits rest two.0 two.1
-                      (subst (λ os'. operands_bound s.captured count depth os' ≡ true) two.2 fits.bound) cell two.3 old is
+                      (subst (λ os'. operands_bound s.captured count depth os' ≡ true) two.2 fits.bound) cell two.3 old
+                      is
                       (CallOf (word_for program places objects s next) program.run.write
                       (Number 0 ∷ found s (operand_word s 0) two.0 ∷ Number 0 ∷ found s (operand_word s 1) two.1 ∷ [])
                       Done)))
@@ -529,16 +549,19 @@ module _ (program : Program) (typed : TypesStand program.l) where
           runs_operation (Prim Newline os) fits rest = runs_plain Newline os refl fits rest
           runs_operation (Prim ReadInt os) fits rest = true_false fits.covered
           runs_operation (Prim MakeVector os) fits rest =
-              as_served MakeVector os (vector_made program typed (fl (Give (Prim MakeVector os))) places objects h filled
+              as_served MakeVector os (vector_made program typed (fl (Give (Prim MakeVector os))) places objects h
+              filled
               cells waiting size rests words s count depth group locals MakeVector os next fits rest)
           runs_operation (Prim VectorRef os) fits rest =
               as_served VectorRef os (vector_read program typed (fl (Give (Prim VectorRef os))) places objects h filled
               cells waiting size rests words s count depth group locals VectorRef os next fits rest)
           runs_operation (Prim VectorSet os) fits rest =
-              as_served VectorSet os (vector_written program typed (fl (Give (Prim VectorSet os))) places objects h filled
+              as_served VectorSet os (vector_written program typed (fl (Give (Prim VectorSet os))) places objects h
+              filled
               cells waiting size rests words s count depth group locals VectorSet os next fits rest)
           runs_operation (Prim VectorLength os) fits rest =
-              as_served VectorLength os (vector_measured program typed (fl (Give (Prim VectorLength os))) places objects h
+              as_served VectorLength os (vector_measured program typed (fl (Give (Prim VectorLength os))) places objects
+              h
               filled cells waiting size rests words s count depth group locals VectorLength os next fits rest)
           runs_operation (Prim MakeBox os) fits rest = makes_box os fits rest
           runs_operation (Prim Unbox os) fits rest = reads_box os fits rest
@@ -552,7 +575,8 @@ module _ (program : Program) (typed : TypesStand program.l) where
               Goes_by : Option program.meaning.Cast → Type 0
               Goes_by row =
                   Does (fl (Give (Cast o number)))
-                  (on_some row (λ cast. flat_cast program.procs (mode_of program) store world (value locals group o) cast
+                  (on_some row (λ cast. flat_cast program.procs (mode_of program) store world (value locals group o)
+                  cast
                   frames)) (decision_wraps (decision_at program.procs (mode_of program) row (value locals group o)))
                   (At (give program.run s (Cast o number) next))
 
@@ -574,7 +598,8 @@ module _ (program : Program) (typed : TypesStand program.l) where
               by_row (Some cast) e =
                   subst Goes_by (sym e) (inr (subst (λ c. Served program typed (fl (Give (Cast o number)))
                   (flat_cast program.procs (mode_of program) store world (value locals group o) cast frames)
-                  (decision_wraps (decision_at program.procs (mode_of program) (Some cast) (value locals group o))) (At c))
+                  (decision_wraps (decision_at program.procs (mode_of program) (Some cast) (value locals group o)))
+                  (At c))
                   (sym same_code) (cast_served program typed (fl (Give (Cast o number))) places objects h filled cells
                   waiting size rests words s count depth group locals o number next fits rest cast e)))
           runs_operation (ProjDyn o i label) fits rest =
@@ -650,7 +675,8 @@ module _ (program : Program) (typed : TypesStand program.l) where
               inl (
                 refl,
                 inl (
-                  branch_turns program typed (fl (Choose o a b)) places objects h filled cells waiting size rests words s
+                  branch_turns program typed (fl (Choose o a b)) places objects h filled cells waiting size rests words
+                      s
                       count depth group locals next rest o a b fits,
                   chosen_less (value locals group o) o a b,
                 ),
@@ -659,7 +685,8 @@ module _ (program : Program) (typed : TypesStand program.l) where
               inl (
                 refl,
                 inl (
-                  let_turns program typed (fl (LetBody slot inner body)) places objects h filled cells waiting size rests
+                  let_turns program typed (fl (LetBody slot inner body)) places objects h filled cells waiting size
+                      rests
                       words s count depth group locals next rest slot inner body fits,
                   omega arith,
                 ),
@@ -686,7 +713,8 @@ module _ (program : Program) (typed : TypesStand program.l) where
         gave v code g = by_frames frames g
           where
             by_frames : (fs : List (FlatFrame program.meaning.Cast))
-                → Gave program.setting program.l program.run program.procs program.answer program.meaning places objects v
+                → Gave program.setting program.l program.run program.procs program.answer program.meaning places objects
+                v
                 fs (record { count = size; locals = words; code = code; rests = rests }) waiting
                 → Does (st (Return v) fs store world)
                 (flat_turn program.procs (mode_of program) store world (Return v) fs)
@@ -696,7 +724,8 @@ module _ (program : Program) (typed : TypesStand program.l) where
                 inl (
                   refl,
                   inl (
-                    gave_turns program typed (st (Return v) (OwnFrame (Waiting slot body locals group) ∷ fs) store world)
+                    gave_turns program typed (st (Return v) (OwnFrame (Waiting slot body locals group) ∷ fs) store
+                        world)
                         places objects h filled cells waiting size slot body locals group fs v
                         (record { count = size; locals = words; code = code; rests = rests }) g refl,
                     omega arith,
@@ -784,19 +813,22 @@ module _ (program : Program) (typed : TypesStand program.l) where
 
         -- ---- calls
 
-        module _ (fo : Operand) (os : List Operand) (locals : FlatLocals program.meaning.Cast) (group : Group program.meaning.Cast) (s : Shape)
+        module _ (fo : Operand) (os : List Operand) (locals : FlatLocals program.meaning.Cast)
+            (group : Group program.meaning.Cast) (s : Shape)
             (count depth : ℕ) (next : Then)
             (fits : FitsHere s count size group depth locals words (Call fo os))
             (rest : RestHere program places objects waiting s count size group depth frames next rests words) where
           abbrev code : Code
           code = emit program.run s (Call fo os) next
 
-          abbrev entering : FlatValue program.meaning.Cast → List (FlatValue program.meaning.Cast) → List (Pending program.meaning.Cast FlatCode)
+          abbrev entering : FlatValue program.meaning.Cast → List (FlatValue program.meaning.Cast)
+              → List (Pending program.meaning.Cast FlatCode)
               → FlatState program.meaning.Cast
           entering v done todo = st (Entering v done todo) frames store world
 
           -- an argument is gone over
-          argument : (v : FlatValue program.meaning.Cast) (done : List (FlatValue program.meaning.Cast)) (p : Pending program.meaning.Cast FlatCode)
+          argument : (v : FlatValue program.meaning.Cast) (done : List (FlatValue program.meaning.Cast))
+              (p : Pending program.meaning.Cast FlatCode)
               (todo : List (Pending program.meaning.Cast FlatCode)) → value locals group fo ≡ v
               → onto done (pending_values (p ∷ todo)) ≡ values locals group os → NoCasts todo
               → (casts : List program.meaning.Cast) → casts ≡ []
@@ -840,7 +872,8 @@ module _ (program : Program) (typed : TypesStand program.l) where
               )
 
           -- the function's procedure is entered
-          applied : (first place : ℕ) (captured : FlatValues program.meaning.Cast) (vs : List (FlatValue program.meaning.Cast))
+          applied : (first place : ℕ) (captured : FlatValues program.meaning.Cast)
+              (vs : List (FlatValue program.meaning.Cast))
               → value locals group fo ≡ RunFun (record { first = first; place = place }) captured
               → vs ≡ values locals group os → (done : List (FlatValue program.meaning.Cast)) → vs ≡ onto done []
               → (o : Option Proc) → slice_get program.procs (first + place) ≡ o
@@ -940,26 +973,30 @@ module _ (program : Program) (typed : TypesStand program.l) where
                   let x = and_true (operand_bound s.captured count depth fo)
                   (operands_bound s.captured count depth os && nat_le (length os) 6) fits.bound in
                   let c = value_carried (scene_for program (entering v done todo) (entering v done todo)
-                  (R program (entering v done todo)) places) world (inl refl) h objects filled waiting size rests s count
+                  (R program (entering v done todo)) places) world (inl refl) h objects filled waiting size rests s
+                  count
                   group depth locals fo x.0 words fits.knows in
                   subst (λ u. (w : ℕ) × CarriedHere program places objects u w) e c
 
               in_place : (u : FlatValue program.meaning.Cast) → is_wrapped u ≡ false → value locals group fo ≡ u
                   → Does (entering u done todo)
-                  (enter (mode_of program) (flat_arity program.procs) (flat_entered program.procs) store world u done todo
+                  (enter (mode_of program) (flat_arity program.procs) (flat_entered program.procs) store world u done
+                  todo
                   frames) 0 (At code)
               in_place u bare e = inl (refl, calls u done todo bare e (carried u e) arguments plain)
 
               by_wrapped : (u : FlatValue program.meaning.Cast) → value locals group fo ≡ u
                   → Does (entering u done todo)
-                  (enter (mode_of program) (flat_arity program.procs) (flat_entered program.procs) store world u done todo
+                  (enter (mode_of program) (flat_arity program.procs) (flat_entered program.procs) store world u done
+                  todo
                   frames) 0 (At code)
               by_wrapped (RunWrap u c) e =
                   inr (subst (λ ps. Served program typed (entering (RunWrap u c) done todo)
                   (on_some ((mode_of program).calling c) (λ casts. run_enter_wrapped (mode_of program)
                   (flat_arity program.procs) (flat_entered program.procs) store world u casts ps frames)) 0 (At code))
                   (sym (all_plain_onto done todo plain ∙ ap all_plain arguments))
-                  (call_served program typed (entering (RunWrap u c) done todo) places objects h filled cells waiting size
+                  (call_served program typed (entering (RunWrap u c) done todo) places objects h filled cells waiting
+                  size
                   rests words s count depth group locals fo os next fits rest
                   (let x = fits.params in let y = fits.room in omega (arith, x, y)) u c e))
               by_wrapped (RunInt n) e = in_place (RunInt n) refl e

@@ -101,7 +101,8 @@ after_wraps program number = record program { number = number }
 
 module _ (program : Program) where
   abbrev pub Filling : LowState → Type 0
-  Filling t = (objects : List Object) × Filled program.meaning program.setting program.l program.number objects (heap_of t)
+  Filling t =
+      (objects : List Object) × Filled program.meaning program.setting program.l program.number objects (heap_of t)
 
   abbrev pub RelatedHere : FlatState program.meaning.Cast → LowState → Type 0
   RelatedHere f t =
@@ -145,7 +146,8 @@ module _ (program : Program) where
   Way f f' t = Allowed f f' t.world × Filling t
 
   -- the state after a turn that came to this
-  abbrev pub next_state : FlatState program.meaning.Cast → FlatAfter program.meaning.Cast → FlatState program.meaning.Cast
+  abbrev pub next_state : FlatState program.meaning.Cast → FlatAfter program.meaning.Cast
+      → FlatState program.meaning.Cast
   next_state f x = after_flat program.procs program.told f x
 
   abbrev pub turn_of : FlatState program.meaning.Cast → FlatAfter program.meaning.Cast
@@ -166,7 +168,8 @@ module _ (program : Program) where
   Follows f x t = Comes program.setting (Way f (next_state f x)) (R (next_state f x)) t
 
   -- what lemmas on code are told, where a turn from f comes to f'
-  abbrev pub scene_for : FlatState program.meaning.Cast → FlatState program.meaning.Cast → (LowState → Type 0) → List ℕ → Scene
+  abbrev pub scene_for : FlatState program.meaning.Cast → FlatState program.meaning.Cast → (LowState → Type 0) → List ℕ
+      → Scene
   scene_for f f' Q places = record {
     meaning = program.meaning;
     laws = program.laws;

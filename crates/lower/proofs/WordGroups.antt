@@ -53,7 +53,8 @@ even_bytes (o ∷ os) =
     size (Cell header count) = (1 + count, omega arith)
 
 module _ (scene : Scene) (world : WorldState) (allowed : scene.allowed world) (h : Heap) (objects : List Object)
-    (filled : Filled scene.meaning scene.setting scene.l scene.number objects h) (waiting : List Waiting) (size : ℕ) (rests : List Code)
+    (filled : Filled scene.meaning scene.setting scene.l scene.number objects h) (waiting : List Waiting) (size : ℕ)
+    (rests : List Code)
     (s : Shape) (count : ℕ) (group : Group scene.meaning.Cast) (slot : ℕ) (locals : FlatLocals scene.meaning.Cast)
     (params : s.params ≤ slot) (room : slot + 10 < size) (words : Locals)
     (knows : KnowsHere scene world allowed h objects filled waiting size rests s count group slot locals words) where
@@ -193,7 +194,8 @@ module _ (scene : Scene) (world : WorldState) (allowed : scene.allowed world) (h
       let hm : Heap = record h { memory = m } in
       fetch_reads scene world allowed hm objects (filled_by m ws st) waiting size rests s count group slot locals o x
       both.0 (omega (arith, room, params)) new
-      (knows_same scene.setting scene.l scene.run scene.procs scene.answer scene.meaning scene.laws scene.places objects s count
+      (knows_same scene.setting scene.l scene.run scene.procs scene.answer scene.meaning scene.laws scene.places objects
+      s count
       group slot locals words new ing.same knows)
       (store_far (test_word s) (local_word s slot) (found s x o) (captured_offset i)
       (store_captured s (local_word s slot) (suc i) os k))
@@ -208,7 +210,8 @@ module _ (scene : Scene) (world : WorldState) (allowed : scene.allowed world) (h
       found_same scene world allowed hm objects (filled_by m ws st) waiting size rests s count group slot locals o x
       both.0 now last (λ j named. changed' j (free_other s slot (test_word s) j t_free named))
       (changed' x (λ e. omega (arith, e))) ∙ is)
-      (carried_small scene.l scene.setting.address scene.procs scene.meaning scene.laws scene.places objects scene.setting
+      (carried_small scene.l scene.setting.address scene.procs scene.meaning scene.laws scene.places objects
+      scene.setting
       scene.placed h filled (value locals group o) w carried) st ing' (omega (arith, long)) (omega (arith, fits))
       (λ m' last st' ing'' changed'.
       captured_stored os (suc i) m' (ws ++ w ∷ []) last k both.1
@@ -463,7 +466,8 @@ module _ (scene : Scene) (world : WorldState) (allowed : scene.allowed world) (h
         ∷ (cs ++ other_words scene.setting.address first 0 others))) (sym size_is) st.held in
         let h' : Heap = record { memory = m; alloc = h.alloc + 8 * total; words = h.words + total } in
         let all : Filled scene.meaning scene.setting scene.l scene.number (bigger cs) h' =
-        filled_more scene.meaning scene.setting scene.l scene.placed objects more h m (h.alloc + 8 * total) (h.words + total) filled
+        filled_more scene.meaning scene.setting scene.l scene.placed objects more h m (h.alloc + 8 * total)
+        (h.words + total) filled
         st.below (group_holds scene.setting.address m h.alloc first others cs heads)
         (group_kept scene.meaning scene.laws scene.l scene.number scene.setting.address objects first others cs
         filled.keeps) (omega (arith, bytes, size_is)) fits in
@@ -494,7 +498,8 @@ module _ (scene : Scene) (world : WorldState) (allowed : scene.allowed world) (h
     makes_group k go =
         let calm : (w : ℕ) → Calm scene.setting scene.P scene.Q world (record h { words = w }) =
         λ w. scene.calm world (record h { words = w }) objects
-        (filled_above scene.meaning scene.setting scene.l scene.placed objects h h.memory w filled (λ i l. refl)) allowed in
+        (filled_above scene.meaning scene.setting scene.l scene.placed objects h h.memory w filled (λ i l. refl))
+        allowed in
         requests scene.setting scene.P scene.Q calm total (ap Some fits_word) d_less
         (λ fits. heads fits (set_local (local_word s slot) h.alloc words)
         (record { held = tt; below = λ i lt. refl }) (record {

@@ -89,7 +89,8 @@ behind d j n low e (inl p) = inl (omega (arith, p, e))
 behind d j n low e (inr p) = inr (omega (arith, p, e))
 
 module _ (scene : Scene) (world : WorldState) (allowed : scene.allowed world) (h : Heap) (objects : List Object)
-    (filled : Filled scene.meaning scene.setting scene.l scene.number objects h) (waiting : List Waiting) (size : ℕ) (rests : List Code) where
+    (filled : Filled scene.meaning scene.setting scene.l scene.number objects h) (waiting : List Waiting) (size : ℕ)
+    (rests : List Code) where
   abbrev pub On : Locals → Code → Type 0
   On words code = Arrives scene (at world h waiting size rests words code)
 
@@ -102,7 +103,8 @@ module _ (scene : Scene) (world : WorldState) (allowed : scene.allowed world) (h
       scene.places objects s count group own
 
   pub load_far_reads : (d : ℕ) (base : LowSource) (offset : ℕ) (k : Code) (words : Locals) (x w : ℕ)
-      → word_of words base ≡ Some x → WordThere scene.meaning scene.setting scene.l scene.placed h.memory (x + offset) w → d < size
+      → word_of words base ≡ Some x → WordThere scene.meaning scene.setting scene.l scene.placed h.memory (x + offset) w
+      → d < size
       → ((new : Locals) → new d ≡ Some w → Changes d words new → On new k) → On words (load_far d base offset k)
   load_far_reads d base offset k words x w e there lt go = by_size (nat_lt offset 2048) refl
     where
@@ -198,7 +200,8 @@ module _ (scene : Scene) (world : WorldState) (allowed : scene.allowed world) (h
           → On words (fetch s d (Sibling i) k)
       sibling_reads i d less k words own g e lt go =
           let w = g.leader + function_offset (length g.words) i in
-          let fits : w < 2 ^ 64 = function_small scene.l scene.setting.address scene.procs scene.meaning scene.laws scene.places
+          let fits : w < 2 ^ 64 = function_small scene.l scene.setting.address scene.procs scene.meaning scene.laws
+          scene.places
           objects scene.setting scene.placed h filled group.first g.leader count i g.words less g.stands in
           let offset_is : function_offset s.captured i ≡ function_offset (length g.words) i =
           ap (λ n. function_offset n i) g.long in
@@ -325,7 +328,8 @@ module _ (scene : Scene) (world : WorldState) (allowed : scene.allowed world) (h
           let same : SameNamed s depth words new = same_besides s depth d 1 words new (omega arith)
           (omega (arith, few)) (λ j side. changed j (apart d j side)) in
           fetch_all_reads os (suc i) both.1 (omega (arith, few)) room new
-          (knows_same scene.setting scene.l scene.run scene.procs scene.answer scene.meaning scene.laws scene.places objects s
+          (knows_same scene.setting scene.l scene.run scene.procs scene.answer scene.meaning scene.laws scene.places
+          objects s
           count group depth locals words new same knows) k
           (λ ws last all are changed'.
           let more : SameNamed s depth new last = same_besides s depth (operand_word s (suc i)) (length os) new last

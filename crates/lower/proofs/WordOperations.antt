@@ -63,7 +63,8 @@ added_there region objects o rest at e =
     (eq-eqb at (region + bytes_of_all objects) e)
 
 module _ (scene : Scene) (world : WorldState) (allowed : scene.allowed world) (h : Heap) (objects : List Object)
-    (filled : Filled scene.meaning scene.setting scene.l scene.number objects h) (waiting : List Waiting) (size : ℕ) (rests : List Code)
+    (filled : Filled scene.meaning scene.setting scene.l scene.number objects h) (waiting : List Waiting) (size : ℕ)
+    (rests : List Code)
     (s : Shape) (count : ℕ) (group : Group scene.meaning.Cast) (depth : ℕ) (locals : FlatLocals scene.meaning.Cast)
     (room : s.params + 10 ≤ size) (words : Locals)
     (knows : KnowsHere scene world allowed h objects filled waiting size rests s count group depth locals words) where
@@ -128,7 +129,8 @@ module _ (scene : Scene) (world : WorldState) (allowed : scene.allowed world) (h
           scene.setting scene.placed h filled (in_row (values locals group os)) ws carried in
           builds scene.setting scene.P scene.Q
           (λ n. scene.calm world (record h { words = n }) objects
-          (filled_above scene.meaning scene.setting scene.l scene.placed objects h h.memory n filled (λ i l. refl)) allowed)
+          (filled_above scene.meaning scene.setting scene.l scene.placed objects h h.memory n filled (λ i l. refl))
+          allowed)
           (header 4 0 (length ws) ∷ ws) (ap₂ and_more (ap Some head) are) (omega (arith, long, most)) lt
           (λ fits. go (o ∷ []) (record {
             memory = store_words (header 4 0 (length ws) ∷ ws) h.alloc h.memory;
@@ -148,7 +150,8 @@ module _ (scene : Scene) (world : WorldState) (allowed : scene.allowed world) (h
             long = omega arith;
             free = refl;
             allowed = within (length ws) (omega (arith, long, least)) (omega (arith, long, most));
-          }) filled.keeps) (omega arith) fits) (λ i l. bytes_below (header 4 0 (length ws) ∷ ws) h.alloc h.memory i l) h.alloc
+          }) filled.keeps) (omega arith) fits) (λ i l. bytes_below (header 4 0 (length ws) ∷ ws) h.alloc h.memory i l)
+          h.alloc
           (set_local d h.alloc new) (
             ws,
             inr (added_there scene.l.region objects o [] h.alloc filled.ends),
@@ -229,13 +232,15 @@ module _ (scene : Scene) (world : WorldState) (allowed : scene.allowed world) (h
           → Changes (operand_word s 0) words new
           → Arrives scene (at world h waiting size rests new (part scene.run s d a (pos i) k))
       taken x new c found_is changed =
-          let p = part_carried scene.l scene.setting.address scene.procs scene.meaning scene.laws scene.places objects vs c.0 i v
+          let p = part_carried scene.l scene.setting.address scene.procs scene.meaning scene.laws scene.places objects
+          vs c.0 i v
           c.2 get in
           let less : i < length c.0 = in_list c.0 i p.0 p.1 in
           let short : nat_lt i 8 ≡ true = lt_true i 8 (omega (arith, less, c.3)) in
           let head = header_there scene.meaning scene.setting scene.l scene.placed objects h filled x
           (Fixed (header 4 0 (length c.0)) c.0) c.1 in
-          let there = word_there scene.meaning scene.setting scene.l scene.placed objects h filled x (header 4 0 (length c.0)) c.0 c.1
+          let there = word_there scene.meaning scene.setting scene.l scene.placed objects h filled x
+          (header 4 0 (length c.0)) c.0 c.1
           (suc i) p.0 (x + (8 + 8 * i)) p.1 (omega arith) in
           subst (λ b. Arrives scene (at world h waiting size rests new (
           if b then of_kind s a 4 (Load d a (8 + 8 * i) Done) other k
@@ -243,7 +248,8 @@ module _ (scene : Scene) (world : WorldState) (allowed : scene.allowed world) (h
           (sym short)
           (comes_on scene.setting scene.P scene.Q (is_of_kind a x 4 (length c.0)
           (Load d a (8 + 8 * i) Done) other k new (omega arith) found_is
-          (subst (WordThere scene.meaning scene.setting scene.l scene.placed h.memory x) (header_is 4 (length c.0)) head)
+          (subst (WordThere scene.meaning scene.setting scene.l scene.placed h.memory x) (header_is 4 (length c.0))
+          head)
           (λ last changed'.
           let same : SameNamed s depth new last = λ j named. changed' j (not_test j named) in
           let kept : last t ≡ new t = changed' t (λ e. omega (arith, e)) in

@@ -73,7 +73,8 @@ unfolding environment_call
 prints_line labels world = refl
 
 module _ (scene : Scene) (world : WorldState) (allowed : scene.allowed world) (h : Heap) (objects : List Object)
-    (filled : Filled scene.meaning scene.setting scene.l scene.number objects h) (waiting : List Waiting) (size : ℕ) (rests : List Code)
+    (filled : Filled scene.meaning scene.setting scene.l scene.number objects h) (waiting : List Waiting) (size : ℕ)
+    (rests : List Code)
     (s : Shape) (count : ℕ) (group : Group scene.meaning.Cast) (depth : ℕ) (locals : FlatLocals scene.meaning.Cast)
     (room : s.params + 10 ≤ size) (words : Locals)
     (knows : KnowsHere scene world allowed h objects filled waiting size rests s count group depth locals words) where
@@ -144,7 +145,8 @@ module _ (scene : Scene) (world : WorldState) (allowed : scene.allowed world) (h
       (go w (set_local d w new) carried (word_here d w new) (touched d n new w few changed))
 
   -- and another one of it and 1
-  pub computed_twice : (op then_op : WordOp) (d : ℕ) (a b : LowSource) (x y z w n : ℕ) (v : FlatValue scene.meaning.Cast)
+  pub computed_twice : (op then_op : WordOp) (d : ℕ) (a b : LowSource) (x y z w n : ℕ)
+      (v : FlatValue scene.meaning.Cast)
       (k : Code) (new : Locals) → word_of new a ≡ Some x → word_of new b ≡ Some y → compute op x y ≡ z
       → compute then_op z 1 ≡ w → Carries scene objects v w → n ≤ 8
       → ChangesFrom (operand_word s 0) n words new → d < size → PutsHere d v k

@@ -31,7 +31,8 @@ pub record Scene : Type 1 where
   pub P : LowState → Type 0
   pub Q : LowState → Type 0
   pub allowed : WorldState → Type 0
-  pub calm : (world : WorldState) (h : Heap) (objects : List Object) → Filled meaning setting l number objects h → allowed world
+  pub calm : (world : WorldState) (h : Heap) (objects : List Object) → Filled meaning setting l number objects h
+      → allowed world
       → Calm setting P Q world h
 
 module _ (scene : Scene) where

@@ -1,5 +1,5 @@
--- The programs of which it is proved that words follow values: those that read no input, where no operator has more than
--- eight operands, and numbers and labels of parts of values in Dyn are words of 64 and of 32 bits.
+-- The programs of which it is proved that words follow values: those that read no input, where no operator has more
+-- than eight operands, and numbers and labels of parts of values in Dyn are words of 64 and of 32 bits.
 use Rattle.std.specs.Prelude.{Bool, true, false, ◌&&◌, nat_lt, nat_le, length, List, [], ◌∷◌}
 use Rattle.std.specs.Int.{int_wrap, w64}
 use Rattle.std.specs.Ordering.{int_eq}

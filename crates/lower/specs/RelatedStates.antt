@@ -75,7 +75,8 @@ module _ (setting : Setting) (l : Layout) (run : Served) (procs : List Proc) (an
       pub local : (i : ℕ) → i < depth → (w : ℕ) × (words (local_word s i) ≡ Some w) × Carried (locals i) w
 
     -- of a body: it is bound at a level, the procedure over words has room for its names, and the words know them
-    pub record Fits (s : Shape) (count size : ℕ) (group : Group meaning.Cast) (depth : ℕ) (locals : FlatLocals meaning.Cast)
+    pub record Fits (s : Shape) (count size : ℕ) (group : Group meaning.Cast) (depth : ℕ)
+        (locals : FlatLocals meaning.Cast)
         (words : Locals) (body : Body) : Type 0 where
       pub bound : body_bound procs s.captured count depth body ≡ true
       pub covered : covers body ≡ true

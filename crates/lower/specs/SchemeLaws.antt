@@ -24,7 +24,8 @@ use Rattle.coercion_norm.specs.Held.{Layout}
 use Rattle.flat_ir.specs.Bodies.{Proc}
 use Rattle.flat_ir.specs.Counts.{decision_at, flat_turn_wraps}
 use Rattle.coercion_norm.specs.ValueSteps.{decision_wraps}
-use Rattle.flat_ir.specs.Machine.{FlatCode, FlatValue, FlatValues, FlatFocus, FlatFrame, FlatStore, FlatAfter, Inside, locals_of}
+use Rattle.flat_ir.specs.Machine.{FlatCode, FlatValue, FlatValues, FlatFocus, FlatFrame, FlatStore, FlatAfter, Inside}
+use Rattle.flat_ir.specs.Machine.{locals_of}
 use Rattle.flat_ir.specs.Machine.{flat_turn, flat_cast, flat_proj, flat_operate, flat_arity, flat_entered}
 use Rattle.rt_cast.specs.States.{entered}
 use Rattle.lower.specs.declared.served.Served.{Served}
@@ -55,14 +56,16 @@ module _ (meaning : Meaning) (setting : Setting) (l : Layout) (procs : List Proc
   AllCarriedAt places objects vs ws = AreCarried l setting.address procs meaning places objects vs ws
 
   -- the region holds these objects, and in them the cells of the store
-  pub record Here (places : List ℕ) (objects : List Object) (store : FlatStore meaning.Cast) (number : ℕ) (h : Heap) : Type 0 where
+  pub record Here (places : List ℕ) (objects : List Object) (store : FlatStore meaning.Cast) (number : ℕ) (h : Heap)
+      : Type 0 where
     pub filled : Filled meaning setting l number objects h
     pub cells : CellsHeld l setting.address procs meaning places objects h.memory places store
 
   -- on the way of a procedure that was entered from s, where the number is one of both
   pub record OnWay (s : LowState) (most : Spent) (before after : ℕ) (t : LowState) : Type 0 where
     pub objects : List Object
-    pub filled : Filled meaning setting l before objects (heap_of t) ⊎ Filled meaning setting l after objects (heap_of t)
+    pub filled : Filled meaning setting l before objects (heap_of t) ⊎ Filled meaning setting l after objects
+        (heap_of t)
     pub same : t.world ≡ s.world
     pub active : length t.waiting ≤ length s.waiting + most.frames
     pub asked : t.words ≤ s.words + most.words
