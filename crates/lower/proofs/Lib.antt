@@ -49,8 +49,11 @@ mod SimulationProgram
 mod MergedLaws
 mod MergedLike
 mod MergedOpened
+mod MergedStates
+mod MergedTurns
 mod MergedChains
 mod MergedCasts
 mod MergedParts
+mod MergedCalls
 mod MergedProducts
 mod MergedServing

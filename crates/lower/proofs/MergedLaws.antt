@@ -2,11 +2,13 @@
 use Rattle.std.proofs.Common.{inl, ℕ, List, [], ◌∷◌, ◌++◌, refl, sym, subst, append-nil, append_assoc}
 use Rattle.coercion_norm.specs.Coercions.{Coercion, Coercions, Id, Fail, Middle, Inject, Project, NoCoercions}
 use Rattle.coercion_norm.specs.Coercions.{CoercionThen}
+use Rattle.coercion_norm.specs.declared.middles.MiddleKind.TheVariants.{Fun, Tup, Ref, Vec}
 use Rattle.coercion_norm.specs.Held.{Layout, Held, AreHeld}
 use Rattle.coercion_norm.specs.Objects.{Object}
+use Rattle.low_ir.specs.Run.{Setting, Waiting}
 use Rattle.rt_cast.specs.WholeObjects.{Wholes, WholeOther}
 use Rattle.lower.specs.Meanings.{MeaningLaws, IsWrapper}
-use Rattle.lower.specs.MergedMeaning.{merged_meaning, merged_wraps}
+use Rattle.lower.specs.MergedMeaning.{merged_meaning, merged_wraps, merged_resumes, WrapsKind}
 use Rattle.lower.proofs.HeapFilled.{there_later}
 
 module _ (l : Layout) (objects more : List Object) where
@@ -33,6 +35,18 @@ module _ (l : Layout) (objects more : List Object) where
     are_held_later (CoercionThen c rest) [] h = h
     are_held_later (CoercionThen c rest) (w ∷ ws) h = (held_later c w h.0, are_held_later rest ws h.1)
 
+  -- what is wrapped stays of its kind
+  pub kind_later : (c : Coercion) (target : ℕ) → WrapsKind l objects c target
+      → WrapsKind l (objects ++ more) c target
+  kind_later (Middle Fun parts) target h = (h.0, h.1, there_later l objects more target _ h.2)
+  kind_later (Middle Tup parts) target h = (h.0, there_later l objects more target _ h.1)
+  kind_later (Middle Ref parts) target h = (h.0, there_later l objects more target _ h.1)
+  kind_later (Middle Vec parts) target h = (h.0, there_later l objects more target _ h.1)
+  kind_later Id target h = tt
+  kind_later (Fail label) target h = tt
+  kind_later (Inject g kept) target h = tt
+  kind_later (Project wanted label i) target h = tt
+
 wholes_append : (l : Layout) (before os more : List Object) → Wholes l before os → Wholes l (before ++ os) more
     → Wholes l before (os ++ more)
 wholes_append l before [] more h w = subst (λ x. Wholes l x more) (append-nil before) w
@@ -46,8 +60,33 @@ wraps_later : (l : Layout) (objects more : List Object) (casts : List Coercion) 
     → merged_wraps l objects casts target w → merged_wraps l (objects ++ more) casts target w
 wraps_later l objects more [] target w h = h
 wraps_later l objects more (c ∷ d ∷ casts) target w h = h
-wraps_later l objects more (c ∷ []) target w h =
-    (h.0, there_later l objects more w _ h.1, held_later l objects more c h.0 h.2, h.3)
+wraps_later l objects more (c ∷ []) target w h = (
+  h.0,
+  there_later l objects more w _ h.1,
+  held_later l objects more c h.0 h.2,
+  h.3,
+  kind_later l objects more c target h.4,
+)
+
+resumes_later : (setting : Setting) (l : Layout) (objects more : List Object) (waiting : Waiting)
+    (casts : List Coercion) → merged_resumes setting l objects waiting casts
+    → merged_resumes setting l (objects ++ more) waiting casts
+resumes_later setting l objects more waiting [] h = h
+resumes_later setting l objects more waiting (c ∷ d ∷ casts) h = h
+resumes_later setting l objects more waiting (c ∷ []) h = (
+  h.0,
+  h.1,
+  record {
+    place = h.2.place;
+    word = h.2.word;
+    code = h.2.code;
+    other = h.2.other;
+    is = h.2.is;
+    held = held_later l objects more c h.2.word h.2.held;
+    low = h.2.low;
+    room = h.2.room;
+  },
+)
 
 wrapper : (l : Layout) (objects : List Object) (casts : List Coercion) (target w : ℕ)
     → merged_wraps l objects casts target w → IsWrapper l objects w
@@ -59,7 +98,7 @@ wrapper l objects (c ∷ []) target w h =
 pub merged_laws : MeaningLaws merged_meaning
 merged_laws = record {
   wraps_later = wraps_later;
-  resumes_later = λ setting l objects more waiting casts h. h;
+  resumes_later = resumes_later;
   wrapper = wrapper;
   begins = λ l. tt;
   keeps_more = λ l objects number o own keeps.

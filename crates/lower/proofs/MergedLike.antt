@@ -22,11 +22,11 @@ use Rattle.rt_cast.specs.MergedValues.{Merged, Base, Solid, Proxied, InDyn}
 use Rattle.rt_cast.specs.MergedValues.{shape_of as merged_shape}
 use Rattle.rt_cast.specs.States.{Heap, Placed}
 use Rattle.lower.specs.CarriedValues.{CarriedIn}
-use Rattle.lower.specs.MergedMeaning.{merged_meaning}
+use Rattle.lower.specs.MergedMeaning.{merged_meaning, WrapsKind}
 use Rattle.lower.specs.Storage.{Filled}
 use Rattle.lower.proofs.CarriedLater.{later, function_there, carried_small}
 use Rattle.lower.proofs.HeapObjects.{none_some, same_some}
-use Rattle.lower.proofs.MergedLaws.{merged_laws}
+use Rattle.lower.proofs.MergedLaws.{merged_laws, kind_later}
 use Rattle.lower.proofs.WordArithmetic.{header_is}
 use Rattle.std.proofs.Common.{nat_eq, eqb-true, eq-eqb}
 use Rattle.coercion_norm.specs.RunValues.{NoRunValues, RunValueThen, row_list}
@@ -50,7 +50,7 @@ module _ (setting : Setting) (l : Layout) (procs : List Proc) (places : List ℕ
   Like (RunFun code captured) m = (a : ℕ) × (m ≡ Solid a) × C (RunFun code captured) [] a
   Like (RunTuple values) m = (a : ℕ) × (m ≡ Solid a) × C (RunTuple values) [] a
   Like (RunLoc cell is_vector) m = (a : ℕ) × (m ≡ Solid a) × C (RunLoc cell is_vector) [] a
-  Like (RunWrap v c) m = (a : ℕ) × (m ≡ Proxied a c) × Like v (Solid a)
+  Like (RunWrap v c) m = (a : ℕ) × (m ≡ Proxied a c) × Like v (Solid a) × WrapsKind l objects c a
   Like (RunInject v kept) m = (u : Merged ℕ) × (m ≡ InDyn kept u) × (is_dyn (rows_of l.types kept) ≡ false) × Like v u
 
   -- the head of what stands under all injections and proxies
@@ -154,23 +154,27 @@ module _ (setting : Setting) (l : Layout) (procs : List Proc) (places : List ℕ
     -- what carries a value in proxies is one proxy
     pub like_wrapped : (v : V) (cast : Coercion) (casts : List Coercion) (w : ℕ) → C v (cast ∷ casts) w
         → (casts ≡ []) × (a : ℕ) × Like v (Solid a) × Carries l objects (Proxied a cast) w
+        × WrapsKind l objects cast a
     like_wrapped (RunFun code captured) cast [] w c = (
       refl,
       c.0,
       (c.0, refl, c.2),
       (c.0, c.1.0, c.1.1, solid (RunFun code captured) c.0 c.2 (c.0, refl, c.2), c.1.2, c.1.3),
+      c.1.4,
     )
     like_wrapped (RunTuple values) cast [] w c = (
       refl,
       c.0,
       (c.0, refl, c.2),
       (c.0, c.1.0, c.1.1, solid (RunTuple values) c.0 c.2 (c.0, refl, c.2), c.1.2, c.1.3),
+      c.1.4,
     )
     like_wrapped (RunLoc cell is_vector) cast [] w c = (
       refl,
       c.0,
       (c.0, refl, c.2),
       (c.0, c.1.0, c.1.1, solid (RunLoc cell is_vector) c.0 c.2 (c.0, refl, c.2), c.1.2, c.1.3),
+      c.1.4,
     )
     like_wrapped (RunFun code captured) cast (d ∷ casts) w c = absurd c.1
     like_wrapped (RunTuple values) cast (d ∷ casts) w c = absurd c.1
@@ -194,7 +198,7 @@ module _ (setting : Setting) (l : Layout) (procs : List Proc) (places : List ℕ
     like_of (RunTuple values) w c = (Solid w, (w, refl, c), solid (RunTuple values) w c (w, refl, c))
     like_of (RunLoc cell is_vector) w c = (Solid w, (w, refl, c), solid (RunLoc cell is_vector) w c (w, refl, c))
     like_of (RunWrap v cast) w c =
-        let z = like_wrapped v cast [] w c in (Proxied z.1 cast, (z.1, refl, z.2), z.3)
+        let z = like_wrapped v cast [] w c in (Proxied z.1 cast, (z.1, refl, z.2, z.4), z.3)
     like_of (RunInject v kept) w c =
         let z = like_of v c.1 c.6 in (
           InDyn kept z.0,
@@ -207,44 +211,49 @@ module _ (setting : Setting) (l : Layout) (procs : List Proc) (places : List ℕ
   solid_same : (a b : ℕ) → Solid a ≡ Solid b → a ≡ b
   solid_same a b e = cc
 
+  kind_at : (more : List Object) (cast : Coercion) (a w : ℕ) → WrapsKind l objects cast a → w ≡ a
+      → WrapsKind l (objects ++ more) cast w
+  kind_at more cast a w f e =
+      subst (λ n. WrapsKind l (objects ++ more) cast n) (sym e) (kind_later l objects more cast a f)
+
   back_wrapped : (more : List Object) (v : V) (cast : Coercion) (a w : ℕ) → Like v (Solid a)
-      → Carries l (objects ++ more) (Proxied a cast) w
+      → WrapsKind l objects cast a → Carries l (objects ++ more) (Proxied a cast) w
       → CarriedIn l setting.address procs merged_meaning places (objects ++ more) v (cast ∷ []) w
-  back_wrapped more (RunFun code captured) cast a w k b = (
+  back_wrapped more (RunFun code captured) cast a w k f b = (
     b.0,
-    (b.1, b.2, b.4, b.5),
+    (b.1, b.2, b.4, b.5, kind_at more cast a b.0 f b.3.is),
     subst (λ x. C' more (RunFun code captured) x) (sym (b.3.is ∙ solid_same a k.0 k.1))
         (later l setting.address procs merged_meaning merged_laws places objects more (RunFun code captured) k.0 k.2),
   )
-  back_wrapped more (RunTuple values) cast a w k b = (
+  back_wrapped more (RunTuple values) cast a w k f b = (
     b.0,
-    (b.1, b.2, b.4, b.5),
+    (b.1, b.2, b.4, b.5, kind_at more cast a b.0 f b.3.is),
     subst (λ x. C' more (RunTuple values) x) (sym (b.3.is ∙ solid_same a k.0 k.1))
         (later l setting.address procs merged_meaning merged_laws places objects more (RunTuple values) k.0 k.2),
   )
-  back_wrapped more (RunLoc cell is_vector) cast a w k b = (
+  back_wrapped more (RunLoc cell is_vector) cast a w k f b = (
     b.0,
-    (b.1, b.2, b.4, b.5),
+    (b.1, b.2, b.4, b.5, kind_at more cast a b.0 f b.3.is),
     subst (λ x. C' more (RunLoc cell is_vector) x) (sym (b.3.is ∙ solid_same a k.0 k.1))
         (later l setting.address procs merged_meaning merged_laws places objects more (RunLoc cell is_vector) k.0 k.2),
   )
-  back_wrapped more (RunInt n) cast a w k b = absurd (let z : ⊥ = clash k.0 k.1 in z)
+  back_wrapped more (RunInt n) cast a w k f b = absurd (let z : ⊥ = clash k.0 k.1 in z)
     where
       clash : (x : ℕ) → Solid a ≡ Base IntHead x → ⊥
       clash x e = cc
-  back_wrapped more (RunBool b') cast a w k b = absurd (let z : ⊥ = clash k.0 k.1 in z)
+  back_wrapped more (RunBool b') cast a w k f b = absurd (let z : ⊥ = clash k.0 k.1 in z)
     where
       clash : (x : ℕ) → Solid a ≡ Base BoolHead x → ⊥
       clash x e = cc
-  back_wrapped more RunUnit cast a w k b = absurd (let z : ⊥ = clash k.0 k.1 in z)
+  back_wrapped more RunUnit cast a w k f b = absurd (let z : ⊥ = clash k.0 k.1 in z)
     where
       clash : (x : ℕ) → Solid a ≡ Base UnitHead x → ⊥
       clash x e = cc
-  back_wrapped more (RunWrap v other) cast a w k b = absurd (let z : ⊥ = clash k.0 k.1 in z)
+  back_wrapped more (RunWrap v other) cast a w k f b = absurd (let z : ⊥ = clash k.0 k.1 in z)
     where
       clash : (x : ℕ) → Solid a ≡ Proxied x other → ⊥
       clash x e = cc
-  back_wrapped more (RunInject v kept) cast a w k b = absurd (let z : ⊥ = clash k.0 k.1 in z)
+  back_wrapped more (RunInject v kept) cast a w k f b = absurd (let z : ⊥ = clash k.0 k.1 in z)
     where
       clash : (x : Merged ℕ) → Solid a ≡ InDyn kept x → ⊥
       clash x e = cc
@@ -268,7 +277,7 @@ module _ (setting : Setting) (l : Layout) (procs : List Proc) (places : List ℕ
       subst (λ x. C' more (RunLoc cell is_vector) x) (sym c.is)
       (later l setting.address procs merged_meaning merged_laws places objects more (RunLoc cell is_vector) k.0 k.2)
   like_back more (RunWrap v cast) m k w b =
-      back_wrapped more v cast k.0 w k.2 (subst (λ z. Carries l (objects ++ more) z w) k.1 b)
+      back_wrapped more v cast k.0 w k.2 k.3 (subst (λ z. Carries l (objects ++ more) z w) k.1 b)
   like_back more (RunInject v kept) m k w b =
       let c = subst (λ z. Carries l (objects ++ more) z w) k.1 b in (
         c.0,

@@ -21,39 +21,40 @@ use Rattle.lower.specs.CoveredPrograms.{all_covered}
 use Rattle.lower.specs.Following.{Serving, ServesEverywhere}
 use Rattle.lower.specs.Lowered.{entry_proc}
 use Rattle.lower.specs.MergedMeaning.{merged_meaning, MergedCasts}
-use Rattle.lower.specs.SchemeLaws.{CellsServed, CallsMade}
+use Rattle.lower.specs.SchemeLaws.{CellsServed}
 use Rattle.lower.specs.Sets.{StandFrom, merged_numbers, merged_procs, with_casts}
 use Rattle.lower.specs.SimulationClaims.{AreNarrow, IsLowered, RegionIsRow, StorageIsWhole}
 use Rattle.lower.specs.Storage.{Passes}
-use Rattle.lower.proofs.ClosingSets.{cast_stand}
+use Rattle.lower.proofs.ClosingSets.{cast_stand, proxy_stand}
+use Rattle.lower.proofs.MergedCalls.{merged_calls_made}
 use Rattle.lower.proofs.MergedCasts.{merged_casts_made, merged_casts_have_words}
 use Rattle.lower.proofs.MergedLaws.{merged_laws}
 use Rattle.lower.proofs.MergedParts.{merged_parts_given}
 use Rattle.lower.proofs.MergedProducts.{merged_products}
 use Rattle.lower.proofs.SimulationProgram.{words_follow_by}
 
--- with cells and calls
+-- with cells
 pub merged_serving : (setting : Setting) (l : Layout) (procs : List Proc) (casts : List TypeCast) (first : ℕ)
     (words : List ℕ) → Placed setting l → TypesStand l → MergedCasts l casts words
     → StandFrom setting.procs first (merged_procs first)
     → CellsServed merged_meaning setting l procs casts (with_casts (merged_numbers first) words)
-    → CallsMade merged_meaning setting l procs casts (with_casts (merged_numbers first) words)
     → Serving merged_meaning setting l procs casts (with_casts (merged_numbers first) words)
-merged_serving setting l procs casts first words placed types held stand cells calling =
+merged_serving setting l procs casts first words placed types held stand cells =
     let run_by = with_casts (merged_numbers first) words in
     let ready = cast_stand setting.procs first stand in
+    let proxies = proxy_stand setting.procs first stand in
     record {
       products = merged_products setting first words stand;
       casting = merged_casts_made setting l procs casts words first run_by placed types held ready refl refl;
       words = merged_casts_have_words setting l procs casts words run_by held refl;
       parts = merged_parts_given setting l procs casts first run_by placed types held.tallest ready refl;
       cells = cells;
-      calling = calling;
+      calling = merged_calls_made setting l procs casts first run_by placed types held.tallest ready proxies refl;
     }
 
 pub merged_procedures_serve : ServesEverywhere merged_meaning merged_procs merged_numbers
 merged_procedures_serve = λ setting l procs casts first words placed begins small types held stand.
-    merged_serving setting l procs casts first words placed types held stand ? ?
+    merged_serving setting l procs casts first words placed types held stand ?
 
 -- ---- what is told of the run
 
