@@ -54,6 +54,7 @@ mod MergedTurns
 mod MergedChains
 mod MergedCasts
 mod MergedParts
+mod MergedArguments
 mod MergedCalls
 mod MergedProducts
 mod MergedServing

@@ -1,47 +1,42 @@
 -- Calls through proxies in the merged scheme: the arguments are cast one after another, then the function is entered.
-use Rattle.std.proofs.Common.{◌≡◌, ◌⊎◌, inl, inr, ℕ, zero, suc, ◌+◌, ◌*◌, ◌<◌, ◌≤◌, List, [], ◌∷◌, ◌++◌, length, Some}
-use Rattle.std.proofs.Common.{None}
+use Rattle.std.proofs.Common.{◌≡◌, ◌⊎◌, inl, inr, ℕ, suc, ◌+◌, ◌*◌, ◌<◌, ◌≤◌, List, [], ◌∷◌, ◌++◌, length, Some, None}
 use Rattle.std.proofs.Common.{Bool, true, false, Option, refl, sym, ap, ◌∙◌, subst, arith, append-nil, slice_get}
 use Rattle.std.proofs.Common.{eqb-true, le_refl}
-use Rattle.std.specs.Prelude.{◌==◌, if◌then◌else◌, option_map}
-use Rattle.grift_base.specs.Types.{TypeHead, TypeRow}
-use Rattle.grift_base.specs.declared.places.Pos.{Pos}
+use Rattle.std.specs.Prelude.{◌==◌, if◌then◌else◌}
+use Rattle.grift_base.specs.Types.{TypeHead}
 use Rattle.grift_base.specs.declared.verdicts.Verdict.TheVariants.{Blame}
 use Rattle.run_laws.specs.Runs.{Verdict as EndsWith}
 use Rattle.run_laws.specs.Machines.{Reaches}
 use Rattle.run_laws.proofs.Public.{reaches_weaken}
 use Rattle.rv_machine.specs.Mach.{ending_of}
-use Rattle.low_ir.specs.Run.{Setting, Waiting, LowState, low_machine, code_step, goes_on, with_local}
-use Rattle.coercion_norm.specs.Coercions.{Coercion, Coercions, Id, Fail, Middle, Inject, Project, NoCoercions}
-use Rattle.coercion_norm.specs.Coercions.{CoercionThen, rows_of}
-use Rattle.coercion_norm.specs.declared.middles.MiddleKind.TheVariants.{Fun, Tup, Ref, Vec}
+use Rattle.low_ir.specs.Run.{Setting, Waiting, LowState, low_machine, with_local}
+use Rattle.coercion_norm.specs.Coercions.{Coercion}
+use Rattle.coercion_norm.specs.Coercions.{rows_of}
 use Rattle.coercion_norm.specs.Held.{Layout, There, TypesStand}
-use Rattle.coercion_norm.specs.MergedMode.{merging, function_parts, split_parts}
+use Rattle.coercion_norm.specs.MergedMode.{merging, function_parts}
 use Rattle.coercion_norm.specs.Modes.{TypeCast}
-use Rattle.coercion_norm.specs.Normal.{IsNormal, AreNormal}
 use Rattle.coercion_norm.specs.Objects.{Object, Fixed}
 use Rattle.coercion_norm.specs.ObjectsOfRows.{header}
 use Rattle.coercion_norm.specs.RunValues.{RunInt, RunBool, RunUnit, RunFun, RunTuple, RunLoc, RunWrap, RunInject}
 use Rattle.coercion_norm.specs.RunValues.{Pending}
 use Rattle.coercion_norm.specs.RunValues.{all_plain, in_row}
-use Rattle.coercion_norm.specs.ValueSteps.{CastFrame, EnterFrame, Own, Return, Entering, On, BlameOf, NoNext, on_some}
-use Rattle.coercion_norm.specs.ValueSteps.{onto}
+use Rattle.coercion_norm.specs.ValueSteps.{CastFrame, EnterFrame, Own, Entering, On, BlameOf, on_some, onto}
 use Rattle.coercion_norm.specs.ValueSteps.{cast_all, casts_onto, apply, enter_plain, decision_wraps}
 use Rattle.flat_ir.specs.Bodies.{Proc}
 use Rattle.flat_ir.specs.Counts.{decision_at}
 use Rattle.flat_ir.specs.Machine.{FlatCode, FlatValue, FlatValues, FlatFrame, FlatStore, FlatAfter, Group, Inside}
 use Rattle.flat_ir.specs.Machine.{locals_of}
 use Rattle.flat_ir.specs.Machine.{flat_turn, flat_arity, flat_entered, entered_proc, flat_cast}
-use Rattle.rt_cast.specs.Carried.{IsVery, Carries, BlamesAt, ComesTo}
+use Rattle.rt_cast.specs.Carried.{IsVery, Carries, ComesTo}
 use Rattle.rt_cast.specs.Carried.{AreCarried as RtCarried}
 use Rattle.rt_cast.specs.ComposeCodes.{cast as cast_number}
 use Rattle.rt_cast.specs.Costs.{cast_cost}
-use Rattle.rt_cast.specs.MergedValues.{Merged, Solid, Proxied, Outcome, Stuck, Gives, Blames, cast_value}
+use Rattle.rt_cast.specs.MergedValues.{Merged, Solid, Proxied, Outcome, Stuck, cast_value}
 use Rattle.rt_cast.specs.Procs.{Stand}
 use Rattle.rt_cast.specs.States.{Placed, IsReady, Grows, Fine, Heap, Filled as RtFilled, OnTheWay, around, entered}
 use Rattle.rt_cast.specs.States.{heap_of}
-use Rattle.rt_refs.specs.Arguments.{Arguments, NoArguments, AllGive, OneBlames, in_front, then_others, arguments_cast}
-use Rattle.rt_refs.specs.Arguments.{handed, word_or_zero}
+use Rattle.rt_refs.specs.Arguments.{Arguments, NoArguments, AllGive, OneBlames, then_others, arguments_cast}
+use Rattle.rt_refs.specs.Arguments.{handed}
 use Rattle.rt_refs.specs.CallCodes.{apply_proc}
 use Rattle.rt_refs.specs.CallLaws.{apply_cost, Resumes, CallComes}
 use Rattle.rt_refs.specs.CallLaws.{CallsAt as RtCallsAt}
@@ -49,183 +44,19 @@ use Rattle.rt_refs.specs.RefProcs.{Stand as RefsStand}
 use Rattle.rt_refs.proofs.Public.{calls_are_made, answers_are_cast}
 use Rattle.lower.specs.declared.served.Served.{Served}
 use Rattle.lower.specs.CarriedValues.{CarriedIn, AreCarried}
-use Rattle.lower.specs.Emit.{cast_word}
 use Rattle.lower.specs.MergedMeaning.{merged_meaning, merged_resumes, WrapsKind}
-use Rattle.lower.specs.SchemeLaws.{Spent, Here, OnWay, StopsNow, Aim, After, Goes, Serves, Answers, Calls, CallsAt}
-use Rattle.lower.specs.SchemeLaws.{CallsMade}
-use Rattle.lower.specs.SchemeLaws.{at_or_zero}
+use Rattle.lower.specs.SchemeLaws.{Spent, Here, OnWay, StopsNow, Aim, After, Goes, Serves, Answers, Calls}
+use Rattle.lower.specs.SchemeLaws.{CallsAt, CallsMade}
 use Rattle.lower.specs.Storage.{Filled}
-use Rattle.lower.proofs.CarriedLater.{later, function_there, cells_later, cells_below}
-use Rattle.lower.proofs.HeapObjects.{none_some, same_some}
+use Rattle.lower.proofs.CarriedLater.{later, cells_later, cells_below}
 use Rattle.lower.proofs.MergedChains.{cast_made, ends_here}
 use Rattle.lower.proofs.MergedLaws.{merged_laws}
-use Rattle.lower.proofs.MergedLike.{Like, solid_head, head_at, like_of, like_wrapped, like_back}
+use Rattle.lower.proofs.MergedLike.{Like, solid_head, head_at, like_of, like_wrapped}
 use Rattle.lower.proofs.MergedStates.{filled_as, on_way, blame_stops}
 use Rattle.lower.proofs.MergedTurns.{ends_cast as ends_cast_by}
-
--- ---- the casts of a function's coercion
-
-abbrev AllNormal : (ℕ → TypeRow) → List Coercion → Type 0
-AllNormal rows [] = Unit {0}
-AllNormal rows (d ∷ ds) = IsNormal rows d × AllNormal rows ds
-
-mapped : {A B : Type 0} (f : A → B) (o : Option A) (b : B) → option_map f o ≡ Some b
-    → (a : A) × (o ≡ Some a) × (f a ≡ b)
-mapped f None b e = none_some e
-mapped f (Some a) b e = (a, refl, same_some (f a) b e)
-
-parts_normal : (rows : ℕ → TypeRow) (parts : Coercions) (ds : List Coercion) (e : Coercion) → AreNormal rows parts
-    → split_parts parts ≡ Some (ds, e) → AllNormal rows ds
-parts_normal rows NoCoercions ds e n h = none_some h
-parts_normal rows (CoercionThen c NoCoercions) ds e n h =
-    let p : List Coercion × Coercion = ([], c) in
-    let q : List Coercion × Coercion = (ds, e) in
-    subst (λ z. AllNormal rows z.0) (same_some p q h) tt
-parts_normal rows (CoercionThen c (CoercionThen d rest)) ds e n h =
-    let m = mapped (λ parts. (c ∷ parts.0, parts.1)) (split_parts (CoercionThen d rest)) (ds, e) h in
-    subst (λ p. AllNormal rows p.0) m.2 (n.0, parts_normal rows (CoercionThen d rest) m.0.0 m.0.1 n.1 m.1)
-
--- it wraps a function, and its parts are in normal form
-of_function : (l : Layout) (objects : List Object) (a : ℕ) (c : Coercion) (ds : List Coercion) (e : Coercion)
-    → function_parts c ≡ Some (ds, e) → IsNormal (rows_of l.types) c → WrapsKind l objects c a
-    → AllNormal (rows_of l.types) ds
-    × (code : ℕ) × (rest : List ℕ) × There l objects a (Fixed (header 1 0 (suc (length rest))) (code ∷ rest))
-of_function l objects a (Middle Fun parts) ds e split n f =
-    (parts_normal (rows_of l.types) parts ds e n.1 split, f.0, f.1, f.2)
-of_function l objects a (Middle Tup parts) ds e split n f = none_some split
-of_function l objects a (Middle Ref parts) ds e split n f = none_some split
-of_function l objects a (Middle Vec parts) ds e split n f = none_some split
-of_function l objects a Id ds e split n f = none_some split
-of_function l objects a (Fail label) ds e split n f = none_some split
-of_function l objects a (Inject g kept) ds e split n f = none_some split
-of_function l objects a (Project wanted label i) ds e split n f = none_some split
-
--- ---- arguments with one cast each
-
-abbrev pendings : List (FlatValue Coercion) → List Coercion → List (Pending Coercion FlatCode)
-pendings [] ds = []
-pendings (v ∷ vs) [] = []
-pendings (v ∷ vs) (d ∷ ds) = record { value = v; casts = d ∷ [] } ∷ pendings vs ds
-
-all_cast : (vs : List (FlatValue Coercion)) (ds : List Coercion)
-    → (cast_all (all_plain vs) ds ≡ None)
-    ⊎ ((cast_all (all_plain vs) ds ≡ Some (pendings vs ds)) × (length ds ≡ length vs))
-all_cast [] [] = inr (refl, refl)
-all_cast [] (d ∷ ds) = inl refl
-all_cast (v ∷ vs) [] = inl refl
-all_cast (v ∷ vs) (d ∷ ds) = by_rest (all_cast vs ds)
-  where
-    by_rest : (cast_all (all_plain vs) ds ≡ None)
-        ⊎ ((cast_all (all_plain vs) ds ≡ Some (pendings vs ds)) × (length ds ≡ length vs))
-        → (cast_all (all_plain (v ∷ vs)) (d ∷ ds) ≡ None)
-        ⊎ ((cast_all (all_plain (v ∷ vs)) (d ∷ ds) ≡ Some (pendings (v ∷ vs) (d ∷ ds)))
-        × (length (d ∷ ds) ≡ length (v ∷ vs)))
-    by_rest (inl e) = inl (ap (option_map (λ rest. record { value = v; casts = d ∷ [] } ∷ rest)) e)
-    by_rest (inr e) = inr (ap (option_map (λ rest. record { value = v; casts = d ∷ [] } ∷ rest)) e.0, ap suc e.1)
-
--- what the arguments before them make of those that follow, the last one first
-abbrev fronts : List (Merged ℕ) → Arguments ℕ → Arguments ℕ
-fronts [] r = r
-fronts (m ∷ pre) r = fronts pre (in_front m r)
-
-fronts_blame : (pre : List (Merged ℕ)) (label : ℕ) → fronts pre (OneBlames label) ≡ OneBlames label
-fronts_blame [] label = refl
-fronts_blame (m ∷ pre) label = fronts_blame pre label
-
-fronts_give : (pre vs : List (Merged ℕ)) → fronts pre (AllGive vs) ≡ AllGive (onto pre vs)
-fronts_give [] vs = refl
-fronts_give (m ∷ pre) vs = fronts_give pre (m ∷ vs)
-
--- the words that are handed on, told in two ways
-handed_is : (w : ℕ) (ws : List ℕ)
-    → handed w ws
-    ≡ (w ∷ at_or_zero ws 0 ∷ at_or_zero ws 1 ∷ at_or_zero ws 2 ∷ at_or_zero ws 3 ∷ at_or_zero ws 4 ∷ at_or_zero ws 5
-    ∷ length ws ∷ [])
-handed_is w ws =
-    let a = word_is (slice_get ws 0) in
-    let b = word_is (slice_get ws 1) in
-    let c = word_is (slice_get ws 2) in
-    let d = word_is (slice_get ws 3) in
-    let e = word_is (slice_get ws 4) in
-    let f = word_is (slice_get ws 5) in
-    rw (a, b, c, d, e, f) refl
-  where
-    word_is : (o : Option ℕ) → word_or_zero o ≡ cast_word o
-    word_is None = refl
-    word_is (Some w) = refl
-
--- ---- values and what is like them
-
-module _ (setting : Setting) (l : Layout) (procs : List Proc) (places : List ℕ) (objects : List Object) where
-  abbrev AllLike : List (FlatValue Coercion) → List (Merged ℕ) → Type 0
-  AllLike [] [] = Unit {0}
-  AllLike [] (m ∷ ms) = ⊥
-  AllLike (v ∷ vs) [] = ⊥
-  AllLike (v ∷ vs) (m ∷ ms) = Like setting l procs places objects v m × AllLike vs ms
-
-  onto_like : (done : List (FlatValue Coercion)) (pre : List (Merged ℕ)) (vs : List (FlatValue Coercion))
-      (ms : List (Merged ℕ)) → AllLike done pre → AllLike vs ms → AllLike (onto done vs) (onto pre ms)
-  onto_like [] [] vs ms a b = b
-  onto_like [] (m ∷ pre) vs ms a b = absurd a
-  onto_like (v ∷ done) [] vs ms a b = absurd a
-  onto_like (v ∷ done) (m ∷ pre) vs ms a b = onto_like done pre (v ∷ vs) (m ∷ ms) a.1 (a.0, b)
-
-  all_back : (more : List Object) (vs : List (FlatValue Coercion)) (ms : List (Merged ℕ)) (ws : List ℕ) → AllLike vs ms
-      → RtCarried l (IsVery l) (objects ++ more) ms ws
-      → AreCarried l setting.address procs merged_meaning places (objects ++ more) (in_row vs) ws
-  all_back more [] [] [] k c = tt
-  all_back more [] [] (w ∷ ws) k c = absurd c
-  all_back more [] (m ∷ ms) ws k c = absurd k
-  all_back more (v ∷ vs) [] ws k c = absurd k
-  all_back more (v ∷ vs) (m ∷ ms) [] k c = absurd c
-  all_back more (v ∷ vs) (m ∷ ms) (w ∷ ws) k c =
-      (like_back setting l procs places objects more v m k.0 w c.0, all_back more vs ms ws k.1 c.1)
-
-  -- a bare function has this code address
-  abbrev CodeAt : FlatValue Coercion → ℕ → Type 0
-  CodeAt (RunFun code captured) address = address ≡ setting.address (code.first + code.place)
-  CodeAt f address = Unit {0}
-
-  module _ (placed : Placed setting l) {number : ℕ} (h : Heap)
-      (filled : Filled merged_meaning setting l number objects h) where
-    all_like : (vs : List (FlatValue Coercion)) (ws : List ℕ)
-        → AreCarried l setting.address procs merged_meaning places objects (in_row vs) ws
-        → (ms : List (Merged ℕ)) × AllLike vs ms × RtCarried l (IsVery l) objects ms ws × (length ms ≡ length vs)
-    all_like [] [] c = ([], tt, tt, refl)
-    all_like [] (w ∷ ws) c = absurd c
-    all_like (v ∷ vs) [] c = absurd c
-    all_like (v ∷ vs) (w ∷ ws) c =
-        let a = like_of setting l procs places objects placed h filled v w c.0 in
-        let r = all_like vs ws c.1 in
-        (a.0 ∷ r.0, (a.1, r.1), (a.2, r.2), ap suc r.3)
-
-    -- what is called, told that some function stands there
-    called : (f : FlatValue Coercion) (a : ℕ) → Like setting l procs places objects f (Solid a)
-        → (code : ℕ) (rest : List ℕ) → There l objects a (Fixed (header 1 0 (suc (length rest))) (code ∷ rest))
-        → (head address : ℕ) × (words : List ℕ) × There l objects a (Fixed head (address ∷ words)) × CodeAt f address
-    called (RunFun code captured) a k other rest there =
-        let c = k.2 in
-        let z = function_there l setting.address procs merged_meaning merged_laws places objects setting placed h filled
-        code.first c.0 c.1 code.place c.2 c.4 c.5 in (
-          1 + 4294967296 * suc (length z.0),
-          setting.address (code.first + code.place),
-          z.0,
-          subst (λ n. There l objects n (Fixed (1 + 4294967296 * suc (length z.0))
-              (setting.address (code.first + code.place) ∷ z.0))) (sym (solid_same a k.0 k.1 ∙ c.3)) z.1,
-          refl,
-        )
-      where
-        solid_same : (x y : ℕ) → Solid x ≡ Solid y → x ≡ y
-        solid_same x y e = cc
-    called (RunTuple values) a k code rest there = (header 1 0 (suc (length rest)), code, rest, there, tt)
-    called (RunLoc cell is_vector) a k code rest there = (header 1 0 (suc (length rest)), code, rest, there, tt)
-    called (RunInt n) a k code rest there = (header 1 0 (suc (length rest)), code, rest, there, tt)
-    called (RunBool b) a k code rest there = (header 1 0 (suc (length rest)), code, rest, there, tt)
-    called RunUnit a k code rest there = (header 1 0 (suc (length rest)), code, rest, there, tt)
-    called (RunWrap v c) a k code rest there = (header 1 0 (suc (length rest)), code, rest, there, tt)
-    called (RunInject v kept) a k code rest there = (header 1 0 (suc (length rest)), code, rest, there, tt)
-
--- ---- a procedure that serves, in a storage of whole objects
+use Rattle.lower.proofs.MergedArguments.{AllNormal, of_function, pendings, all_cast, fronts, fronts_blame}
+use Rattle.lower.proofs.MergedArguments.{fronts_give}
+use Rattle.lower.proofs.MergedArguments.{handed_is, AllLike, onto_like, all_back, CodeAt, all_like, called}
 
 module _ (setting : Setting) (l : Layout) (procs : List Proc) (casts : List TypeCast) (first : ℕ)
     (placed : Placed setting l) (types : TypesStand l) (tallest : l.tallest ≤ 65534)
@@ -336,8 +167,7 @@ module _ (setting : Setting) (l : Layout) (procs : List Proc) (casts : List Type
         (ms : List (Merged ℕ)) → Ls values ms → (n : ℕ) (t : LowState)
         → RtCallsAt l setting first s (IsVery l) objects a address ms e t
         → CallsAt merged_meaning setting l procs casts s places objects code captured values base (CastFrame e ∷ base)
-        store
-        n t
+        store n t
     calls_at code captured k at values ms likes n t g = record {
       cells = [];
       more = g.grows.more;
@@ -352,8 +182,7 @@ module _ (setting : Setting) (l : Layout) (procs : List Proc) (casts : List Type
           (subst (λ x. CarriedIn l setting.address procs merged_meaning places (objects ++ g.grows.more)
           (RunFun code captured) [] x) (sym (g.function.is ∙ solid_same a k.0 k.1))
           (later l setting.address procs merged_meaning merged_laws places objects g.grows.more (RunFun code captured)
-          k.0
-          k.2));
+          k.0 k.2));
       arguments = subst (λ ps. AreCarried l setting.address procs merged_meaning ps (objects ++ g.grows.more)
           (in_row values) g.words) (sym (append-nil places))
           (all_back setting l procs places objects g.grows.more values ms g.words likes
@@ -369,8 +198,7 @@ module _ (setting : Setting) (l : Layout) (procs : List Proc) (casts : List Type
         first,
         ready,
         subst (λ os. Resumes l first os (record { rest = record t.active { code = g.rest }; answer = g.d }) e)
-            g.grows.is
-            g.resumes,
+            g.grows.is g.resumes,
       );
       room = g.resumes.room;
       waits = g.waits;
@@ -437,9 +265,8 @@ module _ (setting : Setting) (l : Layout) (procs : List Proc) (casts : List Type
 
         by_proc : (o : Option Proc) → slice_get procs (code.first + code.place) ≡ o
             → (i : ℕ)
-            × Then i (on_some (entered_proc o group values) (λ place. On (Own place) (CastFrame e ∷ base) store
-            s.world)) n
-            0
+            × Then i (on_some (entered_proc o group values)
+            (λ place. On (Own place) (CastFrame e ∷ base) store s.world)) n 0
         by_proc None there = (0, refl)
         by_proc (Some p) there = by_length p there (length values == p.params) refl
 
@@ -505,8 +332,8 @@ module _ (setting : Setting) (l : Layout) (procs : List Proc) (casts : List Type
         → (vs : List (FlatValue Coercion)) (ms : List (Merged ℕ)) (ds : List Coercion) (k : ℕ) → Ls vs ms
         → AllNormal (rows_of l.types) ds → length ds ≡ length vs
         → ((i : ℕ) → slice_get vs i ≡ slice_get all (k + i)) → (done : List (FlatValue Coercion))
-        (pre : List (Merged ℕ))
-        → Ls done pre → total ≡ fronts pre (arguments_cast heads l.types k ds ms) → (n wraps : ℕ)
+        (pre : List (Merged ℕ)) → Ls done pre → total ≡ fronts pre (arguments_cast heads l.types k ds ms)
+        → (n wraps : ℕ)
         → (i : ℕ) × Then i (On (Entering f done (pendings vs ds)) (CastFrame e ∷ base) store s.world) n wraps
     arguments f like at [] [] [] k likes normal long same done pre before q n wraps =
         one_turn f like done [] n wraps
@@ -521,8 +348,7 @@ module _ (setting : Setting) (l : Layout) (procs : List Proc) (casts : List Type
         one_turn f like done (pendings (v ∷ vs) (d ∷ ds)) n wraps
         (ends_cast_by setting l procs casts s places objects store te most aim
         (head_at setting l procs places objects (slice_get all k)) total begins (λ label. OneBlames label) blamed d
-        normal.0
-        (EnterFrame f done (pendings vs ds) ∷ CastFrame e ∷ base)
+        normal.0 (EnterFrame f done (pendings vs ds) ∷ CastFrame e ∷ base)
         (λ o. fronts pre (then_others o (arguments_cast heads l.types (suc k) ds ms))) (λ label. fronts_blame pre label)
         (λ u x like_u head_u q' n' wraps'.
         let r = arguments f like at vs ms ds (suc k) likes.1 normal.1 (omega (arith, long)) next (u ∷ done) (x ∷ pre)
@@ -585,8 +411,7 @@ module _ (setting : Setting) (l : Layout) (procs : List Proc) (casts : List Type
         (CallComes l setting first s (IsVery l) objects seen.0 closure.1 e total_of) k (called_with w ws)
     law_of some =
         let z = calls_are_made ending_of setting l first s refl is_ready tallest objects rt_filled heads_of seen.0 cast
-        ds
-        e split given.0 w ws seen.2 given.2 (let q = given.3 in omega (arith, q, few)) closure.0 closure.1 closure.2
+        ds e split given.0 w ws seen.2 given.2 (let q = given.3 in omega (arith, q, few)) closure.0 closure.1 closure.2
         closure.3 total_of refl some in
         (z.0, z.2)
 
@@ -595,9 +420,8 @@ module _ (setting : Setting) (l : Layout) (procs : List Proc) (casts : List Type
       record { frames = 4 * l.tallest + 7; words = wide_of },
       arguments seen.0 e vs (called_with w ws) (4 * l.tallest + 7) wide_of closure.1
           (begins_from (4 * l.tallest + 7) wide_of (called_with w ws) refl refl refl) total_of law_of v seen.1 closure.4
-          vs
-          given.0 ds 0 given.1 parts.0 long (λ i. let z : i ≡ 0 + i = omega arith in ap (slice_get vs) z) [] [] tt refl
-          number 0,
+          vs given.0 ds 0 given.1 parts.0 long (λ i. let z : i ≡ 0 + i = omega arith in ap (slice_get vs) z) [] [] tt
+          refl number 0,
     )
 
   abbrev entering : FlatValue Coercion → Coercion → List (FlatValue Coercion) → FlatAfter Coercion
@@ -653,8 +477,7 @@ module _ (setting : Setting) (l : Layout) (procs : List Proc) (casts : List Type
     answer_law some =
         let z = answers_are_cast ending_of setting l waits.0 s refl
         (record { placed = placed; stand = waits.1; types = types }) tallest objects rt_filled (λ b. answer_head)
-        waiting c
-        waits.2 answer.0 w answer.2 answer_of refl some in
+        waiting c waits.2 answer.0 w answer.2 answer_of refl some in
         (z.0, z.2)
 
     answer_cast : (most : Spent) × Answers merged_meaning setting l procs casts s most places objects base
@@ -691,11 +514,9 @@ merged_calls_made setting l procs casts first run_by placed types tallest ready 
       subst (λ words. (most : Spent) × Serves merged_meaning setting l procs casts s most
       (Calls merged_meaning setting l procs casts s places objects base)
       (flat_turn procs (merging l.types casts) store s.world (Entering (RunWrap v cast) [] (all_plain vs)) base) number
-      0
-      (entered s (apply_proc (2 + first)) words)) (handed_is w ws)
+      0 (entered s (apply_proc (2 + first)) words)) (handed_is w ws)
       (calls_for setting l procs casts first placed types tallest ready s number places objects store here base v cast w
-      c
-      vs ws cs few);
+      c vs ws cs few);
   goes_on = λ s number places objects store here base waiting cast results resumes v w c.
       answered s number places objects store here base waiting cast results resumes v w c;
 }
@@ -713,6 +534,5 @@ merged_calls_made setting l procs casts first run_by placed types tallest ready 
     answered s number places objects store here base waiting cast (other ∷ results) resumes v w c = absurd resumes
     answered s number places objects store here base waiting cast [] resumes v w c =
         let z = answer_cast setting l procs casts first placed types tallest ready s number places objects store here
-        base
-        waiting cast resumes v w c in
+        base waiting cast resumes v w c in
         (resumes.2.room, z.0, z.1)

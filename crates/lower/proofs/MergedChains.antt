@@ -1,55 +1,37 @@
 -- What casts of values in the merged mode come to, decision after decision, in a procedure that comes to the same.
-use Rattle.std.proofs.Common.{◌≡◌, ◌⊎◌, inl, inr, ℕ, zero, suc, ◌+◌, ◌<◌, List, [], ◌∷◌, ◌++◌, length, Some, None}
-use Rattle.std.proofs.Common.{Bool, true, false, Option, refl, sym, ap, ◌∙◌, subst, arith, append-nil, slice_get}
-use Rattle.std.specs.Prelude.{if◌then◌else◌}
-use Rattle.grift_base.specs.Types.{TypeHead, IntHead, BoolHead, UnitHead, DynHead, head_of, equal_heads, is_dyn}
-use Rattle.grift_base.specs.World.{WorldState}
-use Rattle.grift_base.specs.EnvironmentCall.{environment_call}
-use Rattle.grift_base.specs.declared.places.Pos.{Pos}
+use Rattle.std.proofs.Common.{◌≡◌, inl, ℕ, ◌+◌, List, [], ◌∷◌, ◌++◌, Some}
+use Rattle.std.proofs.Common.{refl, sym, subst, append-nil}
+use Rattle.grift_base.specs.Types.{TypeHead}
 use Rattle.grift_base.specs.declared.verdicts.Verdict.TheVariants.{Blame}
-use Rattle.grift_base.specs.declared.worlds.EnvEffect.TheVariants.{Blamed, Refused}
 use Rattle.run_laws.specs.Runs.{Verdict as EndsWith}
 use Rattle.run_laws.specs.Machines.{Reaches}
 use Rattle.run_laws.proofs.Public.{reaches_weaken}
 use Rattle.rv_machine.specs.Mach.{ending_of}
-use Rattle.low_ir.specs.Run.{Setting, LowState, low_machine, code_step, goes_on}
-use Rattle.coercion_norm.specs.Coercions.{Coercion, Id, Fail, Middle, Inject, Project, rows_of, all_id}
-use Rattle.coercion_norm.specs.Normal.{IsNormal, is_project}
-use Rattle.coercion_norm.specs.CoercionTables.{cast_of, composition_of}
-use Rattle.coercion_norm.specs.MergedMode.{merging, shape_has_head, applied, rewrapped, middle_head, width}
-use Rattle.coercion_norm.specs.Modes.{TypeCast, Decision, Wrapping, Rewrapping, Unwrapping, Injecting, NoCast}
-use Rattle.coercion_norm.specs.RunValues.{RunInt, RunBool, RunUnit, RunFun, RunTuple, RunLoc, RunWrap, RunInject}
-use Rattle.coercion_norm.specs.RunValues.{shape_of}
-use Rattle.coercion_norm.specs.ValueSteps.{CastFrame, Return, On, BlameOf, NoNext, make, decision_wraps}
+use Rattle.low_ir.specs.Run.{Setting, LowState, low_machine}
+use Rattle.coercion_norm.specs.Coercions.{Coercion, rows_of}
+use Rattle.coercion_norm.specs.Normal.{IsNormal}
+use Rattle.coercion_norm.specs.MergedMode.{merging}
+use Rattle.coercion_norm.specs.Modes.{TypeCast}
+use Rattle.coercion_norm.specs.ValueSteps.{CastFrame, Return, On, BlameOf, decision_wraps}
 use Rattle.coercion_norm.specs.Held.{Layout}
 use Rattle.coercion_norm.specs.Objects.{Object}
 use Rattle.flat_ir.specs.Bodies.{Proc}
 use Rattle.flat_ir.specs.Counts.{decision_at}
-use Rattle.flat_ir.specs.Machine.{FlatValue, FlatFrame, FlatStore, FlatAfter, flat_arity, flat_entered, flat_cast}
-use Rattle.rt_cast.specs.Carried.{IsVery, Carries, GivesAt, BlamesAt, ComesTo}
-use Rattle.rt_cast.specs.MergedValues.{Merged, Solid, Proxied, InDyn, Outcome, Stuck, Gives, Blames, cast_value}
-use Rattle.rt_cast.specs.MergedValues.{cast_to, then_outcome}
-use Rattle.rt_cast.specs.MergedValues.{decided, shape_of as merged_shape}
+use Rattle.flat_ir.specs.Machine.{FlatValue, FlatFrame, FlatStore, FlatAfter, flat_cast}
+use Rattle.rt_cast.specs.Carried.{IsVery, Carries, GivesAt, ComesTo}
+use Rattle.rt_cast.specs.MergedValues.{Merged, Outcome, Stuck, Gives, Blames, cast_value, then_outcome}
 use Rattle.rt_cast.specs.States.{Heap, Placed, Filled as RtFilled, OnTheWay, heap_of}
 use Rattle.lower.specs.CarriedValues.{CarriedIn}
 use Rattle.lower.specs.MergedMeaning.{merged_meaning}
 use Rattle.lower.specs.Storage.{Filled}
 use Rattle.lower.specs.SchemeLaws.{Spent, Here, OnWay, StopsNow, After, Goes, Returns, ReturnsAt}
-use Rattle.lower.proofs.MergedOpened.{opened, no_int, no_bool, no_unit, no_dyn}
 use Rattle.lower.proofs.CarriedLater.{cells_later, cells_below}
-use Rattle.lower.proofs.HeapObjects.{none_some, same_some}
 use Rattle.lower.proofs.MergedLaws.{merged_laws}
-use Rattle.lower.proofs.WordSteps.{lt_true}
 use Rattle.std.proofs.Common.{pos}
-use Rattle.coercion_norm.specs.Coercions.{NoCoercions, CoercionThen}
-use Rattle.coercion_norm.specs.declared.middles.MiddleKind.TheVariants.{Fun, Tup, Ref, Vec}
-use Rattle.coercion_norm.specs.MergedMode.{tuple_coercion, part_at}
-use Rattle.coercion_norm.specs.Normal.{AreNormal}
-use Rattle.coercion_norm.specs.RunValues.{row_list}
-use Rattle.coercion_norm.specs.ValueSteps.{on_some, ProjFrame}
+use Rattle.coercion_norm.specs.ValueSteps.{ProjFrame}
 use Rattle.flat_ir.specs.Machine.{flat_proj}
-use Rattle.rt_cast.specs.PartValues.{part_value, with_some}
-use Rattle.lower.proofs.MergedLike.{Like, solid_head, like_shape, like_back, KnownAt, KnownUnder}
+use Rattle.rt_cast.specs.PartValues.{part_value}
+use Rattle.lower.proofs.MergedLike.{Like, solid_head, like_back, KnownUnder}
 use Rattle.lower.proofs.MergedTurns.{Ends as EndsBy, IsStrict as StrictBy, Then as ThenBy, cast_made as cast_made_by}
 use Rattle.lower.proofs.MergedTurns.{ends_cast as ends_cast_by, value_part as value_part_by}
 use Rattle.lower.proofs.MergedTurns.{waits_for_part as waits_for_part_by}

@@ -1,5 +1,5 @@
 -- What the laws on cells of the merged scheme share: states and storage as both sides see them, and the store's cells.
-use Rattle.std.proofs.Common.{◌≡◌, ◌⊎◌, inl, inr, ℕ, zero, suc, ◌+◌, ◌*◌, ◌^◌, ◌<◌, ◌≤◌, ℤ, pos, negsuc, Bool, true}
+use Rattle.std.proofs.Common.{◌≡◌, ◌⊎◌, inl, inr, ℕ, zero, suc, ◌+◌, ◌^◌, ◌<◌, ◌≤◌, pos, negsuc, Bool, true}
 use Rattle.std.proofs.Common.{false, List, [], ◌∷◌, length, Some, None, refl, sym, ap, ◌∙◌, subst, arith, slice_get}
 use Rattle.std.specs.Prelude.{if◌then◌else◌}
 use Rattle.std.specs.Int.{w64, cast_unsigned, int_wrap}
@@ -14,7 +14,7 @@ use Rattle.low_ir.specs.Procedures.{Proc as LowProc}
 use Rattle.low_ir.specs.Run.{Setting, LowState, low_machine}
 use Rattle.coercion_norm.specs.Coercions.{Coercion}
 use Rattle.coercion_norm.specs.Modes.{TypeCast}
-use Rattle.coercion_norm.specs.RunValues.{RunInt, RunLoc, in_row}
+use Rattle.coercion_norm.specs.RunValues.{RunLoc, in_row}
 use Rattle.coercion_norm.specs.ValueSteps.{TrapOf}
 use Rattle.coercion_norm.specs.Objects.{Object, Cell}
 use Rattle.coercion_norm.specs.ObjectsOfRows.{header}
@@ -27,7 +27,7 @@ use Rattle.rt_refs.specs.CellLaws.{TrapsAt, OnTheWayWriting, CellStands, CellInR
 use Rattle.lower.specs.MergedMeaning.{merged_meaning}
 use Rattle.lower.specs.Storage.{Filled}
 use Rattle.lower.specs.CarriedValues.{CarriedIn, AreCarried, CellHeld}
-use Rattle.lower.specs.SchemeLaws.{Spent, Here, OnWay, StopsNow, After, Aim}
+use Rattle.lower.specs.SchemeLaws.{Spent, OnWay, StopsNow, After, Aim}
 use Rattle.lower.proofs.HeapCells.{cell_of, there_is}
 use Rattle.lower.proofs.HeapObjects.{none_some, same_some}
 use Rattle.lower.proofs.WordArithmetic.{fits_wrapped}

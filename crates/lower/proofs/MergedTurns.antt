@@ -1,20 +1,11 @@
 -- Casts of values in the merged mode as turns of the numbered procedures, whatever waits for what they come to.
-use Rattle.std.proofs.Common.{◌≡◌, ◌⊎◌, inl, inr, ℕ, zero, suc, ◌+◌, ◌<◌, List, [], ◌∷◌, ◌++◌, length, Some, None}
-use Rattle.std.proofs.Common.{Bool, true, false, cond, Option, refl, sym, ap, ◌∙◌, subst, arith, append-nil, slice_get}
+use Rattle.std.proofs.Common.{◌≡◌, ◌⊎◌, inl, inr, ℕ, zero, suc, ◌+◌, ◌<◌, List, [], ◌∷◌, length, Some, None}
+use Rattle.std.proofs.Common.{Bool, true, false, cond, Option, refl, sym, ap, ◌∙◌, subst, arith, slice_get}
 use Rattle.std.specs.Prelude.{if◌then◌else◌, max}
 use Rattle.grift_base.specs.Types.{TypeHead, IntHead, BoolHead, UnitHead, DynHead, FunHead, TupleHead, RefHead}
 use Rattle.grift_base.specs.Types.{VectHead, head_of, equal_heads, is_dyn}
 use Rattle.type_graph.specs.Trees.{height}
-use Rattle.grift_base.specs.World.{WorldState}
-use Rattle.grift_base.specs.EnvironmentCall.{environment_call}
-use Rattle.grift_base.specs.declared.places.Pos.{Pos}
-use Rattle.grift_base.specs.declared.verdicts.Verdict.TheVariants.{Blame}
-use Rattle.grift_base.specs.declared.worlds.EnvEffect.TheVariants.{Blamed, Refused}
-use Rattle.run_laws.specs.Runs.{Verdict as EndsWith}
-use Rattle.run_laws.specs.Machines.{Reaches}
-use Rattle.run_laws.proofs.Public.{reaches_weaken}
-use Rattle.rv_machine.specs.Mach.{ending_of}
-use Rattle.low_ir.specs.Run.{Setting, LowState, low_machine, code_step, goes_on}
+use Rattle.low_ir.specs.Run.{Setting, LowState}
 use Rattle.coercion_norm.specs.Coercions.{Coercion, Id, Fail, Middle, Inject, Project, rows_of, all_id}
 use Rattle.coercion_norm.specs.Normal.{IsNormal, is_project}
 use Rattle.coercion_norm.specs.CoercionTables.{cast_of, composition_of}
@@ -29,21 +20,15 @@ use Rattle.flat_ir.specs.Bodies.{Proc}
 use Rattle.flat_ir.specs.Counts.{decision_at}
 use Rattle.flat_ir.specs.Machine.{FlatCode, FlatValues, FlatValue, FlatFrame, FlatStore, FlatAfter, flat_arity}
 use Rattle.flat_ir.specs.Machine.{flat_entered, flat_cast}
-use Rattle.rt_cast.specs.Carried.{IsVery, Carries, GivesAt, BlamesAt, ComesTo}
-use Rattle.rt_cast.specs.MergedValues.{Merged, Solid, Proxied, InDyn, Outcome, Stuck, Gives, Blames, cast_value}
-use Rattle.rt_cast.specs.MergedValues.{cast_to, then_outcome}
+use Rattle.rt_cast.specs.MergedValues.{Merged, Solid, Proxied, InDyn, Outcome, Gives, Blames, cast_value, cast_to}
+use Rattle.rt_cast.specs.MergedValues.{then_outcome}
 use Rattle.rt_cast.specs.MergedValues.{decided, shape_of as merged_shape}
-use Rattle.rt_cast.specs.States.{Heap, Placed, Filled as RtFilled, OnTheWay, heap_of}
 use Rattle.lower.specs.CarriedValues.{CarriedIn, IsGroup}
 use Rattle.lower.specs.Numbering.{function_offset}
 use Rattle.lower.specs.MergedMeaning.{merged_meaning, WrapsKind}
-use Rattle.lower.specs.Storage.{Filled}
-use Rattle.lower.specs.SchemeLaws.{Spent, Here, OnWay, StopsNow, After, Goes, Returns, ReturnsAt, Aim}
+use Rattle.lower.specs.SchemeLaws.{Spent, OnWay, After, Goes, Aim}
 use Rattle.lower.proofs.MergedOpened.{opened, no_int, no_bool, no_unit, no_dyn}
-use Rattle.lower.proofs.CarriedLater.{cells_later, cells_below}
 use Rattle.lower.proofs.HeapObjects.{none_some, same_some}
-use Rattle.lower.proofs.MergedLaws.{merged_laws}
-use Rattle.lower.proofs.WordSteps.{lt_true}
 use Rattle.std.proofs.Common.{pos}
 use Rattle.coercion_norm.specs.Coercions.{Coercions, NoCoercions, CoercionThen, same_kind}
 use Rattle.coercion_norm.specs.Composition.{compose_below, follow_parts}
@@ -60,7 +45,7 @@ use Rattle.coercion_norm.specs.RunValues.{row_list}
 use Rattle.coercion_norm.specs.ValueSteps.{on_some, ProjFrame}
 use Rattle.flat_ir.specs.Machine.{flat_proj}
 use Rattle.rt_cast.specs.PartValues.{part_value, with_some}
-use Rattle.lower.proofs.MergedLike.{Like, solid_head, like_shape, like_back, KnownAt, KnownUnder}
+use Rattle.lower.proofs.MergedLike.{Like, solid_head, like_shape, KnownAt, KnownUnder}
 
 part_in : (rows : ℕ → Rattle.grift_base.specs.Types.TypeRow) (cs : Rattle.coercion_norm.specs.Coercions.Coercions)
     (k : ℕ) (d : Coercion) → AreNormal rows cs → part_at cs k ≡ Some d → IsNormal rows d
