@@ -54,6 +54,10 @@ mod MergedTurns
 mod MergedChains
 mod MergedCasts
 mod MergedParts
+mod MergedFill
+mod MergedReads
+mod MergedWrites
+mod MergedCells
 mod MergedArguments
 mod MergedCalls
 mod MergedProducts

@@ -15,31 +15,25 @@ use Rattle.flat_ir.specs.Bodies.{Proc}
 use Rattle.flat_ir.specs.Closed.{is_closed}
 use Rattle.flat_ir.specs.Counts.{FlatCounts, flat_run_in}
 use Rattle.flat_ir.specs.Machine.{first_world}
-use Rattle.rt_cast.specs.States.{Placed}
 use Rattle.rt_cast.proofs.Public.{objects_fill_the_region}
 use Rattle.lower.specs.CoveredPrograms.{all_covered}
-use Rattle.lower.specs.Following.{Serving, ServesEverywhere}
+use Rattle.lower.specs.Following.{ServesEverywhere}
 use Rattle.lower.specs.Lowered.{entry_proc}
 use Rattle.lower.specs.MergedMeaning.{merged_meaning, MergedCasts}
-use Rattle.lower.specs.SchemeLaws.{CellsServed}
-use Rattle.lower.specs.Sets.{StandFrom, merged_numbers, merged_procs, with_casts}
+use Rattle.lower.specs.Sets.{merged_numbers, merged_procs, with_casts}
 use Rattle.lower.specs.SimulationClaims.{AreNarrow, IsLowered, RegionIsRow, StorageIsWhole}
 use Rattle.lower.specs.Storage.{Passes}
 use Rattle.lower.proofs.ClosingSets.{cast_stand, proxy_stand}
 use Rattle.lower.proofs.MergedCalls.{merged_calls_made}
+use Rattle.lower.proofs.MergedCells.{merged_cells_served}
 use Rattle.lower.proofs.MergedCasts.{merged_casts_made, merged_casts_have_words}
 use Rattle.lower.proofs.MergedLaws.{merged_laws}
 use Rattle.lower.proofs.MergedParts.{merged_parts_given}
 use Rattle.lower.proofs.MergedProducts.{merged_products}
 use Rattle.lower.proofs.SimulationProgram.{words_follow_by}
 
--- with cells
-pub merged_serving : (setting : Setting) (l : Layout) (procs : List Proc) (casts : List TypeCast) (first : ℕ)
-    (words : List ℕ) → Placed setting l → TypesStand l → MergedCasts l casts words
-    → StandFrom setting.procs first (merged_procs first)
-    → CellsServed merged_meaning setting l procs casts (with_casts (merged_numbers first) words)
-    → Serving merged_meaning setting l procs casts (with_casts (merged_numbers first) words)
-merged_serving setting l procs casts first words placed types held stand cells =
+pub merged_procedures_serve : ServesEverywhere merged_meaning merged_procs merged_numbers
+merged_procedures_serve = λ setting l procs casts first words placed begins small types held stand.
     let run_by = with_casts (merged_numbers first) words in
     let ready = cast_stand setting.procs first stand in
     let proxies = proxy_stand setting.procs first stand in
@@ -48,13 +42,10 @@ merged_serving setting l procs casts first words placed types held stand cells =
       casting = merged_casts_made setting l procs casts words first run_by placed types held ready refl refl;
       words = merged_casts_have_words setting l procs casts words run_by held refl;
       parts = merged_parts_given setting l procs casts first run_by placed types held.tallest ready refl;
-      cells = cells;
+      cells = merged_cells_served setting l procs casts words first run_by placed types held ready proxies begins small
+          refl refl refl;
       calling = merged_calls_made setting l procs casts first run_by placed types held.tallest ready proxies refl;
     }
-
-pub merged_procedures_serve : ServesEverywhere merged_meaning merged_procs merged_numbers
-merged_procedures_serve = λ setting l procs casts first words placed begins small types held stand.
-    merged_serving setting l procs casts first words placed types held stand ?
 
 -- ---- what is told of the run
 
