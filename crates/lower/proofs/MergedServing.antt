@@ -1,19 +1,19 @@
 -- The merged scheme serves, and the run over words of its programs follows the merged mode.
-use Rattle.std.proofs.Common.{◌≡◌, ℕ, suc, ◌+◌, ◌^◌, ◌<◌, true, List, length, Some, refl}
+use Rattle.std.proofs.Common.{◌≡◌, ℕ, suc, ◌^◌, ◌<◌, true, List, length, Some, refl}
 use Rattle.grift_base.specs.Types.{TypeRow, row_at}
 use Rattle.run_laws.specs.Machines.{run}
 use Rattle.run_laws.specs.Runs.{Any, FollowsBy, NeverWrong}
 use Rattle.run_laws.proofs.Public.{follows_by_weaken}
 use Rattle.rv_machine.specs.Mach.{ending_of}
 use Rattle.rv_machine.specs.Memory.{Memory}
-use Rattle.low_ir.specs.Run.{Setting, LowShown, low_machine, low_start}
+use Rattle.low_ir.specs.Run.{Setting, low_machine, low_start}
 use Rattle.coercion_norm.specs.AnswerTypes.{Told}
 use Rattle.coercion_norm.specs.Held.{Layout, TypesStand}
 use Rattle.coercion_norm.specs.MergedMode.{merging}
 use Rattle.coercion_norm.specs.Modes.{TypeCast}
 use Rattle.flat_ir.specs.Bodies.{Proc}
 use Rattle.flat_ir.specs.Closed.{is_closed}
-use Rattle.flat_ir.specs.Counts.{FlatCounts, flat_run_in}
+use Rattle.flat_ir.specs.Counts.{flat_run_in}
 use Rattle.flat_ir.specs.Machine.{first_world}
 use Rattle.rt_cast.proofs.Public.{objects_fill_the_region}
 use Rattle.lower.specs.CoveredPrograms.{all_covered}
@@ -22,7 +22,6 @@ use Rattle.lower.specs.Lowered.{entry_proc}
 use Rattle.lower.specs.MergedMeaning.{merged_meaning, MergedCasts}
 use Rattle.lower.specs.Sets.{merged_numbers, merged_procs, with_casts}
 use Rattle.lower.specs.SimulationClaims.{AreNarrow, IsLowered, RegionIsRow, StorageIsWhole}
-use Rattle.lower.specs.Storage.{Passes}
 use Rattle.lower.proofs.ClosingSets.{cast_stand, proxy_stand}
 use Rattle.lower.proofs.MergedCalls.{merged_calls_made}
 use Rattle.lower.proofs.MergedCells.{merged_cells_served}

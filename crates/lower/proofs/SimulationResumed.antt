@@ -1,5 +1,5 @@
 -- A procedure of the scheme goes on with what a function gave that it called.
-use Rattle.std.proofs.Common.{◌≡◌, inl, inr, ℕ, suc, ◌+◌, ◌<◌, ◌≤◌, List, [], ◌∷◌, ◌++◌, Some, refl}
+use Rattle.std.proofs.Common.{◌≡◌, inl, inr, ℕ, suc, ◌<◌, ◌≤◌, List, [], ◌∷◌, ◌++◌, Some, refl}
 use Rattle.std.proofs.Common.{sym, subst, arith}
 use Rattle.grift_base.specs.World.{WorldState}
 use Rattle.run_laws.specs.Machines.{Go}

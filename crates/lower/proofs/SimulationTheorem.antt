@@ -1,4 +1,4 @@
--- The run over words follows that of the numbered procedures, and whole objects fill the region at each of its moments.
+-- The run over words follows that of the numbered procedures, and the scheme's test holds at each of its moments.
 use Rattle.std.proofs.Common.{◌≡◌, ◌⊎◌, ◌<◌, ◌∙◌, zero, inl, inr, ℕ, suc, ◌+◌, ◌≤◌, List, [], ◌∷◌, Some}
 use Rattle.std.proofs.Common.{None}
 use Rattle.std.proofs.Common.{true, refl, sym, ap, subst, arith, Option, slice_get}
