@@ -8,17 +8,14 @@ import os
 import pathlib
 import re
 import shutil
-import subprocess
 import sys
 import unicodedata
 
 ROOT = pathlib.Path(__file__).resolve().parent.parent
-PROGRAM = ROOT / "crates" / "grift" / "out" / "grift"
 LANGUAGE = ROOT / "docs" / "LANGUAGE.md"
 TABLE = re.compile(r"^\| KIND \| Where \| What to do \|\n\|[-|]+\|\n((?:\|.*\|\n)+)", re.M)
 PLACED = re.compile(r"(?:refused (?P<kind>[a-z-]+)|blame) (?P<line>[0-9]+):(?P<column>[0-9]+)")
 BLAME = "the cast at this expression met a value of another type"
-NOT_COMPILED = "`grift check` takes this, but `grift run` doesn't compile it yet (docs/LANGUAGE.md, \"What runs\")"
 OTHER_LINES = {
     "words refused": "`./grift --help` prints the commands",
     "load failed": "there is no such file, or it can't be read",
@@ -80,12 +77,6 @@ def place(source, line, column, columns):
     return [gutter + before + behind, " " * 5 + " | " + under + "^"]
 
 
-def is_checked(file):
-    """Whether the program in a file is one of the language."""
-    run = subprocess.run([PROGRAM, "check", file], stdin=subprocess.DEVNULL, capture_output=True)
-    return run.returncode == 0
-
-
 def explained(words, line, columns):
     """What is said of a line that the program put when it was given these words."""
     placed = PLACED.fullmatch(line)
@@ -95,14 +86,11 @@ def explained(words, line, columns):
     if command == "exec":
         return []
     told = []
-    is_file = os.path.isfile(file)
-    if is_file:
+    if os.path.isfile(file):
         with open(file, "rb") as opened:
             told += place(opened.read(SOURCE_SIZE), int(placed["line"]), int(placed["column"]), columns)
     if placed["kind"] is None:
         return [*told, BLAME]
-    if (command, placed["kind"]) == ("run", "bad-form") and is_file and is_checked(file):
-        return [*told, NOT_COMPILED]
     return [*told, advice().get(placed["kind"], "")]
 
 

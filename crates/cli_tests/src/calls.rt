@@ -161,8 +161,10 @@ fn programs(rt: HostRuntime) -> Result<(), NoMemory> {
 
 #[test]
 fn refused_programs(rt: HostRuntime) -> Result<(), NoMemory> {
-    let rows: [(&[u8], &[u8]); 6] = [
+    let rows: [(&[u8], &[u8]); 8] = [
         (b"(+ 1 (newline))", b"refused not-consistent 1:6\n"),
+        (b"(read-int)", b"refused bad-form 1:1\n"),
+        (b"(begin (box 1) (unbox 5))", b"refused not-ref 1:23\n"),
         (b"(+ 1)", b"refused bad-form 1:1\n"),
         (b"(begin)", b"refused bad-form 1:1\n"),
         (b"(foo)", b"refused unbound 1:2\n"),
@@ -176,103 +178,111 @@ fn refused_programs(rt: HostRuntime) -> Result<(), NoMemory> {
     Ok(())
 }
 
-// What isn't compiled yet is refused at the first place where it stands, by line and column.
+// Functions and tuples in wrappers, made of casts that are merged.
 #[test]
-fn programs_that_are_not_compiled_yet(rt: HostRuntime) -> Result<(), NoMemory> {
-    let rows: [(&[u8], &[u8]); 29] = [
+fn casts_of_functions_and_tuples(rt: HostRuntime) -> Result<(), NoMemory> {
+    let rows: [(&[u8], u8, &[u8]); 11] = [
         (
             b"(let ([f (: (: (lambda ([x : Int]) : Int x) Dyn) (Bool -> Int))]) 5)",
-            b"refused bad-form 1:10\n",
+            0,
+            b"answer 5\n",
         ),
         (
             b"(let ([f (: (: (lambda ([x : Int]) : Int x) Dyn) (Bool -> Int))]) (f #t))",
-            b"refused bad-form 1:10\n",
+            3,
+            b"blame 1:10\n",
         ),
-        (b"((: (lambda () 1) Dyn) 5)", b"refused bad-form 1:2\n"),
+        (b"((: (lambda () 1) Dyn) 5)", 3, b"blame 1:2\n"),
         (
             b"(let ([f (lambda ([a : Int] [b : Int]) : Int a)])\n\
               (let ([g (: f (Dyn Int -> Int))])\n\
               (let ([h (: g (Dyn Dyn -> Int))])\n(h #t #f))))",
-            b"refused bad-form 2:10\n",
+            3,
+            b"blame 2:10\n",
         ),
         (
             b"(tuple-proj (: (: (tuple 1 #t) Dyn) (Tuple Int Int)) 0)",
-            b"refused bad-form 1:13\n",
+            0,
+            b"answer 1\n",
         ),
         (
             b"(tuple-proj (: (: (tuple 1 #t) Dyn) (Tuple Int Int)) 1)",
-            b"refused bad-form 1:13\n",
-        ),
-        (
-            b"(let ([b (box 1)]) (let ([d (: b (Ref Dyn))]) (begin (box-set! d #t) (unbox b))))",
-            b"refused bad-form 1:10\n",
-        ),
-        (
-            b"(let ([b (box 1)]) (let ([d (: b (Ref Dyn))]) (begin (box-set! d 7) (unbox b))))",
-            b"refused bad-form 1:10\n",
+            3,
+            b"blame 1:13\n",
         ),
         (
             b"(letrec ([loop (lambda ([n : Int] [f : (Dyn -> Dyn)]) : (Dyn -> Dyn)\n\
               (if (= n 0) f (loop (- n 1) (: (: f (Int -> Int)) (Dyn -> Dyn)))))])\n\
               ((loop 1000 (lambda (x) x)) 7))",
-            b"refused bad-form 2:29\n",
+            0,
+            b"answer 7\n",
         ),
         (
             b"(letrec ([loop (lambda ([n : Int] [f : (Dyn -> Dyn)]) : (Dyn -> Dyn)\n\
               (if (= n 0) f (loop (- n 1) (: (: f (Int -> Int)) (Dyn -> Dyn)))))])\n\
               ((loop 1000 (lambda (x) x)) #t))",
-            b"refused bad-form 2:29\n",
+            3,
+            b"blame 2:29\n",
+        ),
+        (b"(tuple-proj (: (tuple 1 #f) Dyn) 1)", 0, b"answer #f\n"),
+        (b"(tuple-proj (: (tuple 1 #f) Dyn) 2)", 3, b"blame 1:13\n"),
+        (
+            b"(: (: (lambda (x) x) Dyn) (Int -> Bool))",
+            0,
+            b"answer #<function>\n",
+        ),
+    ];
+    for (file, status, line) in rows {
+        let case = run_of(file);
+        assert!(rt; comes_to(rt.alloc(), &case, status, b"", line)?, "{file:?}");
+    }
+    Ok(())
+}
+
+// Boxes and vectors, bare and in wrappers; an index is tested before what is written is cast.
+#[test]
+fn boxes_and_vectors(rt: HostRuntime) -> Result<(), NoMemory> {
+    let rows: [(&[u8], u8, &[u8]); 12] = [
+        (
+            b"(let ([b (box 1)]) (let ([d (: b (Ref Dyn))]) (begin (box-set! d #t) (unbox b))))",
+            3,
+            b"blame 1:29\n",
         ),
         (
-            b"(vector-ref (make-vector 3 0) 3)",
-            b"refused bad-form 1:1\n",
+            b"(let ([b (box 1)]) (let ([d (: b (Ref Dyn))]) (begin (box-set! d 7) (unbox b))))",
+            0,
+            b"answer 7\n",
         ),
+        (b"(vector-ref (make-vector 3 0) 3)", 4, b"trap index\n"),
+        (b"(vector-ref (make-vector 3 0) -1)", 4, b"trap index\n"),
+        (b"(make-vector -1 0)", 4, b"trap length\n"),
+        (b"(make-vector 100 0)", 0, b"answer #<vector>\n"),
         (
-            b"(vector-ref (make-vector 3 0) -1)",
-            b"refused bad-form 1:1\n",
+            b"(make-vector 9223372036854775807 0)",
+            5,
+            b"exhausted region\n",
         ),
-        (b"(make-vector -1 0)", b"refused bad-form 1:1\n"),
-        (b"(make-vector 100 0)", b"refused bad-form 1:1\n"),
         (
             b"(let ([v (: (make-vector 3 1) (Vect Dyn))]) (begin (vector-set! v 0 #t) (vector-ref v 0)))",
-            b"refused bad-form 1:10\n",
-        ),
-        (b"(+ 1 (unbox (box 2)))", b"refused bad-form 1:6\n"),
-        (b"(if #t 1 (unbox (box 2)))", b"refused bad-form 1:10\n"),
-        (b"(lambda (d) (unbox d))", b"refused bad-form 1:13\n"),
-        (b"(lambda (d) (box-set! d 1))", b"refused bad-form 1:13\n"),
-        (
-            b"(lambda (d) (vector-length d))",
-            b"refused bad-form 1:13\n",
+            3,
+            b"blame 1:10\n",
         ),
         (
-            b"(lambda (d) (vector-set! d 0 1))",
-            b"refused bad-form 1:13\n",
-        ),
-        (b"(lambda (d) (vector-ref d 0))", b"refused bad-form 1:13\n"),
-        (b"(lambda (d) (d 1))", b"refused bad-form 1:14\n"),
-        (
-            b"(define (add [x : Int]) (lambda ([y : Int]) (+ x y))) ((add 3) 4)",
-            b"refused bad-form 1:25\n",
+            b"(vector-set! (: (make-vector 1 0) (Vect Dyn)) 1 #t)",
+            4,
+            b"trap index\n",
         ),
         (
-            b"(begin (: (tuple 1) Dyn)\n(vector-length (make-vector 1 2)))",
-            b"refused bad-form 1:8\n",
+            b"(vector-length (: (make-vector 4 #t) (Vect Dyn)))",
+            0,
+            b"answer 4\n",
         ),
-        (
-            b"(lambda (d)\n (begin (tuple-proj d 0) (box 1)))",
-            b"refused bad-form 2:21\n",
-        ),
-        (
-            b"(begin (box 1) (if 1 2 3))",
-            b"refused not-consistent 1:20\n",
-        ),
-        (b"(begin (box 1) (unbox 5))", b"refused not-ref 1:23\n"),
-        (b"(read-int)", b"refused bad-form 1:1\n"),
+        (b"(+ 1 (unbox (box 2)))", 0, b"answer 3\n"),
+        (b"(unbox (: (make-vector 1 2) Dyn))", 3, b"blame 1:8\n"),
     ];
-    for (file, line) in rows {
+    for (file, status, line) in rows {
         let case = run_of(file);
-        assert!(rt; comes_to(rt.alloc(), &case, 1, b"", line)?, "{file:?}");
+        assert!(rt; comes_to(rt.alloc(), &case, status, b"", line)?, "{file:?}");
     }
     Ok(())
 }
@@ -387,14 +397,16 @@ fn limits_of_a_run(rt: HostRuntime) -> Result<(), NoMemory> {
     let stack: &[&str] = &["run", "a", "--stack", "4096"];
     let region: &[&str] = &["run", "a", "--region", "24"];
     let little: &[&str] = &["run", "a", "--region", "16"];
+    let short: &[&str] = &["run", "a", "--region", "64"];
     let loops = b"(letrec ([f (lambda ([x : Int]) : Int (f x))]) (f 0))";
     let deep = b"(letrec ([f (lambda ([x : Int]) : Int (+ 1 (f x)))]) (f 0))";
     let calls = b"(letrec ([f (lambda ([n : Int]) : Int (if (= n 0) 7 (g (- n 1))))]\n\
                   [g (lambda ([n : Int]) : Int (f n))]) (f 1000000))";
     let tails = b"(letrec ([f (lambda ([n : Int]) : Bool\n\
                   (if (= n 0) #t (and #t (or #f (let ([m (- n 1)]) (begin 1 (f m)))))))]) (f 100000))";
-    let rows: [(&[&str], &[u8], u8, &[u8]); 7] = [
+    let rows: [(&[&str], &[u8], u8, &[u8]); 8] = [
         (stack, tails, 0, b"answer #t\n"),
+        (short, b"(make-vector 100 0)", 5, b"exhausted region\n"),
         (steps, loops, 7, b"spent steps\n"),
         (stack, deep, 6, b"exhausted stack\n"),
         (RUN, deep, 6, b"exhausted stack\n"),

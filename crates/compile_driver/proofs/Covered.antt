@@ -1,6 +1,8 @@
 -- Procedures whose uses pass the tests are covered, and their operators have words for their operands.
 use Rattle.std.proofs.Common.{◌≡◌, Bool, true, false, List, [], ◌∷◌, ◌++◌, length, refl, sym, ◌∙◌}
-use Rattle.std.specs.Prelude.{◌&&◌, nat_le}
+use Rattle.std.specs.Int.{int_wrap, w64}
+use Rattle.std.specs.Ordering.{int_eq}
+use Rattle.std.specs.Prelude.{◌&&◌, nat_le, nat_lt}
 use Rattle.std.specs.List.{list_all}
 use Rattle.std.proofs.lemmas.Bool.{and_parts}
 use Rattle.std.proofs.lemmas.List.Folds.{list_all-append}
@@ -52,34 +54,40 @@ words_for_all (p ∷ procs) h =
 
 -- ---- what is covered
 
--- a test of uses
+-- a test of uses, beside that of few operands
 abbrev pub is_covered : Use → Bool
 is_covered (OperatorUse operator count) = covers_operator operator
-is_covered (DynPartUse k label) = false
+is_covered (DynPartUse k label) = nat_lt label 4294967296 && int_eq (int_wrap w64 k) k
 is_covered (CastUse number) = true
 
 covers_one : (operation : Operation) → list_all is_covered (operation_uses operation) ≡ true
-    → covers_operation operation ≡ true
-covers_one (Move o) h = refl
-covers_one (Prim operator os) h = alone (covers_operator operator) h
-covers_one (Cast o number) h = refl
-covers_one (Tuple os) h = refl
-covers_one (Proj o k) h = refl
-covers_one (ProjDyn o k label) h = cc
+    → list_all has_few_operands (operation_uses operation) ≡ true → covers_operation operation ≡ true
+covers_one (Move o) h few = refl
+covers_one (Prim operator os) h few =
+    rw (alone (covers_operator operator) h, alone (nat_le (length os) 8) few) refl
+covers_one (Cast o number) h few = refl
+covers_one (Tuple os) h few = refl
+covers_one (Proj o k) h few = refl
+covers_one (ProjDyn o k label) h few = alone (nat_lt label.0 4294967296 && int_eq (int_wrap w64 k) k) h
 
-covers_body : (body : Body) → list_all is_covered (body_uses body) ≡ true → covers body ≡ true
-covers_body (Give operation) h = covers_one operation h
-covers_body (Call f os) h = refl
-covers_body (Choose o one other) h =
+covers_body : (body : Body) → list_all is_covered (body_uses body) ≡ true
+    → list_all has_few_operands (body_uses body) ≡ true → covers body ≡ true
+covers_body (Give operation) h few = covers_one operation h few
+covers_body (Call f os) h few = refl
+covers_body (Choose o one other) h few =
     let both = pieces is_covered (body_uses one) (body_uses other) h in
-    rw (covers_body one both.0, covers_body other both.1) refl
-covers_body (LetBody slot inner rest) h =
+    let each = pieces has_few_operands (body_uses one) (body_uses other) few in
+    rw (covers_body one both.0 each.0, covers_body other both.1 each.1) refl
+covers_body (LetBody slot inner rest) h few =
     let both = pieces is_covered (body_uses inner) (body_uses rest) h in
-    rw (covers_body inner both.0, covers_body rest both.1) refl
-covers_body (LetGroup slot first count captured rest) h = covers_body rest h
+    let each = pieces has_few_operands (body_uses inner) (body_uses rest) few in
+    rw (covers_body inner both.0 each.0, covers_body rest both.1 each.1) refl
+covers_body (LetGroup slot first count captured rest) h few = covers_body rest h few
 
-pub covers_all : (procs : List Proc) → list_all is_covered (procs_uses procs) ≡ true → all_covered procs ≡ true
-covers_all [] h = refl
-covers_all (p ∷ procs) h =
+pub covers_all : (procs : List Proc) → list_all is_covered (procs_uses procs) ≡ true
+    → list_all has_few_operands (procs_uses procs) ≡ true → all_covered procs ≡ true
+covers_all [] h few = refl
+covers_all (p ∷ procs) h few =
     let both = pieces is_covered (body_uses p.body) (procs_uses procs) h in
-    rw (covers_body p.body both.0, covers_all procs both.1) refl
+    let each = pieces has_few_operands (body_uses p.body) (procs_uses procs) few in
+    rw (covers_body p.body both.0 each.0, covers_all procs both.1 each.1) refl

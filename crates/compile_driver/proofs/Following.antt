@@ -1,5 +1,5 @@
 -- An image follows the program that its source is.
-use Rattle.std.proofs.Common.{◌≡◌, ℕ, zero, suc, ◌<◌, ◌^◌, true, List, [], ◌∷◌, ◌++◌, length, map, Some, refl, sym, ◌∙◌}
+use Rattle.std.proofs.Common.{◌≡◌, ℕ, zero, suc, ◌+◌, ◌<◌, ◌≤◌, ◌^◌, true, List, [], ◌∷◌, ◌++◌, length, map, Some, refl, sym, ◌∙◌}
 use Rattle.std.proofs.Common.{ap, subst}
 use Rattle.std.proofs.Common.{slice_get, arith}
 use Rattle.std.specs.Prelude.{All}
@@ -12,6 +12,7 @@ use Rattle.run_laws.specs.Machines.{run}
 use Rattle.run_laws.specs.Runs.{Any, Follows, FollowsBy, NeverWrong}
 use Rattle.run_laws.proofs.Public.{follows_is_transitive, follows_of, follower_never_goes_wrong}
 use Rattle.rv_machine.specs.Memory.{first_address}
+use Rattle.rv_machine.specs.Image.{statics_len, code_len}
 use Rattle.rv_machine.specs.Mach.{mach, machine, ending_of}
 use Rattle.rv_machine.specs.Start.{IsRegionSize, IsStackSize, fresh_world, start_of}
 use Rattle.core_calc.specs.Terms.{Term}
@@ -40,27 +41,25 @@ use Rattle.closure_convert.proofs.Public.{procedures_of_program_terms_are_closed
 use Rattle.low_ir.specs.Procedures.{Proc}
 use Rattle.low_ir.specs.Run.{low_machine, low_start}
 use Rattle.lower.specs.declared.served.Served.{Served}
-use Rattle.lower.specs.CoveredPrograms.{all_covered, JoinFlatTypes}
+use Rattle.lower.specs.CoveredPrograms.{all_covered}
 use Rattle.lower.specs.Lowered.{low_proc, entry_proc, lowered}
 use Rattle.lower.specs.SimulationClaims.{AreNarrow, IsLowered}
 use Rattle.lower.specs.Serving.{all_narrow}
 use Rattle.lower.specs.Sets.{merged_numbers, merged_procs, with_casts}
-use Rattle.lower.proofs.Public.{words_follow_procedures-storage, merged_procedures_answer_products}
-use Rattle.lower.proofs.Public.{merged_procedures_make_casts, procedures_are_narrow, stand_behind}
+use Rattle.lower.proofs.Public.{words_follow_procedures-storage, procedures_are_narrow}
 use Rattle.rv_select.specs.Images.{IsImageOfWords}
 use Rattle.compile_driver.specs.Compiling.{FollowsProgram}
-use Rattle.compile_driver.proofs.HeldCasts.{hold_casts, tallest_low}
+use Rattle.compile_driver.proofs.HeldCasts.{casts_held, tallest_low}
 use Rattle.compile_driver.proofs.Starting.{told, setting, layout, runs_in, code_addresses, are_placed}
-use Rattle.compile_driver.proofs.Starting.{statics_hold}
+use Rattle.compile_driver.proofs.Starting.{statics_hold, top_low}
 
 -- ---- from the calculus to numbered procedures
 
--- a program term, as a term with numbered casts between types without parts
+-- a program term, as a term with numbered casts
 pub record IsPassed (program : Program) (casts : List TypeCast) (rows : RowTerm) (answer : ℕ) : Type 0 where
   pub reads : core_of casts rows ≡ program.term
   pub typed : ProgramTermHasType program.types (length program.labels) program.term answer
   pub table : IsOrderedTable program.types
-  pub flat : JoinFlatTypes program.types casts
 
 module _ {program : Program} {casts : List TypeCast} {rows : RowTerm} {answer : ℕ}
     (passed : IsPassed program casts rows answer) where
@@ -133,6 +132,7 @@ pub record IsMade (program : Program) (nodes : List Node) (rows : List CastRow) 
   pub closed : is_closed procs entry ≡ true
   pub covered : all_covered procs ≡ true
   pub narrow : AreNarrow procs
+  pub short : statics_len image + code_len image ≤ 8589934592
 
 module _ {program : Program} {rows : List CastRow} {term : RowTerm} {answer : ℕ} {nodes : List Node} {row : TypeRow}
     {statics : Statics} {image : List ℕ}
@@ -142,7 +142,6 @@ module _ {program : Program} {rows : List CastRow} {term : RowTerm} {answer : �
   follows_program region stack input r s =
       let procs = converted term in
       let entry = made term in
-      let first = suc (length procs) in
       let run = run_by procs statics in
       let is = made_so.image_is in
       let at = made_so.statics_are in
@@ -156,10 +155,9 @@ module _ {program : Program} {rows : List CastRow} {term : RowTerm} {answer : �
       let placed = are_placed is at made_so.words region stack r s world tallest in
       let types = at.types_stand [] st.layout.region tallest in
       let low_casts = tallest_low program.types types.heights types.low (row_casts rows) in
-      let stand = stand_behind run procs entry row (serving procs) in
       let flat = flat_follows passed input in
-      let low = words_follow_procedures-storage set l run procs entry row (serving procs) st.memory
-      (told_of program answer) (row_casts rows)
+      let low = words_follow_procedures-storage set l statics.cast_at procs entry row st.memory
+      (told_of program answer) (row_casts rows) input
       (record {
         procs_are = refl;
         addresses = code_addresses is at made_so.words region stack r s world;
@@ -168,11 +166,9 @@ module _ {program : Program} {rows : List CastRow} {term : RowTerm} {answer : �
         fits = omega arith;
         statics = statics_hold is at made_so.words region stack r s world tallest;
       })
-      is.is_image.labels_are row_is made_so.closed made_so.covered made_so.narrow
-      (merged_procedures_answer_products set first statics.cast_at stand) refl passed.flat
-      (merged_procedures_make_casts set first statics.cast_at stand l placed types low_casts)
-      (hold_casts at made_so.coercions made_so.cast_words (merged_numbers first) st.layout.region) types input
-      (follower_never_goes_wrong flat) in
+      (top_low is at made_so.words region stack r s world made_so.short) is.is_image.labels_are row_is refl types
+      (casts_held at made_so.coercions made_so.cast_words st.layout.region low_casts) made_so.closed made_so.covered
+      made_so.narrow (follower_never_goes_wrong flat) in
       let words = is.runs ending_of refl (entry_proc entry row) (told is at made_so.words region stack r s world) region
       stack world (runs_in is at made_so.words region stack r s world (entry_proc entry row) there)
       (follower_never_goes_wrong (follows_of low)) in
@@ -198,6 +194,7 @@ pub record Passes (program : Program) (nodes : List Node) (rows : List CastRow) 
   pub closed : is_closed procs entry ≡ true
   pub covered : all_covered (converted term) ≡ true
   pub narrow : all_narrow procs ≡ true
+  pub short : statics_len image + code_len image ≤ 8589934592
 
 module _ {program : Program} {nodes : List Node} {rows : List CastRow} {term : RowTerm} {row : TypeRow}
     {procs : List FlatProc} {count entry : ℕ} {low : List Proc} {low_entry : ℕ} {statics : Statics} {image : List ℕ}
@@ -226,4 +223,5 @@ module _ {program : Program} {nodes : List Node} {rows : List CastRow} {term : R
         (subst (λ ps. is_closed ps entry ≡ true) p.procs_are p.closed);
     covered = p.covered;
     narrow = procedures_are_narrow (converted term) (subst (λ ps. all_narrow ps ≡ true) p.procs_are p.narrow);
+    short = p.short;
   }

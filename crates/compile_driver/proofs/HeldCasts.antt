@@ -5,6 +5,7 @@ use Rattle.std.proofs.Common.{sym, ap, ◌∙◌, subst, slice_get, arith}
 use Rattle.std.specs.Prelude.{All, slice_index}
 use Rattle.std.proofs.lemmas.Option.{slice_get_within}
 use Rattle.std.proofs.lemmas.List.{length-map}
+use Rattle.std.proofs.lemmas.List.Elements.{All-head, All-tail}
 use Rattle.grift_base.specs.Types.{TypeRows}
 use Rattle.grift_base.specs.declared.words.Statics.{Statics}
 use Rattle.type_graph.specs.Trees.{height}
@@ -18,12 +19,14 @@ use Rattle.coercion_norm.specs.Statics.{AreStatics, layout_of}
 use Rattle.coercion_norm.specs.declared.cast_rows.CastRow.{CastRow}
 use Rattle.coercion_norm.proofs.Public.{coerce_no_higher, coerce_normal}
 use Rattle.coer_core.specs.Programs.{HaveCoercions, cast_height, tallest_of}
-use Rattle.rt_cast.specs.Carried.{IsLow}
-use Rattle.lower.specs.declared.served.Served.{Served}
 use Rattle.lower.specs.Emit.{cast_word}
-use Rattle.lower.specs.Sets.{with_casts}
-use Rattle.lower.specs.SimulationServices.{HoldCasts}
-use Rattle.compile_driver.proofs.FlatCasts.{at}
+use Rattle.lower.specs.MergedMeaning.{MergedCasts}
+
+-- what holds of each element holds of the one at a place
+pub at : {X : Type 0} (P : X → Type 0) (xs : List X) → All P xs → (k : ℕ) (x : X) → slice_get xs k ≡ Some x → P x
+at P [] h k x e = absurd (let f : ⊥ = cc in f)
+at P (y ∷ ys) h zero x e = subst P (let same : y ≡ x = cc in same) (All-head P y ys h)
+at P (y ∷ ys) h (suc k) x e = at P ys (All-tail P y ys h) k x e
 
 word_at : (words : List ℕ) (k : ℕ) → k < length words → cast_word (slice_get words k) ≡ slice_index words k
 word_at [] k h = omega (arith, h)
@@ -65,7 +68,8 @@ tallest_low types heights low (cast ∷ casts) =
 
 module _ {types : TypeRows} {nodes : List Node} {rows : List CastRow} {start : ℕ} {statics : Statics}
     (placed : AreStatics types nodes rows start statics) (made : HaveCoercions types nodes rows)
-    (words : All (λ w. w < 2 ^ 64) statics.cast_at) (numbers : Served) (region : ℕ) where
+    (words : All (λ w. w < 2 ^ 64) statics.cast_at) (region : ℕ)
+    (low : tallest_of types (row_casts rows) ≤ 65534) where
   abbrev layout : Layout
   layout = layout_of types nodes start statics [] region (tallest_of types (row_casts rows))
 
@@ -74,24 +78,27 @@ module _ {types : TypeRows} {nodes : List Node} {rows : List CastRow} {start : �
       ap length placed.cast_words ∙ length-map rows
       (λ (cast : CastRow). slice_index statics.coercion_at cast.coercion.0)
 
-  pub hold_casts : HoldCasts layout (with_casts numbers statics.cast_at) (row_casts rows)
-  hold_casts number cast e =
-      let row = row_of_cast rows number cast e in
-      let less : number < length statics.cast_at =
-      subst (λ n. number < n) (sym as_many) (slice_get_within rows number row.0 row.1) in
-      let tree = at (λ (r : CastRow). IsTree nodes r.coercion.0 (cast_of types r.from.0 r.to.0 r.label.0)) rows made
-      number row.0 row.1 in
-      let word = word_at statics.cast_at number less in
-      let held = placed.casts_held [] [] region (tallest_of types (row_casts rows)) number row.0 row.1 in (
-        subst (λ c. Held layout [] (cast_of types c.from c.to c.label) (cast_word (slice_get statics.cast_at number)))
-            row.2 (subst (λ w. Held layout [] (cast_of types row.0.from.0 row.0.to.0 row.0.label.0) w) (sym word)
-            (subst (λ c. Held layout [] c (slice_index statics.cast_at number)) tree.is held)),
-        record {
-          normal = coerce_normal (rows_of types) (max (height types cast.from) (height types cast.to)) cast.from cast.to
-              cast.label;
-          low = as_tall types (row_casts rows) number cast e;
-        },
-        subst (λ w. w < 2 ^ 64) (sym word)
-            (at (λ w. w < 2 ^ 64) statics.cast_at words number (slice_index statics.cast_at number)
-            (word_there statics.cast_at number less)),
-      )
+  pub casts_held : MergedCasts layout (row_casts rows) statics.cast_at
+  casts_held = record {
+    tallest = low;
+    hold = λ number cast e.
+        let row = row_of_cast rows number cast e in
+        let less : number < length statics.cast_at =
+        subst (λ n. number < n) (sym as_many) (slice_get_within rows number row.0 row.1) in
+        let tree = at (λ (r : CastRow). IsTree nodes r.coercion.0 (cast_of types r.from.0 r.to.0 r.label.0)) rows made
+        number row.0 row.1 in
+        let word = word_at statics.cast_at number less in
+        let held = placed.casts_held [] [] region (tallest_of types (row_casts rows)) number row.0 row.1 in (
+          subst (λ c. Held layout [] (cast_of types c.from c.to c.label) (cast_word (slice_get statics.cast_at number)))
+              row.2 (subst (λ w. Held layout [] (cast_of types row.0.from.0 row.0.to.0 row.0.label.0) w) (sym word)
+              (subst (λ c. Held layout [] c (slice_index statics.cast_at number)) tree.is held)),
+          record {
+            normal = coerce_normal (rows_of types) (max (height types cast.from) (height types cast.to)) cast.from
+                cast.to cast.label;
+            low = as_tall types (row_casts rows) number cast e;
+          },
+          subst (λ w. w < 2 ^ 64) (sym word)
+              (at (λ w. w < 2 ^ 64) statics.cast_at words number (slice_index statics.cast_at number)
+              (word_there statics.cast_at number less)),
+        );
+  }

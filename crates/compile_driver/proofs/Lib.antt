@@ -1,6 +1,3 @@
-pub mod FirstPlaces
-mod Allowed
-pub mod FlatCasts
 pub mod Covered
 pub mod UsesPass
 pub mod LabelsLow
@@ -8,4 +5,3 @@ pub mod HeldCasts
 pub mod Starting
 pub mod Following
 mod Compiled
-pub mod Public

@@ -1,5 +1,5 @@
 -- The image of a lowered program in its start state: where its procedures, its statics and its region are.
-use Rattle.std.proofs.Common.{◌≡◌, ℕ, zero, suc, ◌+◌, ◌*◌, ◌^◌, ◌<◌, List, [], ◌∷◌, ◌++◌, length, Option, Some}
+use Rattle.std.proofs.Common.{◌≡◌, ℕ, zero, suc, ◌+◌, ◌*◌, ◌^◌, ◌<◌, ◌≤◌, List, [], ◌∷◌, ◌++◌, length, Option, Some}
 use Rattle.std.proofs.Common.{None, refl, sym, ap, ◌∙◌, subst, slice_get, append-nil, arith}
 use Rattle.std.specs.Prelude.{All}
 use Rattle.std.proofs.lemmas.List.Elements.{All-head, All-tail}
@@ -152,3 +152,7 @@ module _ {image : List ℕ} {procs : List Proc} {entry : ℕ} {statics : Statics
         before = omega (arith, bytes, long, size, none);
         top = omega (arith, small, r);
       }
+
+  -- where statics and code aren't too long the region ends low
+  pub top_low : statics_len image + code_len image ≤ 8589934592 → setting.top < 2 ^ 34
+  top_low short = let r = region_size.1 in omega (arith, short, r)

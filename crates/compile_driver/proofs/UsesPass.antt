@@ -1,8 +1,13 @@
--- Where what a program has is compiled, each use in its term with numbered casts passes a test that takes all operators
--- that are compiled, and all casts.
-use Rattle.std.proofs.Common.{◌≡◌, ℕ, zero, suc, ◌<◌, Bool, true, List, [], ◌∷◌, ◌++◌, length, Option, Some, None}
-use Rattle.std.proofs.Common.{refl, ◌∙◌, slice_get, arith}
-use Rattle.std.specs.Prelude.{All, ◌&&◌}
+-- Where a program reads no input, each operator, part of Dyn and cast in its term with numbered casts is covered.
+use Rattle.std.proofs.Common.{◌≡◌, ℕ, ℤ, zero, suc, ◌<◌, ◌^◌, Bool, true, List, [], ◌∷◌, ◌++◌, length, Option, Some}
+use Rattle.std.proofs.Common.{None, refl, ◌∙◌, slice_get, arith}
+use Rattle.std.specs.Prelude.{All, ◌&&◌, nat_lt}
+use Rattle.std.specs.Int.{int_wrap, w64}
+use Rattle.std.specs.Int.RustNames.{FitsSigned}
+use Rattle.std.specs.Ordering.{int_eq}
+use Rattle.std.proofs.lemmas.Bool.{lt-ltb}
+use Rattle.std.proofs.lemmas.Cmp.{int_eq_equiv}
+use Rattle.std.proofs.lemmas.Int.{int_wrap_fits}
 use Rattle.std.specs.List.{list_all}
 use Rattle.std.proofs.lemmas.List.Folds.{list_all-append}
 use Rattle.grift_base.specs.Types.{TypeRows}
@@ -11,7 +16,7 @@ use Rattle.grift_base.specs.declared.operators.PrimOp.TheVariants.{Add, Sub, Mul
 use Rattle.grift_base.specs.declared.operators.PrimOp.TheVariants.{PrintInt, Newline, ReadInt, MakeBox, Unbox, BoxSet}
 use Rattle.grift_base.specs.declared.operators.PrimOp.TheVariants.{MakeVector, VectorRef, VectorSet, VectorLength}
 use Rattle.cast_insert.specs.Making.{Entry, PartOf}
-use Rattle.front_end.specs.Placed.{IsPlaced, ArePlaced, AreMembersPlaced, AreBindingsPlaced}
+use Rattle.front_end.specs.Placed.{takes_no_input, IsPlaced, ArePlaced, AreMembersPlaced, AreBindingsPlaced}
 use Rattle.coercion_norm.specs.Modes.{TypeCast}
 use Rattle.coer_core.specs.Terms.{RowTerm, RowTerms, RowMembers, RowBindings, RowInt, RowBool, RowUnit, RowVar}
 use Rattle.coer_core.specs.Terms.{RowLambda, RowGroup, RowLet, RowCall, RowIf, RowSeq, RowCast, RowProj, RowProjDyn}
@@ -22,39 +27,63 @@ use Rattle.coer_core.specs.Uses.{NumbersBelow, AllBelow, MembersBelow, BindingsB
 use Rattle.closure_convert.specs.Uses.{Use, OperatorUse, DynPartUse, CastUse, term_uses, terms_uses, member_uses}
 use Rattle.closure_convert.specs.Uses.{binding_uses, how_many}
 use Rattle.lower.specs.CoveredPrograms.{covers_operator}
-use Rattle.compile_driver.specs.Unbuilt.{is_built, is_flat}
+use Rattle.compile_driver.specs.Parts.{HasWords}
 use Rattle.compile_driver.proofs.Covered.{is_covered}
-use Rattle.compile_driver.proofs.FlatCasts.{at}
+use Rattle.compile_driver.proofs.HeldCasts.{at}
 
 row_there : (casts : List TypeCast) (number : ℕ) → number < length casts → slice_get casts number ≡ None → ⊥
 row_there [] number h e = omega (arith, h)
 row_there (cast ∷ casts) zero h e = cc
 row_there (cast ∷ casts) (suc number) h e = row_there casts number (omega (arith, h)) e
 
--- a test of uses that takes all that is compiled
-pub record Takes (test : Use → Bool) : Type 0 where
-  pub operators : (operator : PrimOp) (count : ℕ) → is_built operator ≡ true
-      → test (OperatorUse operator count) ≡ true
-  pub casts : (number : ℕ) → test (CastUse number) ≡ true
+silent_covered : (operator : PrimOp) → takes_no_input operator ≡ true → covers_operator operator ≡ true
+silent_covered Add h = refl
+silent_covered Sub h = refl
+silent_covered Mul h = refl
+silent_covered Quot h = refl
+silent_covered Rem h = refl
+silent_covered Lt h = refl
+silent_covered Le h = refl
+silent_covered Eq h = refl
+silent_covered Ge h = refl
+silent_covered Gt h = refl
+silent_covered Not h = refl
+silent_covered PrintInt h = refl
+silent_covered Newline h = refl
+silent_covered ReadInt h = cc
+silent_covered MakeBox h = refl
+silent_covered Unbox h = refl
+silent_covered BoxSet h = refl
+silent_covered MakeVector h = refl
+silent_covered VectorRef h = refl
+silent_covered VectorSet h = refl
+silent_covered VectorLength h = refl
 
-module _ (test : Use → Bool) (takes : Takes test) (types : TypeRows) (entries : List Entry)
-    (flat : All (λ entry. is_flat types entry ≡ true) entries) (casts : List TypeCast) where
-  both : (xs ys : List Use) → list_all test xs ≡ true → list_all test ys ≡ true → list_all test (xs ++ ys) ≡ true
-  both xs ys h g = list_all-append test xs ys ∙ rw (h, g) refl
+-- a part of Dyn whose number and label are words
+part_covered : (k : ℤ) (label : ℕ) → (label < 2 ^ 32) × FitsSigned w64 k
+    → (nat_lt label 4294967296 && int_eq (int_wrap w64 k) k) ≡ true
+part_covered k label h =
+    rw (lt-ltb label 4294967296 h.0, int_wrap_fits w64 k h.1) (int_eq_equiv.refl k)
 
-  first : (used : Use) (uses : List Use) → test used ≡ true → list_all test uses ≡ true
-      → (test used && list_all test uses) ≡ true
+module _ (entries : List Entry) (words : All HasWords entries) (casts : List TypeCast) where
+  both : (xs ys : List Use) → list_all is_covered xs ≡ true → list_all is_covered ys ≡ true
+      → list_all is_covered (xs ++ ys) ≡ true
+  both xs ys h g = list_all-append is_covered xs ys ∙ rw (h, g) refl
+
+  first : (used : Use) (uses : List Use) → is_covered used ≡ true → list_all is_covered uses ≡ true
+      → (is_covered used && list_all is_covered uses) ≡ true
   first used uses h g = rw (h, g) refl
 
   -- a cast by a row that is there
   of_cast : (row : Option TypeCast) (term : RowTerm) → (row ≡ None → ⊥)
-      → IsPlaced is_built entries (cast_by row (core_of casts term)) → IsPlaced is_built entries (core_of casts term)
+      → IsPlaced takes_no_input entries (cast_by row (core_of casts term))
+      → IsPlaced takes_no_input entries (core_of casts term)
   of_cast (Some cast) term there h = h.0
   of_cast None term there h = absurd (there refl)
 
   mutual
-    pub pass : (term : RowTerm) → NumbersBelow (length casts) term → IsPlaced is_built entries (core_of casts term)
-        → list_all test (term_uses term) ≡ true
+    pub pass : (term : RowTerm) → NumbersBelow (length casts) term
+        → IsPlaced takes_no_input entries (core_of casts term) → list_all is_covered (term_uses term) ≡ true
     pass (RowInt n) b h = refl
     pass (RowBool x) b h = refl
     pass RowUnit b h = refl
@@ -71,61 +100,33 @@ module _ (test : Use → Bool) (takes : Takes test) (types : TypeRows) (entries 
         (both (term_uses on_true) (term_uses on_false) (pass on_true b.1 h.1) (pass on_false b.2 h.2))
     pass (RowSeq terms) b h = all_pass terms b h
     pass (RowCast term number) b h =
-        first (CastUse number) (term_uses term) (takes.casts number)
+        first (CastUse number) (term_uses term) refl
         (pass term b.1 (of_cast (slice_get casts number) term (row_there casts number b.0) h))
     pass (RowProj term k) b h = pass term b h
     pass (RowProjDyn term k label) b h =
-        let part : is_flat types (PartOf label k) ≡ true
-        = at (λ entry. is_flat types entry ≡ true) entries flat h.1.0 (PartOf label k) h.1.1 in
-        absurd (let f : ⊥ = cc in f)
+        first (DynPartUse k label) (term_uses term)
+        (part_covered k label (at HasWords entries words h.1.0 (PartOf label k) h.1.1)) (pass term b h.0)
     pass (RowTuple parts) b h = all_pass parts b h
     pass (RowPrim operator operands) b h =
-        first (OperatorUse operator (how_many operands)) (terms_uses operands)
-        (takes.operators operator (how_many operands) h.0)
+        first (OperatorUse operator (how_many operands)) (terms_uses operands) (silent_covered operator h.0)
         (all_pass operands b h.1)
 
     all_pass : (terms : RowTerms) → AllBelow (length casts) terms
-        → ArePlaced is_built entries (core_terms casts terms) → list_all test (terms_uses terms) ≡ true
+        → ArePlaced takes_no_input entries (core_terms casts terms) → list_all is_covered (terms_uses terms) ≡ true
     all_pass NoRowTerms b h = refl
     all_pass (RowTermThen term rest) b h =
         both (term_uses term) (terms_uses rest) (pass term b.0 h.0) (all_pass rest b.1 h.1)
 
     members_pass : (members : RowMembers) → MembersBelow (length casts) members
-        → AreMembersPlaced is_built entries (core_members casts members) → list_all test (member_uses members) ≡ true
+        → AreMembersPlaced takes_no_input entries (core_members casts members)
+        → list_all is_covered (member_uses members) ≡ true
     members_pass NoRowMembers b h = refl
     members_pass (RowMemberThen name parameters body type rest) b h =
         both (term_uses body) (member_uses rest) (pass body b.0 h.0) (members_pass rest b.1 h.1)
 
     bindings_pass : (bindings : RowBindings) → BindingsBelow (length casts) bindings
-        → AreBindingsPlaced is_built entries (core_bindings casts bindings)
-        → list_all test (binding_uses bindings) ≡ true
+        → AreBindingsPlaced takes_no_input entries (core_bindings casts bindings)
+        → list_all is_covered (binding_uses bindings) ≡ true
     bindings_pass NoRowBindings b h = refl
     bindings_pass (RowBindingThen name bound rest) b h =
         both (term_uses bound) (binding_uses rest) (pass bound b.0 h.0) (bindings_pass rest b.1 h.1)
-
-built_covered : (operator : PrimOp) → is_built operator ≡ true → covers_operator operator ≡ true
-built_covered Add h = refl
-built_covered Sub h = refl
-built_covered Mul h = refl
-built_covered Quot h = refl
-built_covered Rem h = refl
-built_covered Lt h = refl
-built_covered Le h = refl
-built_covered Eq h = refl
-built_covered Ge h = refl
-built_covered Gt h = refl
-built_covered Not h = refl
-built_covered PrintInt h = refl
-built_covered Newline h = refl
-built_covered ReadInt h = cc
-built_covered MakeBox h = cc
-built_covered Unbox h = cc
-built_covered BoxSet h = cc
-built_covered MakeVector h = cc
-built_covered VectorRef h = cc
-built_covered VectorSet h = cc
-built_covered VectorLength h = cc
-
--- the test of what is covered takes all that is compiled
-pub covers_built : Takes is_covered
-covers_built = record { operators = λ operator count h. built_covered operator h; casts = λ number. refl }

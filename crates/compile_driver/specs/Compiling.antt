@@ -1,38 +1,28 @@
--- What an image is to its source, and which sources are refused.
-use Rattle.std.specs.Prelude.{◌≡◌, ◌⊎◌, ℕ, List, [], length}
+-- What an image is to its source.
+use Rattle.std.specs.Prelude.{◌≡◌, ℕ, List, [], length}
 use Rattle.grift_base.specs.Types.{TypeRows}
-use Rattle.grift_base.specs.declared.places.Pos.{Pos}
-use Rattle.grift_base.specs.declared.refusals.Refusal.{Refusal}
-use Rattle.grift_base.specs.declared.refusals.RefusalKind.TheVariants.{BadForm}
-use Rattle.grift_base.specs.declared.refusals.FrontFault.{FrontFault}
-use Rattle.grift_base.specs.declared.refusals.FrontFault.TheVariants.{Refused, OutOfMemory}
 use Rattle.run_laws.specs.Runs.{Follows}
 use Rattle.rv_machine.specs.Start.{IsRegionSize, IsStackSize}
 use Rattle.rv_machine.specs.Mach.{mach}
-use Rattle.core_calc.specs.Terms.{Term}
 use Rattle.core_calc.specs.Calculus.{Program, calc}
 use Rattle.core_calc.specs.Typing.{ProgramTermHasType}
 use Rattle.core_calc.specs.Views.{term_of}
 use Rattle.surface_syntax.specs.Trees.{Expr}
 use Rattle.cast_insert.specs.declared.insertion.Elab.{Elab}
 use Rattle.cast_insert.specs.Making.{Entry}
-use Rattle.cast_insert.specs.Outcomes.{Elaborates, IsRefused}
+use Rattle.cast_insert.specs.Outcomes.{Elaborates}
 use Rattle.cast_insert.specs.Views.{entries_of}
 use Rattle.coer_core.specs.Conversion.{casts_in, with_casts}
 use Rattle.coer_core.specs.Programs.{tallest_of}
 use Rattle.front_end.specs.Texts.{ElaboratesTo, HasOutcome, IsProgramOf}
-use Rattle.compile_driver.specs.Unbuilt.{IsFirst, unbuilt_places}
 use Rattle.compile_driver.specs.declared.compiling.Compiled.{Compiled}
 
--- ---- programs
-
--- the program of the calculus that the text is: it elaborates to this term, over these types and labels, nothing stands
--- in it that isn't compiled yet, and the term is a program term
+-- the program of the calculus that the text is: it elaborates to this term, over these types and labels, and the term is
+-- a program term
 pub record HasProgram (text : List ℕ) (program : Program) : Type 0 where
   pub type : ℕ
   pub casts : List Entry
   pub elaborated : ElaboratesTo text (Elaborates program.term type program.types program.labels casts)
-  pub built : unbuilt_places elaborated.program program.types program.labels casts ≡ []
   pub typed : ProgramTermHasType program.types (length program.labels) program.term type
 
 -- for every region, stack and input, the run of the image follows that of the program
@@ -60,25 +50,3 @@ pub record IsTold (text : List ℕ) (compiled : Compiled) : Type 0 where
   pub source : Expr
   pub forms : IsProgramOf text source compiled.forms
   pub tallest : compiled.tallest ≡ tallest_in compiled.types compiled.elab
-
--- ---- refusals
-
--- the text is elaborated, but this is the first place of what isn't compiled yet
-pub record IsUnbuiltAt (text : List ℕ) (place : Pos) : Type 0 where
-  pub term : Term
-  pub type : ℕ
-  pub types : TypeRows
-  pub labels : List Pos
-  pub casts : List Entry
-  pub elaborated : ElaboratesTo text (Elaborates term type types labels casts)
-  pub first : IsFirst (unbuilt_places elaborated.program types labels casts) place
-
--- the text is refused as it is read, parsed or elaborated; or where it isn't compiled yet, as a bad form
-abbrev pub IsRefusedAt : List ℕ → Refusal → Type 0
-IsRefusedAt text refusal =
-    HasOutcome text (IsRefused refusal.kind refusal.pos) ⊎ ((refusal.kind ≡ BadForm) × IsUnbuiltAt text refusal.pos)
-
--- a fault is a refusal of the text; memory may run out at any text
-abbrev pub IsFault : List ℕ → FrontFault → Type 0
-IsFault text (Refused refusal) = IsRefusedAt text refusal
-IsFault text OutOfMemory = Unit {0}

@@ -1,2 +1,2 @@
-pub mod Unbuilt
+pub mod Parts
 pub mod Compiling

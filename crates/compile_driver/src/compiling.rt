@@ -1,24 +1,25 @@
 // Images from sources.
 
-ghost use Rattle.std.specs.Prelude.{◌≡◌, ◌<◌, ◌^◌, ◌≤◌, All, IfOk, IfErr, length, true};
+ghost use Rattle.std.specs.Prelude.{◌≡◌, ◌<◌, ◌^◌, ◌≤◌, All, IfOk, IfErr, length};
 ghost use Rattle.grift_base.specs.Sizes.{source_limit};
 ghost use Rattle.rv_machine.specs.Image.{IsImage};
 ghost use Rattle.core_calc.specs.Typing.{ProgramTermHasType};
 ghost use Rattle.core_calc.specs.Views.{term_of};
 ghost use Rattle.cast_insert.specs.Views.{entries_of};
-ghost use Rattle.front_end.specs.Placed.{IsPlaced};
-ghost use Rattle.compile_driver.specs.Compiling.{FollowsProgram, HasProgram, IsFault, IsTold, program_of};
+ghost use Rattle.front_end.specs.Placed.{IsPlaced, takes_no_input};
+ghost use Rattle.front_end.specs.Texts.{IsFault};
+ghost use Rattle.compile_driver.specs.Compiling.{FollowsProgram, HasProgram, IsTold, program_of};
 ghost use Rattle.compile_driver.specs.Compiling.{program_over, tallest_in};
-ghost use Rattle.compile_driver.specs.Unbuilt.{is_built, is_flat};
+ghost use Rattle.compile_driver.specs.Parts.{HasWords};
 
-use crate::unbuilt::first_unbuilt;
 use assembler::image::Image;
+use cast_insert::casts::CastEntry;
 use cast_insert::insertion::Elab;
 use closure_convert::program::convert;
 use coer_core::program::to_coercions;
 use front_end::elaborate_text;
 use grift_base::lists::OutOfMemory;
-use grift_base::refusals::{FrontFault, Refusal, RefusalKind};
+use grift_base::refusals::FrontFault;
 use lower::merged::lower;
 use rv_select::images::image_of;
 use std::alloc::Global;
@@ -53,16 +54,34 @@ fn are_words(words: &[u64])
     }
 }
 
-// The image of a program with all casts, in which nothing stands that isn't compiled yet.
+// Nothing to do: the number of each part of Dyn has 64 bits, and its label 32.
+fn are_narrow(casts: &[CastEntry])
+    ensures { All HasWords (entries_of casts.now) }
+{
+    let mut left = casts;
+    while let [entry, rest @ ..] = left {
+        if let CastEntry::Part { label, part } = *entry {
+            let _label = label.0;
+            let _part = part;
+        }
+        left = rest;
+    }
+}
+
+// The most bytes that statics and code may have: with every region they end below 2 ^ 34.
+const MOST_LOADED: usize = 8_589_934_592;
+
+// The image of a program with all casts, in which nothing reads input. One whose statics and code are too long for the
+// memory that the procedures over words are proved for is want of memory.
 fn made_of(alloc: Global, types: &TypeTable, elab: &Elab) -> Result<Made, OutOfMemory>
     requires typed { ProgramTermHasType types.now (length elab.now.labels) (term_of elab.now.core) elab.now.ty.0 }
-    requires placed { IsPlaced is_built (entries_of elab.now.casts) (term_of elab.now.core) }
-    requires flat { All (λ entry. is_flat types.now entry ≡ true) (entries_of elab.now.casts) }
+    requires placed { IsPlaced takes_no_input (entries_of elab.now.casts) (term_of elab.now.core) }
     ensures whole { IfOk result (λ made. IsImage made.image) }
     ensures tallest { IfOk result (λ made. made.tallest ≡ tallest_in types.now elab.now) }
     ensures follows { IfOk result (λ made. FollowsProgram made.image (program_over types.now elab.now)) }
 {
     types.len();
+    are_narrow(elab.casts.as_slice());
     let coer = to_coercions(alloc, &elab.core, types)?;
     let flat = convert(alloc, &coer)?;
     types.row(coer.answer);
@@ -70,6 +89,9 @@ fn made_of(alloc: Global, types: &TypeTable, elab: &Elab) -> Result<Made, OutOfM
     are_words(low.statics.words.as_slice());
     are_words(low.statics.cast_at.as_slice());
     let image = image_of(alloc, &low, &elab.labels)?;
+    if image.loaded().len() > MOST_LOADED {
+        return Err(OutOfMemory);
+    }
     Ok(Made {
         image,
         tallest: coer.tallest,
@@ -78,7 +100,7 @@ fn made_of(alloc: Global, types: &TypeTable, elab: &Elab) -> Result<Made, OutOfM
 
 /// Compiles a source: it is read, parsed and elaborated, casts become coercions, functions become procedures, and these
 /// become words and instructions. The image follows the source's program, for every region, stack and input. A source
-/// is refused as it is read, parsed or elaborated, or as a bad form at the first place of what isn't compiled yet.
+/// is refused exactly as it is read, parsed or elaborated.
 pub fn compile(alloc: Global, text: &[u8]) -> Result<Compiled, FrontFault>
     requires { length text.now ≤ source_limit }
     ensures source { IfOk result (λ compiled. HasProgram text.now (program_of compiled)) }
@@ -88,12 +110,6 @@ pub fn compile(alloc: Global, text: &[u8]) -> Result<Compiled, FrontFault>
     ensures refused { IfErr result (IsFault text.now) }
 {
     let done = elaborate_text(alloc, text)?;
-    if let Some(pos) = first_unbuilt(&done.program, &done.types, &done.elab) {
-        return Err(FrontFault::Refused(Refusal {
-            kind: RefusalKind::BadForm,
-            pos,
-        }));
-    }
     let made = made_of(alloc, &done.types, &done.elab)?;
     Ok(Compiled {
         image: made.image,

@@ -1,6 +1,7 @@
 mod TypePlaces
 mod ReadPrograms
 mod Sources
+mod NoInput
 mod Outcomes
 mod Answered
 mod Places

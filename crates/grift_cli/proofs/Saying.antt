@@ -25,9 +25,9 @@ use Rattle.rv_machine.specs.State.{State, Region, Stack, Halt, Ended, Lacks, Goe
 use Rattle.rv_machine.specs.Start.{IsRegionSize, IsStackSize, start_of, fresh_world}
 use Rattle.rv_machine.specs.Mach.{mach, moment_of}
 use Rattle.rv_machine.proofs.Public.{run_is_its_turns-states}
-use Rattle.front_end.specs.Texts.{IsFault as IsFrontFault}
+use Rattle.front_end.specs.Texts.{IsFault}
 use Rattle.cast_insert.specs.Making.{Entry}
-use Rattle.compile_driver.specs.Compiling.{FollowsProgram, IsFault}
+use Rattle.compile_driver.specs.Compiling.{FollowsProgram}
 use Rattle.blame_audit.specs.Claims.{NeverTellsBlame}
 use Rattle.grift_cli.specs.Calls.{CallSeen, PutsNothing, AsksFor, FailsNoLoad, HasLoaded, size_limit}
 use Rattle.grift_cli.specs.Auditing.{IsAuditFile, IsNeverBlamed, PutsAudit}
@@ -224,7 +224,7 @@ says_exec call limits image TooLong i x = absurd x.0
 
 -- the source of a check is refused
 pub says_check_fault : (call : CallSeen) (file text : List ℕ) (fault : FrontFault)
-    → HasLoaded call (Check file) text → PutsNothing call → IsFrontFault text fault → Says (source_report fault) call
+    → HasLoaded call (Check file) text → PutsNothing call → IsFault text fault → Says (source_report fault) call
 says_check_fault call file text (SourceRefused refusal) l p f =
     inr (inl (record { file = file; text = text; loaded = l; refused = f; nothing = p }))
 says_check_fault call file text SourceMemory l p f = says_no_memory call (Check file) text l p
@@ -255,7 +255,7 @@ never_blamed program place never image region stack input n follows r k blames =
 
 -- the source of an audit is refused
 pub says_audit_fault : (call : CallSeen) (file text : List ℕ) (fault : FrontFault)
-    → HasLoaded call (Audit file) text → PutsNothing call → IsFrontFault text fault → Says (source_report fault) call
+    → HasLoaded call (Audit file) text → PutsNothing call → IsFault text fault → Says (source_report fault) call
 says_audit_fault call file text (SourceRefused refusal) l p f =
     inr (inr (record { file = file; text = text; loaded = l; refused = f; nothing = p }))
 says_audit_fault call file text SourceMemory l p f = says_no_memory call (Audit file) text l p

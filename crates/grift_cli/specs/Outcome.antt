@@ -9,7 +9,9 @@ use Rattle.rv_machine.specs.Image.{IsImage}
 use Rattle.rv_machine.specs.declared.faults.MachineFault.{MachineFault}
 use Rattle.core_calc.specs.Calculus.{Program, calc}
 use Rattle.assembler.specs.Faults.{IsFirstFault}
-use Rattle.compile_driver.specs.Compiling.{HasProgram, FollowsProgram, IsRefusedAt}
+use Rattle.cast_insert.specs.Outcomes.{IsRefused as IsRefusedText}
+use Rattle.front_end.specs.Texts.{HasOutcome}
+use Rattle.compile_driver.specs.Compiling.{HasProgram, FollowsProgram}
 use Rattle.grift_cli.specs.Runs.{run_within, printed, verdict_of_run, fault_of_run}
 use Rattle.grift_cli.specs.Commands.{Command, Run, Exec}
 use Rattle.grift_cli.specs.Calls.{CallSeen, PutsNothing, HasLoaded, HasNoCommand, HasNoFile, HasLongFile, LacksFile}
@@ -35,14 +37,14 @@ OutputFails output out = (output ≢ []) × Breaks output out
 
 -- ---- a source that is compiled and run
 
--- the source is refused, so
+-- the file of a run holds no source that is elaborated: this is its first refusal
 pub record IsRefused (call : CallSeen) (refusal : Refusal) : Type 0 where
   pub file : List ℕ
   pub limits : Limits
   pub name : Option (List ℕ)
   pub text : List ℕ
   pub loaded : HasLoaded call (Run file limits name) text
-  pub refused : IsRefusedAt text refusal
+  pub refused : HasOutcome text (IsRefusedText refusal.kind refusal.pos)
   pub nothing : PutsNothing call
 
 -- the text is the source of a program, whose term is a program term, and which this image follows; it is to be run

@@ -1,5 +1,5 @@
 -- What is carried stays carried as objects are added, and what the parts of a carried value are.
-use Rattle.std.proofs.Common.{◌≡◌, ℕ, zero, suc, ◌+◌, ◌*◌, ◌^◌, ◌<◌, true, false}
+use Rattle.std.proofs.Common.{◌≡◌, inr, ℕ, zero, suc, ◌+◌, ◌*◌, ◌^◌, ◌<◌, true, false}
 use Rattle.std.proofs.Common.{List, [], ◌∷◌, ◌++◌, length, Some, refl, sym, ap}
 use Rattle.std.proofs.Common.{subst, arith}
 use Rattle.std.specs.Prelude.{slice_get, FitsSigned}
@@ -8,124 +8,147 @@ use Rattle.std.proofs.lemmas.Int.{SFits-int_wrap}
 use Rattle.std.proofs.Math.Facts.{Fits-of_z}
 use Rattle.rv_machine.specs.Memory.{Memory}
 use Rattle.low_ir.specs.Run.{Setting}
-use Rattle.coercion_norm.specs.Coercions.{Coercion, Coercions, Id, Fail, Middle, Inject, Project, NoCoercions}
-use Rattle.coercion_norm.specs.Coercions.{CoercionThen}
 use Rattle.coercion_norm.specs.RunValues.{RunInt, RunBool, RunUnit, RunFun, RunTuple, RunLoc, RunWrap, RunInject}
 use Rattle.coercion_norm.specs.RunValues.{NoRunValues, RunValueThen, in_row, row_list}
 use Rattle.coercion_norm.specs.Objects.{Object, Fixed, Cell}
-use Rattle.coercion_norm.specs.Held.{Layout, There, Held, AreHeld}
-use Rattle.rt_cast.specs.States.{Heap, Placed, Filled}
+use Rattle.coercion_norm.specs.Held.{Layout, There}
+use Rattle.rt_cast.specs.States.{Placed}
+use Rattle.rt_cast.specs.States.{Heap}
+use Rattle.lower.specs.Storage.{Filled}
 use Rattle.flat_ir.specs.Bodies.{Proc}
 use Rattle.flat_ir.specs.Machine.{FlatValue, FlatValues, FlatStore, or_unit}
 use Rattle.lower.specs.Numbering.{function_offset}
-use Rattle.lower.specs.CarriedValues.{IsGroup, IsCarried, AreCarried, CellsHeld}
-use Rattle.lower.proofs.HeapObjects.{none_some, AreSmall, words_same, header_room}
+use Rattle.lower.specs.CarriedValues.{IsGroup, Under, Bare, CarriedIn, IsCarried, AreCarried, CellsFrom, CellsHeld}
+use Rattle.lower.proofs.HeapObjects.{none_some, object_kept, AreSmall, words_same, header_room}
 use Rattle.lower.proofs.HeapFilled.{there_later, stands}
+use Rattle.lower.specs.Meanings.{Meaning, MeaningLaws}
 
-module _ (l : Layout) (objects more : List Object) where
-  mutual
-    pub held_later : (c : Coercion) (w : ℕ) → Held l objects c w → Held l (objects ++ more) c w
-    held_later Id w h = h
-    held_later (Fail label) w h = there_later l objects more w _ h
-    held_later (Middle kind parts) w h =
-        (h.0, there_later l objects more w _ h.1, are_held_later parts h.0 h.2, h.3)
-    held_later (Inject g kept) w h =
-        (h.0, h.1, there_later l objects more w _ h.2, held_later g h.0 h.3, record { known = h.4.known; is = h.4.is })
-    held_later (Project wanted label i) w h = (
-      h.0,
-      h.1,
-      there_later l objects more w _ h.2,
-      record { known = h.3.known; is = h.3.is },
-      held_later i h.1 h.4,
-    )
+module _ (l : Layout) (address : ℕ → ℕ) (procs : List Proc) (meaning : Meaning) (laws : MeaningLaws meaning) where
+  -- where objects and cells were added
+  module _ (places bigger : List ℕ)
+      (kept : (i w : ℕ) → slice_get places i ≡ Some w → slice_get bigger i ≡ Some w) (objects more : List Object) where
+    under_grown : (casts : List meaning.Cast) (w : ℕ) {P Q : ℕ → Type 0} → ((x : ℕ) → P x → Q x)
+        → Under l address procs meaning places objects casts w P
+        → Under l address procs meaning bigger (objects ++ more) casts w Q
+    under_grown [] w f u = f w u
+    under_grown (cast ∷ casts) w f u =
+        (u.0, laws.wraps_later l objects more (cast ∷ casts) u.0 w u.1, f u.0 u.2)
 
-    are_held_later : (parts : Coercions) (ws : List ℕ) → AreHeld l objects parts ws
-        → AreHeld l (objects ++ more) parts ws
-    are_held_later NoCoercions [] h = h
-    are_held_later NoCoercions (w ∷ ws) h = h
-    are_held_later (CoercionThen c rest) [] h = h
-    are_held_later (CoercionThen c rest) (w ∷ ws) h = (held_later c w h.0, are_held_later rest ws h.1)
+    bare_grown : (casts : List meaning.Cast) (w : ℕ) {P Q : ℕ → Type 0} → ((x : ℕ) → P x → Q x)
+        → Bare l address procs meaning places objects casts w P
+        → Bare l address procs meaning bigger (objects ++ more) casts w Q
+    bare_grown [] w f u = f w u
+    bare_grown (cast ∷ casts) w f u = absurd u
 
-module _ (l : Layout) (address : ℕ → ℕ) (procs : List Proc) (MayWrap : Coercion → Type 0) (places : List ℕ) where
-  module _ (objects more : List Object) where
-    pub group_later : (first leader count : ℕ) (words : List ℕ)
-        → IsGroup l address procs MayWrap places objects first leader count words
-        → IsGroup l address procs MayWrap places (objects ++ more) first leader count words
-    group_later first leader count words g = record {
+    pub group_grown : (first leader count : ℕ) (words : List ℕ)
+        → IsGroup l address procs meaning places objects first leader count words
+        → IsGroup l address procs meaning bigger (objects ++ more) first leader count words
+    group_grown first leader count words g = record {
       members = g.members;
       leads = there_later l objects more leader _ g.leads;
       others = λ i lt. there_later l objects more _ _ (g.others i lt);
     }
 
     mutual
-      pub later : (v : FlatValue Coercion) (w : ℕ) → IsCarried l address procs MayWrap places objects v w
-          → IsCarried l address procs MayWrap places (objects ++ more) v w
-      later (RunInt n) w c = c
-      later (RunBool b) w c = c
-      later RunUnit w c = c
-      later (RunFun code captured) w c =
-          (c.0, c.1, c.2, c.3, c.4, group_later code.first c.0 c.1 c.2 c.5, all_later captured c.2 c.6)
-      later (RunTuple values) w c = (c.0, there_later l objects more w _ c.1, all_later values c.0 c.2, c.3)
-      later (RunLoc cell is_vector) w c = (c.0, c.1, there_later l objects more w _ c.2, c.3)
-      later (RunWrap v cast) w c = (
-        c.0,
-        c.1,
-        c.2,
-        there_later l objects more w _ c.3,
-        later v c.0 c.4,
-        held_later l objects more cast c.1 c.5,
-        c.6,
-      )
-      later (RunInject v kept) w c = (
-        c.0,
-        c.1,
-        there_later l objects more w _ c.2,
-        record { known = c.3.known; is = c.3.is },
-        c.4,
-        c.5,
-        later v c.1 c.6,
-      )
+      pub grown : (v : FlatValue meaning.Cast) (casts : List meaning.Cast) (w : ℕ)
+          → CarriedIn l address procs meaning places objects v casts w
+          → CarriedIn l address procs meaning bigger (objects ++ more) v casts w
+      grown (RunInt n) casts w c = bare_grown casts w (λ x p. p) c
+      grown (RunBool b) casts w c = bare_grown casts w (λ x p. p) c
+      grown RunUnit casts w c = bare_grown casts w (λ x p. p) c
+      grown (RunFun code captured) casts w c =
+          under_grown casts w (λ x p. (
+            p.0,
+            p.1,
+            p.2,
+            p.3,
+            p.4,
+            group_grown code.first p.0 p.1 p.2 p.5,
+            all_grown captured p.2 p.6,
+          )) c
+      grown (RunTuple values) casts w c =
+          under_grown casts w (λ x p. (p.0, there_later l objects more x _ p.1, all_grown values p.0 p.2, p.3)) c
+      grown (RunLoc cell is_vector) casts w c =
+          under_grown casts w (λ x p. (p.0, kept cell x p.1, there_later l objects more x _ p.2, p.3)) c
+      grown (RunWrap v cast) casts w c = grown v (cast ∷ casts) w c
+      grown (RunInject v keeps) casts w c =
+          bare_grown casts w (λ x p. (
+            p.0,
+            p.1,
+            there_later l objects more x _ p.2,
+            record { known = p.3.known; is = p.3.is },
+            p.4,
+            p.5,
+            grown v [] p.1 p.6,
+          )) c
 
-      pub all_later : (vs : FlatValues Coercion) (ws : List ℕ) → AreCarried l address procs MayWrap places objects vs ws
-          → AreCarried l address procs MayWrap places (objects ++ more) vs ws
-      all_later NoRunValues [] c = c
-      all_later NoRunValues (w ∷ ws) c = c
-      all_later (RunValueThen v rest) [] c = c
-      all_later (RunValueThen v rest) (w ∷ ws) c = (later v w c.0, all_later rest ws c.1)
+      pub all_grown : (vs : FlatValues meaning.Cast) (ws : List ℕ)
+          → AreCarried l address procs meaning places objects vs ws
+          → AreCarried l address procs meaning bigger (objects ++ more) vs ws
+      all_grown NoRunValues [] c = c
+      all_grown NoRunValues (w ∷ ws) c = c
+      all_grown (RunValueThen v rest) [] c = c
+      all_grown (RunValueThen v rest) (w ∷ ws) c = (grown v [] w c.0, all_grown rest ws c.1)
 
-    pub cells_later : (m : Memory) (at : List ℕ) (store : FlatStore Coercion)
-        → CellsHeld l address procs MayWrap places objects m at store
-        → CellsHeld l address procs MayWrap places (objects ++ more) m at store
-    cells_later m [] [] c = c
-    cells_later m [] (vs ∷ store) c = c
-    cells_later m (a ∷ at) [] c = c
-    cells_later m (a ∷ at) (vs ∷ store) c = (
+    pub cells_grown : (low : ℕ) (m : Memory) (at : List ℕ) (store : FlatStore meaning.Cast)
+        → CellsFrom l address procs meaning places objects low m at store
+        → CellsFrom l address procs meaning bigger (objects ++ more) low m at store
+    cells_grown low m [] [] c = c
+    cells_grown low m [] (vs ∷ store) c = c
+    cells_grown low m (a ∷ at) [] c = c
+    cells_grown low m (a ∷ at) (vs ∷ store) c = (
+      c.0,
       record {
-        head = c.0.head;
-        words = c.0.words;
-        is = there_later l objects more a _ c.0.is;
-        held = c.0.held;
-        carried = all_later (in_row vs) c.0.words c.0.carried;
+        head = c.1.head;
+        words = c.1.words;
+        is = object_kept objects more l.region a _ c.1.is;
+        held = c.1.held;
+        carried = all_grown (in_row vs) c.1.words c.1.carried;
       },
-      cells_later m at store c.1,
+      cells_grown (suc a) m at store c.2,
     )
 
-  module _ (objects : List Object) where
-    abbrev C : FlatValue Coercion → ℕ → Type 0
-    C v w = IsCarried l address procs MayWrap places objects v w
+module _ (l : Layout) (address : ℕ → ℕ) (procs : List Proc) (meaning : Meaning) (laws : MeaningLaws meaning)
+    (places : List ℕ) where
+  module _ (objects more : List Object) where
+    abbrev same : (i w : ℕ) → slice_get places i ≡ Some w → slice_get places i ≡ Some w
+    same i w e = e
 
-    abbrev Cs : FlatValues Coercion → List ℕ → Type 0
-    Cs vs ws = AreCarried l address procs MayWrap places objects vs ws
+    pub group_later : (first leader count : ℕ) (words : List ℕ)
+        → IsGroup l address procs meaning places objects first leader count words
+        → IsGroup l address procs meaning places (objects ++ more) first leader count words
+    group_later = group_grown l address procs meaning laws places places same objects more
+
+    pub later : (v : FlatValue meaning.Cast) (w : ℕ) → IsCarried l address procs meaning places objects v w
+        → IsCarried l address procs meaning places (objects ++ more) v w
+    later v w c = grown l address procs meaning laws places places same objects more v [] w c
+
+    pub all_later : (vs : FlatValues meaning.Cast) (ws : List ℕ)
+        → AreCarried l address procs meaning places objects vs ws
+        → AreCarried l address procs meaning places (objects ++ more) vs ws
+    all_later = all_grown l address procs meaning laws places places same objects more
+
+    pub cells_later : (m : Memory) (at : List ℕ) (store : FlatStore meaning.Cast)
+        → CellsHeld l address procs meaning places objects m at store
+        → CellsHeld l address procs meaning places (objects ++ more) m at store
+    cells_later m at store c = cells_grown l address procs meaning laws places places same objects more 0 m at store c
+
+  module _ (objects : List Object) where
+    abbrev C : FlatValue meaning.Cast → ℕ → Type 0
+    C v w = IsCarried l address procs meaning places objects v w
+
+    abbrev Cs : FlatValues meaning.Cast → List ℕ → Type 0
+    Cs vs ws = AreCarried l address procs meaning places objects vs ws
 
     -- as many words as values
-    pub as_many : (vs : List (FlatValue Coercion)) (ws : List ℕ) → Cs (in_row vs) ws → length ws ≡ length vs
+    pub as_many : (vs : List (FlatValue meaning.Cast)) (ws : List ℕ) → Cs (in_row vs) ws → length ws ≡ length vs
     as_many [] [] c = refl
     as_many [] (w ∷ ws) c = absurd c
     as_many (v ∷ vs) [] c = absurd c
     as_many (v ∷ vs) (w ∷ ws) c = ap suc (as_many vs ws c.1)
 
     -- the word of a value in a row
-    pub carried_at : (vs : FlatValues Coercion) (ws : List ℕ) (i : ℕ) → Cs vs ws → i < length ws
+    pub carried_at : (vs : FlatValues meaning.Cast) (ws : List ℕ) (i : ℕ) → Cs vs ws → i < length ws
         → (w : ℕ) × (slice_get ws i ≡ Some w) × C (or_unit (slice_get (row_list vs) i)) w
     carried_at NoRunValues [] i c lt = absurd (omega arith)
     carried_at NoRunValues (w ∷ ws) i c lt = absurd c
@@ -133,7 +156,7 @@ module _ (l : Layout) (address : ℕ → ℕ) (procs : List Proc) (MayWrap : Coe
     carried_at (RunValueThen v rest) (w ∷ ws) zero c lt = (w, refl, c.0)
     carried_at (RunValueThen v rest) (w ∷ ws) (suc i) c lt = carried_at rest ws i c.1 (omega arith)
 
-    pub part_carried : (vs : FlatValues Coercion) (ws : List ℕ) (i : ℕ) (v : FlatValue Coercion) → Cs vs ws
+    pub part_carried : (vs : FlatValues meaning.Cast) (ws : List ℕ) (i : ℕ) (v : FlatValue meaning.Cast) → Cs vs ws
         → slice_get (row_list vs) i ≡ Some v → (w : ℕ) × (slice_get ws i ≡ Some w) × C v w
     part_carried NoRunValues ws i v c e = none_some e
     part_carried (RunValueThen u rest) [] i v c e = absurd c
@@ -141,15 +164,16 @@ module _ (l : Layout) (address : ℕ → ℕ) (procs : List Proc) (MayWrap : Coe
         let same : u ≡ v = cc in (w, refl, subst (λ x. C x w) same c.0)
     part_carried (RunValueThen u rest) (w ∷ ws) (suc i) v c e = part_carried rest ws i v c.1 e
 
-    module _ (setting : Setting) (placed : Placed setting l) (h : Heap) (filled : Filled setting l objects h) where
+    module _ (setting : Setting) (placed : Placed setting l) {number : ℕ} (h : Heap)
+        (filled : Filled meaning setting l number objects h) where
       there_small : (w : ℕ) (o : Object) → There l objects w o → w < 2 ^ 64
       there_small w o t =
-          let s = stands setting l placed objects h filled w o t in let r = header_room o in omega
+          let s = stands meaning setting l placed objects h filled w o t in let r = header_room o in omega
           (arith, s.high, filled.fits, placed.top, r)
 
       -- a function of a group
       pub function_there : (first leader count place : ℕ) (words : List ℕ) → place < count
-          → IsGroup l address procs MayWrap places objects first leader count words
+          → IsGroup l address procs meaning places objects first leader count words
           → (rest : List ℕ) × There l objects (leader + function_offset (length words) place)
           (Fixed (1 + 4294967296 * suc (length rest)) (address (first + place) ∷ rest))
       function_there first leader count zero words lt g = (
@@ -167,50 +191,73 @@ module _ (l : Layout) (address : ℕ → ℕ) (procs : List Proc) (MayWrap : Coe
       function_there first leader count (suc i) words lt g = ([], g.others i lt)
 
       pub function_small : (first leader count place : ℕ) (words : List ℕ) → place < count
-          → IsGroup l address procs MayWrap places objects first leader count words
+          → IsGroup l address procs meaning places objects first leader count words
           → leader + function_offset (length words) place < 2 ^ 64
       function_small first leader count place words lt g =
           let z = function_there first leader count place words lt g in
           there_small (leader + function_offset (length words) place) _ z.1
 
-      pub carried_small : (v : FlatValue Coercion) (w : ℕ) → C v w → w < 2 ^ 64
-      carried_small (RunInt n) w c =
-          subst (λ x. x < 2 ^ 64) (sym c.0) (Fits-of_z (subst (FitsSigned w64) c.1 (SFits-int_wrap w64 n))).fits
-      carried_small (RunBool true) w c = omega (arith, c)
-      carried_small (RunBool false) w c = omega (arith, c)
-      carried_small RunUnit w c = omega (arith, c)
-      carried_small (RunFun code captured) w c =
-          subst (λ x. x < 2 ^ 64) (sym c.3) (function_small code.first c.0 c.1 code.place c.2 c.4 c.5)
-      carried_small (RunTuple values) w c = there_small w _ c.1
-      carried_small (RunLoc cell is_vector) w c = there_small w _ c.2
-      carried_small (RunWrap v cast) w c = there_small w _ c.3
-      carried_small (RunInject v kept) w c = there_small w _ c.2
+      under_small : (casts : List meaning.Cast) (w : ℕ) {P : ℕ → Type 0} → ((x : ℕ) → P x → x < 2 ^ 64)
+          → Under l address procs meaning places objects casts w P → w < 2 ^ 64
+      under_small [] w f u = f w u
+      under_small (cast ∷ casts) w f u = there_small w _ (laws.wrapper l objects (cast ∷ casts) u.0 w u.1).there
 
-      pub all_small : (vs : FlatValues Coercion) (ws : List ℕ) → Cs vs ws → AreSmall ws
+      bare_small : (casts : List meaning.Cast) (w : ℕ) {P : ℕ → Type 0} → ((x : ℕ) → P x → x < 2 ^ 64)
+          → Bare l address procs meaning places objects casts w P → w < 2 ^ 64
+      bare_small [] w f u = f w u
+      bare_small (cast ∷ casts) w f u = absurd u
+
+      carried_in_small : (v : FlatValue meaning.Cast) (casts : List meaning.Cast) (w : ℕ)
+          → CarriedIn l address procs meaning places objects v casts w → w < 2 ^ 64
+      carried_in_small (RunInt n) casts w c =
+          bare_small casts w (λ x p. subst (λ y. y < 2 ^ 64) (sym p.0)
+          (Fits-of_z (subst (FitsSigned w64) p.1 (SFits-int_wrap w64 n))).fits) c
+      carried_in_small (RunBool true) casts w c = bare_small casts w (λ x p. omega (arith, p)) c
+      carried_in_small (RunBool false) casts w c = bare_small casts w (λ x p. omega (arith, p)) c
+      carried_in_small RunUnit casts w c = bare_small casts w (λ x p. omega (arith, p)) c
+      carried_in_small (RunFun code captured) casts w c =
+          under_small casts w (λ x p. subst (λ y. y < 2 ^ 64) (sym p.3)
+          (function_small code.first p.0 p.1 code.place p.2 p.4 p.5)) c
+      carried_in_small (RunTuple values) casts w c = under_small casts w (λ x p. there_small x _ p.1) c
+      carried_in_small (RunLoc cell is_vector) casts w c = under_small casts w (λ x p. there_small x _ p.2) c
+      carried_in_small (RunWrap v cast) casts w c = carried_in_small v (cast ∷ casts) w c
+      carried_in_small (RunInject v kept) casts w c = bare_small casts w (λ x p. there_small x _ p.2) c
+
+      pub carried_small : (v : FlatValue meaning.Cast) (w : ℕ) → C v w → w < 2 ^ 64
+      carried_small v w c = carried_in_small v [] w c
+
+      pub all_small : (vs : FlatValues meaning.Cast) (ws : List ℕ) → Cs vs ws → AreSmall ws
       all_small NoRunValues [] c = tt
       all_small NoRunValues (w ∷ ws) c = absurd c
       all_small (RunValueThen v rest) [] c = absurd c
       all_small (RunValueThen v rest) (w ∷ ws) c = (carried_small v w c.0, all_small rest ws c.1)
 
       -- what the cells hold stays where memory changes above alone
-      pub cells_below : (m : Memory) → ((i : ℕ) → i < h.alloc → m i ≡ h.memory i) → (at : List ℕ)
-          (store : FlatStore Coercion) → CellsHeld l address procs MayWrap places objects h.memory at store
-          → CellsHeld l address procs MayWrap places objects m at store
-      cells_below m same [] [] c = c
-      cells_below m same [] (vs ∷ store) c = c
-      cells_below m same (a ∷ at) [] c = c
-      cells_below m same (a ∷ at) (vs ∷ store) c = (
+      cells_from_below : (low : ℕ) (m : Memory) → ((i : ℕ) → i < h.alloc → m i ≡ h.memory i) → (at : List ℕ)
+          (store : FlatStore meaning.Cast) → CellsFrom l address procs meaning places objects low h.memory at store
+          → CellsFrom l address procs meaning places objects low m at store
+      cells_from_below low m same [] [] c = c
+      cells_from_below low m same [] (vs ∷ store) c = c
+      cells_from_below low m same (a ∷ at) [] c = c
+      cells_from_below low m same (a ∷ at) (vs ∷ store) c = (
+        c.0,
         record {
-          head = c.0.head;
-          words = c.0.words;
-          is = c.0.is;
-          held = words_same h.memory m (a + 8) c.0.words (λ i p q. same i (below i q)) c.0.held;
-          carried = c.0.carried;
+          head = c.1.head;
+          words = c.1.words;
+          is = c.1.is;
+          held = words_same h.memory m (a + 8) c.1.words (λ i p q. same i (below i q)) c.1.held;
+          carried = c.1.carried;
         },
-        cells_below m same at store c.1,
+        cells_from_below (suc a) m same at store c.2,
       )
         where
-          below : (i : ℕ) → i < a + 8 + 8 * length c.0.words → i < h.alloc
+          below : (i : ℕ) → i < a + 8 + 8 * length c.1.words → i < h.alloc
           below i q =
-              let s = stands setting l placed objects h filled a (Cell c.0.head (length c.0.words)) c.0.is in
+              let s = stands meaning setting l placed objects h filled a (Cell c.1.head (length c.1.words))
+              (inr c.1.is) in
               omega (arith, s.high, q)
+
+      pub cells_below : (m : Memory) → ((i : ℕ) → i < h.alloc → m i ≡ h.memory i) → (at : List ℕ)
+          (store : FlatStore meaning.Cast) → CellsHeld l address procs meaning places objects h.memory at store
+          → CellsHeld l address procs meaning places objects m at store
+      cells_below m same at store c = cells_from_below 0 m same at store c

@@ -7,13 +7,14 @@ use Rattle.low_ir.specs.Procedures.{Proc}
 use Rattle.low_ir.specs.Closed.{proc_closed, each_closed, is_closed}
 use Rattle.flat_ir.specs.Bodies.{Proc as FlatProc}
 use Rattle.flat_ir.specs.Closed.{is_closed as flat_is_closed}
-use Rattle.rt_cast.specs.Procs.{cast_procs}
-use Rattle.rt_refs.specs.Products.{product_loop, multiply}
-use Rattle.rt_refs.specs.Quotients.{quotient_loop, divide, ref_procs}
+use Rattle.rt_cast.specs.Procs.{cast_proc, cast_procs}
+use Rattle.rt_cast.proofs.Public.{procedures_are_closed-closed as casts_are_closed}
+use Rattle.rt_refs.specs.RefProcs.{proxy_procs}
+use Rattle.rt_refs.proofs.Public.{procedures_are_closed-closed as proxies_are_closed}
 use Rattle.lower.specs.declared.served.Served.{Served}
 use Rattle.lower.specs.Lowered.{low_proc, entry_proc, lowered}
 use Rattle.lower.specs.Serving.{takes, Serve, all_have_words}
-use Rattle.lower.specs.Sets.{StandFrom, ServesAnywhere, with_casts, unbuilt, merged_procs, merged_numbers}
+use Rattle.lower.specs.Sets.{StandFrom, ServesAnywhere, with_casts, merged_procs, merged_numbers}
 use Rattle.lower.proofs.ClosingPrograms.{lowered_programs_are_closed}
 
 -- ---- what stands in front of others, and behind them
@@ -78,55 +79,36 @@ programs_with_sets_are_closed set numbers words flat entry answer serves h few =
 
 -- ---- the merged scheme
 
-module _ (procs : List Proc) (first : ℕ) where
-  -- products and quotients are closed where they stand
-  ref_closed : StandFrom procs first (ref_procs first) → each_closed procs (ref_procs first) ≡ true
-  ref_closed s =
-      let product : slice_get procs first ≡ Some (product_loop first) =
-      ap (slice_get procs) (omega arith) ∙ s 0 (product_loop first) refl in
-      let quotient : slice_get procs (suc first) ≡ Some (quotient_loop (suc first)) =
-      ap (slice_get procs) (omega arith) ∙ s 1 (quotient_loop (suc first)) refl in
-      and_from (proc_closed procs (product_loop first)) _ (rw product refl)
-      (and_from (proc_closed procs (quotient_loop (suc first))) _ (rw quotient refl)
-      (and_from (proc_closed procs (multiply first)) _ (rw product refl)
-      (and_from (proc_closed procs (divide (suc first))) true (rw quotient refl) refl)))
-
 module _ (procs : List Proc) (first : ℕ) (s : StandFrom procs first (merged_procs first)) where
-  cast_stand : StandFrom procs first (cast_procs first)
-  cast_stand k p e =
-      s k p (get_front (cast_procs first) (unbuilt 8 ∷ unbuilt 3 ∷ unbuilt 4 ∷ unbuilt 2 ∷ ref_procs (31 + first)) k p
-      e)
+  pub cast_stand : StandFrom procs first (cast_procs first)
+  cast_stand k p e = s k p (get_front (cast_procs first) (proxy_procs (27 + first) (2 + first)) k p e)
 
-  ref_stand : StandFrom procs (31 + first) (ref_procs (31 + first))
-  ref_stand k p e =
-      let front = cast_procs first ++ unbuilt 8 ∷ unbuilt 3 ∷ unbuilt 4 ∷ unbuilt 2 ∷ [] in
-      let at : slice_get (merged_procs first) (31 + k) ≡ Some p = get_behind front (ref_procs (31 + first)) k ∙ e in
-      ap (slice_get procs) (omega arith) ∙ s (31 + k) p at
+  pub proxy_stand : StandFrom procs (27 + first) (proxy_procs (27 + first) (2 + first))
+  proxy_stand k p e =
+      let at : slice_get (merged_procs first) (27 + k) ≡ Some p =
+      get_behind (cast_procs first) (proxy_procs (27 + first) (2 + first)) k ∙ e in
+      ap (slice_get procs) (omega arith) ∙ s (27 + k) p at
 
-  merged_serve : Serve (merged_numbers first) procs
-  merged_serve = record {
+  pub merged_serves : Serve (merged_numbers first) procs
+  merged_serves = record {
     cast = ap (takes 2) (s 2 _ refl);
     project = ap (takes 4) (s 3 _ refl);
     apply = ap (takes 8) (s 27 _ refl);
     read = ap (takes 3) (s 28 _ refl);
     write = ap (takes 4) (s 29 _ refl);
     fill = ap (takes 2) (s 30 _ refl);
-    multiply = ap (takes 2) (s 33 _ refl);
-    divide = ap (takes 3) (s 34 _ refl);
+    multiply = ap (takes 2) (s 34 _ refl);
+    divide = ap (takes 3) (s 35 _ refl);
   }
 
-  merged_closed : each_closed procs (cast_procs first) ≡ true → each_closed procs (merged_procs first) ≡ true
-  merged_closed casts =
-      each_append procs (cast_procs first)
-      (unbuilt 8 ∷ unbuilt 3 ∷ unbuilt 4 ∷ unbuilt 2 ∷ ref_procs (31 + first)) casts
-      (each_append procs (unbuilt 8 ∷ unbuilt 3 ∷ unbuilt 4 ∷ unbuilt 2 ∷ []) (ref_procs (31 + first)) refl
-      (ref_closed procs (31 + first) ref_stand))
+  merged_closed : each_closed procs (merged_procs first) ≡ true
+  merged_closed =
+      each_append procs (cast_procs first) (proxy_procs (27 + first) (2 + first))
+      (casts_are_closed procs first cast_stand)
+      (proxies_are_closed procs (27 + first) (2 + first) proxy_stand (cast_proc first) (s 2 _ refl) refl)
 
--- told that casts are closed wherever they stand
-pub merged_serves : ((procs : List Proc) (first : ℕ) → StandFrom procs first (cast_procs first)
-    → each_closed procs (cast_procs first) ≡ true) → (first : ℕ)
-    → ServesAnywhere (merged_procs first) first (merged_numbers first)
-merged_serves casts first = record {
-  serve = λ procs s. merged_serve procs first s;
-  closed = λ procs s. merged_closed procs first s (casts procs first (cast_stand procs first s));
+pub merged_serves_anywhere : (first : ℕ) → ServesAnywhere (merged_procs first) first (merged_numbers first)
+merged_serves_anywhere first = record {
+  serve = λ procs s. merged_serves procs first s;
+  closed = λ procs s. merged_closed procs first s;
 }

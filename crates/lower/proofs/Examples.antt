@@ -1,13 +1,13 @@
 -- Flat programs and what they are lowered to: the lowered program is closed, and its run ends as the flat one's.
-use Rattle.std.proofs.Common.{◌≡◌, ℕ, ◌+◌, ◌*◌, List, [], ◌∷◌, ◌++◌, length, Some, refl, true, pos}
+use Rattle.std.proofs.Common.{◌≡◌, ℕ, ◌+◌, ◌*◌, List, [], ◌∷◌, length, Some, refl, true, pos}
 use Rattle.std.specs.Prelude.{codes, slice_get, Option, None}
 use Rattle.std.specs.Int.{int_wrap}
 use Rattle.std.specs.Fmt.{digits}
-use Rattle.run_laws.specs.Runs.{Ending, Run, Verdict as EndsWith, Wrong}
+use Rattle.run_laws.specs.Runs.{Run, Verdict as EndsWith}
 use Rattle.run_laws.specs.Machines.{run}
 use Rattle.grift_base.specs.EnvironmentCall.{environment_call}
-use Rattle.grift_base.specs.Types.{TypeRow, TypeRows, IntRow, BoolRow, UnitRow, DynRow, FunRow}
-use Rattle.grift_base.specs.declared.operators.PrimOp.TheVariants.{Add, Sub, Mul, Quot, Eq, Le, PrintInt, MakeBox}
+use Rattle.grift_base.specs.Types.{TypeRow, TypeRows, IntRow, BoolRow, UnitRow}
+use Rattle.grift_base.specs.declared.operators.PrimOp.TheVariants.{Add, Sub, Eq, PrintInt, MakeBox}
 use Rattle.grift_base.specs.declared.operators.PrimOp.TheVariants.{BoxSet, Unbox, Not}
 use Rattle.grift_base.specs.declared.verdicts.AnswerKind.{AnswerKind}
 use Rattle.grift_base.specs.declared.verdicts.AnswerKind.TheVariants.{Int as IntKind, Unit as UnitKind}
@@ -24,7 +24,7 @@ use Rattle.low_ir.specs.Run.{Setting, LowShown, low_machine, low_start}
 use Rattle.low_ir.specs.Closed.{is_closed as low_is_closed}
 use Rattle.flat_ir.specs.declared.code.Operand.{Operand}
 use Rattle.flat_ir.specs.declared.code.Operand.TheVariants.{Local, Captured, Sibling, Int, Bool as BoolCase}
-use Rattle.flat_ir.specs.declared.code.Operation.TheVariants.{Move, Prim, Cast, Tuple, Proj}
+use Rattle.flat_ir.specs.declared.code.Operation.TheVariants.{Move, Prim, Tuple, Proj}
 use Rattle.flat_ir.specs.Bodies.{Body, Give, Call, Choose, LetBody, LetGroup, Proc}
 use Rattle.flat_ir.specs.Closed.{is_closed}
 use Rattle.flat_ir.specs.Counts.{flat_run_in}

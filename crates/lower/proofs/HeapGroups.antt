@@ -1,7 +1,7 @@
 -- The objects of a group of functions: the words that are stored for them, and where each stands.
 use Rattle.std.proofs.Common.{◌≡◌, inr, ℕ, zero, suc, ◌+◌, ◌*◌, ◌<◌, true}
 use Rattle.std.proofs.Common.{List, [], ◌∷◌, ◌++◌, length, Some, refl, sym, ap, ◌∙◌, subst, arith}
-use Rattle.std.proofs.Common.{append_assoc}
+use Rattle.std.proofs.Common.{append_assoc, append-nil}
 use Rattle.std.specs.Prelude.{nat_le}
 use Rattle.rv_machine.specs.Memory.{Memory}
 use Rattle.object_layout.specs.declared.kinds.Kind.TheVariants.{Closure}
@@ -9,7 +9,7 @@ use Rattle.coercion_norm.specs.Objects.{Object, Fixed, bytes_of_all, object_at}
 use Rattle.rt_cast.specs.Objects.{HoldsWords, Holds}
 use Rattle.coercion_norm.specs.Held.{Layout, There}
 use Rattle.coercion_norm.specs.ObjectsOfRows.{header}
-use Rattle.rt_cast.specs.WholeObjects.{IsWhole, Wholes, WholeOther}
+use Rattle.lower.specs.Meanings.{Meaning, MeaningLaws, IsOwn}
 use Rattle.lower.specs.Numbering.{function_offset}
 use Rattle.lower.proofs.HeapObjects.{words_front, words_back, bytes_append}
 use Rattle.lower.proofs.WordOperations.{added_there}
@@ -64,31 +64,41 @@ pub group_bytes : (address : ℕ → ℕ) (first others : ℕ) (words : List ℕ
     → bytes_of_all (group_objects address first others words) ≡ 8 * (2 + length words + 2 * others)
 group_bytes address first others words = let z = other_bytes address first 0 others in omega (arith, z)
 
--- ---- each is whole
+-- ---- each is one that the test lets through
 
 at_least_one : (n : ℕ) → nat_le 1 (suc n) ≡ true
 at_least_one n = grind arith
 
-whole_closure : (l : Layout) (before : List Object) (address : ℕ) (words : List ℕ)
-    → IsWhole l before (Fixed (header 1 0 (suc (length words))) (address ∷ words))
-whole_closure l before address words =
-    WholeOther Closure (suc (length words)) refl refl refl (at_least_one (length words))
+own_closure : (address : ℕ) (words : List ℕ) → IsOwn (Fixed (header 1 0 (suc (length words))) (address ∷ words))
+own_closure address words = record {
+  kind = Closure;
+  count = suc (length words);
+  head = refl;
+  long = refl;
+  free = refl;
+  allowed = at_least_one (length words);
+}
 
-others_whole : (l : Layout) (address : ℕ → ℕ) (before : List Object) (first i n : ℕ)
-    → Wholes l before (other_objects address first i n)
-others_whole l address before first i zero = tt
-others_whole l address before first i (suc n) = (
-  whole_closure l before (address (first + suc i)) [],
-  others_whole l address (before ++ Fixed (header 1 0 1) (address (first + suc i) ∷ []) ∷ []) first (suc i) n,
-)
+others_kept : (meaning : Meaning) (laws : MeaningLaws meaning) (l : Layout) (number : ℕ) (address : ℕ → ℕ)
+    (before : List Object) (first i n : ℕ) → meaning.Keeps l before number
+    → meaning.Keeps l (before ++ other_objects address first i n) number
+others_kept meaning laws l number address before first i zero k =
+    subst (λ os. meaning.Keeps l os number) (sym (append-nil before)) k
+others_kept meaning laws l number address before first i (suc n) k =
+    let o : Object = Fixed (header 1 0 1) (address (first + suc i) ∷ []) in
+    subst (λ os. meaning.Keeps l os number) (append_assoc before (o ∷ []) (other_objects address first (suc i) n))
+    (others_kept meaning laws l number address (before ++ o ∷ []) first (suc i) n
+    (laws.keeps_more l before number o (own_closure (address (first + suc i)) []) k))
 
-pub group_whole : (l : Layout) (address : ℕ → ℕ) (before : List Object) (first others : ℕ) (words : List ℕ)
-    → Wholes l before (group_objects address first others words)
-group_whole l address before first others words = (
-  whole_closure l before (address first) words,
-  others_whole l address (before ++ Fixed (header 1 0 (suc (length words))) (address first ∷ words) ∷ []) first 0
-      others,
-)
+-- the test is kept
+pub group_kept : (meaning : Meaning) (laws : MeaningLaws meaning) (l : Layout) (number : ℕ) (address : ℕ → ℕ)
+    (before : List Object) (first others : ℕ) (words : List ℕ) → meaning.Keeps l before number
+    → meaning.Keeps l (before ++ group_objects address first others words) number
+group_kept meaning laws l number address before first others words k =
+    let o : Object = Fixed (header 1 0 (suc (length words))) (address first ∷ words) in
+    subst (λ os. meaning.Keeps l os number) (append_assoc before (o ∷ []) (other_objects address first 0 others))
+    (others_kept meaning laws l number address (before ++ o ∷ []) first 0 others
+    (laws.keeps_more l before number o (own_closure (address first) words) k))
 
 -- ---- where they stand
 

@@ -2,6 +2,5 @@
 -- where the function has several.
 pub use Rattle.lower.proofs.ClosingPrograms.{lowered_programs_are_closed}
 pub use Rattle.lower.proofs.ClosingSets.{stand_behind}
-pub use Rattle.lower.proofs.MergedServices.{merged_procedures_answer_products, merged_procedures_make_casts}
-pub use Rattle.lower.proofs.MergedServices.{procedures_are_narrow}
-pub use Rattle.lower.proofs.SimulationProgram.{words_follow_procedures-storage, words_follow_procedures-rows}
+pub use Rattle.lower.proofs.MergedProducts.{procedures_are_narrow}
+pub use Rattle.lower.proofs.MergedServing.{words_follow_procedures-storage, words_follow_procedures-rows}

@@ -8,7 +8,6 @@ use Rattle.grift_base.specs.Types.{TypeRow}
 use Rattle.low_ir.specs.Procedures.{Code, Done}
 use Rattle.low_ir.specs.Steps.{Locals, set_local}
 use Rattle.low_ir.specs.Run.{Setting, Waiting as LowWaiting}
-use Rattle.coercion_norm.specs.Coercions.{Coercion}
 use Rattle.coercion_norm.specs.ValueSteps.{CastFrame, ProjFrame, PrimFrame, EnterFrame, OwnFrame}
 use Rattle.flat_ir.specs.Bodies.{Proc}
 use Rattle.flat_ir.specs.Machine.{FlatValue, FlatFrame, Group, Locals as FlatLocals, Waiting}
@@ -20,7 +19,9 @@ use Rattle.lower.specs.declared.served.Served.{Served}
 use Rattle.lower.specs.Numbering.{own_word, local_word}
 use Rattle.lower.specs.Emit.{Then, ToCaller, Into}
 use Rattle.lower.specs.RelatedStates.{Carried, OwnGroup, Knows, Rest, Callers}
-use Rattle.lower.proofs.CarriedLater.{group_later, later, all_later}
+use Rattle.std.specs.Prelude.{slice_get}
+use Rattle.lower.proofs.CarriedLater.{group_grown, grown, all_grown}
+use Rattle.lower.specs.Meanings.{Meaning, MeaningLaws}
 
 -- ---- words
 
@@ -87,18 +88,18 @@ pub same_then : (s : Shape) (depth : ℕ) (a b c : Locals) → SameNamed s depth
 same_then s depth a b c p q i named = q i named ∙ p i named
 
 module _ (setting : Setting) (l : Layout) (run : Served) (procs : List Proc) (answer : TypeRow)
-    (MayWrap : Coercion → Type 0) (places : List ℕ) where
+    (meaning : Meaning) (laws : MeaningLaws meaning) (places : List ℕ) where
   module _ (objects : List Object) where
-    abbrev KnowsHere : Shape → ℕ → Group Coercion → ℕ → FlatLocals Coercion → Locals → Type 0
+    abbrev KnowsHere : Shape → ℕ → Group meaning.Cast → ℕ → FlatLocals meaning.Cast → Locals → Type 0
     KnowsHere s count group depth locals words =
-        Knows setting l run procs answer MayWrap places objects s count group depth locals words
+        Knows setting l run procs answer meaning places objects s count group depth locals words
 
-    abbrev RestHere : (List (FlatFrame Coercion) → Type 0) → Shape → ℕ → ℕ → Group Coercion → ℕ
-        → List (FlatFrame Coercion) → Then → List Code → Locals → Type 0
+    abbrev RestHere : (List (FlatFrame meaning.Cast) → Type 0) → Shape → ℕ → ℕ → Group meaning.Cast → ℕ
+        → List (FlatFrame meaning.Cast) → Then → List Code → Locals → Type 0
     RestHere P s count size group depth frames next rests words =
-        Rest setting l run procs answer MayWrap places objects P s count size group depth frames next rests words
+        Rest setting l run procs answer meaning places objects P s count size group depth frames next rests words
 
-    pub knows_same : (s : Shape) (count : ℕ) (group : Group Coercion) (depth : ℕ) (locals : FlatLocals Coercion)
+    pub knows_same : (s : Shape) (count : ℕ) (group : Group meaning.Cast) (depth : ℕ) (locals : FlatLocals meaning.Cast)
         (words new : Locals) → SameNamed s depth words new → KnowsHere s count group depth locals words
         → KnowsHere s count group depth locals new
     knows_same s count group depth locals words new same k = record {
@@ -109,8 +110,9 @@ module _ (setting : Setting) (l : Layout) (run : Served) (procs : List Proc) (an
           let z = k.local i lt in (z.0, same (local_word s i) (named_local s depth i lt) ∙ z.1, z.2);
     }
 
-    pub rest_same : (P : List (FlatFrame Coercion) → Type 0) (s : Shape) (count size : ℕ) (group : Group Coercion)
-        (depth : ℕ) (frames : List (FlatFrame Coercion)) (next : Then) (rests : List Code) (words new : Locals)
+    pub rest_same : (P : List (FlatFrame meaning.Cast) → Type 0) (s : Shape) (count size : ℕ)
+        (group : Group meaning.Cast)
+        (depth : ℕ) (frames : List (FlatFrame meaning.Cast)) (next : Then) (rests : List Code) (words new : Locals)
         → SameNamed s depth words new → RestHere P s count size group depth frames next rests words
         → RestHere P s count size group depth frames next rests new
     rest_same P s count size group depth frames ToCaller rests words new same r = r
@@ -139,8 +141,9 @@ module _ (setting : Setting) (l : Layout) (run : Served) (procs : List Proc) (an
     rest_same P s count size group depth (PrimFrame op done ∷ frames) (Into d k) rests words new same r = r
     rest_same P s count size group depth (EnterFrame f done todo ∷ frames) (Into d k) rests words new same r = r
 
-    pub rest_deeper : (P : List (FlatFrame Coercion) → Type 0) (s : Shape) (count size : ℕ) (group : Group Coercion)
-        (depth more : ℕ) (frames : List (FlatFrame Coercion)) (next : Then) (rests : List Code) (words : Locals)
+    pub rest_deeper : (P : List (FlatFrame meaning.Cast) → Type 0) (s : Shape) (count size : ℕ)
+        (group : Group meaning.Cast)
+        (depth more : ℕ) (frames : List (FlatFrame meaning.Cast)) (next : Then) (rests : List Code) (words : Locals)
         → depth ≤ more → RestHere P s count size group depth frames next rests words
         → RestHere P s count size group more frames next rests words
     rest_deeper P s count size group depth more frames ToCaller rests words le r = r
@@ -169,8 +172,9 @@ module _ (setting : Setting) (l : Layout) (run : Served) (procs : List Proc) (an
     rest_deeper P s count size group depth more (EnterFrame f done todo ∷ frames) (Into d k) rests words le r = r
 
     -- in a branch, behind which stands what stood behind the place before
-    pub rest_branch : (P : List (FlatFrame Coercion) → Type 0) (s : Shape) (count size : ℕ) (group : Group Coercion)
-        (depth : ℕ) (frames : List (FlatFrame Coercion)) (d : ℕ) (k : Code) (rests : List Code) (words : Locals)
+    pub rest_branch : (P : List (FlatFrame meaning.Cast) → Type 0) (s : Shape) (count size : ℕ)
+        (group : Group meaning.Cast)
+        (depth : ℕ) (frames : List (FlatFrame meaning.Cast)) (d : ℕ) (k : Code) (rests : List Code) (words : Locals)
         → RestHere P s count size group depth frames (Into d k) rests words
         → RestHere P s count size group depth frames (Into d Done) (k ∷ rests) words
     rest_branch P s count size group depth [] d k rests words r = r
@@ -197,9 +201,9 @@ module _ (setting : Setting) (l : Layout) (run : Served) (procs : List Proc) (an
     rest_branch P s count size group depth (EnterFrame f done todo ∷ frames) d k rests words r = r
 
     -- a new local name in a word of its own
-    pub knows_more : (s : Shape) (count : ℕ) (group : Group Coercion) (slot : ℕ) (locals : FlatLocals Coercion)
-        (words : Locals) (v : FlatValue Coercion) (w : ℕ) → words (local_word s slot) ≡ Some w
-        → Carried setting l run procs answer MayWrap places objects v w → KnowsHere s count group slot locals words
+    pub knows_more : (s : Shape) (count : ℕ) (group : Group meaning.Cast) (slot : ℕ) (locals : FlatLocals meaning.Cast)
+        (words : Locals) (v : FlatValue meaning.Cast) (w : ℕ) → words (local_word s slot) ≡ Some w
+        → Carried setting l run procs answer meaning places objects v w → KnowsHere s count group slot locals words
         → KnowsHere s count group (suc slot) (set_flat locals slot v) words
     knows_more s count group slot locals words v w e c k = record {
       own = k.own;
@@ -208,8 +212,8 @@ module _ (setting : Setting) (l : Layout) (run : Served) (procs : List Proc) (an
       local = λ i lt. by_test i lt (nat_eq i slot) refl;
     }
       where
-        C : FlatValue Coercion → ℕ → Type 0
-        C u x = Carried setting l run procs answer MayWrap places objects u x
+        C : FlatValue meaning.Cast → ℕ → Type 0
+        C u x = Carried setting l run procs answer meaning places objects u x
 
         by_test : (i : ℕ) → i < suc slot → (b : Bool) → nat_eq i slot ≡ b
             → (x : ℕ) × (words (local_word s i) ≡ Some x) × C (set_flat locals slot v i) x
@@ -224,84 +228,117 @@ module _ (setting : Setting) (l : Layout) (run : Served) (procs : List Proc) (an
             let z = k.local i (omega (arith, lt, ne)) in
             (z.0, z.1, subst (λ u. C u z.0) (sym (ap (λ y. cond y v (locals i)) b)) z.2)
 
-  -- ---- objects that are added
+-- ---- objects and cells that are added
 
-  module _ (objects more : List Object) where
-    pub own_later : (s : Shape) (count : ℕ) (group : Group Coercion) (own : ℕ)
-        → OwnGroup setting l run procs answer MayWrap places objects s count group own
-        → OwnGroup setting l run procs answer MayWrap places (objects ++ more) s count group own
-    own_later s count group own g = record {
-      leader = g.leader;
-      words = g.words;
-      is = g.is;
-      long = g.long;
-      inside = g.inside;
-      stands =
-          group_later l setting.address procs MayWrap places objects more group.first g.leader count g.words g.stands;
-      carried = all_later l setting.address procs MayWrap places objects more group.captured g.words g.carried;
-    }
+module _ (setting : Setting) (l : Layout) (run : Served) (procs : List Proc) (answer : TypeRow)
+    (meaning : Meaning) (laws : MeaningLaws meaning) (places bigger : List ℕ)
+    (kept : (i w : ℕ) → slice_get places i ≡ Some w → slice_get bigger i ≡ Some w) (objects more : List Object) where
+  pub own_grown : (s : Shape) (count : ℕ) (group : Group meaning.Cast) (own : ℕ)
+      → OwnGroup setting l run procs answer meaning places objects s count group own
+      → OwnGroup setting l run procs answer meaning bigger (objects ++ more) s count group own
+  own_grown s count group own g = record {
+    leader = g.leader;
+    words = g.words;
+    is = g.is;
+    long = g.long;
+    inside = g.inside;
+    stands =
+        group_grown l setting.address procs meaning laws places bigger kept objects more group.first g.leader count
+        g.words g.stands;
+    carried = all_grown l setting.address procs meaning laws places bigger kept objects more group.captured g.words
+        g.carried;
+  }
 
-    pub knows_later : (s : Shape) (count : ℕ) (group : Group Coercion) (depth : ℕ) (locals : FlatLocals Coercion)
-        (words : Locals) → KnowsHere objects s count group depth locals words
-        → KnowsHere (objects ++ more) s count group depth locals words
-    knows_later s count group depth locals words k = record {
-      own = k.own;
-      own_is = k.own_is;
-      own_group = by_own k.own_group;
-      local = λ i lt.
-          let z = k.local i lt in
-          (z.0, z.1, later l setting.address procs MayWrap places objects more (locals i) z.0 z.2);
-    }
-      where
-        by_own : ((s.captured ≡ 0) × (count ≡ 0))
-            ⊎ OwnGroup setting l run procs answer MayWrap places objects s count group k.own
-            → ((s.captured ≡ 0) × (count ≡ 0))
-            ⊎ OwnGroup setting l run procs answer MayWrap places (objects ++ more) s count group k.own
-        by_own (inl e) = inl e
-        by_own (inr g) = inr (own_later s count group k.own g)
+  pub knows_grown : (s : Shape) (count : ℕ) (group : Group meaning.Cast) (depth : ℕ) (locals : FlatLocals meaning.Cast)
+      (words : Locals) → Knows setting l run procs answer meaning places objects s count group depth locals words
+      → Knows setting l run procs answer meaning bigger (objects ++ more) s count group depth locals words
+  knows_grown s count group depth locals words k = record {
+    own = k.own;
+    own_is = k.own_is;
+    own_group = by_own k.own_group;
+    local = λ i lt.
+        let z = k.local i lt in
+        (z.0, z.1, grown l setting.address procs meaning laws places bigger kept objects more (locals i) [] z.0 z.2);
+  }
+    where
+      by_own : ((s.captured ≡ 0) × (count ≡ 0))
+          ⊎ OwnGroup setting l run procs answer meaning places objects s count group k.own
+          → ((s.captured ≡ 0) × (count ≡ 0))
+          ⊎ OwnGroup setting l run procs answer meaning bigger (objects ++ more) s count group k.own
+      by_own (inl e) = inl e
+      by_own (inr g) = inr (own_grown s count group k.own g)
 
-    pub rest_later : (P Q : List (FlatFrame Coercion) → Type 0) → ((frames : List (FlatFrame Coercion)) → P frames
-        → Q frames) → (s : Shape) (count size : ℕ) (group : Group Coercion) (depth : ℕ)
-        (frames : List (FlatFrame Coercion)) (next : Then) (rests : List Code) (words : Locals)
-        → RestHere objects P s count size group depth frames next rests words
-        → RestHere (objects ++ more) Q s count size group depth frames next rests words
-    rest_later P Q f s count size group depth frames ToCaller rests words r = f frames r
-    rest_later P Q f s count size group depth [] (Into d k) rests words r = r
-    rest_later P Q f s count size group depth (OwnFrame (Waiting slot rest locals other) ∷ frames) (Into d k) rests
-        words r = (
-          record {
-            params = r.0.params;
-            deep = r.0.deep;
-            word = r.0.word;
-            same = r.0.same;
-            bound = r.0.bound;
-            covered = r.0.covered;
-            room = r.0.room;
-            knows = knows_later s count group slot locals words r.0.knows;
-          },
-          r.1,
-          r.2,
-          r.3,
-          r.4,
-          rest_later P Q f s count size group slot frames r.1 r.2 words r.5,
-        )
-    rest_later P Q f s count size group depth (CastFrame c ∷ frames) (Into d k) rests words r = r
-    rest_later P Q f s count size group depth (ProjFrame i ∷ frames) (Into d k) rests words r = r
-    rest_later P Q f s count size group depth (PrimFrame op done ∷ frames) (Into d k) rests words r = r
-    rest_later P Q f s count size group depth (EnterFrame g done todo ∷ frames) (Into d k) rests words r = r
+  pub rest_grown : (P Q : List (FlatFrame meaning.Cast) → Type 0) → ((frames : List (FlatFrame meaning.Cast)) → P frames
+      → Q frames) → (s : Shape) (count size : ℕ) (group : Group meaning.Cast) (depth : ℕ)
+      (frames : List (FlatFrame meaning.Cast)) (next : Then) (rests : List Code) (words : Locals)
+      → Rest setting l run procs answer meaning places objects P s count size group depth frames next rests words
+      → Rest setting l run procs answer meaning bigger (objects ++ more) Q s count size group depth frames next rests
+      words
+  rest_grown P Q f s count size group depth frames ToCaller rests words r = f frames r
+  rest_grown P Q f s count size group depth [] (Into d k) rests words r = r
+  rest_grown P Q f s count size group depth (OwnFrame (Waiting slot rest locals other) ∷ frames) (Into d k) rests
+      words r = (
+        record {
+          params = r.0.params;
+          deep = r.0.deep;
+          word = r.0.word;
+          same = r.0.same;
+          bound = r.0.bound;
+          covered = r.0.covered;
+          room = r.0.room;
+          knows = knows_grown s count group slot locals words r.0.knows;
+        },
+        r.1,
+        r.2,
+        r.3,
+        r.4,
+        rest_grown P Q f s count size group slot frames r.1 r.2 words r.5,
+      )
+  rest_grown P Q f s count size group depth (CastFrame c ∷ frames) (Into d k) rests words r = r
+  rest_grown P Q f s count size group depth (ProjFrame i ∷ frames) (Into d k) rests words r = r
+  rest_grown P Q f s count size group depth (PrimFrame op done ∷ frames) (Into d k) rests words r = r
+  rest_grown P Q f s count size group depth (EnterFrame g done todo ∷ frames) (Into d k) rests words r = r
 
-    pub callers_later : (waiting : List LowWaiting) (frames : List (FlatFrame Coercion))
-        → Callers setting l run procs answer MayWrap places objects waiting frames
-        → Callers setting l run procs answer MayWrap places (objects ++ more) waiting frames
-    callers_later [] frames c = c
-    callers_later (w ∷ ws) frames (inl e) = inl e
-    callers_later (w ∷ ws) frames (inr r) = inr (
-      r.0,
-      r.1,
-      r.2,
-      r.3,
-      rest_later (Callers setting l run procs answer MayWrap places objects ws)
-          (Callers setting l run procs answer MayWrap places (objects ++ more) ws)
-          (λ fs c. callers_later ws fs c) r.0 r.1 w.rest.count r.2 r.3 frames (Into w.answer w.rest.code) w.rest.rests
-          w.rest.locals r.4,
-    )
+  pub callers_grown : (waiting : List LowWaiting) (frames : List (FlatFrame meaning.Cast))
+      → Callers setting l run procs answer meaning places objects waiting frames
+      → Callers setting l run procs answer meaning bigger (objects ++ more) waiting frames
+  callers_grown [] frames c = c
+  callers_grown (w ∷ ws) frames (inl e) = inl e
+  callers_grown (w ∷ ws) frames (inr (inl r)) = inr (inl (
+    r.0,
+    r.1,
+    r.2,
+    r.3,
+    rest_grown (Callers setting l run procs answer meaning places objects ws)
+        (Callers setting l run procs answer meaning bigger (objects ++ more) ws)
+        (λ fs c. callers_grown ws fs c) r.0 r.1 w.rest.count r.2 r.3 frames (Into w.answer w.rest.code) w.rest.rests
+        w.rest.locals r.4,
+  ))
+  callers_grown (w ∷ ws) frames (inr (inr r)) = inr (inr (
+    r.0,
+    r.1,
+    r.2,
+    r.3,
+    laws.resumes_later setting l objects more w (r.0 ∷ r.1) r.4,
+    callers_grown ws r.2 r.5,
+  ))
+
+module _ (setting : Setting) (l : Layout) (run : Served) (procs : List Proc) (answer : TypeRow)
+    (meaning : Meaning) (laws : MeaningLaws meaning) (places : List ℕ) (objects more : List Object) where
+  pub knows_later : (s : Shape) (count : ℕ) (group : Group meaning.Cast) (depth : ℕ) (locals : FlatLocals meaning.Cast)
+      (words : Locals) → Knows setting l run procs answer meaning places objects s count group depth locals words
+      → Knows setting l run procs answer meaning places (objects ++ more) s count group depth locals words
+  knows_later = knows_grown setting l run procs answer meaning laws places places (λ i w e. e) objects more
+
+  pub rest_later : (P Q : List (FlatFrame meaning.Cast) → Type 0) → ((frames : List (FlatFrame meaning.Cast)) → P frames
+      → Q frames) → (s : Shape) (count size : ℕ) (group : Group meaning.Cast) (depth : ℕ)
+      (frames : List (FlatFrame meaning.Cast)) (next : Then) (rests : List Code) (words : Locals)
+      → Rest setting l run procs answer meaning places objects P s count size group depth frames next rests words
+      → Rest setting l run procs answer meaning places (objects ++ more) Q s count size group depth frames next rests
+      words
+  rest_later = rest_grown setting l run procs answer meaning laws places places (λ i w e. e) objects more
+
+  pub callers_later : (waiting : List LowWaiting) (frames : List (FlatFrame meaning.Cast))
+      → Callers setting l run procs answer meaning places objects waiting frames
+      → Callers setting l run procs answer meaning places (objects ++ more) waiting frames
+  callers_later = callers_grown setting l run procs answer meaning laws places places (λ i w e. e) objects more

@@ -20,7 +20,6 @@ use Rattle.low_ir.specs.Procedures.{Code, Return as ReturnCode}
 use Rattle.low_ir.specs.Steps.{Locals, no_locals, set_local}
 use Rattle.low_ir.specs.Run.{LowState, word_of}
 use Rattle.coercion_norm.specs.AnswerTypes.{fits_type, run_head, row_has_head}
-use Rattle.coercion_norm.specs.Coercions.{Coercion}
 use Rattle.coercion_norm.specs.RunValues.{RunInt, RunBool, RunUnit, RunFun, RunTuple, RunLoc, RunWrap, RunInject, shown}
 use Rattle.coercion_norm.specs.ValueSteps.{Return}
 use Rattle.flat_ir.specs.Machine.{FlatValue, FlatStore, FlatState, flat_arity, flat_state_at}
@@ -41,7 +40,8 @@ use Rattle.lower.proofs.HeapFilled.{word_there, header_there}
 use Rattle.lower.proofs.WordSteps.{Comes, Calm, here, loads, computes, if_true, if_false, falls_through, comes_back}
 use Rattle.lower.proofs.RelationKept.{word_other}
 use Rattle.coercion_norm.specs.Objects.{Object}
-use Rattle.rt_cast.specs.States.{Heap, Filled}
+use Rattle.rt_cast.specs.States.{Heap}
+use Rattle.lower.specs.Storage.{Filled}
 use Rattle.lower.specs.Lowered.{show_by, ends}
 use Rattle.lower.specs.RelatedStates.{entry_waiting}
 use Rattle.lower.proofs.WordSteps.{at}
@@ -50,6 +50,7 @@ use Rattle.lower.proofs.RelationKept.{word_here}
 use Rattle.lower.proofs.WordOperands.{and_true}
 use Rattle.lower.proofs.SimulationWay.{Program, Seen, Stopping, Settled, Filling}
 use Rattle.lower.proofs.SimulationGives.{CarriedHere}
+use Rattle.lower.specs.CarriedValues.{CarriedIn}
 
 calls_ending : (kind x labels : ℕ) (world : WorldState)
     → environment_call 0 kind x labels world ≡ record { effect = ends_call kind x; world = world }
@@ -70,8 +71,9 @@ row_head (x ∷ types) (suc type) head e = row_head types type head e
 
 module _ (program : Program) (typed : TypesStand program.l) (places : List ℕ) (objects : List Object) (h : Heap)
     (world : WorldState)
-    (filled : Filled program.setting program.l objects h) (store : FlatStore Coercion) (v : FlatValue Coercion) where
-  abbrev f : FlatState Coercion
+    (filled : Filled program.meaning program.setting program.l program.number objects h)
+    (store : FlatStore program.meaning.Cast) (v : FlatValue program.meaning.Cast) where
+  abbrev f : FlatState program.meaning.Cast
   f = flat_state_at program.procs program.told (Return v) [] store world
 
   seen : (t : LowState) → t.world ≡ world → Filling program t → Seen program f t
@@ -127,8 +129,12 @@ module _ (program : Program) (typed : TypesStand program.l) (places : List ℕ) 
         e refl other
         (falls_through program.setting (Seen program f) (Stopping program f (EndsWith (AnswerVerdict a))) calm c)
 
+  abbrev CarriedInHere : FlatValue program.meaning.Cast → List program.meaning.Cast → ℕ → Type 0
+  CarriedInHere u casts w =
+      CarriedIn program.l program.setting.address program.procs program.meaning places objects u casts w
+
   -- a value can be the answer of a type of this row
-  abbrev FitsRow : TypeRow → FlatValue Coercion → Type 0
+  abbrev FitsRow : TypeRow → FlatValue program.meaning.Cast → Type 0
   FitsRow answer (RunInject u kept) =
       (equal_heads DynHead (head_of answer) ≡ true)
       × (equal_heads (run_head (flat_arity program.procs) u) (head_of (rows_in program.l kept)) ≡ true)
@@ -141,47 +147,51 @@ module _ (program : Program) (typed : TypesStand program.l) (places : List ℕ) 
       equal_heads (run_head (flat_arity program.procs) (RunTuple values)) (head_of answer) ≡ true
   FitsRow answer (RunLoc cell is_vector) =
       equal_heads (if is_vector then VectHead else RefHead) (head_of answer) ≡ true
-  FitsRow answer (RunWrap v cast) = Unit {0}
+  FitsRow answer (RunWrap v cast) = FitsRow answer v
 
   -- what is in Dyn, by the row of the type that is kept
   -- what is in Dyn, by the row of the type that is kept
-  shows_kept : (row : TypeRow) → is_dyn row ≡ false → (u : FlatValue Coercion) (w : ℕ)
-      → CarriedHere program places objects u w
+  shows_kept : (row : TypeRow) → is_dyn row ≡ false → (u : FlatValue program.meaning.Cast)
+      (casts : List program.meaning.Cast) (w : ℕ) → CarriedInHere u casts w
       → equal_heads (run_head (flat_arity program.procs) u) (head_of row) ≡ true → (words : Locals)
       → words 1 ≡ Some (type_kind row) → words 2 ≡ Some w → Shows (shown u) [] words show_kept
-  shows_kept DynRow solid u w c e words kind is = true_false (sym solid)
-  shows_kept IntRow solid (RunInt n) w c e words kind is =
+  shows_kept DynRow solid u casts w c e words kind is = true_false (sym solid)
+  shows_kept IntRow solid (RunInt n) (cast ∷ casts) w c e words kind is = absurd c
+  shows_kept IntRow solid (RunInt n) [] w c e words kind is =
       let a : AnAnswer = record { kind = Int; word = n } in
       takes a 16 _ _ words kind refl
       (ended a 0 (Word 2) w words _ is (ap (λ z. Answers (record { kind = Int; word = z }))
       (ap (cast_signed w64) c.0 ∙ word_read n c.1)))
-  shows_kept BoolRow solid (RunBool true) w c e words kind is =
+  shows_kept BoolRow solid (RunBool true) (cast ∷ casts) w c e words kind is = absurd c
+  shows_kept BoolRow solid (RunBool true) [] w c e words kind is =
       skips (record { kind = Truth; word = pos 1 }) 16 17 _ _ words kind refl
       (takes (record { kind = Truth; word = pos 1 }) 17 _ _ words kind refl
       (ended (record { kind = Truth; word = pos 1 }) 1 (Word 2) 1 words _ (is ∙ ap Some c) refl))
-  shows_kept BoolRow solid (RunBool false) w c e words kind is =
+  shows_kept BoolRow solid (RunBool false) (cast ∷ casts) w c e words kind is = absurd c
+  shows_kept BoolRow solid (RunBool false) [] w c e words kind is =
       skips (record { kind = Truth; word = pos 0 }) 16 17 _ _ words kind refl
       (takes (record { kind = Truth; word = pos 0 }) 17 _ _ words kind refl
       (ended (record { kind = Truth; word = pos 0 }) 1 (Word 2) 0 words _ (is ∙ ap Some c) refl))
-  shows_kept UnitRow solid RunUnit w c e words kind is =
+  shows_kept UnitRow solid RunUnit (cast ∷ casts) w c e words kind is = absurd c
+  shows_kept UnitRow solid RunUnit [] w c e words kind is =
       skips (record { kind = UnitKind; word = pos 0 }) 16 18 _ _ words kind refl
       (skips (record { kind = UnitKind; word = pos 0 }) 17 18 _ _ words kind refl
       (takes (record { kind = UnitKind; word = pos 0 }) 18 _ _ words kind refl
       (ended (record { kind = UnitKind; word = pos 0 }) 2 (Number 0) 0 words _ (refl) refl)))
-  shows_kept (FunRow parameters answer) solid (RunFun code captured) w c e words kind is =
+  shows_kept (FunRow parameters answer) solid (RunFun code captured) casts w c e words kind is =
       skips (record { kind = Function; word = pos 0 }) 16 20 _ _ words kind refl
       (skips (record { kind = Function; word = pos 0 }) 17 20 _ _ words kind refl
       (skips (record { kind = Function; word = pos 0 }) 18 20 _ _ words kind refl
       (takes (record { kind = Function; word = pos 0 }) 20 _ _ words kind refl
       (ended (record { kind = Function; word = pos 0 }) 3 (Number 0) 0 words _ (refl) refl))))
-  shows_kept (TupleRow parts) solid (RunTuple values) w c e words kind is =
+  shows_kept (TupleRow parts) solid (RunTuple values) casts w c e words kind is =
       skips (record { kind = TupleKind; word = pos 0 }) 16 21 _ _ words kind refl
       (skips (record { kind = TupleKind; word = pos 0 }) 17 21 _ _ words kind refl
       (skips (record { kind = TupleKind; word = pos 0 }) 18 21 _ _ words kind refl
       (skips (record { kind = TupleKind; word = pos 0 }) 20 21 _ _ words kind refl
       (takes (record { kind = TupleKind; word = pos 0 }) 21 _ _ words kind refl
       (ended (record { kind = TupleKind; word = pos 0 }) 4 (Number 0) 0 words _ (refl) refl)))))
-  shows_kept (RefRow content) solid (RunLoc cell false) w c e words kind is =
+  shows_kept (RefRow content) solid (RunLoc cell false) casts w c e words kind is =
       skips (record { kind = Boxed; word = pos 0 }) 16 22 _ _ words kind refl
       (skips (record { kind = Boxed; word = pos 0 }) 17 22 _ _ words kind refl
       (skips (record { kind = Boxed; word = pos 0 }) 18 22 _ _ words kind refl
@@ -189,7 +199,7 @@ module _ (program : Program) (typed : TypesStand program.l) (places : List ℕ) 
       (skips (record { kind = Boxed; word = pos 0 }) 21 22 _ _ words kind refl
       (takes (record { kind = Boxed; word = pos 0 }) 22 _ _ words kind refl
       (ended (record { kind = Boxed; word = pos 0 }) 5 (Number 0) 0 words _ (refl) refl))))))
-  shows_kept (VectRow content) solid (RunLoc cell true) w c e words kind is =
+  shows_kept (VectRow content) solid (RunLoc cell true) casts w c e words kind is =
       skips (record { kind = Vector; word = pos 0 }) 16 23 _ _ words kind refl
       (skips (record { kind = Vector; word = pos 0 }) 17 23 _ _ words kind refl
       (skips (record { kind = Vector; word = pos 0 }) 18 23 _ _ words kind refl
@@ -197,10 +207,11 @@ module _ (program : Program) (typed : TypesStand program.l) (places : List ℕ) 
       (skips (record { kind = Vector; word = pos 0 }) 21 23 _ _ words kind refl
       (skips (record { kind = Vector; word = pos 0 }) 22 23 _ _ words kind refl
       (ended (record { kind = Vector; word = pos 0 }) 6 (Number 0) 0 words _ (refl) refl))))))
-  shows_kept row solid (RunLoc cell true) w c e words kind is = true_false e
-  shows_kept row solid (RunLoc cell false) w c e words kind is = true_false e
-  shows_kept row solid (RunWrap v cast) w c e words kind is = absurd c.2
-  shows_kept row solid v w c e words kind is = true_false e
+  shows_kept row solid (RunLoc cell true) casts w c e words kind is = true_false e
+  shows_kept row solid (RunLoc cell false) casts w c e words kind is = true_false e
+  shows_kept row solid (RunWrap v cast) casts w c e words kind is =
+      shows_kept row solid v (cast ∷ casts) w c e words kind is
+  shows_kept row solid v casts w c e words kind is = true_false e
 
   kind_told : (k height n : ℕ) → k < 256 → compute And (k + height * 65536 + n * 4294967296) 255 ≡ k
   kind_told k height n lt = and_mask (k + height * 65536 + n * 4294967296) 8 ∙ omega arith
@@ -216,7 +227,8 @@ module _ (program : Program) (typed : TypesStand program.l) (places : List ℕ) 
   few_kinds (VectRow content) = omega arith
 
   -- a value in Dyn
-  shows_dyn : (u : FlatValue Coercion) (kept w : ℕ) → CarriedHere program places objects (RunInject u kept) w
+  shows_dyn : (u : FlatValue program.meaning.Cast) (kept w : ℕ)
+      → CarriedHere program places objects (RunInject u kept) w
       → equal_heads (run_head (flat_arity program.procs) u) (head_of (rows_in program.l kept)) ≡ true
       → (words : Locals) → words 0 ≡ Some w → Shows (shown u) [] words (show_by DynRow)
   shows_dyn u kept w c fit words is =
@@ -226,11 +238,13 @@ module _ (program : Program) (typed : TypesStand program.l) (places : List ℕ) 
       let row = rows_in program.l kept in
       let head = header (type_kind (rows_in program.l kept)) (height_in program.l kept)
       (length (parts_of (rows_in program.l kept))) in
-      let type_there = word_there program.setting program.l program.placed objects h filled w (header 3 0 2)
+      let type_there = word_there program.meaning program.setting program.l program.placed objects h filled w
+      (header 3 0 2)
       (c.0 ∷ c.1 ∷ []) c.2 1 c.0 (w + 8) refl (omega arith) in
-      let inner_there = word_there program.setting program.l program.placed objects h filled w (header 3 0 2)
+      let inner_there = word_there program.meaning program.setting program.l program.placed objects h filled w
+      (header 3 0 2)
       (c.0 ∷ c.1 ∷ []) c.2 2 c.1 (w + 16) refl (omega arith) in
-      let head_there = header_there program.setting program.l program.placed objects h filled c.0
+      let head_there = header_there program.meaning program.setting program.l program.placed objects h filled c.0
       (type_object program.l kept)
       (subst (λ n. There program.l objects n (type_object program.l kept)) (sym c.3.is)
       (inl (typed.stands kept c.3.known))) in
@@ -254,44 +268,50 @@ module _ (program : Program) (typed : TypesStand program.l) (places : List ℕ) 
       (length (parts_of (rows_in program.l kept))) (few_kinds (rows_in program.l kept))) (omega arith)
       (loads program.setting P Q (calm a) w c.1 still inner_there.may inner_there.is
       (let z = inner_there.end in omega arith) (omega arith)
-      (shows_kept (rows_in program.l kept) c.5 u c.1 c.6 fit four
+      (shows_kept (rows_in program.l kept) c.5 u [] c.1 c.6 fit four
       (word_other 2 c.1 three 1 (λ e. omega (arith, e)) ∙ word_here 1 (type_kind (rows_in program.l kept)) two)
       (word_here 2 c.1 three)))))
 
   -- by the row of the answer's type
-  shows : (answer : TypeRow) → (v : FlatValue Coercion) (w : ℕ) → CarriedHere program places objects v w
+  shows : (answer : TypeRow) → (v : FlatValue program.meaning.Cast) (casts : List program.meaning.Cast) (w : ℕ)
+      → CarriedInHere v casts w
       → FitsRow answer v → (words : Locals) → words 0 ≡ Some w → Shows (shown v) [] words (show_by answer)
-  shows DynRow (RunInject u kept) w c e words is = shows_dyn u kept w c e.1 words is
-  shows DynRow (RunInt n) w c e words is = true_false e
-  shows DynRow (RunBool b) w c e words is = true_false e
-  shows DynRow RunUnit w c e words is = true_false e
-  shows DynRow (RunFun code captured) w c e words is = true_false e
-  shows DynRow (RunTuple values) w c e words is = true_false e
-  shows DynRow (RunLoc cell true) w c e words is = true_false e
-  shows DynRow (RunLoc cell false) w c e words is = true_false e
-  shows answer (RunInject u kept) w c e words is = true_false e.0
-  shows IntRow (RunInt n) w c e words is =
+  shows answer (RunWrap v cast) casts w c e words is = shows answer v (cast ∷ casts) w c e words is
+  shows DynRow (RunInject u kept) (cast ∷ casts) w c e words is = absurd c
+  shows DynRow (RunInject u kept) [] w c e words is = shows_dyn u kept w c e.1 words is
+  shows DynRow (RunInt n) casts w c e words is = true_false e
+  shows DynRow (RunBool b) casts w c e words is = true_false e
+  shows DynRow RunUnit casts w c e words is = true_false e
+  shows DynRow (RunFun code captured) casts w c e words is = true_false e
+  shows DynRow (RunTuple values) casts w c e words is = true_false e
+  shows DynRow (RunLoc cell true) casts w c e words is = true_false e
+  shows DynRow (RunLoc cell false) casts w c e words is = true_false e
+  shows answer (RunInject u kept) casts w c e words is = true_false e.0
+  shows IntRow (RunInt n) (cast ∷ casts) w c e words is = absurd c
+  shows IntRow (RunInt n) [] w c e words is =
       let a : AnAnswer = record { kind = Int; word = n } in
       ended a 0 (Word 0) w words [] is (ap (λ z. Answers (record { kind = Int; word = z }))
       (ap (cast_signed w64) c.0 ∙ word_read n c.1))
-  shows BoolRow (RunBool true) w c e words is =
+  shows BoolRow (RunBool true) (cast ∷ casts) w c e words is = absurd c
+  shows BoolRow (RunBool true) [] w c e words is =
       ended (record { kind = Truth; word = pos 1 }) 1 (Word 0) 1 words [] (is ∙ ap Some c) refl
-  shows BoolRow (RunBool false) w c e words is =
+  shows BoolRow (RunBool false) (cast ∷ casts) w c e words is = absurd c
+  shows BoolRow (RunBool false) [] w c e words is =
       ended (record { kind = Truth; word = pos 0 }) 1 (Word 0) 0 words [] (is ∙ ap Some c) refl
-  shows UnitRow RunUnit w c e words is =
+  shows UnitRow RunUnit (cast ∷ casts) w c e words is = absurd c
+  shows UnitRow RunUnit [] w c e words is =
       ended (record { kind = UnitKind; word = pos 0 }) 2 (Number 0) 0 words [] refl refl
-  shows (FunRow parameters answer) (RunFun code captured) w c e words is =
+  shows (FunRow parameters answer) (RunFun code captured) casts w c e words is =
       ended (record { kind = Function; word = pos 0 }) 3 (Number 0) 0 words [] refl refl
-  shows (TupleRow parts) (RunTuple values) w c e words is =
+  shows (TupleRow parts) (RunTuple values) casts w c e words is =
       ended (record { kind = TupleKind; word = pos 0 }) 4 (Number 0) 0 words [] refl refl
-  shows (RefRow content) (RunLoc cell false) w c e words is =
+  shows (RefRow content) (RunLoc cell false) casts w c e words is =
       ended (record { kind = Boxed; word = pos 0 }) 5 (Number 0) 0 words [] refl refl
-  shows (VectRow content) (RunLoc cell true) w c e words is =
+  shows (VectRow content) (RunLoc cell true) casts w c e words is =
       ended (record { kind = Vector; word = pos 0 }) 6 (Number 0) 0 words [] refl refl
-  shows answer (RunWrap v cast) w c e words is = absurd c.2
-  shows answer (RunLoc cell true) w c e words is = true_false e
-  shows answer (RunLoc cell false) w c e words is = true_false e
-  shows answer v w c e words is = true_false e
+  shows answer (RunLoc cell true) casts w c e words is = true_false e
+  shows answer (RunLoc cell false) casts w c e words is = true_false e
+  shows answer v casts w c e words is = true_false e
 
   pub answered : (size : ℕ) (rests : List Code) (words : Locals) (source : LowSource) (w : ℕ)
       → word_of words source ≡ Some w → CarriedHere program places objects v w
@@ -306,7 +326,22 @@ module _ (program : Program) (typed : TypesStand program.l) (places : List ℕ) 
           → equal_heads head (head_of program.answer) ≡ true
       row_fits head e = ap (λ o. row_has_head o head) (sym program.answer_is) ∙ e
 
-      fitting : (v : FlatValue Coercion) → CarriedHere program places objects v w
+      wrapped : (u : FlatValue program.meaning.Cast) (cast : program.meaning.Cast) (casts : List program.meaning.Cast)
+          → CarriedInHere u (cast ∷ casts) w
+          → row_has_head (row_at program.told.types program.told.answer) (run_head (flat_arity program.procs) u) ≡ true
+          → FitsRow program.answer u
+      wrapped (RunWrap q other) cast casts c e = wrapped q other (cast ∷ casts) c e
+      wrapped (RunFun code captured) cast casts c e =
+          row_fits (run_head (flat_arity program.procs) (RunFun code captured)) e
+      wrapped (RunTuple values) cast casts c e = row_fits (run_head (flat_arity program.procs) (RunTuple values)) e
+      wrapped (RunLoc cell is_vector) cast casts c e =
+          row_fits (run_head {C = program.meaning.Cast} (flat_arity program.procs) (RunLoc cell is_vector)) e
+      wrapped (RunInt n) cast casts c e = absurd c
+      wrapped (RunBool b) cast casts c e = absurd c
+      wrapped RunUnit cast casts c e = absurd c
+      wrapped (RunInject q kept) cast casts c e = absurd c
+
+      fitting : (v : FlatValue program.meaning.Cast) → CarriedHere program places objects v w
           → fits_type (flat_arity program.procs) program.told.types v program.told.answer ≡ true
           → FitsRow program.answer v
       fitting (RunInject u kept) c e =
@@ -327,7 +362,7 @@ module _ (program : Program) (typed : TypesStand program.l) (places : List ℕ) 
               row_head program.l.types kept head
               (ap (λ rows. row_has_head (row_at rows kept) head) (sym program.types_are) ∙ e)
 
-          inside : (u : FlatValue Coercion) → CarriedHere program places objects u c.1
+          inside : (u : FlatValue program.meaning.Cast) → CarriedHere program places objects u c.1
               → not (row_has_head (row_at program.told.types kept) DynHead) ≡ true
               → fits_type (flat_arity program.procs) program.told.types u kept ≡ true
               → equal_heads (run_head (flat_arity program.procs) u) (head_of (rows_in program.l kept)) ≡ true
@@ -336,7 +371,7 @@ module _ (program : Program) (typed : TypesStand program.l) (places : List ℕ) 
               ∙ (and_true (row_has_head (row_at program.told.types kept) DynHead)
               (not (row_has_head (row_at program.told.types other) DynHead)
               && fits_type (flat_arity program.procs) program.told.types q other) e).0)
-          inside (RunWrap q cast) x solid e = absurd x.2
+          inside (RunWrap q cast) x solid e = kept_fits (run_head (flat_arity program.procs) q) e
           inside (RunInt n) x solid e = kept_fits IntHead e
           inside (RunBool b) x solid e = kept_fits BoolHead e
           inside RunUnit x solid e = kept_fits UnitHead e
@@ -351,8 +386,8 @@ module _ (program : Program) (typed : TypesStand program.l) (places : List ℕ) 
       fitting (RunFun code captured) c e = row_fits (run_head (flat_arity program.procs) (RunFun code captured)) e
       fitting (RunTuple values) c e = row_fits (run_head (flat_arity program.procs) (RunTuple values)) e
       fitting (RunLoc cell is_vector) c e =
-          row_fits (run_head {C = Coercion} (flat_arity program.procs) (RunLoc cell is_vector)) e
-      fitting (RunWrap u cast) c e = absurd c.2
+          row_fits (run_head {C = program.meaning.Cast} (flat_arity program.procs) (RunLoc cell is_vector)) e
+      fitting (RunWrap u cast) c e = wrapped u cast [] c e
 
       by_test : (b : Bool) → fits_type (flat_arity program.procs) program.told.types v program.told.answer ≡ b
           → Settled program f t
@@ -366,7 +401,7 @@ module _ (program : Program) (typed : TypesStand program.l) (places : List ℕ) 
       by_test true e =
           let q = comes_back program.setting (Seen program f) (Stopping program f (EndsWith (AnswerVerdict (shown v))))
           (calm (shown v)) w is (omega arith)
-          (shows program.answer v w c (fitting v c e) (set_local 0 w no_locals) (word_here 0 w no_locals)) in
+          (shows program.answer v [] w c (fitting v c e) (set_local 0 w no_locals) (word_here 0 w no_locals)) in
           inr (record {
             seen = seen t refl (objects, filled);
             e = EndsWith (AnswerVerdict (shown v));

@@ -5,7 +5,6 @@ use Rattle.std.specs.Prelude.{slice_get, ◌==◌, ◌&&◌}
 use Rattle.low_ir.specs.Procedures.{Code, Done}
 use Rattle.low_ir.specs.Steps.{Locals}
 use Rattle.low_ir.specs.Run.{Active, Waiting as LowWaiting, LowState, word_of}
-use Rattle.coercion_norm.specs.Coercions.{Coercion}
 use Rattle.coercion_norm.specs.RunValues.{RunTuple, RunWrap, RunInt, RunBool, RunUnit, RunFun, RunLoc, RunInject}
 use Rattle.coercion_norm.specs.ValueSteps.{Own, On, OwnFrame}
 use Rattle.flat_ir.specs.declared.code.Operand.{Operand}
@@ -16,7 +15,8 @@ use Rattle.flat_ir.specs.Machine.{Inside, Waiting, flat_state_at, value, values,
 use Rattle.flat_ir.specs.Machine.{set_local as set_flat}
 use Rattle.coercion_norm.specs.Held.{TypesStand}
 use Rattle.coercion_norm.specs.Objects.{Object}
-use Rattle.rt_cast.specs.States.{Heap, Filled}
+use Rattle.rt_cast.specs.States.{Heap}
+use Rattle.lower.specs.Storage.{Filled}
 use Rattle.lower.specs.declared.numbering.Shape.{Shape}
 use Rattle.lower.specs.Numbering.{own_word, operand_word, local_word}
 use Rattle.lower.specs.Emit.{Then, ToCaller, Into, emit, found, choose}
@@ -35,19 +35,21 @@ use Rattle.lower.proofs.WordOperands.{fetch_reads, value_carried, and_true, Chan
 use Rattle.lower.proofs.WordGroups.{makes_group}
 use Rattle.lower.proofs.SimulationGroups.{begins_so, all_members}
 use Rattle.lower.proofs.SimulationWay.{mode_of}
-use Rattle.lower.proofs.SimulationWay.{Program, NoWraps, R, Follows, next_state, Way, scene_for}
+use Rattle.lower.proofs.SimulationWay.{Program, R, Follows, next_state, Way, scene_for}
 use Rattle.lower.proofs.SimulationGives.{CarriedHere, RestHere, CallersHere, levels_above}
 use Rattle.lower.proofs.SimulationOperations.{goes_wrong}
 
 module _ (program : Program) where
   -- a body goes on
-  pub running : (places : List ℕ) (objects : List Object) (h : Heap) (f : FlatState Coercion)
-      → Filled program.setting program.l objects h
-      → CellsHeld program.l program.setting.address program.procs NoWraps places objects h.memory places f.store
-      → (body : Body) (locals : FlatLocals Coercion) (group : Group Coercion) (frames : List (FlatFrame Coercion))
+  pub running : (places : List ℕ) (objects : List Object) (h : Heap) (f : FlatState program.meaning.Cast)
+      → Filled program.meaning program.setting program.l program.number objects h
+      → CellsHeld program.l program.setting.address program.procs program.meaning places objects h.memory places f.store
+      → (body : Body) (locals : FlatLocals program.meaning.Cast) (group : Group program.meaning.Cast)
+      (frames : List (FlatFrame program.meaning.Cast))
       (waiting : List LowWaiting) (size : ℕ) (rests : List Code) (words : Locals) (s : Shape) (count depth : ℕ)
       (next : Then)
-      → Fits program.setting program.l program.run program.procs program.answer NoWraps places objects s count size
+      → Fits program.setting program.l program.run program.procs program.answer program.meaning places objects s count
+      size
       group depth locals words body
       → RestHere program places objects waiting s count size group depth frames next rests words
       → Follows program f (On (Own (Inside body locals group)) frames f.store f.world)
@@ -68,21 +70,23 @@ module _ (program : Program) where
         };
       }))
 
-  module _ (typed : TypesStand program.l) (f : FlatState Coercion) (places : List ℕ) (objects : List Object)
-      (h : Heap) (filled : Filled program.setting program.l objects h)
-      (cells : CellsHeld program.l program.setting.address program.procs NoWraps places objects h.memory places f.store)
+  module _ (typed : TypesStand program.l) (f : FlatState program.meaning.Cast) (places : List ℕ) (objects : List Object)
+      (h : Heap) (filled : Filled program.meaning program.setting program.l program.number objects h)
+      (cells : CellsHeld program.l program.setting.address program.procs program.meaning places objects h.memory places
+      f.store)
       (waiting : List LowWaiting) (size : ℕ) where
-    abbrev FitsHere : Shape → ℕ → Group Coercion → ℕ → FlatLocals Coercion → Locals → Body → Type 0
+    abbrev FitsHere : Shape → ℕ → Group program.meaning.Cast → ℕ → FlatLocals program.meaning.Cast → Locals → Body
+        → Type 0
     FitsHere s count group depth locals words body = Fits program.setting program.l program.run program.procs
-        program.answer NoWraps places objects s count size group depth locals words body
+        program.answer program.meaning places objects s count size group depth locals words body
 
-    module _ (rests : List Code) (words : Locals) (s : Shape) (count depth : ℕ) (group : Group Coercion)
-        (locals : FlatLocals Coercion) (next : Then)
+    module _ (rests : List Code) (words : Locals) (s : Shape) (count depth : ℕ) (group : Group program.meaning.Cast)
+        (locals : FlatLocals program.meaning.Cast) (next : Then)
         (rest : RestHere program places objects waiting s count size group depth f.frames next rests words) where
       -- ---- branches
 
       module _ (o : Operand) (a b : Body) (fits : FitsHere s count group depth locals words (Choose o a b)) where
-        abbrev after : Body → FlatAfter Coercion
+        abbrev after : Body → FlatAfter program.meaning.Cast
         after body = On (Own (Inside body locals group)) f.frames f.store f.world
 
         abbrev scene_of : Body → Scene
@@ -119,7 +123,8 @@ module _ (program : Program) where
           params = fits.params;
           room = let z = fits.room in omega (arith, z);
           knows =
-              knows_same program.setting program.l program.run program.procs program.answer NoWraps places objects s
+              knows_same program.setting program.l program.run program.procs program.answer program.meaning program.laws
+              places objects s
               count group depth locals words new (same_new new changed) fits.knows;
         }
 
@@ -130,7 +135,8 @@ module _ (program : Program) where
           params = fits.params;
           room = let z = fits.room in omega (arith, z);
           knows =
-              knows_same program.setting program.l program.run program.procs program.answer NoWraps places objects s
+              knows_same program.setting program.l program.run program.procs program.answer program.meaning program.laws
+              places objects s
               count group depth locals words new (same_new new changed) fits.knows;
         }
 
@@ -139,7 +145,8 @@ module _ (program : Program) where
             → (new : Locals) → Changes (operand_word s 0) words new
             → RestHere program places objects waiting s count size group depth f.frames next rests new
         rest_new next rest new changed =
-            rest_same program.setting program.l program.run program.procs program.answer NoWraps places objects
+            rest_same program.setting program.l program.run program.procs program.answer program.meaning program.laws
+            places objects
             (CallersHere program places objects waiting) s count size group depth f.frames next rests words new
             (same_new new changed) rest
 
@@ -160,7 +167,8 @@ module _ (program : Program) where
             (R program (next_state program f (after a))) (calm_of a) 1 0 is refl refl
             (running places objects h f filled cells a locals group f.frames waiting size (k ∷ rests) new s count depth
             (Into d Done) (fits_one new changed)
-            (rest_branch program.setting program.l program.run program.procs program.answer NoWraps places objects
+            (rest_branch program.setting program.l program.run program.procs program.answer program.meaning program.laws
+            places objects
             (CallersHere program places objects waiting) s count size group depth f.frames d k rests new
             (rest_new (Into d k) rest new changed)))
 
@@ -182,7 +190,8 @@ module _ (program : Program) where
             (R program (next_state program f (after b))) (calm_of b) 0 0 is refl refl
             (running places objects h f filled cells b locals group f.frames waiting size (k ∷ rests) new s count depth
             (Into d Done) (fits_other new changed)
-            (rest_branch program.setting program.l program.run program.procs program.answer NoWraps places objects
+            (rest_branch program.setting program.l program.run program.procs program.answer program.meaning program.laws
+            places objects
             (CallersHere program places objects waiting) s count size group depth f.frames d k rests new
             (rest_new (Into d k) rest new changed)))
 
@@ -200,7 +209,7 @@ module _ (program : Program) where
             lt : operand_word s 0 < size
             lt = let x = fits.params in let y = fits.room in let z = levels_above depth a in omega (arith, x, y, z)
 
-            by_value : (v : FlatValue Coercion) → value locals group o ≡ v
+            by_value : (v : FlatValue program.meaning.Cast) → value locals group o ≡ v
                 → (w : ℕ) × CarriedHere program places objects v w
                 → Follows program f
                 (flat_choose program.procs (mode_of program) f.store f.world v a b locals group f.frames)
@@ -266,7 +275,8 @@ module _ (program : Program) where
               covered = cover.1;
               room = subst (λ n. levels (suc n) body + 10 ≤ size) (sym same) (omega (arith, room));
               knows =
-                  subst (λ n. Knows program.setting program.l program.run program.procs program.answer NoWraps places
+                  subst (λ n. Knows program.setting program.l program.run program.procs program.answer program.meaning
+                  places
                   objects s count group n locals words) (sym same) fits.knows;
             },
             next,
@@ -318,7 +328,8 @@ module _ (program : Program) where
           (new_group first (values locals group captured))) group)) f.frames f.store f.world) in
           makes_group (scene_for program f f' (R program f') places) f.world (inl refl) h objects filled waiting size
           rests s count group slot locals (omega (arith, same, params)) (omega (arith, same, room, above)) words
-          (subst (λ n. Knows program.setting program.l program.run program.procs program.answer NoWraps places objects s
+          (subst (λ n. Knows program.setting program.l program.run program.procs program.answer program.meaning places
+          objects s
           count group n locals words) (sym same) fits.knows) first others captured
           (subst (λ n. operands_bound s.captured count n captured ≡ true) (sym same) z.0)
           (omega (arith, same, room, above)) (omega (arith, narrow.0, cap)) (omega (arith, narrow.1, grp))
@@ -327,11 +338,14 @@ module _ (program : Program) where
           (emit program.run s body next)
           (λ cs h' now made.
           let more = group_objects program.setting.address first others cs in
-          let k = knows_later program.setting program.l program.run program.procs program.answer NoWraps places objects
+          let k = knows_later program.setting program.l program.run program.procs program.answer program.meaning
+          program.laws places objects
           more s count group depth locals words fits.knows in
           running places (objects ++ more) h' f made.all_filled
-          (cells_later program.l program.setting.address program.procs NoWraps places objects more h'.memory places
-          f.store (cells_below program.l program.setting.address program.procs NoWraps places objects program.setting
+          (cells_later program.l program.setting.address program.procs program.meaning program.laws places objects more
+          h'.memory places
+          f.store (cells_below program.l program.setting.address program.procs program.meaning program.laws places
+          objects program.setting
           program.placed h filled h'.memory made.below places f.store cells)) body
           (set_group locals slot (suc others) (new_group first (values locals group captured))) group f.frames waiting
           size rests now s count (slot + suc others) next (record {
@@ -347,15 +361,19 @@ module _ (program : Program) where
               local = made.local;
             };
           })
-          (rest_deeper program.setting program.l program.run program.procs program.answer NoWraps places
+          (rest_deeper program.setting program.l program.run program.procs program.answer program.meaning program.laws
+          places
           (objects ++ more) (CallersHere program places (objects ++ more) waiting) s count size group slot
           (slot + suc others) f.frames next rests now (omega arith)
-          (rest_same program.setting program.l program.run program.procs program.answer NoWraps places (objects ++ more)
+          (rest_same program.setting program.l program.run program.procs program.answer program.meaning program.laws
+          places (objects ++ more)
           (CallersHere program places (objects ++ more) waiting) s count size group slot f.frames next rests words now
           made.same
-          (rest_later program.setting program.l program.run program.procs program.answer NoWraps places objects more
+          (rest_later program.setting program.l program.run program.procs program.answer program.meaning program.laws
+          places objects more
           (CallersHere program places objects waiting) (CallersHere program places (objects ++ more) waiting)
-          (λ frames c. callers_later program.setting program.l program.run program.procs program.answer NoWraps places
+          (λ frames c. callers_later program.setting program.l program.run program.procs program.answer program.meaning
+          program.laws places
           objects more waiting frames c) s count size group slot f.frames next rests words
           (subst (λ n. RestHere program places objects waiting s count size group n f.frames next rests words)
           (sym same) rest)))))
@@ -375,14 +393,16 @@ module _ (program : Program) where
         subst (λ x. Comes program.setting P Q (at f.world h waiting size (r ∷ rests) words x)) (sym e.0)
         (falls_through program.setting P Q calm (fall P Q calm n r rests k' rests' words e.1 c))
 
-    abbrev waited : ℕ → Body → FlatLocals Coercion → Group Coercion → FlatValue Coercion → List (FlatFrame Coercion)
-        → FlatAfter Coercion
+    abbrev waited : ℕ → Body → FlatLocals program.meaning.Cast → Group program.meaning.Cast
+        → FlatValue program.meaning.Cast → List (FlatFrame program.meaning.Cast)
+        → FlatAfter program.meaning.Cast
     waited slot body locals group v frames =
         On (Own (Inside body (set_flat locals slot v) group)) frames f.store f.world
 
-    pub gave_turns : (slot : ℕ) (body : Body) (locals : FlatLocals Coercion) (group : Group Coercion)
-        (frames : List (FlatFrame Coercion)) (v : FlatValue Coercion) (active : Active)
-        → Gave program.setting program.l program.run program.procs program.answer NoWraps places objects v
+    pub gave_turns : (slot : ℕ) (body : Body) (locals : FlatLocals program.meaning.Cast)
+        (group : Group program.meaning.Cast)
+        (frames : List (FlatFrame program.meaning.Cast)) (v : FlatValue program.meaning.Cast) (active : Active)
+        → Gave program.setting program.l program.run program.procs program.answer program.meaning places objects v
         (OwnFrame (Waiting slot body locals group) ∷ frames) active waiting
         → active.count ≡ size
         → Follows program f (waited slot body locals group v frames)
@@ -394,23 +414,27 @@ module _ (program : Program) where
         let f' = next_state program f (waited slot body locals group v frames) in
         let d_is : g.d ≡ local_word s slot = r.0.word in
         let place : words (local_word s slot) ≡ Some g.w = ap words (sym d_is) ∙ g.is in
-        let fits : Fits program.setting program.l program.run program.procs program.answer NoWraps places objects s
+        let fits : Fits program.setting program.l program.run program.procs program.answer program.meaning places
+        objects s
         g.count size group (suc slot) (set_flat locals slot v) words body = record {
           bound = r.0.bound;
           covered = r.0.covered;
           params = let z = r.0.params in omega (arith, z);
           room = let z = r.0.room in omega (arith, z, sized);
           knows =
-              knows_more program.setting program.l program.run program.procs program.answer NoWraps places objects s
+              knows_more program.setting program.l program.run program.procs program.answer program.meaning program.laws
+              places objects s
               g.count group slot locals words v g.w place g.carried
-              (subst (λ x. Knows program.setting program.l program.run program.procs program.answer NoWraps places
+              (subst (λ x. Knows program.setting program.l program.run program.procs program.answer program.meaning
+              places
               objects s g.count x slot locals words) (sym r.0.same) r.0.knows);
         } in
         fall (Way program f f') (R program f') (λ active waiting. (inl refl, (objects, filled))) r.3 active.code
         active.rests (emit program.run s body r.1) r.2 words r.4
         (running places objects h f filled cells body (set_flat locals slot v) group frames waiting size r.2 words s
         g.count (suc slot) r.1 fits
-        (rest_deeper program.setting program.l program.run program.procs program.answer NoWraps places objects
+        (rest_deeper program.setting program.l program.run program.procs program.answer program.meaning program.laws
+        places objects
         (CallersHere program places objects waiting) s g.count size group slot (suc slot) frames r.1 r.2 words
         (omega arith)
         (subst (λ n. RestHere program places objects waiting s g.count n group slot frames r.1 r.2 words) sized

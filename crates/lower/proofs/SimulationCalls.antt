@@ -7,7 +7,6 @@ use Rattle.low_ir.specs.declared.code.LowSource.TheVariants.{Word}
 use Rattle.low_ir.specs.Procedures.{Code, Done, Load, TailCall, TailCallAt, CallAt, Call as CallOf, Proc as LowProc}
 use Rattle.low_ir.specs.Steps.{Locals, no_locals, set_local}
 use Rattle.low_ir.specs.Run.{Waiting as LowWaiting, LowState, word_of, words_of, and_more, bind, proc_from}
-use Rattle.coercion_norm.specs.Coercions.{Coercion}
 use Rattle.coercion_norm.specs.RunValues.{RunFun}
 use Rattle.coercion_norm.specs.RunValues.{in_row}
 use Rattle.coercion_norm.specs.RunValues.{row_list}
@@ -19,7 +18,8 @@ use Rattle.flat_ir.specs.Machine.{FlatValue, FlatValues, FlatFrame, FlatState, F
 use Rattle.flat_ir.specs.Machine.{Locals as FlatLocals, Inside, value, values}
 use Rattle.flat_ir.specs.Machine.{locals_of, or_unit}
 use Rattle.coercion_norm.specs.Objects.{Object, Fixed}
-use Rattle.rt_cast.specs.States.{Heap, Filled}
+use Rattle.rt_cast.specs.States.{Heap}
+use Rattle.lower.specs.Storage.{Filled}
 use Rattle.lower.specs.declared.numbering.Shape.{Shape}
 use Rattle.lower.specs.Numbering.{test_word, operand_word, local_word, function_offset}
 use Rattle.lower.specs.Emit.{Then, ToCaller, Into, emit, found, found_all, call, of_kind, apply_words}
@@ -40,7 +40,7 @@ use Rattle.lower.proofs.WordOperands.{fetch_all_reads, and_true, Changes, Change
 use Rattle.lower.proofs.WordOperands.{same_besides}
 use Rattle.lower.proofs.WordOperations.{is_of_kind}
 use Rattle.lower.proofs.SimulationGroups.{proc_is_closed, covered_at}
-use Rattle.lower.proofs.SimulationWay.{Program, NoWraps, R, Follows, next_state, Way, scene_for}
+use Rattle.lower.proofs.SimulationWay.{Program, R, Follows, next_state, Way, scene_for}
 use Rattle.lower.proofs.SimulationGives.{CarriedHere, RestHere, CallersHere, levels_above}
 
 -- ---- the words that a procedure takes
@@ -63,11 +63,11 @@ bind_at (x ∷ ws) from zero i w words e is =
 bind_at (x ∷ ws) from (suc j) i w words e is =
     bind_at ws (suc from) j i w (set_local from x words) e (omega (arith, is))
 
-row_back : (vs : List (FlatValue Coercion)) → row_list (in_row vs) ≡ vs
+row_back : {C : Type 0} (vs : List (FlatValue C)) → row_list (in_row vs) ≡ vs
 row_back [] = refl
 row_back (v ∷ vs) = ap (λ l. v ∷ l) (row_back vs)
 
-values_long : (locals : FlatLocals Coercion) (group : Group Coercion) (os : List Operand)
+values_long : {C : Type 0} (locals : FlatLocals C) (group : Group C) (os : List Operand)
     → length (values locals group os) ≡ length os
 values_long locals group [] = refl
 values_long locals group (o ∷ os) = ap suc (values_long locals group os)
@@ -98,7 +98,7 @@ get_some (x ∷ xs) (suc i) (suc j) a e lt = get_some xs i j a e (omega (arith, 
 
 module _ (program : Program) where
   -- a code address is that of one procedure
-  proc_at : (k : ℕ) (p : LowProc) → slice_get program.setting.procs k ≡ Some p
+  pub proc_at : (k : ℕ) (p : LowProc) → slice_get program.setting.procs k ≡ Some p
       → proc_from program.setting.address (program.setting.address k) 0 program.setting.procs ≡ Some p
   proc_at k p e =
       let n : 0 + k ≡ k = omega arith in
@@ -110,19 +110,22 @@ module _ (program : Program) where
       let same : i ≡ k = program.addresses.once i k q.0 p q.1 e (ap program.setting.address (sym m) ∙ z) in
       omega (arith, same, lt))
 
-  module _ (f : FlatState Coercion) (places : List ℕ) (objects : List Object)
-      (h : Heap) (filled : Filled program.setting program.l objects h)
-      (cells : CellsHeld program.l program.setting.address program.procs NoWraps places objects h.memory places f.store)
+  module _ (f : FlatState program.meaning.Cast) (places : List ℕ) (objects : List Object)
+      (h : Heap) (filled : Filled program.meaning program.setting program.l program.number objects h)
+      (cells : CellsHeld program.l program.setting.address program.procs program.meaning places objects h.memory places
+      f.store)
     where
       -- a value is about to be returned to, or the body goes on, of the procedure that was entered with these words
-      entered : (p : Proc) (group : Group Coercion) (vs : List (FlatValue Coercion)) (own : ℕ) (ws : List ℕ)
-          (waiting : List LowWaiting) (frames : List (FlatFrame Coercion)) (k : ℕ)
+      pub entered : (p : Proc) (group : Group program.meaning.Cast) (vs : List (FlatValue program.meaning.Cast))
+          (own : ℕ) (ws : List ℕ)
+          (waiting : List LowWaiting) (frames : List (FlatFrame program.meaning.Cast)) (k : ℕ)
           → slice_get program.procs k ≡ Some p
-          → OwnGroup program.setting program.l program.run program.procs program.answer NoWraps places objects
+          → OwnGroup program.setting program.l program.run program.procs program.answer program.meaning places objects
           (shape_of p) p.group group own
-          → AreCarried program.l program.setting.address program.procs NoWraps places objects (in_row vs) ws
+          → AreCarried program.l program.setting.address program.procs program.meaning places objects (in_row vs) ws
           → length vs ≡ p.params → CallersHere program places objects waiting frames
-          → Runs program.setting program.l program.run program.procs program.answer NoWraps places objects p.body
+          → Runs program.setting program.l program.run program.procs program.answer program.meaning places objects
+          p.body
           (locals_of vs) group frames (record {
             count = levels p.params p.body + 10;
             locals = bind 0 (own ∷ ws) no_locals;
@@ -153,13 +156,16 @@ module _ (program : Program) where
           }
         where
           many : length ws ≡ length vs
-          many = as_many program.l program.setting.address program.procs NoWraps places objects vs ws carried
+          many =
+              as_many program.l program.setting.address program.procs program.meaning program.laws places objects vs ws
+              carried
 
           at_level : (i : ℕ) → i < p.params → (w : ℕ)
               × (bind 0 (own ∷ ws) no_locals (local_word (shape_of p) i) ≡ Some w)
               × CarriedHere program places objects (locals_of vs i) w
           at_level i lt =
-              let z = carried_at program.l program.setting.address program.procs NoWraps places objects (in_row vs) ws i
+              let z = carried_at program.l program.setting.address program.procs program.meaning program.laws places
+              objects (in_row vs) ws i
               carried (omega (arith, lt, long, many)) in
               let low = local_low (shape_of p) i lt in (
                 z.0,
@@ -169,10 +175,12 @@ module _ (program : Program) where
               )
 
       module _ (waiting : List LowWaiting) (size : ℕ) (rests : List Code) (words : Locals) (s : Shape)
-          (count depth : ℕ) (group : Group Coercion) (locals : FlatLocals Coercion) (next : Then)
+          (count depth : ℕ) (group : Group program.meaning.Cast) (locals : FlatLocals program.meaning.Cast)
+          (next : Then)
           (rest : RestHere program places objects waiting s count size group depth f.frames next rests words)
           (fo : Operand) (os : List Operand)
-          (fits : Fits program.setting program.l program.run program.procs program.answer NoWraps places objects s count
+          (fits : Fits program.setting program.l program.run program.procs program.answer program.meaning places objects
+          s count
           size group depth locals words (Call fo os)) where
         parts : (operand_bound s.captured count depth fo ≡ true)
             × (operands_bound s.captured count depth os ≡ true) × (nat_le (length os) 6 ≡ true)
@@ -192,15 +200,15 @@ module _ (program : Program) where
             at_most a b h = grind (arith, h)
 
         -- a function is called whose procedure is there and takes so many arguments
-        module _ (first place : ℕ) (captured : FlatValues Coercion) (p : Proc)
+        module _ (first place : ℕ) (captured : FlatValues program.meaning.Cast) (p : Proc)
             (function : value locals group fo ≡ RunFun (record { first = first; place = place }) captured)
             (there : slice_get program.procs (first + place) ≡ Some p)
             (long : length (values locals group os) ≡ p.params) where
-          abbrev after : FlatAfter Coercion
+          abbrev after : FlatAfter program.meaning.Cast
           after = On (Own (Inside p.body (locals_of (values locals group os))
               (record { first = first; captured = captured }))) f.frames f.store f.world
 
-          abbrev f' : FlatState Coercion
+          abbrev f' : FlatState program.meaning.Cast
           f' = next_state program f after
 
           abbrev scene : Scene
@@ -216,7 +224,7 @@ module _ (program : Program) where
           module _ (w : ℕ) (ws : List ℕ) (now : Locals)
               (c : CarriedHere program places objects
               (RunFun (record { first = first; place = place }) captured) w)
-              (carried : AreCarried program.l program.setting.address program.procs NoWraps places objects
+              (carried : AreCarried program.l program.setting.address program.procs program.meaning places objects
               (in_row (values locals group os)) ws)
               (same : SameNamed s depth words now)
               (are : words_of now (found s (operand_word s 0) fo ∷ found_all s 1 os) ≡ Some (w ∷ ws)) where
@@ -232,7 +240,8 @@ module _ (program : Program) where
             stands : (rest : List ℕ) × There program.l objects (c.0 + function_offset (length c.2) place)
                 (Fixed (1 + 4294967296 * suc (length rest)) (program.setting.address (first + place) ∷ rest))
             stands =
-                function_there program.l program.setting.address program.procs NoWraps places objects program.setting
+                function_there program.l program.setting.address program.procs program.meaning program.laws places
+                objects program.setting
                 program.placed h filled first c.0 c.1 place c.2 c.4 c.5
 
             at_word : There program.l objects w
@@ -240,7 +249,8 @@ module _ (program : Program) where
             at_word = subst (λ n. There program.l objects n (Fixed (1 + 4294967296 * suc (length stands.0))
                 (program.setting.address (first + place) ∷ stands.0))) (sym c.3) stands.1
 
-            own : OwnGroup program.setting program.l program.run program.procs program.answer NoWraps places objects
+            own : OwnGroup program.setting program.l program.run program.procs program.answer program.meaning places
+                objects
                 (shape_of p) p.group (record { first = first; captured = captured }) w
             own = record {
               leader = c.0;
@@ -250,14 +260,16 @@ module _ (program : Program) where
               long = ap (λ q. q.captured) (sym proc_same) ∙ member.captured_is;
               inside = (let x = ap (λ q. q.place) (sym proc_same) ∙ member.place_is in
                   let y = ap (λ q. q.group) (sym proc_same) ∙ member.group_is in let z = c.4 in omega (arith, x, y, z));
-              stands = subst (λ n. IsGroup program.l program.setting.address program.procs NoWraps places objects first
+              stands = subst (λ n. IsGroup program.l program.setting.address program.procs program.meaning places
+                  objects first
                   c.0 n c.2) (sym (ap (λ q. q.group) (sym proc_same) ∙ member.group_is)) c.5;
               carried = c.6;
             }
 
             takes : ((length (w ∷ ws) == low.params) && (nat_le low.params 8 && nat_le low.params low.words)) ≡ true
             takes =
-                let m = as_many program.l program.setting.address program.procs NoWraps places objects
+                let m = as_many program.l program.setting.address program.procs program.meaning program.laws places
+                objects
                 (values locals group os) ws carried in
                 let cl = proc_is_closed program.procs program.closed (first + place) p there in
                 let p6 = cl.params in
@@ -314,15 +326,16 @@ module _ (program : Program) where
             abbrev code_address : ℕ
             code_address = program.setting.address (first + place)
 
-            code_there : WordThere program.setting program.l program.placed h.memory (w + 8) code_address
+            code_there : WordThere program.meaning program.setting program.l program.placed h.memory (w + 8)
+                code_address
             code_there =
-                word_there program.setting program.l program.placed objects h filled w
+                word_there program.meaning program.setting program.l program.placed objects h filled w
                 (1 + 4294967296 * suc (length stands.0)) (code_address ∷ stands.0) at_word 1 code_address (w + 8) refl
                 (omega arith)
 
-            head_there : WordThere program.setting program.l program.placed h.memory w
+            head_there : WordThere program.meaning program.setting program.l program.placed h.memory w
                 (1 + 4294967296 * suc (length stands.0))
-            head_there = header_there program.setting program.l program.placed objects h filled w
+            head_there = header_there program.meaning program.setting program.l program.placed objects h filled w
                 (Fixed (1 + 4294967296 * suc (length stands.0)) (code_address ∷ stands.0)) at_word
 
             again : (last : Locals) → Changes (test_word s) now last
@@ -378,18 +391,20 @@ module _ (program : Program) where
                 (CallAt d (Word (test_word s)) (found s (operand_word s 0) fo ∷ found_all s 1 os) Done)
                 (calls_at program.setting (Way program f f') (R program f') calm code_address (w ∷ ws) low
                 (word_here (test_word s) code_address last) (still words' (again last changed)) at_code takes
-                (inside (waiting_for d size (k ∷ rests) words' Done ∷ waiting) (inr (
+                (inside (waiting_for d size (k ∷ rests) words' Done ∷ waiting) (inr (inl (
                   s,
                   count,
                   group,
                   depth,
-                  rest_branch program.setting program.l program.run program.procs program.answer NoWraps places objects
+                  rest_branch program.setting program.l program.run program.procs program.answer program.meaning
+                      program.laws places objects
                       (CallersHere program places objects waiting) s count size group depth f.frames d k rests words'
-                      (rest_same program.setting program.l program.run program.procs program.answer NoWraps places
+                      (rest_same program.setting program.l program.run program.procs program.answer program.meaning
+                      program.laws places
                       objects
                       (CallersHere program places objects waiting) s count size group depth f.frames (Into d k) rests
                       words words' named r),
-                )))))
+                ))))))
               where
                 test_apart : (j : ℕ) → Named s depth j → j ≢ test_word s
                 test_apart j (OwnName e) = λ z. omega (arith, z, e)
@@ -409,7 +424,7 @@ module _ (program : Program) where
               bound_all = let x = parts.0 in let y = parts.1 in rw (x, y) refl
 
               fetched : (all : List ℕ) (now : Locals)
-                  → AreCarried program.l program.setting.address program.procs NoWraps places objects
+                  → AreCarried program.l program.setting.address program.procs program.meaning places objects
                   (in_row (values locals group (fo ∷ os))) all
                   → words_of now (found_all s 0 (fo ∷ os)) ≡ Some all
                   → ChangesFrom (operand_word s 0) (length (fo ∷ os)) words now

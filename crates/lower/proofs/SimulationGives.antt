@@ -5,7 +5,6 @@ use Rattle.low_ir.specs.declared.code.LowSource.TheVariants.{Word}
 use Rattle.low_ir.specs.Procedures.{Code, Return as ReturnCode}
 use Rattle.low_ir.specs.Steps.{Locals}
 use Rattle.low_ir.specs.Run.{Waiting as LowWaiting}
-use Rattle.coercion_norm.specs.Coercions.{Coercion}
 use Rattle.coercion_norm.specs.ValueSteps.{CastFrame, ProjFrame, PrimFrame, EnterFrame, OwnFrame, Return}
 use Rattle.flat_ir.specs.Bodies.{Body, Give, Call, Choose, LetBody, LetGroup}
 use Rattle.flat_ir.specs.Machine.{FlatValue, FlatFrame, Group, Waiting}
@@ -17,7 +16,7 @@ use Rattle.lower.specs.Lowered.{levels}
 use Rattle.lower.specs.RelatedStates.{Carried, Rest, Callers, Gave, Goes}
 use Rattle.lower.proofs.RelationKept.{rest_same, OwnName, LowName, HighName, SameNamed, local_high}
 use Rattle.lower.proofs.WordOperations.{Touches}
-use Rattle.lower.proofs.SimulationWay.{Program, NoWraps}
+use Rattle.lower.proofs.SimulationWay.{Program}
 
 -- a body has no names below the level at which it stands
 pub levels_above : (depth : ℕ) (body : Body) → depth ≤ levels depth body
@@ -29,23 +28,26 @@ levels_above depth (LetGroup slot first count captured rest) =
     let z = levels_above (depth + count) rest in omega (arith, z)
 
 module _ (program : Program) (places : List ℕ) (objects : List Object) where
-  abbrev pub CarriedHere : FlatValue Coercion → ℕ → Type 0
+  abbrev pub CarriedHere : FlatValue program.meaning.Cast → ℕ → Type 0
   CarriedHere v w =
-      Carried program.setting program.l program.run program.procs program.answer NoWraps places objects v w
+      Carried program.setting program.l program.run program.procs program.answer program.meaning places objects v w
 
-  abbrev pub CallersHere : List LowWaiting → List (FlatFrame Coercion) → Type 0
-  CallersHere waiting frames = Callers program.setting program.l program.run program.procs program.answer NoWraps places
+  abbrev pub CallersHere : List LowWaiting → List (FlatFrame program.meaning.Cast) → Type 0
+  CallersHere waiting frames =
+      Callers program.setting program.l program.run program.procs program.answer program.meaning places
       objects waiting frames
 
-  abbrev pub RestHere : List LowWaiting → Shape → ℕ → ℕ → Group Coercion → ℕ → List (FlatFrame Coercion) → Then
+  abbrev pub RestHere : List LowWaiting → Shape → ℕ → ℕ → Group program.meaning.Cast → ℕ
+      → List (FlatFrame program.meaning.Cast) → Then
       → List Code → Locals → Type 0
   RestHere waiting s count size group depth frames next rests words =
-      Rest program.setting program.l program.run program.procs program.answer NoWraps places objects
+      Rest program.setting program.l program.run program.procs program.answer program.meaning places objects
       (CallersHere waiting) s count size group depth frames next rests words
 
   -- a word that takes a value is one of the procedure
-  pub word_fits : (waiting : List LowWaiting) (s : Shape) (count size : ℕ) (group : Group Coercion) (depth : ℕ)
-      (frames : List (FlatFrame Coercion)) (d : ℕ) (k : Code) (rests : List Code) (words : Locals)
+  pub word_fits : (waiting : List LowWaiting) (s : Shape) (count size : ℕ) (group : Group program.meaning.Cast)
+      (depth : ℕ)
+      (frames : List (FlatFrame program.meaning.Cast)) (d : ℕ) (k : Code) (rests : List Code) (words : Locals)
       → RestHere waiting s count size group depth frames (Into d k) rests words → d < size
   word_fits waiting s count size group depth [] d k rests words r = absurd r
   word_fits waiting s count size group depth (OwnFrame (Waiting slot rest locals other) ∷ frames) d k rests words r =
@@ -60,11 +62,12 @@ module _ (program : Program) (places : List ℕ) (objects : List Object) where
   word_fits waiting s count size group depth (EnterFrame f done todo ∷ frames) d k rests words r = absurd r
 
   -- a value was put into the word that takes it
-  pub put_in : (waiting : List LowWaiting) (s : Shape) (count size : ℕ) (group : Group Coercion) (depth : ℕ)
-      (frames : List (FlatFrame Coercion)) (d : ℕ) (k : Code) (rests : List Code) (words new : Locals)
-      (v : FlatValue Coercion) (w : ℕ) → RestHere waiting s count size group depth frames (Into d k) rests words
+  pub put_in : (waiting : List LowWaiting) (s : Shape) (count size : ℕ) (group : Group program.meaning.Cast) (depth : ℕ)
+      (frames : List (FlatFrame program.meaning.Cast)) (d : ℕ) (k : Code) (rests : List Code) (words new : Locals)
+      (v : FlatValue program.meaning.Cast) (w : ℕ) → RestHere waiting s count size group depth frames (Into d k) rests
+      words
       → CarriedHere v w → new d ≡ Some w → Touches s d words new
-      → Gave program.setting program.l program.run program.procs program.answer NoWraps places objects v frames
+      → Gave program.setting program.l program.run program.procs program.answer program.meaning places objects v frames
       (record { count = size; locals = new; code = k; rests = rests }) waiting
   put_in waiting s count size group depth [] d k rests words new v w r c e touches = absurd r
   put_in waiting s count size group depth (OwnFrame (Waiting slot rest locals other) ∷ frames) d k rests words new v w r
@@ -79,7 +82,8 @@ module _ (program : Program) (places : List ℕ) (objects : List Object) where
         is = e;
         carried = c;
         rest =
-            rest_same program.setting program.l program.run program.procs program.answer NoWraps places objects
+            rest_same program.setting program.l program.run program.procs program.answer program.meaning program.laws
+            places objects
             (CallersHere waiting) s count size group slot (OwnFrame (Waiting slot rest locals other) ∷ frames)
             (Into d k) rests words new same (
               record {
@@ -122,11 +126,12 @@ module _ (program : Program) (places : List ℕ) (objects : List Object) where
   code_for s ToCaller = ReturnCode (Word (test_word s))
   code_for s (Into d k) = k
 
-  pub given : (waiting : List LowWaiting) (s : Shape) (count size : ℕ) (group : Group Coercion) (depth : ℕ)
-      (frames : List (FlatFrame Coercion)) (next : Then) (rests : List Code) (words new : Locals)
-      (v : FlatValue Coercion) (w : ℕ) → RestHere waiting s count size group depth frames next rests words
+  pub given : (waiting : List LowWaiting) (s : Shape) (count size : ℕ) (group : Group program.meaning.Cast) (depth : ℕ)
+      (frames : List (FlatFrame program.meaning.Cast)) (next : Then) (rests : List Code) (words new : Locals)
+      (v : FlatValue program.meaning.Cast) (w : ℕ) → RestHere waiting s count size group depth frames next rests words
       → CarriedHere v w → new (word_for s next) ≡ Some w → Touches s (word_for s next) words new
-      → Goes program.setting program.l program.run program.procs program.answer NoWraps places objects (Return v)
+      → Goes program.setting program.l program.run program.procs program.answer program.meaning places objects
+      (Return v)
       frames (record { count = size; locals = new; code = code_for s next; rests = rests }) waiting
   given waiting s count size group depth frames ToCaller rests words new v w r c e touches =
       inr (record { source = Word (test_word s); w = w; code = refl; is = e; carried = c; callers = r })

@@ -14,7 +14,6 @@ use Rattle.grift_base.specs.declared.operators.PrimOp.TheVariants.{VectorLength}
 use Rattle.low_ir.specs.Procedures.{Code}
 use Rattle.low_ir.specs.Steps.{Locals}
 use Rattle.low_ir.specs.Run.{Waiting as LowWaiting, LowState}
-use Rattle.coercion_norm.specs.Coercions.{Coercion}
 use Rattle.coercion_norm.specs.RunValues.{RunInt, RunBool, RunUnit}
 use Rattle.coercion_norm.specs.ValueSteps.{Return, On, NoNext, run_on_ints, run_on_int, run_on_bool, run_newline}
 use Rattle.flat_ir.specs.declared.code.Operand.{Operand}
@@ -25,10 +24,10 @@ use Rattle.flat_ir.specs.Machine.{FlatValue, FlatState, FlatAfter, Group, Locals
 use Rattle.flat_ir.specs.Machine.{flat_arity, flat_entered, value, values, flat_operate}
 use Rattle.coercion_norm.specs.Held.{TypesStand}
 use Rattle.coercion_norm.specs.Objects.{Object}
-use Rattle.rt_cast.specs.States.{Heap, Filled}
+use Rattle.rt_cast.specs.States.{Heap}
+use Rattle.lower.specs.Storage.{Filled}
 use Rattle.lower.specs.declared.numbering.Shape.{Shape}
 use Rattle.lower.specs.Emit.{Then, perform}
-use Rattle.lower.specs.CoveredPrograms.{covers_operator}
 use Rattle.lower.specs.CarriedValues.{CellsHeld}
 use Rattle.lower.specs.RelatedStates.{Fits}
 use Rattle.std.proofs.Common.{pos}
@@ -51,15 +50,32 @@ use Rattle.lower.proofs.WordOperations.{Touches}
 use Rattle.lower.proofs.WordOperators.{adds, subtracts, less, greater, at_most, at_least, equal, negates, prints_int}
 use Rattle.lower.proofs.WordOperators.{prints_newline}
 use Rattle.lower.proofs.SimulationWay.{mode_of}
-use Rattle.lower.proofs.SimulationWay.{Program, NoWraps, R, Follows, next_state, Way, scene_for}
+use Rattle.lower.proofs.SimulationWay.{Program, R, Follows, next_state, Way, scene_for}
 use Rattle.lower.proofs.SimulationGives.{CarriedHere, RestHere, given, word_for, code_for}
 use Rattle.lower.proofs.SimulationOperations.{settle, goes_wrong, room, word_less, put}
 use Rattle.lower.proofs.WordScene.{Scene}
 use Rattle.lower.proofs.SimulationAnswers.{true_false}
 
-module _ (locals : FlatLocals Coercion) (group : Group Coercion) where
+-- an operator on integers and truth values, or one that prints
+abbrev pub is_plain : PrimOp → Bool
+is_plain Add = true
+is_plain Sub = true
+is_plain Mul = true
+is_plain Quot = true
+is_plain Rem = true
+is_plain Lt = true
+is_plain Le = true
+is_plain Equal = true
+is_plain Ge = true
+is_plain Gt = true
+is_plain Not = true
+is_plain PrintInt = true
+is_plain Newline = true
+is_plain _ = false
+
+module _ {C : Type 0} (locals : FlatLocals C) (group : Group C) where
   -- operands whose values are told
-  two_operands : (os : List Operand) (v u : FlatValue Coercion) → values locals group os ≡ v ∷ u ∷ []
+  pub two_operands : (os : List Operand) (v u : FlatValue C) → values locals group os ≡ v ∷ u ∷ []
       → (o p : Operand) × (os ≡ o ∷ p ∷ []) × (value locals group o ≡ v) × (value locals group p ≡ u)
   two_operands [] v u e = absurd (let z : ⊥ = cc in z)
   two_operands (o ∷ []) v u e = absurd (let z : ⊥ = cc in z)
@@ -73,19 +89,19 @@ module _ (locals : FlatLocals Coercion) (group : Group Coercion) where
         (value locals group p) e,
   )
     where
-      first : (x y : FlatValue Coercion) → (x ∷ y ∷ []) ≡ (v ∷ u ∷ []) → x ≡ v
+      first : (x y : FlatValue C) → (x ∷ y ∷ []) ≡ (v ∷ u ∷ []) → x ≡ v
       first x y e = cc
 
-      second : (x y : FlatValue Coercion) → (x ∷ y ∷ []) ≡ (v ∷ u ∷ []) → y ≡ u
+      second : (x y : FlatValue C) → (x ∷ y ∷ []) ≡ (v ∷ u ∷ []) → y ≡ u
       second x y e = cc
 
-  one_operand : (os : List Operand) (v : FlatValue Coercion) → values locals group os ≡ v ∷ []
+  pub one_operand : (os : List Operand) (v : FlatValue C) → values locals group os ≡ v ∷ []
       → (o : Operand) × (os ≡ o ∷ []) × (value locals group o ≡ v)
   one_operand [] v e = absurd (let z : ⊥ = cc in z)
   one_operand (o ∷ p ∷ os) v e = absurd (let z : ⊥ = cc in z)
   one_operand (o ∷ []) v e = (o, refl, first (value locals group o) e)
     where
-      first : (x : FlatValue Coercion) → (x ∷ []) ≡ (v ∷ []) → x ≡ v
+      first : (x : FlatValue C) → (x ∷ []) ≡ (v ∷ []) → x ≡ v
       first x e = cc
 
   no_operand : (os : List Operand) → values locals group os ≡ [] → os ≡ []
@@ -93,12 +109,15 @@ module _ (locals : FlatLocals Coercion) (group : Group Coercion) where
   no_operand (o ∷ os) e = absurd (let z : ⊥ = cc in z)
 
 module _ (program : Program) (typed : TypesStand program.l)
-    (f : FlatState Coercion) (places : List ℕ) (objects : List Object) (h : Heap)
-    (filled : Filled program.setting program.l objects h)
-    (cells : CellsHeld program.l program.setting.address program.procs NoWraps places objects h.memory places f.store)
+    (f : FlatState program.meaning.Cast) (places : List ℕ) (objects : List Object) (h : Heap)
+    (filled : Filled program.meaning program.setting program.l program.number objects h)
+    (cells : CellsHeld program.l program.setting.address program.procs program.meaning places objects h.memory places
+    f.store)
     (waiting : List LowWaiting) (size : ℕ) (rests : List Code) (words : Locals) (s : Shape) (count depth : ℕ)
-    (group : Group Coercion) (locals : FlatLocals Coercion) (op : PrimOp) (os : List Operand) (next : Then)
-    (fits : Fits program.setting program.l program.run program.procs program.answer NoWraps places objects s count
+    (group : Group program.meaning.Cast) (locals : FlatLocals program.meaning.Cast) (op : PrimOp) (os : List Operand)
+    (next : Then)
+    (fits : Fits program.setting program.l program.run program.procs program.answer program.meaning places objects s
+    count
     size group depth locals words (Give (Prim op os)))
     (rest : RestHere program places objects waiting s count size group depth f.frames next rests words) where
   abbrev d : ℕ
@@ -108,10 +127,11 @@ module _ (program : Program) (typed : TypesStand program.l)
   k = code_for program places objects s next
 
   -- an operator on these operands does what comes of the turn
-  abbrev Does : PrimOp → List Operand → FlatAfter Coercion → Type 0
+  abbrev Does : PrimOp → List Operand → FlatAfter program.meaning.Cast → Type 0
   Does op os x = Follows program f x (at f.world h waiting size rests words (perform program.run s d (Prim op os) k))
 
-  gives : (v : FlatValue Coercion) (w : ℕ) (new : Locals) → CarriedHere program places objects v w → new d ≡ Some w
+  gives : (v : FlatValue program.meaning.Cast) (w : ℕ) (new : Locals) → CarriedHere program places objects v w
+      → new d ≡ Some w
       → Touches s d words new
       → Follows program f (On (Return v) f.frames f.store f.world) (at f.world h waiting size rests new k)
   gives v w new c e touches =
@@ -122,31 +142,31 @@ module _ (program : Program) (typed : TypesStand program.l)
   wrong op os =
       goes_wrong program f places objects h filled waiting size rests words (perform program.run s d (Prim op os) k)
 
-  on_ints : (X : FlatAfter Coercion → Type 0) (go : ℤ → ℤ → FlatAfter Coercion) → X NoNext
-      → (vs : List (FlatValue Coercion)) → ((a b : ℤ) → vs ≡ RunInt a ∷ RunInt b ∷ [] → X (go a b))
+  on_ints : (X : FlatAfter program.meaning.Cast → Type 0) (go : ℤ → ℤ → FlatAfter program.meaning.Cast) → X NoNext
+      → (vs : List (FlatValue program.meaning.Cast)) → ((a b : ℤ) → vs ≡ RunInt a ∷ RunInt b ∷ [] → X (go a b))
       → X (run_on_ints (mode_of program) (flat_arity program.procs) (flat_entered program.procs) f.store f.world go vs)
   on_ints X go none (RunInt a ∷ RunInt b ∷ []) does = does a b refl
   on_ints X go none _ does = none
 
-  on_int : (X : FlatAfter Coercion → Type 0) (go : ℤ → FlatAfter Coercion) → X NoNext
-      → (vs : List (FlatValue Coercion)) → ((a : ℤ) → vs ≡ RunInt a ∷ [] → X (go a))
+  on_int : (X : FlatAfter program.meaning.Cast → Type 0) (go : ℤ → FlatAfter program.meaning.Cast) → X NoNext
+      → (vs : List (FlatValue program.meaning.Cast)) → ((a : ℤ) → vs ≡ RunInt a ∷ [] → X (go a))
       → X (run_on_int (mode_of program) (flat_arity program.procs) (flat_entered program.procs) f.store f.world go vs)
   on_int X go none (RunInt a ∷ []) does = does a refl
   on_int X go none _ does = none
 
-  on_bool : (X : FlatAfter Coercion → Type 0) (go : Bool → FlatAfter Coercion) → X NoNext
-      → (vs : List (FlatValue Coercion)) → ((b : Bool) → vs ≡ RunBool b ∷ [] → X (go b))
+  on_bool : (X : FlatAfter program.meaning.Cast → Type 0) (go : Bool → FlatAfter program.meaning.Cast) → X NoNext
+      → (vs : List (FlatValue program.meaning.Cast)) → ((b : Bool) → vs ≡ RunBool b ∷ [] → X (go b))
       → X (run_on_bool (mode_of program) (flat_arity program.procs) (flat_entered program.procs) f.store f.world go vs)
   on_bool X go none (RunBool b ∷ []) does = does b refl
   on_bool X go none _ does = none
 
   -- of two operands that are integers
-  abbrev TwoInts : PrimOp → (ℤ → ℤ → FlatAfter Coercion) → Type 0
+  abbrev TwoInts : PrimOp → (ℤ → ℤ → FlatAfter program.meaning.Cast) → Type 0
   TwoInts op go =
       (o p : Operand) (a b : ℤ) → value locals group o ≡ RunInt a → value locals group p ≡ RunInt b
       → operands_bound s.captured count depth (o ∷ p ∷ []) ≡ true → Does op (o ∷ p ∷ []) (go a b)
 
-  two_ints : (op : PrimOp) (go : ℤ → ℤ → FlatAfter Coercion) → TwoInts op go
+  two_ints : (op : PrimOp) (go : ℤ → ℤ → FlatAfter program.meaning.Cast) → TwoInts op go
       → Does op os (run_on_ints (mode_of program) (flat_arity program.procs)
       (flat_entered program.procs) f.store f.world go
       (values locals group os))
@@ -156,7 +176,7 @@ module _ (program : Program) (typed : TypesStand program.l)
       subst (λ l. Does op l (go a b)) (sym t.2)
       (does t.0 t.1 a b t.3 t.4 (subst (λ l. operands_bound s.captured count depth l ≡ true) t.2 fits.bound)))
 
-  abbrev scene_by : FlatValue Coercion → Scene
+  abbrev scene_by : FlatValue program.meaning.Cast → Scene
   scene_by v = scene_for program f (next_state program f (On (Return v) f.frames f.store f.world))
       (R program (next_state program f (On (Return v) f.frames f.store f.world))) places
 
@@ -242,7 +262,7 @@ module _ (program : Program) (typed : TypesStand program.l)
       (λ w new c e touches. gives (RunBool (not b)) w new c e touches)))
 
   -- what is printed
-  abbrev printed : List ℕ → FlatAfter Coercion
+  abbrev printed : List ℕ → FlatAfter program.meaning.Cast
   printed bytes = On (Return RunUnit) f.frames f.store (printing bytes f.world)
 
   gives_unit : (bytes : List ℕ) (new : Locals) → new d ≡ Some 0 → Touches s d words new
@@ -266,7 +286,7 @@ module _ (program : Program) (typed : TypesStand program.l)
       waiting size rests s count group depth locals wide words fits.knows t.0 a d t.2 (bound_of (t.0 ∷ []) t.1)
       less_than_size k (inr refl) (λ new e touches. gives_unit (signed_decimal a) new e touches)))
 
-  turns_line : (vs : List (FlatValue Coercion)) → values locals group os ≡ vs
+  turns_line : (vs : List (FlatValue program.meaning.Cast)) → values locals group os ≡ vs
       → Does Newline os (run_newline (mode_of program) (flat_arity program.procs) (flat_entered program.procs) f.store
       f.world vs f.frames)
   turns_line (v ∷ vs) e = wrong Newline os
@@ -285,7 +305,7 @@ module _ (program : Program) (typed : TypesStand program.l)
 
   -- ---- a divisor 0
 
-  abbrev trapped : FlatState Coercion
+  abbrev trapped : FlatState program.meaning.Cast
   trapped = next_state program f (TrapOf ZeroDivisor f.world)
 
   abbrev trap_ending : Ending Verdict
@@ -299,13 +319,14 @@ module _ (program : Program) (typed : TypesStand program.l)
     calm = λ world h objects filled allowed active waiting. record { output = allowed; filling = (objects, filled) };
   }
 
-  quiet_seen : (s t : LowState) → Quiet s t → s.world ≡ f.world → Filled program.setting program.l objects (heap_of s)
+  quiet_seen : (s t : LowState) → Quiet s t → s.world ≡ f.world
+      → Filled program.meaning program.setting program.l program.number objects (heap_of s)
       → Seen program trapped t
   quiet_seen s t q w filled = record {
     output = ap (λ x. x.output) (q.world ∙ w);
     filling = (
       objects,
-      subst (λ x. Filled program.setting program.l objects x)
+      subst (λ x. Filled program.meaning program.setting program.l program.number objects x)
           (sym (heap_same t (heap_of s) q.memory q.alloc q.words)) filled,
     );
   }
@@ -340,7 +361,7 @@ module _ (program : Program) (typed : TypesStand program.l)
       else On (Return (RunInt (int_wrapping_div w64 a b))) f.frames f.store f.world)
   divided o p a b ea eb bound = by_divisor (int_eq b (pos 0)) refl
     where
-      v : FlatValue Coercion
+      v : FlatValue program.meaning.Cast
       v = RunInt (int_wrapping_div w64 a b)
 
       by_divisor : (t : Bool) → int_eq b (pos 0) ≡ t → Does Quot (o ∷ p ∷ []) (if t then TrapOf ZeroDivisor f.world
@@ -369,7 +390,7 @@ module _ (program : Program) (typed : TypesStand program.l)
           depth locals wide words fits.knows program.products o p a b ea eb bound d k e less_than_size
           (λ w new c q touches. gives (RunInt (int_rem a b)) w new c q touches)
 
-  pub operator_turns : (op' : PrimOp) → covers_operator op' ≡ true
+  pub operator_turns : (op' : PrimOp) → is_plain op' ≡ true
       → Does op' os (flat_operate program.procs (mode_of program) f.store f.world op' (values locals group os) f.frames)
   operator_turns Add c = two_ints Add _ add
   operator_turns Sub c = two_ints Sub _ subtract

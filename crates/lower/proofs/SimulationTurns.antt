@@ -12,7 +12,6 @@ use Rattle.grift_base.specs.declared.operators.PrimOp.TheVariants.{VectorLength}
 use Rattle.low_ir.specs.Procedures.{Code, Return as ReturnCode}
 use Rattle.low_ir.specs.Steps.{Locals, set_local}
 use Rattle.low_ir.specs.Run.{Active, Waiting as LowWaiting, LowState, word_of}
-use Rattle.coercion_norm.specs.Coercions.{Coercion}
 use Rattle.coercion_norm.specs.RunValues.{RunTuple, RunWrap, RunInt, RunBool, RunUnit, RunFun, RunLoc, RunInject}
 use Rattle.coercion_norm.specs.RunValues.{Pending}
 use Rattle.coercion_norm.specs.RunValues.{all_plain, row_list}
@@ -30,7 +29,6 @@ use Rattle.coercion_norm.specs.ValueSteps.{TrapOf}
 use Rattle.std.specs.Ordering.{int_eq}
 use Rattle.coercion_norm.specs.RunValues.{in_row}
 use Rattle.flat_ir.specs.Machine.{flat_operate}
-use Rattle.lower.specs.CoveredPrograms.{covers_operator}
 use Rattle.flat_ir.specs.declared.code.Operand.{Operand}
 use Rattle.flat_ir.specs.declared.code.Operation.{Operation}
 use Rattle.flat_ir.specs.declared.code.Operation.TheVariants.{Move, Prim, Cast, Tuple, Proj, ProjDyn}
@@ -38,249 +36,260 @@ use Rattle.flat_ir.specs.Bodies.{Body, Give, Call, Choose, LetBody, LetGroup, Pr
 use Rattle.flat_ir.specs.Machine.{FlatCode, FlatValue, FlatValues, FlatFrame, FlatFocus, FlatState, FlatStore}
 use Rattle.flat_ir.specs.Machine.{FlatAfter}
 use Rattle.flat_ir.specs.Machine.{Group, Locals as FlatLocals, Inside, Waiting, flat_state_at, value, values, flat_turn}
-use Rattle.flat_ir.specs.Machine.{flat_arity, flat_entered, entered_proc, perform as flat_perform, flat_proj}
+use Rattle.flat_ir.specs.Machine.{flat_arity, flat_entered, entered_proc, flat_proj}
 use Rattle.flat_ir.specs.Machine.{flat_choose, locals_of, set_local as set_flat}
 use Rattle.low_ir.specs.declared.code.LowSource.{LowSource}
 use Rattle.std.proofs.Common.{eqb-true}
 use Rattle.coercion_norm.specs.Held.{TypesStand}
 use Rattle.coercion_norm.specs.Objects.{Object}
-use Rattle.rt_cast.specs.States.{Heap, Filled}
+use Rattle.rt_cast.specs.States.{Heap}
+use Rattle.lower.specs.Storage.{Filled}
 use Rattle.lower.specs.declared.numbering.Shape.{Shape}
 use Rattle.lower.specs.Emit.{Then, ToCaller, Into, emit, give, perform}
-use Rattle.lower.specs.CoveredPrograms.{covers_operation}
 use Rattle.lower.specs.CarriedValues.{CellsHeld}
 use Rattle.lower.specs.RelatedStates.{Fits, Gave, Goes, NoCasts, pending_values}
 use Rattle.lower.proofs.RelationKept.{word_here, word_other}
 use Rattle.lower.proofs.WordSteps.{at, Moves, here, comes_back}
 use Rattle.lower.proofs.WordOperands.{and_true, value_carried}
 use Rattle.lower.proofs.SimulationWay.{mode_of}
-use Rattle.lower.proofs.SimulationWay.{Program, NoWraps, R, Follows, next_state, Way, scene_for, size_of}
+use Rattle.lower.proofs.SimulationWay.{Program, R, Follows, next_state, Way, scene_for, size_of}
 use Rattle.lower.proofs.SimulationWay.{frames_weight}
 use Rattle.lower.proofs.SimulationGives.{CarriedHere, RestHere, CallersHere, put_in, word_fits, word_for, code_for}
 use Rattle.lower.proofs.SimulationOperations.{goes_wrong, move_turns, tuple_turns, part_turns}
-use Rattle.coercion_norm.specs.Modes.{Decision, Keeping, Wrapping, Rewrapping, Unwrapping, Injecting, Opening, Making}
-use Rattle.coercion_norm.specs.Modes.{Blaming, NoCast}
-use Rattle.coercion_norm.specs.RunValues.{shape_of}
-use Rattle.coercion_norm.specs.ValueSteps.{make}
 use Rattle.flat_ir.specs.Machine.{flat_cast}
-use Rattle.lower.proofs.SimulationCasts.{cast_turns}
-use Rattle.lower.proofs.SimulationOperators.{operator_turns}
+use Rattle.coercion_norm.specs.ValueSteps.{casts_onto, decision_wraps, run_enter_wrapped}
+use Rattle.flat_ir.specs.Counts.{decision_at, flat_turn_wraps}
+use Rattle.lower.proofs.SimulationServices.{Served}
+use Rattle.lower.proofs.SimulationCasts.{cast_served}
+use Rattle.lower.proofs.SimulationParts.{part_served, dyn_part_served}
+use Rattle.lower.proofs.SimulationApplied.{call_served, all_plain_onto}
+use Rattle.lower.proofs.SimulationResumed.{resumed}
+use Rattle.lower.proofs.SimulationCells.{vector_made, vector_read, vector_written, vector_measured, box_read}
+use Rattle.lower.proofs.SimulationCells.{box_written}
+use Rattle.lower.proofs.SimulationBoxes.{box_made, box_read_here, box_written_here}
+use Rattle.lower.proofs.SimulationOperators.{one_operand, two_operands}
+use Rattle.coercion_norm.specs.ValueSteps.{run_unbox_cell, run_writes_cell}
+use Rattle.low_ir.specs.declared.code.LowSource.TheVariants.{Number}
+use Rattle.low_ir.specs.Procedures.{Done, Call as CallOf}
+use Rattle.lower.specs.Numbering.{operand_word}
+use Rattle.lower.specs.Emit.{found}
+use Rattle.std.specs.Prelude.{slice_set, ◌++◌, nat_lt}
+use Rattle.lower.proofs.SimulationOperators.{is_plain, operator_turns}
 use Rattle.lower.proofs.SimulationBodies.{branch_turns, let_turns, group_turns, gave_turns}
 use Rattle.lower.proofs.SimulationCalls.{call_goes}
 use Rattle.lower.proofs.SimulationAnswers.{true_false}
 
-plain_long : (vs : List (FlatValue Coercion)) → length (all_plain {K = FlatCode} vs) ≡ length vs
+plain_long : {C : Type 0} (vs : List (FlatValue C)) → length (all_plain {K = FlatCode} vs) ≡ length vs
 plain_long [] = refl
 plain_long (v ∷ vs) = ap suc (plain_long vs)
 
-values_long : (locals : FlatLocals Coercion) (group : Group Coercion) (os : List Operand)
+values_long : {C : Type 0} (locals : FlatLocals C) (group : Group C) (os : List Operand)
     → length (values locals group os) ≡ length os
 values_long locals group [] = refl
 values_long locals group (o ∷ os) = ap suc (values_long locals group os)
 
-plain_values : (vs : List (FlatValue Coercion)) → pending_values (all_plain vs) ≡ vs
+plain_values : {C : Type 0} (vs : List (FlatValue C)) → pending_values (all_plain vs) ≡ vs
 plain_values [] = refl
 plain_values (v ∷ vs) = ap (λ l. v ∷ l) (plain_values vs)
 
-plain_casts : (vs : List (FlatValue Coercion)) → NoCasts (all_plain vs)
+plain_casts : {C : Type 0} (vs : List (FlatValue C)) → NoCasts (all_plain vs)
 plain_casts [] = tt
 plain_casts (v ∷ vs) = (refl, plain_casts vs)
 
+-- whether a value is in a wrapper
+abbrev is_wrapped : {C : Type 0} → FlatValue C → Bool
+is_wrapped (RunWrap v cast) = true
+is_wrapped v = false
+
+no_wrapper : {C : Type 0} (v : FlatValue C) → is_wrapped v ≡ false → (u : FlatValue C) (cast : C) → v ≡ RunWrap u cast
+    → ⊥
+no_wrapper v e u cast is = true_false (sym e ∙ ap is_wrapped is)
+
 module _ (program : Program) (typed : TypesStand program.l) where
   -- a state that goes on
-  abbrev pub st : FlatFocus Coercion → List (FlatFrame Coercion) → FlatStore Coercion → WorldState → FlatState Coercion
+  abbrev pub st : FlatFocus program.meaning.Cast → List (FlatFrame program.meaning.Cast)
+      → FlatStore program.meaning.Cast → WorldState → FlatState program.meaning.Cast
   st focus frames store world =
       record { focus = focus; frames = frames; store = store; world = world; ended = None }
 
   -- what the run over words does for a turn: some steps, or any where the measure falls
-  abbrev pub Turn : FlatState Coercion → FlatAfter Coercion → LowState → Type 0
+  abbrev pub Turn : FlatState program.meaning.Cast → FlatAfter program.meaning.Cast → LowState → Type 0
   Turn f x t =
       (Follows program f x t × (size_of (next_state program f x) < size_of f))
       ⊎ Moves program.setting (Way program f (next_state program f x)) (R program (next_state program f x)) t
 
+  -- or what a procedure of the scheme does for one with so many wrap steps
+  abbrev pub Does : FlatState program.meaning.Cast → FlatAfter program.meaning.Cast → ℕ → LowState → Type 0
+  Does f x w t = ((w ≡ 0) × Turn f x t) ⊎ Served program typed f x w t
+
   -- ---- where the measure falls
 
-  abbrev FallsAt : FlatState Coercion → FlatAfter Coercion → Type 0
+  abbrev FallsAt : FlatState program.meaning.Cast → FlatAfter program.meaning.Cast → Type 0
   FallsAt f x = size_of (next_state program f x) < size_of f
 
-  returns_less : (v : FlatValue Coercion) (frames : List (FlatFrame Coercion)) (store : FlatStore Coercion)
+  returns_less : (v : FlatValue program.meaning.Cast) (frames : List (FlatFrame program.meaning.Cast))
+      (store : FlatStore program.meaning.Cast)
       (world : WorldState) (n : ℕ) → frames_weight frames ≤ n
       → size_of (flat_state_at program.procs program.told (Return v) frames store world) ≤ suc n
   returns_less v [] store world n le = omega arith
   returns_less v (frame ∷ frames) store world n le = omega (arith, le)
 
-  module _ (op : Operation) (locals : FlatLocals Coercion) (group : Group Coercion)
-      (frames : List (FlatFrame Coercion)) (store : FlatStore Coercion) (world : WorldState) where
-    abbrev f : FlatState Coercion
-    f = st (Own (Inside (Give op) locals group)) frames store world
+  module _ (op : Operation) (locals : FlatLocals program.meaning.Cast) (group : Group program.meaning.Cast)
+      (frames : List (FlatFrame program.meaning.Cast)) (store : FlatStore program.meaning.Cast) (world : WorldState)
+    where
+      abbrev f : FlatState program.meaning.Cast
+      f = st (Own (Inside (Give op) locals group)) frames store world
 
-    given_falls : (v : FlatValue Coercion) (world' : WorldState) → FallsAt f (On (Return v) frames store world')
-    given_falls v world' =
-        let z = returns_less v frames store world' (frames_weight frames) (omega arith) in omega (arith, z)
+      given_falls : (v : FlatValue program.meaning.Cast) (world' : WorldState)
+          → FallsAt f (On (Return v) frames store world')
+      given_falls v world' =
+          let z = returns_less v frames store world' (frames_weight frames) (omega arith) in omega (arith, z)
 
-    wrong_falls : FallsAt f NoNext
-    wrong_falls = omega arith
+      wrong_falls : FallsAt f NoNext
+      wrong_falls = omega arith
 
-    proj_falls : (v : FlatValue Coercion) (i : ℤ)
-        → FallsAt f (flat_proj program.procs (mode_of program) store world v i frames)
-    proj_falls (RunTuple vs) (pos i) = by_part (slice_get (row_list vs) i)
-      where
-        by_part : (o : Option (FlatValue Coercion)) → FallsAt f (on_some o (λ v. On (Return v) frames store world))
-        by_part None = wrong_falls
-        by_part (Some v) = given_falls v world
-    proj_falls (RunTuple vs) (negsuc i) = wrong_falls
-    proj_falls (RunWrap v c) i = by_cast ((mode_of program).projecting c i)
-      where
-        by_cast : (o : Option Coercion)
-            → FallsAt f (on_some o (λ part. On (Return v) (ProjFrame i ∷ CastFrame part ∷ frames) store world))
-        by_cast None = wrong_falls
-        by_cast (Some part) = omega arith
-    proj_falls (RunInt n) i = wrong_falls
-    proj_falls (RunBool b) i = wrong_falls
-    proj_falls RunUnit i = wrong_falls
-    proj_falls (RunFun function captured) i = wrong_falls
-    proj_falls (RunLoc cell is_vector) i = wrong_falls
-    proj_falls (RunInject v kept) i = wrong_falls
+      proj_falls : (v : FlatValue program.meaning.Cast) (i : ℤ)
+          → FallsAt f (flat_proj program.procs (mode_of program) store world v i frames)
+      proj_falls (RunTuple vs) (pos i) = by_part (slice_get (row_list vs) i)
+        where
+          by_part : (o : Option (FlatValue program.meaning.Cast))
+              → FallsAt f (on_some o (λ v. On (Return v) frames store world))
+          by_part None = wrong_falls
+          by_part (Some v) = given_falls v world
+      proj_falls (RunTuple vs) (negsuc i) = wrong_falls
+      proj_falls (RunWrap v c) i = by_cast ((mode_of program).projecting c i)
+        where
+          by_cast : (o : Option program.meaning.Cast)
+              → FallsAt f (on_some o (λ part. On (Return v) (ProjFrame i ∷ CastFrame part ∷ frames) store world))
+          by_cast None = wrong_falls
+          by_cast (Some part) = omega arith
+      proj_falls (RunInt n) i = wrong_falls
+      proj_falls (RunBool b) i = wrong_falls
+      proj_falls RunUnit i = wrong_falls
+      proj_falls (RunFun function captured) i = wrong_falls
+      proj_falls (RunLoc cell is_vector) i = wrong_falls
+      proj_falls (RunInject v kept) i = wrong_falls
 
-    on_ints : (go : ℤ → ℤ → FlatAfter Coercion) → ((a b : ℤ) → FallsAt f (go a b)) → (vs : List (FlatValue Coercion))
-        → FallsAt f (run_on_ints (mode_of program) (flat_arity program.procs)
-        (flat_entered program.procs) store world go vs)
-    on_ints go does (RunInt a ∷ RunInt b ∷ []) = does a b
-    on_ints go does _ = wrong_falls
+      on_ints : (go : ℤ → ℤ → FlatAfter program.meaning.Cast) → ((a b : ℤ) → FallsAt f (go a b))
+          → (vs : List (FlatValue program.meaning.Cast))
+          → FallsAt f (run_on_ints (mode_of program) (flat_arity program.procs)
+          (flat_entered program.procs) store world go vs)
+      on_ints go does (RunInt a ∷ RunInt b ∷ []) = does a b
+      on_ints go does _ = wrong_falls
 
-    on_int : (go : ℤ → FlatAfter Coercion) → ((a : ℤ) → FallsAt f (go a)) → (vs : List (FlatValue Coercion))
-        → FallsAt f (run_on_int (mode_of program) (flat_arity program.procs)
-        (flat_entered program.procs) store world go vs)
-    on_int go does (RunInt a ∷ []) = does a
-    on_int go does _ = wrong_falls
+      on_int : (go : ℤ → FlatAfter program.meaning.Cast) → ((a : ℤ) → FallsAt f (go a))
+          → (vs : List (FlatValue program.meaning.Cast))
+          → FallsAt f (run_on_int (mode_of program) (flat_arity program.procs)
+          (flat_entered program.procs) store world go vs)
+      on_int go does (RunInt a ∷ []) = does a
+      on_int go does _ = wrong_falls
 
-    on_bool : (go : Bool → FlatAfter Coercion) → ((b : Bool) → FallsAt f (go b)) → (vs : List (FlatValue Coercion))
-        → FallsAt f (run_on_bool (mode_of program) (flat_arity program.procs)
-        (flat_entered program.procs) store world go vs)
-    on_bool go does (RunBool b ∷ []) = does b
-    on_bool go does _ = wrong_falls
+      on_bool : (go : Bool → FlatAfter program.meaning.Cast) → ((b : Bool) → FallsAt f (go b))
+          → (vs : List (FlatValue program.meaning.Cast))
+          → FallsAt f (run_on_bool (mode_of program) (flat_arity program.procs)
+          (flat_entered program.procs) store world go vs)
+      on_bool go does (RunBool b ∷ []) = does b
+      on_bool go does _ = wrong_falls
 
-    newline_falls : (vs : List (FlatValue Coercion))
-        → FallsAt f (run_newline (mode_of program) (flat_arity program.procs)
-        (flat_entered program.procs) store world vs
-        frames)
-    newline_falls [] = given_falls RunUnit (printing (codes "\n") world)
-    newline_falls (v ∷ vs) = wrong_falls
+      newline_falls : (vs : List (FlatValue program.meaning.Cast))
+          → FallsAt f (run_newline (mode_of program) (flat_arity program.procs)
+          (flat_entered program.procs) store world vs
+          frames)
+      newline_falls [] = given_falls RunUnit (printing (codes "\n") world)
+      newline_falls (v ∷ vs) = wrong_falls
 
-    divided_falls : (t : Bool) (v : FlatValue Coercion)
-        → FallsAt f (if t then TrapOf ZeroDivisor world else On (Return v) frames store world)
-    divided_falls true v = omega arith
-    divided_falls false v = given_falls v world
+      divided_falls : (t : Bool) (v : FlatValue program.meaning.Cast)
+          → FallsAt f (if t then TrapOf ZeroDivisor world else On (Return v) frames store world)
+      divided_falls true v = omega arith
+      divided_falls false v = given_falls v world
 
-    operator_falls : (op : PrimOp) → covers_operator op ≡ true → (vs : List (FlatValue Coercion))
-        → FallsAt f (flat_operate program.procs (mode_of program) store world op vs frames)
-    operator_falls Add c vs =
-        on_ints (λ a b. On (Return (RunInt (int_wrap w64 (a +ℤ b)))) frames store world)
-        (λ a b. given_falls (RunInt (int_wrap w64 (a +ℤ b))) world) vs
-    operator_falls Sub c vs =
-        on_ints (λ a b. On (Return (RunInt (int_wrap w64 (a -ℤ b)))) frames store world)
-        (λ a b. given_falls (RunInt (int_wrap w64 (a -ℤ b))) world) vs
-    operator_falls Lt c vs =
-        on_ints (λ a b. On (Return (RunBool (int_lt a b))) frames store world)
-        (λ a b. given_falls (RunBool (int_lt a b)) world) vs
-    operator_falls Gt c vs =
-        on_ints (λ a b. On (Return (RunBool (int_lt b a))) frames store world)
-        (λ a b. given_falls (RunBool (int_lt b a)) world) vs
-    operator_falls Le c vs =
-        on_ints (λ a b. On (Return (RunBool (int_le a b))) frames store world)
-        (λ a b. given_falls (RunBool (int_le a b)) world) vs
-    operator_falls Ge c vs =
-        on_ints (λ a b. On (Return (RunBool (int_le b a))) frames store world)
-        (λ a b. given_falls (RunBool (int_le b a)) world) vs
-    operator_falls Equal c vs =
-        on_ints (λ a b. On (Return (RunBool (int_eq a b))) frames store world)
-        (λ a b. given_falls (RunBool (int_eq a b)) world) vs
-    operator_falls Not c vs =
-        on_bool (λ b. On (Return (RunBool (not b))) frames store world) (λ b. given_falls (RunBool (not b)) world) vs
-    operator_falls PrintInt c vs =
-        on_int (λ a. On (Return RunUnit) frames store (printing (signed_decimal a) world))
-        (λ a. given_falls RunUnit (printing (signed_decimal a) world)) vs
-    operator_falls Newline c vs = newline_falls vs
-    operator_falls Mul c vs =
-        on_ints (λ a b. On (Return (RunInt (int_wrap w64 (a *ℤ b)))) frames store world)
-        (λ a b. given_falls (RunInt (int_wrap w64 (a *ℤ b))) world) vs
-    operator_falls Quot c vs =
-        on_ints (λ a b. if int_eq b (pos 0) then TrapOf ZeroDivisor world
-        else On (Return (RunInt (int_wrapping_div w64 a b))) frames store world)
-        (λ a b. divided_falls (int_eq b (pos 0)) (RunInt (int_wrapping_div w64 a b))) vs
-    operator_falls Rem c vs =
-        on_ints (λ a b. if int_eq b (pos 0) then TrapOf ZeroDivisor world
-        else On (Return (RunInt (int_rem a b))) frames store world)
-        (λ a b. divided_falls (int_eq b (pos 0)) (RunInt (int_rem a b))) vs
-    operator_falls ReadInt c vs = true_false c
-    operator_falls MakeBox c vs = true_false c
-    operator_falls Unbox c vs = true_false c
-    operator_falls BoxSet c vs = true_false c
-    operator_falls MakeVector c vs = true_false c
-    operator_falls VectorRef c vs = true_false c
-    operator_falls VectorSet c vs = true_false c
-    operator_falls VectorLength c vs = true_false c
-
-    -- whatever a decision makes of a value
-    made_falls : (decision : Decision Coercion) (v : FlatValue Coercion)
-        → FallsAt f (make (mode_of program) (flat_arity program.procs) (flat_entered program.procs) store world decision
-        v frames)
-    made_falls Keeping v = given_falls v world
-    made_falls (Wrapping c) v = given_falls (RunWrap v c) world
-    made_falls (Injecting kept) v = given_falls (RunInject v kept) world
-    made_falls (Making c d) v = omega arith
-    made_falls (Blaming label) v = omega arith
-    made_falls NoCast v = wrong_falls
-    made_falls (Rewrapping c) (RunWrap v old) = given_falls (RunWrap v c) world
-    made_falls Unwrapping (RunWrap v old) = given_falls v world
-    made_falls (Opening c) (RunInject v kept) = omega arith
-    made_falls decision v = wrong_falls
-
-    cast_falls : (row : Option Coercion) (v : FlatValue Coercion)
-        → FallsAt f (on_some row (λ c. flat_cast program.procs (mode_of program) store world v c frames))
-    cast_falls None v = wrong_falls
-    cast_falls (Some c) v = made_falls ((mode_of program).cast c (shape_of (flat_arity program.procs) v)) v
-
-    operation_falls : (op' : Operation) → covers_operation op' ≡ true
-        → FallsAt f (flat_perform program.procs (mode_of program) store world op' locals group frames)
-    operation_falls (Move o) c = given_falls (value locals group o) world
-    operation_falls (Tuple os) c = given_falls (RunTuple (in_row (values locals group os))) world
-    operation_falls (Proj o i) c = proj_falls (value locals group o) i
-    operation_falls (Prim op os) c = operator_falls op c (values locals group os)
-    operation_falls (Cast o number) c = cast_falls ((mode_of program).row number) (value locals group o)
-    operation_falls (ProjDyn o i label) c = true_false c
+      operator_falls : (op : PrimOp) → is_plain op ≡ true → (vs : List (FlatValue program.meaning.Cast))
+          → FallsAt f (flat_operate program.procs (mode_of program) store world op vs frames)
+      operator_falls Add c vs =
+          on_ints (λ a b. On (Return (RunInt (int_wrap w64 (a +ℤ b)))) frames store world)
+          (λ a b. given_falls (RunInt (int_wrap w64 (a +ℤ b))) world) vs
+      operator_falls Sub c vs =
+          on_ints (λ a b. On (Return (RunInt (int_wrap w64 (a -ℤ b)))) frames store world)
+          (λ a b. given_falls (RunInt (int_wrap w64 (a -ℤ b))) world) vs
+      operator_falls Lt c vs =
+          on_ints (λ a b. On (Return (RunBool (int_lt a b))) frames store world)
+          (λ a b. given_falls (RunBool (int_lt a b)) world) vs
+      operator_falls Gt c vs =
+          on_ints (λ a b. On (Return (RunBool (int_lt b a))) frames store world)
+          (λ a b. given_falls (RunBool (int_lt b a)) world) vs
+      operator_falls Le c vs =
+          on_ints (λ a b. On (Return (RunBool (int_le a b))) frames store world)
+          (λ a b. given_falls (RunBool (int_le a b)) world) vs
+      operator_falls Ge c vs =
+          on_ints (λ a b. On (Return (RunBool (int_le b a))) frames store world)
+          (λ a b. given_falls (RunBool (int_le b a)) world) vs
+      operator_falls Equal c vs =
+          on_ints (λ a b. On (Return (RunBool (int_eq a b))) frames store world)
+          (λ a b. given_falls (RunBool (int_eq a b)) world) vs
+      operator_falls Not c vs =
+          on_bool (λ b. On (Return (RunBool (not b))) frames store world) (λ b. given_falls (RunBool (not b)) world) vs
+      operator_falls PrintInt c vs =
+          on_int (λ a. On (Return RunUnit) frames store (printing (signed_decimal a) world))
+          (λ a. given_falls RunUnit (printing (signed_decimal a) world)) vs
+      operator_falls Newline c vs = newline_falls vs
+      operator_falls Mul c vs =
+          on_ints (λ a b. On (Return (RunInt (int_wrap w64 (a *ℤ b)))) frames store world)
+          (λ a b. given_falls (RunInt (int_wrap w64 (a *ℤ b))) world) vs
+      operator_falls Quot c vs =
+          on_ints (λ a b. if int_eq b (pos 0) then TrapOf ZeroDivisor world
+          else On (Return (RunInt (int_wrapping_div w64 a b))) frames store world)
+          (λ a b. divided_falls (int_eq b (pos 0)) (RunInt (int_wrapping_div w64 a b))) vs
+      operator_falls Rem c vs =
+          on_ints (λ a b. if int_eq b (pos 0) then TrapOf ZeroDivisor world
+          else On (Return (RunInt (int_rem a b))) frames store world)
+          (λ a b. divided_falls (int_eq b (pos 0)) (RunInt (int_rem a b))) vs
+      operator_falls ReadInt c vs = true_false c
+      operator_falls MakeBox c vs = true_false c
+      operator_falls Unbox c vs = true_false c
+      operator_falls BoxSet c vs = true_false c
+      operator_falls MakeVector c vs = true_false c
+      operator_falls VectorRef c vs = true_false c
+      operator_falls VectorSet c vs = true_false c
+      operator_falls VectorLength c vs = true_false c
 
   -- ---- each turn, from a state of the procedures over words that goes with it
 
-  module _ (frames : List (FlatFrame Coercion)) (store : FlatStore Coercion) (world : WorldState) (places : List ℕ)
-      (objects : List Object) (h : Heap) (filled : Filled program.setting program.l objects h)
-      (cells : CellsHeld program.l program.setting.address program.procs NoWraps places objects h.memory places store)
+  module _ (frames : List (FlatFrame program.meaning.Cast)) (store : FlatStore program.meaning.Cast)
+      (world : WorldState) (places : List ℕ)
+      (objects : List Object) (h : Heap) (filled : Filled program.meaning program.setting program.l program.number
+      objects h)
+      (cells : CellsHeld program.l program.setting.address program.procs program.meaning places objects h.memory places
+      store)
     where
-      abbrev GoesHere : FlatFocus Coercion → Active → List LowWaiting → Type 0
-      GoesHere focus active waiting = Goes program.setting program.l program.run program.procs program.answer NoWraps
+      abbrev GoesHere : FlatFocus program.meaning.Cast → Active → List LowWaiting → Type 0
+      GoesHere focus active waiting =
+          Goes program.setting program.l program.run program.procs program.answer program.meaning
           places
           objects focus frames active waiting
 
-      abbrev FitsHere : Shape → ℕ → ℕ → Group Coercion → ℕ → FlatLocals Coercion → Locals → Body → Type 0
+      abbrev FitsHere : Shape → ℕ → ℕ → Group program.meaning.Cast → ℕ → FlatLocals program.meaning.Cast → Locals → Body
+          → Type 0
       FitsHere s count size group depth locals words body = Fits program.setting program.l program.run program.procs
-          program.answer NoWraps places objects s count size group depth locals words body
+          program.answer program.meaning places objects s count size group depth locals words body
 
       module _ (waiting : List LowWaiting) (size : ℕ) (rests : List Code) (words : Locals) where
         abbrev At : Code → LowState
         At code = at world h waiting size rests words code
 
         -- a body runs
-        module _ (locals : FlatLocals Coercion) (group : Group Coercion) (s : Shape) (count depth : ℕ)
+        module _ (locals : FlatLocals program.meaning.Cast) (group : Group program.meaning.Cast) (s : Shape)
+            (count depth : ℕ)
             (next : Then) where
-          abbrev fl : Body → FlatState Coercion
+          abbrev fl : Body → FlatState program.meaning.Cast
           fl body = st (Own (Inside body locals group)) frames store world
 
           abbrev Run : Body → Type 0
           Run body =
               FitsHere s count size group depth locals words body
               → RestHere program places objects waiting s count size group depth frames next rests words
-              → Turn (fl body)
+              → Does (fl body)
               (flat_turn program.procs (mode_of program) store world (Own (Inside body locals group)) frames)
+              (flat_turn_wraps program.procs (mode_of program) (Own (Inside body locals group)) frames)
               (At (emit program.run s body next))
 
           give_as : (op : Operation) (next : Then)
@@ -299,56 +308,313 @@ module _ (program : Program) (typed : TypesStand program.l) where
           give_as (Proj o i) (Into d k) other = refl
           give_as (ProjDyn o i label) (Into d k) other = refl
 
+          runs_plain : (op : PrimOp) (os : List Operand) → is_plain op ≡ true → Run (Give (Prim op os))
+          runs_plain op os c fits rest =
+              inl (
+                refl,
+                inl (
+                  subst (λ c. Follows program (fl (Give (Prim op os)))
+                      (flat_turn program.procs (mode_of program) store world
+                      (Own (Inside (Give (Prim op os)) locals group)) frames)
+                      (At c)) (sym (give_as (Prim op os) next (λ o e. absurd (let z : ⊥ = cc in z))))
+                      (operator_turns program typed (fl (Give (Prim op os))) places objects h filled cells waiting size
+                      rests words s count depth group locals op os next fits rest op c),
+                  operator_falls (Prim op os) locals group frames store world op c (values locals group os),
+                ),
+              )
+
+          as_served : (op : PrimOp) (os : List Operand)
+              → Served program typed (fl (Give (Prim op os)))
+              (flat_operate program.procs (mode_of program) store world op (values locals group os) frames) 0
+              (At (perform program.run s (word_for program places objects s next) (Prim op os)
+              (code_for program places objects s next)))
+              → Does (fl (Give (Prim op os)))
+              (flat_turn program.procs (mode_of program) store world (Own (Inside (Give (Prim op os)) locals group))
+              frames) 0 (At (give program.run s (Prim op os) next))
+          as_served op os x =
+              inr (subst (λ c. Served program typed (fl (Give (Prim op os)))
+              (flat_operate program.procs (mode_of program) store world op (values locals group os) frames) 0 (At c))
+              (sym (give_as (Prim op os) next (λ o e. absurd (let z : ⊥ = cc in z)))) x)
+
+          -- an operator in place
+          abbrev Placed : PrimOp → List Operand → FlatAfter program.meaning.Cast → Type 0
+          Placed op os x =
+              Does (fl (Give (Prim op os))) x 0 (At (give program.run s (Prim op os) next))
+
+          as_placed : (op : PrimOp) (os : List Operand) (x : FlatAfter program.meaning.Cast)
+              → Follows program (fl (Give (Prim op os))) x
+              (At (perform program.run s (word_for program places objects s next) (Prim op os)
+              (code_for program places objects s next))) → FallsAt (fl (Give (Prim op os))) x → Placed op os x
+          as_placed op os x c falls =
+              inl (
+                refl,
+                inl (
+                  subst (λ z. Follows program (fl (Give (Prim op os))) x (At z))
+                      (sym (give_as (Prim op os) next (λ o e. absurd (let z : ⊥ = cc in z)))) c,
+                  falls,
+                ),
+              )
+
+          wrongly : (op : PrimOp) (os : List Operand) → Placed op os NoNext
+          wrongly op os =
+              inl (
+                refl,
+                inl (
+                  goes_wrong program (fl (Give (Prim op os))) places objects h filled waiting size rests words
+                      (give program.run s (Prim op os) next),
+                  wrong_falls (Prim op os) locals group frames store world,
+                ),
+              )
+
+          makes_box : (os : List Operand) → Run (Give (Prim MakeBox os))
+          makes_box [] fits rest = wrongly MakeBox []
+          makes_box (o ∷ p ∷ os) fits rest = wrongly MakeBox (o ∷ p ∷ os)
+          makes_box (o ∷ []) fits rest =
+              as_placed MakeBox (o ∷ []) (On (Return (RunLoc (length store) false)) frames
+              (store ++ (value locals group o ∷ []) ∷ []) world)
+              (box_made program typed (fl (Give (Prim MakeBox (o ∷ [])))) places objects h filled cells waiting size
+              rests
+              words s count depth group locals (Prim MakeBox (o ∷ [])) next fits rest o fits.bound)
+              (returns_less' (RunLoc (length store) false) (store ++ (value locals group o ∷ []) ∷ []))
+            where
+              returns_less' : (v : FlatValue program.meaning.Cast) (store' : FlatStore program.meaning.Cast)
+                  → size_of (flat_state_at program.procs program.told (Return v) frames store' world)
+                  < suc (3 + frames_weight frames)
+              returns_less' v store' =
+                  let z = returns_less v frames store' world (frames_weight frames) (omega arith) in omega (arith, z)
+
+          reads_box : (os : List Operand) → Run (Give (Prim Unbox os))
+          reads_box os fits rest = by_values (values locals group os) refl
+            where
+              by_values : (vs : List (FlatValue program.meaning.Cast)) → values locals group os ≡ vs
+                  → Does (fl (Give (Prim Unbox os)))
+                  (flat_operate program.procs (mode_of program) store world Unbox vs frames) 0
+                  (At (give program.run s (Prim Unbox os) next))
+              by_values (RunWrap u c ∷ others) e =
+                  subst (λ vs. Placed Unbox os (flat_operate program.procs (mode_of program) store world Unbox vs
+                  frames))
+                  e (as_served Unbox os (box_read program typed (fl (Give (Prim Unbox os))) places objects h filled
+                  cells
+                  waiting size rests words s count depth group locals Unbox os next fits rest u c others e))
+              by_values (RunLoc cell false ∷ []) e = by_content (slice_get store cell) refl
+                where
+                  one : (o : Operand) × (os ≡ o ∷ []) × (value locals group o ≡ RunLoc cell false)
+                  one = one_operand locals group os (RunLoc cell false) e
+
+                  by_content : (content : Option (List (FlatValue program.meaning.Cast)))
+                      → slice_get store cell ≡ content
+                      → Placed Unbox os (on_some content (λ values. run_unbox_cell (mode_of program)
+                      (flat_arity program.procs) (flat_entered program.procs) store world values frames))
+                  by_content None is = wrongly Unbox os
+                  by_content (Some []) is = wrongly Unbox os
+                  by_content (Some (v ∷ w ∷ vs)) is = wrongly Unbox os
+                  by_content (Some (v ∷ [])) is =
+                      as_placed Unbox os (On (Return v) frames store world)
+                      (subst (λ os'. Follows program (fl (Give (Prim Unbox os))) (On (Return v) frames store world)
+                      (At (perform program.run s (word_for program places objects s next) (Prim Unbox os')
+                      (code_for program places objects s next)))) (sym one.1)
+                      (box_read_here program typed (fl (Give (Prim Unbox os))) places objects h filled cells waiting
+                      size
+                      rests words s count depth group locals (Prim Unbox os) next fits rest one.0
+                      (subst (λ os'. operands_bound s.captured count depth os' ≡ true) one.1 fits.bound) cell one.2 v is
+                      (CallOf (word_for program places objects s next) program.run.read
+                      (Number 0 ∷ found s (operand_word s 0) one.0 ∷ Number 0 ∷ []) Done)))
+                      (given_falls (Prim Unbox os) locals group frames store world v world)
+              by_values vs e = wrongly Unbox os
+
+          writes_box : (os : List Operand) → Run (Give (Prim BoxSet os))
+          writes_box os fits rest = by_values (values locals group os) refl
+            where
+              by_values : (vs : List (FlatValue program.meaning.Cast)) → values locals group os ≡ vs
+                  → Does (fl (Give (Prim BoxSet os)))
+                  (flat_operate program.procs (mode_of program) store world BoxSet vs frames) 0
+                  (At (give program.run s (Prim BoxSet os) next))
+              by_values (RunWrap u c ∷ others) e =
+                  subst (λ vs. Placed BoxSet os (flat_operate program.procs (mode_of program) store world BoxSet vs
+                  frames))
+                  e (as_served BoxSet os (box_written program typed (fl (Give (Prim BoxSet os))) places objects h filled
+                  cells waiting size rests words s count depth group locals BoxSet os next fits rest u c others e))
+              by_values (RunLoc cell false ∷ v ∷ []) e = by_content (slice_get store cell) refl
+                where
+                  two : (o p : Operand) × (os ≡ o ∷ p ∷ []) × (value locals group o ≡ RunLoc cell false)
+                      × (value locals group p ≡ v)
+                  two = two_operands locals group os (RunLoc cell false) v e
+
+                  by_content : (content : Option (List (FlatValue program.meaning.Cast)))
+                      → slice_get store cell ≡ content
+                      → Placed BoxSet os (on_some content (λ old. run_writes_cell (mode_of program)
+                      (flat_arity program.procs) (flat_entered program.procs) store world cell (v ∷ []) frames))
+                  by_content None is = wrongly BoxSet os
+                  by_content (Some old) is =
+                      subst (λ u. Placed BoxSet os (On (Return RunUnit) frames (slice_set store cell (u ∷ [])) world))
+                      two.4 (as_placed BoxSet os (On (Return RunUnit) frames
+                      (slice_set store cell (value locals group two.1 ∷ [])) world)
+                      (subst (λ os'. Follows program (fl (Give (Prim BoxSet os))) (On (Return RunUnit) frames
+                      (slice_set store cell (value locals group two.1 ∷ [])) world)
+                      (At (perform program.run s (word_for program places objects s next) (Prim BoxSet os')
+                      (code_for program places objects s next)))) (sym two.2)
+                      (box_written_here program typed (fl (Give (Prim BoxSet os))) places objects h filled cells waiting
+                      size rests words s count depth group locals (Prim BoxSet os) next fits rest two.0 two.1
+                      (subst (λ os'. operands_bound s.captured count depth os' ≡ true) two.2 fits.bound) cell two.3 old
+                      is
+                      (CallOf (word_for program places objects s next) program.run.write
+                      (Number 0 ∷ found s (operand_word s 0) two.0 ∷ Number 0 ∷ found s (operand_word s 1) two.1 ∷ [])
+                      Done)))
+                      (let z = returns_less RunUnit frames (slice_set store cell (value locals group two.1 ∷ [])) world
+                      (frames_weight frames) (omega arith) in omega (arith, z)))
+              by_values vs e = wrongly BoxSet os
+
           runs_operation : (op : Operation) → Run (Give op)
           runs_operation (Move o) fits rest =
               inl (
-                move_turns program typed (fl (Give (Move o))) places objects h filled cells waiting size rests words s
-                    count depth group locals (Move o) next fits rest o fits.bound,
-                operation_falls (Move o) locals group frames store world (Move o) fits.covered,
+                refl,
+                inl (
+                  move_turns program typed (fl (Give (Move o))) places objects h filled cells waiting size rests words s
+                      count depth group locals (Move o) next fits rest o fits.bound,
+                  given_falls (Move o) locals group frames store world (value locals group o) world,
+                ),
               )
           runs_operation (Tuple os) fits rest =
               inl (
-                subst (λ c. Follows program (fl (Give (Tuple os)))
-                    (flat_turn program.procs (mode_of program) store world
-                    (Own (Inside (Give (Tuple os)) locals group)) frames)
-                    (At c)) (sym (give_as (Tuple os) next (λ o e. absurd (let z : ⊥ = cc in z))))
-                    (tuple_turns program typed (fl (Give (Tuple os))) places objects h filled cells waiting size rests
-                    words s count depth group locals (Tuple os) next fits rest os fits.bound),
-                operation_falls (Tuple os) locals group frames store world (Tuple os) fits.covered,
+                refl,
+                inl (
+                  subst (λ c. Follows program (fl (Give (Tuple os)))
+                      (flat_turn program.procs (mode_of program) store world
+                      (Own (Inside (Give (Tuple os)) locals group)) frames)
+                      (At c)) (sym (give_as (Tuple os) next (λ o e. absurd (let z : ⊥ = cc in z))))
+                      (tuple_turns program typed (fl (Give (Tuple os))) places objects h filled cells waiting size rests
+                      words s count depth group locals (Tuple os) next fits rest os fits.bound),
+                  given_falls (Tuple os) locals group frames store world (RunTuple (in_row (values locals group os)))
+                      world,
+                ),
               )
-          runs_operation (Proj o i) fits rest =
-              inl (
-                subst (λ c. Follows program (fl (Give (Proj o i)))
-                    (flat_turn program.procs (mode_of program) store world
-                    (Own (Inside (Give (Proj o i)) locals group)) frames)
-                    (At c)) (sym (give_as (Proj o i) next (λ o e. absurd (let z : ⊥ = cc in z))))
-                    (part_turns program typed (fl (Give (Proj o i))) places objects h filled cells waiting size rests
-                    words s count depth group locals (Proj o i) next fits rest o i fits.bound),
-                operation_falls (Proj o i) locals group frames store world (Proj o i) fits.covered,
-              )
-          runs_operation (Prim op os) fits rest =
-              inl (
-                subst (λ c. Follows program (fl (Give (Prim op os)))
-                    (flat_turn program.procs (mode_of program) store world
-                    (Own (Inside (Give (Prim op os)) locals group)) frames)
-                    (At c)) (sym (give_as (Prim op os) next (λ o e. absurd (let z : ⊥ = cc in z))))
-                    (operator_turns program typed (fl (Give (Prim op os))) places objects h filled cells waiting size
-                    rests words s count depth group locals op os next fits rest op fits.covered),
-                operation_falls (Prim op os) locals group frames store world (Prim op os) fits.covered,
-              )
-          runs_operation (Cast o number) fits rest =
-              inl (
-                subst (λ c. Follows program (fl (Give (Cast o number)))
-                    (flat_turn program.procs (mode_of program) store world (Own (Inside (Give (Cast o number)) locals
-                    group)) frames) (At c)) (sym (give_as (Cast o number) next (λ o e. absurd (let z : ⊥ = cc in z))))
-                    (cast_turns program typed (fl (Give (Cast o number))) places objects h filled cells waiting size
-                    rests
-                    words s count depth group locals o number next fits rest),
-                operation_falls (Cast o number) locals group frames store world (Cast o number) fits.covered,
-              )
-          runs_operation (ProjDyn o i label) fits rest = true_false fits.covered
+          runs_operation (Proj o i) fits rest = by_value (value locals group o) refl
+            where
+              op : Operation
+              op = Proj o i
 
-          chosen_less : (v : FlatValue Coercion) (o : Operand) (a b : Body)
+              same_code : give program.run s (Proj o i) next ≡ perform program.run s
+                  (word_for program places objects s next) (Proj o i) (code_for program places objects s next)
+              same_code = give_as (Proj o i) next (λ o e. absurd (let z : ⊥ = cc in z))
+
+              in_place : is_wrapped (value locals group o) ≡ false
+                  → Does (fl (Give (Proj o i)))
+                  (flat_turn program.procs (mode_of program) store world
+                  (Own (Inside (Give (Proj o i)) locals group)) frames) 0
+                  (At (give program.run s (Proj o i) next))
+              in_place e =
+                  inl (
+                    refl,
+                    inl (
+                      subst (λ c. Follows program (fl (Give (Proj o i)))
+                          (flat_turn program.procs (mode_of program) store world
+                          (Own (Inside (Give (Proj o i)) locals group)) frames) (At c)) (sym same_code)
+                          (part_turns program typed (fl (Give (Proj o i))) places objects h filled cells waiting size
+                          rests words s count depth group locals (Proj o i) next fits rest o i fits.bound
+                          (no_wrapper (value locals group o) e)),
+                      proj_falls (Proj o i) locals group frames store world (value locals group o) i,
+                    ),
+                  )
+
+              by_value : (v : FlatValue program.meaning.Cast) → value locals group o ≡ v
+                  → Does (fl (Give (Proj o i)))
+                  (flat_turn program.procs (mode_of program) store world
+                  (Own (Inside (Give (Proj o i)) locals group)) frames) 0
+                  (At (give program.run s (Proj o i) next))
+              by_value (RunWrap u cast) e =
+                  inr (subst (λ c. Served program typed (fl (Give (Proj o i)))
+                  (flat_turn program.procs (mode_of program) store world
+                  (Own (Inside (Give (Proj o i)) locals group)) frames) 0 (At c)) (sym same_code)
+                  (part_served program typed (fl (Give (Proj o i))) places objects h filled cells waiting size rests
+                  words s count depth group locals (Proj o i) o next fits rest fits.bound i u cast e))
+              by_value (RunInt n) e = in_place (ap is_wrapped e)
+              by_value (RunBool b) e = in_place (ap is_wrapped e)
+              by_value RunUnit e = in_place (ap is_wrapped e)
+              by_value (RunFun function captured) e = in_place (ap is_wrapped e)
+              by_value (RunTuple vs) e = in_place (ap is_wrapped e)
+              by_value (RunLoc cell is_vector) e = in_place (ap is_wrapped e)
+              by_value (RunInject u kept) e = in_place (ap is_wrapped e)
+          runs_operation (Prim Add os) fits rest = runs_plain Add os refl fits rest
+          runs_operation (Prim Sub os) fits rest = runs_plain Sub os refl fits rest
+          runs_operation (Prim Mul os) fits rest = runs_plain Mul os refl fits rest
+          runs_operation (Prim Quot os) fits rest = runs_plain Quot os refl fits rest
+          runs_operation (Prim Rem os) fits rest = runs_plain Rem os refl fits rest
+          runs_operation (Prim Lt os) fits rest = runs_plain Lt os refl fits rest
+          runs_operation (Prim Le os) fits rest = runs_plain Le os refl fits rest
+          runs_operation (Prim Equal os) fits rest = runs_plain Equal os refl fits rest
+          runs_operation (Prim Ge os) fits rest = runs_plain Ge os refl fits rest
+          runs_operation (Prim Gt os) fits rest = runs_plain Gt os refl fits rest
+          runs_operation (Prim Not os) fits rest = runs_plain Not os refl fits rest
+          runs_operation (Prim PrintInt os) fits rest = runs_plain PrintInt os refl fits rest
+          runs_operation (Prim Newline os) fits rest = runs_plain Newline os refl fits rest
+          runs_operation (Prim ReadInt os) fits rest = true_false fits.covered
+          runs_operation (Prim MakeVector os) fits rest =
+              as_served MakeVector os (vector_made program typed (fl (Give (Prim MakeVector os))) places objects h
+              filled
+              cells waiting size rests words s count depth group locals MakeVector os next fits rest)
+          runs_operation (Prim VectorRef os) fits rest =
+              as_served VectorRef os (vector_read program typed (fl (Give (Prim VectorRef os))) places objects h filled
+              cells waiting size rests words s count depth group locals VectorRef os next fits rest)
+          runs_operation (Prim VectorSet os) fits rest =
+              as_served VectorSet os (vector_written program typed (fl (Give (Prim VectorSet os))) places objects h
+              filled
+              cells waiting size rests words s count depth group locals VectorSet os next fits rest)
+          runs_operation (Prim VectorLength os) fits rest =
+              as_served VectorLength os (vector_measured program typed (fl (Give (Prim VectorLength os))) places objects
+              h
+              filled cells waiting size rests words s count depth group locals VectorLength os next fits rest)
+          runs_operation (Prim MakeBox os) fits rest = makes_box os fits rest
+          runs_operation (Prim Unbox os) fits rest = reads_box os fits rest
+          runs_operation (Prim BoxSet os) fits rest = writes_box os fits rest
+          runs_operation (Cast o number) fits rest = by_row ((mode_of program).row number) refl
+            where
+              same_code : give program.run s (Cast o number) next ≡ perform program.run s
+                  (word_for program places objects s next) (Cast o number) (code_for program places objects s next)
+              same_code = give_as (Cast o number) next (λ o e. absurd (let z : ⊥ = cc in z))
+
+              Goes_by : Option program.meaning.Cast → Type 0
+              Goes_by row =
+                  Does (fl (Give (Cast o number)))
+                  (on_some row (λ cast. flat_cast program.procs (mode_of program) store world (value locals group o)
+                  cast
+                  frames)) (decision_wraps (decision_at program.procs (mode_of program) row (value locals group o)))
+                  (At (give program.run s (Cast o number) next))
+
+              by_row : (row : Option program.meaning.Cast) → (mode_of program).row number ≡ row
+                  → Does (fl (Give (Cast o number)))
+                  (on_some ((mode_of program).row number) (λ cast. flat_cast program.procs (mode_of program) store world
+                  (value locals group o) cast frames))
+                  (decision_wraps (decision_at program.procs (mode_of program) ((mode_of program).row number)
+                  (value locals group o))) (At (give program.run s (Cast o number) next))
+              by_row None e =
+                  subst Goes_by (sym e) (inl (
+                    refl,
+                    inl (
+                      goes_wrong program (fl (Give (Cast o number))) places objects h filled waiting size rests words
+                          (give program.run s (Cast o number) next),
+                      wrong_falls (Cast o number) locals group frames store world,
+                    ),
+                  ))
+              by_row (Some cast) e =
+                  subst Goes_by (sym e) (inr (subst (λ c. Served program typed (fl (Give (Cast o number)))
+                  (flat_cast program.procs (mode_of program) store world (value locals group o) cast frames)
+                  (decision_wraps (decision_at program.procs (mode_of program) (Some cast) (value locals group o)))
+                  (At c))
+                  (sym same_code) (cast_served program typed (fl (Give (Cast o number))) places objects h filled cells
+                  waiting size rests words s count depth group locals o number next fits rest cast e)))
+          runs_operation (ProjDyn o i label) fits rest =
+              let both = and_true (nat_lt label.0 4294967296) (int_eq (int_wrap w64 i) i) fits.covered in
+              let small : label.0 < 4294967296 = let z = both.0 in grind (arith, z) in
+              let in_range : int_wrap w64 i ≡ i = let z = both.1 in grind (arith, z) in
+              inr (subst (λ c. Served program typed (fl (Give (ProjDyn o i label)))
+              (flat_turn program.procs (mode_of program) store world
+              (Own (Inside (Give (ProjDyn o i label)) locals group)) frames) 0 (At c))
+              (sym (give_as (ProjDyn o i label) next (λ o e. absurd (let z : ⊥ = cc in z))))
+              (dyn_part_served program typed (fl (Give (ProjDyn o i label))) places objects h filled cells waiting size
+              rests words s count depth group locals (ProjDyn o i label) o next fits rest fits.bound i label.0
+              (omega (arith, small)) in_range))
+
+          chosen_less : (v : FlatValue program.meaning.Cast) (o : Operand) (a b : Body)
               → FallsAt (fl (Choose o a b))
               (flat_choose program.procs (mode_of program) store world v a b locals group frames)
           chosen_less (RunBool true) o a b = omega arith
@@ -365,135 +631,163 @@ module _ (program : Program) (typed : TypesStand program.l) where
           runs_body (Give op) fits rest = runs_operation op fits rest
           runs_body (Call f os) fits rest =
               inl (
-                here program.setting
-                    (Way program (fl (Call f os)) (st (Entering (value locals group f) []
-                    (all_plain (values locals group
-                    os))) frames store world))
-                    (R program (st (Entering (value locals group f) [] (all_plain (values locals group os))) frames
-                    store
-                    world)) (At (emit program.run s (Call f os) next)) (inl (record {
-                      is = refl;
-                      related = record {
-                        places = places;
-                        objects = objects;
-                        filled = filled;
-                        cells = cells;
-                        world = refl;
-                        goes = record {
-                          operand = f;
-                          operands = os;
-                          locals = locals;
-                          group = group;
-                          runs = record {
-                            s = s;
-                            count = count;
-                            depth = depth;
-                            next = next;
-                            is = refl;
-                            fits = fits;
-                            rest = rest;
+                refl,
+                inl (
+                  here program.setting
+                      (Way program (fl (Call f os)) (st (Entering (value locals group f) []
+                      (all_plain (values locals group
+                      os))) frames store world))
+                      (R program (st (Entering (value locals group f) [] (all_plain (values locals group os))) frames
+                      store
+                      world)) (At (emit program.run s (Call f os) next)) (inl (record {
+                        is = refl;
+                        related = record {
+                          places = places;
+                          objects = objects;
+                          filled = filled;
+                          cells = cells;
+                          world = refl;
+                          goes = record {
+                            operand = f;
+                            operands = os;
+                            locals = locals;
+                            group = group;
+                            runs = record {
+                              s = s;
+                              count = count;
+                              depth = depth;
+                              next = next;
+                              is = refl;
+                              fits = fits;
+                              rest = rest;
+                            };
+                            function = refl;
+                            arguments = plain_values (values locals group os);
+                            plain = plain_casts (values locals group os);
                           };
-                          function = refl;
-                          arguments = plain_values (values locals group os);
-                          plain = plain_casts (values locals group os);
                         };
-                      };
-                    })),
-                (let a = plain_long (values locals group os) in let b = values_long locals group os in omega
-                    (arith, a, b)),
+                      })),
+                  (let a = plain_long (values locals group os) in let b = values_long locals group os in omega
+                      (arith, a, b)),
+                ),
               )
           runs_body (Choose o a b) fits rest =
               inl (
-                branch_turns program typed (fl (Choose o a b)) places objects h filled cells waiting size rests words s
-                    count depth group locals next rest o a b fits,
-                chosen_less (value locals group o) o a b,
+                refl,
+                inl (
+                  branch_turns program typed (fl (Choose o a b)) places objects h filled cells waiting size rests words
+                      s
+                      count depth group locals next rest o a b fits,
+                  chosen_less (value locals group o) o a b,
+                ),
               )
           runs_body (LetBody slot inner body) fits rest =
               inl (
-                let_turns program typed (fl (LetBody slot inner body)) places objects h filled cells waiting size rests
-                    words s count depth group locals next rest slot inner body fits,
-                omega arith,
+                refl,
+                inl (
+                  let_turns program typed (fl (LetBody slot inner body)) places objects h filled cells waiting size
+                      rests
+                      words s count depth group locals next rest slot inner body fits,
+                  omega arith,
+                ),
               )
           runs_body (LetGroup slot first many captured body) fits rest =
               inl (
-                group_turns program typed (fl (LetGroup slot first many captured body)) places objects h filled cells
-                    waiting size rests words s count depth group locals next rest slot first many captured body fits,
-                omega arith,
+                refl,
+                inl (
+                  group_turns program typed (fl (LetGroup slot first many captured body)) places objects h filled cells
+                      waiting size rests words s count depth group locals next rest slot first many captured body fits,
+                  omega arith,
+                ),
               )
 
         -- a value is there
-        abbrev value_at : FlatValue Coercion → FlatState Coercion
+        abbrev value_at : FlatValue program.meaning.Cast → FlatState program.meaning.Cast
         value_at v = st (Return v) frames store world
 
-        pub gave : (v : FlatValue Coercion) (code : Code)
-            → Gave program.setting program.l program.run program.procs program.answer NoWraps places objects v frames
-            (record { count = size; locals = words; code = code; rests = rests }) waiting
-            → Turn (value_at v) (flat_turn program.procs (mode_of program) store world (Return v) frames) (At code)
+        pub gave : (v : FlatValue program.meaning.Cast) (code : Code)
+            → Gave program.setting program.l program.run program.procs program.answer program.meaning places objects v
+            frames (record { count = size; locals = words; code = code; rests = rests }) waiting
+            → Does (value_at v) (flat_turn program.procs (mode_of program) store world (Return v) frames)
+            (flat_turn_wraps program.procs (mode_of program) (Return v) frames) (At code)
         gave v code g = by_frames frames g
           where
-            by_frames : (fs : List (FlatFrame Coercion))
-                → Gave program.setting program.l program.run program.procs program.answer NoWraps places objects v fs
-                (record { count = size; locals = words; code = code; rests = rests }) waiting
-                → Turn (st (Return v) fs store world)
-                (flat_turn program.procs (mode_of program) store world (Return v) fs) (At code)
+            by_frames : (fs : List (FlatFrame program.meaning.Cast))
+                → Gave program.setting program.l program.run program.procs program.answer program.meaning places objects
+                v
+                fs (record { count = size; locals = words; code = code; rests = rests }) waiting
+                → Does (st (Return v) fs store world)
+                (flat_turn program.procs (mode_of program) store world (Return v) fs)
+                (flat_turn_wraps program.procs (mode_of program) (Return v) fs) (At code)
             by_frames [] g = absurd g.rest
             by_frames (OwnFrame (Waiting slot body locals group) ∷ fs) g =
                 inl (
-                  gave_turns program typed (st (Return v) (OwnFrame (Waiting slot body locals group) ∷ fs) store world)
-                      places objects h filled cells waiting size slot body locals group fs v
-                      (record { count = size; locals = words; code = code; rests = rests }) g refl,
-                  omega arith,
+                  refl,
+                  inl (
+                    gave_turns program typed (st (Return v) (OwnFrame (Waiting slot body locals group) ∷ fs) store
+                        world)
+                        places objects h filled cells waiting size slot body locals group fs v
+                        (record { count = size; locals = words; code = code; rests = rests }) g refl,
+                    omega arith,
+                  ),
                 )
             by_frames (CastFrame c ∷ fs) g = absurd g.rest
             by_frames (ProjFrame i ∷ fs) g = absurd g.rest
             by_frames (PrimFrame op done ∷ fs) g = absurd g.rest
             by_frames (EnterFrame f done todo ∷ fs) g = absurd g.rest
 
-        pub gives : (v : FlatValue Coercion) (source : LowSource) (w : ℕ) → word_of words source ≡ Some w
+        pub gives : (v : FlatValue program.meaning.Cast) (source : LowSource) (w : ℕ) → word_of words source ≡ Some w
             → CarriedHere program places objects v w → CallersHere program places objects waiting frames
-            → Turn (value_at v) (flat_turn program.procs (mode_of program) store world (Return v) frames)
-            (At (ReturnCode source))
+            → Does (value_at v) (flat_turn program.procs (mode_of program) store world (Return v) frames)
+            (flat_turn_wraps program.procs (mode_of program) (Return v) frames) (At (ReturnCode source))
         gives v source w is carried callers = by_callers waiting frames callers
           where
-            by_callers : (us : List LowWaiting) (fs : List (FlatFrame Coercion))
-                → CallersHere program places objects us fs
-                → Turn (st (Return v) fs store world)
+            no_frames : (x : FlatFrame program.meaning.Cast) (xs : List (FlatFrame program.meaning.Cast))
+                → (x ∷ xs) ≡ [] → ⊥
+            no_frames x xs e = cc
+
+            Here : List LowWaiting → List (FlatFrame program.meaning.Cast) → Type 0
+            Here us fs =
+                Does (st (Return v) fs store world)
                 (flat_turn program.procs (mode_of program) store world (Return v) fs)
+                (flat_turn_wraps program.procs (mode_of program) (Return v) fs)
                 (at world h us size rests words (ReturnCode source))
+
+            by_resumed : (u : LowWaiting) (us : List LowWaiting) (fs : List (FlatFrame program.meaning.Cast))
+                (cast : program.meaning.Cast) (results : List program.meaning.Cast)
+                (base : List (FlatFrame program.meaning.Cast)) → fs ≡ CastFrame cast ∷ casts_onto results base
+                → program.meaning.Resumes program.setting program.l objects u (cast ∷ results)
+                → CallersHere program places objects us base → Here (u ∷ us) fs
+            by_resumed u us fs cast results base e resumes callers =
+                subst (Here (u ∷ us)) (sym e) (inr (resumed program typed store world places objects h filled cells us u
+                size rests words v source w is carried cast results base resumes callers))
+
+            by_callers : (us : List LowWaiting) (fs : List (FlatFrame program.meaning.Cast))
+                → CallersHere program places objects us fs → Here us fs
             by_callers [] fs c = absurd c
-            by_callers (u ∷ us) [] c =
+            by_callers (u ∷ us) fs (inr (inr r)) = by_resumed u us fs r.0 r.1 r.2 r.3 r.4 r.5
+            by_callers (u ∷ us) [] (inl e) =
                 inl (
-                  goes_wrong program (st (Return v) [] store world) places objects h filled (u ∷ us) size rests words
-                      (ReturnCode source),
-                  omega arith,
+                  refl,
+                  inl (
+                    goes_wrong program (st (Return v) [] store world) places objects h filled (u ∷ us) size rests words
+                        (ReturnCode source),
+                    omega arith,
+                  ),
                 )
+            by_callers (u ∷ us) [] (inr (inl r)) = absurd r.4
             by_callers (u ∷ us) (CastFrame c' ∷ fs) (inl e) = absurd (no_frames (CastFrame c') fs e.0)
-              where
-                no_frames : (x : FlatFrame Coercion) (xs : List (FlatFrame Coercion)) → (x ∷ xs) ≡ [] → ⊥
-                no_frames x xs e = cc
-            by_callers (u ∷ us) (CastFrame c' ∷ fs) (inr r) = absurd r.4
+            by_callers (u ∷ us) (CastFrame c' ∷ fs) (inr (inl r)) = absurd r.4
             by_callers (u ∷ us) (ProjFrame i ∷ fs) (inl e) = absurd (no_frames (ProjFrame i) fs e.0)
-              where
-                no_frames : (x : FlatFrame Coercion) (xs : List (FlatFrame Coercion)) → (x ∷ xs) ≡ [] → ⊥
-                no_frames x xs e = cc
-            by_callers (u ∷ us) (ProjFrame i ∷ fs) (inr r) = absurd r.4
+            by_callers (u ∷ us) (ProjFrame i ∷ fs) (inr (inl r)) = absurd r.4
             by_callers (u ∷ us) (PrimFrame op done ∷ fs) (inl e) = absurd (no_frames (PrimFrame op done) fs e.0)
-              where
-                no_frames : (x : FlatFrame Coercion) (xs : List (FlatFrame Coercion)) → (x ∷ xs) ≡ [] → ⊥
-                no_frames x xs e = cc
-            by_callers (u ∷ us) (PrimFrame op done ∷ fs) (inr r) = absurd r.4
-            by_callers (u ∷ us) (EnterFrame f done todo ∷ fs) (inl e) = absurd
-                (no_frames (EnterFrame f done todo) fs e.0)
-              where
-                no_frames : (x : FlatFrame Coercion) (xs : List (FlatFrame Coercion)) → (x ∷ xs) ≡ [] → ⊥
-                no_frames x xs e = cc
-            by_callers (u ∷ us) (EnterFrame f done todo ∷ fs) (inr r) = absurd r.4
+            by_callers (u ∷ us) (PrimFrame op done ∷ fs) (inr (inl r)) = absurd r.4
+            by_callers (u ∷ us) (EnterFrame g done todo ∷ fs) (inl e) =
+                absurd (no_frames (EnterFrame g done todo) fs e.0)
+            by_callers (u ∷ us) (EnterFrame g done todo ∷ fs) (inr (inl r)) = absurd r.4
             by_callers (u ∷ us) (OwnFrame (Waiting slot body locals group) ∷ fs) (inl e) =
                 absurd (no_frames (OwnFrame (Waiting slot body locals group)) fs e.0)
-              where
-                no_frames : (x : FlatFrame Coercion) (xs : List (FlatFrame Coercion)) → (x ∷ xs) ≡ [] → ⊥
-                no_frames x xs e = cc
-            by_callers (u ∷ us) (OwnFrame (Waiting slot body locals group) ∷ fs) (inr r) =
+            by_callers (u ∷ us) (OwnFrame (Waiting slot body locals group) ∷ fs) (inr (inl r)) =
                 let fr = st (Return v) (OwnFrame (Waiting slot body locals group) ∷ fs) store world in
                 let f' = st (Own (Inside body (set_flat locals slot v) group)) fs store world in
                 let now = set_local u.answer w u.rest.locals in
@@ -502,36 +796,42 @@ module _ (program : Program) (typed : TypesStand program.l) where
                 r.4 carried (word_here u.answer w u.rest.locals)
                 (λ j ne side. word_other u.answer w u.rest.locals j ne) in
                 inl (
-                  comes_back program.setting (Way program fr f') (R program f')
-                      (λ active waiting. (inl refl, (objects, filled))) w is
-                      (word_fits program places objects us r.0 r.1 u.rest.count r.2 r.3
-                      (OwnFrame (Waiting slot body locals group) ∷ fs) u.answer u.rest.code u.rest.rests u.rest.locals
-                      r.4)
-                      (gave_turns program typed fr places objects h filled cells us u.rest.count slot body locals
-                      group fs
-                      v (record { count = u.rest.count; locals = now; code = u.rest.code; rests = u.rest.rests }) g
-                      refl),
-                  omega arith,
+                  refl,
+                  inl (
+                    comes_back program.setting (Way program fr f') (R program f')
+                        (λ active waiting. (inl refl, (objects, filled))) w is
+                        (word_fits program places objects us r.0 r.1 u.rest.count r.2 r.3
+                        (OwnFrame (Waiting slot body locals group) ∷ fs) u.answer u.rest.code u.rest.rests u.rest.locals
+                        r.4)
+                        (gave_turns program typed fr places objects h filled cells us u.rest.count slot body locals
+                        group fs
+                        v (record { count = u.rest.count; locals = now; code = u.rest.code; rests = u.rest.rests }) g
+                        refl),
+                    omega arith,
+                  ),
                 )
 
         -- ---- calls
 
-        module _ (fo : Operand) (os : List Operand) (locals : FlatLocals Coercion) (group : Group Coercion) (s : Shape)
+        module _ (fo : Operand) (os : List Operand) (locals : FlatLocals program.meaning.Cast)
+            (group : Group program.meaning.Cast) (s : Shape)
             (count depth : ℕ) (next : Then)
             (fits : FitsHere s count size group depth locals words (Call fo os))
             (rest : RestHere program places objects waiting s count size group depth frames next rests words) where
           abbrev code : Code
           code = emit program.run s (Call fo os) next
 
-          abbrev entering : FlatValue Coercion → List (FlatValue Coercion) → List (Pending Coercion FlatCode)
-              → FlatState Coercion
+          abbrev entering : FlatValue program.meaning.Cast → List (FlatValue program.meaning.Cast)
+              → List (Pending program.meaning.Cast FlatCode)
+              → FlatState program.meaning.Cast
           entering v done todo = st (Entering v done todo) frames store world
 
           -- an argument is gone over
-          argument : (v : FlatValue Coercion) (done : List (FlatValue Coercion)) (p : Pending Coercion FlatCode)
-              (todo : List (Pending Coercion FlatCode)) → value locals group fo ≡ v
+          argument : (v : FlatValue program.meaning.Cast) (done : List (FlatValue program.meaning.Cast))
+              (p : Pending program.meaning.Cast FlatCode)
+              (todo : List (Pending program.meaning.Cast FlatCode)) → value locals group fo ≡ v
               → onto done (pending_values (p ∷ todo)) ≡ values locals group os → NoCasts todo
-              → (casts : List Coercion) → casts ≡ []
+              → (casts : List program.meaning.Cast) → casts ≡ []
               → Turn (entering v done (p ∷ todo))
               (next_argument (mode_of program) (flat_arity program.procs)
               (flat_entered program.procs) store world v done
@@ -572,9 +872,10 @@ module _ (program : Program) (typed : TypesStand program.l) where
               )
 
           -- the function's procedure is entered
-          applied : (first place : ℕ) (captured : FlatValues Coercion) (vs : List (FlatValue Coercion))
+          applied : (first place : ℕ) (captured : FlatValues program.meaning.Cast)
+              (vs : List (FlatValue program.meaning.Cast))
               → value locals group fo ≡ RunFun (record { first = first; place = place }) captured
-              → vs ≡ values locals group os → (done : List (FlatValue Coercion)) → vs ≡ onto done []
+              → vs ≡ values locals group os → (done : List (FlatValue program.meaning.Cast)) → vs ≡ onto done []
               → (o : Option Proc) → slice_get program.procs (first + place) ≡ o
               → Turn (entering (RunFun (record { first = first; place = place }) captured) done [])
               (on_some (entered_proc o (record { first = first; captured = captured }) vs)
@@ -613,7 +914,7 @@ module _ (program : Program) (typed : TypesStand program.l) where
                   place captured p function there long))
 
           -- what is no function isn't called
-          wrong_call : (v : FlatValue Coercion) (done : List (FlatValue Coercion))
+          wrong_call : (v : FlatValue program.meaning.Cast) (done : List (FlatValue program.meaning.Cast))
               → Turn (entering v done []) NoNext (At code)
           wrong_call v done =
               inl (
@@ -622,50 +923,86 @@ module _ (program : Program) (typed : TypesStand program.l) where
               )
 
           -- the arguments are gone over, and the function is applied
-          calls : (v : FlatValue Coercion) (done : List (FlatValue Coercion)) (todo : List (Pending Coercion FlatCode))
+          calls : (v : FlatValue program.meaning.Cast) (done : List (FlatValue program.meaning.Cast))
+              (todo : List (Pending program.meaning.Cast FlatCode)) → is_wrapped v ≡ false
               → value locals group fo ≡ v → (w : ℕ) × CarriedHere program places objects v w
               → onto done (pending_values todo) ≡ values locals group os → NoCasts todo
               → Turn (entering v done todo)
               (enter (mode_of program) (flat_arity program.procs)
               (flat_entered program.procs) store world v done todo frames)
               (At code)
-          calls (RunWrap v c) done todo function carried arguments plain = absurd carried.1.2
-          calls (RunInt n) done (p ∷ todo) function carried arguments plain =
+          calls (RunWrap v c) done todo bare function carried arguments plain = true_false (sym bare)
+          calls (RunInt n) done (p ∷ todo) bare function carried arguments plain =
               argument (RunInt n) done p todo function arguments plain.1 p.casts plain.0
-          calls (RunBool b) done (p ∷ todo) function carried arguments plain =
+          calls (RunBool b) done (p ∷ todo) bare function carried arguments plain =
               argument (RunBool b) done p todo function arguments plain.1 p.casts plain.0
-          calls RunUnit done (p ∷ todo) function carried arguments plain =
+          calls RunUnit done (p ∷ todo) bare function carried arguments plain =
               argument RunUnit done p todo function arguments plain.1 p.casts plain.0
-          calls (RunFun f captured) done (p ∷ todo) function carried arguments plain =
+          calls (RunFun f captured) done (p ∷ todo) bare function carried arguments plain =
               argument (RunFun f captured) done p todo function arguments plain.1 p.casts plain.0
-          calls (RunTuple vs) done (p ∷ todo) function carried arguments plain =
+          calls (RunTuple vs) done (p ∷ todo) bare function carried arguments plain =
               argument (RunTuple vs) done p todo function arguments plain.1 p.casts plain.0
-          calls (RunLoc cell is_vector) done (p ∷ todo) function carried arguments plain =
+          calls (RunLoc cell is_vector) done (p ∷ todo) bare function carried arguments plain =
               argument (RunLoc cell is_vector) done p todo function arguments plain.1 p.casts plain.0
-          calls (RunInject v kept) done (p ∷ todo) function carried arguments plain =
+          calls (RunInject v kept) done (p ∷ todo) bare function carried arguments plain =
               argument (RunInject v kept) done p todo function arguments plain.1 p.casts plain.0
-          calls (RunFun f captured) done [] function carried arguments plain =
+          calls (RunFun f captured) done [] bare function carried arguments plain =
               applied f.first f.place captured (onto done []) function arguments done refl
               (slice_get program.procs (f.first + f.place)) refl
-          calls (RunInt n) done [] function carried arguments plain = wrong_call (RunInt n) done
-          calls (RunBool b) done [] function carried arguments plain = wrong_call (RunBool b) done
-          calls RunUnit done [] function carried arguments plain = wrong_call RunUnit done
-          calls (RunTuple vs) done [] function carried arguments plain = wrong_call (RunTuple vs) done
-          calls (RunLoc cell is_vector) done [] function carried arguments plain =
+          calls (RunInt n) done [] bare function carried arguments plain = wrong_call (RunInt n) done
+          calls (RunBool b) done [] bare function carried arguments plain = wrong_call (RunBool b) done
+          calls RunUnit done [] bare function carried arguments plain = wrong_call RunUnit done
+          calls (RunTuple vs) done [] bare function carried arguments plain = wrong_call (RunTuple vs) done
+          calls (RunLoc cell is_vector) done [] bare function carried arguments plain =
               wrong_call (RunLoc cell is_vector) done
-          calls (RunInject v kept) done [] function carried arguments plain = wrong_call (RunInject v kept) done
+          calls (RunInject v kept) done [] bare function carried arguments plain = wrong_call (RunInject v kept) done
 
           -- a call goes on, whatever its state
-          pub call_turn : (v : FlatValue Coercion) (done : List (FlatValue Coercion))
-              (todo : List (Pending Coercion FlatCode)) → value locals group fo ≡ v
+          pub call_turn : (v : FlatValue program.meaning.Cast) (done : List (FlatValue program.meaning.Cast))
+              (todo : List (Pending program.meaning.Cast FlatCode)) → value locals group fo ≡ v
               → onto done (pending_values todo) ≡ values locals group os → NoCasts todo
-              → Turn (entering v done todo)
-              (flat_turn program.procs (mode_of program) store world (Entering v done todo) frames) (At code)
-          call_turn v done todo function arguments plain =
-              let x = and_true (operand_bound s.captured count depth fo)
-              (operands_bound s.captured count depth os && nat_le (length os) 6) fits.bound in
-              let c = value_carried (scene_for program (entering v done todo) (entering v done todo)
-              (R program (entering v done todo)) places) world (inl refl) h objects filled waiting size rests s count
-              group depth locals fo x.0 words fits.knows in
-              calls v done todo function (subst (λ u. (w : ℕ) × CarriedHere program places objects u w) function c)
-              arguments plain
+              → Does (entering v done todo)
+              (enter (mode_of program) (flat_arity program.procs)
+              (flat_entered program.procs) store world v done todo frames) 0
+              (At code)
+          call_turn v done todo function arguments plain = by_wrapped v function
+            where
+              carried : (u : FlatValue program.meaning.Cast) → value locals group fo ≡ u
+                  → (w : ℕ) × CarriedHere program places objects u w
+              carried u e =
+                  let x = and_true (operand_bound s.captured count depth fo)
+                  (operands_bound s.captured count depth os && nat_le (length os) 6) fits.bound in
+                  let c = value_carried (scene_for program (entering v done todo) (entering v done todo)
+                  (R program (entering v done todo)) places) world (inl refl) h objects filled waiting size rests s
+                  count
+                  group depth locals fo x.0 words fits.knows in
+                  subst (λ u. (w : ℕ) × CarriedHere program places objects u w) e c
+
+              in_place : (u : FlatValue program.meaning.Cast) → is_wrapped u ≡ false → value locals group fo ≡ u
+                  → Does (entering u done todo)
+                  (enter (mode_of program) (flat_arity program.procs) (flat_entered program.procs) store world u done
+                  todo
+                  frames) 0 (At code)
+              in_place u bare e = inl (refl, calls u done todo bare e (carried u e) arguments plain)
+
+              by_wrapped : (u : FlatValue program.meaning.Cast) → value locals group fo ≡ u
+                  → Does (entering u done todo)
+                  (enter (mode_of program) (flat_arity program.procs) (flat_entered program.procs) store world u done
+                  todo
+                  frames) 0 (At code)
+              by_wrapped (RunWrap u c) e =
+                  inr (subst (λ ps. Served program typed (entering (RunWrap u c) done todo)
+                  (on_some ((mode_of program).calling c) (λ casts. run_enter_wrapped (mode_of program)
+                  (flat_arity program.procs) (flat_entered program.procs) store world u casts ps frames)) 0 (At code))
+                  (sym (all_plain_onto done todo plain ∙ ap all_plain arguments))
+                  (call_served program typed (entering (RunWrap u c) done todo) places objects h filled cells waiting
+                  size
+                  rests words s count depth group locals fo os next fits rest
+                  (let x = fits.params in let y = fits.room in omega (arith, x, y)) u c e))
+              by_wrapped (RunInt n) e = in_place (RunInt n) refl e
+              by_wrapped (RunBool b) e = in_place (RunBool b) refl e
+              by_wrapped RunUnit e = in_place RunUnit refl e
+              by_wrapped (RunFun g captured) e = in_place (RunFun g captured) refl e
+              by_wrapped (RunTuple vs) e = in_place (RunTuple vs) refl e
+              by_wrapped (RunLoc cell is_vector) e = in_place (RunLoc cell is_vector) refl e
+              by_wrapped (RunInject u kept) e = in_place (RunInject u kept) refl e

@@ -12,7 +12,6 @@ use Rattle.low_ir.specs.declared.code.LowSource.TheVariants.{Word, Number}
 use Rattle.low_ir.specs.Procedures.{Code, Compute, Store, CodeOf, Take, Proc}
 use Rattle.low_ir.specs.Steps.{Locals, set_local, may_store}
 use Rattle.low_ir.specs.Run.{Waiting, word_of}
-use Rattle.coercion_norm.specs.Coercions.{Coercion}
 use Rattle.coercion_norm.specs.RunValues.{in_row}
 use Rattle.flat_ir.specs.declared.code.Operand.{Operand}
 use Rattle.flat_ir.specs.Closed.{operand_bound, operands_bound}
@@ -20,7 +19,8 @@ use Rattle.flat_ir.specs.Machine.{Group, Locals as FlatLocals, value, values, me
 use Rattle.coercion_norm.specs.Objects.{Object, Fixed, Cell, bytes_of, bytes_of_all}
 use Rattle.rt_cast.specs.Objects.{HoldsWords}
 use Rattle.coercion_norm.specs.ObjectsOfRows.{header}
-use Rattle.rt_cast.specs.States.{Heap, Filled}
+use Rattle.rt_cast.specs.States.{Heap}
+use Rattle.lower.specs.Storage.{Filled}
 use Rattle.lower.specs.declared.numbering.Shape.{Shape}
 use Rattle.lower.specs.Numbering.{operand_word, test_word, local_word, function_offset, captured_offset}
 use Rattle.lower.specs.Emit.{found, store_far, store_captured, store_others, name_others, group_words}
@@ -28,7 +28,7 @@ use Rattle.lower.specs.Emit.{make_group, header as word_header}
 use Rattle.lower.specs.CarriedValues.{IsMember, IsGroup}
 use Rattle.lower.proofs.HeapObjects.{stored_behind}
 use Rattle.lower.proofs.HeapFilled.{filled_above, filled_more}
-use Rattle.lower.proofs.HeapGroups.{other_words, group_objects, group_holds, group_bytes, group_whole}
+use Rattle.lower.proofs.HeapGroups.{other_words, group_objects, group_holds, group_bytes, group_kept}
 use Rattle.lower.proofs.HeapGroups.{leader_added, other_added}
 use Rattle.lower.proofs.CarriedLater.{as_many, carried_small, later, all_later}
 use Rattle.lower.proofs.WordArithmetic.{header_word, header_small}
@@ -40,7 +40,7 @@ use Rattle.lower.proofs.RelationKept.{Behind, set_named, free_other, knows_same,
 use Rattle.lower.proofs.RelationKept.{named_local}
 use Rattle.lower.proofs.WordOperands.{Changes, KnowsHere, fetch_reads, and_true, added, found_same}
 
-storable : (region top at : ℕ) → at % 8 ≡ 0 → region ≤ at → at + 8 ≤ top → may_store region top at ≡ true
+pub storable : (region top at : ℕ) → at % 8 ≡ 0 → region ≤ at → at + 8 ≤ top → may_store region top at ≡ true
 storable region top at e l h = grind arith
 
 even_bytes : (os : List Object) → (n : ℕ) × (bytes_of_all os ≡ 8 * n)
@@ -53,8 +53,9 @@ even_bytes (o ∷ os) =
     size (Cell header count) = (1 + count, omega arith)
 
 module _ (scene : Scene) (world : WorldState) (allowed : scene.allowed world) (h : Heap) (objects : List Object)
-    (filled : Filled scene.setting scene.l objects h) (waiting : List Waiting) (size : ℕ) (rests : List Code)
-    (s : Shape) (count : ℕ) (group : Group Coercion) (slot : ℕ) (locals : FlatLocals Coercion)
+    (filled : Filled scene.meaning scene.setting scene.l scene.number objects h) (waiting : List Waiting) (size : ℕ)
+    (rests : List Code)
+    (s : Shape) (count : ℕ) (group : Group scene.meaning.Cast) (slot : ℕ) (locals : FlatLocals scene.meaning.Cast)
     (params : s.params ≤ slot) (room : slot + 10 < size) (words : Locals)
     (knows : KnowsHere scene world allowed h objects filled waiting size rests s count group slot locals words) where
   abbrev d : ℕ
@@ -92,8 +93,8 @@ module _ (scene : Scene) (world : WorldState) (allowed : scene.allowed world) (h
   On m new code = Arrives scene (at world (record h { memory = m }) waiting size rests new code)
 
   filled_by : (m : Memory) (ws : List ℕ) → Stored m ws
-      → Filled scene.setting scene.l objects (record h { memory = m })
-  filled_by m ws st = filled_above scene.setting scene.l scene.placed objects h m h.words filled st.below
+      → Filled scene.meaning scene.setting scene.l scene.number objects (record h { memory = m })
+  filled_by m ws st = filled_above scene.meaning scene.setting scene.l scene.placed objects h m h.words filled st.below
 
   abbrev calm_by : (m : Memory) (ws : List ℕ) → Stored m ws
       → Calm scene.setting scene.P scene.Q world (record h { memory = m })
@@ -193,7 +194,8 @@ module _ (scene : Scene) (world : WorldState) (allowed : scene.allowed world) (h
       let hm : Heap = record h { memory = m } in
       fetch_reads scene world allowed hm objects (filled_by m ws st) waiting size rests s count group slot locals o x
       both.0 (omega (arith, room, params)) new
-      (knows_same scene.setting scene.l scene.run scene.procs scene.answer scene.MayWrap scene.places objects s count
+      (knows_same scene.setting scene.l scene.run scene.procs scene.answer scene.meaning scene.laws scene.places objects
+      s count
       group slot locals words new ing.same knows)
       (store_far (test_word s) (local_word s slot) (found s x o) (captured_offset i)
       (store_captured s (local_word s slot) (suc i) os k))
@@ -208,7 +210,8 @@ module _ (scene : Scene) (world : WorldState) (allowed : scene.allowed world) (h
       found_same scene world allowed hm objects (filled_by m ws st) waiting size rests s count group slot locals o x
       both.0 now last (λ j named. changed' j (free_other s slot (test_word s) j t_free named))
       (changed' x (λ e. omega (arith, e))) ∙ is)
-      (carried_small scene.l scene.setting.address scene.procs scene.MayWrap scene.places objects scene.setting
+      (carried_small scene.l scene.setting.address scene.procs scene.meaning scene.laws scene.places objects
+      scene.setting
       scene.placed h filled (value locals group o) w carried) st ing' (omega (arith, long)) (omega (arith, fits))
       (λ m' last st' ing'' changed'.
       captured_stored os (suc i) m' (ws ++ w ∷ []) last k both.1
@@ -323,7 +326,7 @@ module _ (scene : Scene) (world : WorldState) (allowed : scene.allowed world) (h
       (small : (j : ℕ) (p : Proc) → slice_get scene.setting.procs j ≡ Some p → scene.setting.address j < 2 ^ 64)
       (members : (place : ℕ) → place < suc others
       → IsMember scene.procs first (suc others) (length captured) place) where
-    abbrev made : Group Coercion
+    abbrev made : Group scene.meaning.Cast
     made = new_group first (values locals group captured)
 
     abbrev bigger : List ℕ → List Object
@@ -331,7 +334,7 @@ module _ (scene : Scene) (world : WorldState) (allowed : scene.allowed world) (h
 
     -- a group was made: its functions have their local names
     pub record MadeGroup (cs : List ℕ) (h' : Heap) (now : Locals) : Type 0 where
-      pub all_filled : Filled scene.setting scene.l (bigger cs) h'
+      pub all_filled : Filled scene.meaning scene.setting scene.l scene.number (bigger cs) h'
       pub below : (i : ℕ) → i < h.alloc → h'.memory i ≡ h.memory i
       pub same : SameNamed s slot words now
       pub local : (i : ℕ) → i < slot + suc others → (w : ℕ) × (now (local_word s i) ≡ Some w)
@@ -344,11 +347,11 @@ module _ (scene : Scene) (world : WorldState) (allowed : scene.allowed world) (h
     module _ (cs : List ℕ) (carried : CarryAll scene objects (in_row (values locals group captured)) cs) where
       long : length cs ≡ length captured
       long =
-          as_many scene.l scene.setting.address scene.procs scene.MayWrap scene.places objects
+          as_many scene.l scene.setting.address scene.procs scene.meaning scene.laws scene.places objects
           (values locals group captured) cs carried
           ∙ values_long captured
 
-      group_stands : IsGroup scene.l scene.setting.address scene.procs scene.MayWrap scene.places (bigger cs) first
+      group_stands : IsGroup scene.l scene.setting.address scene.procs scene.meaning scene.places (bigger cs) first
           h.alloc (suc others) cs
       group_stands = record {
         members = λ place lt. subst (λ n. IsMember scene.procs first (suc others) n place) (sym long)
@@ -367,7 +370,7 @@ module _ (scene : Scene) (world : WorldState) (allowed : scene.allowed world) (h
         refl,
         lt,
         group_stands,
-        all_later scene.l scene.setting.address scene.procs scene.MayWrap scene.places objects
+        all_later scene.l scene.setting.address scene.procs scene.meaning scene.laws scene.places objects
             (group_objects scene.setting.address first others cs) (in_row (values locals group captured)) cs carried,
       )
 
@@ -425,7 +428,7 @@ module _ (scene : Scene) (world : WorldState) (allowed : scene.allowed world) (h
                 z.0,
                 low (local_word s i) (below_place (local_word s i) named) ∙ (same (local_word s i) named ∙ z.1),
                 subst (λ v. Carries scene (bigger cs) v z.0) (sym (group_below i less))
-                    (later scene.l scene.setting.address scene.procs scene.MayWrap scene.places objects
+                    (later scene.l scene.setting.address scene.procs scene.meaning scene.laws scene.places objects
                     (group_objects scene.setting.address first others cs) (locals i) z.0 z.2),
               )
             where
@@ -462,13 +465,15 @@ module _ (scene : Scene) (world : WorldState) (allowed : scene.allowed world) (h
         let heads = subst (λ n. HoldsWords m h.alloc (header 1 0 (suc n) ∷ scene.setting.address first
         ∷ (cs ++ other_words scene.setting.address first 0 others))) (sym size_is) st.held in
         let h' : Heap = record { memory = m; alloc = h.alloc + 8 * total; words = h.words + total } in
-        let all : Filled scene.setting scene.l (bigger cs) h' =
-        filled_more scene.setting scene.l scene.placed objects more h m (h.alloc + 8 * total) (h.words + total) filled
+        let all : Filled scene.meaning scene.setting scene.l scene.number (bigger cs) h' =
+        filled_more scene.meaning scene.setting scene.l scene.placed objects more h m (h.alloc + 8 * total)
+        (h.words + total) filled
         st.below (group_holds scene.setting.address m h.alloc first others cs heads)
-        (group_whole scene.l scene.setting.address objects first others cs) (omega (arith, bytes, size_is)) fits in
+        (group_kept scene.meaning scene.laws scene.l scene.number scene.setting.address objects first others cs
+        filled.keeps) (omega (arith, bytes, size_is)) fits in
         takes scene.setting scene.P scene.Q
         (λ w. scene.calm world (record { memory = m; alloc = h.alloc; words = w }) objects
-        (filled_above scene.setting scene.l scene.placed objects h m w filled st.below) allowed) total
+        (filled_above scene.meaning scene.setting scene.l scene.placed objects h m w filled st.below) allowed) total
         (ap Some fits_word) fits
         (others_named h' (scene.calm world h' (bigger cs) all allowed) (length captured) 0 others new k ing.place
         (omega (arith, deep))
@@ -493,7 +498,8 @@ module _ (scene : Scene) (world : WorldState) (allowed : scene.allowed world) (h
     makes_group k go =
         let calm : (w : ℕ) → Calm scene.setting scene.P scene.Q world (record h { words = w }) =
         λ w. scene.calm world (record h { words = w }) objects
-        (filled_above scene.setting scene.l scene.placed objects h h.memory w filled (λ i l. refl)) allowed in
+        (filled_above scene.meaning scene.setting scene.l scene.placed objects h h.memory w filled (λ i l. refl))
+        allowed in
         requests scene.setting scene.P scene.Q calm total (ap Some fits_word) d_less
         (λ fits. heads fits (set_local (local_word s slot) h.alloc words)
         (record { held = tt; below = λ i lt. refl }) (record {

@@ -17,7 +17,6 @@ use Rattle.low_ir.specs.declared.code.LowSource.TheVariants.{Word, Number}
 use Rattle.low_ir.specs.Procedures.{Code, Compute, Load}
 use Rattle.low_ir.specs.Steps.{Locals, set_local}
 use Rattle.low_ir.specs.Run.{Waiting, word_of, words_of, and_more}
-use Rattle.coercion_norm.specs.Coercions.{Coercion}
 use Rattle.coercion_norm.specs.RunValues.{in_row}
 use Rattle.flat_ir.specs.declared.code.Operand.{Operand}
 use Rattle.flat_ir.specs.declared.code.Operand.TheVariants.{Local, Captured, Sibling, Int, Bool as BoolCase}
@@ -25,7 +24,8 @@ use Rattle.flat_ir.specs.declared.code.Operand.TheVariants.{Unit as UnitCase}
 use Rattle.flat_ir.specs.Closed.{operand_bound, operands_bound}
 use Rattle.flat_ir.specs.Machine.{Group, Locals as FlatLocals, value, values}
 use Rattle.coercion_norm.specs.Objects.{Object}
-use Rattle.rt_cast.specs.States.{Heap, Filled}
+use Rattle.rt_cast.specs.States.{Heap}
+use Rattle.lower.specs.Storage.{Filled}
 use Rattle.lower.specs.declared.numbering.Shape.{Shape}
 use Rattle.lower.specs.Numbering.{own_word, operand_word, test_word, local_word, function_offset, captured_offset}
 use Rattle.lower.specs.Emit.{load_far, leader_code, leader, fetch, found, fetch_all, found_all}
@@ -89,20 +89,22 @@ behind d j n low e (inl p) = inl (omega (arith, p, e))
 behind d j n low e (inr p) = inr (omega (arith, p, e))
 
 module _ (scene : Scene) (world : WorldState) (allowed : scene.allowed world) (h : Heap) (objects : List Object)
-    (filled : Filled scene.setting scene.l objects h) (waiting : List Waiting) (size : ℕ) (rests : List Code) where
+    (filled : Filled scene.meaning scene.setting scene.l scene.number objects h) (waiting : List Waiting) (size : ℕ)
+    (rests : List Code) where
   abbrev pub On : Locals → Code → Type 0
   On words code = Arrives scene (at world h waiting size rests words code)
 
-  abbrev pub KnowsHere : Shape → ℕ → Group Coercion → ℕ → FlatLocals Coercion → Locals → Type 0
+  abbrev pub KnowsHere : Shape → ℕ → Group scene.meaning.Cast → ℕ → FlatLocals scene.meaning.Cast → Locals → Type 0
   KnowsHere s count group depth locals words = Knows scene.setting scene.l scene.run scene.procs scene.answer
-      scene.MayWrap scene.places objects s count group depth locals words
+      scene.meaning scene.places objects s count group depth locals words
 
-  abbrev pub OwnHere : Shape → ℕ → Group Coercion → ℕ → Type 0
-  OwnHere s count group own = OwnGroup scene.setting scene.l scene.run scene.procs scene.answer scene.MayWrap
+  abbrev pub OwnHere : Shape → ℕ → Group scene.meaning.Cast → ℕ → Type 0
+  OwnHere s count group own = OwnGroup scene.setting scene.l scene.run scene.procs scene.answer scene.meaning
       scene.places objects s count group own
 
   pub load_far_reads : (d : ℕ) (base : LowSource) (offset : ℕ) (k : Code) (words : Locals) (x w : ℕ)
-      → word_of words base ≡ Some x → WordThere scene.setting scene.l scene.placed h.memory (x + offset) w → d < size
+      → word_of words base ≡ Some x → WordThere scene.meaning scene.setting scene.l scene.placed h.memory (x + offset) w
+      → d < size
       → ((new : Locals) → new d ≡ Some w → Changes d words new → On new k) → On words (load_far d base offset k)
   load_far_reads d base offset k words x w e there lt go = by_size (nat_lt offset 2048) refl
     where
@@ -129,7 +131,7 @@ module _ (scene : Scene) (world : WorldState) (allowed : scene.allowed world) (h
           (go (set_local d w first) (word_here d w first)
           (λ j ne. word_other d w first j ne ∙ word_other d (x + offset) words j ne))))
 
-  module _ (s : Shape) (count : ℕ) (group : Group Coercion) where
+  module _ (s : Shape) (count : ℕ) (group : Group scene.meaning.Cast) where
     -- the first function of the group
     pub leader_reads : (own : ℕ) (g : OwnHere s count group own) (d : ℕ) (k : Code) (words : Locals)
         → words own_word ≡ Some own → d < size
@@ -147,7 +149,7 @@ module _ (scene : Scene) (world : WorldState) (allowed : scene.allowed world) (h
         own_is = omega (arith, g.is, offset_is)
 
         fits : g.leader + function_offset (length g.words) s.place < 2 ^ 64
-        fits = function_small scene.l scene.setting.address scene.procs scene.MayWrap scene.places objects
+        fits = function_small scene.l scene.setting.address scene.procs scene.meaning scene.laws scene.places objects
             scene.setting scene.placed h filled group.first g.leader count s.place g.words g.inside g.stands
 
         by_place : (b : Bool) → (s.place == 0) ≡ b → On words (leader_code s d k)
@@ -172,7 +174,7 @@ module _ (scene : Scene) (world : WorldState) (allowed : scene.allowed world) (h
             (ap (λ c. word_of (set_local d g.leader words) (if c then Word own_word else Word d)) q
             ∙ word_here d g.leader words) (λ j ne. word_other d g.leader words j ne)))
 
-    module _ (depth : ℕ) (locals : FlatLocals Coercion) where
+    module _ (depth : ℕ) (locals : FlatLocals scene.meaning.Cast) where
       abbrev Reads : ℕ → Operand → Locals → Code → Type 0
       Reads d o words k =
           (w : ℕ) (new : Locals) → Carries scene objects (value locals group o) w → word_of new (found s d o) ≡ Some w
@@ -183,9 +185,9 @@ module _ (scene : Scene) (world : WorldState) (allowed : scene.allowed world) (h
           → words own_word ≡ Some own → d < size → Reads d (Captured i) words k
           → On words (fetch s d (Captured i) k)
       captured_reads i d less k words own g e lt go =
-          let z = carried_at scene.l scene.setting.address scene.procs scene.MayWrap scene.places objects
+          let z = carried_at scene.l scene.setting.address scene.procs scene.meaning scene.laws scene.places objects
           group.captured g.words i g.carried (omega (arith, less, g.long)) in
-          let there = word_there scene.setting scene.l scene.placed objects h filled g.leader _
+          let there = word_there scene.meaning scene.setting scene.l scene.placed objects h filled g.leader _
           (scene.setting.address group.first ∷ g.words) g.stands.leads (suc (suc i)) z.0
           (g.leader + captured_offset i) z.1 (omega arith) in
           leader_reads own g d (load_far d (leader s d) (captured_offset i) k) words e lt
@@ -198,7 +200,8 @@ module _ (scene : Scene) (world : WorldState) (allowed : scene.allowed world) (h
           → On words (fetch s d (Sibling i) k)
       sibling_reads i d less k words own g e lt go =
           let w = g.leader + function_offset (length g.words) i in
-          let fits : w < 2 ^ 64 = function_small scene.l scene.setting.address scene.procs scene.MayWrap scene.places
+          let fits : w < 2 ^ 64 = function_small scene.l scene.setting.address scene.procs scene.meaning scene.laws
+          scene.places
           objects scene.setting scene.placed h filled group.first g.leader count i g.words less g.stands in
           let offset_is : function_offset s.captured i ≡ function_offset (length g.words) i =
           ap (λ n. function_offset n i) g.long in
@@ -257,7 +260,7 @@ module _ (scene : Scene) (world : WorldState) (allowed : scene.allowed world) (h
               → (w : ℕ) × Carries scene objects (value locals group (Captured i)) w
           by_own (inl e) = absurd (omega (arith, less, e.0))
           by_own (inr g) =
-              let z = carried_at scene.l scene.setting.address scene.procs scene.MayWrap scene.places objects
+              let z = carried_at scene.l scene.setting.address scene.procs scene.meaning scene.laws scene.places objects
               group.captured g.words i g.carried (omega (arith, less, g.long)) in
               (z.0, z.2)
       value_carried (Sibling i) bound words knows = by_own knows.own_group
@@ -325,7 +328,8 @@ module _ (scene : Scene) (world : WorldState) (allowed : scene.allowed world) (h
           let same : SameNamed s depth words new = same_besides s depth d 1 words new (omega arith)
           (omega (arith, few)) (λ j side. changed j (apart d j side)) in
           fetch_all_reads os (suc i) both.1 (omega (arith, few)) room new
-          (knows_same scene.setting scene.l scene.run scene.procs scene.answer scene.MayWrap scene.places objects s
+          (knows_same scene.setting scene.l scene.run scene.procs scene.answer scene.meaning scene.laws scene.places
+          objects s
           count group depth locals words new same knows) k
           (λ ws last all are changed'.
           let more : SameNamed s depth new last = same_besides s depth (operand_word s (suc i)) (length os) new last

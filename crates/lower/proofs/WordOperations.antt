@@ -16,7 +16,6 @@ use Rattle.low_ir.specs.Procedures.{Code, Done, Set, Load, Build, Compute, If, C
 use Rattle.low_ir.specs.Steps.{Locals, set_local, store_words}
 use Rattle.low_ir.specs.Run.{Waiting, word_of, words_of, and_more}
 use Rattle.object_layout.specs.declared.kinds.Kind.TheVariants.{Tuple as TupleKind}
-use Rattle.coercion_norm.specs.Coercions.{Coercion}
 use Rattle.coercion_norm.specs.RunValues.{RunTuple, in_row, row_list}
 use Rattle.flat_ir.specs.declared.code.Operand.{Operand}
 use Rattle.flat_ir.specs.declared.code.Operation.TheVariants.{Move, Tuple, Proj}
@@ -24,8 +23,8 @@ use Rattle.flat_ir.specs.Closed.{operand_bound, operands_bound, operation_bound}
 use Rattle.flat_ir.specs.Machine.{FlatValue, FlatValues, Group, Locals as FlatLocals, value, values}
 use Rattle.coercion_norm.specs.Objects.{Object, Fixed, bytes_of, bytes_of_all, object_at}
 use Rattle.coercion_norm.specs.ObjectsOfRows.{header}
-use Rattle.rt_cast.specs.WholeObjects.{WholeOther}
-use Rattle.rt_cast.specs.States.{Heap, Filled}
+use Rattle.rt_cast.specs.States.{Heap}
+use Rattle.lower.specs.Storage.{Filled}
 use Rattle.lower.specs.declared.numbering.Shape.{Shape}
 use Rattle.lower.specs.Numbering.{operand_word, test_word}
 use Rattle.lower.specs.Emit.{found, found_all, of_kind, part, perform}
@@ -64,23 +63,24 @@ added_there region objects o rest at e =
     (eq-eqb at (region + bytes_of_all objects) e)
 
 module _ (scene : Scene) (world : WorldState) (allowed : scene.allowed world) (h : Heap) (objects : List Object)
-    (filled : Filled scene.setting scene.l objects h) (waiting : List Waiting) (size : ℕ) (rests : List Code)
-    (s : Shape) (count : ℕ) (group : Group Coercion) (depth : ℕ) (locals : FlatLocals Coercion)
+    (filled : Filled scene.meaning scene.setting scene.l scene.number objects h) (waiting : List Waiting) (size : ℕ)
+    (rests : List Code)
+    (s : Shape) (count : ℕ) (group : Group scene.meaning.Cast) (depth : ℕ) (locals : FlatLocals scene.meaning.Cast)
     (room : s.params + 10 ≤ size) (words : Locals)
     (knows : KnowsHere scene world allowed h objects filled waiting size rests s count group depth locals words) where
   abbrev calm : Calm scene.setting scene.P scene.Q world h
   calm = scene.calm world h objects filled allowed
 
   -- a value is put into a word, and no object is added
-  abbrev pub Puts : ℕ → FlatValue Coercion → Code → Type 0
+  abbrev pub Puts : ℕ → FlatValue scene.meaning.Cast → Code → Type 0
   Puts d v k =
       (w : ℕ) (new : Locals) → Carries scene objects v w → new d ≡ Some w → Touches s d words new
       → Arrives scene (at world h waiting size rests new k)
 
   -- a value is put into a word, where objects are added
-  abbrev pub PutsMore : ℕ → FlatValue Coercion → Code → Type 0
+  abbrev pub PutsMore : ℕ → FlatValue scene.meaning.Cast → Code → Type 0
   PutsMore d v k =
-      (more : List Object) (h' : Heap) → Filled scene.setting scene.l (objects ++ more) h'
+      (more : List Object) (h' : Heap) → Filled scene.meaning scene.setting scene.l scene.number (objects ++ more) h'
       → ((i : ℕ) → i < h.alloc → h'.memory i ≡ h.memory i) → (w : ℕ) (new : Locals)
       → Carries scene (objects ++ more) v w → new d ≡ Some w → Touches s d words new
       → Arrives scene (at world h' waiting size rests new k)
@@ -119,38 +119,43 @@ module _ (scene : Scene) (world : WorldState) (allowed : scene.allowed world) (h
           → Arrives scene (at world h waiting size rests new
           (Build d (Number (word_header 4 (length os)) ∷ found_all s 0 os) k))
       made bound least most ws new carried are changed =
-          let long : length ws ≡ length os = as_many scene.l scene.setting.address scene.procs scene.MayWrap
+          let long : length ws ≡ length os = as_many scene.l scene.setting.address scene.procs scene.meaning scene.laws
           scene.places objects (values locals group os) ws carried ∙ values_long os in
           let head : (4 + 4294967296 * length os) % 2 ^ 64 ≡ header 4 0 (length ws) =
           ap (λ n. (4 + 4294967296 * n) % 2 ^ 64) (sym long) ∙ header_word 4 (length ws) (omega arith)
           (omega (arith, long, most)) in
           let o : Object = Fixed (header 4 0 (length ws)) ws in
-          let small = all_small scene.l scene.setting.address scene.procs scene.MayWrap scene.places objects
+          let small = all_small scene.l scene.setting.address scene.procs scene.meaning scene.laws scene.places objects
           scene.setting scene.placed h filled (in_row (values locals group os)) ws carried in
           builds scene.setting scene.P scene.Q
           (λ n. scene.calm world (record h { words = n }) objects
-          (filled_above scene.setting scene.l scene.placed objects h h.memory n filled (λ i l. refl)) allowed)
+          (filled_above scene.meaning scene.setting scene.l scene.placed objects h h.memory n filled (λ i l. refl))
+          allowed)
           (header 4 0 (length ws) ∷ ws) (ap₂ and_more (ap Some head) are) (omega (arith, long, most)) lt
           (λ fits. go (o ∷ []) (record {
             memory = store_words (header 4 0 (length ws) ∷ ws) h.alloc h.memory;
             alloc = h.alloc + 8 * length (header 4 0 (length ws) ∷ ws);
             words = h.words + length (header 4 0 (length ws) ∷ ws);
-          }) (filled_more scene.setting scene.l scene.placed objects (o ∷ []) h
+          }) (filled_more scene.meaning scene.setting scene.l scene.placed objects (o ∷ []) h
           (store_words (header 4 0 (length ws) ∷ ws) h.alloc h.memory)
           (h.alloc + 8 * length (header 4 0 (length ws) ∷ ws)) (h.words + length (header 4 0 (length ws) ∷ ws)) filled
           (λ i l. bytes_below (header 4 0 (length ws) ∷ ws) h.alloc h.memory i l) (
             stored_words (header 4 0 (length ws) ∷ ws) h.alloc h.memory
                 (header_small 4 (length ws) (omega arith) (omega (arith, long, most)), small),
             tt,
-          ) (
-            WholeOther TupleKind (length ws) refl (omega arith) refl (within (length ws) (omega (arith, long, least))
-                (omega (arith, long, most))),
-            tt,
-          ) (omega arith) fits) (λ i l. bytes_below (header 4 0 (length ws) ∷ ws) h.alloc h.memory i l) h.alloc
+          ) (scene.laws.keeps_more scene.l objects scene.number o (record {
+            kind = TupleKind;
+            count = length ws;
+            head = refl;
+            long = omega arith;
+            free = refl;
+            allowed = within (length ws) (omega (arith, long, least)) (omega (arith, long, most));
+          }) filled.keeps) (omega arith) fits) (λ i l. bytes_below (header 4 0 (length ws) ∷ ws) h.alloc h.memory i l)
+          h.alloc
           (set_local d h.alloc new) (
             ws,
             inr (added_there scene.l.region objects o [] h.alloc filled.ends),
-            all_later scene.l scene.setting.address scene.procs scene.MayWrap scene.places objects (o ∷ [])
+            all_later scene.l scene.setting.address scene.procs scene.meaning scene.laws scene.places objects (o ∷ [])
                 (in_row (values locals group os)) ws carried,
             omega (arith, long, most),
           ) (word_here d h.alloc new)
@@ -184,7 +189,7 @@ module _ (scene : Scene) (world : WorldState) (allowed : scene.allowed world) (h
 
   pub is_of_kind : (o : LowSource) (x kind c : ℕ) (one other k : Code) (now : Locals) → kind < 256
       → word_of now o ≡ Some x
-      → WordThere scene.setting scene.l scene.placed h.memory x (kind + 4294967296 * c)
+      → WordThere scene.meaning scene.setting scene.l scene.placed h.memory x (kind + 4294967296 * c)
       → ((new : Locals) → Changes (test_word s) now new
       → Arrives scene (at world h waiting size (k ∷ rests) new one))
       → Moves scene.setting scene.P scene.Q (at world h waiting size rests now (of_kind s o kind one other k))
@@ -198,7 +203,7 @@ module _ (scene : Scene) (world : WorldState) (allowed : scene.allowed world) (h
 
   -- a part of a bare tuple
   pub takes_part : (o : Operand) (i d : ℕ) → operand_bound s.captured count depth o ≡ true → d < size → (k : Code)
-      → (vs : FlatValues Coercion) (v : FlatValue Coercion) → value locals group o ≡ RunTuple vs
+      → (vs : FlatValues scene.meaning.Cast) (v : FlatValue scene.meaning.Cast) → value locals group o ≡ RunTuple vs
       → slice_get (row_list vs) i ≡ Some v → Puts d v k
       → Arrives scene (at world h waiting size rests words (perform scene.run s d (Proj o (pos i)) k))
   takes_part o i d bound lt k vs v is get go =
@@ -227,13 +232,15 @@ module _ (scene : Scene) (world : WorldState) (allowed : scene.allowed world) (h
           → Changes (operand_word s 0) words new
           → Arrives scene (at world h waiting size rests new (part scene.run s d a (pos i) k))
       taken x new c found_is changed =
-          let p = part_carried scene.l scene.setting.address scene.procs scene.MayWrap scene.places objects vs c.0 i v
+          let p = part_carried scene.l scene.setting.address scene.procs scene.meaning scene.laws scene.places objects
+          vs c.0 i v
           c.2 get in
           let less : i < length c.0 = in_list c.0 i p.0 p.1 in
           let short : nat_lt i 8 ≡ true = lt_true i 8 (omega (arith, less, c.3)) in
-          let head = header_there scene.setting scene.l scene.placed objects h filled x
+          let head = header_there scene.meaning scene.setting scene.l scene.placed objects h filled x
           (Fixed (header 4 0 (length c.0)) c.0) c.1 in
-          let there = word_there scene.setting scene.l scene.placed objects h filled x (header 4 0 (length c.0)) c.0 c.1
+          let there = word_there scene.meaning scene.setting scene.l scene.placed objects h filled x
+          (header 4 0 (length c.0)) c.0 c.1
           (suc i) p.0 (x + (8 + 8 * i)) p.1 (omega arith) in
           subst (λ b. Arrives scene (at world h waiting size rests new (
           if b then of_kind s a 4 (Load d a (8 + 8 * i) Done) other k
@@ -241,7 +248,8 @@ module _ (scene : Scene) (world : WorldState) (allowed : scene.allowed world) (h
           (sym short)
           (comes_on scene.setting scene.P scene.Q (is_of_kind a x 4 (length c.0)
           (Load d a (8 + 8 * i) Done) other k new (omega arith) found_is
-          (subst (WordThere scene.setting scene.l scene.placed h.memory x) (header_is 4 (length c.0)) head)
+          (subst (WordThere scene.meaning scene.setting scene.l scene.placed h.memory x) (header_is 4 (length c.0))
+          head)
           (λ last changed'.
           let same : SameNamed s depth new last = λ j named. changed' j (not_test j named) in
           let kept : last t ≡ new t = changed' t (λ e. omega (arith, e)) in

@@ -17,13 +17,13 @@ use Rattle.low_ir.specs.Operations.{compute}
 use Rattle.low_ir.specs.Procedures.{Code, Compute, Set, Environment}
 use Rattle.low_ir.specs.Steps.{Locals, set_local}
 use Rattle.low_ir.specs.Run.{Waiting, word_of, words_of, and_more}
-use Rattle.coercion_norm.specs.Coercions.{Coercion}
 use Rattle.coercion_norm.specs.RunValues.{RunInt, RunBool, in_row}
 use Rattle.flat_ir.specs.declared.code.Operand.{Operand}
 use Rattle.flat_ir.specs.Closed.{operands_bound}
 use Rattle.flat_ir.specs.Machine.{FlatValue, Group, Locals as FlatLocals, value, values}
 use Rattle.coercion_norm.specs.Objects.{Object}
-use Rattle.rt_cast.specs.States.{Heap, Filled}
+use Rattle.rt_cast.specs.States.{Heap}
+use Rattle.lower.specs.Storage.{Filled}
 use Rattle.lower.specs.declared.numbering.Shape.{Shape}
 use Rattle.lower.specs.Numbering.{operand_word, test_word}
 use Rattle.lower.specs.Emit.{found, fetch_all, found_all, turned}
@@ -73,8 +73,9 @@ unfolding environment_call
 prints_line labels world = refl
 
 module _ (scene : Scene) (world : WorldState) (allowed : scene.allowed world) (h : Heap) (objects : List Object)
-    (filled : Filled scene.setting scene.l objects h) (waiting : List Waiting) (size : ℕ) (rests : List Code)
-    (s : Shape) (count : ℕ) (group : Group Coercion) (depth : ℕ) (locals : FlatLocals Coercion)
+    (filled : Filled scene.meaning scene.setting scene.l scene.number objects h) (waiting : List Waiting) (size : ℕ)
+    (rests : List Code)
+    (s : Shape) (count : ℕ) (group : Group scene.meaning.Cast) (depth : ℕ) (locals : FlatLocals scene.meaning.Cast)
     (room : s.params + 10 ≤ size) (words : Locals)
     (knows : KnowsHere scene world allowed h objects filled waiting size rests s count group depth locals words) where
   abbrev calm : Calm scene.setting scene.P scene.Q world h
@@ -83,7 +84,7 @@ module _ (scene : Scene) (world : WorldState) (allowed : scene.allowed world) (h
   abbrev On : Locals → Code → Type 0
   On new code = Arrives scene (at world h waiting size rests new code)
 
-  abbrev PutsHere : ℕ → FlatValue Coercion → Code → Type 0
+  abbrev PutsHere : ℕ → FlatValue scene.meaning.Cast → Code → Type 0
   PutsHere d v k = Puts scene world allowed h objects filled waiting size rests s count group depth locals room words
       knows d v k
 
@@ -135,7 +136,7 @@ module _ (scene : Scene) (world : WorldState) (allowed : scene.allowed world) (h
       word_other d w new j ne ∙ changed j (beside s (operand_word s 0) n j (omega arith) (omega (arith, few)) side)
 
   -- a word is computed
-  pub computed : (op : WordOp) (d : ℕ) (a b : LowSource) (x y w n : ℕ) (v : FlatValue Coercion) (k : Code)
+  pub computed : (op : WordOp) (d : ℕ) (a b : LowSource) (x y w n : ℕ) (v : FlatValue scene.meaning.Cast) (k : Code)
       (new : Locals) → word_of new a ≡ Some x → word_of new b ≡ Some y → compute op x y ≡ w
       → Carries scene objects v w → n ≤ 8 → ChangesFrom (operand_word s 0) n words new → d < size → PutsHere d v k
       → On new (Compute op d a b k)
@@ -144,7 +145,8 @@ module _ (scene : Scene) (world : WorldState) (allowed : scene.allowed world) (h
       (go w (set_local d w new) carried (word_here d w new) (touched d n new w few changed))
 
   -- and another one of it and 1
-  pub computed_twice : (op then_op : WordOp) (d : ℕ) (a b : LowSource) (x y z w n : ℕ) (v : FlatValue Coercion)
+  pub computed_twice : (op then_op : WordOp) (d : ℕ) (a b : LowSource) (x y z w n : ℕ)
+      (v : FlatValue scene.meaning.Cast)
       (k : Code) (new : Locals) → word_of new a ≡ Some x → word_of new b ≡ Some y → compute op x y ≡ z
       → compute then_op z 1 ≡ w → Carries scene objects v w → n ≤ 8
       → ChangesFrom (operand_word s 0) n words new → d < size → PutsHere d v k

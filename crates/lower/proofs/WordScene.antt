@@ -3,18 +3,23 @@ use Rattle.std.proofs.Common.{◌≡◌, ℕ, List}
 use Rattle.grift_base.specs.Types.{TypeRow}
 use Rattle.grift_base.specs.World.{WorldState}
 use Rattle.low_ir.specs.Run.{Setting, LowState}
-use Rattle.coercion_norm.specs.Coercions.{Coercion}
 use Rattle.flat_ir.specs.Bodies.{Proc}
 use Rattle.flat_ir.specs.Machine.{FlatValue, FlatValues}
 use Rattle.coercion_norm.specs.Objects.{Object}
 use Rattle.coercion_norm.specs.Held.{Layout}
-use Rattle.rt_cast.specs.States.{Heap, Placed, Filled}
+use Rattle.rt_cast.specs.States.{Placed}
+use Rattle.rt_cast.specs.States.{Heap}
+use Rattle.lower.specs.Storage.{Filled}
 use Rattle.lower.specs.declared.served.Served.{Served}
 use Rattle.lower.specs.CarriedValues.{IsCarried, AreCarried}
 use Rattle.lower.proofs.WordSteps.{Comes, Calm}
+use Rattle.lower.specs.Meanings.{Meaning, MeaningLaws}
 
 -- the run, where things stand in it, what is to hold on the way and at the end, in which worlds
 pub record Scene : Type 1 where
+  pub meaning : Meaning
+  pub laws : MeaningLaws meaning
+  pub number : ℕ
   pub setting : Setting
   pub l : Layout
   pub placed : Placed setting l
@@ -22,22 +27,22 @@ pub record Scene : Type 1 where
   pub run : Served
   pub procs : List Proc
   pub answer : TypeRow
-  pub MayWrap : Coercion → Type 0
   pub places : List ℕ
   pub P : LowState → Type 0
   pub Q : LowState → Type 0
   pub allowed : WorldState → Type 0
-  pub calm : (world : WorldState) (h : Heap) (objects : List Object) → Filled setting l objects h → allowed world
+  pub calm : (world : WorldState) (h : Heap) (objects : List Object) → Filled meaning setting l number objects h
+      → allowed world
       → Calm setting P Q world h
 
 module _ (scene : Scene) where
-  abbrev pub Carries : List Object → FlatValue Coercion → ℕ → Type 0
+  abbrev pub Carries : List Object → FlatValue scene.meaning.Cast → ℕ → Type 0
   Carries objects v w =
-      IsCarried scene.l scene.setting.address scene.procs scene.MayWrap scene.places objects v w
+      IsCarried scene.l scene.setting.address scene.procs scene.meaning scene.places objects v w
 
-  abbrev pub CarryAll : List Object → FlatValues Coercion → List ℕ → Type 0
+  abbrev pub CarryAll : List Object → FlatValues scene.meaning.Cast → List ℕ → Type 0
   CarryAll objects vs ws =
-      AreCarried scene.l scene.setting.address scene.procs scene.MayWrap scene.places objects vs ws
+      AreCarried scene.l scene.setting.address scene.procs scene.meaning scene.places objects vs ws
 
   abbrev pub Arrives : LowState → Type 0
   Arrives t = Comes scene.setting scene.P scene.Q t

@@ -5,7 +5,12 @@ pub mod Steps
 pub mod Serving
 pub mod Sets
 pub mod CoveredPrograms
+pub mod Meanings
+pub mod Storage
 pub mod CarriedValues
 pub mod RelatedStates
 pub mod SimulationServices
+pub mod SchemeLaws
 pub mod SimulationClaims
+pub mod Following
+pub mod MergedMeaning

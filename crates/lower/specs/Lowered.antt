@@ -1,6 +1,5 @@
 -- The procedures over words of a flat program.
-use Rattle.std.specs.Prelude.{ℕ, suc, ◌+◌, ◌*◌, max, List, [], ◌∷◌, ◌++◌, length, map, Option, Some, None}
-use Rattle.std.specs.Prelude.{if◌then◌else◌, nat_lt}
+use Rattle.std.specs.Prelude.{ℕ, suc, ◌+◌, max, List, [], ◌∷◌, ◌++◌, map}
 use Rattle.rv_isa.specs.declared.inst.Cond.TheVariants.{Eq}
 use Rattle.low_ir.specs.declared.code.WordOp.TheVariants.{And}
 use Rattle.low_ir.specs.declared.code.LowSource.{LowSource}

@@ -6,10 +6,9 @@ use Rattle.low_ir.specs.declared.code.LowSource.{LowSource}
 use Rattle.low_ir.specs.Procedures.{Code, Done, Return as ReturnCode}
 use Rattle.low_ir.specs.Steps.{Locals, no_locals}
 use Rattle.low_ir.specs.Run.{Setting, Active, Waiting as LowWaiting, LowState, word_of}
-use Rattle.coercion_norm.specs.Coercions.{Coercion}
 use Rattle.coercion_norm.specs.RunValues.{Pending}
 use Rattle.coercion_norm.specs.ValueSteps.{CastFrame, ProjFrame, PrimFrame, EnterFrame, OwnFrame, Own, Return, Entering}
-use Rattle.coercion_norm.specs.ValueSteps.{onto}
+use Rattle.coercion_norm.specs.ValueSteps.{onto, casts_onto}
 use Rattle.flat_ir.specs.declared.code.Operand.{Operand}
 use Rattle.flat_ir.specs.Bodies.{Body, Call, Proc}
 use Rattle.flat_ir.specs.Closed.{body_bound}
@@ -17,7 +16,9 @@ use Rattle.flat_ir.specs.Machine.{FlatCode, FlatValue, FlatFrame, FlatFocus, Fla
 use Rattle.flat_ir.specs.Machine.{Inside, Waiting, value, values}
 use Rattle.coercion_norm.specs.Objects.{Object}
 use Rattle.coercion_norm.specs.Held.{Layout}
-use Rattle.rt_cast.specs.States.{Filled, heap_of}
+use Rattle.lower.specs.Meanings.{Meaning}
+use Rattle.rt_cast.specs.States.{heap_of}
+use Rattle.lower.specs.Storage.{Filled}
 use Rattle.lower.specs.declared.numbering.Shape.{Shape}
 use Rattle.lower.specs.declared.served.Served.{Served}
 use Rattle.lower.specs.Numbering.{own_word, local_word, function_offset}
@@ -33,12 +34,12 @@ Falls (suc n) k [] k' rests' = ⊥
 Falls (suc n) k (r ∷ rests) k' rests' = (k ≡ Done) × Falls n r rests k' rests'
 
 -- the values of arguments whose casts are still to be made
-abbrev pub pending_values : List (Pending Coercion FlatCode) → List (FlatValue Coercion)
+abbrev pub pending_values : {C : Type 0} → List (Pending C FlatCode) → List (FlatValue C)
 pending_values [] = []
 pending_values (p ∷ todo) = p.value ∷ pending_values todo
 
 -- no casts are to be made
-abbrev pub NoCasts : List (Pending Coercion FlatCode) → Type 0
+abbrev pub NoCasts : {C : Type 0} → List (Pending C FlatCode) → Type 0
 NoCasts [] = Unit {0}
 NoCasts (p ∷ todo) = (p.casts ≡ []) × NoCasts todo
 
@@ -50,23 +51,23 @@ entry_waiting answer = record {
 }
 
 module _ (setting : Setting) (l : Layout) (run : Served) (procs : List Proc) (answer : TypeRow)
-    (MayWrap : Coercion → Type 0) where
+    (meaning : Meaning) where
   module _ (places : List ℕ) (objects : List Object) where
-    abbrev pub Carried : FlatValue Coercion → ℕ → Type 0
-    Carried v w = IsCarried l setting.address procs MayWrap places objects v w
+    abbrev pub Carried : FlatValue meaning.Cast → ℕ → Type 0
+    Carried v w = IsCarried l setting.address procs meaning places objects v w
 
     -- the word is the address of the function of a group that runs: the one at the place of the shape
-    pub record OwnGroup (s : Shape) (count : ℕ) (group : Group Coercion) (own : ℕ) : Type 0 where
+    pub record OwnGroup (s : Shape) (count : ℕ) (group : Group meaning.Cast) (own : ℕ) : Type 0 where
       pub leader : ℕ
       pub words : List ℕ
       pub is : own ≡ leader + function_offset (length words) s.place
       pub long : s.captured ≡ length words
       pub inside : s.place < count
-      pub stands : IsGroup l setting.address procs MayWrap places objects group.first leader count words
-      pub carried : AreCarried l setting.address procs MayWrap places objects group.captured words
+      pub stands : IsGroup l setting.address procs meaning places objects group.first leader count words
+      pub carried : AreCarried l setting.address procs meaning places objects group.captured words
 
     -- the words of an active procedure carry the values of its names below a level
-    pub record Knows (s : Shape) (count : ℕ) (group : Group Coercion) (depth : ℕ) (locals : FlatLocals Coercion)
+    pub record Knows (s : Shape) (count : ℕ) (group : Group meaning.Cast) (depth : ℕ) (locals : FlatLocals meaning.Cast)
         (words : Locals) : Type 0 where
       pub own : ℕ
       pub own_is : words own_word ≡ Some own
@@ -74,7 +75,8 @@ module _ (setting : Setting) (l : Layout) (run : Served) (procs : List Proc) (an
       pub local : (i : ℕ) → i < depth → (w : ℕ) × (words (local_word s i) ≡ Some w) × Carried (locals i) w
 
     -- of a body: it is bound at a level, the procedure over words has room for its names, and the words know them
-    pub record Fits (s : Shape) (count size : ℕ) (group : Group Coercion) (depth : ℕ) (locals : FlatLocals Coercion)
+    pub record Fits (s : Shape) (count size : ℕ) (group : Group meaning.Cast) (depth : ℕ)
+        (locals : FlatLocals meaning.Cast)
         (words : Locals) (body : Body) : Type 0 where
       pub bound : body_bound procs s.captured count depth body ≡ true
       pub covered : covers body ≡ true
@@ -83,8 +85,8 @@ module _ (setting : Setting) (l : Layout) (run : Served) (procs : List Proc) (an
       pub knows : Knows s count group depth locals words
 
     -- a body waits for the value that is put into a word
-    pub record Waits (s : Shape) (count size : ℕ) (group : Group Coercion) (depth slot : ℕ) (rest : Body)
-        (locals : FlatLocals Coercion) (other : Group Coercion) (d : ℕ) (words : Locals) : Type 0 where
+    pub record Waits (s : Shape) (count size : ℕ) (group : Group meaning.Cast) (depth slot : ℕ) (rest : Body)
+        (locals : FlatLocals meaning.Cast) (other : Group meaning.Cast) (d : ℕ) (words : Locals) : Type 0 where
       pub params : s.params ≤ slot
       pub deep : slot ≤ depth
       pub word : d ≡ local_word s slot
@@ -96,8 +98,8 @@ module _ (setting : Setting) (l : Layout) (run : Served) (procs : List Proc) (an
 
     -- what stands behind the place where a value goes gives it to the bodies that wait for it; told what is to hold of
     -- those of the callers
-    abbrev pub Rest : (List (FlatFrame Coercion) → Type 0) → Shape → ℕ → ℕ → Group Coercion → ℕ
-        → List (FlatFrame Coercion) → Then → List Code → Locals → Type 0
+    abbrev pub Rest : (List (FlatFrame meaning.Cast) → Type 0) → Shape → ℕ → ℕ → Group meaning.Cast → ℕ
+        → List (FlatFrame meaning.Cast) → Then → List Code → Locals → Type 0
     Rest P s count size group depth frames ToCaller rests words = P frames
     Rest P s count size group depth [] (Into d k) rests words = ⊥
     Rest P s count size group depth (OwnFrame (Waiting slot rest locals other) ∷ frames) (Into d k) rests words =
@@ -109,19 +111,22 @@ module _ (setting : Setting) (l : Layout) (run : Served) (procs : List Proc) (an
     Rest P s count size group depth (PrimFrame op done ∷ frames) (Into d k) rests words = ⊥
     Rest P s count size group depth (EnterFrame f done todo ∷ frames) (Into d k) rests words = ⊥
 
-    -- the procedures over words that wait stand for the bodies that wait; last of all waits the one that the program
-    -- begins with
-    abbrev pub Callers : List LowWaiting → List (FlatFrame Coercion) → Type 0
+    -- the procedures over words that wait stand for the bodies that wait, and for the casts of what a function in
+    -- wrappers gives; last of all waits the one that the program begins with
+    abbrev pub Callers : List LowWaiting → List (FlatFrame meaning.Cast) → Type 0
     Callers [] frames = ⊥
     Callers (w ∷ ws) frames =
         ((frames ≡ []) × (ws ≡ []) × (w ≡ entry_waiting answer))
-        ⊎ ((s : Shape) × (count : ℕ) × (group : Group Coercion) × (depth : ℕ)
+        ⊎ (((s : Shape) × (count : ℕ) × (group : Group meaning.Cast) × (depth : ℕ)
         × Rest (Callers ws) s count w.rest.count group depth frames (Into w.answer w.rest.code) w.rest.rests
         w.rest.locals)
+        ⊎ ((cast : meaning.Cast) × (casts : List meaning.Cast) × (base : List (FlatFrame meaning.Cast))
+        × (frames ≡ CastFrame cast ∷ casts_onto casts base) × meaning.Resumes setting l objects w (cast ∷ casts)
+        × Callers ws base))
 
     -- the code of a body runs
-    pub record Runs (body : Body) (locals : FlatLocals Coercion) (group : Group Coercion)
-        (frames : List (FlatFrame Coercion)) (active : Active) (waiting : List LowWaiting) : Type 0 where
+    pub record Runs (body : Body) (locals : FlatLocals meaning.Cast) (group : Group meaning.Cast)
+        (frames : List (FlatFrame meaning.Cast)) (active : Active) (waiting : List LowWaiting) : Type 0 where
       pub s : Shape
       pub count : ℕ
       pub depth : ℕ
@@ -131,11 +136,11 @@ module _ (setting : Setting) (l : Layout) (run : Served) (procs : List Proc) (an
       pub rest : Rest (Callers waiting) s count active.count group depth frames next active.rests active.locals
 
     -- a value was put into a word
-    pub record Gave (v : FlatValue Coercion) (frames : List (FlatFrame Coercion)) (active : Active)
+    pub record Gave (v : FlatValue meaning.Cast) (frames : List (FlatFrame meaning.Cast)) (active : Active)
         (waiting : List LowWaiting) : Type 0 where
       pub s : Shape
       pub count : ℕ
-      pub group : Group Coercion
+      pub group : Group meaning.Cast
       pub depth : ℕ
       pub d : ℕ
       pub w : ℕ
@@ -145,7 +150,7 @@ module _ (setting : Setting) (l : Layout) (run : Served) (procs : List Proc) (an
           active.locals
 
     -- a value is about to be returned
-    pub record Gives (v : FlatValue Coercion) (frames : List (FlatFrame Coercion)) (active : Active)
+    pub record Gives (v : FlatValue meaning.Cast) (frames : List (FlatFrame meaning.Cast)) (active : Active)
         (waiting : List LowWaiting) : Type 0 where
       pub source : LowSource
       pub w : ℕ
@@ -155,28 +160,28 @@ module _ (setting : Setting) (l : Layout) (run : Served) (procs : List Proc) (an
       pub callers : Callers waiting frames
 
     -- the arguments of a call are gone over, and no casts wait for them
-    pub record Enters (f : FlatValue Coercion) (done : List (FlatValue Coercion))
-        (todo : List (Pending Coercion FlatCode)) (frames : List (FlatFrame Coercion)) (active : Active)
+    pub record Enters (f : FlatValue meaning.Cast) (done : List (FlatValue meaning.Cast))
+        (todo : List (Pending meaning.Cast FlatCode)) (frames : List (FlatFrame meaning.Cast)) (active : Active)
         (waiting : List LowWaiting) : Type 0 where
       pub operand : Operand
       pub operands : List Operand
-      pub locals : FlatLocals Coercion
-      pub group : Group Coercion
+      pub locals : FlatLocals meaning.Cast
+      pub group : Group meaning.Cast
       pub runs : Runs (Call operand operands) locals group frames active waiting
       pub function : value locals group operand ≡ f
       pub arguments : onto done (pending_values todo) ≡ values locals group operands
       pub plain : NoCasts todo
 
-    abbrev pub Goes : FlatFocus Coercion → List (FlatFrame Coercion) → Active → List LowWaiting → Type 0
+    abbrev pub Goes : FlatFocus meaning.Cast → List (FlatFrame meaning.Cast) → Active → List LowWaiting → Type 0
     Goes (Own (Inside body locals group)) frames active waiting = Runs body locals group frames active waiting
     Goes (Return v) frames active waiting = Gave v frames active waiting ⊎ Gives v frames active waiting
     Goes (Entering f done todo) frames active waiting = Enters f done todo frames active waiting
 
-  -- two states that both go on
-  pub record Related (f : FlatState Coercion) (t : LowState) : Type 0 where
+  -- two states that both go on, after so many wrap steps
+  pub record Related (f : FlatState meaning.Cast) (number : ℕ) (t : LowState) : Type 0 where
     pub places : List ℕ
     pub objects : List Object
-    pub filled : Filled setting l objects (heap_of t)
-    pub cells : CellsHeld l setting.address procs MayWrap places objects t.memory places f.store
+    pub filled : Filled meaning setting l number objects (heap_of t)
+    pub cells : CellsHeld l setting.address procs meaning places objects t.memory places f.store
     pub world : t.world ≡ f.world
     pub goes : Goes places objects f.focus f.frames t.active t.waiting

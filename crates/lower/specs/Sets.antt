@@ -1,10 +1,9 @@
 -- Sets of procedures that serve, and that of the merged scheme.
-use Rattle.std.specs.Prelude.{ℕ, ◌+◌, ◌≡◌, true, List, [], ◌∷◌, ◌++◌, Some, slice_get}
-use Rattle.low_ir.specs.declared.code.LowSource.TheVariants.{Word}
-use Rattle.low_ir.specs.Procedures.{Proc, Return}
+use Rattle.std.specs.Prelude.{ℕ, ◌+◌, ◌≡◌, true, List, [], ◌++◌, Some, slice_get}
+use Rattle.low_ir.specs.Procedures.{Proc}
 use Rattle.low_ir.specs.Closed.{each_closed}
 use Rattle.rt_cast.specs.Procs.{cast_procs}
-use Rattle.rt_refs.specs.Quotients.{ref_procs}
+use Rattle.rt_refs.specs.RefProcs.{proxy_procs}
 use Rattle.lower.specs.declared.served.ProcSet.{ProcSet}
 use Rattle.lower.specs.declared.served.Served.{Served}
 use Rattle.lower.specs.Serving.{Serve}
@@ -39,14 +38,10 @@ with_casts numbers words = record numbers { cast_at = words }
 
 -- ---- the merged scheme
 
--- a procedure that isn't built yet, and is never called: it answers the first of the words that it takes
-abbrev pub unbuilt : ℕ → Proc
-unbuilt count = record { params = count; words = count; code = Return (Word 0) }
-
--- Casts and what they call; apply, read, write and fill, which aren't built yet; products and quotients. They are
--- numbered from the first on.
+-- Casts and what they call; apply, read, write, fill and its loop; products and quotients. They are numbered from the
+-- first on.
 abbrev pub merged_procs : ℕ → List Proc
-merged_procs first = cast_procs first ++ unbuilt 8 ∷ unbuilt 3 ∷ unbuilt 4 ∷ unbuilt 2 ∷ ref_procs (31 + first)
+merged_procs first = cast_procs first ++ proxy_procs (27 + first) (2 + first)
 
 -- the numbers of those that code calls
 abbrev pub merged_numbers : ℕ → Served
@@ -57,7 +52,7 @@ merged_numbers first = record {
   read = 28 + first;
   write = 29 + first;
   fill = 30 + first;
-  multiply = 33 + first;
-  divide = 34 + first;
+  multiply = 34 + first;
+  divide = 35 + first;
   cast_at = [];
 }

@@ -11,8 +11,6 @@ ghost use Rattle.lower.specs.Lowered.{lowered};
 ghost use Rattle.lower.specs.Serving.{Serve, all_have_words};
 ghost use Rattle.lower.specs.Sets.{merged_numbers, merged_procs, with_casts};
 
-use rt_cast::laws::procedures_are_closed;
-
 /// The procedures over words of a closed flat program, none of whose operators has more than eight operands, are closed
 /// and begin with the one behind the flat program's, whatever procedures serve them: those have only to stand there by
 /// the numbers that were told, to take as many words as they are handed, and to be closed there themselves.
@@ -30,6 +28,4 @@ pub fn merged_programs_are_closed()
         → is_closed_flat flat entry ≡ true → all_have_words flat ≡ true → let first : ℕ = suc (length flat) in
         is_closed (lowered (with_casts (merged_numbers first) words) flat entry answer (merged_procs first))
         (length flat) ≡ true }
-{
-    procedures_are_closed();
-}
+{}

@@ -8,10 +8,10 @@ ghost use Rattle.coercion_norm.specs.Statics.{AreStatics};
 ghost use Rattle.flat_ir.specs.Closed.{is_closed as is_closed_flat};
 ghost use Rattle.flat_ir.specs.Views.{procs_of as flat_procs_of};
 ghost use Rattle.low_ir.specs.Closed.{is_closed};
-ghost use Rattle.low_ir.specs.Views.{proc_of, procs_of};
+ghost use Rattle.low_ir.specs.Views.{procs_of};
 ghost use Rattle.lower.specs.Lowered.{lowered};
 ghost use Rattle.lower.specs.Serving.{all_have_words, all_narrow};
-ghost use Rattle.lower.specs.Sets.{merged_numbers, merged_procs, unbuilt, with_casts};
+ghost use Rattle.lower.specs.Sets.{merged_numbers, merged_procs, with_casts};
 
 use crate::copies::push_copies;
 use crate::schemes::{Scheme, lower_over};
@@ -22,11 +22,9 @@ use coercion_norm::tables::CoercionTable;
 use flat_ir::programs::{FlatProcs, FlatProgram};
 use grift_base::lists::OutOfMemory;
 use grift_base::words::Statics;
-use low_ir::code::{LowCode, LowSource};
-use low_ir::programs::{LowProc, LowProcs, LowProgram};
-use rt_cast::laws::procedures_are_closed;
+use low_ir::programs::{LowProcs, LowProgram};
 use rt_cast::procs::cast_procs;
-use rt_refs::procs::ref_procs;
+use rt_refs::procs::proxy_procs;
 use rv_machine::FIRST_ADDRESS;
 use std::alloc::Global;
 use type_graph::tables::TypeTable;
@@ -35,34 +33,22 @@ use type_graph::tables::TypeTable;
 #[derive(Clone, Copy, Debug)]
 pub struct Merged;
 
-// A procedure that isn't built yet, and is never called.
-fn unbuilt(params: u32) -> LowProc
-    ensures { proc_of result ≡ unbuilt params }
-{
-    LowProc {
-        params,
-        words: params,
-        code: LowCode::Return(LowSource::Word(0)),
-    }
-}
-
 // Casts and what they call; apply, read, write and fill; products and quotients.
 fn merged_procs(alloc: Global, first: u32) -> Result<LowProcs, OutOfMemory>
     requires { first < 2 ^ 31 }
     ensures { IfOk result (λ procs. procs_of procs ≡ merged_procs first) }
 {
     let mut procs = cast_procs(alloc, first)?;
-    procs.push(unbuilt(8))?;
-    procs.push(unbuilt(3))?;
-    procs.push(unbuilt(4))?;
-    procs.push(unbuilt(2))?;
-    let last = ref_procs(alloc, 31 + first, 2 + first)?;
-    push_copies(alloc, &mut procs, last.as_slice())?;
+    let others = proxy_procs(alloc, 27 + first, 2 + first)?;
+    push_copies(alloc, &mut procs, others.as_slice())?;
     Ok(procs)
 }
 
 impl Scheme for Merged {
+    ghost use Rattle.lower.specs.MergedMeaning.{merged_meaning};
     ghost use Rattle.lower.specs.Sets.{merged_numbers, merged_procs};
+
+    ghost meaning = { λ _. merged_meaning };
 
     ghost procs_from = { λ _ first. merged_procs first };
 
@@ -80,7 +66,6 @@ impl Scheme for Merged {
     }
 
     fn procs(&self, alloc: Global, first: u32) -> Result<ProcSet, OutOfMemory> {
-        procedures_are_closed();
         Ok(ProcSet {
             procs: merged_procs(alloc, first)?,
             cast: 2 + first,
@@ -89,10 +74,12 @@ impl Scheme for Merged {
             read: 28 + first,
             write: 29 + first,
             fill: 30 + first,
-            multiply: 33 + first,
-            divide: 34 + first,
+            multiply: 34 + first,
+            divide: 35 + first,
         })
     }
+
+    fn serves(&self) {}
 }
 
 // One more than the greatest number of 32 bits.

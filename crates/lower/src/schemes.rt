@@ -10,7 +10,9 @@ ghost use Rattle.low_ir.specs.Closed.{is_closed};
 ghost use Rattle.low_ir.specs.Procedures.{Proc};
 ghost use Rattle.low_ir.specs.Views.{procs_of};
 ghost use Rattle.lower.specs.declared.served.Served.{Served};
+ghost use Rattle.lower.specs.Following.{ServesEverywhere};
 ghost use Rattle.lower.specs.Lowered.{lowered};
+ghost use Rattle.lower.specs.Meanings.{Meaning, MeaningLaws};
 ghost use Rattle.lower.specs.Serving.{all_have_words};
 ghost use Rattle.lower.specs.Sets.{ServesAnywhere, numbers_of, with_casts};
 
@@ -32,6 +34,9 @@ const MOST_PROCS: u64 = 2_147_483_646;
 
 /// A way to make casts, and what else isn't done in place.
 pub trait Scheme {
+    // its mode, what its wrappers are, and the test of its storage
+    ghost meaning: { Self → Meaning };
+
     // the procedures, numbered without gaps from a first number on
     ghost procs_from: { Self → ℕ → List Proc };
 
@@ -62,6 +67,12 @@ pub trait Scheme {
         ensures few { IfOk result (λ set. length set.procs ≤ 64) }
         ensures serves { IfOk result (λ set.
             ServesAnywhere (procs_from self.now first) first (numbers_from self.now first)) };
+
+    /// Nothing to do: a law. What the scheme means is lawful, and its procedures do what is asked of them, wherever
+    /// they stand in a program.
+    fn serves(&self)
+        ensures lawful { MeaningLaws (meaning self.now) }
+        ensures everywhere { ServesEverywhere (meaning self.now) (procs_from self.now) (numbers_from self.now) };
 }
 
 // The numbers of the procedures of a set, and the words of casts.

@@ -1,5 +1,5 @@
 -- The laws of calls, reads and writes, where what stands under a proxy is known by its address.
-use Rattle.std.proofs.Common.{◌≡◌, ℕ, ◌+◌, ◌*◌, ◌≤◌, false, List, [], ◌∷◌, length, Some, sym, subst}
+use Rattle.std.proofs.Common.{◌≡◌, ℕ, ◌+◌, ◌*◌, ◌≤◌, false, List, [], ◌∷◌, length, Some, refl, sym, subst}
 use Rattle.std.specs.Prelude.{◌==◌, slice_get}
 use Rattle.grift_base.specs.Types.{TypeHead, IntHead}
 use Rattle.grift_base.specs.declared.verdicts.Trap.TheVariants.{Index}
@@ -13,7 +13,7 @@ use Rattle.coercion_norm.specs.Objects.{Object, Fixed}
 use Rattle.coercion_norm.specs.Held.{Layout, There}
 use Rattle.rt_cast.specs.Costs.{cast_cost}
 use Rattle.rt_cast.specs.ComposeCodes.{cast}
-use Rattle.rt_cast.specs.MergedValues.{Merged, Proxied, Outcome, Stuck, cast_value}
+use Rattle.rt_cast.specs.MergedValues.{Merged, Proxied, Outcome, Stuck, Blames, cast_value}
 use Rattle.rt_cast.specs.Carried.{IsVery, Carries, AreCarried, ComesTo}
 use Rattle.rt_cast.specs.States.{Filled, IsReady, heap_of}
 use Rattle.rt_cast.proofs.Public.{very_still}
@@ -25,7 +25,7 @@ use Rattle.rt_refs.specs.CellLaws.{cell_behind, under, CellStands, CellInRegion,
 use Rattle.rt_refs.specs.CellLaws.{ComesWhere, ComesWriting}
 use Rattle.rt_refs.proofs.Applying.{calls_through_proxies, answers_cast}
 use Rattle.rt_refs.proofs.Reading.{reads, outside_reads, lengths}
-use Rattle.rt_refs.proofs.Writing.{writes, outside_writes}
+use Rattle.rt_refs.proofs.Writing.{writes, writes_blamed, outside_writes}
 
 module _ {V : Type 0} where
   pub calls_are_made : (reading : Halt → Ending V) (setting : Setting) (l : Layout) (first : ℕ) (s : LowState)
@@ -107,7 +107,7 @@ module _ {V : Type 0} where
       → (which i word old : ℕ) → slice_get ws i ≡ Some old → (x : Merged ℕ) → Carries l objects x word
       → (r : Outcome ℕ) → cast_value head l.types d x ≡ r → (r ≡ Stuck → ⊥)
       → ComesWriting reading setting l s (write_proc (cast first)) (which ∷ wv ∷ i ∷ word ∷ [])
-      (WriteComes setting l s (IsVery l) objects a i r) (cast_cost l.width l.tallest + 17) (4 * l.tallest + 7)
+      (WriteComes setting l s (IsVery l) objects a i r) (cast_cost l.width l.tallest + 18) (4 * l.tallest + 7)
   elements_are_written reading setting l first s exhausts ready low objects filled begins head u wv hv a d behind ws
       cell which i word old got x hx r e some =
       writes reading setting l first s exhausts ready head (IsVery l) (λ old new g a w h. very_still reading setting l
@@ -116,16 +116,32 @@ module _ {V : Type 0} where
       (λ wa h. subst (λ n. CellInRegion l objects s.memory n ws) (sym h.is) cell) d behind which i word old got x hx r e
       some
 
+  pub box_writes_are_blamed : (reading : Halt → Ending V) (setting : Setting) (l : Layout) (first : ℕ) (s : LowState)
+      → reading (Lacks Region) ≡ Exhausted → IsReady setting l first → l.tallest ≤ MOST_HEIGHT
+      → (objects : List Object) → Filled setting l objects (heap_of s) → l.region ≡ setting.region
+      → (head : ℕ → TypeHead) (u : Merged ℕ) (wv : ℕ) → Carries l objects u wv → (a : ℕ) (d : Coercion)
+      → cell_behind 1 u ≡ Some (a, d) → (ws : List ℕ) → CellInRegion l objects s.memory a ws → (i word : ℕ)
+      (x : Merged ℕ) → Carries l objects x word → (label : ℕ) → cast_value head l.types d x ≡ Blames label
+      → ComesWriting reading setting l s (write_proc (cast first)) (0 ∷ wv ∷ i ∷ word ∷ [])
+      (WriteComes setting l s (IsVery l) objects a i (Blames label)) (cast_cost l.width l.tallest + 18)
+      (4 * l.tallest + 7)
+  box_writes_are_blamed reading setting l first s exhausts ready low objects filled begins head u wv hv a d behind ws
+      cell i word x hx label e =
+      writes_blamed reading setting l first s exhausts ready head (IsVery l) (λ old new g a w h. very_still reading
+      setting l first s exhausts ready old new g a w h)
+      (λ os a w h. h.solid) low begins objects filled u wv hv a ws
+      (λ wa h. subst (λ n. CellInRegion l objects s.memory n ws) (sym h.is) cell) d behind 0 i word refl x hx label e
+
   pub writes_outside_trap : (reading : Halt → Ending V) (setting : Setting) (l : Layout) (first : ℕ) (s : LowState)
       → reading (Lacks Region) ≡ Exhausted → IsReady setting l first → l.tallest ≤ MOST_HEIGHT
       → (objects : List Object) → Filled setting l objects (heap_of s) → (u : Merged ℕ)
       (wv : ℕ) → Carries l objects u wv → (a : ℕ) → under u ≡ Some a → (ws : List ℕ)
-      → CellStands l objects s.memory a ws → (which i word : ℕ) → length ws ≤ i
+      → CellStands l objects s.memory a ws → (which i word : ℕ) → (which == 0) ≡ false → length ws ≤ i
       → ComesWhere reading setting l s (write_proc (cast first)) (which ∷ wv ∷ i ∷ word ∷ [])
-      (TrapsAt reading setting l s Index) 9 0
+      (TrapsAt reading setting l s Index) 10 0
   writes_outside_trap reading setting l first s exhausts ready low objects filled u wv hv a stands ws cell which
-      i word outside =
+      i word other outside =
       outside_writes reading setting l first s exhausts ready (IsVery l)
       (λ old new g a w h. very_still reading setting l first s exhausts ready old new g a w h) (λ os a w h. h.solid)
       low objects filled u wv hv a ws
-      (λ wa h. subst (λ n. CellStands l objects s.memory n ws) (sym h.is) cell) stands which i word outside
+      (λ wa h. subst (λ n. CellStands l objects s.memory n ws) (sym h.is) cell) stands which i word other outside

@@ -1,7 +1,7 @@
 -- What write comes to, from a state in which whole objects fill the region.
-use Rattle.std.proofs.Common.{◌≡◌, inl, inr, ℕ, ◌+◌, ◌*◌, ◌^◌, ◌<◌, ◌≤◌}
+use Rattle.std.proofs.Common.{◌≡◌, inl, inr, ℕ, ◌+◌, ◌*◌, ◌^◌, ◌<◌, ◌≤◌, Bool, true, false}
 use Rattle.std.proofs.Common.{List, [], ◌∷◌, length, Some, refl, sym, ap, ap₂, ◌∙◌, subst, arith, le_refl}
-use Rattle.std.specs.Prelude.{slice_get}
+use Rattle.std.specs.Prelude.{◌==◌, slice_get}
 use Rattle.grift_base.specs.Types.{TypeHead}
 use Rattle.grift_base.specs.EnvironmentCall.{environment_call}
 use Rattle.grift_base.specs.declared.verdicts.Trap.TheVariants.{Index}
@@ -24,7 +24,7 @@ use Rattle.rt_cast.specs.MergedValues.{Merged, Outcome, Stuck, Gives, Blames, ca
 use Rattle.rt_cast.specs.Carried.{CarriedBy}
 use Rattle.rt_cast.proofs.Public.{Walk, lt_true, lt_false, End, More, at_most, computes, if_true, if_false, calls}
 use Rattle.rt_cast.proofs.Public.{ReachedIn, at_first, walk}
-use Rattle.rt_refs.specs.CellCodes.{write_code, write_proc, trap_index, test_index, take_part, find_element}
+use Rattle.rt_refs.specs.CellCodes.{write_code, write_proc, write_element, trap_index, test_index, find_element}
 use Rattle.rt_refs.specs.CellLaws.{cell_behind, under, CellStands, CellInRegion, TrapsAt, WriteComes}
 use Rattle.rt_refs.specs.CellLaws.{OnTheWayWriting, ComesWhere, ComesWriting}
 use Rattle.rt_refs.proofs.CellSteps.{in_list, stores, may_be_stored, holds_stored, holds_same}
@@ -33,13 +33,13 @@ use Rattle.rv_machine.specs.Memory.{store_bytes}
 use Rattle.rv_machine.proofs.Public.{stored_outside}
 use Rattle.coercion_norm.proofs.Public.{found_within, object_kept}
 use Rattle.coercion_norm.specs.Objects.{Cell, object_at}
-use Rattle.rt_refs.proofs.Finding.{behind_under, found, part_taken}
+use Rattle.rt_refs.proofs.Finding.{KeepsCoercion, behind_under, found, part_taken}
 
 abbrev store_code : Code
 store_code = find_element (Store (Word 3) (Word 2) 8 (Return (Number 0)))
 
 abbrev part_code : ℕ → Code
-part_code first = take_part 16 (Call 3 (cast first) (Word 3 ∷ Word 5 ∷ []) store_code)
+part_code first = write_element (cast first)
 
 module _ {V : Type 0} (reading : Halt → Ending V) (setting : Setting) (l : Layout) (first : ℕ) (s : LowState)
     (exhausts : reading (Lacks Region) ≡ Exhausted) (ready : IsReady setting l first) {A : Type 0} (head : A → TypeHead)
@@ -67,10 +67,10 @@ module _ {V : Type 0} (reading : Halt → Ending V) (setting : Setting) (l : Lay
     setting = setting;
     l = l;
     around = around s;
-    P = OnTheWayWriting setting l s (4 * l.tallest + 7) (9 * (cast_cost l.width l.tallest + 17));
+    P = OnTheWayWriting setting l s (4 * l.tallest + 7) (9 * (cast_cost l.width l.tallest + 18));
     Q = Q;
     frames = length s.waiting + (4 * l.tallest + 7);
-    most = s.words + 9 * (cast_cost l.width l.tallest + 17);
+    most = s.words + 9 * (cast_cost l.width l.tallest + 18);
     calm = λ active waiting h objects fine turns few asked. record {
       objects = objects;
       filled = fine.filled;
@@ -165,58 +165,62 @@ module _ {V : Type 0} (reading : Halt → Ending V) (setting : Setting) (l : Lay
         (omega arith, omega arith)
 
   -- what is written is stored, as the proxy casts it, or a label is blamed
-  pub writes : (d : Coercion) → cell_behind 1 u ≡ Some (a, d) → (which i word old : ℕ) → slice_get ws i ≡ Some old
-      → (x : Merged A) → CarriedBy l IsHeld objects x word → (r : Outcome A) → cast_value head l.types d x ≡ r
-      → (r ≡ Stuck → ⊥)
-      → ComesWriting reading setting l s (write_proc (cast first)) (which ∷ wv ∷ i ∷ word ∷ [])
-      (WriteComes setting l s IsHeld objects a i r) (cast_cost l.width l.tallest + 17) (4 * l.tallest + 7)
-  writes d behind which i word old got x hx r e some =
-      let z = begun in
-      (z.steps, (let g = z.few in omega arith), z.reach (record { room = omega arith; left = omega arith }))
-    where
-      v : Walk V
-      v = writing (WriteComes setting l s IsHeld objects a i r)
+  module _ (d : Coercion) (behind : cell_behind 1 u ≡ Some (a, d)) (which i word : ℕ) (x : Merged A)
+      (hx : CarriedBy l IsHeld objects x word) (r : Outcome A) (e : cast_value head l.types d x ≡ r)
+      (some : r ≡ Stuck → ⊥) where
+    abbrev v : Walk V
+    v = writing (WriteComes setting l s IsHeld objects a i r)
 
-      inside : i < length ws
-      inside = in_list ws i old got
+    abbrev Writes : Type 0
+    Writes =
+        ComesWriting reading setting l s (write_proc (cast first)) (which ∷ wv ∷ i ∷ word ∷ [])
+        (WriteComes setting l s IsHeld objects a i r) (cast_cost l.width l.tallest + 18) (4 * l.tallest + 7)
 
-      blames : (label : ℕ) → r ≡ Blames label
-          → Goes v low A IsHeld still is_solid End objects s.waiting (Blames label)
-      blames label q = λ new h' count locals rests waiting aa b dd e' rest grows fine' ea eb ld le. record {
-        steps = 0;
-        few = le_refl 0;
-        reach = λ spare.
-            subst (λ y. WriteComes setting l s IsHeld objects a i y
-            (st (around s) count locals (Environment 3 aa b dd e' rest) rests waiting h')) (sym q) (record {
-              new = new;
-              fine = fine';
-              a = aa;
-              b = b;
-              d = dd;
-              e = e';
-              rest = rest;
-              code = refl;
-              is = ea;
-              other = eb;
-              first = ld;
-              second = le;
-              same = refl;
-            });
-      }
+    abbrev begun : Type 0
+    begun =
+        ReachedIn v (More (cast_cost l.width l.tallest + 18) (4 * l.tallest + 7) End)
+        (st (around s) 6 (start which i word) (write_code (cast first)) [] s.waiting (heap_of s))
 
-      begun : ReachedIn v (More (cast_cost l.width l.tallest + 17) (4 * l.tallest + 7) End)
-          (st (around s) 6 (start which i word) (write_code (cast first)) [] s.waiting (heap_of s))
-      begun =
+    done : begun → Writes
+    done z =
+        (z.steps, (let g = z.few in omega arith), z.reach (record { room = omega arith; left = omega arith }))
+
+    blames : (label : ℕ) → r ≡ Blames label
+        → Goes v low A IsHeld still is_solid End objects s.waiting (Blames label)
+    blames label q = λ new h' count locals rests waiting aa b dd e' rest grows fine' ea eb ld le. record {
+      steps = 0;
+      few = le_refl 0;
+      reach = λ spare.
+          subst (λ y. WriteComes setting l s IsHeld objects a i y
+          (st (around s) count locals (Environment 3 aa b dd e' rest) rests waiting h')) (sym q) (record {
+            new = new;
+            fine = fine';
+            a = aa;
+            b = b;
+            d = dd;
+            e = e';
+            rest = rest;
+            code = refl;
+            is = ea;
+            other = eb;
+            first = ld;
+            second = le;
+            same = refl;
+          });
+    }
+
+    -- an index is one of the cell's where there is something to store
+    module _ (inside : (y : Merged A) → r ≡ Gives y → i < length ws) where
+      parted : (wa wc : ℕ) (found : Locals) (rests : List Code) → IsHeld objects a wa
+          → KeepsCoercion v low A IsHeld still is_solid objects u wc → found 1 ≡ Some wa → found 2 ≡ Some i
+          → found 3 ≡ Some word → found 5 ≡ Some wc
+          → ReachedIn v (More (cast_cost l.width l.tallest + 8) (4 * l.tallest + 7) End)
+          (st (around s) 6 found (part_code first) rests s.waiting (heap_of s))
+      parted wa wc found rests ha keeps e1 e2 e3 e5 =
           at_most v
-          (found v low A IsHeld still is_solid (More (cast_cost l.width l.tallest + 9) (4 * l.tallest + 7) End) objects
-          (heap_of s) fine s.waiting [] (start which i word) (test_index (part_code first)) wv refl ws u a
-          (behind_under v low A IsHeld still is_solid 1 u a d behind) hv cell_stands
-          (λ wa wc found rests ha cell_is keeps e1 e2 e3 e4 e5.
-          at_most v
-          (if_true v objects fine i (length ws) e2 e4 (lt_true i (length ws) inside)
           (part_taken v low A IsHeld still is_solid (More (cast_cost l.width l.tallest + 5) (4 * l.tallest + 7) End) 1
-          16 refl objects (heap_of s) fine s.waiting _ found (Call 3 (cast first) (Word 3 ∷ Word 5 ∷ []) store_code) wc
-          e5 u a d behind keeps
+          16 refl objects (heap_of s) fine s.waiting rests found (Call 3 (cast first) (Word 3 ∷ Word 5 ∷ []) store_code)
+          wc e5 u a d behind keeps
           (λ wd taken rests' hd ld f1 f2 f3 f5.
           at_most v
           (calls v objects fine (word ∷ wd ∷ []) (cast_proc first)
@@ -224,11 +228,68 @@ module _ {V : Type 0} (reading : Halt → Ending V) (setting : Setting) (l : Lay
           (cast_behind v low A IsHeld still is_solid head End (More 3 0 End) objects (heap_of s) fine s.waiting
           (record { count = 6; locals = taken; code = store_code; rests = rests' }) 3 refl d ld x word wd hx hd r e some
           (λ y q new h' word' grows fine' hy.
-          stored i inside r y q new h' word' grows fine' hy wa ha _ _ (f1 ∙ e1) (f2 ∙ e2) refl)
+          stored i (inside y q) r y q new h' word' grows fine' hy wa ha _ _ (f1 ∙ e1) (f2 ∙ e2) refl)
           blames))
-          (omega arith, omega arith))))
           (omega arith, omega arith)))
           (omega arith, omega arith)
+
+      to_box : (which == 0) ≡ true → begun
+      to_box is_box =
+          at_most v
+          (if_true v objects fine which 0 refl refl is_box
+          (found v low A IsHeld still is_solid (More (cast_cost l.width l.tallest + 8) (4 * l.tallest + 7) End) objects
+          (heap_of s) fine s.waiting _ (start which i word) (part_code first) wv refl ws u a
+          (behind_under v low A IsHeld still is_solid 1 u a d behind) hv cell_stands
+          (λ wa wc found rests ha cell_is keeps e1 e2 e3 e4 e5. parted wa wc found rests ha keeps e1 e2 e3 e5)))
+          (omega arith, omega arith)
+
+      to_vector : (which == 0) ≡ false → i < length ws → begun
+      to_vector other less =
+          at_most v
+          (if_false v objects fine which 0 refl refl other
+          (found v low A IsHeld still is_solid (More (cast_cost l.width l.tallest + 9) (4 * l.tallest + 7) End) objects
+          (heap_of s) fine s.waiting _ (start which i word) (test_index (part_code first)) wv refl ws u a
+          (behind_under v low A IsHeld still is_solid 1 u a d behind) hv cell_stands
+          (λ wa wc found rests ha cell_is keeps e1 e2 e3 e4 e5.
+          at_most v
+          (if_true v objects fine i (length ws) e2 e4 (lt_true i (length ws) less)
+          (parted wa wc found _ ha keeps e1 e2 e3 e5))
+          (omega arith, omega arith))))
+          (omega arith, omega arith)
+
+    writes_element : (old : ℕ) → slice_get ws i ≡ Some old → Writes
+    writes_element old got = done (by_test (which == 0) refl)
+      where
+        less : i < length ws
+        less = in_list ws i old got
+
+        by_test : (b : Bool) → (which == 0) ≡ b → begun
+        by_test true is_box = to_box (λ y q. less) is_box
+        by_test false other = to_vector (λ y q. less) other less
+
+    blames_first : (which == 0) ≡ true → (label : ℕ) → r ≡ Blames label → Writes
+    blames_first is_box label q = done (to_box (λ y g. absurd (never y (sym q ∙ g))) is_box)
+      where
+        never : (y : Merged A) → Blames label ≡ Gives y → ⊥
+        never y g = cc
+
+  pub writes : (d : Coercion) → cell_behind 1 u ≡ Some (a, d) → (which i word old : ℕ) → slice_get ws i ≡ Some old
+      → (x : Merged A) → CarriedBy l IsHeld objects x word → (r : Outcome A) → cast_value head l.types d x ≡ r
+      → (r ≡ Stuck → ⊥)
+      → ComesWriting reading setting l s (write_proc (cast first)) (which ∷ wv ∷ i ∷ word ∷ [])
+      (WriteComes setting l s IsHeld objects a i r) (cast_cost l.width l.tallest + 18) (4 * l.tallest + 7)
+  writes d behind which i word old got x hx r e some = writes_element d behind which i word x hx r e some old got
+
+  -- a box has one word, but the blame comes first, whatever words the cell has
+  pub writes_blamed : (d : Coercion) → cell_behind 1 u ≡ Some (a, d) → (which i word : ℕ) → (which == 0) ≡ true
+      → (x : Merged A) → CarriedBy l IsHeld objects x word → (label : ℕ)
+      → cast_value head l.types d x ≡ Blames label
+      → ComesWriting reading setting l s (write_proc (cast first)) (which ∷ wv ∷ i ∷ word ∷ [])
+      (WriteComes setting l s IsHeld objects a i (Blames label)) (cast_cost l.width l.tallest + 18)
+      (4 * l.tallest + 7)
+  writes_blamed d behind which i word is_box x hx label e =
+      blames_first d behind which i word x hx (Blames label) e
+      (λ z. let impossible : ⊥ = cc in impossible) is_box label refl
 
 module _ {V : Type 0} (reading : Halt → Ending V) (setting : Setting) (l : Layout) (first : ℕ) (s : LowState)
     (exhausts : reading (Lacks Region) ≡ Exhausted) (ready : IsReady setting l first) {A : Type 0}
@@ -241,24 +302,25 @@ module _ {V : Type 0} (reading : Halt → Ending V) (setting : Setting) (l : Lay
   fine_here : Fine setting l (around s) objects (heap_of s)
   fine_here = at_first reading setting l first s exhausts ready objects filled
 
-  -- an index outside traps, whatever the proxy's coercion is, and before anything is cast
-  pub outside_writes : under u ≡ Some a → (which i word : ℕ) → length ws ≤ i
+  -- an index outside a vector traps, whatever the proxy's coercion is, and before anything is cast
+  pub outside_writes : under u ≡ Some a → (which i word : ℕ) → (which == 0) ≡ false → length ws ≤ i
       → ComesWhere reading setting l s (write_proc (cast first)) (which ∷ wv ∷ i ∷ word ∷ [])
-      (TrapsAt reading setting l s Index) 9 0
+      (TrapsAt reading setting l s Index) 10 0
   unfolding environment_call
-  outside_writes stands which i word outside =
+  outside_writes stands which i word other outside =
       let z = begun in
       (z.steps, (let g = z.few in omega arith), z.reach (record { room = omega arith; left = omega arith }))
     where
       v : Walk V
-      v = walk reading setting l first s exhausts ready (TrapsAt reading setting l s Index) 0 (9 * 9)
+      v = walk reading setting l first s exhausts ready (TrapsAt reading setting l s Index) 0 (9 * 10)
 
-      begun : ReachedIn v (More 9 0 End)
+      begun : ReachedIn v (More 10 0 End)
           (st (around s) 6 (bind 0 (which ∷ wv ∷ i ∷ word ∷ []) no_locals) (write_code (cast first)) [] s.waiting
           (heap_of s))
       begun =
           at_most v
-          (found v low A IsHeld still is_solid (More 1 0 End) objects (heap_of s) fine_here s.waiting []
+          (if_false v objects fine_here which 0 refl refl other
+          (found v low A IsHeld still is_solid (More 1 0 End) objects (heap_of s) fine_here s.waiting _
           (bind 0 (which ∷ wv ∷ i ∷ word ∷ []) no_locals) (test_index (part_code first)) wv refl ws u a stands hv cell
           (λ wa wc found rests ha cell_is keeps e1 e2 e3 e4 e5.
           let last : (rests' : List Code)
@@ -277,5 +339,5 @@ module _ {V : Type 0} (reading : Halt → Ending V) (setting : Setting) (l : Lay
           } in
           at_most v
           (if_false v objects fine_here i (length ws) e2 e4 (lt_false i (length ws) outside) (last _))
-          (omega arith, omega arith)))
+          (omega arith, omega arith))))
           (omega arith, omega arith)

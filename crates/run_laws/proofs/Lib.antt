@@ -2,6 +2,7 @@ pub mod Public
 mod Following
 mod Running
 mod Simulation
+mod IndexedSimulation
 mod Reducing
 mod Metering
 mod Turns

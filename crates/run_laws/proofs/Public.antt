@@ -18,6 +18,7 @@ pub use Rattle.run_laws.proofs.Reducing.{reduction_and_machine_follow_each_other
 pub use Rattle.run_laws.proofs.Reducing.{reduction_and_machine_follow_each_other-machine}
 pub use Rattle.run_laws.proofs.Simulation.{by_step, reaches_then, reaches_weaken, unless_wrong_map}
 pub use Rattle.run_laws.proofs.Simulation.{follows_by_simulation, follows_from_start}
+pub use Rattle.run_laws.proofs.IndexedSimulation.{DoesAt, IndexedSimulation, follows_by_index}
 pub use Rattle.run_laws.proofs.Metering.{meter_changes_nothing_else-machines, meter_changes_nothing_else-reductions}
 pub use Rattle.run_laws.proofs.Metering.{metered_never_wrong, unmetered_never_wrong, follows_metered, metered_follows}
 pub use Rattle.run_laws.proofs.Metering.{metered_reduction_never_wrong, metered_machine_follows}

@@ -1,15 +1,15 @@
-use Rattle.std.proofs.Common.{◌≡◌, ◌<◌, ◌^◌, true, ap, length, refl, sym, ◌∙◌, subst, rules}
+use Rattle.std.proofs.Common.{◌≡◌, ◌+◌, ◌<◌, ◌≤◌, ◌^◌, true, ap, length, refl, sym, ◌∙◌, subst, rules}
 use Rattle.std.specs.Prelude.{All, [], Some}
 use Rattle.std.proofs.lemmas.List.{length-map}
 use Rattle.grift_base.specs.Types.{row_at}
 use Rattle.grift_base.specs.declared.places.TypeId.{TypeId}
 use Rattle.type_graph.specs.Rows.{row_of}
+use Rattle.rv_machine.specs.Image.{statics_len, code_len}
 use Rattle.core_calc.specs.Typing.{ProgramTermHasType}
 use Rattle.core_calc.specs.Views.{term_of}
 use Rattle.cast_insert.specs.Views.{entries_of}
-use Rattle.front_end.specs.Placed.{IsPlaced}
+use Rattle.front_end.specs.Placed.{IsPlaced, takes_no_input}
 use Rattle.front_end.proofs.Public.{program_type_there}
-use Rattle.lower.specs.CoveredPrograms.{JoinFlatTypes}
 use Rattle.lower.specs.Serving.{all_have_words}
 use Rattle.coercion_norm.specs.Modes.{row_cast, row_casts}
 use Rattle.coer_core.specs.Programs.{tallest_of}
@@ -19,12 +19,11 @@ use Rattle.flat_ir.specs.Views.{proc_of as flat_proc_of}
 use Rattle.closure_convert.specs.Conversion.{converted}
 use Rattle.closure_convert.proofs.Public.{operators_have_few_operands, procedures_use_what_their_term_uses}
 use Rattle.compile_driver.specs.Compiling.{program_over}
-use Rattle.compile_driver.specs.Unbuilt.{is_built}
+use Rattle.compile_driver.specs.Parts.{HasWords}
 use Rattle.compile_driver.proofs.Covered.{covers_all, is_covered, words_for_all}
-use Rattle.compile_driver.proofs.FlatCasts.{casts_are_flat}
 use Rattle.compile_driver.proofs.Following.{are_made, casts_within, follows_program, no_names}
 use Rattle.compile_driver.proofs.LabelsLow.{labels_low}
-use Rattle.compile_driver.proofs.UsesPass.{covers_built, pass}
+use Rattle.compile_driver.proofs.UsesPass.{pass}
 use Rattle.compile_driver.proofs.compiling.made_of.Goals as goal
 
 pub to_coercions-requires : goal.to_coercions-requires
@@ -98,16 +97,16 @@ returns-clause-follows c =
     let row_there = c.row.ensures in
     let flat_row = subst (λ (t : TypeId). row_at types t.0 ≡ Some (row_of c.row.result.now))
     (sym c.in_ok-flat.ensures.answer) row_there in
-    let placed = subst (IsPlaced is_built (entries_of elab.casts)) (sym c.in_ok-coer.ensures.reads) c.requires.placed in
+    let placed = subst (IsPlaced takes_no_input (entries_of elab.casts)) (sym c.in_ok-coer.ensures.reads) c.requires.placed in
     let words : All (λ w. w < 2 ^ 64) low_program.statics.words = search rules in
     let cast_words : All (λ w. w < 2 ^ 64) low_program.statics.cast_at = search rules in
+    let entries_fit : All HasWords (entries_of elab.casts) = search rules in
+    let short : statics_len c.in_ok-image.image + code_len c.in_ok-image.image ≤ 8589934592 = search rules in
     follows_program {program = program_over types elab}
     (record {
       reads = c.in_ok-coer.ensures.reads;
       typed = answer_typed;
       table = c.len.ensures.table;
-      flat = subst (JoinFlatTypes types) (sym c.in_ok-coer.ensures.order)
-          (casts_are_flat is_built types (entries_of elab.casts) (term_of elab.core) c.requires.flat c.requires.placed);
     })
     row_there
     (are_made {term = term} (record {
@@ -124,7 +123,9 @@ returns-clause-follows c =
       closed = c.in_ok-flat.ensures.closed (row_casts rows) types labels coer.answer.0 c.len.ensures.table.widths typed;
       covered = covers_all (converted term)
           (procedures_use_what_their_term_uses term is_covered
-          (pass is_covered covers_built types (entries_of elab.casts) c.requires.flat (row_casts rows) term
-          (subst (λ n. NumbersBelow n term) (sym (length-map rows row_cast)) c.in_ok-coer.ensures.numbers) placed));
+          (pass (entries_of elab.casts) entries_fit (row_casts rows) term
+          (subst (λ n. NumbersBelow n term) (sym (length-map rows row_cast)) c.in_ok-coer.ensures.numbers) placed))
+          (operators_have_few_operands (row_casts rows) types labels term coer.answer.0 c.len.ensures.table.widths typed);
       narrow = c.in_ok-low.ensures.narrow;
+      short = short;
     }))

@@ -3,6 +3,6 @@ use Rattle.rt_refs.proofs.laws.writes_outside_trap.Goals as goal
 
 pub returns : goal.returns
 returns g c = λ reading setting l first s exhausts ready low objects filled u wv hv a stands ws cell which i word
-    outside.
+    other outside.
     writes_outside_trap reading setting l first s exhausts ready low objects filled u wv hv a stands ws cell which i
-    word outside
+    word other outside

@@ -1,5 +1,5 @@
-use Rattle.lower.proofs.ClosingSets.{merged_serves}
+use Rattle.lower.proofs.ClosingSets.{merged_serves_anywhere}
 use Rattle.lower.proofs.merged.MergedScheme.procs.Goals as goal
 
 pub returns-clause-serves : goal.returns-clause-serves
-returns-clause-serves c = merged_serves c.procedures_are_closed.ensures.closed c.args.first
+returns-clause-serves c = merged_serves_anywhere c.args.first

@@ -1,0 +1,367 @@
+-- Calls of functions in wrappers.
+use Rattle.std.proofs.Common.{◌≡◌, inl, inr, ℕ, zero, suc, ◌+◌, ◌^◌, ◌%◌, ◌≤◌, List, [], ◌∷◌, length, Some, None}
+use Rattle.std.proofs.Common.{◌≢◌, true, Option, refl, ap, ap₂, ◌∙◌, subst, arith}
+use Rattle.std.specs.Prelude.{◌&&◌, nat_le}
+use Rattle.run_laws.specs.Machines.{Go}
+use Rattle.run_laws.proofs.Public.{reaches_weaken}
+use Rattle.low_ir.specs.declared.code.LowSource.{LowSource}
+use Rattle.low_ir.specs.declared.code.LowSource.TheVariants.{Word}
+use Rattle.low_ir.specs.Procedures.{Code, Done, Load, TailCall, TailCallAt, CallAt, Call as CallOf}
+use Rattle.low_ir.specs.Steps.{Locals}
+use Rattle.low_ir.specs.Run.{Waiting as LowWaiting, LowState, word_of, words_of, and_more}
+use Rattle.coercion_norm.specs.RunValues.{RunWrap, Pending, plain, all_plain, in_row}
+use Rattle.coercion_norm.specs.ValueSteps.{Entering, onto, pendings_onto}
+use Rattle.coercion_norm.specs.Held.{TypesStand}
+use Rattle.coercion_norm.specs.Objects.{Object}
+use Rattle.flat_ir.specs.declared.code.Operand.{Operand}
+use Rattle.flat_ir.specs.Bodies.{Call}
+use Rattle.flat_ir.specs.Closed.{operand_bound, operands_bound}
+use Rattle.flat_ir.specs.Machine.{FlatCode, FlatValue, FlatAfter, FlatState, FlatFrame, FlatFocus, FlatStore, Group}
+use Rattle.flat_ir.specs.Machine.{value, values, flat_turn, flat_state_at}
+use Rattle.flat_ir.specs.Machine.{Locals as FlatLocals}
+use Rattle.lower.specs.declared.numbering.Shape.{Shape}
+use Rattle.rt_cast.specs.States.{Heap, entered}
+use Rattle.lower.specs.Storage.{Filled}
+use Rattle.lower.specs.Numbering.{operand_word, test_word}
+use Rattle.lower.specs.Emit.{Then, ToCaller, Into, emit, call, found, found_all, apply_words, source_at}
+use Rattle.lower.specs.CarriedValues.{AreCarried, CellsHeld}
+use Rattle.lower.specs.RelatedStates.{Fits, NoCasts, pending_values}
+use Rattle.lower.specs.SchemeLaws.{Spent, Aim, OnWay, After, Goes, Calls, Serves, at_or_zero}
+use Rattle.lower.proofs.HeapObjects.{none_some, same_some}
+use Rattle.lower.proofs.CarriedLater.{as_many}
+use Rattle.lower.proofs.RelationKept.{SameNamed, rest_same, rest_branch}
+use Rattle.lower.proofs.WordSteps.{at, Moves, here, moved, comes_on, falls_through, waiting_for}
+use Rattle.lower.proofs.WordOperands.{ChangesFrom, and_true, both_words, found_all_same, same_besides, value_carried}
+use Rattle.lower.proofs.WordServices.{taken}
+use Rattle.lower.proofs.SimulationWay.{Program, N, mode_of, next_state}
+use Rattle.lower.proofs.SimulationGives.{CarriedHere, RestHere, CallersHere}
+use Rattle.lower.proofs.SimulationServed.{OnServed, Waits, Next, Lands, lands_by, served_on, silent_after}
+use Rattle.lower.proofs.SimulationServices.{Landed, Served}
+use Rattle.lower.proofs.SimulationCasts.{serving_scene}
+use Rattle.lower.proofs.SimulationServing.{after_fetching, not_of_kind, wrapped_there}
+use Rattle.lower.proofs.SimulationEntering.{enters}
+use Rattle.lower.proofs.RelationKept.{Named, OwnName, LowName, HighName}
+
+-- ---- words of sources by their places
+
+pub and_more_parts : (x : Option ℕ) (xs : Option (List ℕ)) (w : ℕ) (ws : List ℕ) → and_more x xs ≡ Some (w ∷ ws)
+    → (x ≡ Some w) × (xs ≡ Some ws)
+and_more_parts None xs w ws e = none_some e
+and_more_parts (Some y) None w ws e = none_some e
+and_more_parts (Some y) (Some ys) w ws e = (
+  ap Some (head_same y w ys ws (same_some (y ∷ ys) (w ∷ ws) e)),
+  ap Some (tail_same y w ys ws (same_some (y ∷ ys) (w ∷ ws) e)),
+)
+  where
+    head_same : (x y : ℕ) (xs ys : List ℕ) → (x ∷ xs) ≡ (y ∷ ys) → x ≡ y
+    head_same x y xs ys e = cc
+
+    tail_same : (x y : ℕ) (xs ys : List ℕ) → (x ∷ xs) ≡ (y ∷ ys) → xs ≡ ys
+    tail_same x y xs ys e = cc
+
+and_more_none : (x : Option ℕ) (xs : Option (List ℕ)) → and_more x xs ≡ Some [] → ⊥
+and_more_none None xs e = none_some e
+and_more_none (Some y) None e = none_some e
+and_more_none (Some y) (Some ys) e = clash y ys (same_some (y ∷ ys) [] e)
+  where
+    clash : (y : ℕ) (ys : List ℕ) → (y ∷ ys) ≡ [] → ⊥
+    clash y ys e = cc
+
+pub source_word : (locals : Locals) (xs : List LowSource) (ws : List ℕ) (i : ℕ) → words_of locals xs ≡ Some ws
+    → word_of locals (source_at xs i) ≡ Some (at_or_zero ws i)
+source_word locals [] [] i e = refl
+source_word locals [] (w ∷ ws) i e = absurd (clash w ws (same_some [] (w ∷ ws) e))
+  where
+    clash : (y : ℕ) (ys : List ℕ) → [] ≡ (y ∷ ys) → ⊥
+    clash y ys e = cc
+source_word locals (x ∷ xs) [] i e = absurd (and_more_none (word_of locals x) (words_of locals xs) e)
+source_word locals (x ∷ xs) (w ∷ ws) zero e = (and_more_parts (word_of locals x) (words_of locals xs) w ws e).0
+source_word locals (x ∷ xs) (w ∷ ws) (suc i) e =
+    source_word locals xs ws i (and_more_parts (word_of locals x) (words_of locals xs) w ws e).1
+
+-- ---- arguments without casts
+
+plain_again : {C : Type 0} (todo : List (Pending C FlatCode)) → NoCasts todo → todo ≡ all_plain (pending_values todo)
+plain_again [] e = refl
+plain_again (p ∷ todo) e =
+    ap₂ (λ x xs. x ∷ xs) (ap (λ cs. record { value = p.value; casts = cs }) e.0) (plain_again todo e.1)
+
+pub all_plain_onto : {C : Type 0} (done : List (FlatValue C)) (todo : List (Pending C FlatCode)) → NoCasts todo
+    → pendings_onto done todo ≡ all_plain (onto done (pending_values todo))
+all_plain_onto [] todo e = plain_again todo e
+all_plain_onto (v ∷ done) todo e = all_plain_onto done (plain v ∷ todo) (refl, e)
+
+-- ---- a step into a procedure that serves
+
+module _ (program : Program) (typed : TypesStand program.l) (f : FlatState program.meaning.Cast) (c : LowState)
+    (same_world : f.world ≡ c.world) (most : Spent) (low : ℕ)
+    (aim : Aim program.meaning program.setting program.l program.procs program.casts)
+    (lands : (focus : FlatFocus program.meaning.Cast) (frames : List (FlatFrame program.meaning.Cast))
+    (store : FlatStore program.meaning.Cast) (n : ℕ) (t : LowState) → aim focus frames store n t
+    → Lands program c.world.output n low (flat_state_at program.procs program.told focus frames store c.world) t) where
+  pub serve_step : (x : FlatAfter program.meaning.Cast) (n w i : ℕ) (t te : LowState) → (N program).step t ≡ Go te
+      → OnServed program c.world.output n (n + w) t
+      → OnWay program.meaning program.setting program.l program.procs program.casts c most n n te
+      → After program.meaning program.setting program.l program.procs program.casts c most
+      (Goes program.meaning program.setting program.l program.procs program.casts c most aim i) x n w te
+      → Moves program.setting (OnServed program c.world.output n (n + w))
+      (Landed program typed f (next_state program f x) (n + w)) t
+  serve_step x n w i t te step on begins a =
+      by_next (served_on program c most low aim lands i x n w f same_world te begins a).1
+    where
+      P : LowState → Type 0
+      P = OnServed program c.world.output n (n + w)
+
+      Q : LowState → Type 0
+      Q = Landed program typed f (next_state program f x) (n + w)
+
+      landed : (i : ℕ) (u : LowState) → Waits program low i (next_state program f x) (n + w) u
+          → Landed program typed f (next_state program f x) (n + w) u
+      landed zero u z = inl z
+      landed (suc i) u z = inr (low, i, z)
+
+      by_next : Next program (Waits program low i) low (i ≡ 0) c.world.output (next_state program f x) n (n + w) te
+          → Moves program.setting (OnServed program c.world.output n (n + w))
+          (Landed program typed f (next_state program f x) (n + w)) t
+      by_next (inl o) = moved program.setting P Q t te step on (here program.setting P Q te (inl (inr o)))
+      by_next (inr r) =
+          moved program.setting P Q t te step on (record {
+            steps = r.0;
+            reach = reaches_weaken (N program) P (Waits program low i (next_state program f x) (n + w)) P Q (λ u z. z)
+                (landed i) r.0 te r.2;
+          })
+
+-- ---- the call
+
+module _ (program : Program) (typed : TypesStand program.l)
+    (f : FlatState program.meaning.Cast) (places : List ℕ) (objects : List Object) (h : Heap)
+    (filled : Filled program.meaning program.setting program.l program.number objects h)
+    (cells : CellsHeld program.l program.setting.address program.procs program.meaning places objects h.memory places
+    f.store) (waiting : List LowWaiting) (size : ℕ) (rests : List Code) (words : Locals) (s : Shape) (count depth : ℕ)
+    (group : Group program.meaning.Cast) (locals : FlatLocals program.meaning.Cast) (fo : Operand) (os : List Operand)
+    (next : Then)
+    (fits : Fits program.setting program.l program.run program.procs program.answer program.meaning places objects s
+    count size group depth locals words (Call fo os))
+    (rest : RestHere program places objects waiting s count size group depth f.frames next rests words)
+    (wide : s.params + 10 ≤ size) (u : FlatValue program.meaning.Cast) (cast : program.meaning.Cast)
+    (function : value locals group fo ≡ RunWrap u cast) where
+  abbrev pub entering : FlatAfter program.meaning.Cast
+  entering =
+      flat_turn program.procs (mode_of program) f.store f.world
+      (Entering (RunWrap u cast) [] (all_plain (values locals group os))) f.frames
+
+  abbrev a : LowSource
+  a = found s (operand_word s 0) fo
+
+  parts : (operand_bound s.captured count depth fo ≡ true)
+      × ((operands_bound s.captured count depth os && nat_le (length os) 6) ≡ true)
+  parts = and_true (operand_bound s.captured count depth fo)
+      (operands_bound s.captured count depth os && nat_le (length os) 6) fits.bound
+
+  few : length os ≤ 6
+  few =
+      let z = (and_true (operands_bound s.captured count depth os) (nat_le (length os) 6) parts.1).1 in grind (arith, z)
+
+  all_bound : (operand_bound s.captured count depth fo && operands_bound s.captured count depth os) ≡ true
+  all_bound =
+      let x = parts.0 in
+      let y = (and_true (operands_bound s.captured count depth os) (nat_le (length os) 6) parts.1).0 in
+      rw (x, y) refl
+
+  long : length (values locals group os) ≡ length os
+  long = values_long os
+    where
+      values_long : (os : List Operand) → length (values locals group os) ≡ length os
+      values_long [] = refl
+      values_long (o ∷ os) = ap suc (values_long os)
+
+  -- the procedure's law, from any state with this storage
+  law : (waits : List LowWaiting) (n : ℕ) (rr : List Code) (now : Locals) (code : Code) (w : ℕ) (ws : List ℕ)
+      → CarriedHere program places objects (RunWrap u cast) w
+      → AreCarried program.l program.setting.address program.procs program.meaning places objects
+      (in_row (values locals group os)) ws
+      → (most : Spent) × Serves program.meaning program.setting program.l program.procs program.casts
+      (at f.world h waits n rr now code) most
+      (Calls program.meaning program.setting program.l program.procs program.casts (at f.world h waits n rr now code)
+      places objects f.frames) entering program.number 0
+      (entered (at f.world h waits n rr now code) program.calling.proc
+      (w ∷ at_or_zero ws 0 ∷ at_or_zero ws 1 ∷ at_or_zero ws 2 ∷ at_or_zero ws 3 ∷ at_or_zero ws 4 ∷ at_or_zero ws 5
+      ∷ length ws ∷ []))
+  law waits n rr now code w ws carried all =
+      program.calling.calls (at f.world h waits n rr now code) program.number places objects f.store
+      (record { filled = filled; cells = cells }) f.frames u cast w carried (values locals group os) ws all
+      (omega (arith, long, few))
+
+  abbrev handed : ℕ → List ℕ → List ℕ
+  handed w ws =
+      w ∷ at_or_zero ws 0 ∷ at_or_zero ws 1 ∷ at_or_zero ws 2 ∷ at_or_zero ws 3 ∷ at_or_zero ws 4 ∷ at_or_zero ws 5
+      ∷ length ws ∷ []
+
+  apply_handed : (now : Locals) (w : ℕ) (ws : List ℕ)
+      → AreCarried program.l program.setting.address program.procs program.meaning places objects
+      (in_row (values locals group os)) ws → words_of now (a ∷ found_all s 1 os) ≡ Some (w ∷ ws)
+      → words_of now (apply_words a (found_all s 1 os)) ≡ Some (handed w ws)
+  apply_handed now w ws all are =
+      let both = and_more_parts (word_of now a) (words_of now (found_all s 1 os)) w ws are in
+      let many = as_many program.l program.setting.address program.procs program.meaning program.laws places objects
+      (values locals group os) ws all in
+      let found_long : length (found_all s 1 os) ≡ length os = all_found 1 os in
+      let count_is : length (found_all s 1 os) % 2 ^ 64 ≡ length ws = omega (arith, found_long, many, long, few) in
+      let from : (i : ℕ) → word_of now (source_at (found_all s 1 os) i) ≡ Some (at_or_zero ws i) =
+      λ i. source_word now (found_all s 1 os) ws i both.1 in
+      both_words (word_of now a) _ w _ both.0
+      (both_words _ _ _ _ (from 0) (both_words _ _ _ _ (from 1) (both_words _ _ _ _ (from 2)
+      (both_words _ _ _ _ (from 3) (both_words _ _ _ _ (from 4) (both_words _ _ _ _ (from 5)
+      (both_words _ _ _ _ (ap Some count_is) refl)))))))
+    where
+      all_found : (i : ℕ) (os : List Operand) → length (found_all s i os) ≡ length os
+      all_found i [] = refl
+      all_found i (o ∷ os) = ap suc (all_found (suc i) os)
+
+  -- the words that names lie in
+  not_test : (j : ℕ) → Named s depth j → j ≢ test_word s
+  not_test j (OwnName e) = λ z. omega (arith, z, e)
+  not_test j (LowName p q) = λ z. omega (arith, z, q)
+  not_test j (HighName p q) = λ z. omega (arith, z, p)
+
+  abbrev M : LowState → Type 0
+  M = Moves program.setting (OnServed program f.world.output program.number (program.number + 0))
+      (Landed program typed f (next_state program f entering) (program.number + 0))
+
+  on : (waits : List LowWaiting) (n : ℕ) (rr : List Code) (now : Locals) (code : Code)
+      → OnServed program f.world.output program.number (program.number + 0) (at f.world h waits n rr now code)
+  on waits n rr now code = record { same = refl; filling = inl (objects, filled) }
+
+  -- the procedure is entered from a state, for whose callers others wait
+  enters_apply : (waits : List LowWaiting) (n : ℕ) (rr : List Code) (now : Locals) (code : Code) (w : ℕ) (ws : List ℕ)
+      → CarriedHere program places objects (RunWrap u cast) w
+      → AreCarried program.l program.setting.address program.procs program.meaning places objects
+      (in_row (values locals group os)) ws → CallersHere program places objects waits f.frames → (t : LowState)
+      → (N program).step t ≡ Go (entered (at f.world h waits n rr now code) program.calling.proc (handed w ws))
+      → OnServed program f.world.output program.number (program.number + 0) t → M t
+  enters_apply waits n rr now code w ws carried all callers t step calm =
+      let c = at f.world h waits n rr now code in
+      let z = law waits n rr now code w ws carried all in
+      serve_step program typed f c refl z.0 0
+      (Calls program.meaning program.setting program.l program.procs program.casts c places objects f.frames)
+      (λ focus frames store m v q. lands_by program f.world.output m 0
+      (flat_state_at program.procs program.told focus frames store f.world) v
+      (enters program typed f places objects c refl callers focus frames store m v q)) entering program.number 0 z.1.0 t
+      (entered c program.calling.proc (handed w ws)) step calm (record {
+        objects = objects;
+        filled = inl filled;
+        same = refl;
+        active = omega arith;
+        asked = omega arith;
+      }) z.1.1
+
+  by_next : (next : Then)
+      → RestHere program places objects waiting s count size group depth f.frames next rests words → (w : ℕ)
+      (ws : List ℕ) (now : Locals) → CarriedHere program places objects (RunWrap u cast) w
+      → AreCarried program.l program.setting.address program.procs program.meaning places objects
+      (in_row (values locals group os)) ws → words_of now (a ∷ found_all s 1 os) ≡ Some (w ∷ ws)
+      → SameNamed s depth words now
+      → M (at f.world h waiting size rests now (call program.run s a (found_all s 1 os) next))
+  by_next ToCaller r w ws now carried all are same =
+      not_of_kind program typed f places objects h filled waiting size rests s count depth group locals wide entering 0
+      a w 1 (Load (test_word s) a 8 (TailCallAt (Word (test_word s)) (a ∷ found_all s 1 os))) Done
+      (TailCall program.run.apply (apply_words a (found_all s 1 os))) now (omega arith) (λ z. omega (arith, z))
+      (λ z. omega (arith, z)) (and_more_parts (word_of now a) (words_of now (found_all s 1 os)) w ws are).0
+      (wrapped_there program places objects u cast [] w carried)
+      (λ last more.
+      let still = found_all_same (serving_scene program typed f places entering 0) f.world refl h objects filled waiting
+      size rests s count group depth locals (fo ∷ os) 0 all_bound (omega (arith, few)) now last more ∙ are in
+      falls_through program.setting (OnServed program f.world.output program.number (program.number + 0))
+      (Landed program typed f (next_state program f entering) (program.number + 0))
+      (λ active waiting. record { same = refl; filling = inl (objects, filled) })
+      (comes_on program.setting (OnServed program f.world.output program.number (program.number + 0))
+      (Landed program typed f (next_state program f entering) (program.number + 0))
+      (enters_apply waiting size rests last (TailCall program.run.apply (apply_words a (found_all s 1 os))) w ws carried
+      all r (at f.world h waiting size rests last (TailCall program.run.apply (apply_words a (found_all s 1 os))))
+      (let e = apply_handed last w ws all still in
+      let there = program.calling.stands.there in
+      let fine = taken program.setting program.run.apply 8 program.calling.proc (handed w ws) program.calling.stands
+      refl
+      in rw (e, there, fine) refl)
+      (on waiting size rests last (TailCall program.run.apply (apply_words a (found_all s 1 os)))))))
+  by_next (Into d k) r w ws now carried all are same =
+      not_of_kind program typed f places objects h filled waiting size rests s count depth group locals wide entering 0
+      a w 1 (Load (test_word s) a 8 (CallAt d (Word (test_word s)) (a ∷ found_all s 1 os) Done))
+      (CallOf d program.run.apply (apply_words a (found_all s 1 os)) Done) k now (omega arith) (λ z. omega (arith, z))
+      (λ z. omega (arith, z)) (and_more_parts (word_of now a) (words_of now (found_all s 1 os)) w ws are).0
+      (wrapped_there program places objects u cast [] w carried)
+      (λ last more.
+      let still = found_all_same (serving_scene program typed f places entering 0) f.world refl h objects filled waiting
+      size rests s count group depth locals (fo ∷ os) 0 all_bound (omega (arith, few)) now last more ∙ are in
+      let named : SameNamed s depth words last = λ j n. more j (not_test j n) ∙ same j n in
+      comes_on program.setting (OnServed program f.world.output program.number (program.number + 0))
+      (Landed program typed f (next_state program f entering) (program.number + 0))
+      (enters_apply (waiting_for d size (k ∷ rests) last Done ∷ waiting) size (k ∷ rests) last Done w ws carried all
+      (inr (inl (
+        s,
+        count,
+        group,
+        depth,
+        rest_branch program.setting program.l program.run program.procs program.answer program.meaning program.laws
+            places objects (CallersHere program places objects waiting) s count size group depth f.frames d k rests last
+            (rest_same program.setting program.l program.run program.procs program.answer program.meaning program.laws
+            places objects (CallersHere program places objects waiting) s count size group depth f.frames (Into d k)
+            rests words last named r),
+      )))
+      (at f.world h waiting size (k ∷ rests) last
+      (CallOf d program.run.apply (apply_words a (found_all s 1 os)) Done))
+      (let e = apply_handed last w ws all still in
+      let there = program.calling.stands.there in
+      let fine = taken program.setting program.run.apply 8 program.calling.proc (handed w ws) program.calling.stands
+      refl
+      in rw (e, there, fine) refl)
+      (on waiting size (k ∷ rests) last (CallOf d program.run.apply (apply_words a (found_all s 1 os)) Done))))
+
+  carried_all : (ws : List ℕ)
+      × AreCarried program.l program.setting.address program.procs program.meaning places objects
+      (in_row (values locals group os)) ws
+  carried_all = by_operands os (and_true (operands_bound s.captured count depth os) (nat_le (length os) 6) parts.1).0
+    where
+      by_operands : (os : List Operand) → operands_bound s.captured count depth os ≡ true → (ws : List ℕ)
+          × AreCarried program.l program.setting.address program.procs program.meaning places objects
+          (in_row (values locals group os)) ws
+      by_operands [] b = ([], tt)
+      by_operands (o ∷ os) b =
+          let x = and_true (operand_bound s.captured count depth o) (operands_bound s.captured count depth os) b in
+          let c = value_carried (serving_scene program typed f places entering 0) f.world refl h objects filled waiting
+          size rests s count group depth locals o x.0 words fits.knows in
+          let cs = by_operands os x.1 in
+          (c.0 ∷ cs.0, (c.1, cs.1))
+
+  pub call_served : Served program typed f entering 0
+      (at f.world h waiting size rests words (emit program.run s (Call fo os) next))
+  call_served = (
+    silent,
+    after_fetching program typed f places objects h filled waiting size rests s count depth group locals wide entering 0
+        (fo ∷ os) words (call program.run s a (found_all s 1 os) next) all_bound (omega (arith, few)) fits.knows
+        (λ ws now carried are changed. fetched ws now carried are changed),
+  )
+    where
+      silent : (next_state program f entering).world.output ≡ f.world.output
+      silent =
+          let t = at f.world h waiting size rests words (emit program.run s (Call fo os) next) in
+          let c = value_carried (serving_scene program typed f places entering 0) f.world refl h objects filled waiting
+          size rests s count group depth locals fo parts.0 words fits.knows in
+          let own = subst (λ v. CarriedHere program places objects v c.0) function c.1 in
+          let cs = carried_all in
+          let z = law waiting size rests words (emit program.run s (Call fo os) next) c.0 cs.0 own cs.1 in
+          silent_after program t z.0 (Goes program.meaning program.setting program.l program.procs program.casts t z.0
+          (Calls program.meaning program.setting program.l program.procs program.casts t places objects f.frames)
+          z.1.0) f refl entering program.number 0 (entered t program.calling.proc (handed c.0 cs.0)) z.1.1
+
+      fetched : (all : List ℕ) (now : Locals)
+          → AreCarried program.l program.setting.address program.procs program.meaning places objects
+          (in_row (values locals group (fo ∷ os))) all
+          → words_of now (found_all s 0 (fo ∷ os)) ≡ Some all
+          → ChangesFrom (operand_word s 0) (length (fo ∷ os)) words now
+          → M (at f.world h waiting size rests now (call program.run s a (found_all s 1 os) next))
+      fetched [] now carried are changed = absurd carried
+      fetched (w ∷ ws) now carried are changed =
+          by_next next rest w ws now (subst (λ v. CarriedHere program places objects v w) function carried.0) carried.1
+          are (same_besides s depth (operand_word s 0) (length (fo ∷ os)) words now (omega arith) (omega (arith, few))
+          changed)

@@ -1,0 +1,279 @@
+-- Operators on boxes and vectors that a procedure of the scheme does.
+use Rattle.std.proofs.Common.{◌≡◌, ◌⊎◌, inl, inr, ℕ, ◌+◌, ◌<◌, ◌≤◌, List, [], ◌∷◌, length, Some, true}
+use Rattle.std.proofs.Common.{refl, ◌∙◌, subst, arith}
+use Rattle.std.specs.Prelude.{nat_le}
+use Rattle.grift_base.specs.declared.operators.PrimOp.{PrimOp}
+use Rattle.grift_base.specs.declared.operators.PrimOp.TheVariants.{MakeVector, VectorRef, VectorSet, VectorLength}
+use Rattle.grift_base.specs.declared.operators.PrimOp.TheVariants.{Unbox, BoxSet}
+use Rattle.low_ir.specs.declared.code.LowSource.{LowSource}
+use Rattle.low_ir.specs.declared.code.LowSource.TheVariants.{Number}
+use Rattle.low_ir.specs.Procedures.{Code, Done, Load, Store, Set, Call, Proc as LowProc}
+use Rattle.low_ir.specs.Steps.{Locals}
+use Rattle.low_ir.specs.Run.{Waiting as LowWaiting, word_of, words_of}
+use Rattle.coercion_norm.specs.RunValues.{RunWrap, in_row}
+use Rattle.coercion_norm.specs.Held.{TypesStand}
+use Rattle.coercion_norm.specs.Objects.{Object}
+use Rattle.flat_ir.specs.declared.code.Operand.{Operand}
+use Rattle.flat_ir.specs.declared.code.Operation.TheVariants.{Prim}
+use Rattle.flat_ir.specs.Bodies.{Give}
+use Rattle.flat_ir.specs.Closed.{operand_bound, operands_bound}
+use Rattle.flat_ir.specs.Machine.{FlatValue, FlatAfter, FlatState, Group, values, flat_operate}
+use Rattle.flat_ir.specs.Machine.{Locals as FlatLocals}
+use Rattle.lower.specs.declared.numbering.Shape.{Shape}
+use Rattle.rt_cast.specs.States.{Heap, entered}
+use Rattle.lower.specs.Storage.{Filled}
+use Rattle.lower.specs.Numbering.{operand_word, test_word}
+use Rattle.lower.specs.Emit.{Then, found_all, fetch_all, source_at, of_kind}
+use Rattle.lower.specs.CarriedValues.{AreCarried, CellsHeld}
+use Rattle.lower.specs.CoveredPrograms.{covers_operator}
+use Rattle.lower.specs.RelatedStates.{Fits, Falls}
+use Rattle.lower.specs.SimulationServices.{StandsAs}
+use Rattle.lower.specs.SchemeLaws.{Goes, Returns, OperatorDone, IsHandedOn, at_or_zero}
+use Rattle.lower.proofs.WordSteps.{at, Moves, comes_on}
+use Rattle.lower.proofs.WordOperands.{value_carried, ChangesFrom, Changes, and_true, both_words, found_all_same}
+use Rattle.lower.proofs.WordOperations.{Touches, not_computed}
+use Rattle.lower.proofs.SimulationWay.{Program, mode_of, next_state}
+use Rattle.lower.proofs.SimulationGives.{RestHere, word_for, code_for}
+use Rattle.lower.proofs.SimulationOperations.{room, word_less}
+use Rattle.lower.proofs.SimulationServed.{OnServed, silent_after}
+use Rattle.lower.proofs.SimulationServices.{Landed, Served, called, caller}
+use Rattle.lower.proofs.SimulationCasts.{serving_scene}
+use Rattle.lower.proofs.SimulationServing.{after_fetching, not_of_kind, wrapped_there}
+use Rattle.lower.specs.Meanings.{IsWrapper}
+use Rattle.lower.proofs.SimulationApplied.{source_word}
+
+module _ (program : Program) (typed : TypesStand program.l)
+    (f : FlatState program.meaning.Cast) (places : List ℕ) (objects : List Object) (h : Heap)
+    (filled : Filled program.meaning program.setting program.l program.number objects h)
+    (cells : CellsHeld program.l program.setting.address program.procs program.meaning places objects h.memory places
+    f.store) (waiting : List LowWaiting) (size : ℕ) (rests : List Code) (words : Locals) (s : Shape) (count depth : ℕ)
+    (group : Group program.meaning.Cast) (locals : FlatLocals program.meaning.Cast) (operator : PrimOp)
+    (os : List Operand) (next : Then)
+    (fits : Fits program.setting program.l program.run program.procs program.answer program.meaning places objects s
+    count size group depth locals words (Give (Prim operator os)))
+    (rest : RestHere program places objects waiting s count size group depth f.frames next rests words) where
+  wide : s.params + 10 ≤ size
+  wide = room program typed f places objects h filled cells waiting size rests words s count depth group locals
+      (Prim operator os) next fits rest
+
+  less : word_for program places objects s next < size
+  less = word_less program typed f places objects h filled cells waiting size rests words s count depth group locals
+      (Prim operator os) next fits rest
+
+  few : length os ≤ 8
+  few = let z = (and_true (covers_operator operator) (nat_le (length os) 8) fits.covered).1 in grind (arith, z)
+
+  abbrev d : ℕ
+  d = word_for program places objects s next
+
+  abbrev k : Code
+  k = code_for program places objects s next
+
+  touched_all : (new : Locals) → ChangesFrom (operand_word s 0) (length os) words new
+      → Touches s (word_for program places objects s next) words new
+  touched_all new changed j ne side = changed j (by_side side)
+    where
+      by_side : (j ≤ s.params) ⊎ (s.params + 10 ≤ j) → (j < operand_word s 0) ⊎ (operand_word s 0 + length os ≤ j)
+      by_side (inl p) = inl (omega (arith, p))
+      by_side (inr p) = inr (omega (arith, p, few))
+
+  carried_all : (ws : List ℕ)
+      × AreCarried program.l program.setting.address program.procs program.meaning places objects
+      (in_row (values locals group os)) ws
+  carried_all = by_operands os fits.bound
+    where
+      by_operands : (os : List Operand) → operands_bound s.captured count depth os ≡ true → (ws : List ℕ)
+          × AreCarried program.l program.setting.address program.procs program.meaning places objects
+          (in_row (values locals group os)) ws
+      by_operands [] b = ([], tt)
+      by_operands (o ∷ os) b =
+          let x = and_true (operand_bound s.captured count depth o) (operands_bound s.captured count depth os) b in
+          let c = value_carried (serving_scene program typed f places
+          (flat_operate program.procs (mode_of program) f.store f.world MakeVector [] f.frames) 0) f.world refl h
+          objects
+          filled waiting size rests s count group depth locals o x.0 words fits.knows in
+          let cs = by_operands os x.1 in
+          (c.0 ∷ cs.0, (c.1, cs.1))
+
+  module _ (op : PrimOp) (proc : LowProc) (number params : ℕ) (handed : List ℕ → List ℕ) (args : List LowSource)
+      (law : OperatorDone program.meaning program.setting program.l program.procs program.casts program.run op proc
+      handed) (stands : StandsAs program.setting number proc params) (long : (ws : List ℕ) → length (handed ws)
+      ≡ params)
+      (on : IsHandedOn program.meaning program.setting program.l program.procs program.casts program.run op
+      (values locals group os)) where
+    abbrev pub after : FlatAfter program.meaning.Cast
+    after = flat_operate program.procs (mode_of program) f.store f.world op (values locals group os) f.frames
+
+    pub silent : (next_state program f after).world.output ≡ f.world.output
+    silent =
+        let t = at f.world h waiting size rests words k in
+        let z = law.does t program.number places objects f.store (record { filled = filled; cells = cells }) f.frames
+        (values locals group os) carried_all.0 carried_all.1 on in
+        silent_after program t z.0 (Goes program.meaning program.setting program.l program.procs program.casts t z.0
+        (Returns program.meaning program.setting program.l program.procs program.casts t places objects f.frames)
+        z.1.0) f refl after program.number 0 (entered t proc (handed carried_all.0)) z.1.1
+
+    pub calls_for : (behind : Code) (rr : List Code) (falls : ℕ)
+        → Falls falls behind rr (code_for program places objects s next) rests
+        → (new : Locals) → Touches s (word_for program places objects s next) words new → (ws : List ℕ)
+        → AreCarried program.l program.setting.address program.procs program.meaning places objects
+        (in_row (values locals group os)) ws → words_of new args ≡ Some (handed ws)
+        → Moves program.setting (OnServed program f.world.output program.number (program.number + 0))
+        (Landed program typed f (next_state program f after) (program.number + 0))
+        (at f.world h waiting size rr new (Call (word_for program places objects s next) number args behind))
+    calls_for behind rr falls fall new touches ws carried are =
+        let c = caller program typed f places objects h filled cells waiting size rests words s count depth group next
+        rest less falls behind rr fall new touches in
+        let z = law.does c program.number places objects f.store (record { filled = filled; cells = cells }) f.frames
+        (values locals group os) ws carried on in
+        (called program typed f places objects h filled cells waiting size rests words s count depth group next rest
+        less
+        falls behind rr fall new touches after 0 number args (handed ws) proc params are stands (long ws) z.0 z.1.0
+        z.1.1).1
+
+    pub serves_operator : ((new : Locals) (ws : List ℕ) → words_of new (found_all s 0 os) ≡ Some ws
+        → words_of new args ≡ Some (handed ws))
+        → Served program typed f after 0
+        (at f.world h waiting size rests words (fetch_all s 0 os
+        (Call (word_for program places objects s next) number args (code_for program places objects s next))))
+    serves_operator told = (
+      silent,
+      after_fetching program typed f places objects h filled waiting size rests s count depth group locals wide after 0
+          os words (Call d number args k) fits.bound few fits.knows
+          (λ ws new carried are changed.
+          calls_for k rests 0 (refl, refl) new (touched_all new changed) ws carried (told new ws are)),
+    )
+
+  abbrev pub source : ℕ → LowSource
+  source i = source_at (found_all s 0 os) i
+
+  found_word : (new : Locals) (ws : List ℕ) (i : ℕ) → words_of new (found_all s 0 os) ≡ Some ws
+      → word_of new (source i) ≡ Some (at_or_zero ws i)
+  found_word new ws i e = source_word new (found_all s 0 os) ws i e
+
+  pub vector_made : Served program typed f
+      (flat_operate program.procs (mode_of program) f.store f.world MakeVector (values locals group os) f.frames) 0
+      (at f.world h waiting size rests words (fetch_all s 0 os (Call (word_for program places objects s next)
+      program.run.fill (source 0 ∷ source 1 ∷ []) (code_for program places objects s next))))
+  vector_made =
+      serves_operator MakeVector program.cells.fill program.run.fill 2
+      (λ ws. at_or_zero ws 0 ∷ at_or_zero ws 1 ∷ []) (source 0 ∷ source 1 ∷ []) program.cells.fills
+      program.cells.fill_stands (λ ws. refl) tt
+      (λ new ws e. both_words _ _ _ _ (found_word new ws 0 e) (both_words _ _ _ _ (found_word new ws 1 e) refl))
+
+  pub vector_read : Served program typed f
+      (flat_operate program.procs (mode_of program) f.store f.world VectorRef (values locals group os) f.frames) 0
+      (at f.world h waiting size rests words (fetch_all s 0 os (Call (word_for program places objects s next)
+      program.run.read (Number 1 ∷ source 0 ∷ source 1 ∷ []) (code_for program places objects s next))))
+  vector_read =
+      serves_operator VectorRef program.cells.read program.run.read 3
+      (λ ws. 1 ∷ at_or_zero ws 0 ∷ at_or_zero ws 1 ∷ []) (Number 1 ∷ source 0 ∷ source 1 ∷ []) program.cells.reads
+      program.cells.read_stands (λ ws. refl) tt
+      (λ new ws e. both_words _ _ _ _ refl (both_words _ _ _ _ (found_word new ws 0 e)
+      (both_words _ _ _ _ (found_word new ws 1 e) refl)))
+
+  pub vector_measured : Served program typed f
+      (flat_operate program.procs (mode_of program) f.store f.world VectorLength (values locals group os) f.frames) 0
+      (at f.world h waiting size rests words (fetch_all s 0 os (Call (word_for program places objects s next)
+      program.run.read (Number 2 ∷ source 0 ∷ Number 0 ∷ []) (code_for program places objects s next))))
+  vector_measured =
+      serves_operator VectorLength program.cells.read program.run.read 3
+      (λ ws. 2 ∷ at_or_zero ws 0 ∷ 0 ∷ []) (Number 2 ∷ source 0 ∷ Number 0 ∷ []) program.cells.measures
+      program.cells.read_stands (λ ws. refl) tt
+      (λ new ws e. both_words _ _ _ _ refl (both_words _ _ _ _ (found_word new ws 0 e)
+      (both_words _ _ _ _ refl refl)))
+
+  pub vector_written : Served program typed f
+      (flat_operate program.procs (mode_of program) f.store f.world VectorSet (values locals group os) f.frames) 0
+      (at f.world h waiting size rests words (fetch_all s 0 os (Call (word_for program places objects s next)
+      program.run.write (Number 1 ∷ source 0 ∷ source 1 ∷ source 2 ∷ []) (code_for program places objects s next))))
+  vector_written =
+      serves_operator VectorSet program.cells.write program.run.write 4
+      (λ ws. 1 ∷ at_or_zero ws 0 ∷ at_or_zero ws 1 ∷ at_or_zero ws 2 ∷ [])
+      (Number 1 ∷ source 0 ∷ source 1 ∷ source 2 ∷ []) program.cells.writes program.cells.write_stands (λ ws. refl) tt
+      (λ new ws e. both_words _ _ _ _ refl (both_words _ _ _ _ (found_word new ws 0 e)
+      (both_words _ _ _ _ (found_word new ws 1 e) (both_words _ _ _ _ (found_word new ws 2 e) refl))))
+
+  -- ---- boxes in wrappers: the kind of what stands there is tested first
+
+  touched_more : (new last : Locals) → ChangesFrom (operand_word s 0) (length os) words new
+      → Changes (test_word s) new last → Touches s (word_for program places objects s next) words last
+  touched_more new last changed more j ne side =
+      more j (not_computed s (test_word s) j (omega arith) (omega arith) side)
+      ∙ touched_all new changed j ne side
+
+  module _ (op : PrimOp) (proc : LowProc) (number params : ℕ) (handed : List ℕ → List ℕ) (args : List LowSource)
+      (law : OperatorDone program.meaning program.setting program.l program.procs program.casts program.run op proc
+      handed) (stands : StandsAs program.setting number proc params) (long : (ws : List ℕ) → length (handed ws)
+      ≡ params)
+      (on : IsHandedOn program.meaning program.setting program.l program.procs program.casts program.run op
+      (values locals group os)) (u : FlatValue program.meaning.Cast) (cast : program.meaning.Cast)
+      (others : List (FlatValue program.meaning.Cast)) (wrapped : values locals group os ≡ RunWrap u cast ∷ others)
+      (one : Code) (told : (new : Locals) (ws : List ℕ) → words_of new (found_all s 0 os) ≡ Some ws
+      → words_of new args ≡ Some (handed ws)) where
+    first_wrapped : (ws : List ℕ)
+        → AreCarried program.l program.setting.address program.procs program.meaning places objects
+        (in_row (RunWrap u cast ∷ others)) ws → IsWrapper program.l objects (at_or_zero ws 0)
+    first_wrapped [] c = absurd c
+    first_wrapped (w ∷ ws) c = wrapped_there program places objects u cast [] w c.0
+
+    pub serves_tested : Served program typed f
+        (flat_operate program.procs (mode_of program) f.store f.world op (values locals group os) f.frames) 0
+        (at f.world h waiting size rests words (fetch_all s 0 os (of_kind s (source 0) 5 one
+        (Call (word_for program places objects s next) number args Done) (code_for program places objects s next))))
+    serves_tested = (
+      silent op proc number params handed args law stands long on,
+      after_fetching program typed f places objects h filled waiting size rests s count depth group locals wide
+          (flat_operate program.procs (mode_of program) f.store f.world op (values locals group os) f.frames) 0 os words
+          (of_kind s (source 0) 5 one (Call d number args Done) k) fits.bound few fits.knows
+          (λ ws new carried are changed.
+          not_of_kind program typed f places objects h filled waiting size rests s count depth group locals wide
+          (flat_operate program.procs (mode_of program) f.store f.world op (values locals group os) f.frames) 0
+          (source 0)
+          (at_or_zero ws 0) 5 one (Call d number args Done) k new (omega arith) (λ z. omega (arith, z))
+          (λ z. omega (arith, z)) (found_word new ws 0 are)
+          (first_wrapped ws (subst (λ vs. AreCarried program.l program.setting.address program.procs program.meaning
+          places objects (in_row vs) ws) wrapped carried))
+          (λ last more.
+          let still = found_all_same (serving_scene program typed f places
+          (flat_operate program.procs (mode_of program) f.store f.world op (values locals group os) f.frames) 0) f.world
+          refl h objects filled waiting size rests s count group depth locals os 0 fits.bound (omega (arith, few)) new
+          last more ∙ are in
+          comes_on program.setting (OnServed program f.world.output program.number (program.number + 0))
+          (Landed program typed f (next_state program f (flat_operate program.procs (mode_of program) f.store f.world op
+          (values locals group os) f.frames)) (program.number + 0))
+          (calls_for op proc number params handed args law stands long on Done (k ∷ rests) 1 (refl, (refl, refl)) last
+          (touched_more new last changed more) ws carried (told last ws still)))),
+    )
+
+  pub box_read : (u : FlatValue program.meaning.Cast) (cast : program.meaning.Cast)
+      (others : List (FlatValue program.meaning.Cast)) → values locals group os ≡ RunWrap u cast ∷ others
+      → Served program typed f
+      (flat_operate program.procs (mode_of program) f.store f.world Unbox (values locals group os) f.frames) 0
+      (at f.world h waiting size rests words (fetch_all s 0 os (of_kind s (source 0) 5
+      (Load (word_for program places objects s next) (source 0) 8 Done)
+      (Call (word_for program places objects s next) program.run.read (Number 0 ∷ source 0 ∷ Number 0 ∷ []) Done)
+      (code_for program places objects s next))))
+  box_read u cast others e =
+      serves_tested Unbox program.cells.read program.run.read 3 (λ ws. 0 ∷ at_or_zero ws 0 ∷ 0 ∷ [])
+      (Number 0 ∷ source 0 ∷ Number 0 ∷ []) program.cells.unboxes program.cells.read_stands (λ ws. refl)
+      (u, cast, others, e) u cast others e (Load d (source 0) 8 Done)
+      (λ new ws e. both_words _ _ _ _ refl (both_words _ _ _ _ (found_word new ws 0 e)
+      (both_words _ _ _ _ refl refl)))
+
+  pub box_written : (u : FlatValue program.meaning.Cast) (cast : program.meaning.Cast)
+      (others : List (FlatValue program.meaning.Cast)) → values locals group os ≡ RunWrap u cast ∷ others
+      → Served program typed f
+      (flat_operate program.procs (mode_of program) f.store f.world BoxSet (values locals group os) f.frames) 0
+      (at f.world h waiting size rests words (fetch_all s 0 os (of_kind s (source 0) 5
+      (Store (source 1) (source 0) 8 (Set (word_for program places objects s next) (Number 0) Done))
+      (Call (word_for program places objects s next) program.run.write
+      (Number 0 ∷ source 0 ∷ Number 0 ∷ source 1 ∷ []) Done)
+      (code_for program places objects s next))))
+  box_written u cast others e =
+      serves_tested BoxSet program.cells.write program.run.write 4
+      (λ ws. 0 ∷ at_or_zero ws 0 ∷ 0 ∷ at_or_zero ws 1 ∷ []) (Number 0 ∷ source 0 ∷ Number 0 ∷ source 1 ∷ [])
+      program.cells.sets program.cells.write_stands (λ ws. refl) (u, cast, others, e) u cast others e
+      (Store (source 1) (source 0) 8 (Set d (Number 0) Done))
+      (λ new ws e. both_words _ _ _ _ refl (both_words _ _ _ _ (found_word new ws 0 e)
+      (both_words _ _ _ _ refl (both_words _ _ _ _ (found_word new ws 1 e) refl))))

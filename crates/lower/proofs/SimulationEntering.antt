@@ -1,0 +1,170 @@
+-- A function that a procedure of the scheme calls is entered.
+use Rattle.std.proofs.Common.{◌≡◌, inl, inr, ℕ, suc, ◌+◌, ◌≤◌, List, [], ◌∷◌, ◌++◌, length, Some, true, refl}
+use Rattle.std.proofs.Common.{sym, ap, ◌∙◌, subst, arith}
+use Rattle.std.specs.Prelude.{slice_get, ◌==◌, ◌&&◌, nat_le}
+use Rattle.run_laws.specs.Machines.{Go}
+use Rattle.rv_machine.specs.Mach.{ending_of}
+use Rattle.low_ir.specs.Procedures.{Proc as LowProc}
+use Rattle.low_ir.specs.Steps.{no_locals}
+use Rattle.low_ir.specs.Run.{Waiting as LowWaiting, LowState, bind, code_step}
+use Rattle.coercion_norm.specs.RunValues.{RunFun}
+use Rattle.coercion_norm.specs.ValueSteps.{Own, Return, Entering}
+use Rattle.coercion_norm.specs.Held.{TypesStand}
+use Rattle.coercion_norm.specs.Objects.{Object}
+use Rattle.flat_ir.specs.Bodies.{Proc}
+use Rattle.flat_ir.specs.Machine.{FlatCode, FlatValue, FlatValues, FlatFrame, FlatFocus, FlatState, FlatStore, Group}
+use Rattle.flat_ir.specs.Machine.{Inside}
+use Rattle.flat_ir.specs.Machine.{locals_of, flat_state_at}
+use Rattle.lower.specs.Numbering.{function_offset}
+use Rattle.rt_cast.specs.States.{heap_of}
+use Rattle.lower.specs.Lowered.{levels, low_proc, shape_of}
+use Rattle.lower.specs.CarriedValues.{IsMember, IsGroup}
+use Rattle.lower.specs.RelatedStates.{OwnGroup}
+use Rattle.lower.specs.SchemeLaws.{Calls, CallsAt}
+use Rattle.lower.proofs.HeapObjects.{same_some}
+use Rattle.lower.proofs.CarriedLater.{as_many}
+use Rattle.lower.proofs.RelationKept.{callers_grown}
+use Rattle.lower.proofs.WordSteps.{at, Moves, here, moved}
+use Rattle.lower.proofs.SimulationGroups.{proc_is_closed}
+use Rattle.lower.proofs.SimulationWay.{Program, after_wraps, N, Settled}
+use Rattle.lower.proofs.SimulationGives.{CarriedHere, CallersHere, levels_above}
+use Rattle.lower.proofs.SimulationCalls.{entered, proc_at}
+use Rattle.lower.proofs.SimulationServed.{OnServed}
+use Rattle.lower.proofs.SimulationServices.{kept_in_front}
+
+module _ (program : Program) (places : List ℕ) (objects : List Object) (first place : ℕ)
+    (captured : FlatValues program.meaning.Cast) (p : Proc) (there : slice_get program.procs (first + place) ≡ Some p)
+    (w : ℕ) (c : CarriedHere program places objects (RunFun (record { first = first; place = place }) captured) w) where
+  member : IsMember program.procs first c.1 (length c.2) place
+  member = c.5.members place c.4
+
+  proc_same : member.proc ≡ p
+  proc_same = same_some member.proc p (sym member.there ∙ there)
+
+  pub own_of : OwnGroup program.setting program.l program.run program.procs program.answer program.meaning places
+      objects (shape_of p) p.group (record { first = first; captured = captured }) w
+  own_of = record {
+    leader = c.0;
+    words = c.2;
+    is = c.3 ∙ ap (λ n. c.0 + function_offset (length c.2) n)
+        (sym (ap (λ q. q.place) (sym proc_same) ∙ member.place_is));
+    long = ap (λ q. q.captured) (sym proc_same) ∙ member.captured_is;
+    inside = (let x = ap (λ q. q.place) (sym proc_same) ∙ member.place_is in
+        let y = ap (λ q. q.group) (sym proc_same) ∙ member.group_is in let z = c.4 in omega (arith, x, y, z));
+    stands = subst (λ n. IsGroup program.l program.setting.address program.procs program.meaning places objects first
+        c.0 n c.2) (sym (ap (λ q. q.group) (sym proc_same) ∙ member.group_is)) c.5;
+    carried = c.6;
+  }
+
+pub takes_all : (program : Program) (k : ℕ) (p : Proc) → slice_get program.procs k ≡ Some p → (w : ℕ) (ws : List ℕ)
+    → length ws ≡ p.params
+    → ((length (w ∷ ws) == suc p.params)
+    && (nat_le (suc p.params) 8 && nat_le (suc p.params) (levels p.params p.body + 10))) ≡ true
+takes_all program k p there w ws long =
+    let cl = proc_is_closed program.procs program.closed k p there in
+    let p6 = cl.params in
+    let above = levels_above p.params p.body in
+    all_true (suc (length ws)) (suc p.params) (levels p.params p.body + 10) (omega (arith, long)) (omega (arith, p6))
+    (omega (arith, above))
+  where
+    all_true : (n m k : ℕ) → n ≡ m → m ≤ 8 → m ≤ k → ((n == m) && (nat_le m 8 && nat_le m k)) ≡ true
+    all_true n m k e x y = grind (arith, e, x, y)
+
+module _ (program : Program) (typed : TypesStand program.l) (f : FlatState program.meaning.Cast) (places : List ℕ)
+    (objects : List Object) (s : LowState) (same_world : s.world ≡ f.world)
+    (callers : CallersHere program places objects s.waiting f.frames) where
+  enters_at : (code : FlatCode) (captured : FlatValues program.meaning.Cast)
+      (vs : List (FlatValue program.meaning.Cast)) (p : Proc)
+      → slice_get program.procs (code.first + code.place) ≡ Some p → length vs ≡ p.params
+      → (frames : List (FlatFrame program.meaning.Cast)) (store : FlatStore program.meaning.Cast) (n : ℕ) (t : LowState)
+      → CallsAt program.meaning program.setting program.l program.procs program.casts s places objects code captured vs
+      f.frames frames store n t
+      → Moves program.setting (OnServed program f.world.output n n)
+      (Settled (after_wraps program n) (flat_state_at program.procs program.told
+      (Own (Inside p.body (locals_of vs) (record { first = code.first; captured = captured }))) frames store f.world)) t
+  enters_at code captured vs p there long frames store n t q =
+      moved program.setting P Q t last step on (here program.setting P Q last (inl (record {
+        is = refl;
+        related = record {
+          places = places ++ q.cells;
+          objects = objects ++ q.more;
+          filled = q.here.filled;
+          cells = q.here.cells;
+          world = q.same ∙ same_world;
+          goes =
+              entered (after_wraps program n) f* (places ++ q.cells) (objects ++ q.more) (heap_of t) q.here.filled
+              q.here.cells p group vs q.own q.words (waits ∷ t.waiting) frames (code.first + code.place) there
+              (own_of program (places ++ q.cells) (objects ++ q.more) code.first code.place captured p there q.own
+              q.function) q.arguments long (inr (inr (
+                q.cast,
+                q.results,
+                f.frames,
+                q.frames_are,
+                q.resumes,
+                subst (λ ws. CallersHere program (places ++ q.cells) (objects ++ q.more) ws f.frames) (sym q.waits)
+                    (callers_grown program.setting program.l program.run program.procs program.answer program.meaning
+                    program.laws places (places ++ q.cells) (kept_in_front places q.cells) objects q.more s.waiting
+                    f.frames callers),
+              )));
+        };
+      })))
+    where
+      group : Group program.meaning.Cast
+      group = record { first = code.first; captured = captured }
+
+      f* : FlatState program.meaning.Cast
+      f* = flat_state_at program.procs program.told
+          (Own (Inside p.body (locals_of vs) (record { first = code.first; captured = captured }))) frames store f.world
+
+      P : LowState → Type 0
+      P = OnServed program f.world.output n n
+
+      Q : LowState → Type 0
+      Q = Settled (after_wraps program n) f*
+
+      low : LowProc
+      low = low_proc program.run p
+
+      waits : LowWaiting
+      waits = record { rest = record t.active { code = q.rest }; answer = q.d }
+
+      last : LowState
+      last = at t.world (heap_of t) (record { rest = record t.active { code = q.rest }; answer = q.d } ∷ t.waiting)
+          (low_proc program.run p).words [] (bind 0 (q.own ∷ q.words) no_locals) (low_proc program.run p).code
+
+      on : P t
+      on = record {
+        same = ap (λ w. w.output) (q.same ∙ same_world);
+        filling = inl (objects ++ q.more, q.here.filled);
+      }
+
+      step : (N program).step t ≡ Go last
+      step =
+          let a = q.address in
+          let b = q.handed in
+          let c = proc_at program (code.first + code.place) (low_proc program.run p)
+          (program.stand (code.first + code.place) p there) in
+          let many = as_many program.l program.setting.address program.procs program.meaning program.laws
+          (places ++ q.cells) (objects ++ q.more) vs q.words q.arguments in
+          let d = takes_all program (code.first + code.place) p there q.own q.words (omega (arith, many, long)) in
+          ap (λ z. code_step ending_of program.setting z t) q.is ∙ rw (a, b, c, d) refl
+
+  pub enters : (focus : FlatFocus program.meaning.Cast) (frames : List (FlatFrame program.meaning.Cast))
+      (store : FlatStore program.meaning.Cast) (n : ℕ) (t : LowState)
+      → Calls program.meaning program.setting program.l program.procs program.casts s places objects f.frames focus
+      frames store n t
+      → Moves program.setting (OnServed program f.world.output n n)
+      (Settled (after_wraps program n) (flat_state_at program.procs program.told focus frames store f.world)) t
+  enters (Own (Inside body locals group)) frames store n t q =
+      subst (λ b. Moves program.setting (OnServed program f.world.output n n)
+      (Settled (after_wraps program n) (flat_state_at program.procs program.told (Own (Inside b locals group)) frames
+      store f.world)) t) (sym q.6)
+      (subst (λ ls. Moves program.setting (OnServed program f.world.output n n)
+      (Settled (after_wraps program n) (flat_state_at program.procs program.told (Own (Inside q.3.body ls group)) frames
+      store f.world)) t) (sym q.7)
+      (subst (λ g. Moves program.setting (OnServed program f.world.output n n)
+      (Settled (after_wraps program n) (flat_state_at program.procs program.told
+      (Own (Inside q.3.body (locals_of q.2) g)) frames store f.world)) t) (sym q.8)
+      (enters_at q.0 q.1 q.2 q.3 q.4 q.5 frames store n t q.9)))
+  enters (Return v) frames store n t q = absurd q
+  enters (Entering g done todo) frames store n t q = absurd q

@@ -1,0 +1,64 @@
+-- The meaning of the merged scheme: a value in a wrapper is one proxy with one coercion.
+use Rattle.std.specs.Prelude.{◌≡◌, ℕ, suc, ◌^◌, ◌<◌, ◌≤◌, List, [], ◌∷◌, length, Some, slice_get}
+use Rattle.low_ir.specs.Run.{Setting, Waiting}
+use Rattle.type_graph.specs.declared.tables.TheConstants.{MOST_HEIGHT}
+use Rattle.coercion_norm.specs.Coercions.{Coercion, Id, Fail, Middle, Inject, Project}
+use Rattle.coercion_norm.specs.declared.middles.MiddleKind.TheVariants.{Fun, Tup, Ref, Vec}
+use Rattle.coercion_norm.specs.CoercionTables.{cast_of}
+use Rattle.coercion_norm.specs.MergedMode.{merging}
+use Rattle.coercion_norm.specs.Modes.{TypeCast}
+use Rattle.coercion_norm.specs.Objects.{Object, Fixed, Cell}
+use Rattle.coercion_norm.specs.Held.{Layout, There, Held, height_in}
+use Rattle.coercion_norm.specs.ObjectsOfRows.{header}
+use Rattle.rt_cast.specs.Carried.{IsLow}
+use Rattle.rt_cast.specs.Procs.{Stand}
+use Rattle.rt_cast.specs.WholeObjects.{Wholes}
+use Rattle.rt_refs.specs.CallLaws.{Resumes}
+use Rattle.lower.specs.Emit.{cast_word}
+use Rattle.lower.specs.Meanings.{Meaning}
+
+-- what a middle wraps is of its kind: a function, a tuple, a box or a vector
+abbrev pub WrapsKind : Layout → List Object → Coercion → ℕ → Type 0
+WrapsKind l objects (Middle Fun parts) target =
+    (code : ℕ) × (rest : List ℕ) × There l objects target (Fixed (header 1 0 (suc (length rest))) (code ∷ rest))
+WrapsKind l objects (Middle Tup parts) target =
+    (words : List ℕ) × There l objects target (Fixed (header 4 0 (length words)) words)
+WrapsKind l objects (Middle Ref parts) target = (count : ℕ) × There l objects target (Cell (header 5 0 count) count)
+WrapsKind l objects (Middle Vec parts) target = (count : ℕ) × There l objects target (Cell (header 6 0 count) count)
+WrapsKind l objects Id target = Unit {0}
+WrapsKind l objects (Fail label) target = Unit {0}
+WrapsKind l objects (Inject g kept) target = Unit {0}
+WrapsKind l objects (Project wanted label i) target = Unit {0}
+
+-- one proxy over what stands at an address, with one coercion
+abbrev pub merged_wraps : Layout → List Object → List Coercion → ℕ → ℕ → Type 0
+merged_wraps l objects [] target w = ⊥
+merged_wraps l objects (c ∷ d ∷ casts) target w = ⊥
+merged_wraps l objects (c ∷ []) target w =
+    (wc : ℕ) × There l objects w (Fixed (header 2 0 2) (target ∷ wc ∷ [])) × Held l objects c wc × IsLow l c
+    × WrapsKind l objects c target
+
+-- each cast is handed on as a word that holds its coercion among the static objects
+pub record MergedCasts (l : Layout) (casts : List TypeCast) (words : List ℕ) : Type 0 where
+  pub tallest : l.tallest ≤ MOST_HEIGHT
+  pub hold : (number : ℕ) (cast : TypeCast) → slice_get casts number ≡ Some cast
+      → Held l [] (cast_of l.types cast.from cast.to cast.label) (cast_word (slice_get words number))
+      × IsLow l (cast_of l.types cast.from cast.to cast.label) × (cast_word (slice_get words number) < 2 ^ 64)
+
+-- the procedure of calls waits, and makes one cast, by that of casts, which stands in the program
+abbrev pub merged_resumes : Setting → Layout → List Object → Waiting → List Coercion → Type 0
+merged_resumes setting l objects waiting [] = ⊥
+merged_resumes setting l objects waiting (c ∷ d ∷ casts) = ⊥
+merged_resumes setting l objects waiting (c ∷ []) =
+    (first : ℕ) × Stand setting.procs first × Resumes l first objects waiting c
+
+abbrev pub merged_meaning : Meaning
+merged_meaning = record {
+  Cast = Coercion;
+  mode = λ types casts. merging types casts;
+  Wraps = λ l objects casts target w. merged_wraps l objects casts target w;
+  MayKeep = λ l kept. height_in l kept ≤ l.tallest;
+  CastWords = λ l casts words. MergedCasts l casts words;
+  Keeps = λ l objects number. Wholes l [] objects;
+  Resumes = λ setting l objects waiting casts. merged_resumes setting l objects waiting casts;
+}
