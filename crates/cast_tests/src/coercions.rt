@@ -47,7 +47,7 @@ struct Made {
 }
 
 // Random casts between the types of a pool.
-fn made(
+fn make(
     alloc: Global,
     random: &mut Random,
     sample: &Sample,
@@ -77,7 +77,7 @@ fn random_casts(alloc: Global, seed: u64) -> Result<Casts, Fail> {
     let mut random = Random::new(seed);
     let (types, sample) = random_types(alloc, &mut random)?;
     let mut pool = Pool::new(alloc, types)?;
-    let made = made(alloc, &mut random, &sample, &mut pool)?;
+    let made = make(alloc, &mut random, &sample, &mut pool)?;
     Ok(Casts { pool, made })
 }
 
