@@ -112,7 +112,7 @@ fn casts_go_up_or_not(rt: HostRuntime) -> Result<(), Fail> {
         (PAIR, SINGLE, false),
     ];
     for (a, b, answer) in table {
-        assert_eq!(rt; goes_up(rt.alloc(), &types, a, b)?, answer);
+        assert!(rt; goes_up(rt.alloc(), &types, a, b)? == answer);
     }
     Ok(())
 }
@@ -131,7 +131,7 @@ fn boxes_and_vectors_go_up_both_ways(rt: HostRuntime) -> Result<(), Fail> {
         (DYN_VECTOR, INT_VECTOR, false),
     ];
     for (a, b, answer) in table {
-        assert_eq!(rt; goes_up(rt.alloc(), &types, a, b)?, answer);
+        assert!(rt; goes_up(rt.alloc(), &types, a, b)? == answer);
     }
     Ok(())
 }
@@ -151,7 +151,7 @@ fn types_of_shared_rows_take_no_time(rt: HostRuntime) -> Result<(), Fail> {
     let mut types = sample(rt.alloc())?;
     let first = pairs_of_pairs(rt.alloc(), &mut types, TO_INT)?;
     let second = pairs_of_pairs(rt.alloc(), &mut types, FROM_INT)?;
-    assert_eq!(rt; goes_up(rt.alloc(), &types, first, second)?, true);
-    assert_eq!(rt; goes_up(rt.alloc(), &types, second, first)?, false);
+    assert!(rt; goes_up(rt.alloc(), &types, first, second)? == true);
+    assert!(rt; goes_up(rt.alloc(), &types, second, first)? == false);
     Ok(())
 }

@@ -10,13 +10,10 @@ fn labels_stand_once_in_order_of_first_use(rt: HostRuntime) -> Result<(), Fail> 
     let mut labels = LabelTable::new(rt.alloc());
     assert!(rt; labels.is_empty());
     for (pos, place) in [(first, 0), (second, 1), (first, 0)] {
-        assert_eq!(rt; labels.intern(pos)?, LabelId(place));
+        assert!(rt; labels.intern(pos)? == LabelId(place));
     }
-    assert_eq!(rt;
-        (labels.len(), labels.get(1), labels.get(2)),
-        (2, Some(&second), None)
-    );
-    assert_eq!(rt; labels.as_slice(), [first, second].as_slice());
+    assert!(rt; (labels.len(), labels.get(1), labels.get(2)) == (2, Some(&second), None));
+    assert!(rt; labels.as_slice() == [first, second].as_slice());
     Ok(())
 }
 
@@ -26,9 +23,9 @@ fn many_labels_have_places(rt: HostRuntime) -> Result<(), Fail> {
     let mut labels = LabelTable::new(rt.alloc());
     for _round in 0..2 {
         for line in 0..1000 {
-            assert_eq!(rt; labels.intern(Pos { line, col: 7 })?, LabelId(line));
+            assert!(rt; labels.intern(Pos { line, col: 7 })? == LabelId(line));
         }
     }
-    assert_eq!(rt; labels.len(), 1000);
+    assert!(rt; labels.len() == 1000);
     Ok(())
 }

@@ -11,11 +11,8 @@ fn lists_grow_at_the_end(rt: HostRuntime) -> Result<(), Fail> {
     assert!(rt; calls.is_empty());
     calls.push(7)?;
     calls.extend(&[9, 7])?;
-    assert_eq!(rt;
-        (calls.len(), calls.get(1), calls.get(3)),
-        (3, Some(&9), None)
-    );
-    assert_eq!(rt; calls.as_slice(), [7, 9, 7].as_slice());
+    assert!(rt; (calls.len(), calls.get(1), calls.get(3)) == (3, Some(&9), None));
+    assert!(rt; calls.as_slice() == [7, 9, 7].as_slice());
     Ok(())
 }
 
@@ -25,7 +22,7 @@ fn names_compare_and_hash(rt: HostRuntime) -> Result<(), Fail> {
     names.insert(Name::from_slice(rt.alloc(), b"even")?)?;
     names.insert(Name::from_slice(rt.alloc(), b"odd")?)?;
     names.insert(Name::from_slice(rt.alloc(), b"even")?)?;
-    assert_eq!(rt; names.len(), 2);
+    assert!(rt; names.len() == 2);
     Ok(())
 }
 
@@ -38,5 +35,5 @@ fn statics_begin_empty(rt: HostRuntime) {
         statics.coercion_at.is_empty(),
         statics.cast_at.is_empty(),
     ];
-    assert_eq!(rt; empty, [true; 4]);
+    assert!(rt; empty == [true; 4]);
 }

@@ -12,7 +12,7 @@ fn integers_have_values(rt: HostRuntime) {
     ] {
         let bytes = text.as_bytes();
         assert!(rt; is_integer(bytes), "{text}");
-        assert_eq!(rt; integer(bytes), value, "{text}");
+        assert!(rt; integer(bytes) == value, "{text}");
     }
     for text in ["", "-", "+ 1", "1.", "--1", "0x1"] {
         assert!(rt; !is_integer(text.as_bytes()), "{text}");

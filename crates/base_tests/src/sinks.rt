@@ -28,10 +28,10 @@ fn keeps_bytes(rt: HostRuntime) -> Result<(), Fail> {
     ];
     for (bytes, wanted, faults) in rows {
         let put = put_twice(&mut sink, bytes);
-        assert_eq!(rt; (put, sink.faults()), (wanted, faults));
+        assert!(rt; (put, sink.faults()) == (wanted, faults));
     }
-    assert_eq!(rt; sink.put(b"d"), Ok(()));
-    assert_eq!(rt; sink.bytes(), b"ababcd".as_slice());
+    assert!(rt; sink.put(b"d") == Ok(()));
+    assert!(rt; sink.bytes() == b"ababcd".as_slice());
     Ok(())
 }
 
@@ -39,5 +39,5 @@ fn keeps_bytes(rt: HostRuntime) -> Result<(), Fail> {
 fn drops_bytes(rt: HostRuntime) {
     let mut sink = DropSink::new();
     let put = put_twice(&mut sink, b"ab");
-    assert_eq!(rt; (put, sink.faults()), (Ok(()), 0));
+    assert!(rt; (put, sink.faults()) == (Ok(()), 0));
 }

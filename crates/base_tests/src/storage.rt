@@ -118,7 +118,7 @@ fn a_row_is_reported(rt: HostRuntime) -> Result<(), Fail> {
         (65_560, Ok(empty)),
     ] {
         assert!(rt; 65_560 <= end);
-        assert_eq!(rt; walk(&memory, 65_560, end), wanted, "up to {end}");
+        assert!(rt; walk(&memory, 65_560, end) == wanted, "up to {end}");
     }
     Ok(())
 }
@@ -152,7 +152,7 @@ fn each_condition_tears_where_it_breaks(rt: HostRuntime) -> Result<(), Fail> {
         }
         let memory = storage_of(rt.alloc(), words.as_slice())?;
         let answer = walk(&memory, 65_560, 65_856);
-        assert_eq!(rt; answer, Err(WalkFault::Torn(torn)), "{place} {word}");
+        assert!(rt; answer == Err(WalkFault::Torn(torn)), "{place} {word}");
     }
     Ok(())
 }
@@ -181,7 +181,7 @@ fn types_are_whole_in_statics_alone(rt: HostRuntime) -> Result<(), Fail> {
         let end = 65_640;
         let in_statics = whole_object(&memory, Area::Statics, end, at);
         let in_region = whole_object(&memory, Area::Region, end, at);
-        assert_eq!(rt; (in_statics.is_some(), in_region), (true, None), "{at}");
+        assert!(rt; (in_statics.is_some(), in_region) == (true, None), "{at}");
     }
     Ok(())
 }
@@ -198,7 +198,7 @@ fn a_box_of_two_words(rt: HostRuntime) -> Result<(), Fail> {
     };
     for (end, wanted) in [(65_552, Ok(report)), (65_544, Err(WalkFault::Torn(65_536)))] {
         assert!(rt; 65_536 <= end);
-        assert_eq!(rt; walk(&memory, 65_536, end), wanted, "up to {end}");
+        assert!(rt; walk(&memory, 65_536, end) == wanted, "up to {end}");
     }
     Ok(())
 }
@@ -214,6 +214,6 @@ fn headers_are_unpacked(rt: HostRuntime) {
         (0x0000_0001_0002_0305, None),
         (0x0000_0001_0002_0005, Some(boxed)),
     ] {
-        assert_eq!(rt; unpack(word), unpacked, "{word:#018x}");
+        assert!(rt; unpack(word) == unpacked, "{word:#018x}");
     }
 }

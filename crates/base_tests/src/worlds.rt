@@ -15,10 +15,7 @@ fn prints(rt: HostRuntime) -> Result<(), Fail> {
     let mut world = quiet_world(rt.alloc());
     world.print_int(-7)?;
     world.print_byte(b'\n')?;
-    assert_eq!(rt;
-        (world.output.as_slice(), world.place),
-        (b"-7\n".as_slice(), 0)
-    );
+    assert!(rt; (world.output.as_slice(), world.place) == (b"-7\n".as_slice(), 0));
     Ok(())
 }
 
@@ -42,9 +39,8 @@ fn ends_with_each_kind(rt: HostRuntime) {
             } else {
                 EnvEffect::Refused
             };
-            assert_eq!(rt;
-                world.env(0, number, word, 0),
-                wanted,
+            assert!(rt;
+                world.env(0, number, word, 0) == wanted,
                 "kind {number}, word {word}"
             );
         }
@@ -84,14 +80,12 @@ fn makes_each_other_call(rt: HostRuntime) {
         (0xFFFF_FFFF_FFFF_FFFF, 0, EnvEffect::Refused, ""),
     ] {
         let mut world = quiet_world(rt.alloc());
-        assert_eq!(rt;
-            world.env(number, a0, 9, 2),
-            effect,
+        assert!(rt;
+            world.env(number, a0, 9, 2) == effect,
             "call {number} of {a0}"
         );
-        assert_eq!(rt;
-            world.output.as_slice(),
-            text.as_bytes(),
+        assert!(rt;
+            world.output.as_slice() == text.as_bytes(),
             "call {number} of {a0}"
         );
     }
@@ -125,7 +119,7 @@ fn reads_numbers(rt: HostRuntime) -> Result<(), Fail> {
         let mut world = World::new(rt.alloc(), Bytes::from_slice(rt.alloc(), input.as_bytes())?);
         for (answer, place) in answers {
             let number = world.read_int();
-            assert_eq!(rt; (number, world.place), (answer, place), "in {input}");
+            assert!(rt; (number, world.place) == (answer, place), "in {input}");
         }
     }
     Ok(())

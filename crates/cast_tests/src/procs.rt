@@ -10,7 +10,7 @@ use std::test::Fail;
 fn a_program_with_the_procedures_is_closed(rt: HostRuntime) -> Result<(), Fail> {
     let alloc = rt.alloc();
     let mut procs = cast_procs(alloc, 0)?;
-    assert_eq!(rt; procs.len(), 27);
+    assert!(rt; procs.len() == 27);
     let words = LowSources::from_slice(alloc, &[LowSource::Number(7), LowSource::Number(0)])?;
     procs.push(LowProc {
         params: 0,

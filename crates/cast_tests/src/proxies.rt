@@ -78,7 +78,26 @@ fn opposites(alloc: Global, types: &mut TypeTable, height: u32) -> Result<(TypeI
     Ok((one, other))
 }
 
-// What an object of a kind comes to, cast between two types over and over; and the height of the cast's coercion.
+// The program that casts an object of a kind between two types of a pool over and over, and the height of the cast's
+// coercion.
+fn program_of_casts(
+    alloc: Global,
+    kind: Kind,
+    pool: &mut Pool,
+    one: TypeId,
+    other: TypeId,
+) -> Result<(LowProgram, u32), Fail> {
+    let there = pool.cast(alloc, one, other, LabelId(0))?;
+    let back = pool.cast(alloc, other, one, LabelId(1))?;
+    let high = pool.height(there)?;
+    let statics = pool.place(alloc)?;
+    let there_word = told(statics.coercion_at.as_slice(), there.0)?;
+    let back_word = told(statics.coercion_at.as_slice(), back.0)?;
+    let low = casting(alloc, kind, there_word, back_word, statics)?;
+    Ok((low, high))
+}
+
+// What it comes to, and that height.
 fn cast_over(
     alloc: Global,
     kind: Kind,
@@ -87,15 +106,28 @@ fn cast_over(
     other: TypeId,
 ) -> Result<(Ended, u32), Fail> {
     let mut pool = Pool::new(alloc, types)?;
-    let there = pool.cast(alloc, one, other, LabelId(0))?;
-    let back = pool.cast(alloc, other, one, LabelId(1))?;
-    let statics = pool.place(alloc)?;
-    let there_word = told(statics.coercion_at.as_slice(), there.0)?;
-    let back_word = told(statics.coercion_at.as_slice(), back.0)?;
-    let low = casting(alloc, kind, there_word, back_word, statics)?;
-    let ended = runs(alloc, &low, 1_000)?;
-    let high = pool.height(there)?;
-    Ok((ended, high))
+    let (low, high) = program_of_casts(alloc, kind, &mut pool, one, other)?;
+    Ok((runs(alloc, &low, 1_000)?, high))
+}
+
+// Whether an object of a kind, cast between two types over and over, ends as one proxy of this height, which is that of
+// the cast's coercion and the greatest of all, and whether so many proxies are left behind.
+fn keeps_one_proxy(
+    alloc: Global,
+    kind: Kind,
+    types: TypeTable,
+    pair: (TypeId, TypeId),
+    height: u32,
+    proxies: u64,
+) -> Result<bool, Fail> {
+    let (one, other) = pair;
+    let (ended, high) = cast_over(alloc, kind, types, one, other)?;
+    Ok(
+        high == height
+            && is_proxy(&ended, kind, height)
+            && ended.report.highest == height
+            && ended.report.proxies == proxies,
+    )
 }
 
 // Whether the answer is a proxy of an object of a kind, with a coercion of a height.
@@ -118,32 +150,37 @@ fn height_at(ended: &Ended, at: u64) -> Option<u32> {
     Some(u32::from(header.height))
 }
 
+// Each cast leaves a proxy behind.
 #[test]
 fn a_function_keeps_one_proxy(rt: HostRuntime) -> Result<(), Fail> {
     let alloc = rt.alloc();
     let mut types = TypeTable::new(alloc)?;
-    let (one, other) = opposites(alloc, &mut types, 2)?;
-    let (ended, high) = cast_over(alloc, Kind::Closure, types, one, other)?;
-    assert_eq!(rt; high, 2);
-    assert!(rt; is_proxy(&ended, Kind::Closure, 2));
-    assert_eq!(rt; ended.report.highest, 2);
-    // each cast leaves a proxy behind
-    assert_eq!(rt; ended.report.proxies, 2 * ROUNDS + 1);
+    let pair = opposites(alloc, &mut types, 2)?;
+    assert!(rt; keeps_one_proxy(alloc, Kind::Closure, types, pair, 2, 2 * ROUNDS + 1)?);
     Ok(())
+}
+
+// The types of boxes of two opposites.
+fn opposite_boxes(alloc: Global, types: &mut TypeTable) -> Result<(TypeId, TypeId), Fail> {
+    let (one, other) = opposites(alloc, types, 2)?;
+    Ok((put(types, Row::Ref(one))?, put(types, Row::Ref(other))?))
 }
 
 #[test]
 fn a_box_keeps_one_proxy(rt: HostRuntime) -> Result<(), Fail> {
     let alloc = rt.alloc();
     let mut types = TypeTable::new(alloc)?;
-    let (one, other) = opposites(alloc, &mut types, 2)?;
-    let one = put(&mut types, Row::Ref(one))?;
-    let other = put(&mut types, Row::Ref(other))?;
-    let (ended, high) = cast_over(alloc, Kind::Boxed, types, one, other)?;
-    assert_eq!(rt; high, 3);
-    assert!(rt; is_proxy(&ended, Kind::Boxed, 3));
-    assert_eq!(rt; ended.report.highest, 3);
+    let pair = opposite_boxes(alloc, &mut types)?;
+    assert!(rt; keeps_one_proxy(alloc, Kind::Boxed, types, pair, 3, 2 * ROUNDS + 1)?);
     Ok(())
+}
+
+// The types of functions of Int and of Dyn.
+fn loose_functions(alloc: Global, types: &mut TypeTable) -> Result<(TypeId, TypeId), Fail> {
+    let int = put(types, Row::Int)?;
+    let dynamic = put(types, Row::Dyn)?;
+    let one = function(alloc, types, int, int)?;
+    Ok((one, function(alloc, types, dynamic, dynamic)?))
 }
 
 // From Int to Dyn and back nothing is left to do, so every other cast leaves the bare function.
@@ -151,13 +188,7 @@ fn a_box_keeps_one_proxy(rt: HostRuntime) -> Result<(), Fail> {
 fn casts_that_cancel_leave_no_proxy(rt: HostRuntime) -> Result<(), Fail> {
     let alloc = rt.alloc();
     let mut types = TypeTable::new(alloc)?;
-    let int = put(&mut types, Row::Int)?;
-    let dynamic = put(&mut types, Row::Dyn)?;
-    let one = function(alloc, &mut types, int, int)?;
-    let other = function(alloc, &mut types, dynamic, dynamic)?;
-    let (ended, high) = cast_over(alloc, Kind::Closure, types, one, other)?;
-    assert_eq!(rt; high, 1);
-    assert!(rt; is_proxy(&ended, Kind::Closure, 1));
-    assert_eq!(rt; ended.report.proxies, ROUNDS + 1);
+    let pair = loose_functions(alloc, &mut types)?;
+    assert!(rt; keeps_one_proxy(alloc, Kind::Closure, types, pair, 1, ROUNDS + 1)?);
     Ok(())
 }

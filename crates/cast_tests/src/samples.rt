@@ -31,22 +31,28 @@ pub(crate) fn put(types: &mut TypeTable, row: Row) -> Result<TypeId, Fail> {
     Ok(types.intern(row)?)
 }
 
+// Random types of a table, with the base types.
+fn sample_of(alloc: Global, random: &mut Random, types: &mut TypeTable) -> Result<Sample, Fail> {
+    let dynamic = put(types, Row::Dyn)?;
+    let int = put(types, Row::Int)?;
+    let truth = put(types, Row::Bool)?;
+    let unit = put(types, Row::Unit)?;
+    let made = Vec::new(alloc);
+    let mut sample = Sample { made, dynamic };
+    for base in [int, truth, unit, int] {
+        sample.add_same(base)?;
+    }
+    sample.add_heights(alloc, random, types)?;
+    Ok(sample)
+}
+
 // Random types, in a table.
 pub(crate) fn random_types(
     alloc: Global,
     random: &mut Random,
 ) -> Result<(TypeTable, Sample), Fail> {
     let mut types = TypeTable::new(alloc)?;
-    let dynamic = put(&mut types, Row::Dyn)?;
-    let made = Vec::new(alloc);
-    let mut sample = Sample { made, dynamic };
-    let int = put(&mut types, Row::Int)?;
-    let truth = put(&mut types, Row::Bool)?;
-    let unit = put(&mut types, Row::Unit)?;
-    for base in [int, truth, unit, int] {
-        sample.add_same(base)?;
-    }
-    sample.add_heights(alloc, random, &mut types)?;
+    let sample = sample_of(alloc, random, &mut types)?;
     Ok((types, sample))
 }
 

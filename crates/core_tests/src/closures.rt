@@ -186,9 +186,8 @@ fn programs_have_their_procedures(rt: HostRuntime) -> Result<(), Fail> {
         (Sample::Calls, 2),
     ] {
         let flat = of_term(alloc, term(alloc, sample)?)?;
-        assert_eq!(rt;
-            (flat.procs.len(), flat.entry as u64 + 1, flat.is_closed()),
-            (wanted, wanted, true),
+        assert!(rt;
+            (flat.procs.len(), flat.entry as u64 + 1, flat.is_closed()) == (wanted, wanted, true),
             "{sample:?}"
         );
     }
@@ -207,19 +206,16 @@ fn captured_by(flat: &FlatProgram, number: u64) -> Option<u32> {
 #[test]
 fn an_inner_function_captures(rt: HostRuntime) -> Result<(), Fail> {
     let flat = of_term(rt.alloc(), term(rt.alloc(), Sample::Nested)?)?;
-    assert_eq!(rt;
-        [captured_by(&flat, 0), captured_by(&flat, 1)],
-        [Some(1), Some(0)]
-    );
+    assert!(rt; [captured_by(&flat, 0), captured_by(&flat, 1)] == [Some(1), Some(0)]);
     let Some(outer) = flat.procs.get(1) else {
         return Err(Fail::from("no second procedure"));
     };
     let FlatBody::LetGroup(slot, first, count, operands, _) = &outer.body else {
         return Err(Fail::from("no group"));
     };
-    assert_eq!(rt;
-        ((*slot, *first, *count), operands.as_slice()),
-        ((1, 0, 1), [Operand::Local(0)].as_slice())
+    assert!(rt;
+        ((*slot, *first, *count), operands.as_slice())
+            == ((1, 0, 1), [Operand::Local(0)].as_slice())
     );
     Ok(())
 }

@@ -21,13 +21,13 @@ fn rising(alloc: Global, end: i64) -> Result<CoreList, OutOfMemory> {
 #[test]
 fn terms_are_built_from_the_front(rt: HostRuntime) -> Result<(), Fail> {
     let terms = rising(rt.alloc(), 3)?;
-    assert_eq!(rt; (terms.is_empty(), terms.len()), (false, 3));
+    assert!(rt; (terms.is_empty(), terms.len()) == (false, 3));
     for (place, wanted) in [(0, Some(0)), (2, Some(2)), (3, None)] {
         let found = match terms.get(place) {
             Some(Core::Int(number)) => Some(*number),
             _ => None,
         };
-        assert_eq!(rt; found, wanted, "{place}");
+        assert!(rt; found == wanted, "{place}");
     }
     Ok(())
 }
@@ -47,10 +47,7 @@ fn functions_of_a_group_are_built_from_the_front(rt: HostRuntime) -> Result<(), 
     }
     let members = members.reversed();
     let last = matches!(members.get(1), Some(member) if member.name == VarId(1));
-    assert_eq!(rt;
-        (members.len(), last, members.get(2).is_none()),
-        (2, true, true)
-    );
+    assert!(rt; (members.len(), last, members.get(2).is_none()) == (2, true, true));
     Ok(())
 }
 
@@ -70,10 +67,7 @@ fn bindings_are_built_from_the_front(rt: HostRuntime) -> Result<(), Fail> {
     }
     let bindings = bindings.reversed();
     let last = matches!(bindings.get(1), Some(binding) if binding.name == VarId(1));
-    assert_eq!(rt;
-        (bindings.len(), last, bindings.get(2).is_none()),
-        (2, true, true)
-    );
+    assert!(rt; (bindings.len(), last, bindings.get(2).is_none()) == (2, true, true));
     Ok(())
 }
 
@@ -86,10 +80,7 @@ fn values_are_built_from_the_front(rt: HostRuntime) -> Result<(), Fail> {
     }
     let values = values.reversed();
     let last = matches!(values.get(1), Some(Value::Int(1)));
-    assert_eq!(rt;
-        (values.len(), last, values.get(2).is_none()),
-        (2, true, true)
-    );
+    assert!(rt; (values.len(), last, values.get(2).is_none()) == (2, true, true));
     Ok(())
 }
 
@@ -97,6 +88,6 @@ fn values_are_built_from_the_front(rt: HostRuntime) -> Result<(), Fail> {
 #[test]
 fn a_long_list_is_dropped_without_recursion(rt: HostRuntime) -> Result<(), Fail> {
     let terms = rising(rt.alloc(), 131_068)?;
-    assert_eq!(rt; terms.len(), 131_068);
+    assert!(rt; terms.len() == 131_068);
     Ok(())
 }

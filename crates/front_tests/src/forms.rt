@@ -285,7 +285,7 @@ fn each_form_is_read(rt: HostRuntime) -> Result<(), Fail> {
     ];
     for (text, expected) in table {
         let out = shown(rt.alloc(), text)?;
-        assert_eq!(rt; out.as_str(), expected);
+        assert!(rt; out.as_str() == expected);
     }
     Ok(())
 }
@@ -319,7 +319,7 @@ fn each_operator_is_read(rt: HostRuntime) -> Result<(), Fail> {
     ];
     for (text, expected) in table {
         let out = shown(rt.alloc(), text)?;
-        assert_eq!(rt; out.as_str(), expected);
+        assert!(rt; out.as_str() == expected);
     }
     Ok(())
 }
@@ -373,7 +373,7 @@ fn derived_forms_are_expanded(rt: HostRuntime) -> Result<(), Fail> {
     ];
     for (text, expected) in table {
         let out = shown(rt.alloc(), text)?;
-        assert_eq!(rt; out.as_str(), expected);
+        assert!(rt; out.as_str() == expected);
     }
     Ok(())
 }
@@ -407,7 +407,7 @@ fn definitions_nest(rt: HostRuntime) -> Result<(), Fail> {
     ];
     for (text, expected) in table {
         let out = shown(rt.alloc(), text)?;
-        assert_eq!(rt; out.as_str(), expected);
+        assert!(rt; out.as_str() == expected);
     }
     Ok(())
 }
@@ -444,7 +444,7 @@ fn forms_of_the_wrong_shape(rt: HostRuntime) -> Result<(), Fail> {
     for (text, line, col) in table {
         let kind = RefusalKind::BadForm;
         let pos = Pos { line, col };
-        assert_eq!(rt; refusal(rt.alloc(), text)?, Some(Refusal { kind, pos }));
+        assert!(rt; refusal(rt.alloc(), text)? == Some(Refusal { kind, pos }));
     }
     Ok(())
 }
@@ -492,7 +492,7 @@ fn each_operator_has_its_number_of_operands(rt: HostRuntime) -> Result<(), Fail>
             pos: Pos { line: 1, col: 1 },
         };
         let refused = refusal(rt.alloc(), text.as_slice())?;
-        assert_eq!(rt; refused, Some(expected));
+        assert!(rt; refused == Some(expected));
     }
     Ok(())
 }
@@ -532,7 +532,7 @@ fn elements_of_the_wrong_shape(rt: HostRuntime) -> Result<(), Fail> {
     for (text, line, col) in table {
         let kind = RefusalKind::BadForm;
         let pos = Pos { line, col };
-        assert_eq!(rt; refusal(rt.alloc(), text)?, Some(Refusal { kind, pos }));
+        assert!(rt; refusal(rt.alloc(), text)? == Some(Refusal { kind, pos }));
     }
     Ok(())
 }
@@ -552,7 +552,7 @@ fn words_and_definitions_out_of_place(rt: HostRuntime) -> Result<(), Fail> {
     for (text, line, col) in table {
         let kind = RefusalKind::BadForm;
         let pos = Pos { line, col };
-        assert_eq!(rt; refusal(rt.alloc(), text)?, Some(Refusal { kind, pos }));
+        assert!(rt; refusal(rt.alloc(), text)? == Some(Refusal { kind, pos }));
     }
     Ok(())
 }
@@ -572,7 +572,7 @@ fn names_bound_twice(rt: HostRuntime) -> Result<(), Fail> {
     for (text, line, col) in table {
         let kind = RefusalKind::RepeatedName;
         let pos = Pos { line, col };
-        assert_eq!(rt; refusal(rt.alloc(), text)?, Some(Refusal { kind, pos }));
+        assert!(rt; refusal(rt.alloc(), text)? == Some(Refusal { kind, pos }));
     }
     Ok(())
 }
@@ -592,7 +592,7 @@ fn one_too_many(rt: HostRuntime) -> Result<(), Fail> {
     for (text, line, col) in table {
         let kind = RefusalKind::TooWide;
         let pos = Pos { line, col };
-        assert_eq!(rt; refusal(rt.alloc(), text)?, Some(Refusal { kind, pos }));
+        assert!(rt; refusal(rt.alloc(), text)? == Some(Refusal { kind, pos }));
     }
     Ok(())
 }
@@ -612,7 +612,7 @@ fn reserved_words_as_names(rt: HostRuntime) -> Result<(), Fail> {
     for (text, line, col) in table {
         let kind = RefusalKind::ReservedName;
         let pos = Pos { line, col };
-        assert_eq!(rt; refusal(rt.alloc(), text)?, Some(Refusal { kind, pos }));
+        assert!(rt; refusal(rt.alloc(), text)? == Some(Refusal { kind, pos }));
     }
     Ok(())
 }
@@ -644,7 +644,7 @@ fn the_earlier_fault_decides(rt: HostRuntime) -> Result<(), Fail> {
     ];
     for (text, kind, line, col) in table {
         let pos = Pos { line, col };
-        assert_eq!(rt; refusal(rt.alloc(), text)?, Some(Refusal { kind, pos }));
+        assert!(rt; refusal(rt.alloc(), text)? == Some(Refusal { kind, pos }));
     }
     Ok(())
 }
@@ -655,15 +655,12 @@ fn five_hundred_forms_are_read(rt: HostRuntime) -> Result<(), Fail> {
     for _ in 0..500 {
         text.extend_from_slice(b"1\n")?;
     }
-    assert_eq!(rt; refusal(rt.alloc(), text.as_slice())?, None);
+    assert!(rt; refusal(rt.alloc(), text.as_slice())? == None);
     text.extend_from_slice(b"(if")?;
     text.push(b')')?;
     let pos = Pos { line: 501, col: 1 };
     let kind = RefusalKind::TooManyForms;
-    assert_eq!(rt;
-        refusal(rt.alloc(), text.as_slice())?,
-        Some(Refusal { kind, pos })
-    );
+    assert!(rt; refusal(rt.alloc(), text.as_slice())? == Some(Refusal { kind, pos }));
     Ok(())
 }
 
@@ -675,7 +672,7 @@ fn long_bodies_are_read_and_dropped(rt: HostRuntime) -> Result<(), Fail> {
         text.extend_from_slice(b" 1")?;
     }
     text.push(b')')?;
-    assert_eq!(rt; refusal(rt.alloc(), text.as_slice())?, None);
+    assert!(rt; refusal(rt.alloc(), text.as_slice())? == None);
     Ok(())
 }
 
@@ -690,7 +687,7 @@ fn two_hundred_brackets_are_expanded(rt: HostRuntime) -> Result<(), Fail> {
         text.extend_from_slice(b"(and)")?;
         let closing = vec![in rt.alloc(); b')'; 199]?;
         text.extend_from_slice(closing.as_slice())?;
-        assert_eq!(rt; refusal(rt.alloc(), text.as_slice())?, None);
+        assert!(rt; refusal(rt.alloc(), text.as_slice())? == None);
     }
     Ok(())
 }

@@ -19,15 +19,15 @@ fn symbols_are_told_apart(rt: HostRuntime) {
         (b"int", Mark::Free(None)),
     ];
     for (text, mark) in table {
-        assert_eq!(rt; mark_of(text), mark);
+        assert!(rt; mark_of(text) == mark);
     }
 }
 
 #[test]
 fn operators_have_their_operands(rt: HostRuntime) {
-    assert_eq!(rt; operand_count(PrimOp::VectorSet), 3);
-    assert_eq!(rt; operand_count(PrimOp::BoxSet), 2);
-    assert_eq!(rt; operand_count(PrimOp::Not), 1);
-    assert_eq!(rt; operand_count(PrimOp::Newline), 0);
-    assert_eq!(rt; operator_text(PrimOp::MakeBox), "box");
+    assert!(rt; operand_count(PrimOp::VectorSet) == 3);
+    assert!(rt; operand_count(PrimOp::BoxSet) == 2);
+    assert!(rt; operand_count(PrimOp::Not) == 1);
+    assert!(rt; operand_count(PrimOp::Newline) == 0);
+    assert!(rt; operator_text(PrimOp::MakeBox) == "box");
 }

@@ -118,18 +118,9 @@ fn fibonacci_of_15_is_610(rt: HostRuntime) -> Result<(), Fail> {
     let alloc = rt.alloc();
     let flat = fibonacci(alloc, 15)?;
     // The one function takes a header and a code address.
-    assert_eq!(rt;
-        comes_to(alloc, &flat, &Row::Int, 16, 8192)?,
-        answer(AnswerKind::Int, 610)
-    );
-    assert_eq!(rt;
-        comes_to(alloc, &flat, &Row::Int, 8, 8192)?,
-        Some(Stop::RegionOut)
-    );
-    assert_eq!(rt;
-        comes_to(alloc, &flat, &Row::Int, 16, 1024)?,
-        Some(Stop::StackOut)
-    );
+    assert!(rt; comes_to(alloc, &flat, &Row::Int, 16, 8192)? == answer(AnswerKind::Int, 610));
+    assert!(rt; comes_to(alloc, &flat, &Row::Int, 8, 8192)? == Some(Stop::RegionOut));
+    assert!(rt; comes_to(alloc, &flat, &Row::Int, 16, 1024)? == Some(Stop::StackOut));
     Ok(())
 }
 
@@ -155,10 +146,7 @@ fn counts_down(alloc: Global, n: i64) -> Result<FlatProgram, OutOfMemory> {
 fn a_hundred_thousand_tail_calls_take_no_stack(rt: HostRuntime) -> Result<(), Fail> {
     let alloc = rt.alloc();
     let flat = counts_down(alloc, 100_000)?;
-    assert_eq!(rt;
-        comes_to(alloc, &flat, &Row::Int, 24, 1024)?,
-        answer(AnswerKind::Int, 7)
-    );
+    assert!(rt; comes_to(alloc, &flat, &Row::Int, 24, 1024)? == answer(AnswerKind::Int, 7));
     Ok(())
 }
 
@@ -197,33 +185,15 @@ fn boxed(alloc: Global) -> Result<FlatProgram, OutOfMemory> {
 fn answers_are_shown_by_their_type(rt: HostRuntime) -> Result<(), Fail> {
     let alloc = rt.alloc();
     let three = at_most_three(alloc, 3)?;
-    assert_eq!(rt;
-        comes_to(alloc, &three, &Row::Bool, 0, 1024)?,
-        answer(AnswerKind::Bool, 1)
-    );
+    assert!(rt; comes_to(alloc, &three, &Row::Bool, 0, 1024)? == answer(AnswerKind::Bool, 1));
     let four = at_most_three(alloc, 4)?;
-    assert_eq!(rt;
-        comes_to(alloc, &four, &Row::Bool, 0, 1024)?,
-        answer(AnswerKind::Bool, 0)
-    );
+    assert!(rt; comes_to(alloc, &four, &Row::Bool, 0, 1024)? == answer(AnswerKind::Bool, 0));
     let first = part(alloc, 0)?;
-    assert_eq!(rt;
-        comes_to(alloc, &first, &Row::Int, 24, 1024)?,
-        answer(AnswerKind::Int, 4)
-    );
+    assert!(rt; comes_to(alloc, &first, &Row::Int, 24, 1024)? == answer(AnswerKind::Int, 4));
     let second = part(alloc, 1)?;
-    assert_eq!(rt;
-        comes_to(alloc, &second, &Row::Bool, 24, 1024)?,
-        answer(AnswerKind::Bool, 1)
-    );
+    assert!(rt; comes_to(alloc, &second, &Row::Bool, 24, 1024)? == answer(AnswerKind::Bool, 1));
     let nine = boxed(alloc)?;
-    assert_eq!(rt;
-        comes_to(alloc, &nine, &Row::Int, 16, 1024)?,
-        answer(AnswerKind::Int, 9)
-    );
-    assert_eq!(rt;
-        comes_to(alloc, &nine, &Row::Unit, 16, 1024)?,
-        answer(AnswerKind::Unit, 0)
-    );
+    assert!(rt; comes_to(alloc, &nine, &Row::Int, 16, 1024)? == answer(AnswerKind::Int, 9));
+    assert!(rt; comes_to(alloc, &nine, &Row::Unit, 16, 1024)? == answer(AnswerKind::Unit, 0));
     Ok(())
 }

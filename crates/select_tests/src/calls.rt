@@ -36,7 +36,7 @@ fn a_loop_sums_to_a_million(rt: HostRuntime) -> Result<(), Fail> {
     procs.push(begins_with(alloc, &[0, 0])?)?;
     procs.push(sums(alloc)?)?;
     let low = program(alloc, procs);
-    assert_eq!(rt; comes_to(alloc, &low, 0, 32)?, answer(500_000_500_000));
+    assert!(rt; comes_to(alloc, &low, 0, 32)? == answer(500_000_500_000));
     Ok(())
 }
 
@@ -56,8 +56,8 @@ fn a_million_tail_calls_take_no_stack(rt: HostRuntime) -> Result<(), Fail> {
     procs.push(counts_down(alloc, 2, 1)?)?;
     procs.push(counts_down(alloc, 1, 0)?)?;
     let low = program(alloc, procs);
-    assert_eq!(rt; comes_to(alloc, &low, 0, 16)?, answer(1));
-    assert_eq!(rt; comes_to(alloc, &low, 0, 8)?, Some(Stop::StackOut));
+    assert!(rt; comes_to(alloc, &low, 0, 16)? == answer(1));
+    assert!(rt; comes_to(alloc, &low, 0, 8)? == Some(Stop::StackOut));
     Ok(())
 }
 
@@ -85,11 +85,8 @@ fn a_recursion_overflows_the_stack_where_its_frames_do_not_fit(
     rt: HostRuntime,
 ) -> Result<(), Fail> {
     let alloc = rt.alloc();
-    assert_eq!(rt; comes_to(alloc, &deep(alloc, 169)?, 0, 4096)?, answer(169));
-    assert_eq!(rt;
-        comes_to(alloc, &deep(alloc, 170)?, 0, 4096)?,
-        Some(Stop::StackOut)
-    );
+    assert!(rt; comes_to(alloc, &deep(alloc, 169)?, 0, 4096)? == answer(169));
+    assert!(rt; comes_to(alloc, &deep(alloc, 170)?, 0, 4096)? == Some(Stop::StackOut));
     Ok(())
 }
 
@@ -110,7 +107,7 @@ fn eight_words_are_handed_on(rt: HostRuntime) -> Result<(), Fail> {
     procs.push(begins_with(alloc, &[1, 2, 3, 4, 5, 6, 7, 8])?)?;
     procs.push(digits(alloc)?)?;
     let low = program(alloc, procs);
-    assert_eq!(rt; comes_to(alloc, &low, 0, 128)?, answer(0x12345678));
+    assert!(rt; comes_to(alloc, &low, 0, 128)? == answer(0x12345678));
     Ok(())
 }
 
@@ -137,7 +134,7 @@ fn procedures_are_called_by_their_addresses(rt: HostRuntime) -> Result<(), Fail>
     procs.push(goes_by_address(alloc)?)?;
     procs.push(procedure(1, 1, LowCode::Return(word(0))))?;
     let low = program(alloc, procs);
-    assert_eq!(rt; comes_to(alloc, &low, 0, 128)?, answer(42));
+    assert!(rt; comes_to(alloc, &low, 0, 128)? == answer(42));
     Ok(())
 }
 
@@ -157,7 +154,7 @@ fn wide(alloc: Global) -> Result<LowProgram, OutOfMemory> {
 #[test]
 fn a_frame_of_ten_thousand_words(rt: HostRuntime) -> Result<(), Fail> {
     let low = wide(rt.alloc())?;
-    assert_eq!(rt; comes_to(rt.alloc(), &low, 0, 80008)?, answer(8));
-    assert_eq!(rt; comes_to(rt.alloc(), &low, 0, 80000)?, Some(Stop::StackOut));
+    assert!(rt; comes_to(rt.alloc(), &low, 0, 80008)? == answer(8));
+    assert!(rt; comes_to(rt.alloc(), &low, 0, 80000)? == Some(Stop::StackOut));
     Ok(())
 }

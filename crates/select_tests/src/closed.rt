@@ -81,7 +81,7 @@ fn words_and_procedures_are_there(rt: HostRuntime) -> Result<(), Fail> {
         (Sample::Sums, true),
     ] {
         let low = alone(rt.alloc(), 2, code(rt.alloc(), sample)?)?;
-        assert_eq!(rt; low.is_closed(), closed, "{sample:?}");
+        assert!(rt; low.is_closed() == closed, "{sample:?}");
     }
     Ok(())
 }

@@ -11,7 +11,7 @@ use std::test::Fail;
 fn a_program_with_the_procedures_is_closed(rt: HostRuntime) -> Result<(), Fail> {
     let alloc = rt.alloc();
     let mut procs = ref_procs(alloc, 0, 0)?;
-    assert_eq!(rt; procs.len(), REF_PROCS as u64);
+    assert!(rt; procs.len() == REF_PROCS as u64);
     let words = sources(alloc, &[number(6), number(7)])?;
     procs.push(procedure(0, 0, LowCode::TailCall(2, words)))?;
     let program = LowProgram {

@@ -6,6 +6,7 @@ ghost use Rattle.rv_machine.specs.Start.{IsRegionSize};
 use crate::machines::{
     answer, call, change, load, machine_of, number, procedure, set, sources, word,
 };
+use assembler::image::Image;
 use grift_base::lists::OutOfMemory;
 use grift_base::places::{LabelTable, Pos};
 use grift_base::verdicts::Trap;
@@ -113,19 +114,34 @@ fn types(alloc: Global) -> Result<Statics, OutOfMemory> {
     Ok(statics)
 }
 
-// A program that begins with this code, of sixteen words, behind the procedures and two functions, of which each takes
-// its own address first.
-fn program(alloc: Global, code: LowCode) -> Result<LowProgram, OutOfMemory> {
-    let mut procs: LowProcs = cast_procs(alloc, 0)?;
+// The procedures that go through proxies.
+fn push_proxies(alloc: Global, procs: &mut LowProcs) -> Result<(), OutOfMemory> {
     procs.push(apply_proc(alloc, CAST)?)?;
     procs.push(read_proc(alloc, CAST)?)?;
     procs.push(write_proc(alloc, CAST)?)?;
     procs.push(fill_proc(alloc, FILL_LOOP)?)?;
-    procs.push(fill_loop(alloc, FILL_LOOP)?)?;
+    procs.push(fill_loop(alloc, FILL_LOOP)?)
+}
+
+// Two functions, of which each takes its own address first.
+fn push_functions(alloc: Global, procs: &mut LowProcs) -> Result<(), OutOfMemory> {
     let next = change(alloc, WordOp::Add, 1, number(1), LowCode::Return(word(1)))?;
     procs.push(procedure(2, 2, next))?;
     let difference = change(alloc, WordOp::Sub, 1, word(2), LowCode::Return(word(1)))?;
-    procs.push(procedure(3, 3, difference))?;
+    procs.push(procedure(3, 3, difference))
+}
+
+// All procedures but the one that a program begins with.
+fn serving(alloc: Global) -> Result<LowProcs, OutOfMemory> {
+    let mut procs = cast_procs(alloc, 0)?;
+    push_proxies(alloc, &mut procs)?;
+    push_functions(alloc, &mut procs)?;
+    Ok(procs)
+}
+
+// A program that begins with this code, of sixteen words, behind these procedures.
+fn program(alloc: Global, code: LowCode) -> Result<LowProgram, OutOfMemory> {
+    let mut procs = serving(alloc)?;
     procs.push(procedure(0, 16, code))?;
     Ok(LowProgram {
         procs,
@@ -134,21 +150,41 @@ fn program(alloc: Global, code: LowCode) -> Result<LowProgram, OutOfMemory> {
     })
 }
 
-// What such a program comes to in a region of this size; none where it isn't closed.
-fn ends(alloc: Global, code: LowCode, region: u64) -> Result<Option<Stop>, OutOfMemory>
-    requires region { IsRegionSize region }
-{
-    let low = program(alloc, code)?;
+// The labels of the casts.
+fn labels(alloc: Global) -> Result<LabelTable, OutOfMemory> {
+    let mut labels = LabelTable::new(alloc);
+    for label in [FIRST, SECOND, TO_DYN] {
+        labels.intern(label)?;
+    }
+    Ok(labels)
+}
+
+// The program's image; none where it isn't closed.
+fn image(alloc: Global, low: &LowProgram) -> Result<Option<Image>, OutOfMemory> {
     if !low.is_closed() {
         return Ok(None);
     }
-    let mut labels = LabelTable::new(alloc);
-    labels.intern(FIRST)?;
-    labels.intern(SECOND)?;
-    labels.intern(TO_DYN)?;
-    let image = image_of(alloc, &low, &labels)?;
-    let mut machine = machine_of(alloc, &image, region, 4_096)?;
-    Ok(Some(machine.run(1_000_000)))
+    let labels = labels(alloc)?;
+    Ok(Some(image_of(alloc, low, &labels)?))
+}
+
+// What an image comes to in a region of this size.
+fn stop(alloc: Global, image: &Image, region: u64) -> Result<Stop, OutOfMemory>
+    requires { IsRegionSize region }
+{
+    let mut machine = machine_of(alloc, image, region, 4_096)?;
+    Ok(machine.run(1_000_000))
+}
+
+// What such a program comes to in a region of this size; none where it isn't closed.
+fn ends(alloc: Global, code: LowCode, region: u64) -> Result<Option<Stop>, OutOfMemory>
+    requires { IsRegionSize region }
+{
+    let low = program(alloc, code)?;
+    match image(alloc, &low)? {
+        None => Ok(None),
+        Some(image) => Ok(Some(stop(alloc, &image, region)?)),
+    }
 }
 
 // Word d is cast between two types under a label, and then this is done.
@@ -423,6 +459,6 @@ fn lengths_that_no_vector_has(rt: HostRuntime) -> Result<(), Fail> {
 
 #[test]
 fn there_are_nine_procedures(rt: HostRuntime) -> Result<(), Fail> {
-    assert_eq!(rt; proxy_procs(rt.alloc(), 27, CAST)?.len(), 9);
+    assert!(rt; proxy_procs(rt.alloc(), 27, CAST)?.len() == 9);
     Ok(())
 }

@@ -46,27 +46,27 @@ fn own_items(code: &VirtualCode) -> &[VirtualItem] {
 #[test]
 fn a_program_begins_with_a_call_and_its_answer(rt: HostRuntime) -> Result<(), Fail> {
     let code = selected_alone(rt.alloc(), LowCode::Return(number(42)))?;
-    assert_eq!(rt; code.registers, 2);
-    assert_eq!(rt;
-        code.items.as_slice(),
-        [
-            VirtualItem::Call(0, 0),
-            VirtualItem::Move(x(11), x(10)),
-            VirtualItem::Constant(x(10), 0),
-            VirtualItem::Constant(x(17), 0),
-            VirtualItem::Environment,
-            VirtualItem::Return,
-            VirtualItem::Procedure(0, 0, 2),
-            VirtualItem::Constant(x(10), 42),
-            VirtualItem::Return,
-            VirtualItem::Mark(1),
-            VirtualItem::Constant(x(10), 0),
-            VirtualItem::Constant(x(11), 0),
-            VirtualItem::Constant(x(17), 5),
-            VirtualItem::Environment,
-            VirtualItem::Jump(1),
-        ]
-        .as_slice()
+    assert!(rt; code.registers == 2);
+    assert!(rt;
+        code.items.as_slice()
+            == [
+                VirtualItem::Call(0, 0),
+                VirtualItem::Move(x(11), x(10)),
+                VirtualItem::Constant(x(10), 0),
+                VirtualItem::Constant(x(17), 0),
+                VirtualItem::Environment,
+                VirtualItem::Return,
+                VirtualItem::Procedure(0, 0, 2),
+                VirtualItem::Constant(x(10), 42),
+                VirtualItem::Return,
+                VirtualItem::Mark(1),
+                VirtualItem::Constant(x(10), 0),
+                VirtualItem::Constant(x(11), 0),
+                VirtualItem::Constant(x(17), 5),
+                VirtualItem::Environment,
+                VirtualItem::Jump(1),
+            ]
+            .as_slice()
     );
     Ok(())
 }
@@ -85,20 +85,20 @@ fn a_branch_has_two_marks(rt: HostRuntime) -> Result<(), Fail> {
         Box::new(alloc, LowCode::Return(word(0)))?,
     );
     let code = selected_alone(alloc, code)?;
-    assert_eq!(rt;
-        own_items(&code),
-        [
-            VirtualItem::Constant(x(5), 7),
-            VirtualItem::Branch(Cond::Lt, x(5), x(0), 2),
-            VirtualItem::Constant(VReg::Virtual(0), 2),
-            VirtualItem::Jump(3),
-            VirtualItem::Mark(2),
-            VirtualItem::Constant(VReg::Virtual(0), 1),
-            VirtualItem::Mark(3),
-            VirtualItem::Move(x(10), VReg::Virtual(0)),
-            VirtualItem::Return,
-        ]
-        .as_slice()
+    assert!(rt;
+        own_items(&code)
+            == [
+                VirtualItem::Constant(x(5), 7),
+                VirtualItem::Branch(Cond::Lt, x(5), x(0), 2),
+                VirtualItem::Constant(VReg::Virtual(0), 2),
+                VirtualItem::Jump(3),
+                VirtualItem::Mark(2),
+                VirtualItem::Constant(VReg::Virtual(0), 1),
+                VirtualItem::Mark(3),
+                VirtualItem::Move(x(10), VReg::Virtual(0)),
+                VirtualItem::Return,
+            ]
+            .as_slice()
     );
     Ok(())
 }
@@ -109,21 +109,21 @@ fn an_object_is_written_before_the_allocation_word_moves(rt: HostRuntime) -> Res
     let words = sources(alloc, &[number(9), number(0)])?;
     let code = LowCode::Build(1, words, Box::new(alloc, LowCode::Return(word(1)))?);
     let code = selected_alone(alloc, code)?;
-    assert_eq!(rt;
-        own_items(&code),
-        [
-            VirtualItem::Compute(WordOp::Sub, x(5), x(27), x(26)),
-            VirtualItem::Constant(x(6), 16),
-            VirtualItem::Branch(Cond::Ltu, x(5), x(6), 1),
-            VirtualItem::Constant(x(5), 9),
-            VirtualItem::Store(x(5), x(26), 0),
-            VirtualItem::Store(x(0), x(26), 8),
-            VirtualItem::Move(VReg::Virtual(1), x(26)),
-            VirtualItem::Compute(WordOp::Add, x(26), x(26), x(6)),
-            VirtualItem::Move(x(10), VReg::Virtual(1)),
-            VirtualItem::Return,
-        ]
-        .as_slice()
+    assert!(rt;
+        own_items(&code)
+            == [
+                VirtualItem::Compute(WordOp::Sub, x(5), x(27), x(26)),
+                VirtualItem::Constant(x(6), 16),
+                VirtualItem::Branch(Cond::Ltu, x(5), x(6), 1),
+                VirtualItem::Constant(x(5), 9),
+                VirtualItem::Store(x(5), x(26), 0),
+                VirtualItem::Store(x(0), x(26), 8),
+                VirtualItem::Move(VReg::Virtual(1), x(26)),
+                VirtualItem::Compute(WordOp::Add, x(26), x(26), x(6)),
+                VirtualItem::Move(x(10), VReg::Virtual(1)),
+                VirtualItem::Return,
+            ]
+            .as_slice()
     );
     Ok(())
 }
@@ -144,35 +144,35 @@ fn two(alloc: Global) -> Result<LowProgram, OutOfMemory> {
 #[test]
 fn words_are_handed_on_from_x10_on(rt: HostRuntime) -> Result<(), Fail> {
     let code = selected(rt.alloc(), &two(rt.alloc())?)?;
-    assert_eq!(rt; code.registers, 4);
+    assert!(rt; code.registers == 4);
     let items = code.items.as_slice();
     assert!(rt; items.len() == 33);
-    assert_eq!(rt;
-        &items[6..13],
-        [
-            VirtualItem::Procedure(0, 0, 1),
-            VirtualItem::Constant(x(10), 5),
-            VirtualItem::Constant(x(11), 3),
-            VirtualItem::Call(1, 2),
-            VirtualItem::Move(VReg::Virtual(0), x(10)),
-            VirtualItem::Move(x(10), VReg::Virtual(0)),
-            VirtualItem::Return,
-        ]
-        .as_slice()
+    assert!(rt;
+        &items[6..13]
+            == [
+                VirtualItem::Procedure(0, 0, 1),
+                VirtualItem::Constant(x(10), 5),
+                VirtualItem::Constant(x(11), 3),
+                VirtualItem::Call(1, 2),
+                VirtualItem::Move(VReg::Virtual(0), x(10)),
+                VirtualItem::Move(x(10), VReg::Virtual(0)),
+                VirtualItem::Return,
+            ]
+            .as_slice()
     );
-    assert_eq!(rt;
-        &items[19..27],
-        [
-            VirtualItem::Procedure(1, 1, 3),
-            VirtualItem::Move(VReg::Virtual(1), x(10)),
-            VirtualItem::Move(VReg::Virtual(2), x(11)),
-            VirtualItem::Constant(x(6), 1),
-            VirtualItem::Compute(WordOp::Sub, VReg::Virtual(3), VReg::Virtual(1), x(6)),
-            VirtualItem::Move(x(10), VReg::Virtual(3)),
-            VirtualItem::Move(x(11), VReg::Virtual(2)),
-            VirtualItem::TailCall(1, 2),
-        ]
-        .as_slice()
+    assert!(rt;
+        &items[19..27]
+            == [
+                VirtualItem::Procedure(1, 1, 3),
+                VirtualItem::Move(VReg::Virtual(1), x(10)),
+                VirtualItem::Move(VReg::Virtual(2), x(11)),
+                VirtualItem::Constant(x(6), 1),
+                VirtualItem::Compute(WordOp::Sub, VReg::Virtual(3), VReg::Virtual(1), x(6)),
+                VirtualItem::Move(x(10), VReg::Virtual(3)),
+                VirtualItem::Move(x(11), VReg::Virtual(2)),
+                VirtualItem::TailCall(1, 2),
+            ]
+            .as_slice()
     );
     Ok(())
 }
@@ -196,34 +196,34 @@ fn other_kinds_of_code(rt: HostRuntime) -> Result<(), Fail> {
     let code = selected_alone(rt.alloc(), all_kinds(rt.alloc())?)?;
     let zero = VReg::Virtual(0);
     let one = VReg::Virtual(1);
-    assert_eq!(rt;
-        own_items(&code),
-        [
-            VirtualItem::Constant(x(5), 3),
-            VirtualItem::ComputeWith(WordOp::Sll, zero, x(5), 4),
-            VirtualItem::Constant(x(5), 65536),
-            VirtualItem::Load(one, x(5), 8),
-            VirtualItem::Constant(x(7), 300),
-            VirtualItem::Compute(WordOp::Sub, x(5), x(27), x(26)),
-            VirtualItem::ComputeWith(WordOp::Srl, x(5), x(5), 3),
-            VirtualItem::Branch(Cond::Ltu, x(5), x(7), 1),
-            VirtualItem::Move(zero, x(26)),
-            VirtualItem::Store(one, zero, 16),
-            VirtualItem::Constant(x(7), 300),
-            VirtualItem::ComputeWith(WordOp::Sll, x(5), x(7), 3),
-            VirtualItem::Compute(WordOp::Add, x(26), x(26), x(5)),
-            VirtualItem::Move(x(10), one),
-            VirtualItem::Constant(x(11), 0),
-            VirtualItem::Constant(x(17), 1),
-            VirtualItem::Environment,
-            VirtualItem::Move(zero, x(10)),
-            VirtualItem::Move(one, x(11)),
-            VirtualItem::CodeOf(zero, 0),
-            VirtualItem::CallAt(zero, 0),
-            VirtualItem::Move(one, x(10)),
-            VirtualItem::TailCallAt(zero, 0),
-        ]
-        .as_slice()
+    assert!(rt;
+        own_items(&code)
+            == [
+                VirtualItem::Constant(x(5), 3),
+                VirtualItem::ComputeWith(WordOp::Sll, zero, x(5), 4),
+                VirtualItem::Constant(x(5), 65536),
+                VirtualItem::Load(one, x(5), 8),
+                VirtualItem::Constant(x(7), 300),
+                VirtualItem::Compute(WordOp::Sub, x(5), x(27), x(26)),
+                VirtualItem::ComputeWith(WordOp::Srl, x(5), x(5), 3),
+                VirtualItem::Branch(Cond::Ltu, x(5), x(7), 1),
+                VirtualItem::Move(zero, x(26)),
+                VirtualItem::Store(one, zero, 16),
+                VirtualItem::Constant(x(7), 300),
+                VirtualItem::ComputeWith(WordOp::Sll, x(5), x(7), 3),
+                VirtualItem::Compute(WordOp::Add, x(26), x(26), x(5)),
+                VirtualItem::Move(x(10), one),
+                VirtualItem::Constant(x(11), 0),
+                VirtualItem::Constant(x(17), 1),
+                VirtualItem::Environment,
+                VirtualItem::Move(zero, x(10)),
+                VirtualItem::Move(one, x(11)),
+                VirtualItem::CodeOf(zero, 0),
+                VirtualItem::CallAt(zero, 0),
+                VirtualItem::Move(one, x(10)),
+                VirtualItem::TailCallAt(zero, 0),
+            ]
+            .as_slice()
     );
     Ok(())
 }
@@ -240,6 +240,6 @@ fn long(alloc: Global, times: u64) -> Result<LowCode, OutOfMemory> {
 #[test]
 fn a_long_code_is_selected_without_recursion(rt: HostRuntime) -> Result<(), Fail> {
     let code = selected_alone(rt.alloc(), long(rt.alloc(), 200000)?)?;
-    assert_eq!(rt; code.items.len(), 200015);
+    assert!(rt; code.items.len() == 200015);
     Ok(())
 }

@@ -30,14 +30,8 @@ fn branches(alloc: Global, cond: Cond) -> Result<LowProgram, OutOfMemory> {
 #[test]
 fn a_branch_over_many_bytes(rt: HostRuntime) -> Result<(), Fail> {
     let alloc = rt.alloc();
-    assert_eq!(rt;
-        comes_to(alloc, &branches(alloc, Cond::Eq)?, 0, 64)?,
-        answer(2005)
-    );
-    assert_eq!(rt;
-        comes_to(alloc, &branches(alloc, Cond::Ne)?, 0, 64)?,
-        answer(5)
-    );
+    assert!(rt; comes_to(alloc, &branches(alloc, Cond::Eq)?, 0, 64)? == answer(2005));
+    assert!(rt; comes_to(alloc, &branches(alloc, Cond::Ne)?, 0, 64)? == answer(5));
     Ok(())
 }
 
@@ -56,9 +50,8 @@ fn bytes_of(alloc: Global, count: u64) -> Result<Option<u64>, OutOfMemory> {
 #[test]
 fn code_is_linear(rt: HostRuntime) -> Result<(), Fail> {
     let few = bytes_of(rt.alloc(), 1000)?;
-    assert_eq!(rt;
-        bytes_of(rt.alloc(), 100_000)?,
-        few.map(|bytes| bytes.saturating_add(16 * 99_000))
+    assert!(rt;
+        bytes_of(rt.alloc(), 100_000)? == few.map(|bytes| bytes.saturating_add(16 * 99_000))
     );
     Ok(())
 }

@@ -22,8 +22,8 @@ fn builds(alloc: Global) -> Result<LowProgram, OutOfMemory> {
 #[test]
 fn objects_fill_a_region_exactly(rt: HostRuntime) -> Result<(), Fail> {
     let low = builds(rt.alloc())?;
-    assert_eq!(rt; comes_to(rt.alloc(), &low, 24, 16)?, answer(3));
-    assert_eq!(rt; comes_to(rt.alloc(), &low, 16, 16)?, Some(Stop::RegionOut));
+    assert!(rt; comes_to(rt.alloc(), &low, 24, 16)? == answer(3));
+    assert!(rt; comes_to(rt.alloc(), &low, 16, 16)? == Some(Stop::RegionOut));
     Ok(())
 }
 
@@ -41,15 +41,9 @@ fn requests(alloc: Global) -> Result<LowProgram, OutOfMemory> {
 #[test]
 fn requests_fill_a_region_exactly(rt: HostRuntime) -> Result<(), Fail> {
     let low = requests(rt.alloc())?;
-    assert_eq!(rt; comes_to(rt.alloc(), &low, 2408, 16)?, answer(9));
-    assert_eq!(rt;
-        comes_to(rt.alloc(), &low, 2400, 16)?,
-        Some(Stop::RegionOut)
-    );
-    assert_eq!(rt;
-        comes_to(rt.alloc(), &low, 2392, 16)?,
-        Some(Stop::RegionOut)
-    );
+    assert!(rt; comes_to(rt.alloc(), &low, 2408, 16)? == answer(9));
+    assert!(rt; comes_to(rt.alloc(), &low, 2400, 16)? == Some(Stop::RegionOut));
+    assert!(rt; comes_to(rt.alloc(), &low, 2392, 16)? == Some(Stop::RegionOut));
     Ok(())
 }
 
@@ -81,7 +75,7 @@ fn what_a_procedure_stores_is_read_back(rt: HostRuntime) -> Result<(), Fail> {
     procs.push(reads_back(alloc)?)?;
     procs.push(writes(alloc)?)?;
     let low = program(alloc, procs);
-    assert_eq!(rt; comes_to(alloc, &low, 16, 64)?, answer(0x705));
+    assert!(rt; comes_to(alloc, &low, 16, 64)? == answer(0x705));
     Ok(())
 }
 
@@ -109,30 +103,18 @@ fn called(
 #[test]
 fn calls_that_go_on(rt: HostRuntime) -> Result<(), Fail> {
     let five = answer(5).map(|stop| (stop, true));
-    assert_eq!(rt; called(rt.alloc(), 1, u64::MAX, 5, b"-1")?, five);
-    assert_eq!(rt; called(rt.alloc(), 2, 65, 5, b"A")?, five);
+    assert!(rt; called(rt.alloc(), 1, u64::MAX, 5, b"-1")? == five);
+    assert!(rt; called(rt.alloc(), 2, 65, 5, b"A")? == five);
     Ok(())
 }
 
 #[test]
 fn calls_that_end(rt: HostRuntime) -> Result<(), Fail> {
     let traps = Stop::Trapped(Trap::Index);
-    assert_eq!(rt;
-        called(rt.alloc(), 0, 0, 42, b"")?,
-        answer(42).map(|stop| (stop, true))
-    );
-    assert_eq!(rt;
-        called(rt.alloc(), 3, 0, 0, b"")?,
-        Some((Stop::Blamed(LABEL), true))
-    );
-    assert_eq!(rt; called(rt.alloc(), 4, 2, 5, b"")?, Some((traps, true)));
-    assert_eq!(rt;
-        called(rt.alloc(), 5, 2, 5, b"")?,
-        Some((Stop::RegionOut, true))
-    );
-    assert_eq!(rt;
-        called(rt.alloc(), 6, 2, 5, b"")?,
-        Some((Stop::StackOut, true))
-    );
+    assert!(rt; called(rt.alloc(), 0, 0, 42, b"")? == answer(42).map(|stop| (stop, true)));
+    assert!(rt; called(rt.alloc(), 3, 0, 0, b"")? == Some((Stop::Blamed(LABEL), true)));
+    assert!(rt; called(rt.alloc(), 4, 2, 5, b"")? == Some((traps, true)));
+    assert!(rt; called(rt.alloc(), 5, 2, 5, b"")? == Some((Stop::RegionOut, true)));
+    assert!(rt; called(rt.alloc(), 6, 2, 5, b"")? == Some((Stop::StackOut, true)));
     Ok(())
 }

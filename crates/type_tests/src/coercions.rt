@@ -2,20 +2,19 @@
 
 ghost use Rattle.coercion_norm.specs.CoercionTables.{FitsTypes};
 
-use crate::samples::{cast, eleven_types, put};
+use crate::samples::{ELEVEN_TYPES, Sample, cast, labels_of, nested_boxes, table_of};
 use coercion_norm::cast_rows::{CastRow, CastRows};
 use coercion_norm::casts::coerce;
-use coercion_norm::nodes::{CoercionId, CoercionIds, CoercionNode};
+use coercion_norm::nodes::{CoercionId, CoercionNode};
 use coercion_norm::placing::place_rows;
 use coercion_norm::tables::CoercionTable;
 use coercion_norm::texts::show;
 use grift_base::lists::Text;
-use grift_base::places::{LabelId, LabelTable, Pos, TypeId};
+use grift_base::places::{LabelId, LabelTable, TypeId};
 use grift_base::words::{Statics, WordList, Words};
 use object_layout::wholes::{Area, whole_object};
 use std::alloc::Global;
 use std::test::Fail;
-use type_graph::rows::Row;
 use type_graph::tables::TypeTable;
 
 // The label of casts whose label says nothing.
@@ -29,75 +28,65 @@ fn height(table: &CoercionTable, c: CoercionId) -> Result<u32, Fail> {
     Ok(table.height(c))
 }
 
-// Whether these are the nodes of the table.
-fn stand(table: &CoercionTable, nodes: &[CoercionNode]) -> bool {
-    for (place, node) in nodes.iter().enumerate() {
-        if place as u64 >= u64::from(table.len()) || table.node(CoercionId(place as u32)) != node {
-            return false;
+// Whether in a new table the coercion of each of these casts stands at this place, with this height, among so many.
+fn stand_at(
+    alloc: Global,
+    types: &TypeTable,
+    rows: &[(u32, u32, u32, u32)],
+    many: u32,
+) -> Result<bool, Fail> {
+    let mut table = CoercionTable::new(alloc)?;
+    for (from, to, place, its_height) in rows {
+        let c = cast(alloc, &mut table, types, TypeId(*from), TypeId(*to), LABEL)?;
+        if c.0 != *place || height(&table, c)? != *its_height {
+            return Ok(false);
         }
     }
-    u64::from(table.len()) == nodes.len() as u64
+    Ok(table.len() == many)
 }
 
+// Each node stands behind its parts, of which the first cast has a projection and an injection, the second one more.
 #[test]
 fn casts_have_their_coercions(rt: HostRuntime) -> Result<(), Fail> {
-    let alloc = rt.alloc();
-    let types = eleven_types(alloc)?;
-    let mut table = CoercionTable::new(alloc)?;
-    let function = cast(alloc, &mut table, &types, TypeId(3), TypeId(4), LABEL)?;
-    let reference = cast(alloc, &mut table, &types, TypeId(6), TypeId(7), LABEL)?;
-    let fail = cast(alloc, &mut table, &types, TypeId(6), TypeId(3), LABEL)?;
-    let made = [function, reference, fail];
-    let heights = [
-        height(&table, function)?,
-        height(&table, reference)?,
-        height(&table, fail)?,
-    ];
-    assert!(rt; made == [3, 5, 6].map(CoercionId) && heights == [1, 1, 0]);
-    let id = CoercionId(0);
-    let arguments = CoercionIds::from_slice(alloc, &[CoercionId(1)])?;
-    let nodes = [
-        CoercionNode::Id,
-        CoercionNode::Project(TypeId(0), LABEL, id),
-        CoercionNode::Inject(id, TypeId(1)),
-        CoercionNode::Fun(arguments, CoercionId(2)),
-        CoercionNode::Inject(id, TypeId(0)),
-        CoercionNode::Ref(CoercionId(4), CoercionId(1)),
-        CoercionNode::Fail(LABEL),
-    ];
-    assert!(rt; stand(&table, &nodes));
+    let types = table_of(rt.alloc(), ELEVEN_TYPES)?;
+    let rows = [(3, 4, 3, 1), (6, 7, 5, 1), (6, 3, 6, 0)];
+    assert!(rt; stand_at(rt.alloc(), &types, &rows, 7)?);
     Ok(())
 }
 
 // References to references, 300 deep, whose coercions are met twice at each level.
 #[test]
 fn shared_rows_take_few_nodes(rt: HostRuntime) -> Result<(), Fail> {
-    let alloc = rt.alloc();
-    let mut types = TypeTable::new(alloc)?;
-    let mut from = put(&mut types, Row::Int)?;
-    let mut to = put(&mut types, Row::Dyn)?;
-    for _ in 0..300 {
-        from = put(&mut types, Row::Ref(from))?;
-        to = put(&mut types, Row::Ref(to))?;
-    }
-    let mut table = CoercionTable::new(alloc)?;
-    let c = cast(alloc, &mut table, &types, from, to, LABEL)?;
+    let mut types = table_of(rt.alloc(), &[Sample::Int, Sample::Dyn])?;
+    let from = nested_boxes(&mut types, TypeId(0))?;
+    let to = nested_boxes(&mut types, TypeId(1))?;
     // two nodes a level, for both directions, but one at the top
-    assert_eq!(rt; (height(&table, c)?, table.len()), (300, 1 + 2 * 300 + 1));
+    let last = 2 * 300 + 1;
+    assert!(rt; stand_at(rt.alloc(), &types, &[(from.0, to.0, last, 300)], last + 1)?);
     Ok(())
+}
+
+// The places of nodes that are put into a table.
+fn put_nodes(table: &mut CoercionTable, types: &TypeTable) -> Result<[CoercionId; 4], Fail>
+    requires { FitsTypes types.now table.old }
+{
+    let fail = table.intern_node(types, CoercionNode::Fail(LabelId(3)))?;
+    let other = table.intern_node(types, CoercionNode::Fail(LabelId(4)))?;
+    let again = table.intern_node(types, CoercionNode::Fail(LabelId(3)))?;
+    Ok([
+        table.intern_node(types, CoercionNode::Id)?,
+        fail,
+        other,
+        again,
+    ])
 }
 
 #[test]
 fn nodes_stand_once(rt: HostRuntime) -> Result<(), Fail> {
-    let alloc = rt.alloc();
-    let types = TypeTable::new(alloc)?;
-    let mut table = CoercionTable::new(alloc)?;
-    let fail = table.intern_node(&types, CoercionNode::Fail(LabelId(3)))?;
-    let other = table.intern_node(&types, CoercionNode::Fail(LabelId(4)))?;
-    let again = table.intern_node(&types, CoercionNode::Fail(LabelId(3)))?;
-    let id = table.intern_node(&types, CoercionNode::Id)?;
-    assert_eq!(rt; [id, fail, other, again], [0, 1, 2, 1].map(CoercionId));
-    assert_eq!(rt; table.len(), 3);
+    let types = TypeTable::new(rt.alloc())?;
+    let mut table = CoercionTable::new(rt.alloc())?;
+    let places = put_nodes(&mut table, &types)?;
+    assert!(rt; places == [0, 1, 2, 1].map(CoercionId) && table.len() == 3);
     Ok(())
 }
 
@@ -125,16 +114,22 @@ fn shown_cast(
 // Whether the coercions of these casts have these texts.
 fn have_texts(
     alloc: Global,
-    table: &mut CoercionTable,
     types: &TypeTable,
     labels: &LabelTable,
     rows: &[(u32, u32, &str)],
-) -> Result<bool, Fail>
-    requires { FitsTypes types.now table.old }
-{
+) -> Result<bool, Fail> {
+    let mut table = CoercionTable::new(alloc)?;
     for (from, to, text) in rows {
         let from = TypeId(*from);
-        let shown = shown_cast(alloc, table, types, labels, from, TypeId(*to), LabelId(0))?;
+        let shown = shown_cast(
+            alloc,
+            &mut table,
+            types,
+            labels,
+            from,
+            TypeId(*to),
+            LabelId(0),
+        )?;
         if shown.as_slice() != text.as_bytes() {
             return Ok(false);
         }
@@ -144,22 +139,19 @@ fn have_texts(
 
 #[test]
 fn coercions_have_texts(rt: HostRuntime) -> Result<(), Fail> {
-    let alloc = rt.alloc();
-    let types = eleven_types(alloc)?;
-    let mut labels = LabelTable::new(alloc);
-    labels.intern(Pos { line: 12, col: 3 })?;
-    let mut table = CoercionTable::new(alloc)?;
+    let types = table_of(rt.alloc(), ELEVEN_TYPES)?;
+    let labels = labels_of(rt.alloc(), &[3])?;
     let rows = [
         (0, 0, "id"),
         (3, 2, "(inject (Int -> Bool))"),
-        (2, 6, "(project (Ref Int) 12:3)"),
-        (3, 6, "(fail 12:3)"),
-        (3, 4, "(fun (project Int 12:3) -> (inject Bool))"),
-        (4, 3, "(fun (inject Int) -> (project Bool 12:3))"),
-        (6, 7, "(ref (inject Int) (project Int 12:3))"),
-        (9, 10, "(tuple (inject Int) (project Int 12:3))"),
+        (2, 6, "(project (Ref Int) 1:3)"),
+        (3, 6, "(fail 1:3)"),
+        (3, 4, "(fun (project Int 1:3) -> (inject Bool))"),
+        (4, 3, "(fun (inject Int) -> (project Bool 1:3))"),
+        (6, 7, "(ref (inject Int) (project Int 1:3))"),
+        (9, 10, "(tuple (inject Int) (project Int 1:3))"),
     ];
-    assert!(rt; have_texts(alloc, &mut table, &types, &labels, &rows)?);
+    assert!(rt; have_texts(rt.alloc(), &types, &labels, &rows)?);
     Ok(())
 }
 
@@ -248,14 +240,19 @@ fn intern_casts(
     Ok(())
 }
 
-#[test]
-fn statics_are_whole_objects(rt: HostRuntime) -> Result<(), Fail> {
-    let alloc = rt.alloc();
-    let types = eleven_types(alloc)?;
+// The statics of these casts.
+fn statics_of_casts(alloc: Global) -> Result<Statics, Fail> {
+    let types = table_of(alloc, ELEVEN_TYPES)?;
     let mut table = CoercionTable::new(alloc)?;
     let mut casts = CastRows::new(alloc);
     intern_casts(alloc, &mut table, &types, &mut casts)?;
-    let statics = place(alloc, &types, &table, &casts)?;
+    place(alloc, &types, &table, &casts)
+}
+
+#[test]
+fn statics_are_whole_objects(rt: HostRuntime) -> Result<(), Fail> {
+    let alloc = rt.alloc();
+    let statics = statics_of_casts(alloc)?;
     assert_eq!(rt; statics.cast_at.as_slice(), [65_784, 65_832, 0].as_slice());
     let memory = Storage {
         words: statics.words,
@@ -263,6 +260,11 @@ fn statics_are_whole_objects(rt: HostRuntime) -> Result<(), Fail> {
     assert!(rt; are_whole(&memory, 11 + 5, statics.type_at.as_slice()));
     assert!(rt; are_whole(&memory, 11 + 5, statics.coercion_at.as_slice()));
     Ok(())
+}
+
+// The numbers of two rows, of which the first is put twice.
+fn numbers(casts: &mut CastRows, row: CastRow, other: CastRow) -> Result<[u32; 3], Fail> {
+    Ok([casts.intern(row)?, casts.intern(other)?, casts.intern(row)?])
 }
 
 #[test]
@@ -278,12 +280,9 @@ fn casts_stand_once(rt: HostRuntime) -> Result<(), Fail> {
         ..row
     };
     let mut casts = CastRows::new(rt.alloc());
-    assert!(rt; casts.is_empty());
-    let numbers = [casts.intern(row)?, casts.intern(other)?, casts.intern(row)?];
-    assert_eq!(rt; numbers, [0, 1, 0]);
-    assert_eq!(rt;
-        (casts.len(), casts.get(1), casts.get(2)),
-        (2, Some(&other), None)
-    );
+    let was_empty = casts.is_empty();
+    let numbers = numbers(&mut casts, row, other)?;
+    assert!(rt; was_empty && numbers == [0, 1, 0] && casts.len() == 2);
+    assert!(rt; casts.get(1) == Some(&other) && casts.get(2).is_none());
     Ok(())
 }

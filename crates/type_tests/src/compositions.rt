@@ -3,17 +3,16 @@
 ghost use Rattle.std.specs.Prelude.{IfOk, length, ◌<◌};
 ghost use Rattle.coercion_norm.specs.CoercionTables.{FitsTypes};
 
-use crate::samples::{cast, eleven_types, put};
+use crate::samples::{ELEVEN_TYPES, Sample, cast, labels_of, nested_boxes, table_of};
 use coercion_compose::compositions::compose;
 use coercion_norm::casts::coerce;
 use coercion_norm::nodes::CoercionId;
 use coercion_norm::tables::CoercionTable;
 use coercion_norm::texts::show;
 use grift_base::lists::Text;
-use grift_base::places::{LabelId, LabelTable, Pos, TypeId};
+use grift_base::places::{LabelId, LabelTable, TypeId};
 use std::alloc::Global;
 use std::test::Fail;
-use type_graph::rows::Row;
 use type_graph::tables::TypeTable;
 
 // The text of three casts one after the other, of which the first two have label 0 and the last has label 1.
@@ -49,15 +48,13 @@ fn shown_path(
 // Whether these paths have these texts.
 fn have_texts(
     alloc: Global,
-    table: &mut CoercionTable,
     types: &TypeTable,
     labels: &LabelTable,
     rows: &[([u32; 4], &str)],
-) -> Result<bool, Fail>
-    requires { FitsTypes types.now table.old }
-{
+) -> Result<bool, Fail> {
+    let mut table = CoercionTable::new(alloc)?;
     for (path, text) in rows {
-        let shown = shown_path(alloc, table, types, labels, *path)?;
+        let shown = shown_path(alloc, &mut table, types, labels, *path)?;
         if shown.as_slice() != text.as_bytes() {
             return Ok(false);
         }
@@ -67,12 +64,8 @@ fn have_texts(
 
 #[test]
 fn compositions_have_texts(rt: HostRuntime) -> Result<(), Fail> {
-    let alloc = rt.alloc();
-    let types = eleven_types(alloc)?;
-    let mut labels = LabelTable::new(alloc);
-    labels.intern(Pos { line: 1, col: 1 })?;
-    labels.intern(Pos { line: 2, col: 1 })?;
-    let mut table = CoercionTable::new(alloc)?;
+    let types = table_of(rt.alloc(), ELEVEN_TYPES)?;
+    let labels = labels_of(rt.alloc(), &[1, 1])?;
     let rows = [
         ([0, 0, 2, 1], "(fail 2:1)"),
         ([2, 0, 2, 1], "(seq (project Int 1:1) (fail 2:1))"),
@@ -89,7 +82,7 @@ fn compositions_have_texts(rt: HostRuntime) -> Result<(), Fail> {
         ),
         ([0, 1, 2, 0], "(fail 1:1)"),
     ];
-    assert!(rt; have_texts(alloc, &mut table, &types, &labels, &rows)?);
+    assert!(rt; have_texts(rt.alloc(), &types, &labels, &rows)?);
     Ok(())
 }
 
@@ -111,26 +104,27 @@ fn compose_there(
     Ok(compose(alloc, table, types, c, d)?)
 }
 
+// The height of the composition of the casts from the first of these types to the second and from there to the third,
+// and how many nodes were made for it.
+fn composed(alloc: Global, types: &TypeTable, path: [TypeId; 3]) -> Result<(u32, u32), Fail> {
+    let [from, through, to] = path;
+    let mut table = CoercionTable::new(alloc)?;
+    let first = cast(alloc, &mut table, types, from, through, LabelId(0))?;
+    let second = cast(alloc, &mut table, types, through, to, LabelId(1))?;
+    let made = table.len();
+    let both = compose_there(alloc, &mut table, types, first, second)?;
+    Ok((table.height(both), table.len().saturating_sub(made)))
+}
+
 // References to references, 300 deep, whose coercions are met twice at each level.
 #[test]
 fn shared_coercions_take_few_nodes(rt: HostRuntime) -> Result<(), Fail> {
-    let alloc = rt.alloc();
-    let mut types = TypeTable::new(alloc)?;
-    let mut from = put(&mut types, Row::Int)?;
-    let mut through = put(&mut types, Row::Dyn)?;
-    let mut to = put(&mut types, Row::Bool)?;
-    for _ in 0..300 {
-        from = put(&mut types, Row::Ref(from))?;
-        through = put(&mut types, Row::Ref(through))?;
-        to = put(&mut types, Row::Ref(to))?;
-    }
-    let mut table = CoercionTable::new(alloc)?;
-    let first = cast(alloc, &mut table, &types, from, through, LabelId(0))?;
-    let second = cast(alloc, &mut table, &types, through, to, LabelId(1))?;
-    let made = table.len();
-    let both = compose_there(alloc, &mut table, &types, first, second)?;
-    assert_eq!(rt; table.height(both), 300);
-    assert!(rt; u64::from(table.len()) <= u64::from(made) + 8 * 300);
+    let mut types = table_of(rt.alloc(), &[Sample::Int, Sample::Dyn, Sample::Bool])?;
+    let from = nested_boxes(&mut types, TypeId(0))?;
+    let through = nested_boxes(&mut types, TypeId(1))?;
+    let to = nested_boxes(&mut types, TypeId(2))?;
+    let (height, nodes) = composed(rt.alloc(), &types, [from, through, to])?;
+    assert!(rt; height == 300 && nodes <= 8 * 300);
     Ok(())
 }
 
@@ -156,14 +150,8 @@ fn compose_alike(
 }
 
 // Whether so many random paths of four of the first eleven types compose alike.
-fn random_paths_compose_alike(
-    alloc: Global,
-    table: &mut CoercionTable,
-    types: &TypeTable,
-    paths: u32,
-) -> Result<bool, Fail>
-    requires { FitsTypes types.now table.old }
-{
+fn random_paths_compose_alike(alloc: Global, types: &TypeTable, paths: u32) -> Result<bool, Fail> {
+    let mut table = CoercionTable::new(alloc)?;
     let mut seed = 42u64;
     for _ in 0..paths {
         let mut path = [0u32; 4];
@@ -173,7 +161,7 @@ fn random_paths_compose_alike(
                 .wrapping_add(1_442_695_040_888_963_407);
             *place = ((seed >> 33) % 11) as u32;
         }
-        if !compose_alike(alloc, table, types, path)? {
+        if !compose_alike(alloc, &mut table, types, path)? {
             return Ok(false);
         }
     }
@@ -183,9 +171,7 @@ fn random_paths_compose_alike(
 // Nodes stand once, so that one coercion has one place, and one text.
 #[test]
 fn paths_compose_from_either_side(rt: HostRuntime) -> Result<(), Fail> {
-    let alloc = rt.alloc();
-    let types = eleven_types(alloc)?;
-    let mut table = CoercionTable::new(alloc)?;
-    assert!(rt; random_paths_compose_alike(alloc, &mut table, &types, 10_000)?);
+    let types = table_of(rt.alloc(), ELEVEN_TYPES)?;
+    assert!(rt; random_paths_compose_alike(rt.alloc(), &types, 10_000)?);
     Ok(())
 }

@@ -1,12 +1,11 @@
 // Types that are consistent, and their blends.
 
-use crate::samples::{function, put, tuple};
+use crate::samples::{Sample, table_of, tuple};
 use consistency::blends::blend;
 use consistency::checks::{consistent, same_head};
 use grift_base::places::TypeId;
 use std::alloc::Global;
 use std::test::Fail;
-use type_graph::rows::Row;
 use type_graph::tables::TypeTable;
 
 // Whether two types that are there are consistent, and whether they have one head.
@@ -29,27 +28,20 @@ fn blended(alloc: Global, types: &mut TypeTable, a: TypeId, b: TypeId) -> Result
 }
 
 // The types that the tests name by their places.
-fn sample(alloc: Global) -> Result<TypeTable, Fail> {
-    let mut types = TypeTable::new(alloc)?;
-    put(&mut types, Row::Int)?;
-    put(&mut types, Row::Bool)?;
-    put(&mut types, Row::Dyn)?;
-    put(&mut types, Row::Ref(INT))?;
-    put(&mut types, Row::Ref(DYN))?;
-    put(&mut types, Row::Vect(INT))?;
-    put_compound(alloc, &mut types)?;
-    Ok(types)
-}
-
-fn put_compound(alloc: Global, types: &mut TypeTable) -> Result<(), Fail> {
-    function(alloc, types, &[INT], DYN)?;
-    function(alloc, types, &[DYN], BOOL)?;
-    function(alloc, types, &[], INT)?;
-    tuple(alloc, types, &[INT, INT_BOX])?;
-    tuple(alloc, types, &[INT, DYN_BOX])?;
-    tuple(alloc, types, &[INT])?;
-    Ok(())
-}
+const SAMPLE: &[Sample] = &[
+    Sample::Int,
+    Sample::Bool,
+    Sample::Dyn,
+    Sample::Box(0),
+    Sample::Box(2),
+    Sample::Vector(0),
+    Sample::Function(0, 2),
+    Sample::Function(2, 1),
+    Sample::Thunk(0),
+    Sample::Pair(0, 3),
+    Sample::Pair(0, 4),
+    Sample::Single(0),
+];
 
 const INT: TypeId = TypeId(0);
 
@@ -77,7 +69,7 @@ const SINGLE: TypeId = TypeId(11);
 
 #[test]
 fn types_are_compared(rt: HostRuntime) -> Result<(), Fail> {
-    let types = sample(rt.alloc())?;
+    let types = table_of(rt.alloc(), SAMPLE)?;
     let table = [
         (INT, INT, true, true),
         (INT, BOOL, false, false),
@@ -104,7 +96,7 @@ fn types_are_compared(rt: HostRuntime) -> Result<(), Fail> {
 
 #[test]
 fn types_are_blended(rt: HostRuntime) -> Result<(), Fail> {
-    let mut types = sample(rt.alloc())?;
+    let mut types = table_of(rt.alloc(), SAMPLE)?;
     let table = [
         (INT, INT, INT),
         (INT, DYN, DYN),
@@ -132,16 +124,20 @@ fn pairs_of_pairs(alloc: Global, types: &mut TypeTable, part: TypeId) -> Result<
     Ok(pair)
 }
 
+// Whether such pairs of two types are consistent, and have a blend of forty rows more.
+fn pairs_are_blended(alloc: Global, types: &mut TypeTable) -> Result<bool, Fail> {
+    let first = pairs_of_pairs(alloc, types, FROM_INT)?;
+    let second = pairs_of_pairs(alloc, types, TO_BOOL)?;
+    let rows = types.len();
+    let related = compared(alloc, types, first, second)?;
+    let both = blended(alloc, types, first, second)?;
+    Ok(related == (true, true) && rows == 92 && types.len() == 133 && both == TypeId(132))
+}
+
 // Two types of forty shared rows each, which are trees of 2 to the 41 leaves.
 #[test]
 fn types_of_shared_rows_take_no_time(rt: HostRuntime) -> Result<(), Fail> {
-    let mut types = sample(rt.alloc())?;
-    let first = pairs_of_pairs(rt.alloc(), &mut types, FROM_INT)?;
-    let second = pairs_of_pairs(rt.alloc(), &mut types, TO_BOOL)?;
-    assert_eq!(rt; types.len(), 92);
-    assert_eq!(rt; compared(rt.alloc(), &types, first, second)?, (true, true));
-    let both = blended(rt.alloc(), &mut types, first, second)?;
-    assert_eq!(rt; types.len(), 133);
-    assert_eq!(rt; both, TypeId(132));
+    let mut types = table_of(rt.alloc(), SAMPLE)?;
+    assert!(rt; pairs_are_blended(rt.alloc(), &mut types)?);
     Ok(())
 }

@@ -1,6 +1,8 @@
 // Types as rows of a table.
 
-use crate::samples::{function, put, tuple};
+ghost use Rattle.std.specs.Prelude.{◌≤◌};
+
+use crate::samples::{Sample, function, put, table_of, tuple};
 use grift_base::places::TypeId;
 use std::alloc::Global;
 use std::test::Fail;
@@ -50,54 +52,61 @@ const PAIR_BOX: TypeId = TypeId(7);
 const VECTOR: TypeId = TypeId(8);
 
 // The types that the tests name by their places.
-fn sample(alloc: Global) -> Result<TypeTable, Fail> {
-    let mut types = TypeTable::new(alloc)?;
-    for row in [Row::Int, Row::Bool, Row::Unit, Row::Dyn] {
-        put(&mut types, row)?;
-    }
-    function(alloc, &mut types, &[], INT)?;
-    function(alloc, &mut types, &[DYN, THUNK], BOOL)?;
-    tuple(alloc, &mut types, &[FUNCTION, UNIT])?;
-    put(&mut types, Row::Ref(PAIR))?;
-    put(&mut types, Row::Vect(PAIR_BOX))?;
-    Ok(types)
+const SAMPLE: &[Sample] = &[
+    Sample::Int,
+    Sample::Bool,
+    Sample::Unit,
+    Sample::Dyn,
+    Sample::Thunk(0),
+    Sample::BinaryFunction(3, 4, 1),
+    Sample::Pair(5, 2),
+    Sample::Box(6),
+    Sample::Vector(7),
+];
+
+// The places of a row that is there, and of one that is not.
+fn places(alloc: Global, types: &TypeTable) -> Result<[Option<TypeId>; 2], Fail> {
+    let known = Row::Fun(ids(alloc, &[DYN, THUNK])?, BOOL);
+    Ok([types.place_of(&known), types.place_of(&Row::Ref(INT))])
+}
+
+// The places of two rows that are put again.
+fn put_again(alloc: Global, types: &mut TypeTable) -> Result<[TypeId; 2], Fail> {
+    let lone = put(types, Row::Dyn)?;
+    Ok([lone, function(alloc, types, &[DYN, THUNK], BOOL)?])
 }
 
 #[test]
 fn rows_stand_once_in_order_of_first_use(rt: HostRuntime) -> Result<(), Fail> {
-    let mut types = sample(rt.alloc())?;
-    let known = Row::Fun(ids(rt.alloc(), &[DYN, THUNK])?, BOOL);
-    assert_eq!(rt;
-        (types.place_of(&known), types.place_of(&Row::Ref(INT))),
-        (Some(FUNCTION), None)
-    );
-    let again = (put(&mut types, Row::Dyn)?, put(&mut types, known)?);
-    assert_eq!(rt; (again, types.len()), ((DYN, FUNCTION), 9));
+    let mut types = table_of(rt.alloc(), SAMPLE)?;
+    let places = places(rt.alloc(), &types)?;
+    let again = put_again(rt.alloc(), &mut types)?;
+    assert!(rt; places == [Some(FUNCTION), None] && again == [DYN, FUNCTION] && types.len() == 9);
     assert!(rt; *types.row(PAIR_BOX) == Row::Ref(PAIR));
-    assert_eq!(rt;
-        (types.same(PAIR, PAIR), types.same(PAIR, DYN)),
-        (true, false)
-    );
+    assert!(rt; types.same(PAIR, PAIR) && !types.same(PAIR, DYN));
     Ok(())
+}
+
+// Whether a function from so many types fits, and a tuple of so many.
+fn fit(alloc: Global, types: &TypeTable, count: usize) -> Result<[bool; 2], Fail>
+    requires { count ≤ 9 }
+{
+    let function = Row::Fun(ids(alloc, &[INT; 9][..count])?, INT);
+    let function_fits = types.fits(&function);
+    let tuple = Row::Tuple(ids(alloc, &[INT; 9][..count])?);
+    Ok([function_fits, types.fits(&tuple)])
 }
 
 #[test]
 fn rows_that_do_not_fit_are_told(rt: HostRuntime) -> Result<(), Fail> {
-    let types = sample(rt.alloc())?;
-    let nine = [INT; 9];
-    for (count, function_fits, tuple_fits) in [
-        (0, true, false),
-        (6, true, true),
-        (8, false, true),
-        (9, false, false),
+    let types = table_of(rt.alloc(), SAMPLE)?;
+    for (count, fitting) in [
+        (0, [true, false]),
+        (6, [true, true]),
+        (8, [false, true]),
+        (9, [false, false]),
     ] {
-        let function = Row::Fun(ids(rt.alloc(), &nine[..count])?, INT);
-        let tuple = Row::Tuple(ids(rt.alloc(), &nine[..count])?);
-        assert_eq!(rt;
-            (types.fits(&function), types.fits(&tuple)),
-            (function_fits, tuple_fits),
-            "{count}"
-        );
+        assert!(rt; fit(rt.alloc(), &types, count)? == fitting);
     }
     assert!(rt; !types.fits(&Row::Vect(TypeId(9))));
     Ok(())
@@ -105,7 +114,7 @@ fn rows_that_do_not_fit_are_told(rt: HostRuntime) -> Result<(), Fail> {
 
 #[test]
 fn types_are_written_and_measured(rt: HostRuntime) -> Result<(), Fail> {
-    let types = sample(rt.alloc())?;
+    let types = table_of(rt.alloc(), SAMPLE)?;
     let table = [
         (INT, "Int", 0, 1),
         (BOOL, "Bool", 0, 1),
@@ -134,8 +143,8 @@ fn types_are_written_and_measured(rt: HostRuntime) -> Result<(), Fail> {
 
 #[test]
 fn sizes_are_those_of_trees(rt: HostRuntime) -> Result<(), Fail> {
-    let mut types = TypeTable::new(rt.alloc())?;
-    let mut part = put(&mut types, Row::Int)?;
+    let mut types = table_of(rt.alloc(), &[Sample::Int])?;
+    let mut part = INT;
     for (height, size) in [(1, 9), (2, 73), (3, 585), (4, 1001), (5, 1001)] {
         part = tuple(rt.alloc(), &mut types, &[part; 8])?;
         assert_eq!(rt; measured(&types, part)?, (height, size));
