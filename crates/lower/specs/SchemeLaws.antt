@@ -183,11 +183,6 @@ module _ (meaning : Meaning) (setting : Setting) (l : Layout) (procs : List Proc
   Answers s most places objects base x number wraps t =
       Serves s most (Returns s places objects base) x number wraps t
 
-  -- of a state and a place of the numbered procedures with which it goes
-  pub record Moment (s : LowState) (number : ℕ) (places : List ℕ) (objects : List Object)
-      (store : FlatStore meaning.Cast) : Type 0 where
-    pub here : Here places objects store number (heap_of s)
-
   module _ (run : Served) where
     pub record CastsMade : Type 0 where
       pub proc : LowProc
