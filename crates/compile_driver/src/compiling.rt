@@ -5,7 +5,7 @@ ghost use Rattle.grift_base.specs.Sizes.{source_limit};
 ghost use Rattle.rv_machine.specs.Image.{IsImage};
 ghost use Rattle.core_calc.specs.Typing.{ProgramTermHasType};
 ghost use Rattle.core_calc.specs.Views.{term_of};
-ghost use Rattle.cast_insert.specs.Views.{entries_of};
+ghost use Rattle.cast_insert.specs.Views.{entries_of, entry_of};
 ghost use Rattle.front_end.specs.Placed.{IsPlaced, takes_no_input};
 ghost use Rattle.front_end.specs.Texts.{IsFault};
 ghost use Rattle.compile_driver.specs.Compiling.{FollowsProgram, HasProgram, IsTold, program_of};
@@ -54,16 +54,23 @@ fn are_words(words: &[u64])
     }
 }
 
-// Nothing to do: the number of each part of Dyn has 64 bits, and its label 32.
+// Nothing to do: the number of a part of Dyn has 64 bits, and its label 32.
+fn is_narrow(entry: CastEntry)
+    ensures { HasWords (entry_of entry) }
+{
+    if let CastEntry::Part { label, part } = entry {
+        let _label = label.0;
+        let _part = part;
+    }
+}
+
+// So it is of each part in a list.
 fn are_narrow(casts: &[CastEntry])
     ensures { All HasWords (entries_of casts.now) }
 {
     let mut left = casts;
     while let [entry, rest @ ..] = left {
-        if let CastEntry::Part { label, part } = *entry {
-            let _label = label.0;
-            let _part = part;
-        }
+        is_narrow(*entry);
         left = rest;
     }
 }
