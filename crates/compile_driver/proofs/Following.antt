@@ -6,19 +6,15 @@ use Rattle.std.specs.Prelude.{All}
 use Rattle.std.proofs.lemmas.List.{length-map}
 use Rattle.std.proofs.lemmas.List.Elements.{All-nil, All-cons, All-head, All-tail}
 use Rattle.grift_base.specs.Types.{TypeRow, TypeRows, row_at}
-use Rattle.grift_base.specs.declared.places.Pos.{Pos}
 use Rattle.grift_base.specs.declared.words.Statics.{Statics}
-use Rattle.run_laws.specs.Machines.{run}
-use Rattle.run_laws.specs.Runs.{Any, Follows, FollowsBy, NeverWrong}
+use Rattle.run_laws.specs.Runs.{Follows, NeverWrong}
 use Rattle.run_laws.proofs.Public.{follows_is_transitive, follows_of, follower_never_goes_wrong}
 use Rattle.rv_machine.specs.Memory.{first_address}
 use Rattle.rv_machine.specs.Image.{statics_len, code_len}
-use Rattle.rv_machine.specs.Mach.{mach, machine, ending_of}
-use Rattle.rv_machine.specs.Start.{IsRegionSize, IsStackSize, fresh_world, start_of}
-use Rattle.core_calc.specs.Terms.{Term}
+use Rattle.rv_machine.specs.Mach.{ending_of}
+use Rattle.rv_machine.specs.Start.{fresh_world, start_of}
 use Rattle.core_calc.specs.Calculus.{Program, calc}
 use Rattle.core_calc.specs.Typing.{ProgramTermHasType}
-use Rattle.coercion_norm.specs.AnswerTypes.{Told}
 use Rattle.coercion_norm.specs.MergedMode.{merging}
 use Rattle.coercion_norm.specs.Modes.{TypeCast, row_casts}
 use Rattle.coercion_norm.specs.CoercionTables.{cast_of}
@@ -39,11 +35,10 @@ use Rattle.closure_convert.specs.Programs.{HasNoFreeNames}
 use Rattle.closure_convert.proofs.Public.{procedures_follow_their_term-merged}
 use Rattle.closure_convert.proofs.Public.{procedures_of_program_terms_are_closed-names}
 use Rattle.low_ir.specs.Procedures.{Proc}
-use Rattle.low_ir.specs.Run.{low_machine, low_start}
 use Rattle.lower.specs.declared.served.Served.{Served}
 use Rattle.lower.specs.CoveredPrograms.{all_covered}
 use Rattle.lower.specs.Lowered.{low_proc, entry_proc, lowered}
-use Rattle.lower.specs.SimulationClaims.{AreNarrow, IsLowered}
+use Rattle.lower.specs.SimulationClaims.{AreNarrow}
 use Rattle.lower.specs.Serving.{all_narrow}
 use Rattle.lower.specs.Sets.{merged_numbers, merged_procs, with_casts}
 use Rattle.lower.proofs.Public.{words_follow_procedures-storage, procedures_are_narrow}

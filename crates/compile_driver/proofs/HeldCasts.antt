@@ -1,5 +1,5 @@
 -- The words that are handed on for casts hold their coercions.
-use Rattle.std.proofs.Common.{◌≡◌, ℕ, zero, suc, ◌<◌, ◌≤◌, ◌^◌, max, List, [], ◌∷◌, length, map, Option, Some, None}
+use Rattle.std.proofs.Common.{◌≡◌, ℕ, zero, suc, ◌<◌, ◌≤◌, ◌^◌, max, List, [], ◌∷◌, length, Some}
 use Rattle.std.proofs.Common.{refl}
 use Rattle.std.proofs.Common.{sym, ap, ◌∙◌, subst, slice_get, arith}
 use Rattle.std.specs.Prelude.{All, slice_index}
@@ -9,12 +9,12 @@ use Rattle.std.proofs.lemmas.List.Elements.{All-head, All-tail}
 use Rattle.grift_base.specs.Types.{TypeRows}
 use Rattle.grift_base.specs.declared.words.Statics.{Statics}
 use Rattle.type_graph.specs.Trees.{height}
-use Rattle.coercion_norm.specs.Coercions.{Coercion, rows_of}
+use Rattle.coercion_norm.specs.Coercions.{rows_of}
 use Rattle.coercion_norm.specs.CoercionTables.{cast_of}
 use Rattle.coercion_norm.specs.Heights.{AreHeights}
 use Rattle.coercion_norm.specs.Held.{Layout, Held}
 use Rattle.coercion_norm.specs.Modes.{TypeCast, row_cast, row_casts}
-use Rattle.coercion_norm.specs.Nodes.{Node, IsTree, tree_of}
+use Rattle.coercion_norm.specs.Nodes.{Node, IsTree}
 use Rattle.coercion_norm.specs.Statics.{AreStatics, layout_of}
 use Rattle.coercion_norm.specs.declared.cast_rows.CastRow.{CastRow}
 use Rattle.coercion_norm.proofs.Public.{coerce_no_higher, coerce_normal}

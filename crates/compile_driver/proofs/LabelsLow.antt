@@ -1,5 +1,5 @@
 -- The labels of a typed term are below the number of labels.
-use Rattle.std.proofs.Common.{ℕ, suc, ◌<◌, ◌≤◌, max, List, ◌++◌, arith}
+use Rattle.std.proofs.Common.{ℕ, suc, ◌≤◌, max, List, ◌++◌, arith}
 use Rattle.grift_base.specs.Types.{TypeRows}
 use Rattle.core_calc.specs.Terms.{Term, Terms, Members, Bindings, IntLit, BoolLit, UnitLit, Var, Lambda, Group, Let}
 use Rattle.core_calc.specs.Terms.{Call, Enter, If, Seq, Cast, Proj, ProjDyn, Tuple, Prim, ValueTerm, NoTerms, TermThen}

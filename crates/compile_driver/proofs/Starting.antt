@@ -1,22 +1,20 @@
 -- The image of a lowered program in its start state: where its procedures, its statics and its region are.
-use Rattle.std.proofs.Common.{◌≡◌, ℕ, zero, suc, ◌+◌, ◌*◌, ◌^◌, ◌<◌, ◌≤◌, List, [], ◌∷◌, ◌++◌, length, Option, Some}
+use Rattle.std.proofs.Common.{◌≡◌, ℕ, zero, suc, ◌+◌, ◌*◌, ◌^◌, ◌<◌, ◌≤◌, List, [], ◌∷◌, length, Option, Some}
 use Rattle.std.proofs.Common.{None, refl, sym, ap, ◌∙◌, subst, slice_get, append-nil, arith}
 use Rattle.std.specs.Prelude.{All}
 use Rattle.std.proofs.lemmas.List.Elements.{All-head, All-tail}
 use Rattle.std.proofs.lemmas.Option.{slice_get_within}
 use Rattle.std.proofs.lemmas.List.{length-append, length-replicate}
 use Rattle.grift_base.specs.World.{WorldState}
-use Rattle.grift_base.specs.Types.{TypeRow, TypeRows}
+use Rattle.grift_base.specs.Types.{TypeRows}
 use Rattle.grift_base.specs.declared.places.Pos.{Pos}
 use Rattle.grift_base.specs.declared.words.Statics.{Statics}
-use Rattle.rv_isa.specs.declared.real.RealItem.{RealItem}
-use Rattle.rv_machine.specs.Memory.{Memory, load_bytes, first_address}
+use Rattle.rv_machine.specs.Memory.{Memory, first_address}
 use Rattle.rv_machine.specs.Image.{statics_len, code_len}
 use Rattle.rv_machine.specs.State.{State}
 use Rattle.rv_machine.specs.Start.{start_of, IsRegionSize, IsStackSize}
 use Rattle.rv_machine.specs.Real.{mark_address}
 use Rattle.assembler.specs.Assembled.{item_address}
-use Rattle.assembler.specs.Following.{image_memory}
 use Rattle.low_ir.specs.Procedures.{Proc}
 use Rattle.low_ir.specs.Run.{Setting}
 use Rattle.rv_select.specs.Images.{IsImageOfWords, RunsIn, words_code, words_setting}
@@ -28,10 +26,7 @@ use Rattle.coercion_norm.specs.declared.cast_rows.CastRow.{CastRow}
 use Rattle.rt_cast.specs.Objects.{Holds, HoldsWords, HasWord}
 use Rattle.rt_cast.specs.States.{Placed}
 use Rattle.rt_cast.proofs.Public.{objects_stand_where_their_words_do}
-use Rattle.flat_ir.specs.Bodies.{Proc as FlatProc}
-use Rattle.lower.specs.declared.served.Served.{Served}
-use Rattle.lower.specs.Lowered.{lowered}
-use Rattle.lower.specs.SimulationClaims.{AreCodeAddresses, IsLowered}
+use Rattle.lower.specs.SimulationClaims.{AreCodeAddresses}
 
 -- ---- code addresses
 

@@ -1,5 +1,5 @@
 -- Parts of what Dyn holds, whose numbers and labels are handed on as words.
-use Rattle.std.specs.Prelude.{ℕ, ◌<◌, ◌^◌}
+use Rattle.std.specs.Prelude.{◌<◌, ◌^◌}
 use Rattle.std.specs.Int.{w64}
 use Rattle.std.specs.Int.RustNames.{FitsSigned}
 use Rattle.cast_insert.specs.Making.{Entry, CastFrom, PartOf}
