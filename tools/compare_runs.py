@@ -1,14 +1,17 @@
 #!/usr/bin/env python3
-"""Compares `grift run` with the interpreter in calculus.py, over the files of a folder or over random programs.
+"""Compares `grift run` with the calculus, over the files of a folder or over random programs.
 
-Usage: tools/compare_runs.py PROGRAM FOLDER
-       tools/compare_runs.py PROGRAM COUNT [SEED]
+Usage: tools/compare_runs.py [--model] PROGRAM FOLDER
+       tools/compare_runs.py [--model] [--piles] PROGRAM COUNT [SEED]
 
-PROGRAM is the built program, as crates/grift/out/grift. Of a folder each file that ends by .grift is compared; the
-random programs are those of the seeds from SEED, or 0, on. Both have to print the same and to end by the same line.
-Where region, stack or steps end first, or the interpreter's turns do, what the one has printed has to be a beginning of
-what the other has. Texts that differ are shown with both ends, and the status is 1.
+PROGRAM is the built program, as crates/grift/out/grift. The calculus is that of the interpreter in calculus.py, and
+under --model that of `grift model`; both make casts one by one. Of a folder each file that ends by .grift is compared;
+the random programs are those of the seeds from SEED, or 0, on, under --piles those in which loops cast a function, a box
+and a vector. Both runs have to print the same and to end by the same line. Where region, stack or steps end first, or
+the calculus's steps do, what the one has printed has to be a beginning of what the other has. Texts that differ are
+shown with both ends, and the status is 1.
 """
+import argparse
 import collections
 import pathlib
 import subprocess
@@ -27,13 +30,20 @@ JOBS = 4
 CUT_OFF = ("exhausted", "spent")
 
 
-def compiled_run(program, text):
-    """What a text prints and its last line, by the program."""
+def printed(program, command, text, options):
+    """What a text prints and its last line, by a command of the program."""
     with tempfile.NamedTemporaryFile("w", suffix=".grift") as file:
         file.write(text)
         file.flush()
-        done = subprocess.run([program, "run", file.name, *LIMITS], capture_output=True, text=True)
+        done = subprocess.run([program, command, file.name, *options], capture_output=True, text=True)
     return done.stdout, done.stderr.strip()
+
+
+def calculus(words, text):
+    """What a text prints in the calculus, and its last line."""
+    if words.model:
+        return printed(words.program, "model", text, ["--steps", str(TURNS)])
+    return run_text(text, TURNS)
 
 
 def agree(ours, theirs):
@@ -43,9 +53,9 @@ def agree(ours, theirs):
     return ours == theirs
 
 
-def compared(program, name, text):
+def compared(words, name, text):
     """The kind of the run's end, or None where both differ, which is then told."""
-    ours, theirs = compiled_run(program, text), run_text(text, TURNS)
+    ours, theirs = printed(words.program, "run", text, LIMITS), calculus(words, text)
     if not agree(ours, theirs):
         print(f"{name}:\n{text}grift run: {ours}\ncalculus: {theirs}", flush=True)
         return None
@@ -54,18 +64,23 @@ def compared(program, name, text):
 
 def texts(words):
     """The names and texts to compare."""
-    if not words[0].isdigit():
-        return [(path.name, path.read_text()) for path in sorted(pathlib.Path(words[0]).glob("*.grift"))]
-    first = int(words[1]) if len(words) > 1 else 0
-    return [(f"seed {seed}", Programs(seed).program()) for seed in range(first, first + int(words[0]))]
+    if not words.of.isdigit():
+        return [(path.name, path.read_text()) for path in sorted(pathlib.Path(words.of).glob("*.grift"))]
+    made = Programs.piles if words.piles else Programs.program
+    return [(f"seed {seed}", made(Programs(seed))) for seed in range(words.seed, words.seed + int(words.of))]
 
 
 def main():
-    if len(sys.argv) not in (3, 4):
-        sys.exit(__doc__)
-    cases = texts(sys.argv[2:])
+    parser = argparse.ArgumentParser(description=__doc__, formatter_class=argparse.RawDescriptionHelpFormatter)
+    parser.add_argument("--model", action="store_true")
+    parser.add_argument("--piles", action="store_true")
+    parser.add_argument("program")
+    parser.add_argument("of", metavar="FOLDER|COUNT")
+    parser.add_argument("seed", type=int, nargs="?", default=0)
+    words = parser.parse_args()
+    cases = texts(words)
     with ThreadPoolExecutor(JOBS) as pool:
-        kinds = collections.Counter(pool.map(lambda case: compared(sys.argv[1], *case), cases))
+        kinds = collections.Counter(pool.map(lambda case: compared(words, *case), cases))
     differ = kinds.pop(None, 0)
     print(f"{len(cases)} programs, {differ} differ;", ", ".join(f"{kind} {count}" for kind, count in kinds.items()))
     return 1 if differ else 0

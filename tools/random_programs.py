@@ -1,7 +1,10 @@
 #!/usr/bin/env python3
 """Random programs of the whole language.
 
-Usage: tools/random_programs.py SEED
+Usage: tools/random_programs.py [--piles] SEED
+
+With --piles it is a program in which one function, one box and one vector go back and forth between types in loops, and
+are used behind that.
 
 A type here is written as in calculus.py. Each expression is made for two types: the static one, and a precise one below
 it, which says what is expected inside of Dyn. So most casts go well, and a few are made to fail.
@@ -296,6 +299,11 @@ class Programs:
 
     def wrapped_deep(self, kind, inside, scope, depth):
         """A value that goes back and forth between types in a loop of tail calls."""
+        start = self.loose(inside, scope, depth - 1)
+        return self.cast_in_a_loop(kind, inside, start, self.random.choice([0, 1, 2, 5, 40]))
+
+    def cast_in_a_loop(self, kind, inside, start, turns):
+        """What a value comes to that goes back and forth between types in a loop of tail calls."""
         loop, count, value = self.name("f"), self.name("n"), self.name("w")
         through = value
         for _ in range(self.random.choice([1, 1, 2, 3])):
@@ -305,9 +313,7 @@ class Programs:
         function = (
             f"(lambda ([{count} : Int] [{value} : {written(kind)}]) : {result} (if (= {count} 0) {value} {again}))"
         )
-        start = self.loose(inside, scope, depth - 1)
-        call = f"({loop} {self.random.choice([0, 1, 2, 5, 40])} {start})"
-        return f"(: (letrec ([{loop} {function}]) {call}) {written(kind)})"
+        return f"(: (letrec ([{loop} {function}]) ({loop} {turns} {start})) {written(kind)})"
 
     def looping(self, kind, inside, scope, depth):
         """Two functions that call each other in tail position, through types of their own."""
@@ -326,6 +332,54 @@ class Programs:
             else:
                 bindings.append(f"[{name} {function}]")
         return f"(: (letrec ({' '.join(bindings)}) ({one} {self.random.randrange(5)})) {written(kind)})"
+
+    # -- piles of casts
+
+    def piled(self, inside, scope, lines):
+        """Defines a value that a loop casts, and gives it another time at another type, beside the first."""
+        base, piled, kind = self.name("b"), self.name("d"), self.blurred(inside)
+        self.size = 0
+        lines.append(f"(define {base} {self.plain(inside, inside, scope, 2)})")
+        looped = self.cast_in_a_loop(kind, inside, base, self.random.choice([1, 2, 3, 10, 100, 300]))
+        lines.append(f"(define {piled} : {written(kind)} {looped})")
+        scope += [(base, inside, inside), (piled, kind, inside)]
+        return base, piled
+
+    def used_function(self, name, inside, scope):
+        """A call of a function, what it answers being printed where it is expected to be an integer."""
+        arguments = [self.loose(param, scope, 1) for param in inside[1]]
+        if self.chance(self.mischief):
+            arguments = [self.exact("Dyn", self.changed(param), scope, 1) for param in inside[1]]
+        call = f"({' '.join([name] + arguments)})"
+        return f"(print-int {call})" if inside[2] == "Int" else call
+
+    def used_cell(self, name, inside, scope):
+        """A write to a box or a vector, and a read of it."""
+        value = self.loose(inside[1], scope, 1)
+        if self.chance(self.mischief):
+            value = self.exact("Dyn", self.changed(inside[1]), scope, 1)
+        if inside[0] == "Ref":
+            write, read = f"(box-set! {name} {value})", f"(unbox {name})"
+        else:
+            index = self.random.choice(["0", "0", "0", "1"])
+            write, read = f"(vector-set! {name} {index} {value})", f"(vector-ref {name} {index})"
+        return f"{write}\n(print-int {read})" if inside[1] == "Int" else f"{write}\n{read}"
+
+    def piles(self):
+        """The text of a program with one function, one box and one vector that loops cast, each used at both its names."""
+        scope, lines = [], []
+        params = tuple(self.precise(1) for _ in range(self.random.choice([1, 1, 2, 3])))
+        function = ("Fun", params, self.random.choice(["Int", self.precise(1)]))
+        shapes = [function, ("Ref", self.random.choice(["Int", function])), ("Vect", self.precise(1))]
+        self.random.shuffle(shapes)
+        for inside in shapes:
+            use = self.used_function if inside[0] == "Fun" else self.used_cell
+            for name in self.piled(inside, scope, lines):
+                self.size = 0
+                lines.append(use(name, inside, scope))
+        self.size = 0
+        lines.append(self.loose("Int", scope, 3))
+        return "\n".join(lines) + "\n"
 
     # -- programs
 
@@ -367,9 +421,12 @@ class Programs:
 
 
 def main():
-    if len(sys.argv) != 2:
+    words = sys.argv[1:]
+    has_piles = words[:1] == ["--piles"]
+    if len(words) != 1 + has_piles:
         sys.exit(__doc__)
-    print(Programs(int(sys.argv[1])).program(), end="")
+    programs = Programs(int(words[-1]))
+    print(programs.piles() if has_piles else programs.program(), end="")
 
 
 if __name__ == "__main__":
