@@ -13,7 +13,7 @@ use rv_emulator::machine::Machine;
 use rv_emulator::stops::Stop;
 use rv_isa::number::Reg;
 use rv_machine::FIRST_ADDRESS;
-use rv_select::images::image_of;
+use rv_slots::images::image_of;
 use std::alloc::Global;
 use std::test::Fail;
 

@@ -42,7 +42,7 @@ use Rattle.lower.specs.SimulationClaims.{AreNarrow}
 use Rattle.lower.specs.Serving.{all_narrow}
 use Rattle.lower.specs.Sets.{merged_numbers, merged_procs, with_casts}
 use Rattle.lower.proofs.Public.{words_follow_procedures-storage, procedures_are_narrow}
-use Rattle.rv_select.specs.Images.{IsImageOfWords}
+use Rattle.rv_slots.specs.Images.{IsImageOfWords}
 use Rattle.compile_driver.specs.Compiling.{FollowsProgram}
 use Rattle.compile_driver.proofs.HeldCasts.{casts_held, tallest_low}
 use Rattle.compile_driver.proofs.Starting.{told, setting, layout, runs_in, code_addresses, are_placed}

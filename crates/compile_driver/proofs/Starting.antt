@@ -17,7 +17,7 @@ use Rattle.rv_machine.specs.Real.{mark_address}
 use Rattle.assembler.specs.Assembled.{item_address}
 use Rattle.low_ir.specs.Procedures.{Proc}
 use Rattle.low_ir.specs.Run.{Setting}
-use Rattle.rv_select.specs.Images.{IsImageOfWords, RunsIn, words_code, words_setting}
+use Rattle.rv_slots.specs.Images.{IsImageOfWords, RunsIn, words_code, words_setting}
 use Rattle.coercion_norm.specs.Nodes.{Node}
 use Rattle.coercion_norm.specs.Objects.{Object, Fixed, Cell, bytes_of, bytes_of_all, words_of, words_of_all}
 use Rattle.coercion_norm.specs.Held.{Layout}

@@ -21,7 +21,7 @@ use front_end::elaborate_text;
 use grift_base::lists::OutOfMemory;
 use grift_base::refusals::FrontFault;
 use lower::merged::lower;
-use rv_select::images::image_of;
+use rv_slots::images::image_of;
 use std::alloc::Global;
 use type_graph::tables::TypeTable;
 

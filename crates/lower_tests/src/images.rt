@@ -15,7 +15,7 @@ use lower::served::Served;
 use rv_emulator::flat::FlatRam;
 use rv_emulator::machine::Machine;
 use rv_emulator::stops::Stop;
-use rv_select::images::image_of;
+use rv_slots::images::image_of;
 use std::alloc::Global;
 use type_graph::rows::Row;
 

@@ -1,4 +1,7 @@
 -- What other crates may cite. What a clause says has the clause's name.
-pub use Rattle.rv_select.proofs.StackSizes.{frames_fill_no_more_than_the_largest-bytes}
+pub use Rattle.rv_select.proofs.StackSizes.{frames_fill_no_more_than_the_largest-bytes, stack_held}
 pub use Rattle.rv_select.proofs.WordCounts.{frames_go_by_the_size_of_code}
 pub use Rattle.rv_select.proofs.Spared.{calls_spare_what_is_known_behind_them}
+-- steps of a machine that come to a state within a budget
+pub use Rattle.rv_select.proofs.Bounded.{DoesWithin, within}
+pub use Rattle.rv_select.proofs.Closedness.{closed_entry}

@@ -5,7 +5,7 @@ use Rattle.std.proofs.Common.{length, refl, sym, ◌∙◌, ap, subst, arith, le
 use Rattle.std.specs.Prelude.{◌==◌, nat_lt, if◌then◌else◌}
 use Rattle.low_ir.specs.Procedures.{Code, Done, Set, Compute, Load, Store, CodeOf, Build, Request, Take, Environment}
 use Rattle.low_ir.specs.Procedures.{Call, CallAt, If, Return, TailCall, TailCallAt, Proc}
-use Rattle.rv_select.specs.Slots.{frame_size}
+use Rattle.rv_select.specs.Stacks.{frame_size}
 use Rattle.rv_select.specs.CodeSizes.{code_size, sets_word}
 
 abbrev has : ℕ → List ℕ → Bool

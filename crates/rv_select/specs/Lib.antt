@@ -1,10 +1,7 @@
 pub mod Run
 pub mod Fitting
 pub mod Holding
-pub mod Slots
 pub mod Stacks
-pub mod Slotted
-pub mod Images
 pub mod Marks
 pub mod WellFormed
 pub mod Sizes

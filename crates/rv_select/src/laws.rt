@@ -13,7 +13,7 @@ ghost use Rattle.rv_select.specs.declared.code.Place.TheVariants.{InReg};
 ghost use Rattle.rv_select.specs.declared.code.VReg.TheVariants.{Real};
 ghost use Rattle.rv_select.specs.Run.{Setting as VirtualSetting, VirtualState, may_read, value, back_to};
 ghost use Rattle.rv_select.specs.Holding.{SparedByCall};
-ghost use Rattle.rv_select.specs.Slots.{frame_size};
+ghost use Rattle.rv_select.specs.Stacks.{frame_size};
 ghost use Rattle.rv_select.specs.Stacks.{frames_size};
 ghost use Rattle.rv_select.specs.CodeSizes.{code_size, sets_word};
 

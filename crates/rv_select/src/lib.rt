@@ -3,9 +3,6 @@
 #![tactic(auto)]
 
 pub mod code;
-pub mod images;
 pub mod laws;
 mod parts;
 pub mod selection;
-mod slot_parts;
-pub mod slots;

@@ -15,7 +15,7 @@ use rv_emulator::flat::FlatRam;
 use rv_emulator::machine::Machine;
 use rv_emulator::stops::Stop;
 use rv_isa::inst::Cond;
-use rv_select::images::image_of;
+use rv_slots::images::image_of;
 use std::alloc::Global;
 
 // The one label of the programs.

@@ -19,7 +19,7 @@ use rt_refs::cells::{read_proc, write_proc};
 use rt_refs::fills::{fill_loop, fill_proc};
 use rt_refs::procs::proxy_procs;
 use rv_emulator::stops::Stop;
-use rv_select::images::image_of;
+use rv_slots::images::image_of;
 use std::alloc::Global;
 use std::test::Fail;
 

@@ -1,0 +1,148 @@
+-- What the code with slots is to the virtual code that it comes from.
+use Rattle.std.specs.Prelude.{ℕ, suc, ◌+◌, ◌-◌, ◌%◌, ◌^◌, ◌<◌, ◌≤◌, ◌≡◌, max, false, List, [], ◌∷◌}
+use Rattle.std.specs.Prelude.{Some, slice_get, All, Contains}
+use Rattle.grift_base.specs.declared.verdicts.Verdict.{Verdict}
+use Rattle.run_laws.specs.Runs.{Ending, Exhausted, NeverWrong, FollowsBy, Any}
+use Rattle.run_laws.specs.Machines.{Machine, run}
+use Rattle.run_laws.specs.Meters.{unspent, metered, each_one, Spends, OfRest}
+use Rattle.rv_isa.specs.declared.real.RealItem.{RealItem}
+use Rattle.rv_isa.specs.declared.real.RealItem.TheVariants.{Mark as RealMark}
+use Rattle.rv_machine.specs.Memory.{first_address}
+use Rattle.rv_machine.specs.State.{Layout, State, Halt, Lacks, Stack}
+use Rattle.rv_machine.specs.Mach.{IsReading}
+use Rattle.rv_machine.specs.Turn.{call_environment}
+use Rattle.rv_machine.specs.Real.{Setting as RealSetting, AreAddresses, is_mark, address_from, mark_address}
+use Rattle.rv_machine.specs.Real.{real_machine}
+use Rattle.assembler.specs.Conditions.{registers_named, CanBeAssembled}
+use Rattle.rv_select.specs.declared.code.VirtualItem.{VirtualItem}
+use Rattle.rv_select.specs.declared.code.VirtualItem.TheVariants.{Procedure}
+use Rattle.rv_select.specs.Run.{Setting, VirtualState, Shown, virtual_machine, virtual_start}
+use Rattle.rv_select.specs.Marks.{marks, Distinct}
+use Rattle.rv_select.specs.WellFormed.{IsWellFormed}
+use Rattle.rv_slots.specs.Slots.{slots_items}
+use Rattle.rv_select.specs.Stacks.{stacked_machine, frames_size}
+
+-- ---- the mark where the stack lacks room
+
+-- the least number above some numbers, and not below a number
+abbrev pub above : ℕ → List ℕ → ℕ
+above n [] = n
+above n (m ∷ ms) = above (max n (suc m)) ms
+
+-- a mark that no item has
+abbrev pub free_mark : List VirtualItem → ℕ
+free_mark items = above 0 (marks items)
+
+-- ---- sizes of frames
+
+-- a procedure has fewer than 2^32 registers
+abbrev pub HasFew : VirtualItem → Type 0
+HasFew (Procedure k first count) = count < 2 ^ 32
+HasFew item = Unit {0}
+
+abbrev pub EachHasFew : List VirtualItem → Type 0
+EachHasFew [] = Unit {0}
+EachHasFew (item ∷ items) = HasFew item × EachHasFew items
+
+-- ---- where a code with slots runs
+
+-- how memory lies: the region ends here, and the stack fills the rest
+pub record Lies (layout : Layout) (top : ℕ) : Type 0 where
+  pub base : first_address ≤ layout.region
+  pub region : layout.region ≤ top
+  pub stack : top ≤ layout.end
+  pub aligned : top % 8 ≡ 0
+  pub small : layout.end < 2 ^ 62
+  pub end_aligned : layout.end % 8 ≡ 0
+
+-- the machine starts in this state: x25 is the stack's low end and x2 its high one, and the virtual run is told the
+-- address of the mark of each procedure
+pub record Starts (items : List VirtualItem) (code : List RealItem) (setting : RealSetting) (told : ℕ → ℕ)
+    (s : State) : Type 0 where
+  pub addresses : AreAddresses code setting.address
+  -- an ECALL calls the environment; what an EBREAK does is free
+  pub calls : (place : ℕ) (t : State) → setting.ecall place t ≡ call_environment t
+  pub tells : (place k first count at : ℕ) → slice_get items place ≡ Some (Procedure k first count)
+      → mark_address setting.address code k ≡ Some at → told k ≡ at
+  pub lies : Lies s.layout (s.regs 25)
+  pub pc : address_from setting.address 0 code ≡ Some s.pc
+  pub stack : s.regs 2 ≡ s.layout.end
+  pub fits : (r : ℕ) → s.regs r < 2 ^ 64
+  pub bytes : (at : ℕ) → s.memory at < 256
+
+-- what the virtual run is told there
+abbrev pub setting_in : List VirtualItem → (ℕ → ℕ) → State → Setting
+setting_in items told s = record {
+  items = items;
+  address = told;
+  labels = s.layout.labels;
+  region = s.layout.region;
+  top = s.regs 25;
+}
+
+-- the bytes of the stack
+abbrev pub room_in : State → ℕ
+room_in s = s.layout.end - s.regs 25
+
+abbrev pub start_in : State → VirtualState
+start_in s = virtual_start s.regs s.memory s.world
+
+-- ---- the claims
+
+-- the machine's state is seen as what the virtual run shows: the memory below a bound, the region's end, and three
+-- registers. x2 isn't below that end, and from it to the stack's end there are no more bytes than the frames of the
+-- active procedures have
+pub record IsSeenAs (bound : ℕ) (s : State) (shown : Shown) : Type 0 where
+  pub memory : (at : ℕ) → at < bound → s.memory at ≡ shown.memory at
+  pub stack : s.regs 25 ≡ shown.stack
+  pub alloc : s.regs 26 ≡ shown.alloc
+  pub top : s.regs 27 ≡ shown.top
+  pub above : bound ≤ s.regs 2
+  pub used : s.layout.end ≤ s.regs 2 + frames_size shown.frames shown.held
+
+-- from a state on the machine follows a virtual run, and takes at most so many turns for each of its items
+pub record FollowsVirtual {V : Type 0} (rate : ℕ) (X : Machine State State V) (Y : Machine VirtualState Shown V)
+    (s : State) : Type 0 where
+  pub follows : FollowsBy (IsSeenAs (s.regs 25)) Any (run X s) (run Y (start_in s))
+  pub turns : FollowsBy (OfRest (IsSeenAs (s.regs 25))) (Spends rate) (run (metered each_one X) (unspent s))
+      (run (metered each_one Y) (unspent (start_in s)))
+
+-- however stops are read, the machine follows the virtual run in a stack of so many bytes: so it stops for want of
+-- stack only where that does
+abbrev pub DoesInStack : {V : Type 0} → (Halt → Ending V) → List VirtualItem → List RealItem → Type 0
+DoesInStack reading items code =
+    IsReading reading → (setting : RealSetting) (told : ℕ → ℕ) (s : State) → Starts items code setting told s
+    → NeverWrong (run (virtual_machine reading (setting_in items told s)) (start_in s))
+    → FollowsVirtual 43 (real_machine reading code setting)
+    (stacked_machine reading (setting_in items told s) (room_in s)) s
+
+-- where want of stack is read as exhausted, the machine follows the virtual run that has no bound on its stack
+abbrev pub DoesAsVirtual : {V : Type 0} → (Halt → Ending V) → List VirtualItem → List RealItem → Type 0
+DoesAsVirtual reading items code =
+    reading (Lacks Stack) ≡ Exhausted → (setting : RealSetting) (told : ℕ → ℕ) (s : State)
+    → Starts items code setting told s
+    → NeverWrong (run (virtual_machine reading (setting_in items told s)) (start_in s))
+    → FollowsVirtual 43 (real_machine reading code setting) (virtual_machine reading (setting_in items told s)) s
+
+-- x30 and x31 are named by no item
+abbrev pub SparesLast : RealItem → Type 0
+SparesLast item = ¬ Contains (registers_named item) 30 × ¬ Contains (registers_named item) 31
+
+-- an item that isn't a mark stands right behind the mark of each procedure
+abbrev pub ProceduresBegin : List VirtualItem → List RealItem → Type 0
+ProceduresBegin items code =
+    (place k first count at : ℕ) → slice_get items place ≡ Some (Procedure k first count)
+    → slice_get code at ≡ Some (RealMark k)
+    → (x : RealItem) × (slice_get code (suc at) ≡ Some x) × (is_mark x ≡ false)
+
+-- the code with slots of a virtual code
+pub record IsSlotsOf (items : List VirtualItem) (code : List RealItem) : Type 0 where
+  -- what it is
+  pub exactly : code ≡ slots_items (free_mark items) items
+  -- what it keeps to, where the virtual code is well-formed
+  pub assembles : IsWellFormed items → CanBeAssembled code
+  pub spares : IsWellFormed items → All SparesLast code
+  pub begins : IsWellFormed items → ProceduresBegin items code
+  -- what it does, however stops are read as endings, where no mark stands twice in the virtual code
+  pub in_stack : Distinct (marks items) → (reading : Halt → Ending Verdict) → DoesInStack reading items code
+  pub follows : Distinct (marks items) → (reading : Halt → Ending Verdict) → DoesAsVirtual reading items code
