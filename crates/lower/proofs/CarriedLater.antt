@@ -1,5 +1,5 @@
 -- What is carried stays carried as objects are added, and what the parts of a carried value are.
-use Rattle.std.proofs.Common.{◌≡◌, inr, ℕ, zero, suc, ◌+◌, ◌*◌, ◌^◌, ◌<◌, true, false}
+use Rattle.std.proofs.Common.{Option, None, ◌≡◌, inr, ℕ, zero, suc, ◌+◌, ◌*◌, ◌^◌, ◌<◌, true, false}
 use Rattle.std.proofs.Common.{List, [], ◌∷◌, ◌++◌, length, Some, refl, sym, ap}
 use Rattle.std.proofs.Common.{subst, arith}
 use Rattle.std.specs.Prelude.{slice_get, FitsSigned}
@@ -11,9 +11,11 @@ use Rattle.low_ir.specs.Run.{Setting}
 use Rattle.coercion_norm.specs.RunValues.{RunInt, RunBool, RunUnit, RunFun, RunTuple, RunLoc, RunWrap, RunInject}
 use Rattle.coercion_norm.specs.RunValues.{NoRunValues, RunValueThen, in_row, row_list}
 use Rattle.coercion_norm.specs.Objects.{Object, Fixed, Cell}
-use Rattle.coercion_norm.specs.Held.{Layout, There}
+use Rattle.coercion_norm.specs.Held.{rows_in, Layout, There}
 use Rattle.rt_cast.specs.States.{Placed}
 use Rattle.rt_cast.specs.States.{Heap}
+use Rattle.rt_cast.specs.DynWords.{small_dyn, IsDynBy, IsDyn}
+use Rattle.rt_cast.proofs.Public.{dyn_still, small_fits}
 use Rattle.lower.specs.Storage.{Filled}
 use Rattle.flat_ir.specs.Bodies.{Proc}
 use Rattle.flat_ir.specs.Machine.{FlatValue, FlatValues, FlatStore, or_unit}
@@ -74,12 +76,10 @@ module _ (l : Layout) (address : ℕ → ℕ) (procs : List Proc) (meaning : Mea
       grown (RunInject v keeps) casts w c =
           bare_grown casts w (λ x p. (
             p.0,
-            p.1,
-            there_later l objects more x _ p.2,
-            record { known = p.3.known; is = p.3.is },
-            p.4,
-            p.5,
-            grown v [] p.1 p.6,
+            dyn_still l objects (objects ++ more) (record { more = more; is = refl }) keeps p.0 x p.1,
+            p.2,
+            p.3,
+            grown v [] p.0 p.4,
           )) c
 
       pub all_grown : (vs : FlatValues meaning.Cast) (ws : List ℕ)
@@ -207,6 +207,14 @@ module _ (l : Layout) (address : ℕ → ℕ) (procs : List Proc) (meaning : Mea
       bare_small [] w f u = f w u
       bare_small (cast ∷ casts) w f u = absurd u
 
+      -- a word in Dyn, which stands behind a tag or is an address
+      dyn_small : (kept x w : ℕ) → IsDyn l objects kept x w → w < 2 ^ 64
+      dyn_small kept x w d = by (small_dyn (rows_in l kept) x) refl d
+        where
+          by : (o : Option ℕ) → small_dyn (rows_in l kept) x ≡ o → IsDynBy l objects o kept x w → w < 2 ^ 64
+          by (Some small) e h = subst (λ n. n < 2 ^ 64) (sym h.0) (small_fits (rows_in l kept) x small e)
+          by None e h = there_small w _ h.1
+
       carried_in_small : (v : FlatValue meaning.Cast) (casts : List meaning.Cast) (w : ℕ)
           → CarriedIn l address procs meaning places objects v casts w → w < 2 ^ 64
       carried_in_small (RunInt n) casts w c =
@@ -221,7 +229,7 @@ module _ (l : Layout) (address : ℕ → ℕ) (procs : List Proc) (meaning : Mea
       carried_in_small (RunTuple values) casts w c = under_small casts w (λ x p. there_small x _ p.1) c
       carried_in_small (RunLoc cell is_vector) casts w c = under_small casts w (λ x p. there_small x _ p.2) c
       carried_in_small (RunWrap v cast) casts w c = carried_in_small v (cast ∷ casts) w c
-      carried_in_small (RunInject v kept) casts w c = bare_small casts w (λ x p. there_small x _ p.2) c
+      carried_in_small (RunInject v kept) casts w c = bare_small casts w (λ x p. dyn_small kept p.0 x p.1) c
 
       pub carried_small : (v : FlatValue meaning.Cast) (w : ℕ) → C v w → w < 2 ^ 64
       carried_small v w c = carried_in_small v [] w c

@@ -200,11 +200,7 @@ module _ (setting : Setting) (l : Layout) (procs : List Proc) (places : List ℕ
     like_of (RunWrap v cast) w c =
         let z = like_wrapped v cast [] w c in (Proxied z.1 cast, (z.1, refl, z.2, z.4), z.3)
     like_of (RunInject v kept) w c =
-        let z = like_of v c.1 c.6 in (
-          InDyn kept z.0,
-          (z.0, refl, c.5, z.1),
-          (c.0, c.1, c.2, record { known = c.3.known; is = c.3.is }, c.4, c.5, z.2),
-        )
+        let z = like_of v c.0 c.4 in (InDyn kept z.0, (z.0, refl, c.3, z.1), (c.0, c.1, c.2, c.3, z.2))
 
   -- ---- and back
 
@@ -279,15 +275,8 @@ module _ (setting : Setting) (l : Layout) (procs : List Proc) (places : List ℕ
   like_back more (RunWrap v cast) m k w b =
       back_wrapped more v cast k.0 w k.2 k.3 (subst (λ z. Carries l (objects ++ more) z w) k.1 b)
   like_back more (RunInject v kept) m k w b =
-      let c = subst (λ z. Carries l (objects ++ more) z w) k.1 b in (
-        c.0,
-        c.1,
-        c.2,
-        record { known = c.3.known; is = c.3.is },
-        c.4,
-        c.5,
-        like_back more v k.0 k.3 c.1 c.6,
-      )
+      let c = subst (λ z. Carries l (objects ++ more) z w) k.1 b in
+      (c.0, c.1, c.2, c.3, like_back more v k.0 k.3 c.0 c.4)
 
   -- ---- parts of tuples
 

@@ -413,11 +413,11 @@ module _ (setting : Setting) (l : Layout) (procs : List Proc) (casts : List Type
           part label base) number 0
           (entered s (project_proc first) (w ∷ cast_unsigned w64 part % 2 ^ 64 ∷ 0 ∷ label ∷ []))
       by_sign (pos k) fits =
-          by_part u kept z.1.0 w whole.1 z.1.3 whole.6 whole k label (k % 2 ^ 64)
+          by_part u kept z.1.0 w whole.0 z.1.3 whole.4 whole k label (k % 2 ^ 64)
           (mod-eq_of_lt (word_small (pos k) fits))
           (kept_part (λ from p to. cast_of l.types from to p) l.types (row_at l.types kept) (pos k) label) refl
       by_sign (negsuc n) fits =
-          by_row u kept z.1.0 w whole.1 z.1.3 whole.6 whole n label fits (row_at l.types kept) refl
+          by_row u kept z.1.0 w whole.0 z.1.3 whole.4 whole n label fits (row_at l.types kept) refl
   gives_dyn (RunWrap v cast) w c part label fits = (record { frames = 0; words = 0 }, (0, refl))
   gives_dyn (RunInt n) w c part label fits = (record { frames = 0; words = 0 }, (0, refl))
   gives_dyn (RunBool b) w c part label fits = (record { frames = 0; words = 0 }, (0, refl))

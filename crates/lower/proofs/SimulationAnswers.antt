@@ -1,7 +1,7 @@
 -- A value that no body waits for is the program's answer in both runs.
 use Rattle.std.proofs.Common.{◌≡◌, inl, inr, ℕ, zero, suc, ◌+◌, ◌*◌, ◌%◌, ◌^◌, ◌<◌, Bool, true, false, List}
 use Rattle.std.proofs.Common.{[]}
-use Rattle.std.proofs.Common.{◌∷◌, length, Some, refl, sym, ap, ◌∙◌, subst, arith, pos}
+use Rattle.std.proofs.Common.{◌∷◌, length, Option, Some, None, refl, sym, ap, ◌∙◌, subst, arith, pos}
 use Rattle.std.specs.Prelude.{if◌then◌else◌, ◌&&◌, not}
 use Rattle.std.specs.Int.{w64, cast_signed}
 use Rattle.grift_base.specs.Types.{TypeRow, IntRow, BoolRow, UnitRow, DynRow, FunRow, TupleRow, RefRow, VectRow, is_dyn}
@@ -28,18 +28,20 @@ use Rattle.grift_base.specs.Types.{TypeRows, VectHead, RefHead, parts_of}
 use Rattle.rv_isa.specs.declared.inst.Cond.TheVariants.{Eq}
 use Rattle.rv_machine.specs.Memory.{load_bytes}
 use Rattle.rv_machine.specs.Real.{holds}
-use Rattle.low_ir.specs.declared.code.WordOp.TheVariants.{And}
+use Rattle.low_ir.specs.declared.code.WordOp.TheVariants.{And, Sra}
 use Rattle.low_ir.specs.Operations.{compute}
 use Rattle.low_ir.specs.Procedures.{Done, If}
 use Rattle.low_ir.specs.Steps.{may_load}
 use Rattle.coercion_norm.specs.Coercions.{rows_of}
-use Rattle.coercion_norm.specs.Held.{TypesStand, There, type_object, rows_in, height_in}
+use Rattle.coercion_norm.specs.Held.{TypesStand, There, HoldsType, type_object, rows_in, height_in}
 use Rattle.coercion_norm.specs.ObjectsOfRows.{header, type_kind}
-use Rattle.lower.specs.Lowered.{show_kept}
-use Rattle.lower.proofs.HeapFilled.{word_there, header_there}
+use Rattle.lower.specs.Lowered.{show_kept, open_object, open_small}
+use Rattle.rt_cast.specs.DynWords.{small_dyn, IsDynBy}
+use Rattle.rt_cast.proofs.Public.{SmallIs, small_is, tag_read, no_tag, untagged, eq_false}
+use Rattle.lower.proofs.HeapFilled.{stands, word_there, header_there}
 use Rattle.lower.proofs.WordSteps.{Comes, Calm, here, loads, computes, if_true, if_false, falls_through, comes_back}
 use Rattle.lower.proofs.RelationKept.{word_other}
-use Rattle.coercion_norm.specs.Objects.{Object}
+use Rattle.coercion_norm.specs.Objects.{Object, Fixed}
 use Rattle.rt_cast.specs.States.{Heap}
 use Rattle.lower.specs.Storage.{Filled}
 use Rattle.lower.specs.Lowered.{show_by, ends}
@@ -231,46 +233,101 @@ module _ (program : Program) (typed : TypesStand program.l) (places : List ℕ) 
       → CarriedHere program places objects (RunInject u kept) w
       → equal_heads (run_head (flat_arity program.procs) u) (head_of (rows_in program.l kept)) ≡ true
       → (words : Locals) → words 0 ≡ Some w → Shows (shown u) [] words (show_by DynRow)
-  shows_dyn u kept w c fit words is =
-      let a = shown u in
-      let P = Seen program f in
-      let Q = Stopping program f (EndsWith (AnswerVerdict (shown u))) in
-      let row = rows_in program.l kept in
-      let head = header (type_kind (rows_in program.l kept)) (height_in program.l kept)
-      (length (parts_of (rows_in program.l kept))) in
-      let type_there = word_there program.meaning program.setting program.l program.placed objects h filled w
-      (header 3 0 2)
-      (c.0 ∷ c.1 ∷ []) c.2 1 c.0 (w + 8) refl (omega arith) in
-      let inner_there = word_there program.meaning program.setting program.l program.placed objects h filled w
-      (header 3 0 2)
-      (c.0 ∷ c.1 ∷ []) c.2 2 c.1 (w + 16) refl (omega arith) in
-      let head_there = header_there program.meaning program.setting program.l program.placed objects h filled c.0
-      (type_object program.l kept)
-      (subst (λ n. There program.l objects n (type_object program.l kept)) (sym c.3.is)
-      (inl (typed.stands kept c.3.known))) in
-      let none : c.0 ≡ c.0 + 0 = omega arith in
-      let one = set_local 1 c.0 words in
-      let two = set_local 1 head one in
-      let three = set_local 1 (type_kind (rows_in program.l kept)) two in
-      let four = set_local 2 c.1 three in
-      let still : three 0 ≡ Some w =
-      word_other 1 (type_kind (rows_in program.l kept)) two 0 (λ e. omega (arith, e))
-      ∙ (word_other 1 head one 0 (λ e. omega (arith, e))
-      ∙ (word_other 1 c.0 words 0 (λ e. omega (arith, e)) ∙ is)) in
-      loads program.setting P Q (calm a) w c.0 is type_there.may type_there.is (let z = type_there.end in omega arith)
-      (omega arith)
-      (loads program.setting P Q (calm a) c.0 head (word_here 1 c.0 words)
-      (subst (λ n. may_load program.setting.top n ≡ true) none head_there.may)
-      (subst (λ n. load_bytes 8 h.memory n ≡ head) none head_there.is) (let z = head_there.end in omega arith)
-      (omega arith)
-      (computes program.setting P Q (calm a) head 255 (type_kind (rows_in program.l kept)) (word_here 1 head one) refl
-      (kind_told (type_kind (rows_in program.l kept)) (height_in program.l kept)
-      (length (parts_of (rows_in program.l kept))) (few_kinds (rows_in program.l kept))) (omega arith)
-      (loads program.setting P Q (calm a) w c.1 still inner_there.may inner_there.is
-      (let z = inner_there.end in omega arith) (omega arith)
-      (shows_kept (rows_in program.l kept) c.5 u [] c.1 c.6 fit four
-      (word_other 2 c.1 three 1 (λ e. omega (arith, e)) ∙ word_here 1 (type_kind (rows_in program.l kept)) two)
-      (word_here 2 c.1 three)))))
+  shows_dyn u kept w c fit words is = by (small_dyn row c.0) refl c.1
+    where
+      a : AnAnswer
+      a = shown u
+
+      P : LowState → Type 0
+      P = Seen program f
+
+      Q : LowState → Type 0
+      Q = Stopping program f (EndsWith (AnswerVerdict (shown u)))
+
+      row : TypeRow
+      row = rows_in program.l kept
+
+      head : ℕ
+      head = header (type_kind row) (height_in program.l kept) (length (parts_of row))
+
+      -- with the kind of the type and the value's word
+      opened : (now : Locals) → now 1 ≡ Some (type_kind row) → now 2 ≡ Some c.0 → Shows (shown u) (show_kept ∷ []) now Done
+      opened now kind value =
+          falls_through program.setting P Q (calm a) (shows_kept row c.3 u [] c.0 c.4 fit now kind value)
+
+      tested : ℕ → Locals
+      tested tag = set_local 1 tag words
+
+      -- the word itself is still there
+      still : (tag : ℕ) → tested tag 0 ≡ Some w
+      still tag = word_other 1 tag words 0 (λ e. omega (arith, e)) ∙ is
+
+      from_tag : (small : ℕ) (s : SmallIs row c.0 small) → w ≡ small
+          → Shows (shown u) (show_kept ∷ []) (tested s.tag) open_small
+      from_tag small s same =
+          let four : s.tag < 4 = s.few in
+          let one = set_local 1 (s.tag + 15) (tested s.tag) in
+          computes program.setting P Q (calm a) s.tag 15 (s.tag + 15) (word_here 1 s.tag words) refl
+          (omega (arith, four)) (omega arith)
+          (computes program.setting P Q (calm a) w 3 c.0
+          (word_other 1 (s.tag + 15) (tested s.tag) 0 (λ e. omega (arith, e)) ∙ still s.tag) refl
+          (ap (λ y. compute Sra y 3) (same ∙ s.is) ∙ untagged s.tag c.0 (omega (arith, four)) s.narrow) (omega arith)
+          (opened (set_local 2 c.0 one)
+          (word_other 2 c.0 one 1 (λ e. omega (arith, e)) ∙ (word_here 1 (s.tag + 15) (tested s.tag)
+          ∙ ap Some (sym s.kind)))
+          (word_here 2 c.0 one)))
+
+      InObject : Type 0
+      InObject =
+          (wt : ℕ) × There program.l objects w (Fixed (header 3 0 2) (wt ∷ c.0 ∷ []))
+          × HoldsType program.l objects wt kept
+
+      from_object : (d : InObject) → Shows (shown u) (show_kept ∷ []) (tested 0) open_object
+      from_object d =
+          let type_there = word_there program.meaning program.setting program.l program.placed objects h filled w
+          (header 3 0 2) (d.0 ∷ c.0 ∷ []) d.1 1 d.0 (w + 8) refl (omega arith) in
+          let inner_there = word_there program.meaning program.setting program.l program.placed objects h filled w
+          (header 3 0 2) (d.0 ∷ c.0 ∷ []) d.1 2 c.0 (w + 16) refl (omega arith) in
+          let head_there = header_there program.meaning program.setting program.l program.placed objects h filled d.0
+          (type_object program.l kept)
+          (subst (λ n. There program.l objects n (type_object program.l kept)) (sym d.2.is)
+          (inl (typed.stands kept d.2.known))) in
+          let none : d.0 ≡ d.0 + 0 = omega arith in
+          let one = set_local 1 d.0 (tested 0) in
+          let two = set_local 1 head one in
+          let three = set_local 1 (type_kind row) two in
+          let same : three 0 ≡ Some w =
+          word_other 1 (type_kind row) two 0 (λ e. omega (arith, e))
+          ∙ (word_other 1 head one 0 (λ e. omega (arith, e))
+          ∙ (word_other 1 d.0 (tested 0) 0 (λ e. omega (arith, e)) ∙ still 0)) in
+          loads program.setting P Q (calm a) w d.0 (still 0) type_there.may type_there.is
+          (let z = type_there.end in omega arith) (omega arith)
+          (loads program.setting P Q (calm a) d.0 head (word_here 1 d.0 (tested 0))
+          (subst (λ n. may_load program.setting.top n ≡ true) none head_there.may)
+          (subst (λ n. load_bytes 8 h.memory n ≡ head) none head_there.is) (let z = head_there.end in omega arith)
+          (omega arith)
+          (computes program.setting P Q (calm a) head 255 (type_kind row) (word_here 1 head one) refl
+          (kind_told (type_kind row) (height_in program.l kept) (length (parts_of row)) (few_kinds row)) (omega arith)
+          (loads program.setting P Q (calm a) w c.0 same inner_there.may inner_there.is
+          (let z = inner_there.end in omega arith) (omega arith)
+          (opened (set_local 2 c.0 three)
+          (word_other 2 c.0 three 1 (λ e. omega (arith, e)) ∙ word_here 1 (type_kind row) two)
+          (word_here 2 c.0 three)))))
+
+      by : (o : Option ℕ) → small_dyn row c.0 ≡ o → IsDynBy program.l objects o kept c.0 w
+          → Shows (shown u) [] words (show_by DynRow)
+      by (Some small) e d =
+          let s = small_is row c.0 small e in
+          let four : s.tag < 4 = s.few in
+          let some : 0 < s.tag = s.some in
+          computes program.setting P Q (calm a) w 7 s.tag is refl
+          (ap (λ y. compute And y 7) (d.0 ∙ s.is) ∙ tag_read s.tag c.0 (omega (arith, four))) (omega arith)
+          (if_false program.setting P Q (calm a) s.tag 0 (word_here 1 s.tag words) refl
+          (eq_false s.tag 0 (λ z. omega (arith, z, some))) (from_tag small s d.0))
+      by None e d =
+          let place = stands program.meaning program.setting program.l program.placed objects h filled w _ d.1 in
+          computes program.setting P Q (calm a) w 7 0 is refl (no_tag w place.even) (omega arith)
+          (if_true program.setting P Q (calm a) 0 0 (word_here 1 0 words) refl refl (from_object d))
 
   -- by the row of the answer's type
   shows : (answer : TypeRow) → (v : FlatValue program.meaning.Cast) (casts : List program.meaning.Cast) (w : ℕ)
@@ -350,7 +407,7 @@ module _ (program : Program) (typed : TypesStand program.l) (places : List ℕ) 
           && fits_type (flat_arity program.procs) program.told.types u kept) e in
           let y = and_true (not (row_has_head (row_at program.told.types kept) DynHead))
           (fits_type (flat_arity program.procs) program.told.types u kept) x.1 in
-          (row_fits DynHead x.0, inside u c.6 y.0 y.1)
+          (row_fits DynHead x.0, inside u c.4 y.0 y.1)
         where
           not_true : (b : Bool) → not b ≡ true → b ≡ false
           not_true true e = true_false e
@@ -362,7 +419,7 @@ module _ (program : Program) (typed : TypesStand program.l) (places : List ℕ) 
               row_head program.l.types kept head
               (ap (λ rows. row_has_head (row_at rows kept) head) (sym program.types_are) ∙ e)
 
-          inside : (u : FlatValue program.meaning.Cast) → CarriedHere program places objects u c.1
+          inside : (u : FlatValue program.meaning.Cast) → CarriedHere program places objects u c.0
               → not (row_has_head (row_at program.told.types kept) DynHead) ≡ true
               → fits_type (flat_arity program.procs) program.told.types u kept ≡ true
               → equal_heads (run_head (flat_arity program.procs) u) (head_of (rows_in program.l kept)) ≡ true

@@ -9,7 +9,8 @@ use Rattle.coercion_norm.specs.RunValues.{RunInt, RunBool, RunUnit, RunFun, RunT
 use Rattle.coercion_norm.specs.RunValues.{NoRunValues, RunValueThen, in_row}
 use Rattle.coercion_norm.specs.Objects.{Object, Fixed, Cell, object_at}
 use Rattle.rt_cast.specs.Objects.{HoldsWords}
-use Rattle.coercion_norm.specs.Held.{Layout, There, HoldsType, rows_in}
+use Rattle.rt_cast.specs.DynWords.{IsDyn}
+use Rattle.coercion_norm.specs.Held.{Layout, There, rows_in}
 use Rattle.coercion_norm.specs.ObjectsOfRows.{header}
 use Rattle.flat_ir.specs.Bodies.{Proc}
 use Rattle.flat_ir.specs.Machine.{FlatValue, FlatValues, FlatStore}
@@ -65,9 +66,8 @@ module _ (l : Layout) (address : ℕ → ℕ) (procs : List Proc) (meaning : Mea
         × (is_vector ≡ false → count ≡ 1))
     CarriedIn (RunWrap v cast) casts w = CarriedIn v (cast ∷ casts) w
     CarriedIn (RunInject v kept) casts w =
-        Bare casts w (λ x. (wt wx : ℕ) × There l objects x (Fixed (header 3 0 2) (wt ∷ wx ∷ []))
-        × HoldsType l objects wt kept × meaning.MayKeep l kept × (is_dyn (rows_in l kept) ≡ false)
-        × CarriedIn v [] wx)
+        Bare casts w (λ x. (wx : ℕ) × IsDyn l objects kept wx x × meaning.MayKeep l kept
+        × (is_dyn (rows_in l kept) ≡ false) × CarriedIn v [] wx)
 
     pub AreCarried : FlatValues meaning.Cast → List ℕ → Type 0
     AreCarried NoRunValues [] = Unit {0}

@@ -1,7 +1,7 @@
 -- The procedures over words of a flat program.
 use Rattle.std.specs.Prelude.{ℕ, suc, ◌+◌, max, List, [], ◌∷◌, ◌++◌, map}
 use Rattle.rv_isa.specs.declared.inst.Cond.TheVariants.{Eq}
-use Rattle.low_ir.specs.declared.code.WordOp.TheVariants.{And}
+use Rattle.low_ir.specs.declared.code.WordOp.TheVariants.{Add, And, Sra}
 use Rattle.low_ir.specs.declared.code.LowSource.{LowSource}
 use Rattle.low_ir.specs.declared.code.LowSource.TheVariants.{Word, Number}
 use Rattle.low_ir.specs.Procedures.{Code, Done, Compute, Load, Environment, Call, If, Return, Proc}
@@ -51,16 +51,25 @@ show_kept =
     If Eq (Word 1) (Number 17) (ends 1 (Word 2)) Done (
     If Eq (Word 1) (Number 18) (ends 2 (Number 0)) Done show_compound))
 
+-- of a value in Dyn the kind of the type is put into word 1, and the value's word into word 2: of an object, and of what
+-- stands behind a tag
+abbrev pub open_object : Code
+open_object =
+    Load 1 (Word 0) 8 (
+    Load 1 (Word 1) 0 (
+    Compute And 1 (Word 1) (Number 255) (
+    Load 2 (Word 0) 16 Done)))
+
+abbrev pub open_small : Code
+open_small = Compute Add 1 (Word 1) (Number 15) (Compute Sra 2 (Word 0) (Number 3) Done)
+
 -- the answer in word 0 is shown by its type
 abbrev pub show_by : TypeRow → Code
 show_by IntRow = ends 0 (Word 0)
 show_by BoolRow = ends 1 (Word 0)
 show_by UnitRow = ends 2 (Number 0)
 show_by DynRow =
-    Load 1 (Word 0) 8 (
-    Load 1 (Word 1) 0 (
-    Compute And 1 (Word 1) (Number 255) (
-    Load 2 (Word 0) 16 show_kept)))
+    Compute And 1 (Word 0) (Number 7) (If Eq (Word 1) (Number 0) open_object open_small show_kept)
 show_by (FunRow parameters answer) = ends 3 (Number 0)
 show_by (TupleRow parts) = ends 4 (Number 0)
 show_by (RefRow content) = ends 5 (Number 0)

@@ -7,7 +7,7 @@ ghost use Rattle.rv_isa.specs.declared.inst.Cond.TheVariants.{Eq};
 ghost use Rattle.low_ir.specs.declared.code.LowSource.TheVariants.{Word, Number};
 ghost use Rattle.low_ir.specs.Procedures.{Done, If};
 ghost use Rattle.low_ir.specs.Views.{code_of, proc_of};
-ghost use Rattle.lower.specs.Lowered.{ends, entry_proc, show_by, show_compound, show_kept};
+ghost use Rattle.lower.specs.Lowered.{ends, entry_proc, open_object, open_small, show_by, show_compound, show_kept};
 ghost use Rattle.lower.specs.Steps.{Adds};
 
 use crate::steps::{Step, Steps};
@@ -65,15 +65,37 @@ fn show_kept(alloc: Global) -> Result<LowCode, OutOfMemory>
     steps.before(show_compound(alloc)?)
 }
 
-// The end for a value in Dyn, whose address is in word 0.
-fn show_dyn(alloc: Global) -> Result<LowCode, OutOfMemory>
-    ensures { IfOk result (λ code. code_of code ≡ show_by DynRow) }
+// Of a value in Dyn whose object's address is in word 0: the kind of its type into word 1, its word into word 2.
+fn open_object(alloc: Global) -> Result<LowCode, OutOfMemory>
+    ensures { IfOk result (λ code. code_of code ≡ open_object) }
 {
     let mut steps = Steps::new(alloc);
     steps.push(Step::Load(1, Word(0), 8))?;
     steps.push(Step::Load(1, Word(1), 0))?;
     steps.push(Step::Compute(WordOp::And, 1, Word(1), Number(255)))?;
     steps.push(Step::Load(2, Word(0), 16))?;
+    steps.before(LowCode::Done)
+}
+
+// The same of one that stands in word 0 behind a tag, which is in word 1.
+fn open_small(alloc: Global) -> Result<LowCode, OutOfMemory>
+    ensures { IfOk result (λ code. code_of code ≡ open_small) }
+{
+    let mut steps = Steps::new(alloc);
+    steps.push(Step::Compute(WordOp::Add, 1, Word(1), Number(15)))?;
+    steps.push(Step::Compute(WordOp::Sra, 2, Word(0), Number(3)))?;
+    steps.before(LowCode::Done)
+}
+
+// The end for a value in Dyn, whose word is word 0.
+fn show_dyn(alloc: Global) -> Result<LowCode, OutOfMemory>
+    ensures { IfOk result (λ code. code_of code ≡ show_by DynRow) }
+{
+    let object = open_object(alloc)?;
+    let small = open_small(alloc)?;
+    let mut steps = Steps::new(alloc);
+    steps.push(Step::Compute(WordOp::And, 1, Word(0), Number(7)))?;
+    steps.push(Step::If(Cond::Eq, Word(1), Number(0), object, small))?;
     steps.before(show_kept(alloc)?)
 }
 

@@ -5,6 +5,7 @@
 //! tells its words, and what a row of them is. Each later claim on storage speaks of these.
 #![tactic(auto)]
 
+pub mod dyn_words;
 pub mod headers;
 pub mod kinds;
 pub mod laws;

@@ -67,7 +67,7 @@ module _ (l : Layout) (types : TypesStand l) {A : Type 0} (head : A → TypeHead
   low_of IsHeld objects (Base h x) w c = tt
   low_of IsHeld objects (Solid a) w c = tt
   low_of IsHeld objects (Proxied a d) w c = c.5
-  low_of IsHeld objects (InDyn kept u) w c = (c.4, c.5, low_of IsHeld objects u c.1 c.6)
+  low_of IsHeld objects (InDyn kept u) w c = (c.2, c.3, low_of IsHeld objects u c.0 c.4)
 
   below : (c : Coercion) → IsLow l c → NoHigher R c n
   below c h = bound_from_height R (height_in l) types.heights c n h.low

@@ -15,7 +15,7 @@ use Rattle.coercion_norm.specs.Held.{Layout, Held, rows_in, height_in}
 use Rattle.rt_cast.specs.WholeObjects.{IsSolid}
 use Rattle.rt_cast.specs.Procs.{cast_proc}
 use Rattle.rt_cast.specs.States.{Grows, Filled, IsReady, around, heap_of, st}
-use Rattle.rt_cast.specs.MergedValues.{Merged, Solid, Outcome, Stuck, Gives, Blames, cast_value}
+use Rattle.rt_cast.specs.MergedValues.{Merged, Outcome, Stuck, Gives, Blames, cast_value}
 use Rattle.rt_cast.specs.Carried.{IsLow, CarriedBy, Carries, IsVery, ComesTo, ComesToOutcome}
 use Rattle.rt_cast.proofs.Walks.{Walk}
 use Rattle.rt_cast.proofs.Steps.{End}

@@ -1,6 +1,6 @@
 -- What cast does.
 use Rattle.std.proofs.Common.{true, false, ◌≡◌, inl, inr, ℕ, suc, ◌+◌, ◌*◌, ◌^◌, ◌<◌, ◌≤◌}
-use Rattle.std.proofs.Common.{List, [], ◌∷◌, ◌++◌, Some, refl, ap₂}
+use Rattle.std.proofs.Common.{List, [], ◌∷◌, ◌++◌, Option, Some, None, Bool, refl, ap, ap₂, ◌∙◌, map, ◌-◌}
 use Rattle.std.proofs.Common.{subst, arith}
 use Rattle.std.specs.Prelude.{nat_lt, length}
 use Rattle.rt_cast.specs.States.{Heap, st, Fine, Grows}
@@ -8,7 +8,7 @@ use Rattle.grift_base.specs.Types.{TypeRow}
 use Rattle.low_ir.specs.Steps.{Locals, no_locals, set_local}
 use Rattle.low_ir.specs.declared.code.LowSource.{LowSource}
 use Rattle.low_ir.specs.declared.code.LowSource.TheVariants.{Word, Number}
-use Rattle.low_ir.specs.Procedures.{Code, Build, Return, Environment}
+use Rattle.low_ir.specs.Procedures.{Code, Build, Compute, Load, Return, TailCall, Environment}
 use Rattle.low_ir.specs.Run.{Active, Waiting, LowState, word_of, and_more, bind}
 use Rattle.rv_isa.specs.declared.inst.Cond.TheVariants.{Eq}
 use Rattle.coercion_norm.specs.declared.middles.MiddleKind.{MiddleKind as Kind}
@@ -30,7 +30,7 @@ use Rattle.object_layout.specs.Kinds.{kind_number as number_of, is_free}
 use Rattle.coercion_norm.specs.Objects.{Object, Fixed, header_of}
 use Rattle.coercion_norm.specs.Held.{There, Held}
 use Rattle.coercion_norm.specs.ObjectsOfRows.{header, kind_number}
-use Rattle.rt_cast.specs.WholeObjects.{IsSolid, WholeProxy, WholeDyn}
+use Rattle.rt_cast.specs.WholeObjects.{IsSolid, WholeProxy}
 use Rattle.rt_cast.specs.Procs.{coerce_proc, compose_proc, cast_proc}
 use Rattle.rt_cast.specs.PartCodes.{either}
 use Rattle.rt_cast.specs.PartCodes.{proc}
@@ -42,7 +42,7 @@ use Rattle.rt_cast.proofs.Steps.{loads_at}
 use Rattle.rt_cast.proofs.Small.{grows_not, grows_on, there_still, not_zero}
 use Rattle.rt_cast.proofs.Small.{numbers, ReachedIn}
 use Rattle.rt_cast.proofs.Middles.{held_still, held_small, added, one_more}
-use Rattle.rt_cast.proofs.ComposeSteps.{type_small, type_still, no_middle, part_small}
+use Rattle.rt_cast.proofs.ComposeSteps.{type_still, no_middle, part_small}
 use Rattle.rt_cast.proofs.ComposeRuns.{all_composed}
 use Rattle.rt_cast.specs.Carried.{CarriedBy, IsLow}
 use Rattle.rt_cast.specs.MergedValues.{Merged, Base, Solid, Proxied, InDyn, Outcome, Stuck, Gives as GivesValue, Blames}
@@ -51,7 +51,22 @@ use Rattle.rt_cast.specs.MergedValues.{then_outcome}
 use Rattle.std.specs.Prelude.{◌==◌}
 use Rattle.rt_cast.proofs.Walks.{Walk}
 use Rattle.coercion_norm.specs.Held.{rows_in, height_in}
-use Rattle.rt_cast.specs.CastCodes.{cast_code, cast_kinds}
+use Rattle.rt_cast.specs.CastCodes.{cast_code, cast_kinds, cast_project, project_object, project_small, into_dyn}
+use Rattle.rt_cast.specs.ComposeCodes.{cast}
+use Rattle.rt_cast.specs.PartCodes.{blame_code}
+use Rattle.rt_cast.specs.DynWords.{small_dyn, IsDynBy}
+use Rattle.rt_cast.proofs.DynWords.{SmallIs, small_is, tag_read, no_tag, untagged, heads_by_kinds}
+use Rattle.rt_cast.proofs.IntoDyn.{dyn_still, dyn_small, untagged_there, kind_there, put_into_dyn}
+use Rattle.rt_cast.proofs.BaseCasts.{same_base, other_base}
+use Rattle.rt_cast.proofs.ComposeSteps.{type_there, type_numbers}
+use Rattle.rt_cast.proofs.ComposeRuns.{solid_is}
+use Rattle.object_layout.specs.DynWords.{tagged}
+use Rattle.low_ir.specs.Operations.{compute}
+use Rattle.low_ir.specs.declared.code.WordOp.TheVariants.{And, Sra}
+use Rattle.coercion_norm.specs.Composition.{coerce_below, coerce_solid}
+use Rattle.coercion_norm.specs.ObjectsOfRows.{type_kind}
+use Rattle.coercion_norm.specs.Held.{HoldsType}
+use Rattle.grift_base.specs.Types.{parts_of, same_head}
 use Rattle.rt_cast.proofs.CoerceRuns.{all_cast}
 
 small_kind : (kind : ObjectKind) → number_of kind < 256
@@ -146,16 +161,8 @@ module _ {V : Type 0} (walk : Walk V) (low : walk.l.tallest ≤ 65534) (A : Type
     held_still walk.l old new g c h.1 h.4,
     h.5,
   )
-  carried_still old new g (InDyn kept x) w h = (
-    h.0,
-    h.1,
-    there_still walk.l old new w _ g h.2,
-    type_still walk old new
-        h.0 kept h.3,
-    h.4,
-    h.5,
-    carried_still old new g x h.1 h.6,
-  )
+  carried_still old new g (InDyn kept x) w h =
+      (h.0, dyn_still walk.l old new g kept h.0 w h.1, h.2, h.3, carried_still old new g x h.0 h.4)
 
   solid_small : (objects : List Object) (h : Heap) → Fine walk.setting walk.l walk.around objects h → (a : A) (w : ℕ)
       → IsHeld objects a w → w < 2 ^ 64
@@ -168,7 +175,7 @@ module _ {V : Type 0} (walk : Walk V) (low : walk.l.tallest ≤ 65534) (A : Type
   carried_small objects h fine (Base head x) w c = let e = c.0 in let lt = c.1 in omega arith
   carried_small objects h fine (Solid a) w c = solid_small objects h fine a w c
   carried_small objects h fine (Proxied a d) w c = (not_zero walk objects h fine w _ _ c.2).1
-  carried_small objects h fine (InDyn kept x) w c = (not_zero walk objects h fine w _ _ c.2).1
+  carried_small objects h fine (InDyn kept x) w c = dyn_small walk objects h fine kept c.0 w c.1
 
   -- it goes on from each return of a word that carries the value, or from the environment call that blames
   abbrev pub GoesOn : Budget → List Object → List Waiting → Outcome A → Type 0
@@ -208,7 +215,7 @@ module _ {V : Type 0} (walk : Walk V) (low : walk.l.tallest ≤ 65534) (A : Type
   plain_cost = compose_cost walk.l.width n + 25
 
   abbrev final_cost : ℕ
-  final_cost = plain_cost + 12
+  final_cost = plain_cost + 24
 
   abbrev pub whole_cost : ℕ
   whole_cost = cast_cost walk.l.width n
@@ -392,31 +399,18 @@ module _ {V : Type 0} (walk : Walk V) (low : walk.l.tallest ≤ 65534) (A : Type
       (loads walk objects fine wc (header 13 y1 2) ws 1 hc.0 refl hc.2 refl refl refl
       (calls walk objects fine (wv ∷ hc.0 ∷ []) (proc 2 10 (cast_code walk.first)) refl (walk.stands 2 _ refl) refl
       (by_plain g nc.1 lc.0 u _ objects h fine _ wv hc.0 hv hc.3
-      (after B _ objects waiting _ 4 refl (apply_plain R n g u) (λ y. GivesValue (InDyn kept y)) go
+      (after B _ objects waiting _ 9 refl (apply_plain R n g u) (λ y. GivesValue (InDyn kept y)) go
       (λ y go' new h' w grows fine' held.
       loads walk new fine' wc (header 13 y1 2) ws 2 hc.1 refl (there_still walk.l objects new wc _ grows hc.2) refl refl
       refl
-      (builds walk new fine' 8589934595 (hc.1 ∷ w ∷ []) refl (omega arith) (omega arith) (
-        omega arith,
-        (
-          type_small walk
-              objects h fine hc.1 kept hc.4,
-          (carried_small new h' fine' y w held, tt),
-        ),
-      ) (WholeDyn hc.1 w kept refl
-      (type_still walk objects new hc.1 kept hc.4)) refl
-      (λ h'' fine''. let o = Fixed 8589934595 (hc.1 ∷ w ∷ []) in let g2 = one_more walk new o in go' (new ++ o ∷ []) h''
-      h'.alloc 10 _ _ (Word 6) (grows_on objects new (new ++ o ∷ []) grows g2) fine'' (
-        hc.1,
-        w,
-        added walk new h'
-            fine' o,
-        type_still walk objects (new ++ o ∷ []) hc.1 kept hc.4,
-        type_tall_low kept lc.1,
-        nc.2,
-        carried_still
-            new (new ++ o ∷ []) g2 y w held,
-      ) refl))))))))))
+      (kind_there walk new h' fine' waiting 10 _ _ into_dyn kept hc.1 (type_still walk objects new hc.1 kept hc.4) refl
+      refl
+      (λ head. put_into_dyn walk new h' fine' waiting 10 kept hc.1 w (type_still walk objects new hc.1 kept hc.4)
+      (carried_small new h' fine' y w held) refl refl refl
+      (λ new2 h2 w2 locals rests2 grows2 fine2 d l7. go' new2 h2 w2 10 locals rests2 (Word 7)
+      (grows_on objects new new2 grows grows2) fine2
+      (w, d, type_tall_low kept lc.1, nc.2, carried_still new new2 grows2 y w held) l7)
+      _ _ refl refl refl))))))))))
       (omega arith, omega arith)
 
   by_final : (c : Coercion) → IsNormal R c → NoHigher R c n → (u : Merged A) → CastDoes final_cost whole_above c u
@@ -436,39 +430,140 @@ module _ {V : Type 0} (walk : Walk V) (low : walk.l.tallest ≤ 65534) (A : Type
   by_project wanted label i nc lc (Solid a) B objects h fine waiting wv wc hv hc go = absurd go
   by_project wanted label i nc lc (Proxied a d) B objects h fine waiting wv wc hv hc go = absurd go
   by_project wanted label i nc lc (InDyn kept x) B objects h fine waiting wv wc hv hc go =
-      let y1 = coercion_height (height_in walk.l) (Project wanted label i) in
-      let ws = hc.0 ∷ label ∷ hc.1 ∷ [] in
-      let e1 = coerce_to R n kept wanted label in
-      let lk = (walk.types.heights kept n).1 hv.4 in
-      let n1 = coerce_normal R n kept wanted label in
-      let l1 = coerce_height R n n kept wanted label lk lc.0 in
-      let e2 = compose_to R n e1 i in
-      let n2 = compose_normal R n e1 i n1 nc.2 in
-      let l2 = compose_height R n n e1 i l1 lc.1 in
       at_most walk
       (reads objects h fine waiting wv wc 14 y1 3 ws hc.2 (omega arith)
       (λ rests. if_false walk objects fine 14 8 refl refl refl
       (if_false walk objects fine 14 13 refl refl refl
       (if_true walk objects fine 14 14 refl refl refl
-      (loads walk objects fine wv (header 3 0 2) (hv.0 ∷ hv.1 ∷ []) 1 hv.0 refl hv.2 refl refl refl
-      (loads walk objects fine wv (header 3 0 2) (hv.0 ∷ hv.1 ∷ []) 2 hv.1 refl hv.2 refl refl refl
-      (loads walk objects fine wc (header 14 y1 3) ws 1 hc.0 refl hc.2 refl refl refl
-      (loads walk objects fine wc (header 14 y1 3) ws 2 label refl hc.2 refl refl refl
-      (calls walk objects fine (hv.0 ∷ hc.0 ∷ label ∷ []) (coerce_proc walk.first) refl (walk.stands 0 _ refl) refl
-      (all_cast walk n low kept wanted label lk lc.0 _ objects h fine _ hv.0 hc.0 hv.3 hc.3 (part_small walk objects h
-      fine wc (header 14 y1 3) ws hc.2 2 label refl)
-      (λ new h' w count locals rests' b grows fine' held is. comes_back walk new fine' w is refl
-      (loads walk new fine' wc (header 14 y1 3) ws 3 hc.1 refl (there_still walk.l objects new wc _ grows hc.2) refl
-      refl refl
-      (calls walk new fine' (w ∷ hc.1 ∷ []) (compose_proc walk.first) refl (walk.stands 1 _ refl) refl
-      (all_composed walk (all_cast walk) n low e1 i n1 nc.2 l1 lc.1 _ new h' fine' _ w hc.1 held (held_still walk.l
-      objects new grows i hc.1 hc.4)
-      (λ new2 h2 w2 count2 locals2 rests2 b2 grows2 fine2 held2 is2. comes_back walk new2 fine2 w2 is2 refl
-      (let far2 = grows_on objects new new2 grows grows2 in
-      tail_calls walk new2 fine2 (hv.1 ∷ w2 ∷ []) (cast_proc walk.first) refl (walk.stands 2 _ refl) refl
-      (by_final e2 n2 l2 x _ new2 h2 fine2 waiting hv.1 w2 (carried_still objects new2 far2 x hv.1 hv.6) held2
-      (rebased B objects new2 waiting far2 (apply_final R n e2 x) go))))))))))))))))))
+      (by_size (small_dyn (R kept) hv.0) refl hv.1 _)))))
       (omega arith, omega arith)
+    where
+      y1 : ℕ
+      y1 = coercion_height (height_in walk.l) (Project wanted label i)
+
+      ws : List ℕ
+      ws = hc.0 ∷ label ∷ hc.1 ∷ []
+
+      e1 : Coercion
+      e1 = coerce_to R n kept wanted label
+
+      L : Locals
+      L = cast_read wv wc (header 14 y1 3) 14
+
+      -- what is in an object
+      from_object : (o : (wt : ℕ) × There walk.l objects wv (Fixed (header 3 0 2) (wt ∷ hv.0 ∷ []))
+          × HoldsType walk.l objects wt kept) → (locals : Locals) → locals 0 ≡ Some wv → locals 1 ≡ Some wc
+          → (rests : List Code)
+          → Reached (More (whole_cost - 12) whole_above B) (state 10 locals (project_object walk.first) rests waiting h)
+      from_object o locals l0 l1 rests =
+          let lk = (walk.types.heights kept n).1 hv.2 in
+          let n1 = coerce_normal R n kept wanted label in
+          let l1' = coerce_height R n n kept wanted label lk lc.0 in
+          let e2 = compose_to R n e1 i in
+          let n2 = compose_normal R n e1 i n1 nc.2 in
+          let l2 = compose_height R n n e1 i l1' lc.1 in
+          at_most walk
+          (loads walk objects fine wv (header 3 0 2) (o.0 ∷ hv.0 ∷ []) 1 o.0 l0 o.1 refl refl refl
+          (loads walk objects fine wv (header 3 0 2) (o.0 ∷ hv.0 ∷ []) 2 hv.0 l0 o.1 refl refl refl
+          (loads walk objects fine wc (header 14 y1 3) ws 1 hc.0 l1 hc.2 refl refl refl
+          (loads walk objects fine wc (header 14 y1 3) ws 2 label l1 hc.2 refl refl refl
+          (calls walk objects fine (o.0 ∷ hc.0 ∷ label ∷ []) (coerce_proc walk.first) refl (walk.stands 0 _ refl) refl
+          (all_cast walk n low kept wanted label lk lc.0 _ objects h fine _ o.0 hc.0 o.2 hc.3
+          (part_small walk objects h fine wc (header 14 y1 3) ws hc.2 2 label refl)
+          (λ new h' w count locals' rests' b grows fine' held is. comes_back walk new fine' w is refl
+          (loads walk new fine' wc (header 14 y1 3) ws 3 hc.1 l1 (there_still walk.l objects new wc _ grows hc.2) refl
+          refl refl
+          (calls walk new fine' (w ∷ hc.1 ∷ []) (compose_proc walk.first) refl (walk.stands 1 _ refl) refl
+          (all_composed walk (all_cast walk) n low e1 i n1 nc.2 l1' lc.1 _ new h' fine' _ w hc.1 held (held_still walk.l
+          objects new grows i hc.1 hc.4)
+          (λ new2 h2 w2 count2 locals2 rests2 b2 grows2 fine2 held2 is2. comes_back walk new2 fine2 w2 is2 refl
+          (let far2 = grows_on objects new new2 grows grows2 in
+          tail_calls walk new2 fine2 (hv.0 ∷ w2 ∷ []) (cast_proc walk.first) refl (walk.stands 2 _ refl) refl
+          (by_final e2 n2 l2 x _ new2 h2 fine2 waiting hv.0 w2 (carried_still objects new2 far2 x hv.0 hv.4) held2
+          (rebased B objects new2 waiting far2 (apply_final R n e2 x) go))))))))))))))
+          (omega arith, omega arith)
+
+      -- what stands behind a tag: by whether its kind is that of the wanted type
+      from_tag : (small : ℕ) (s : SmallIs (R kept) hv.0 small) → wv ≡ small → (locals : Locals)
+          → locals 0 ≡ Some wv → locals 1 ≡ Some wc → locals 4 ≡ Some s.tag → (rests : List Code)
+          → Reached (More (whole_cost - 12) whole_above B) (state 10 locals (project_small walk.first) rests waiting h)
+      from_tag small s is locals l0 l1 l4 rests =
+          at_most walk
+          (loads walk objects fine wc (header 14 y1 3) ws 1 hc.0 l1 hc.2 refl refl refl
+          (loads walk objects fine hc.0 head (map walk.l.type_at (parts_of (R wanted))) 0 head refl
+          (type_there walk objects hc.0 wanted hc.3) refl refl refl
+          (computes walk objects fine head 255 (type_kind (R wanted)) refl refl
+          (kind_read (type_kind (R wanted)) (height_in walk.l wanted) (length (parts_of (R wanted)))
+          (type_numbers (R wanted))) refl
+          (computes walk objects fine s.tag 15 (s.tag + 15) l4 refl (let f = s.few in omega (arith, f)) refl
+          (by_kind (s.tag + 15 == type_kind (R wanted)) refl)))))
+          (omega arith, omega arith)
+        where
+          head : ℕ
+          head = header (type_kind (R wanted)) (height_in walk.l wanted) (length (parts_of (R wanted)))
+
+          full : wv ≡ tagged s.tag hv.0
+          full = is ∙ s.is
+
+          heads : same_head (R kept) (R wanted) ≡ (s.tag + 15 == type_kind (R wanted))
+          heads =
+              heads_by_kinds (R kept) (R wanted) s.tag s.has ∙ ap (λ k. k == type_kind (R wanted)) s.kind
+
+          solid : e1 ≡ coerce_solid R (coerce_below R n) kept wanted label
+          solid = solid_is R n kept wanted label hv.3 nc.0
+
+          M : Locals
+          M =
+              set_local 4 (s.tag + 15) (set_local 5 (type_kind (R wanted)) (set_local 5 head (set_local 5 hc.0
+              locals)))
+
+          by_kind : (b : Bool) → (s.tag + 15 == type_kind (R wanted)) ≡ b
+              → Reached (More (final_cost + 4) whole_above B) (state 10 M (either Eq (Word 4) (Word 5) (
+              Compute Sra 5 (Word 0) (Number 3) (
+              Load 9 (Word 1) 24 (
+              TailCall (cast walk.first) (Word 5 ∷ Word 9 ∷ [])))) (
+              Load 7 (Word 1) 16 (blame_code (Word 7)))) rests waiting h)
+          by_kind true same =
+              let is_id : e1 ≡ Id =
+              solid ∙ same_base R (coerce_below R n) kept wanted label s.tag s.has (heads ∙ same) in
+              at_most walk
+              (if_true walk objects fine (s.tag + 15) (type_kind (R wanted)) refl refl same
+              (computes walk objects fine wv 3 hv.0 l0 refl
+              (ap (λ y. compute Sra y 3) full ∙ untagged s.tag hv.0 (let f = s.few in omega (arith, f)) s.narrow) refl
+              (loads walk objects fine wc (header 14 y1 3) ws 3 hc.1 l1 hc.2 refl refl refl
+              (tail_calls walk objects fine (hv.0 ∷ hc.1 ∷ []) (cast_proc walk.first) refl (walk.stands 2 _ refl) refl
+              (by_final i nc.2 lc.1 x B objects h fine waiting hv.0 hc.1 hv.4 hc.4
+              (subst (λ c. GoesOn B objects waiting (apply_final R n (compose_to R n c i) x)) is_id go))))))
+              (omega arith, omega arith)
+          by_kind false other =
+              let is_fail : e1 ≡ Fail label =
+              solid ∙ other_base R (coerce_below R n) kept wanted label s.tag s.has (heads ∙ other) in
+              at_most walk
+              (if_false walk objects fine (s.tag + 15) (type_kind (R wanted)) refl refl other
+              (loads walk objects fine wc (header 14 y1 3) ws 2 label l1 hc.2 refl refl refl
+              (subst (λ c. GoesOn B objects waiting (apply_final R n (compose_to R n c i) x)) is_fail go
+              objects h 10 _ _ waiting (Word 7) (Number 0) 4 5 (Return (Number 0)) (grows_not objects) fine refl refl
+              (omega arith) (omega arith))))
+              (omega arith, omega arith)
+
+      by_size : (o : Option ℕ) → small_dyn (R kept) hv.0 ≡ o → IsDynBy walk.l objects o kept hv.0 wv
+          → (rests : List Code)
+          → Reached (More (whole_cost - 8) whole_above B) (state 10 L (cast_project walk.first) rests waiting h)
+      by_size (Some small) e d rests =
+          let s = small_is (R kept) hv.0 small e in
+          let tag_is : compute And wv 7 ≡ s.tag =
+          ap (λ y. compute And y 7) (d.0 ∙ s.is) ∙ tag_read s.tag hv.0 (let f = s.few in omega (arith, f)) in
+          at_most walk
+          (computes walk objects fine wv 7 s.tag refl refl tag_is refl
+          (if_false walk objects fine s.tag 0 refl refl (eq_false s.tag 0 (λ z. let p = s.some in omega (arith, z, p)))
+          (from_tag small s d.0 _ refl refl refl _)))
+          (omega arith, omega arith)
+      by_size None e d rests =
+          at_most walk
+          (computes walk objects fine wv 7 0 refl refl (no_tag wv (untagged_there walk objects h fine wv _ d.1)) refl
+          (if_true walk objects fine 0 0 refl refl refl
+          (from_object d _ refl refl _)))
+          (omega arith, omega arith)
 
   -- whatever a cast comes to, the procedure comes to
   pub by_cast : (c : Coercion) → IsNormal R c → NoHigher R c n → (u : Merged A) → CastDoes whole_cost whole_above c u

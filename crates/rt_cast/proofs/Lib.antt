@@ -6,8 +6,11 @@ mod Steps
 mod HeaderNumbers
 mod Small
 mod Middles
+mod DynWords
 mod PartWords
 mod ComposeSteps
+mod IntoDyn
+mod BaseCasts
 mod ComposeRuns
 mod CoerceRuns
 mod Reaching

@@ -1,25 +1,24 @@
 -- What project does.
 use Rattle.std.proofs.Common.{◌≡◌, ◌⊎◌, inl, inr, ℕ, zero, suc, ◌+◌, ◌*◌, ◌<◌, ◌≤◌, Bool, true, false, cond}
-use Rattle.std.proofs.Common.{List, [], ◌∷◌, ◌++◌, map, Option, Some, None, refl, sym, ap, ap₂, ◌∙◌, subst, arith}
+use Rattle.std.proofs.Common.{List, [], ◌∷◌, map, Option, Some, None, refl, sym, ap, ap₂, ◌∙◌, subst, arith}
 use Rattle.std.proofs.Common.{length}
-use Rattle.std.specs.Prelude.{◌==◌, nat_lt, slice_get, max, All, pos}
+use Rattle.std.specs.Prelude.{◌==◌, nat_lt, slice_get, max, All, pos, ℤ}
 use Rattle.std.proofs.lemmas.List.Elements.{All-head, All-tail}
 use Rattle.grift_base.specs.Types.{TypeHead, TypeRow, TypeRows, IntRow, BoolRow, UnitRow, DynRow, FunRow, TupleRow}
 use Rattle.grift_base.specs.Types.{RefRow, VectRow, is_dyn, parts_of, row_at, tuple_part, dyn_from, dyn_place}
 use Rattle.low_ir.specs.declared.code.LowSource.TheVariants.{Word, Number}
 use Rattle.low_ir.specs.declared.code.WordOp.TheVariants.{And}
 use Rattle.rv_isa.specs.declared.inst.Cond.TheVariants.{Eq, Ltu}
-use Rattle.low_ir.specs.Procedures.{Code, Compute, Load, Build, Return}
+use Rattle.low_ir.specs.Procedures.{Code, Return}
 use Rattle.low_ir.specs.Steps.{Locals, no_locals, set_local}
-use Rattle.low_ir.specs.Run.{Waiting, LowState, bind, and_more}
-use Rattle.coercion_norm.specs.declared.middles.MiddleKind.{MiddleKind as Kind}
+use Rattle.low_ir.specs.Run.{Waiting, LowState, bind}
 use Rattle.coercion_norm.specs.declared.middles.MiddleKind.TheVariants.{Fun as FunKind, Tup as TupKind}
 use Rattle.coercion_norm.specs.declared.middles.MiddleKind.TheVariants.{Ref as RefKind, Vec as VecKind}
 use Rattle.coercion_norm.specs.Coercions.{Coercion, Coercions, Id, Fail, Middle, Inject, Project, NoCoercions}
 use Rattle.coercion_norm.specs.Coercions.{CoercionThen, kind_of, rows_of}
 use Rattle.coercion_norm.specs.CoercionTables.{cast_of}
 use Rattle.coercion_norm.specs.Composition.{coerce_by, coerce_below}
-use Rattle.coercion_norm.specs.Heights.{coercion_height, highest, NoHigher, TypeNoHigher}
+use Rattle.coercion_norm.specs.Heights.{coercion_height, highest, TypeNoHigher}
 use Rattle.coercion_norm.specs.Modes.{part_to_dyn, cast_to_dyn, kept_part}
 use Rattle.coercion_norm.specs.MergedMode.{part_at, tuple_coercion}
 use Rattle.coercion_norm.specs.Normal.{IsNormal, AreNormal}
@@ -27,8 +26,13 @@ use Rattle.rt_cast.specs.Costs.{tuple_cost, project_cost}
 use Rattle.coercion_norm.specs.Objects.{Object, Fixed}
 use Rattle.coercion_norm.specs.Held.{There, Held, AreHeld, HoldsType, rows_in, height_in}
 use Rattle.coercion_norm.specs.ObjectsOfRows.{header, type_kind}
-use Rattle.rt_cast.specs.WholeObjects.{IsSolid, WholeDyn}
-use Rattle.rt_cast.specs.CastCodes.{project_code, project_dyn_part, project_blame}
+use Rattle.rt_cast.specs.WholeObjects.{IsSolid}
+use Rattle.rt_cast.specs.CastCodes.{project_code, project_dyn, project_dyn_object, project_dyn_part, project_blame}
+use Rattle.rt_cast.specs.CastCodes.{into_dyn, read_kind}
+use Rattle.rt_cast.specs.DynWords.{tag_of, small_dyn, IsDynBy}
+use Rattle.rt_cast.proofs.DynWords.{small_is, tag_read, no_tag}
+use Rattle.rt_cast.proofs.IntoDyn.{untagged_there, kind_there, put_into_dyn}
+use Rattle.low_ir.specs.Operations.{compute}
 use Rattle.rt_cast.specs.PartCodes.{either}
 use Rattle.rt_cast.specs.Procs.{cast_proc, project_proc}
 use Rattle.rt_cast.specs.States.{Grows, Heap, Fine, st}
@@ -38,13 +42,12 @@ use Rattle.rt_cast.specs.PartValues.{with_some, part_value, dyn_part_by, dyn_par
 use Rattle.rt_cast.specs.Carried.{CarriedBy, IsLow, AreCarried, HoldsParts, HaveParts}
 use Rattle.rt_cast.proofs.Walks.{Walk}
 use Rattle.rt_cast.proofs.Objects.{none_some, same_some}
-use Rattle.rt_cast.proofs.HeaderNumbers.{eq_true, lt_true, lt_false, lt_cases, kind_read, count_read}
+use Rattle.rt_cast.proofs.HeaderNumbers.{eq_true, eq_false, lt_true, lt_false, lt_cases, kind_read, count_read}
 use Rattle.rt_cast.proofs.Steps.{Budget, More, at_most, word_there, loads, loads_at, computes, if_true}
 use Rattle.rt_cast.proofs.Steps.{if_false}
-use Rattle.rt_cast.proofs.Steps.{builds, calls, tail_calls}
+use Rattle.rt_cast.proofs.Steps.{calls, tail_calls}
 use Rattle.rt_cast.proofs.Small.{ReachedIn, grows_not}
-use Rattle.rt_cast.proofs.Middles.{added, one_more}
-use Rattle.rt_cast.proofs.ComposeSteps.{type_there, type_small, type_still, type_numbers}
+use Rattle.rt_cast.proofs.ComposeSteps.{type_there, type_numbers}
 use Rattle.rt_cast.proofs.CastRuns.{rebased, after, GoesOn, whole_above, no_higher, carried_still, carried_small}
 use Rattle.rt_cast.proofs.CastRuns.{by_cast}
 use Rattle.rt_cast.proofs.CastDecisions.{low_of, by_inject, by_cast as decided_cast}
@@ -112,15 +115,11 @@ kind_of_dyn (RefRow c) = refl
 kind_of_dyn (VectRow c) = refl
 
 -- what is done with a part of what is in Dyn
-abbrev if_dyn : Bool → Code
-if_dyn true = Return (Word 9)
-if_dyn false = Build 11 (Number 8589934595 ∷ Word 8 ∷ Word 9 ∷ []) (Return (Word 11))
+abbrev unless_dyn : Code
+unless_dyn = either Eq (Word 6) (Number 19) (Return (Word 9)) into_dyn
 
 abbrev after_part : Code
-after_part =
-    Load 10 (Word 8) 0 (
-    Compute And 10 (Word 10) (Number 255) (
-    either Eq (Word 10) (Number 19) (if_dyn true) (if_dyn false)))
+after_part = read_kind unless_dyn
 
 -- whether a row has a part
 data Sight (row : TypeRow) (k : ℕ) : Type 0 where
@@ -141,6 +140,16 @@ sight (TupleRow ps) k = by (lt_cases k (length ps))
     by : (k < length ps) ⊎ (length ps ≤ k) → Sight (TupleRow ps) k
     by (inl lt) = let z = within ps k lt in HasPart ps z.0 refl z.1
     by (inr le) = Short ps refl le
+
+no_tuple : (row : TypeRow) (k : ℤ) (tag : ℕ) → tag_of row ≡ Some tag → tuple_part row k ≡ None
+no_tuple IntRow k tag e = refl
+no_tuple BoolRow k tag e = refl
+no_tuple UnitRow k tag e = refl
+no_tuple DynRow k tag e = none_some e
+no_tuple (FunRow ps a) k tag e = none_some e
+no_tuple (TupleRow ps) k tag e = none_some e
+no_tuple (RefRow c) k tag e = none_some e
+no_tuple (VectRow c) k tag e = none_some e
 
 -- a part is lower than the whole
 part_lower : (rows : ℕ → TypeRow) (t kept part k : ℕ) (ps : List ℕ) → rows kept ≡ TupleRow ps
@@ -342,7 +351,7 @@ module _ {V : Type 0} (walk : Walk V) (low : walk.l.tallest ≤ 65534) (A : Type
   dyn_read wv k label wt wx kept =
       set_local 6 (length (parts_of (R kept))) (set_local 7 (type_kind (R kept)) (set_local 6 (header
       (type_kind (R kept)) (height_in walk.l kept) (length (parts_of (R kept)))) (set_local 5 wx (set_local 4 wt
-      (asked wv k 0 label)))))
+      (set_local 4 0 (asked wv k 0 label))))))
 
   -- the label is blamed
   blamed : {B : Budget} → (objects : List Object) (h : Heap) (fine : Fine walk.setting walk.l walk.around objects h)
@@ -359,12 +368,13 @@ module _ {V : Type 0} (walk : Walk V) (low : walk.l.tallest ≤ 65534) (A : Type
   in_dyn : (B : Budget) (objects : List Object) (h : Heap) (fine : Fine walk.setting walk.l walk.around objects h)
       (waiting : List Waiting) (count : ℕ) (locals : Locals) (rests : List Code) (part dyn label : ℕ) (y : Merged A)
       (w : ℕ) → part < length walk.l.types → height_in walk.l part ≤ n → is_dyn (R dyn) ≡ true → Carried objects y w
-      → locals 8 ≡ Some (walk.l.type_at part) → locals 9 ≡ Some w → nat_lt 11 count ≡ true → nat_lt 10 count ≡ true
+      → locals 8 ≡ Some (walk.l.type_at part) → locals 9 ≡ Some w → nat_lt 7 count ≡ true → nat_lt 6 count ≡ true
+      → nat_lt 5 count ≡ true
       → (r : Outcome A) → cast_value head walk.l.types (make part label dyn) y ≡ r → (r ≡ Stuck → ⊥)
       → Goes B objects waiting r
-      → ReachedIn walk (More 6 0 B) (state count locals (after_part) rests waiting h)
-  in_dyn B objects h fine waiting count locals rests part dyn label y w known lower isdyn hy l8 l9 lt11 lt10 r e some go
-      =
+      → ReachedIn walk (More 12 0 B) (state count locals (after_part) rests waiting h)
+  in_dyn B objects h fine waiting count locals rests part dyn label y w known lower isdyn hy l8 l9 lt7 lt6 lt5 r e some
+      go =
       by (is_dyn (R part)) refl
     where
       at : ℕ
@@ -385,67 +395,28 @@ module _ {V : Type 0} (walk : Walk V) (low : walk.l.tallest ≤ 65534) (A : Type
           label)
           f isdyn
 
-      reads : {D : Budget} → (b : Bool) → (type_kind (R part) == 19) ≡ b
-          → ((rests' : List Code) → ReachedIn walk D (state count (set_local 10 (type_kind (R part)) (set_local 10
-          type_head locals))
-          (if_dyn b) rests' waiting h)) → ReachedIn walk (More 3 0 D) (state count locals after_part rests waiting h)
-      reads true f go2 =
-          at_most walk
-          (loads walk objects fine at type_head (map walk.l.type_at (parts_of (R part))) 0 type_head l8
-          (type_there walk objects at part held) refl refl lt10
-          (computes walk objects fine type_head 255 (type_kind (R part)) refl refl
-          (kind_read (type_kind (R part)) (height_in walk.l part) (length (parts_of (R part))) (type_numbers (R part)))
-          lt10
-          (if_true walk objects fine (type_kind (R part)) 19 refl refl f (go2 _))))
-          (omega arith, omega arith)
-      reads false f go2 =
-          at_most walk
-          (loads walk objects fine at type_head (map walk.l.type_at (parts_of (R part))) 0 type_head l8
-          (type_there walk objects at part held) refl refl lt10
-          (computes walk objects fine type_head 255 (type_kind (R part)) refl refl
-          (kind_read (type_kind (R part)) (height_in walk.l part) (length (parts_of (R part))) (type_numbers (R part)))
-          lt10
-          (if_false walk objects fine (type_kind (R part)) 19 refl refl f (go2 _))))
-          (omega arith, omega arith)
-
-      by : (b : Bool) → is_dyn (R part) ≡ b → ReachedIn walk (More 6 0 B) (state count locals after_part rests waiting
+      by : (b : Bool) → is_dyn (R part) ≡ b → ReachedIn walk (More 12 0 B) (state count locals after_part rests waiting
           h)
       by true f =
           let g : Gives y ≡ r = ap (λ c. cast_value head walk.l.types c y) (sym (coercion_is true f)) ∙ e in
           at_most walk
-          (reads true (kind_of_dyn (R part) ∙ f)
-          (λ rests'. subst (Goes B objects waiting) (sym g) go objects h w count _ rests' (Word 9) (grows_not objects)
-          fine hy l9))
+          (kind_there walk objects h fine waiting count locals rests unless_dyn part at held lt6 l8
+          (λ read. if_true walk objects fine (type_kind (R part)) 19 refl refl (kind_of_dyn (R part) ∙ f)
+          (subst (Goes B objects waiting) (sym g) go objects h w count _ _ (Word 9) (grows_not objects) fine hy l9)))
           (omega arith, omega arith)
       by false f =
-          let o = Fixed 8589934595 (at ∷ w ∷ []) in
-          let grown = one_more walk objects o in
           let g : Gives (InDyn part y) ≡ r =
           by_inject walk.l walk.types head 2 part y r some
           (ap (λ c. cast_value head walk.l.types c y) (sym (coercion_is false f)) ∙ e) in
           at_most walk
-          (reads false (kind_of_dyn (R part) ∙ f)
-          (λ rests'. builds walk objects fine 8589934595 (at ∷ w ∷ [])
-          (ap₂ (λ a b. and_more (Some 8589934595) (and_more a (and_more b (Some [])))) l8 l9) (omega arith)
-          (omega arith) (
-            omega arith,
-            (
-              type_small walk objects h fine at part held,
-              (carried_small walk low A IsHeld still is_solid objects h fine y w hy, tt),
-            ),
-          )
-          (WholeDyn at w part refl held) lt11
-          (λ h' fine'. subst (Goes B objects waiting) (sym g) go (objects ++ o ∷ []) h' h.alloc count _ _ (Word 11)
-          grown
-          fine' (
-            at,
-            w,
-            added walk objects h fine o,
-            type_still walk objects (objects ++ o ∷ []) at part held,
-            lower,
-            f,
-            carried_still walk low A IsHeld still is_solid objects (objects ++ o ∷ []) grown y w hy,
-          ) refl)))
+          (kind_there walk objects h fine waiting count locals rests unless_dyn part at held lt6 l8
+          (λ read. if_false walk objects fine (type_kind (R part)) 19 refl refl (kind_of_dyn (R part) ∙ f)
+          (put_into_dyn walk objects h fine waiting count part at w held
+          (carried_small walk low A IsHeld still is_solid objects h fine y w hy) lt7 lt6 lt5
+          (λ new h' w' locals' rests' grows fine' d l7. subst (Goes B objects waiting) (sym g) go new h' w' count locals'
+          rests' (Word 7) grows fine'
+          (w, d, lower, f, carried_still walk low A IsHeld still is_solid objects new grows y w hy) l7)
+          _ _ refl l8 l9)))
           (omega arith, omega arith)
 
   pub dyn_part_done : (B : Budget) (objects : List Object) (h : Heap)
@@ -457,20 +428,9 @@ module _ {V : Type 0} (walk : Walk V) (low : walk.l.tallest ≤ 65534) (A : Type
   dyn_part_done B objects h fine tuples waiting (Solid a) wv k label hv r e some go = absurd (some (sym e))
   dyn_part_done B objects h fine tuples waiting (Proxied a c) wv k label hv r e some go = absurd (some (sym e))
   dyn_part_done B objects h fine tuples waiting (InDyn kept x) wv k label hv r e some go =
-      let tk = type_numbers (R kept) in
-      let tall = walk.types.low kept in
       at_most walk
       (if_true walk objects fine 0 0 refl refl refl
-      (loads walk objects fine wv (header 3 0 2) (hv.0 ∷ hv.1 ∷ []) 1 hv.0 refl hv.2 refl refl refl
-      (loads walk objects fine wv (header 3 0 2) (hv.0 ∷ hv.1 ∷ []) 2 hv.1 refl hv.2 refl refl refl
-      (loads walk objects fine hv.0 type_head type_words 0 type_head refl (type_there walk objects hv.0 kept hv.3) refl
-      refl refl
-      (computes walk objects fine type_head 255 (type_kind (R kept)) refl refl
-      (kind_read (type_kind (R kept)) (height_in walk.l kept) (length (parts_of (R kept))) tk) refl
-      (computes walk objects fine type_head 32 (length (parts_of (R kept))) refl refl
-      (count_read (type_kind (R kept)) (height_in walk.l kept) (length (parts_of (R kept))) (omega (arith, tk))
-      (omega (arith, tall))) refl
-      (by_sight (sight (R kept) k) _)))))))
+      (by_size (small_dyn (R kept) hv.0) refl hv.1 _))
       (omega arith, omega arith)
     where
       type_head : ℕ
@@ -479,15 +439,25 @@ module _ {V : Type 0} (walk : Walk V) (low : walk.l.tallest ≤ 65534) (A : Type
       type_words : List ℕ
       type_words = map walk.l.type_at (parts_of (R kept))
 
+      known : kept < length walk.l.types
+      known = by (small_dyn (R kept) hv.0) hv.1
+        where
+          by : (o : Option ℕ) → IsDynBy walk.l objects o kept hv.0 wv → kept < length walk.l.types
+          by (Some small) d = d.1
+          by None d = d.2.known
+
+      tk : type_kind (R kept) < 256
+      tk = type_numbers (R kept)
+
+      tall : height_in walk.l kept < 65535
+      tall = walk.types.low kept
+
       -- by the row that is kept
       by_row : dyn_part_by head parts walk.l.types (part_to_dyn make walk.l.types (tuple_part (R kept) (pos k)) label) k
           label x ≡ r
       by_row =
           ap (λ o. dyn_part_by head parts walk.l.types (kept_part make walk.l.types o (pos k) label) k label x)
-          (sym (place_told walk.l.types kept hv.3.known)) ∙ e
-
-      L : Locals
-      L = dyn_read wv k label hv.0 hv.1 kept
+          (sym (place_told walk.l.types kept known)) ∙ e
 
       -- where there is no such part
       no_part : tuple_part (R kept) (pos k) ≡ None → Goes B objects waiting (Blames label)
@@ -497,80 +467,133 @@ module _ {V : Type 0} (walk : Walk V) (low : walk.l.tallest ≤ 65534) (A : Type
           (sym none)
           ∙ by_row)) go
 
-      with_dyn : (ps : List ℕ) → R kept ≡ TupleRow ps → (part : ℕ) → slice_get ps k ≡ Some part → (dyn : ℕ)
-          → dyn_place walk.l.types ≡ Some dyn
-          → then_outcome (part_value head parts walk.l.types k x) (cast_value head walk.l.types (make part label dyn)) ≡
-          r
-          → (rests : List Code) → ReachedIn walk (More (tuple_cost walk.l.width n + 12)
-          (suc (whole_above walk low A IsHeld still is_solid)) B) (state 12 L (project_dyn_part walk.first) rests
-          waiting h)
-      with_dyn ps row part got dyn place f rests =
-          let known =
-          each_has (λ p. p < length walk.l.types) ps k part
-          (subst (λ y. All (λ p. p < length walk.l.types) (parts_of y)) row (walk.types.parts kept hv.3.known)) got
-          in
-          let below = part_lower R n kept part k ps row got ((walk.types.heights kept n).1 hv.4) in
-          let tall_part = (walk.types.heights part below.0).0 below.2 in
-          let told : slice_get type_words k ≡ Some (walk.l.type_at part) =
-          ap (λ y. slice_get (map walk.l.type_at (parts_of y)) k) row ∙ mapped walk.l.type_at ps k part got in
-          let w =
-          word_there walk objects h fine hv.0 type_head type_words (type_there walk objects hv.0 kept hv.3) (suc k)
-          (walk.l.type_at part) (8 * k + hv.0 + 8) told (omega arith) in
+      -- the label is blamed where what is there stands behind a tag
+      from_tag : (tag : ℕ) → tag_of (R kept) ≡ Some tag → (locals : Locals) → locals 3 ≡ Some label
+          → (rests : List Code) → ReachedIn walk (More 0 0 B) (state 12 locals project_blame rests waiting h)
+      from_tag tag has locals l3 rests =
           at_most walk
-          (computes walk objects fine k 3 (8 * k) refl refl (let z = w.end in omega (arith, z)) refl
-          (computes walk objects fine (8 * k) hv.0 (8 * k + hv.0) refl refl (let z = w.end in omega (arith, z)) refl
-          (loads_at walk objects fine (8 * k + hv.0) (walk.l.type_at part) refl w refl
-          (calls walk objects fine (hv.1 ∷ k ∷ 1 ∷ label ∷ []) (project_proc walk.first) refl (walk.stands 3 _ refl)
-          refl
-          (tuple_part_done _ objects h fine tuples _ x hv.1 k label hv.6 (part_value head parts walk.l.types k x) refl
-          (λ q. some (sym f ∙ ap (λ o. then_outcome o (cast_value head walk.l.types (make part label dyn))) q))
-          (after walk low A IsHeld still is_solid B _ objects waiting _ 9 refl (part_value head parts walk.l.types k x)
-          (cast_value head walk.l.types (make part label dyn)) (subst (Goes B objects waiting) (sym f) go)
-          (λ y go' new h' w2 grows fine' held. in_dyn B new h' fine' waiting 12 _ rests part dyn label y w2 known
-          (omega (arith, tall_part, below.1)) (dyn_there walk.l.types dyn place) held refl refl refl refl
-          (cast_value head walk.l.types (make part label dyn) y) refl (λ q. subst (Goes B objects waiting) q go')
-          (rebased walk low A IsHeld still is_solid B objects new waiting grows
-          (cast_value head walk.l.types (make part label dyn) y) go'))))))))
+          (no_part (no_tuple (R kept) (pos k) tag has) objects h 12 _ rests waiting (Word 3) (Number 0) 4 5
+          (Return (Number 0)) (grows_not objects) fine l3 refl (omega arith) (omega arith))
           (omega arith, omega arith)
 
-      by_dyn : (ps : List ℕ) → R kept ≡ TupleRow ps → (part : ℕ) → slice_get ps k ≡ Some part → (o : Option ℕ)
-          → dyn_place walk.l.types ≡ o
-          → dyn_part_by head parts walk.l.types (cast_to_dyn make o part label) k label x ≡ r → (rests : List Code)
-          → ReachedIn walk (More (tuple_cost walk.l.width n + 12) (suc (whole_above walk low A IsHeld still is_solid))
-          B)
-          (state 12 L (project_dyn_part walk.first) rests waiting h)
-      by_dyn ps row part got None place f rests = absurd (some (sym f))
-      by_dyn ps row part got (Some dyn) place f rests = with_dyn ps row part got dyn place f rests
+      InObject : Type 0
+      InObject =
+          (wt : ℕ) × There walk.l objects wv (Fixed (header 3 0 2) (wt ∷ hv.0 ∷ [])) × HoldsType walk.l objects wt kept
 
-      by_sight : Sight (R kept) k → (rests : List Code)
-          → ReachedIn walk (More (tuple_cost walk.l.width n + 14) (suc (whole_above walk low A IsHeld still is_solid))
-          B)
-          (state 12 L (either Eq (Word 7) (Number 21) (either Ltu (Word 1) (Word 6) (project_dyn_part walk.first)
-          project_blame) project_blame) rests waiting h)
-      by_sight (NotTuple other none) rests =
+      from_object : (d : InObject) → (rests : List Code)
+          → ReachedIn walk (More (tuple_cost walk.l.width n + 30) (suc (whole_above walk low A IsHeld still is_solid)) B)
+          (state 12 (set_local 4 0 (asked wv k 0 label)) (project_dyn_object walk.first) rests waiting h)
+      from_object d rests =
           at_most walk
-          (if_false walk objects fine (type_kind (R kept)) 21 refl refl other
-          (blamed {B = B} objects h fine waiting _ wv k label hv.0 hv.1 kept (no_part none)))
+          (loads walk objects fine wv (header 3 0 2) (d.0 ∷ hv.0 ∷ []) 1 d.0 refl d.1 refl refl refl
+          (loads walk objects fine wv (header 3 0 2) (d.0 ∷ hv.0 ∷ []) 2 hv.0 refl d.1 refl refl refl
+          (loads walk objects fine d.0 type_head type_words 0 type_head refl (type_there walk objects d.0 kept d.2) refl
+          refl refl
+          (computes walk objects fine type_head 255 (type_kind (R kept)) refl refl
+          (kind_read (type_kind (R kept)) (height_in walk.l kept) (length (parts_of (R kept))) tk) refl
+          (computes walk objects fine type_head 32 (length (parts_of (R kept))) refl refl
+          (count_read (type_kind (R kept)) (height_in walk.l kept) (length (parts_of (R kept))) (omega (arith, tk))
+          (omega (arith, tall))) refl
+          (by_sight (sight (R kept) k) _))))))
           (omega arith, omega arith)
-      by_sight (Short ps row le) rests =
-          let long : length (parts_of (R kept)) ≡ length ps = ap (λ y. length (parts_of y)) row in
+        where
+          L : Locals
+          L = dyn_read wv k label d.0 hv.0 kept
+
+          with_dyn : (ps : List ℕ) → R kept ≡ TupleRow ps → (part : ℕ) → slice_get ps k ≡ Some part → (dyn : ℕ)
+              → dyn_place walk.l.types ≡ Some dyn
+              → then_outcome (part_value head parts walk.l.types k x) (cast_value head walk.l.types (make part label dyn)) ≡
+              r
+              → (rests : List Code) → ReachedIn walk (More (tuple_cost walk.l.width n + 18)
+              (suc (whole_above walk low A IsHeld still is_solid)) B) (state 12 L (project_dyn_part walk.first) rests
+              waiting h)
+          with_dyn ps row part got dyn place f rests =
+              let known =
+              each_has (λ p. p < length walk.l.types) ps k part
+              (subst (λ y. All (λ p. p < length walk.l.types) (parts_of y)) row (walk.types.parts kept d.2.known)) got
+              in
+              let below = part_lower R n kept part k ps row got ((walk.types.heights kept n).1 hv.2) in
+              let tall_part = (walk.types.heights part below.0).0 below.2 in
+              let told : slice_get type_words k ≡ Some (walk.l.type_at part) =
+              ap (λ y. slice_get (map walk.l.type_at (parts_of y)) k) row ∙ mapped walk.l.type_at ps k part got in
+              let w =
+              word_there walk objects h fine d.0 type_head type_words (type_there walk objects d.0 kept d.2) (suc k)
+              (walk.l.type_at part) (8 * k + d.0 + 8) told (omega arith) in
+              at_most walk
+              (computes walk objects fine k 3 (8 * k) refl refl (let z = w.end in omega (arith, z)) refl
+              (computes walk objects fine (8 * k) d.0 (8 * k + d.0) refl refl (let z = w.end in omega (arith, z)) refl
+              (loads_at walk objects fine (8 * k + d.0) (walk.l.type_at part) refl w refl
+              (calls walk objects fine (hv.0 ∷ k ∷ 1 ∷ label ∷ []) (project_proc walk.first) refl (walk.stands 3 _ refl)
+              refl
+              (tuple_part_done _ objects h fine tuples _ x hv.0 k label hv.4 (part_value head parts walk.l.types k x) refl
+              (λ q. some (sym f ∙ ap (λ o. then_outcome o (cast_value head walk.l.types (make part label dyn))) q))
+              (after walk low A IsHeld still is_solid B _ objects waiting _ 9 refl (part_value head parts walk.l.types k x)
+              (cast_value head walk.l.types (make part label dyn)) (subst (Goes B objects waiting) (sym f) go)
+              (λ y go' new h' w2 grows fine' held. in_dyn B new h' fine' waiting 12 _ rests part dyn label y w2 known
+              (omega (arith, tall_part, below.1)) (dyn_there walk.l.types dyn place) held refl refl refl refl refl
+              (cast_value head walk.l.types (make part label dyn) y) refl (λ q. subst (Goes B objects waiting) q go')
+              (rebased walk low A IsHeld still is_solid B objects new waiting grows
+              (cast_value head walk.l.types (make part label dyn) y) go'))))))))
+              (omega arith, omega arith)
+
+          by_dyn : (ps : List ℕ) → R kept ≡ TupleRow ps → (part : ℕ) → slice_get ps k ≡ Some part → (o : Option ℕ)
+              → dyn_place walk.l.types ≡ o
+              → dyn_part_by head parts walk.l.types (cast_to_dyn make o part label) k label x ≡ r → (rests : List Code)
+              → ReachedIn walk (More (tuple_cost walk.l.width n + 18) (suc (whole_above walk low A IsHeld still is_solid))
+              B)
+              (state 12 L (project_dyn_part walk.first) rests waiting h)
+          by_dyn ps row part got None place f rests = absurd (some (sym f))
+          by_dyn ps row part got (Some dyn) place f rests = with_dyn ps row part got dyn place f rests
+
+          by_sight : Sight (R kept) k → (rests : List Code)
+              → ReachedIn walk (More (tuple_cost walk.l.width n + 22) (suc (whole_above walk low A IsHeld still is_solid))
+              B)
+              (state 12 L (either Eq (Word 7) (Number 21) (either Ltu (Word 1) (Word 6) (project_dyn_part walk.first)
+              project_blame) project_blame) rests waiting h)
+          by_sight (NotTuple other none) rests =
+              at_most walk
+              (if_false walk objects fine (type_kind (R kept)) 21 refl refl other
+              (blamed {B = B} objects h fine waiting _ wv k label d.0 hv.0 kept (no_part none)))
+              (omega arith, omega arith)
+          by_sight (Short ps row le) rests =
+              let long : length (parts_of (R kept)) ≡ length ps = ap (λ y. length (parts_of y)) row in
+              at_most walk
+              (if_true walk objects fine (type_kind (R kept)) 21 refl refl (eq_true (type_kind (R kept)) 21 (ap type_kind
+              row))
+              (if_false walk objects fine k (length (parts_of (R kept))) refl refl
+              (lt_false k (length (parts_of (R kept))) (omega (arith, long, le)))
+              (blamed {B = B} objects h fine waiting _ wv k label d.0 hv.0 kept
+              (no_part (ap (λ y. tuple_part y (pos k)) row ∙ beyond ps k le)))))
+              (omega arith, omega arith)
+          by_sight (HasPart ps part row got) rests =
+              let long : length (parts_of (R kept)) ≡ length ps = ap (λ y. length (parts_of y)) row in
+              let less = inside ps k part got in
+              at_most walk
+              (if_true walk objects fine (type_kind (R kept)) 21 refl refl (eq_true (type_kind (R kept)) 21 (ap type_kind
+              row))
+              (if_true walk objects fine k (length (parts_of (R kept))) refl refl
+              (lt_true k (length (parts_of (R kept))) (omega (arith, long, less)))
+              (by_dyn ps row part got (dyn_place walk.l.types) refl
+              (ap (λ o. dyn_part_by head parts walk.l.types (part_to_dyn make walk.l.types o label) k label x)
+              (sym (ap (λ y. tuple_part y (pos k)) row ∙ got)) ∙ by_row) _)))
+              (omega arith, omega arith)
+
+      by_size : (o : Option ℕ) → small_dyn (R kept) hv.0 ≡ o → IsDynBy walk.l objects o kept hv.0 wv
+          → (rests : List Code)
+          → ReachedIn walk (More (tuple_cost walk.l.width n + 34) (suc (whole_above walk low A IsHeld still is_solid)) B)
+          (state 12 (asked wv k 0 label) (project_dyn walk.first) rests waiting h)
+      by_size (Some small) e d rests =
+          let s = small_is (R kept) hv.0 small e in
+          let tag_is : compute And wv 7 ≡ s.tag =
+          ap (λ y. compute And y 7) (d.0 ∙ s.is) ∙ tag_read s.tag hv.0 (let f = s.few in omega (arith, f)) in
           at_most walk
-          (if_true walk objects fine (type_kind (R kept)) 21 refl refl (eq_true (type_kind (R kept)) 21 (ap type_kind
-          row))
-          (if_false walk objects fine k (length (parts_of (R kept))) refl refl
-          (lt_false k (length (parts_of (R kept))) (omega (arith, long, le)))
-          (blamed {B = B} objects h fine waiting _ wv k label hv.0 hv.1 kept
-          (no_part (ap (λ y. tuple_part y (pos k)) row ∙ beyond ps k le)))))
+          (computes walk objects fine wv 7 s.tag refl refl tag_is refl
+          (if_false walk objects fine s.tag 0 refl refl (eq_false s.tag 0 (λ z. let p = s.some in omega (arith, z, p)))
+          (from_tag s.tag s.has _ refl _)))
           (omega arith, omega arith)
-      by_sight (HasPart ps part row got) rests =
-          let long : length (parts_of (R kept)) ≡ length ps = ap (λ y. length (parts_of y)) row in
-          let less = inside ps k part got in
+      by_size None e d rests =
           at_most walk
-          (if_true walk objects fine (type_kind (R kept)) 21 refl refl (eq_true (type_kind (R kept)) 21 (ap type_kind
-          row))
-          (if_true walk objects fine k (length (parts_of (R kept))) refl refl
-          (lt_true k (length (parts_of (R kept))) (omega (arith, long, less)))
-          (by_dyn ps row part got (dyn_place walk.l.types) refl
-          (ap (λ o. dyn_part_by head parts walk.l.types (part_to_dyn make walk.l.types o label) k label x)
-          (sym (ap (λ y. tuple_part y (pos k)) row ∙ got)) ∙ by_row) _)))
+          (computes walk objects fine wv 7 0 refl refl (no_tag wv (untagged_there walk objects h fine wv _ d.1)) refl
+          (if_true walk objects fine 0 0 refl refl refl
+          (from_object d _)))
           (omega arith, omega arith)

@@ -26,3 +26,6 @@ pub use Rattle.rt_cast.proofs.CastCases.{apply}
 pub use Rattle.rt_cast.proofs.CastRuns.{GoesOn, no_higher, whole_above, carried_still, by_cast}
 pub use Rattle.rt_cast.proofs.CastDecisions.{low_of, by_cast as decided_cast}
 pub use Rattle.rt_cast.proofs.CastReaching.{ends, very_still}
+-- words in Dyn, behind a tag or not:
+pub use Rattle.rt_cast.proofs.DynWords.{SmallIs, small_is, small_fits, tag_read, no_tag, untagged}
+pub use Rattle.rt_cast.proofs.IntoDyn.{dyn_still}

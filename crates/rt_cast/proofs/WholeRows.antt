@@ -32,7 +32,7 @@ use Rattle.coercion_norm.specs.Objects.{Object, Fixed, Cell, header_of, bytes_of
 use Rattle.rt_cast.specs.Objects.{HasWord, HoldsWords}
 use Rattle.coercion_norm.specs.Objects.{object_at}
 use Rattle.rt_cast.specs.Objects.{HoldsObject, Holds}
-use Rattle.coercion_norm.specs.Held.{Layout, There, HoldsType, TypesStand, HasWidth}
+use Rattle.coercion_norm.specs.Held.{Layout, There, HoldsType, TypesStand}
 use Rattle.coercion_norm.specs.ObjectsOfRows.{header, kind_number, type_kind}
 use Rattle.coercion_norm.specs.Held.{rows_in, height_in}
 use Rattle.rt_cast.specs.WholeObjects.{CoercionWord, IdWord, ObjectWord, Highest, IsWhole, Wholes, WholeFail}

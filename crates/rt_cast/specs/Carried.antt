@@ -12,8 +12,9 @@ use Rattle.coercion_norm.specs.Coercions.{Coercion}
 use Rattle.coercion_norm.specs.Heights.{coercion_height}
 use Rattle.coercion_norm.specs.Normal.{IsNormal}
 use Rattle.coercion_norm.specs.Objects.{Object, Fixed}
-use Rattle.coercion_norm.specs.Held.{Layout, There, Held, HoldsType, rows_in, height_in}
+use Rattle.coercion_norm.specs.Held.{Layout, There, Held, rows_in, height_in}
 use Rattle.coercion_norm.specs.ObjectsOfRows.{header}
+use Rattle.rt_cast.specs.DynWords.{IsDyn}
 use Rattle.rt_cast.specs.WholeObjects.{IsSolid}
 use Rattle.rt_cast.specs.States.{Grows, Fine, OnTheWay, around, heap_of, entered}
 use Rattle.rt_cast.specs.MergedValues.{Merged, Base, Solid, Proxied, InDyn, Outcome, Stuck, Gives, Blames}
@@ -33,8 +34,8 @@ module _ (l : Layout) where
         (wa wc : ℕ) × There l objects w (Fixed (header 2 0 2) (wa ∷ wc ∷ [])) × IsHeld objects a wa
         × Held l objects c wc × IsLow c
     CarriedBy objects (InDyn kept u) w =
-        (wt wx : ℕ) × There l objects w (Fixed (header 3 0 2) (wt ∷ wx ∷ [])) × HoldsType l objects wt kept
-        × (height_in l kept ≤ l.tallest) × (is_dyn (rows_in l kept) ≡ false) × CarriedBy objects u wx
+        (wx : ℕ) × IsDyn l objects kept wx w × (height_in l kept ≤ l.tallest) × (is_dyn (rows_in l kept) ≡ false)
+        × CarriedBy objects u wx
 
     abbrev pub AreCarried : List Object → List (Merged A) → List ℕ → Type 0
     AreCarried objects [] [] = Unit {0}

@@ -2,10 +2,31 @@
 use Rattle.std.specs.Prelude.{ℕ, [], ◌∷◌}
 use Rattle.rv_isa.specs.declared.inst.Cond.TheVariants.{Eq, Ltu}
 use Rattle.low_ir.specs.declared.code.LowSource.TheVariants.{Word, Number}
-use Rattle.low_ir.specs.declared.code.WordOp.TheVariants.{Add, And, Sll, Srl}
+use Rattle.low_ir.specs.declared.code.WordOp.TheVariants.{Add, Sub, And, Sll, Srl, Sra}
 use Rattle.low_ir.specs.Procedures.{Code, Compute, Load, Build, Call, Return, TailCall}
 use Rattle.rt_cast.specs.PartCodes.{either, blame_code}
 use Rattle.rt_cast.specs.ComposeCodes.{coerce, compose, cast, project}
+
+-- ---- a value in Dyn: word 8 is the address of the type that it keeps, word 9 the value, and word 6 the kind of the type
+
+abbrev pub dyn_object : Code
+dyn_object = Build 7 (Number 8589934595 ∷ Word 8 ∷ Word 9 ∷ []) (Return (Word 7))
+
+-- an integer, a truth value or unit stands behind its tag, where the three upper bits tell no more than the sign
+abbrev pub dyn_base : Code
+dyn_base =
+    Compute Sll 7 (Word 9) (Number 3) (
+    Compute Sra 5 (Word 7) (Number 3) (
+    either Eq (Word 5) (Word 9) (
+    Compute Sub 6 (Word 6) (Number 15) (
+    Compute Add 7 (Word 7) (Word 6) (Return (Word 7)))) dyn_object))
+
+abbrev pub into_dyn : Code
+into_dyn = either Ltu (Word 6) (Number 19) dyn_base dyn_object
+
+-- the kind of the type first
+abbrev pub read_kind : Code → Code
+read_kind rest = Load 6 (Word 8) 0 (Compute And 6 (Word 6) (Number 255) rest)
 
 -- project blames the label that it is handed
 abbrev pub project_blame : Code
@@ -16,13 +37,25 @@ module _ (first : ℕ) where
   abbrev pub cast_inject : Code
   cast_inject =
       Load 4 (Word 1) 8 (
-      Call 4 (cast first) (Word 0 ∷ Word 4 ∷ []) (
-      Load 5 (Word 1) 16 (
-      Build 6 (Number 8589934595 ∷ Word 5 ∷ Word 4 ∷ []) (Return (Word 6)))))
+      Call 9 (cast first) (Word 0 ∷ Word 4 ∷ []) (
+      Load 8 (Word 1) 16 (read_kind into_dyn)))
 
-  -- what is in the Dyn, by the cast between both types and what stands behind
-  abbrev pub cast_project : Code
-  cast_project =
+  -- what stands behind a tag goes on as it is where the tag is that of the wanted type, and else the label is blamed
+  abbrev pub project_small : Code
+  project_small =
+      Load 5 (Word 1) 8 (
+      Load 5 (Word 5) 0 (
+      Compute And 5 (Word 5) (Number 255) (
+      Compute Add 4 (Word 4) (Number 15) (
+      either Eq (Word 4) (Word 5) (
+      Compute Sra 5 (Word 0) (Number 3) (
+      Load 9 (Word 1) 24 (
+      TailCall (cast first) (Word 5 ∷ Word 9 ∷ [])))) (
+      Load 7 (Word 1) 16 (blame_code (Word 7)))))))
+
+  -- what is in the Dyn's object, by the cast between both types and what stands behind
+  abbrev pub project_object : Code
+  project_object =
       Load 4 (Word 0) 8 (
       Load 5 (Word 0) 16 (
       Load 6 (Word 1) 8 (
@@ -31,6 +64,10 @@ module _ (first : ℕ) where
       Load 9 (Word 1) 24 (
       Call 8 (compose first) (Word 8 ∷ Word 9 ∷ []) (
       TailCall (cast first) (Word 5 ∷ Word 8 ∷ []))))))))
+
+  abbrev pub cast_project : Code
+  cast_project =
+      Compute And 4 (Word 0) (Number 7) (either Eq (Word 4) (Number 0) project_object project_small)
 
   -- a proxy: what it stands on, by both coercions as one
   abbrev pub cast_proxy : Code
@@ -72,13 +109,11 @@ module _ (first : ℕ) where
       Compute Add 8 (Word 8) (Word 4) (
       Load 8 (Word 8) 8 (
       Call 9 (project first) (Word 5 ∷ Word 1 ∷ Number 1 ∷ Word 3 ∷ []) (
-      Load 10 (Word 8) 0 (
-      Compute And 10 (Word 10) (Number 255) (
-      either Eq (Word 10) (Number 19) (Return (Word 9)) (
-      Build 11 (Number 8589934595 ∷ Word 8 ∷ Word 9 ∷ []) (Return (Word 11)))))))))
+      read_kind (either Eq (Word 6) (Number 19) (Return (Word 9)) into_dyn)))))
 
-  abbrev pub project_dyn : Code
-  project_dyn =
+  -- of the Dyn's object
+  abbrev pub project_dyn_object : Code
+  project_dyn_object =
       Load 4 (Word 0) 8 (
       Load 5 (Word 0) 16 (
       Load 6 (Word 4) 0 (
@@ -87,6 +122,11 @@ module _ (first : ℕ) where
       either Eq (Word 7) (Number 21) (
       either Ltu (Word 1) (Word 6) project_dyn_part project_blame
       ) project_blame)))))
+
+  -- what stands behind a tag is no tuple
+  abbrev pub project_dyn : Code
+  project_dyn =
+      Compute And 4 (Word 0) (Number 7) (either Eq (Word 4) (Number 0) project_dyn_object project_blame)
 
   -- the part of what the proxy stands on, by the part of its coercion
   abbrev pub project_proxy : Code

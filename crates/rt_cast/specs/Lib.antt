@@ -10,4 +10,5 @@ pub mod ToldRows
 pub mod Costs
 pub mod MergedValues
 pub mod PartValues
+pub mod DynWords
 pub mod Carried

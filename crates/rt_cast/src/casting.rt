@@ -2,8 +2,10 @@
 
 ghost use Rattle.std.specs.Prelude.{◌≡◌, ◌+◌, ◌≤◌, ◌^◌, IfOk};
 ghost use Rattle.low_ir.specs.Views.{code_of, proc_of};
-ghost use Rattle.rt_cast.specs.CastCodes.{cast_inject, cast_project, cast_proxy, cast_middle, cast_kinds};
-ghost use Rattle.rt_cast.specs.CastCodes.{project_dyn_part, project_dyn, project_proxy, project_tuple};
+ghost use Rattle.rt_cast.specs.CastCodes.{dyn_object, dyn_base, into_dyn, read_kind, cast_inject};
+ghost use Rattle.rt_cast.specs.CastCodes.{project_small, project_object, cast_project, cast_proxy, cast_middle};
+ghost use Rattle.rt_cast.specs.CastCodes.{cast_kinds, project_dyn_part, project_dyn_object, project_dyn, project_proxy};
+ghost use Rattle.rt_cast.specs.CastCodes.{project_tuple};
 ghost use Rattle.rt_cast.specs.Procs.{cast_proc, project_proc};
 
 use crate::codes::{blame, build, call, compute, either, load, tail_call};
@@ -15,22 +17,105 @@ use low_ir::programs::LowProc;
 use rv_isa::inst::Cond;
 use std::alloc::Global;
 
+// How many low bits of a word in Dyn are its tag, and all of them.
+const TAG_BITS: u64 = 3;
+
+const TAGS: u64 = 7;
+
+// The kind of a type without parts is by so much more than the tag of its values.
+const KIND_OVER_TAG: u64 = 15;
+
+// The first kind of a type whose values have no tag.
+const FIRST_UNTAGGED: u64 = 19;
+
+// The header of an object in Dyn.
+const DYN_HEADER: u64 = 8589934595;
+
+// A value in Dyn as an object: word 8 is the type that it keeps, word 9 the value.
+fn dyn_object(alloc: Global) -> Result<LowCode, OutOfMemory>
+    ensures { IfOk result (λ code. code_of code ≡ dyn_object) }
+{
+    let words = [Number(DYN_HEADER), Word(8), Word(9)];
+    build(alloc, 7, &words, LowCode::Return(Word(7)))
+}
+
+// A value of a type without parts, whose kind is in word 6: behind a tag, unless it takes more than 61 bits.
+fn dyn_base(alloc: Global) -> Result<LowCode, OutOfMemory>
+    ensures { IfOk result (λ code. code_of code ≡ dyn_base) }
+{
+    let add = WordOp::Add;
+    let rest = compute(alloc, add, 7, (Word(7), Word(6)), LowCode::Return(Word(7)))?;
+    let rest = compute(
+        alloc,
+        WordOp::Sub,
+        6,
+        (Word(6), Number(KIND_OVER_TAG)),
+        rest,
+    )?;
+    let branches = (rest, dyn_object(alloc)?);
+    let rest = either(alloc, Cond::Eq, (Word(5), Word(9)), branches)?;
+    let rest = compute(alloc, WordOp::Sra, 5, (Word(7), Number(TAG_BITS)), rest)?;
+    compute(alloc, WordOp::Sll, 7, (Word(9), Number(TAG_BITS)), rest)
+}
+
+// A value goes into Dyn.
+fn into_dyn(alloc: Global) -> Result<LowCode, OutOfMemory>
+    ensures { IfOk result (λ code. code_of code ≡ into_dyn) }
+{
+    let branches = (dyn_base(alloc)?, dyn_object(alloc)?);
+    either(
+        alloc,
+        Cond::Ltu,
+        (Word(6), Number(FIRST_UNTAGGED)),
+        branches,
+    )
+}
+
+// The kind of the type in word 8 is read first.
+fn read_kind(alloc: Global, rest: LowCode) -> Result<LowCode, OutOfMemory>
+    ensures { IfOk result (λ code. code_of code ≡ read_kind (code_of rest)) }
+{
+    let rest = compute(alloc, WordOp::And, 6, (Word(6), Number(255)), rest)?;
+    load(alloc, 6, Word(8), 0, rest)
+}
+
 // An injection: what stands before it, and then a Dyn.
 fn cast_inject(alloc: Global, first: u32) -> Result<LowCode, OutOfMemory>
     requires room { first + 27 ≤ 2 ^ 32 }
     ensures { IfOk result (λ code. code_of code ≡ cast_inject first) }
 {
-    let words = [Number(8589934595), Word(5), Word(4)];
-    let rest = build(alloc, 6, &words, LowCode::Return(Word(6)))?;
-    let rest = load(alloc, 5, Word(1), 16, rest)?;
-    let rest = call(alloc, 4, cast(first), &[Word(0), Word(4)], rest)?;
+    let rest = read_kind(alloc, into_dyn(alloc)?)?;
+    let rest = load(alloc, 8, Word(1), 16, rest)?;
+    let rest = call(alloc, 9, cast(first), &[Word(0), Word(4)], rest)?;
     load(alloc, 4, Word(1), 8, rest)
 }
 
-// A projection: what is in the Dyn, by the cast between both types and what stands behind it.
-fn cast_project(alloc: Global, first: u32) -> Result<LowCode, OutOfMemory>
+// A projection of what stands behind a tag: where the tag is that of the wanted type it goes on as it is.
+fn project_small(alloc: Global, first: u32) -> Result<LowCode, OutOfMemory>
     requires room { first + 27 ≤ 2 ^ 32 }
-    ensures { IfOk result (λ code. code_of code ≡ cast_project first) }
+    ensures { IfOk result (λ code. code_of code ≡ project_small first) }
+{
+    let rest = tail_call(alloc, cast(first), &[Word(5), Word(9)])?;
+    let rest = load(alloc, 9, Word(1), 24, rest)?;
+    let same = compute(alloc, WordOp::Sra, 5, (Word(0), Number(TAG_BITS)), rest)?;
+    let other = load(alloc, 7, Word(1), 16, blame(alloc, Word(7))?)?;
+    let rest = either(alloc, Cond::Eq, (Word(4), Word(5)), (same, other))?;
+    let rest = compute(
+        alloc,
+        WordOp::Add,
+        4,
+        (Word(4), Number(KIND_OVER_TAG)),
+        rest,
+    )?;
+    let rest = compute(alloc, WordOp::And, 5, (Word(5), Number(255)), rest)?;
+    let rest = load(alloc, 5, Word(5), 0, rest)?;
+    load(alloc, 5, Word(1), 8, rest)
+}
+
+// A projection of what is in an object, by the cast between both types and what stands behind it.
+fn project_object(alloc: Global, first: u32) -> Result<LowCode, OutOfMemory>
+    requires room { first + 27 ≤ 2 ^ 32 }
+    ensures { IfOk result (λ code. code_of code ≡ project_object first) }
 {
     let rest = tail_call(alloc, cast(first), &[Word(5), Word(8)])?;
     let rest = call(alloc, 8, compose(first), &[Word(8), Word(9)], rest)?;
@@ -40,6 +125,16 @@ fn cast_project(alloc: Global, first: u32) -> Result<LowCode, OutOfMemory>
     let rest = load(alloc, 6, Word(1), 8, rest)?;
     let rest = load(alloc, 5, Word(0), 16, rest)?;
     load(alloc, 4, Word(0), 8, rest)
+}
+
+// A projection, by the tag of what is in Dyn.
+fn cast_project(alloc: Global, first: u32) -> Result<LowCode, OutOfMemory>
+    requires room { first + 27 ≤ 2 ^ 32 }
+    ensures { IfOk result (λ code. code_of code ≡ cast_project first) }
+{
+    let branches = (project_object(alloc, first)?, project_small(alloc, first)?);
+    let rest = either(alloc, Cond::Eq, (Word(4), Number(0)), branches)?;
+    compute(alloc, WordOp::And, 4, (Word(0), Number(TAGS)), rest)
 }
 
 // A proxy: what it stands on, by both coercions as one.
@@ -104,12 +199,9 @@ fn project_dyn_part(alloc: Global, first: u32) -> Result<LowCode, OutOfMemory>
     requires room { first + 27 ≤ 2 ^ 32 }
     ensures { IfOk result (λ code. code_of code ≡ project_dyn_part first) }
 {
-    let words = [Number(8589934595), Word(8), Word(9)];
-    let rest = build(alloc, 11, &words, LowCode::Return(Word(11)))?;
-    let branches = (LowCode::Return(Word(9)), rest);
-    let rest = either(alloc, Cond::Eq, (Word(10), Number(19)), branches)?;
-    let rest = compute(alloc, WordOp::And, 10, (Word(10), Number(255)), rest)?;
-    let rest = load(alloc, 10, Word(8), 0, rest)?;
+    let branches = (LowCode::Return(Word(9)), into_dyn(alloc)?);
+    let rest = either(alloc, Cond::Eq, (Word(6), Number(FIRST_UNTAGGED)), branches)?;
+    let rest = read_kind(alloc, rest)?;
     let words = [Word(5), Word(1), Number(1), Word(3)];
     let rest = call(alloc, 9, project(first), &words, rest)?;
     let rest = load(alloc, 8, Word(8), 8, rest)?;
@@ -117,10 +209,10 @@ fn project_dyn_part(alloc: Global, first: u32) -> Result<LowCode, OutOfMemory>
     compute(alloc, WordOp::Sll, 8, (Word(1), Number(3)), rest)
 }
 
-// A part of a Dyn: the label is blamed where the kept type has none.
-fn project_dyn(alloc: Global, first: u32) -> Result<LowCode, OutOfMemory>
+// A part of what is in an object: the label is blamed where the kept type has none.
+fn project_dyn_object(alloc: Global, first: u32) -> Result<LowCode, OutOfMemory>
     requires room { first + 27 ≤ 2 ^ 32 }
-    ensures { IfOk result (λ code. code_of code ≡ project_dyn first) }
+    ensures { IfOk result (λ code. code_of code ≡ project_dyn_object first) }
 {
     let branches = (project_dyn_part(alloc, first)?, blame(alloc, Word(3))?);
     let rest = either(alloc, Cond::Ltu, (Word(1), Word(6)), branches)?;
@@ -131,6 +223,16 @@ fn project_dyn(alloc: Global, first: u32) -> Result<LowCode, OutOfMemory>
     let rest = load(alloc, 6, Word(4), 0, rest)?;
     let rest = load(alloc, 5, Word(0), 16, rest)?;
     load(alloc, 4, Word(0), 8, rest)
+}
+
+// A part of a Dyn: what stands behind a tag has none.
+fn project_dyn(alloc: Global, first: u32) -> Result<LowCode, OutOfMemory>
+    requires room { first + 27 ≤ 2 ^ 32 }
+    ensures { IfOk result (λ code. code_of code ≡ project_dyn first) }
+{
+    let branches = (project_dyn_object(alloc, first)?, blame(alloc, Word(3))?);
+    let rest = either(alloc, Cond::Eq, (Word(4), Number(0)), branches)?;
+    compute(alloc, WordOp::And, 4, (Word(0), Number(TAGS)), rest)
 }
 
 // A part of what a proxy stands on, by the part of its coercion.

@@ -12,7 +12,7 @@ use Rattle.run_laws.specs.Machines.{run}
 use Rattle.rv_machine.specs.Memory.{Memory, load_bytes, store_bytes}
 use Rattle.rv_machine.specs.State.{Halt, Ended, Lacks, Region}
 use Rattle.low_ir.specs.declared.code.LowSource.TheVariants.{Word, Number}
-use Rattle.low_ir.specs.declared.code.WordOp.TheVariants.{Add}
+use Rattle.low_ir.specs.declared.code.WordOp.TheVariants.{Add, Sra}
 use Rattle.low_ir.specs.Procedures.{Code, Load, Call, Return, Build, CodeOf, Compute, Proc}
 use Rattle.low_ir.specs.Steps.{no_locals, store_words}
 use Rattle.low_ir.specs.Run.{Setting, LowState, low_machine}
@@ -84,9 +84,9 @@ abbrev in_dyn : ℕ → ℕ → Code → Code
 in_dyn type word rest =
     Call 4 0 (Number type ∷ Number 65552 ∷ Number 1 ∷ []) (Call 5 2 (Number word ∷ Word 4 ∷ []) rest)
 
--- what is in the Dyn in word 6
+-- the integer behind the tag in word 6
 abbrev out_of_dyn : Code
-out_of_dyn = Load 7 (Word 6) 16 (Return (Word 7))
+out_of_dyn = Compute Sra 7 (Word 6) (Number 3) (Return (Word 7))
 
 abbrev applied : Code → Code
 applied rest =

@@ -206,9 +206,10 @@ fn in_dyn(alloc: Global, d: u32, value: (u64, u64), rest: LowCode) -> Result<Low
     set(alloc, d, number(value.1), code)
 }
 
-// The value of the Dyn in a word is answered.
+// The integer of the Dyn in a word is answered, which stands above a tag of three bits.
 fn out_of_dyn(alloc: Global, d: u32) -> Result<LowCode, OutOfMemory> {
-    load(alloc, d, d, 16, LowCode::Return(word(d)))
+    let rest = Box::new(alloc, LowCode::Return(word(d)))?;
+    Ok(LowCode::Compute(WordOp::Sra, d, word(d), number(3), rest))
 }
 
 // Word 0 becomes an object of a header and a word, and then this is done.
