@@ -1,9 +1,9 @@
 #!/usr/bin/env python3
 """A small, slow interpreter of the language, by its rules and not by the compiler's code.
 
-Usage: tools/calculus.py FILE [TURNS]
+Usage: tools/calculus.py FILE [TURNS [INPUT]]
 
-It prints what the program in the file prints, and then, on standard error, the line that its run ends with: an answer,
+It prints what the program in the file prints on the input in the file INPUT, or on none, and then, on standard error, the line that its run ends with: an answer,
 a blame with its place, a trap, a refusal, or `spent steps` where it hasn't ended after so many turns. Casts wait one by
 one, each wrapper is an object of its own, and nothing is composed. Forms are taken to be well formed: of refusals it
 knows those of types and names, and a few of tokens.
@@ -11,6 +11,7 @@ knows those of types and names, and a few of tokens.
 Types are the words "Int", "Bool", "Unit" and "Dyn" and the tuples ("Fun", parameters, result), ("Tuple", parts),
 ("Ref", part) and ("Vect", part).
 """
+import os
 import re
 import sys
 
@@ -300,14 +301,14 @@ class Forms:
             return self.expr(self.chained(form, head), scope)
         if head == "repeat":
             return self.expr(self.repeated(form), scope)
-        if head in ARITHMETIC or head in COMPARISONS or head in ("not", "print-int", "newline"):
+        if head in ARITHMETIC or head in COMPARISONS or head in ("not", "print-int", "newline", "read-int"):
             return self.operator(head, node[1:], scope)
         return getattr(self, FORMS[head])(form, scope)
 
     def operator(self, word, operands, scope):
         wanted = "Bool" if word == "not" else "Int"
         terms = [self.cast(*self.expr(operand, scope), wanted, operand.place) for operand in operands]
-        answer = "Int" if word in ARITHMETIC else "Unit" if word in ("print-int", "newline") else "Bool"
+        answer = "Unit" if word in ("print-int", "newline") else "Int" if word in {*ARITHMETIC, "read-int"} else "Bool"
         return ("prim", word, terms), answer
 
     def call(self, form, scope):
@@ -584,8 +585,9 @@ def compared(word, a, b):
 class Run:
     """One run: the value or the term in focus, and the contexts around it, the innermost last."""
 
-    def __init__(self, room=1 << 30):
+    def __init__(self, room=1 << 30, numbers=""):
         self.printed = []
+        self.unread = numbers
         self.waiting = []
         self.room = room
 
@@ -732,6 +734,8 @@ class Run:
         if word == "newline":
             self.printed.append("\n")
             return None, (), None
+        if word == "read-int":
+            return None, self.number(), None
         if word == "box":
             return None, Cell([values[0]], False), None
         if word == "make-vector":
@@ -741,6 +745,15 @@ class Run:
         if word == "vector-set!":
             return self.unwrap_and_write(*values)
         return self.read(word, *values)
+
+    def number(self):
+        """The next number of the input, which is a run of bytes that aren't white."""
+        self.unread = self.unread.lstrip(" \t\r\n")
+        run = re.match(r"[^ \t\r\n]*", self.unread)[0]
+        if not re.fullmatch(r"[+-]?[0-9]+", run) or not LEAST <= int(run) <= GREATEST:
+            raise Ended("trap input")
+        self.unread = self.unread[len(run):]
+        return int(run)
 
     def made(self, count, value):
         if count < 0:
@@ -775,13 +788,13 @@ class Run:
         return None, (), None
 
 
-def run_text(text, limit=TURNS):
-    """What a text prints, and its last line."""
+def run_text(text, limit=TURNS, numbers=""):
+    """What a text prints on an input, and its last line."""
     try:
         term, _ = Forms().program(read(text))
     except Refused as refusal:
         return "", str(refusal)
-    run = Run()
+    run = Run(numbers=numbers)
     try:
         line = run.go(term, limit)
     except NoRoom:
@@ -790,10 +803,11 @@ def run_text(text, limit=TURNS):
 
 
 def main():
-    if len(sys.argv) not in (2, 3):
+    if len(sys.argv) not in (2, 3, 4):
         sys.exit(__doc__)
-    with open(sys.argv[1], encoding="latin-1") as file:
-        printed, line = run_text(file.read(), int(sys.argv[2]) if len(sys.argv) == 3 else TURNS)
+    # Line feeds and carriage returns are bytes like others.
+    text, numbers = [open(name, encoding="latin-1", newline="").read() for name in (sys.argv[1::2] + [os.devnull])[:2]]
+    printed, line = run_text(text, int(sys.argv[2]) if len(sys.argv) > 2 else TURNS, numbers)
     print(printed, end="")
     print(line, file=sys.stderr)
 

@@ -30,8 +30,9 @@ def written(kind):
 class Programs:
     """The programs of a seed, one after the other."""
 
-    def __init__(self, seed):
+    def __init__(self, seed, reading=0.0):
         self.random = random.Random(seed)
+        self.reading = reading
         self.names = 0
         self.size = 0
         self.mischief = self.random.choice([0.0, 0.005, 0.02, 0.08])
@@ -153,6 +154,8 @@ class Programs:
                 static = inside
             return f"(: {self.exact(static, inside, scope, depth - 1)} Dyn)"
         if kind == "Int":
+            if self.reading and self.chance(self.reading):
+                return "(read-int)"
             if depth > 0 and self.chance(0.5):
                 word = self.random.choice(["+", "-", "*", "%/", "%%", "+", "-"])
                 right = self.loose("Int", scope, depth - 1)
@@ -380,6 +383,17 @@ class Programs:
         self.size = 0
         lines.append(self.loose("Int", scope, 3))
         return "\n".join(lines) + "\n"
+
+    # -- inputs
+
+    def numbers(self):
+        """The text of an input: integers between white space, and at times something else."""
+        words = [self.random.choice(["", "", "+", "00"]) + str(self.random.randrange(10)) for _ in range(60)]
+        words += [str(self.random.choice([-1, 2**63 - 1, -(2**63)])) for _ in range(4)]
+        if self.chance(0.2):
+            words.append(self.random.choice(["x", "-", "5x", str(2**63), "; 1"]))
+        self.random.shuffle(words)
+        return "".join(word + self.random.choice([" ", "\n", "\t", " \r\n"]) for word in words)
 
     # -- programs
 

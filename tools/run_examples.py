@@ -3,7 +3,7 @@
 their statuses with it. Each program has to stand in the table.
 
 Usage: tools/run_examples.py PROGRAM, where PROGRAM is the built program, as crates/grift/out/grift.
-A row of the table has three cells: the words of a command, with a file of examples/; what is printed, with \\n for each
+A row of the table has three cells: the words of a command, with files of examples/; what is printed, with \\n for each
 line feed; and the line on standard error, which a `check` that goes well has not.
 """
 import pathlib
@@ -30,7 +30,7 @@ def status_of(line):
 def come_to(program, words):
     """What a command prints, its line and its status."""
     command, name, *options = words.split()
-    run = subprocess.run([program, command, EXAMPLES / name, *options], capture_output=True, text=True)
+    run = subprocess.run([program, command, name, *options], capture_output=True, text=True, cwd=EXAMPLES)
     return run.stdout, run.stderr, run.returncode
 
 
@@ -40,7 +40,7 @@ def main():
     table = list(rows())
     faults = 0
     for words, output, line in table:
-        came, wanted = come_to(sys.argv[1], words), (output, line + "\n" if line else "", status_of(line))
+        came, wanted = come_to(pathlib.Path(sys.argv[1]).resolve(), words), (output, line + "\n" if line else "", status_of(line))
         if came != wanted:
             print(f"{words}: {came}, where the table has {wanted}")
             faults += 1

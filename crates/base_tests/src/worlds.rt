@@ -76,7 +76,8 @@ fn makes_each_other_call(rt: HostRuntime) {
         (4, 5, EnvEffect::Refused, ""),
         (5, 1, EnvEffect::RegionOut, ""),
         (6, 1, EnvEffect::StackOut, ""),
-        (7, 0, EnvEffect::Refused, ""),
+        (7, 0, EnvEffect::Next(0, 1), ""),
+        (8, 0, EnvEffect::Refused, ""),
         (0xFFFF_FFFF_FFFF_FFFF, 0, EnvEffect::Refused, ""),
     ] {
         let mut world = quiet_world(rt.alloc());
@@ -121,6 +122,22 @@ fn reads_numbers(rt: HostRuntime) -> Result<(), Fail> {
             let number = world.read_int();
             assert!(rt; (number, world.place) == (answer, place), "in {input}");
         }
+    }
+    Ok(())
+}
+
+// Call 7 hands back each number as a word and 0, and where there is none 0 and 1.
+#[test]
+fn reads_by_call(rt: HostRuntime) -> Result<(), Fail> {
+    let input = b"5 -9223372036854775808 9223372036854775808";
+    let mut world = World::new(rt.alloc(), Bytes::from_slice(rt.alloc(), input)?);
+    for (effect, place) in [
+        (EnvEffect::Next(5, 0), 1),
+        (EnvEffect::Next(0x8000_0000_0000_0000, 0), 22),
+        (EnvEffect::Next(0, 1), 23),
+        (EnvEffect::Next(0, 1), 23),
+    ] {
+        assert!(rt; (world.env(7, 8, 9, 0), world.place) == (effect, place));
     }
     Ok(())
 }

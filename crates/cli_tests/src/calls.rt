@@ -163,7 +163,7 @@ fn programs(rt: HostRuntime) -> Result<(), NoMemory> {
 fn refused_programs(rt: HostRuntime) -> Result<(), NoMemory> {
     let rows: [(&[u8], &[u8]); 8] = [
         (b"(+ 1 (newline))", b"refused not-consistent 1:6\n"),
-        (b"(read-int)", b"refused bad-form 1:1\n"),
+        (b"(read-int 1)", b"refused bad-form 1:1\n"),
         (b"(begin (box 1) (unbox 5))", b"refused not-ref 1:23\n"),
         (b"(+ 1)", b"refused bad-form 1:1\n"),
         (b"(begin)", b"refused bad-form 1:1\n"),

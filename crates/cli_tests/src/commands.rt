@@ -8,6 +8,19 @@ const fn a_run(region: u64, stack: u64, steps: u64) -> Option<Command<'static>> 
     named_run("a", region, stack, steps, None)
 }
 
+// A run of the file `a` under the defaults, with an input and perhaps a name for its image.
+const fn input_run(input: &'static str, image: Option<&'static str>) -> Option<Command<'static>> {
+    Some(Command::Run {
+        file: "a",
+        region: 16777216,
+        stack: 1048576,
+        steps: 100000000,
+        input: Some(input),
+        space: false,
+        image,
+    })
+}
+
 // A run of a file.
 const fn named_run(
     file: &'static str,
@@ -29,18 +42,28 @@ const fn named_run(
 
 // An image in the file `a` that is run.
 const fn an_exec(region: u64, stack: u64, steps: u64) -> Option<Command<'static>> {
+    input_exec(region, stack, steps, None)
+}
+
+// One that is run with an input.
+const fn input_exec(
+    region: u64,
+    stack: u64,
+    steps: u64,
+    input: Option<&'static str>,
+) -> Option<Command<'static>> {
     Some(Command::Exec {
         file: "a",
         region,
         stack,
         steps,
-        input: None,
+        input,
     })
 }
 
 #[test]
 fn words_and_commands(rt: HostRuntime) -> Result<(), NoMemory> {
-    let rows: [(&[&str], Option<Command>); 39] = [
+    let rows: [(&[&str], Option<Command>); 47] = [
         (&["run", "a"], a_run(16777216, 1048576, 100000000)),
         (&["exec", "a"], an_exec(16777216, 1048576, 100000000)),
         (
@@ -96,7 +119,21 @@ fn words_and_commands(rt: HostRuntime) -> Result<(), NoMemory> {
         (&["run", "a", "--image", ""], None),
         (&["exec", "a", "--image", "b"], None),
         (&["run", "--region", "8"], None),
-        (&["run", "a", "--input", "b"], None),
+        (&["run", "a", "--input", "b"], input_run("b", None)),
+        (
+            &["run", "a", "--input", "--image", "--image", "--input"],
+            input_run("--image", Some("--input")),
+        ),
+        (&["run", "a", "--input", "--image", "c"], None),
+        (&["run", "a", "--input", ""], None),
+        (&["run", "a", "--input"], None),
+        (&["run", "a", "--image", "c", "--input", "b"], None),
+        (&["run", "a", "--input", "b", "--steps", "7"], None),
+        (
+            &["exec", "a", "--steps", "7", "--input", "b"],
+            input_exec(16777216, 1048576, 7, Some("b")),
+        ),
+        (&["exec", "a", "--input", "b", "--image", "c"], None),
         (&["run", "a", "--space"], None),
         (&["run", ""], None),
         (&["exec", ""], None),

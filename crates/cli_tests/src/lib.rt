@@ -7,4 +7,6 @@ mod calls;
 #[cfg(test)]
 mod commands;
 #[cfg(test)]
+mod inputs;
+#[cfg(test)]
 mod words;

@@ -12,7 +12,7 @@ use Rattle.flat_ir.specs.Bodies.{Body, Give, Call, Choose, LetBody, LetGroup, Pr
 use Rattle.closure_convert.specs.Uses.{Use, OperatorUse, DynPartUse, CastUse, has_few_operands, operation_uses}
 use Rattle.closure_convert.specs.Uses.{body_uses, procs_uses}
 use Rattle.lower.specs.Serving.{operands_have_words, operators_have_words, all_have_words}
-use Rattle.lower.specs.CoveredPrograms.{covers_operator, covers_operation, covers, all_covered}
+use Rattle.lower.specs.CoveredPrograms.{covers_operation, covers, all_covered}
 
 pieces : (test : Use → Bool) (xs ys : List Use) → list_all test (xs ++ ys) ≡ true
     → (list_all test xs ≡ true) × (list_all test ys ≡ true)
@@ -56,15 +56,14 @@ words_for_all (p ∷ procs) h =
 
 -- a test of uses, beside that of few operands
 abbrev pub is_covered : Use → Bool
-is_covered (OperatorUse operator count) = covers_operator operator
+is_covered (OperatorUse operator count) = true
 is_covered (DynPartUse k label) = nat_lt label 4294967296 && int_eq (int_wrap w64 k) k
 is_covered (CastUse number) = true
 
 covers_one : (operation : Operation) → list_all is_covered (operation_uses operation) ≡ true
     → list_all has_few_operands (operation_uses operation) ≡ true → covers_operation operation ≡ true
 covers_one (Move o) h few = refl
-covers_one (Prim operator os) h few =
-    rw (alone (covers_operator operator) h, alone (nat_le (length os) 8) few) refl
+covers_one (Prim operator os) h few = alone (nat_le (length os) 8) few
 covers_one (Cast o number) h few = refl
 covers_one (Tuple os) h few = refl
 covers_one (Proj o k) h few = refl

@@ -1,4 +1,4 @@
--- Where a program reads no input, each operator, part of Dyn and cast in its term with numbered casts is covered.
+-- Each operator, part of Dyn and cast in the term of a program with numbered casts is covered.
 use Rattle.std.proofs.Common.{◌≡◌, ℕ, ℤ, zero, suc, ◌<◌, ◌^◌, true, List, [], ◌∷◌, ◌++◌, length, Option, Some}
 use Rattle.std.proofs.Common.{None, refl, ◌∙◌, slice_get, arith}
 use Rattle.std.specs.Prelude.{All, ◌&&◌, nat_lt}
@@ -10,12 +10,8 @@ use Rattle.std.proofs.lemmas.Cmp.{int_eq_equiv}
 use Rattle.std.proofs.lemmas.Int.{int_wrap_fits}
 use Rattle.std.specs.List.{list_all}
 use Rattle.std.proofs.lemmas.List.Folds.{list_all-append}
-use Rattle.grift_base.specs.declared.operators.PrimOp.{PrimOp}
-use Rattle.grift_base.specs.declared.operators.PrimOp.TheVariants.{Add, Sub, Mul, Quot, Rem, Lt, Le, Eq, Ge, Gt, Not}
-use Rattle.grift_base.specs.declared.operators.PrimOp.TheVariants.{PrintInt, Newline, ReadInt, MakeBox, Unbox, BoxSet}
-use Rattle.grift_base.specs.declared.operators.PrimOp.TheVariants.{MakeVector, VectorRef, VectorSet, VectorLength}
 use Rattle.cast_insert.specs.Making.{Entry, PartOf}
-use Rattle.front_end.specs.Placed.{takes_no_input, IsPlaced, ArePlaced, AreMembersPlaced, AreBindingsPlaced}
+use Rattle.front_end.specs.Placed.{any_operator, IsPlaced, ArePlaced, AreMembersPlaced, AreBindingsPlaced}
 use Rattle.coercion_norm.specs.Modes.{TypeCast}
 use Rattle.coer_core.specs.Terms.{RowTerm, RowTerms, RowMembers, RowBindings, RowInt, RowBool, RowUnit, RowVar}
 use Rattle.coer_core.specs.Terms.{RowLambda, RowGroup, RowLet, RowCall, RowIf, RowSeq, RowCast, RowProj, RowProjDyn}
@@ -25,7 +21,6 @@ use Rattle.coer_core.specs.Terms.{core_bindings}
 use Rattle.coer_core.specs.Uses.{NumbersBelow, AllBelow, MembersBelow, BindingsBelow}
 use Rattle.closure_convert.specs.Uses.{Use, OperatorUse, DynPartUse, CastUse, term_uses, terms_uses, member_uses}
 use Rattle.closure_convert.specs.Uses.{binding_uses, how_many}
-use Rattle.lower.specs.CoveredPrograms.{covers_operator}
 use Rattle.compile_driver.specs.Parts.{HasWords}
 use Rattle.compile_driver.proofs.Covered.{is_covered}
 use Rattle.compile_driver.proofs.HeldCasts.{at}
@@ -34,29 +29,6 @@ row_there : (casts : List TypeCast) (number : ℕ) → number < length casts →
 row_there [] number h e = omega (arith, h)
 row_there (cast ∷ casts) zero h e = cc
 row_there (cast ∷ casts) (suc number) h e = row_there casts number (omega (arith, h)) e
-
-silent_covered : (operator : PrimOp) → takes_no_input operator ≡ true → covers_operator operator ≡ true
-silent_covered Add h = refl
-silent_covered Sub h = refl
-silent_covered Mul h = refl
-silent_covered Quot h = refl
-silent_covered Rem h = refl
-silent_covered Lt h = refl
-silent_covered Le h = refl
-silent_covered Eq h = refl
-silent_covered Ge h = refl
-silent_covered Gt h = refl
-silent_covered Not h = refl
-silent_covered PrintInt h = refl
-silent_covered Newline h = refl
-silent_covered ReadInt h = cc
-silent_covered MakeBox h = refl
-silent_covered Unbox h = refl
-silent_covered BoxSet h = refl
-silent_covered MakeVector h = refl
-silent_covered VectorRef h = refl
-silent_covered VectorSet h = refl
-silent_covered VectorLength h = refl
 
 -- a part of Dyn whose number and label are words
 part_covered : (k : ℤ) (label : ℕ) → (label < 2 ^ 32) × FitsSigned w64 k
@@ -75,14 +47,14 @@ module _ (entries : List Entry) (words : All HasWords entries) (casts : List Typ
 
   -- a cast by a row that is there
   of_cast : (row : Option TypeCast) (term : RowTerm) → (row ≡ None → ⊥)
-      → IsPlaced takes_no_input entries (cast_by row (core_of casts term))
-      → IsPlaced takes_no_input entries (core_of casts term)
+      → IsPlaced any_operator entries (cast_by row (core_of casts term))
+      → IsPlaced any_operator entries (core_of casts term)
   of_cast (Some cast) term there h = h.0
   of_cast None term there h = absurd (there refl)
 
   mutual
     pub pass : (term : RowTerm) → NumbersBelow (length casts) term
-        → IsPlaced takes_no_input entries (core_of casts term) → list_all is_covered (term_uses term) ≡ true
+        → IsPlaced any_operator entries (core_of casts term) → list_all is_covered (term_uses term) ≡ true
     pass (RowInt n) b h = refl
     pass (RowBool x) b h = refl
     pass RowUnit b h = refl
@@ -107,24 +79,24 @@ module _ (entries : List Entry) (words : All HasWords entries) (casts : List Typ
         (part_covered k label (at HasWords entries words h.1.0 (PartOf label k) h.1.1)) (pass term b h.0)
     pass (RowTuple parts) b h = all_pass parts b h
     pass (RowPrim operator operands) b h =
-        first (OperatorUse operator (how_many operands)) (terms_uses operands) (silent_covered operator h.0)
+        first (OperatorUse operator (how_many operands)) (terms_uses operands) refl
         (all_pass operands b h.1)
 
     all_pass : (terms : RowTerms) → AllBelow (length casts) terms
-        → ArePlaced takes_no_input entries (core_terms casts terms) → list_all is_covered (terms_uses terms) ≡ true
+        → ArePlaced any_operator entries (core_terms casts terms) → list_all is_covered (terms_uses terms) ≡ true
     all_pass NoRowTerms b h = refl
     all_pass (RowTermThen term rest) b h =
         both (term_uses term) (terms_uses rest) (pass term b.0 h.0) (all_pass rest b.1 h.1)
 
     members_pass : (members : RowMembers) → MembersBelow (length casts) members
-        → AreMembersPlaced takes_no_input entries (core_members casts members)
+        → AreMembersPlaced any_operator entries (core_members casts members)
         → list_all is_covered (member_uses members) ≡ true
     members_pass NoRowMembers b h = refl
     members_pass (RowMemberThen name parameters body type rest) b h =
         both (term_uses body) (member_uses rest) (pass body b.0 h.0) (members_pass rest b.1 h.1)
 
     bindings_pass : (bindings : RowBindings) → BindingsBelow (length casts) bindings
-        → AreBindingsPlaced takes_no_input entries (core_bindings casts bindings)
+        → AreBindingsPlaced any_operator entries (core_bindings casts bindings)
         → list_all is_covered (binding_uses bindings) ≡ true
     bindings_pass NoRowBindings b h = refl
     bindings_pass (RowBindingThen name bound rest) b h =

@@ -6,7 +6,7 @@ ghost use Rattle.rv_machine.specs.Image.{IsImage};
 ghost use Rattle.core_calc.specs.Typing.{ProgramTermHasType};
 ghost use Rattle.core_calc.specs.Views.{term_of};
 ghost use Rattle.cast_insert.specs.Views.{entries_of, entry_of};
-ghost use Rattle.front_end.specs.Placed.{IsPlaced, takes_no_input};
+ghost use Rattle.front_end.specs.Placed.{IsPlaced, any_operator};
 ghost use Rattle.front_end.specs.Texts.{IsFault};
 ghost use Rattle.compile_driver.specs.Compiling.{FollowsProgram, HasProgram, IsTold, program_of};
 ghost use Rattle.compile_driver.specs.Compiling.{program_over, tallest_in};
@@ -78,11 +78,11 @@ fn are_narrow(casts: &[CastEntry])
 // The most bytes that statics and code may have: with every region they end below 2 ^ 34.
 const MOST_LOADED: usize = 8_589_934_592;
 
-// The image of a program with all casts, in which nothing reads input. One whose statics and code are too long for the
-// memory that the procedures over words are proved for is want of memory.
+// The image of a program with all casts. One whose statics and code are too long for the memory that the procedures over
+// words are proved for is want of memory.
 fn made_of(alloc: Global, types: &TypeTable, elab: &Elab) -> Result<Made, OutOfMemory>
     requires typed { ProgramTermHasType types.now (length elab.now.labels) (term_of elab.now.core) elab.now.ty.0 }
-    requires placed { IsPlaced takes_no_input (entries_of elab.now.casts) (term_of elab.now.core) }
+    requires placed { IsPlaced any_operator (entries_of elab.now.casts) (term_of elab.now.core) }
     ensures whole { IfOk result (λ made. IsImage made.image) }
     ensures tallest { IfOk result (λ made. made.tallest ≡ tallest_in types.now elab.now) }
     ensures follows { IfOk result (λ made. FollowsProgram made.image (program_over types.now elab.now)) }

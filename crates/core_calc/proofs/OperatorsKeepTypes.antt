@@ -2,15 +2,13 @@
 use Rattle.std.proofs.Common.{◌≡◌, ℕ, zero, suc, ◌<◌, ◌≤◌, ◌^◌, List, [], ◌∷◌, ◌++◌, length, Option, Some, None, refl}
 use Rattle.std.proofs.Common.{sym, ap, ◌∙◌, subst, arith, Bool, true, false, slice_get, if◌then◌else◌, ◌⊎◌, inl, inr}
 use Rattle.std.specs.Prelude.{ℤ, pos, negsuc, ◌+ℤ◌, ◌-ℤ◌, ◌*ℤ◌, not, int_lt, int_le, int_rem, int_div, unsigned_abs}
-use Rattle.std.specs.Prelude.{codes, replicate, slice_set, nat_lt, cond}
+use Rattle.std.specs.Prelude.{codes, replicate, slice_set}
 use Rattle.std.specs.Ordering.{int_eq}
 use Rattle.std.specs.Int.{int_wrap, int_wrapping_div, cast_unsigned, w64}
 use Rattle.std.specs.Int.RustNames.{FitsSigned}
 use Rattle.std.specs.Fmt.{signed_decimal}
 use Rattle.std.proofs.lemmas.Int.{SFits-int_wrap, rem_below, fits_signed_from_abs}
 use Rattle.std.proofs.lemmas.List.{length-replicate}
-use Rattle.std.proofs.lemmas.Option.{option_and_then_some}
-use Rattle.std.proofs.lemmas.Bool.{ltb-true}
 use borrow.Author.Gap.{read_sfits}
 use Rattle.grift_base.specs.World.{WorldState, printing}
 use Rattle.grift_base.specs.Types.{TypeRow, IntRow, BoolRow, UnitRow, RefRow, VectRow, TypeRows, row_at, same_head}
@@ -27,8 +25,8 @@ use Rattle.core_calc.specs.Operators.{cell_behind, gives, on_int, on_ints, on_bo
 use Rattle.core_calc.specs.Operators.{newline_step, new_cell, writes_cell, with_element, cast_written, make_box_step}
 use Rattle.core_calc.specs.Operators.{unbox_cell, unbox_step, box_set_step, make_vector_step, vector_ref_step}
 use Rattle.core_calc.specs.Operators.{vector_set_step, vector_length_step, reads, read_step, operator_step}
-use Rattle.grift_base.specs.Numbers.{in_word, number_of}
-use Rattle.grift_base.specs.Reading.{run_first, unread, next_number, past_run}
+use Rattle.grift_base.specs.Reading.{next_number, past_run}
+use Rattle.grift_base.proofs.Public.{next_number_fits}
 use Rattle.core_calc.specs.Typing.{CellType, HasType, OperatorHasType, ValueHasType, IsTypeTable, CellHasType}
 use Rattle.core_calc.specs.Typing.{StoreHasTypes, KeepsType}
 use Rattle.core_calc.proofs.ListPlaces.{none_is_not_some, same_some, both_some, get_last, get_replicate, length_set}
@@ -59,28 +57,6 @@ int_rem_fits a b fits e =
     let below = rem_below a b (abs_positive b e) in
     let bounded = abs_bounded b fits in
     fits_signed_from_abs w64 (int_rem a b) (omega arith)
-
-in_word_fits : (z n : ℤ) → in_word z ≡ Some n → FitsSigned w64 n
-in_word_fits (pos m) n e = at (nat_lt m (2 ^ 63)) refl e
-  where
-    at : (b : Bool) → nat_lt m (2 ^ 63) ≡ b → cond b (Some (pos m)) None ≡ Some n → FitsSigned w64 n
-    at true f e =
-        let below : m < 2 ^ 63 = ltb-true m (2 ^ 63) f in
-        let fits : FitsSigned w64 (pos m) = omega arith in
-        subst (λ x. FitsSigned w64 x) (same_some (pos m) n e) fits
-    at false f e = absurd (none_is_not_some n e)
-in_word_fits (negsuc m) n e = at (nat_lt m (2 ^ 63)) refl e
-  where
-    at : (b : Bool) → nat_lt m (2 ^ 63) ≡ b → cond b (Some (negsuc m)) None ≡ Some n → FitsSigned w64 n
-    at true f e =
-        let below : m < 2 ^ 63 = ltb-true m (2 ^ 63) f in
-        let fits : FitsSigned w64 (negsuc m) = omega arith in
-        subst (λ x. FitsSigned w64 x) (same_some (negsuc m) n e) fits
-    at false f e = absurd (none_is_not_some n e)
-
-next_number_fits : (w : WorldState) (n : ℤ) → next_number w ≡ Some n → FitsSigned w64 n
-next_number_fits w n e =
-    option_and_then_some in_word (number_of (run_first (unread w))) n e (λ z f g. in_word_fits z n g)
 
 small_size : (n : ℕ) → n ≤ 1 → FitsSigned w64 (pos n)
 small_size n h = omega arith

@@ -1,7 +1,7 @@
 mod TypePlaces
 mod ReadPrograms
 mod Sources
-mod NoInput
+mod AnyOperator
 mod Outcomes
 mod Answered
 mod Places

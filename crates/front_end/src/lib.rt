@@ -16,7 +16,7 @@ ghost use Rattle.cast_insert.specs.Outcomes.{Outcome, Elaborates, outcome_of};
 ghost use Rattle.cast_insert.specs.Programs.{IsSource};
 ghost use Rattle.cast_insert.specs.Views.{entries_of};
 ghost use Rattle.front_end.specs.Texts.{HasOutcome, IsFault, IsProgramOf};
-ghost use Rattle.front_end.specs.Placed.{IsAllowed, PlacesAll, takes_no_input};
+ghost use Rattle.front_end.specs.Placed.{PlacesAll};
 
 use cast_insert::insertion::{Elab, insert};
 use grift_base::refusals::FrontFault;
@@ -64,12 +64,6 @@ pub fn elaborate_text(alloc: Global, text: &[u8]) -> Result<Elaborated, FrontFau
 pub fn programs_that_are_read_can_be_elaborated()
     ensures { (text : List ℕ) (datums : Datums) (program : Expr) → Reads text datums
         → AreExpr (all_marked datums) program → IsSource program }
-{}
-
-/// What `parse_program` answers on the s-expressions of a text has no operator that reads input.
-pub fn programs_that_are_read_take_no_input()
-    ensures { (text : List ℕ) (datums : Datums) (program : Expr) → Reads text datums
-        → AreExpr (all_marked datums) program → IsAllowed takes_no_input program }
 {}
 
 /// Each text has an outcome, and no more than one: it is elaborated in one way, or refused for one fault at one place.

@@ -70,8 +70,9 @@ fn refusals_have_kinds_and_places(rt: HostRuntime) -> Result<(), Fail> {
 
 #[test]
 fn programs_without_casts_have_types(rt: HostRuntime) -> Result<(), Fail> {
-    let table: [(&[u8], &str); 9] = [
+    let table: [(&[u8], &str); 10] = [
         (b"1", "Int, 0"),
+        (b"(read-int)", "Int, 0"),
         (b"()", "Unit, 0"),
         (b"(lambda (x) x)", "(Dyn -> Dyn), 0"),
         (

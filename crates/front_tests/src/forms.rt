@@ -292,7 +292,7 @@ fn each_form_is_read(rt: HostRuntime) -> Result<(), Fail> {
 
 #[test]
 fn each_operator_is_read(rt: HostRuntime) -> Result<(), Fail> {
-    let table: [(&[u8], &str); 20] = [
+    let table: [(&[u8], &str); 21] = [
         (b"(box 1)", "(box 1@1:6)@1:1"),
         (b"(unbox x)", "(unbox x@1:8)@1:1"),
         (b"(box-set! x 1)", "(box-set! x@1:11 1@1:13)@1:1"),
@@ -316,6 +316,7 @@ fn each_operator_is_read(rt: HostRuntime) -> Result<(), Fail> {
         (b"(not #t)", "(not #t@1:6)@1:1"),
         (b"(print-int 1)", "(print-int 1@1:12)@1:1"),
         (b"(newline)", "(newline)@1:1"),
+        (b"(read-int)", "(read-int)@1:1"),
     ];
     for (text, expected) in table {
         let out = shown(rt.alloc(), text)?;
@@ -439,7 +440,7 @@ fn forms_of_the_wrong_shape(rt: HostRuntime) -> Result<(), Fail> {
         (b"(define (f) : Int)", 1, 1),
         (b"(define)", 1, 1),
         (b"(define x : Int 1 2)", 1, 1),
-        (b"(read-int)", 1, 1),
+        (b"(read-int 1)", 1, 1),
     ];
     for (text, line, col) in table {
         let kind = RefusalKind::BadForm;
@@ -463,7 +464,7 @@ fn with_one_too_many(alloc: Global, operator: &[u8], operands: u64) -> Result<By
 
 #[test]
 fn each_operator_has_its_number_of_operands(rt: HostRuntime) -> Result<(), Fail> {
-    let table: [(&[u8], u64); 20] = [
+    let table: [(&[u8], u64); 21] = [
         (b"+", 2),
         (b"-", 2),
         (b"*", 2),
@@ -477,6 +478,7 @@ fn each_operator_has_its_number_of_operands(rt: HostRuntime) -> Result<(), Fail>
         (b"not", 1),
         (b"print-int", 1),
         (b"newline", 0),
+        (b"read-int", 0),
         (b"box", 1),
         (b"unbox", 1),
         (b"box-set!", 2),

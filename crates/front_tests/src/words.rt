@@ -8,7 +8,7 @@ fn symbols_are_told_apart(rt: HostRuntime) {
     let table: [(&[u8], Mark); 8] = [
         (b"lambda", Mark::Reserved(Word::Lambda)),
         (b"->", Mark::Reserved(Word::Arrow)),
-        (b"read-int", Mark::Reserved(Word::ReadInt)),
+        (b"read-int", Mark::Reserved(Word::Operator(PrimOp::ReadInt))),
         (b"%%", Mark::Reserved(Word::Operator(PrimOp::Rem))),
         (
             b"vector-set!",

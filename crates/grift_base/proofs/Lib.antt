@@ -3,3 +3,4 @@ mod TableLemmas
 mod PosLemmas
 mod Numerals
 mod ReadingExamples
+mod ReadNumbers

@@ -1,8 +1,10 @@
 -- What an environment call does, by its number and its first two words.
-use Rattle.std.specs.Prelude.{ℕ, ◌%◌, ◌≡◌, ◌==◌, nat_lt, nat_le, if◌then◌else◌, [], ◌∷◌, IsTrue, ◌||◌}
+use Rattle.std.specs.Prelude.{ℕ, ℤ, ◌%◌, ◌≡◌, ◌==◌, nat_lt, nat_le, if◌then◌else◌, [], ◌∷◌, IsTrue, ◌||◌}
+use Rattle.std.specs.Prelude.{Option, Some, None}
 use Rattle.std.specs.Fmt.{signed_decimal}
-use Rattle.std.specs.Int.{cast_signed, w64}
+use Rattle.std.specs.Int.{cast_signed, cast_unsigned, w64}
 use Rattle.grift_base.specs.World.{WorldState, printing}
+use Rattle.grift_base.specs.Reading.{next_number, after_reading}
 use Rattle.grift_base.specs.declared.verdicts.AnswerKind.{AnswerKind}
 use Rattle.grift_base.specs.declared.verdicts.AnswerKind.TheVariants.{Int, Bool, Unit as UnitKind, Function, Tuple}
 use Rattle.grift_base.specs.declared.verdicts.AnswerKind.TheVariants.{Boxed, Vector}
@@ -42,6 +44,11 @@ traps kind =
     else if kind == 4 then Trapped Input
     else Refused
 
+-- call 7: the number that was read with the word 0 behind it, or 0 and 1 where there is none
+abbrev pub reads : Option ℤ → EnvEffect
+reads (Some n) = Next (cast_unsigned w64 n) 0
+reads None = Next 0 1
+
 -- the call with this number and these first two words, in a program with so many labels
 unfoldable pub environment_call : ℕ → ℕ → ℕ → ℕ → WorldState → Called
 environment_call number a0 a1 labels w =
@@ -52,6 +59,7 @@ environment_call number a0 a1 labels w =
     else if number == 4 then record { effect = traps a0; world = w }
     else if number == 5 then record { effect = RegionOut; world = w }
     else if number == 6 then record { effect = StackOut; world = w }
+    else if number == 7 then record { effect = reads (next_number w); world = after_reading (next_number w) w }
     else record { effect = Refused; world = w }
 
 -- the calls that print

@@ -6,3 +6,6 @@ source_limit = 262144
 
 abbrev pub image_limit : ℕ
 image_limit = 268435456
+
+abbrev pub input_limit : ℕ
+input_limit = 1048576

@@ -65,6 +65,13 @@ impl<T> Items<T> {
         }
     }
 
+    /// The elements of a vector.
+    pub fn from_vec(items: Vec<T>) -> Items<T>
+        ensures { result ≡ items.items }
+    {
+        Items { items }
+    }
+
     /// How many elements there are.
     pub fn len(&self) -> u64
         ensures { result ≡ length self.now }

@@ -8,7 +8,8 @@ ghost use Rattle.std.specs.List.{prefix_len};
 ghost use Rattle.grift_base.specs.World.{WorldState, printing};
 ghost use Rattle.grift_base.specs.Numbers.{in_word, number_of};
 ghost use Rattle.grift_base.specs.Reading.{is_white, next_number, after_reading};
-ghost use Rattle.grift_base.specs.EnvironmentCall.{environment_call, ends, traps, Called, MakesCall, StaysUnlessNext};
+ghost use Rattle.grift_base.specs.EnvironmentCall.{environment_call, ends, traps, reads, Called, MakesCall};
+ghost use Rattle.grift_base.specs.EnvironmentCall.{StaysUnlessNext};
 
 use crate::lists::{Bytes, OutOfMemory};
 use crate::numbers::{integer, is_integer};
@@ -119,6 +120,7 @@ impl World {
             4 => trapped(a0),
             5 => EnvEffect::RegionOut,
             6 => EnvEffect::StackOut,
+            7 => self.int_read(),
             _ => EnvEffect::Refused,
         }
     }
@@ -142,6 +144,18 @@ impl World {
         match self.print_byte((a0 % 256) as u8) {
             Ok(()) => EnvEffect::Next(a0, a1),
             Err(OutOfMemory) => EnvEffect::OutOfMemory,
+        }
+    }
+
+    // Call 7.
+    fn int_read(&mut self) -> EnvEffect
+        ensures { let number = next_number self.old in
+            MakesCall (record { effect = reads number; world = after_reading number self.old }) 7 self.old result
+            self.new }
+    {
+        match self.read_int() {
+            Some(number) => EnvEffect::Next(number.cast_unsigned(), 0),
+            None => EnvEffect::Next(0, 1),
         }
     }
 }

@@ -5,4 +5,5 @@ mod ReadingCommands
 mod Addresses
 mod Putting
 mod Stopping
+mod Loading
 mod Saying

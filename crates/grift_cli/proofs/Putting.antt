@@ -50,25 +50,27 @@ fault_is_wrong (Some (LacksRoom room)) t fault h = absurd (let f : ⊥ = cc in f
 fault_is_wrong (Some (GoesWrong found)) t fault h = refl
 
 -- the run of an image that never goes wrong has no fault
-no_fault : (limits : Limits) (image : List ℕ) (fault : MachineFault) → RunsWell limits image
-    → fault_of_run (run_within limits image).1 ≡ Some fault → ⊥
-no_fault limits image fault well h =
-    let start = start_of image limits.region limits.stack (fresh_world []) in
+no_fault : (limits : Limits) (image input : List ℕ) (fault : MachineFault) → RunsWell limits image input
+    → fault_of_run (run_within limits image input).1 ≡ Some fault → ⊥
+no_fault limits image input fault well h =
+    let start = start_of image limits.region limits.stack (fresh_world input) in
     well limits.steps (ap (λ x. x.ending) (run_is_its_turns-states limits.steps start)
-    ∙ fault_is_wrong (run_within limits image).1 (run_within limits image).0 fault h)
+    ∙ fault_is_wrong (run_within limits image input).1 (run_within limits image input).0 fault h)
 
 -- an image that never goes wrong was put, and then run
-pub runs_after_put : (limits : Limits) (image bytes : List ℕ) (out img : SinkSeen) (report : Report)
-    → RunsWell limits image → bytes ≡ image → Takes bytes img → Executes limits image out report
-    → Runs limits image out img report
-runs_after_put limits image bytes out img (HasVerdict verdict) well b t x = (subst (λ xs. Takes xs img) b t, x.0, x.1)
-runs_after_put limits image bytes out img (HasFault fault) well b t x = no_fault limits image fault well x.0
-runs_after_put limits image bytes out img PutFailed well b t x = inr (subst (λ xs. Takes xs img) b t, x)
-runs_after_put limits image bytes out img NoMemory well b t x = (inr (subst (λ xs. Takes xs img) b t), x)
-runs_after_put limits image bytes out img Checked well b t x = absurd x.0
-runs_after_put limits image bytes out img Audited well b t x = absurd x.0
-runs_after_put limits image bytes out img (Refused refusal) well b t x = absurd x.0
-runs_after_put limits image bytes out img (ImageRefused fault) well b t x = absurd x.0
-runs_after_put limits image bytes out img WordsRefused well b t x = absurd x.0
-runs_after_put limits image bytes out img LoadFailed well b t x = absurd x.0
-runs_after_put limits image bytes out img TooLong well b t x = absurd x.0
+pub runs_after_put : (limits : Limits) (image input bytes : List ℕ) (out img : SinkSeen) (report : Report)
+    → RunsWell limits image input → bytes ≡ image → Takes bytes img → Executes limits image input out report
+    → Runs limits image input out img report
+runs_after_put limits image input bytes out img (HasVerdict verdict) well b t x =
+    (subst (λ xs. Takes xs img) b t, x.0, x.1)
+runs_after_put limits image input bytes out img (HasFault fault) well b t x =
+    no_fault limits image input fault well x.0
+runs_after_put limits image input bytes out img PutFailed well b t x = inr (subst (λ xs. Takes xs img) b t, x)
+runs_after_put limits image input bytes out img NoMemory well b t x = (inr (subst (λ xs. Takes xs img) b t), x)
+runs_after_put limits image input bytes out img Checked well b t x = absurd x.0
+runs_after_put limits image input bytes out img Audited well b t x = absurd x.0
+runs_after_put limits image input bytes out img (Refused refusal) well b t x = absurd x.0
+runs_after_put limits image input bytes out img (ImageRefused fault) well b t x = absurd x.0
+runs_after_put limits image input bytes out img WordsRefused well b t x = absurd x.0
+runs_after_put limits image input bytes out img LoadFailed well b t x = absurd x.0
+runs_after_put limits image input bytes out img TooLong well b t x = absurd x.0

@@ -4,75 +4,150 @@ use Rattle.std.specs.Prelude.{codes, ◌≢◌, Option, Some, None}
 use Rattle.grift_cli.specs.Commands.{AreNoCommand, Command, Check, Exec, IsCommand, IsCheck, IsExec, IsNameOption}
 use Rattle.grift_cli.specs.Commands.{IsRun, Run, Audit, IsAudit}
 use Rattle.grift_cli.specs.declared.commands.Limits.{Limits}
-use Rattle.grift_cli.specs.ReadCommands.{GivesImage, LimitsAtFront}
-use Rattle.grift_cli.proofs.ReadingLimits.{differ_at, limit_words, limits_front, one_limits}
+use Rattle.grift_cli.specs.ReadCommands.{BeginOtherwise, GivesImage, LimitsAtFront, NameAtFront}
+use Rattle.grift_cli.proofs.ReadingOptions.{name_alone, one_name, whole_name}
+use Rattle.grift_cli.proofs.ReadingLimits.{differ_at, limit_words, limits_front, named_begins, no_words_begin}
+use Rattle.grift_cli.proofs.ReadingLimits.{one_limits, NoLimitBegins}
 
 -- ---- how a command's words are read
 
-pub record ReadsRun (words : List (List ℕ)) (file : List ℕ) (limits : Limits) (image : Option (List ℕ)) : Type 0 where
+pub record ReadsRun (words : List (List ℕ)) (file : List ℕ) (limits : Limits) (input image : Option (List ℕ)) : Type 0
+    where
   pub options : List (List ℕ)
+  pub after_limits : List (List ℕ)
   pub image_words : List (List ℕ)
   pub words_are : words ≡ codes "run" ∷ file ∷ options
   pub named : file ≢ []
-  pub front : LimitsAtFront options limits image_words
+  pub front : LimitsAtFront options limits after_limits
+  pub input_is : NameAtFront (codes "--input") after_limits input image_words
   pub image_is : IsNameOption (codes "--image") image_words image
 
-pub record ReadsExec (words : List (List ℕ)) (file : List ℕ) (limits : Limits) : Type 0 where
+pub record ReadsExec (words : List (List ℕ)) (file : List ℕ) (limits : Limits) (input : Option (List ℕ)) : Type 0 where
   pub options : List (List ℕ)
+  pub after_limits : List (List ℕ)
   pub words_are : words ≡ codes "exec" ∷ file ∷ options
   pub named : file ≢ []
-  pub front : LimitsAtFront options limits []
+  pub front : LimitsAtFront options limits after_limits
+  pub input_is : NameAtFront (codes "--input") after_limits input []
 
-pub reads_run : (words : List (List ℕ)) (file : List ℕ) (limits : Limits) (image : Option (List ℕ))
-    → IsRun words file limits image → ReadsRun words file limits image
-reads_run words file limits image a = record {
-  options = a.limit_words ++ a.image_words;
-  image_words = a.image_words;
-  words_are = a.words_are;
-  named = a.named;
-  front = limits_front (a.limit_words ++ a.image_words) a.limit_words a.image_words limits image refl a.limits_are
-      a.image_is;
-  image_is = a.image_is;
-}
+-- a word that isn't that of an option of files
+abbrev OtherWord : List ℕ → Type 0
+OtherWord name = (name ≢ codes "--input") × (name ≢ codes "--image")
 
 nothing_more : (xs : List (List ℕ)) → xs ≡ xs ++ []
 nothing_more [] = refl
 nothing_more (x ∷ xs) = ap (λ (ys : List (List ℕ)). x ∷ ys) (nothing_more xs)
 
-pub reads_exec : (words : List (List ℕ)) (file : List ℕ) (limits : Limits) → IsExec words file limits
-    → ReadsExec words file limits
-reads_exec words file limits a = record {
-  options = a.limit_words;
-  words_are = a.words_are;
-  named = a.named;
-  front = limits_front a.limit_words a.limit_words [] limits None (nothing_more a.limit_words) a.limits_are
-      (inl (refl, refl));
+-- the options of an input and of an image begin with no other word
+files_begin : (name : List ℕ) (input_words image_words : List (List ℕ)) (input image : Option (List ℕ))
+    → OtherWord name → IsNameOption (codes "--input") input_words input
+    → IsNameOption (codes "--image") image_words image → BeginOtherwise name (input_words ++ image_words)
+files_begin name input_words image_words input image other i m =
+    named_begins name (codes "--input") input_words image_words input other.0 i
+    (subst (λ (ws : List (List ℕ)). BeginOtherwise name ws) (sym (nothing_more image_words))
+    (named_begins name (codes "--image") image_words [] image other.1 m (no_words_begin name)))
+
+region_is_other : OtherWord (codes "--region")
+region_is_other = (
+  differ_at 2 (codes "--region") (codes "--input") (omega arith),
+  differ_at 2 (codes "--region") (codes "--image") (omega arith),
+)
+
+stack_is_other : OtherWord (codes "--stack")
+stack_is_other = (
+  differ_at 2 (codes "--stack") (codes "--input") (omega arith),
+  differ_at 2 (codes "--stack") (codes "--image") (omega arith),
+)
+
+steps_is_other : OtherWord (codes "--steps")
+steps_is_other = (
+  differ_at 2 (codes "--steps") (codes "--input") (omega arith),
+  differ_at 2 (codes "--steps") (codes "--image") (omega arith),
+)
+
+no_limit_begins : (input_words image_words : List (List ℕ)) (input image : Option (List ℕ))
+    → IsNameOption (codes "--input") input_words input → IsNameOption (codes "--image") image_words image
+    → NoLimitBegins (input_words ++ image_words)
+no_limit_begins input_words image_words input image i m = record {
+  region = files_begin (codes "--region") input_words image_words input image region_is_other i m;
+  stack = files_begin (codes "--stack") input_words image_words input image stack_is_other i m;
+  steps = files_begin (codes "--steps") input_words image_words input image steps_is_other i m;
 }
 
-pub is_run : (words options image_words : List (List ℕ)) (file : List ℕ) (limits : Limits) (image : Option (List ℕ))
-    → words ≡ codes "run" ∷ file ∷ options → file ≢ [] → LimitsAtFront options limits image_words
-    → IsNameOption (codes "--image") image_words image → IsRun words file limits image
-is_run words options image_words file limits image e named front option =
-    let l = limit_words options image_words limits front in
+-- the option of an input stands in front of what doesn't begin with its word
+input_front : (input_words rest : List (List ℕ)) (input : Option (List ℕ))
+    → IsNameOption (codes "--input") input_words input → BeginOtherwise (codes "--input") rest
+    → NameAtFront (codes "--input") (input_words ++ rest) input rest
+input_front input_words rest input i h =
+    record { part = input_words; words_are = refl; option = i; absent = λ p. h }
+
+image_begins : (image_words : List (List ℕ)) (image : Option (List ℕ)) → IsNameOption (codes "--image") image_words image
+    → BeginOtherwise (codes "--input") image_words
+image_begins image_words image m =
+    subst (λ (ws : List (List ℕ)). BeginOtherwise (codes "--input") ws) (sym (nothing_more image_words))
+    (named_begins (codes "--input") (codes "--image") image_words [] image
+    (differ_at 3 (codes "--input") (codes "--image") (omega arith)) m (no_words_begin (codes "--input")))
+
+pub reads_run : (words : List (List ℕ)) (file : List ℕ) (limits : Limits) (input image : Option (List ℕ))
+    → IsRun words file limits input image → ReadsRun words file limits input image
+reads_run words file limits input image a = record {
+  options = a.limit_words ++ (a.input_words ++ a.image_words);
+  after_limits = a.input_words ++ a.image_words;
+  image_words = a.image_words;
+  words_are = a.words_are;
+  named = a.named;
+  front = limits_front (a.limit_words ++ (a.input_words ++ a.image_words)) a.limit_words
+      (a.input_words ++ a.image_words) limits refl a.limits_are
+      (no_limit_begins a.input_words a.image_words input image a.input_is a.image_is);
+  input_is = input_front a.input_words a.image_words input a.input_is (image_begins a.image_words image a.image_is);
+  image_is = a.image_is;
+}
+
+pub reads_exec : (words : List (List ℕ)) (file : List ℕ) (limits : Limits) (input : Option (List ℕ))
+    → IsExec words file limits input → ReadsExec words file limits input
+reads_exec words file limits input a = record {
+  options = a.limit_words ++ (a.input_words ++ []);
+  after_limits = a.input_words ++ [];
+  words_are = a.words_are
+      ∙ ap (λ (ws : List (List ℕ)). codes "exec" ∷ file ∷ a.limit_words ++ ws) (nothing_more a.input_words);
+  named = a.named;
+  front = limits_front (a.limit_words ++ (a.input_words ++ [])) a.limit_words (a.input_words ++ []) limits refl
+      a.limits_are (no_limit_begins a.input_words [] input None a.input_is (inl (refl, refl)));
+  input_is = input_front a.input_words [] input a.input_is (no_words_begin (codes "--input"));
+}
+
+pub is_run : (words options after image_words : List (List ℕ)) (file : List ℕ) (limits : Limits)
+    (input image : Option (List ℕ)) → words ≡ codes "run" ∷ file ∷ options → file ≢ []
+    → LimitsAtFront options limits after → NameAtFront (codes "--input") after input image_words
+    → NameAtFront (codes "--image") image_words image [] → IsRun words file limits input image
+is_run words options after image_words file limits input image e named front i m =
+    let l = limit_words options after limits front in
     record {
       limit_words = l.limit_words;
+      input_words = i.part;
       image_words = image_words;
-      words_are = e ∙ ap (λ (ws : List (List ℕ)). codes "run" ∷ file ∷ ws) l.words_are;
+      words_are = e ∙ ap (λ (ws : List (List ℕ)). codes "run" ∷ file ∷ ws)
+          (l.words_are ∙ ap (λ (ws : List (List ℕ)). l.limit_words ++ ws) i.words_are);
       named = named;
       limits_are = l.limits_are;
-      image_is = option;
+      input_is = i.option;
+      image_is = name_alone (codes "--image") image_words image m;
     }
 
-pub is_exec : (words options : List (List ℕ)) (file : List ℕ) (limits : Limits)
-    → words ≡ codes "exec" ∷ file ∷ options → file ≢ [] → LimitsAtFront options limits [] → IsExec words file limits
-is_exec words options file limits e named front =
-    let l = limit_words options [] limits front in
+pub is_exec : (words options after : List (List ℕ)) (file : List ℕ) (limits : Limits) (input : Option (List ℕ))
+    → words ≡ codes "exec" ∷ file ∷ options → file ≢ [] → LimitsAtFront options limits after
+    → NameAtFront (codes "--input") after input [] → IsExec words file limits input
+is_exec words options after file limits input e named front i =
+    let l = limit_words options after limits front in
     record {
       limit_words = l.limit_words;
-      words_are =
-          e ∙ ap (λ (ws : List (List ℕ)). codes "exec" ∷ file ∷ ws) (l.words_are ∙ sym (nothing_more l.limit_words));
+      input_words = i.part;
+      words_are = e ∙ ap (λ (ws : List (List ℕ)). codes "exec" ∷ file ∷ ws)
+          (l.words_are ∙ ap (λ (ws : List (List ℕ)). l.limit_words ++ ws)
+          (i.words_are ∙ sym (nothing_more i.part)));
       named = named;
       limits_are = l.limits_are;
+      input_is = i.option;
     }
 
 -- ---- no words are two commands
@@ -124,41 +199,56 @@ exec_may_have_options = (
 check_is_not_audit : codes "check" ≢ codes "audit"
 check_is_not_audit = differ_at 0 (codes "check") (codes "audit") (omega arith)
 
-two_runs : (words : List (List ℕ)) (file other : List ℕ) (limits left : Limits) (image name : Option (List ℕ))
-    → ReadsRun words file limits image → ReadsRun words other left name → Run file limits image ≡ Run other left name
-two_runs words file other limits left image name a b =
-    let same = same_words (codes "run") (codes "run") file other a.options b.options (sym a.words_are ∙ b.words_are) in
-    let l = one_limits b.options a.image_words b.image_words limits left
-    (subst (λ (ws : List (List ℕ)). LimitsAtFront ws limits a.image_words) same.others a.front) b.front in
-    let i = one_image b.image_words image name
-    (subst (λ (ws : List (List ℕ)). IsNameOption (codes "--image") ws image) l.1 a.image_is) b.image_is in
-    λ k. Run (same.second k) (l.0 k) (i k)
+-- limits and an input that are read from the same words are the same, and so is what is left
+same_options : (options others after later rest left : List (List ℕ)) (limits found : Limits)
+    (input other : Option (List ℕ)) → options ≡ others → LimitsAtFront options limits after
+    → LimitsAtFront others found later → NameAtFront (codes "--input") after input rest
+    → NameAtFront (codes "--input") later other left → (limits ≡ found) × (input ≡ other) × (rest ≡ left)
+same_options options others after later rest left limits found input other e f g i j =
+    let l = one_limits others after later limits found
+    (subst (λ (ws : List (List ℕ)). LimitsAtFront ws limits after) e f) g in
+    let n = one_name (codes "--input") later input other rest left
+    (subst (λ (ws : List (List ℕ)). NameAtFront (codes "--input") ws input rest) l.1 i) j in
+    (l.0, n.0, n.1)
 
-two_execs : (words : List (List ℕ)) (file other : List ℕ) (limits left : Limits) → ReadsExec words file limits
-    → ReadsExec words other left → Exec file limits ≡ Exec other left
-two_execs words file other limits left a b =
+two_runs : (words : List (List ℕ)) (file other : List ℕ) (limits left : Limits)
+    (input entered image name : Option (List ℕ)) → ReadsRun words file limits input image
+    → ReadsRun words other left entered name → Run file limits input image ≡ Run other left entered name
+two_runs words file other limits left input entered image name a b =
+    let same = same_words (codes "run") (codes "run") file other a.options b.options (sym a.words_are ∙ b.words_are) in
+    let o = same_options a.options b.options a.after_limits b.after_limits a.image_words b.image_words limits left
+    input entered same.others a.front b.front a.input_is b.input_is in
+    let i = one_image b.image_words image name
+    (subst (λ (ws : List (List ℕ)). IsNameOption (codes "--image") ws image) o.2 a.image_is) b.image_is in
+    λ k. Run (same.second k) (o.0 k) (o.1 k) (i k)
+
+two_execs : (words : List (List ℕ)) (file other : List ℕ) (limits left : Limits) (input entered : Option (List ℕ))
+    → ReadsExec words file limits input → ReadsExec words other left entered
+    → Exec file limits input ≡ Exec other left entered
+two_execs words file other limits left input entered a b =
     let same = same_words (codes "exec") (codes "exec") file other a.options b.options
     (sym a.words_are ∙ b.words_are) in
-    let l = one_limits b.options [] [] limits left
-    (subst (λ (ws : List (List ℕ)). LimitsAtFront ws limits []) same.others a.front) b.front in
-    λ k. Exec (same.second k) (l.0 k)
+    let o = same_options a.options b.options a.after_limits b.after_limits [] [] limits left
+    input entered same.others a.front b.front a.input_is b.input_is in
+    λ k. Exec (same.second k) (o.0 k) (o.1 k)
 
-not_both_commands : (words : List (List ℕ)) (file other : List ℕ) (limits left : Limits) (image : Option (List ℕ))
-    → IsRun words file limits image → IsExec words other left → ⊥
-not_both_commands words file other limits left image a b =
-    run_is_not_exec (same_words (codes "run") (codes "exec") file other (a.limit_words ++ a.image_words) b.limit_words
+not_both_commands : (words : List (List ℕ)) (file other : List ℕ) (limits left : Limits)
+    (input image entered : Option (List ℕ)) → IsRun words file limits input image → IsExec words other left entered → ⊥
+not_both_commands words file other limits left input image entered a b =
+    run_is_not_exec (same_words (codes "run") (codes "exec") file other
+    (a.limit_words ++ (a.input_words ++ a.image_words)) (b.limit_words ++ b.input_words)
     (sym a.words_are ∙ b.words_are)).first
 
-run_and_check : (words : List (List ℕ)) (file other : List ℕ) (limits : Limits) (image : Option (List ℕ))
-    → IsRun words file limits image → IsCheck words other → ⊥
-run_and_check words file other limits image a b =
-    run_may_have_options.0 (same_words (codes "run") (codes "check") file other (a.limit_words ++ a.image_words) []
-    (sym a.words_are ∙ b.words_are)).first
+run_and_check : (words : List (List ℕ)) (file other : List ℕ) (limits : Limits) (input image : Option (List ℕ))
+    → IsRun words file limits input image → IsCheck words other → ⊥
+run_and_check words file other limits input image a b =
+    run_may_have_options.0 (same_words (codes "run") (codes "check") file other
+    (a.limit_words ++ (a.input_words ++ a.image_words)) [] (sym a.words_are ∙ b.words_are)).first
 
-exec_and_check : (words : List (List ℕ)) (file other : List ℕ) (limits : Limits) → IsExec words file limits
-    → IsCheck words other → ⊥
-exec_and_check words file other limits a b =
-    exec_may_have_options.0 (same_words (codes "exec") (codes "check") file other a.limit_words []
+exec_and_check : (words : List (List ℕ)) (file other : List ℕ) (limits : Limits) (input : Option (List ℕ))
+    → IsExec words file limits input → IsCheck words other → ⊥
+exec_and_check words file other limits input a b =
+    exec_may_have_options.0 (same_words (codes "exec") (codes "check") file other (a.limit_words ++ a.input_words) []
     (sym a.words_are ∙ b.words_are)).first
 
 two_checks : (words : List (List ℕ)) (file other : List ℕ) → IsCheck words file → IsCheck words other
@@ -166,16 +256,16 @@ two_checks : (words : List (List ℕ)) (file other : List ℕ) → IsCheck words
 two_checks words file other a b =
     ap Check (same_words (codes "check") (codes "check") file other [] [] (sym a.words_are ∙ b.words_are)).second
 
-run_and_audit : (words : List (List ℕ)) (file other : List ℕ) (limits : Limits) (image : Option (List ℕ))
-    → IsRun words file limits image → IsAudit words other → ⊥
-run_and_audit words file other limits image a b =
-    run_may_have_options.1 (same_words (codes "run") (codes "audit") file other (a.limit_words ++ a.image_words) []
-    (sym a.words_are ∙ b.words_are)).first
+run_and_audit : (words : List (List ℕ)) (file other : List ℕ) (limits : Limits) (input image : Option (List ℕ))
+    → IsRun words file limits input image → IsAudit words other → ⊥
+run_and_audit words file other limits input image a b =
+    run_may_have_options.1 (same_words (codes "run") (codes "audit") file other
+    (a.limit_words ++ (a.input_words ++ a.image_words)) [] (sym a.words_are ∙ b.words_are)).first
 
-exec_and_audit : (words : List (List ℕ)) (file other : List ℕ) (limits : Limits) → IsExec words file limits
-    → IsAudit words other → ⊥
-exec_and_audit words file other limits a b =
-    exec_may_have_options.1 (same_words (codes "exec") (codes "audit") file other a.limit_words []
+exec_and_audit : (words : List (List ℕ)) (file other : List ℕ) (limits : Limits) (input : Option (List ℕ))
+    → IsExec words file limits input → IsAudit words other → ⊥
+exec_and_audit words file other limits input a b =
+    exec_may_have_options.1 (same_words (codes "exec") (codes "audit") file other (a.limit_words ++ a.input_words) []
     (sym a.words_are ∙ b.words_are)).first
 
 check_and_audit : (words : List (List ℕ)) (file other : List ℕ) → IsCheck words file → IsAudit words other → ⊥
@@ -190,46 +280,57 @@ two_audits words file other a b =
 
 pub one_command : (words : List (List ℕ)) (first second : Command) → IsCommand words first → IsCommand words second
     → first ≡ second
-one_command words (Run file limits image) (Run other left name) a b =
-    two_runs words file other limits left image name (reads_run words file limits image a)
-    (reads_run words other left name b)
-one_command words (Run file limits image) (Exec other left) a b =
-    absurd (not_both_commands words file other limits left image a b)
-one_command words (Exec file limits) (Run other left name) a b =
-    absurd (not_both_commands words other file left limits name b a)
-one_command words (Exec file limits) (Exec other left) a b =
-    two_execs words file other limits left (reads_exec words file limits a) (reads_exec words other left b)
+one_command words (Run file limits input image) (Run other left entered name) a b =
+    two_runs words file other limits left input entered image name (reads_run words file limits input image a)
+    (reads_run words other left entered name b)
+one_command words (Run file limits input image) (Exec other left entered) a b =
+    absurd (not_both_commands words file other limits left input image entered a b)
+one_command words (Exec file limits input) (Run other left entered name) a b =
+    absurd (not_both_commands words other file left limits entered name input b a)
+one_command words (Exec file limits input) (Exec other left entered) a b =
+    two_execs words file other limits left input entered (reads_exec words file limits input a)
+    (reads_exec words other left entered b)
 one_command words (Check file) (Check other) a b = two_checks words file other a b
-one_command words (Run file limits image) (Check other) a b =
-    absurd (run_and_check words file other limits image a b)
-one_command words (Check file) (Run other limits image) a b =
-    absurd (run_and_check words other file limits image b a)
-one_command words (Exec file limits) (Check other) a b = absurd (exec_and_check words file other limits a b)
-one_command words (Check file) (Exec other limits) a b = absurd (exec_and_check words other file limits b a)
+one_command words (Run file limits input image) (Check other) a b =
+    absurd (run_and_check words file other limits input image a b)
+one_command words (Check file) (Run other limits input image) a b =
+    absurd (run_and_check words other file limits input image b a)
+one_command words (Exec file limits input) (Check other) a b =
+    absurd (exec_and_check words file other limits input a b)
+one_command words (Check file) (Exec other limits input) a b =
+    absurd (exec_and_check words other file limits input b a)
 one_command words (Audit file) (Audit other) a b = two_audits words file other a b
-one_command words (Run file limits image) (Audit other) a b =
-    absurd (run_and_audit words file other limits image a b)
-one_command words (Audit file) (Run other limits image) a b =
-    absurd (run_and_audit words other file limits image b a)
-one_command words (Exec file limits) (Audit other) a b = absurd (exec_and_audit words file other limits a b)
-one_command words (Audit file) (Exec other limits) a b = absurd (exec_and_audit words other file limits b a)
+one_command words (Run file limits input image) (Audit other) a b =
+    absurd (run_and_audit words file other limits input image a b)
+one_command words (Audit file) (Run other limits input image) a b =
+    absurd (run_and_audit words other file limits input image b a)
+one_command words (Exec file limits input) (Audit other) a b =
+    absurd (exec_and_audit words file other limits input a b)
+one_command words (Audit file) (Exec other limits input) a b =
+    absurd (exec_and_audit words other file limits input b a)
 one_command words (Check file) (Audit other) a b = absurd (check_and_audit words file other a b)
 one_command words (Audit file) (Check other) a b = absurd (check_and_audit words other file b a)
 
 -- ---- what is no command
 
-run_front : (words options : List (List ℕ)) (command file other : List ℕ) (limits : Limits) (image : Option (List ℕ))
-    → words ≡ command ∷ file ∷ options → (a : ReadsRun words other limits image)
-    → LimitsAtFront options limits a.image_words
-run_front words options command file other limits image e a =
-    subst (λ (ws : List (List ℕ)). LimitsAtFront ws limits a.image_words)
-    (sym (same_words command (codes "run") file other options a.options (sym e ∙ a.words_are)).others) a.front
+-- options that a command with this word and this file would have
+run_options : (words options : List (List ℕ)) (command file other : List ℕ) (limits : Limits)
+    (input image : Option (List ℕ)) → words ≡ command ∷ file ∷ options → (a : ReadsRun words other limits input image)
+    → (command ≡ codes "run") × (a.options ≡ options)
+run_options words options command file other limits input image e a =
+    let same = same_words command (codes "run") file other options a.options (sym e ∙ a.words_are) in
+    (same.first, sym same.others)
 
-exec_front : (words options : List (List ℕ)) (command file other : List ℕ) (limits : Limits)
-    → words ≡ command ∷ file ∷ options → (a : ReadsExec words other limits) → LimitsAtFront options limits []
-exec_front words options command file other limits e a =
-    subst (λ (ws : List (List ℕ)). LimitsAtFront ws limits [])
-    (sym (same_words command (codes "exec") file other options a.options (sym e ∙ a.words_are)).others) a.front
+exec_options : (words options : List (List ℕ)) (command file other : List ℕ) (limits : Limits)
+    (input : Option (List ℕ)) → words ≡ command ∷ file ∷ options → (a : ReadsExec words other limits input)
+    → (command ≡ codes "exec") × (a.options ≡ options)
+exec_options words options command file other limits input e a =
+    let same = same_words command (codes "exec") file other options a.options (sym e ∙ a.words_are) in
+    (same.first, sym same.others)
+
+limits_of : (options others after : List (List ℕ)) (limits : Limits) → options ≡ others
+    → LimitsAtFront options limits after → LimitsAtFront others limits after
+limits_of options others after limits e front = subst (λ (ws : List (List ℕ)). LimitsAtFront ws limits after) e front
 
 not_a_check : (words options : List (List ℕ)) (command file other : List ℕ) → words ≡ command ∷ file ∷ options
     → command ≢ codes "check" → IsCheck words other → ⊥
@@ -244,39 +345,74 @@ not_an_audit words options command file other e differs a =
 pub no_limits : (words options : List (List ℕ)) (command file : List ℕ) → words ≡ command ∷ file ∷ options
     → MayHaveOptions command
     → ((limits : Limits) (rest : List (List ℕ)) → LimitsAtFront options limits rest → ⊥) → AreNoCommand words
-no_limits words options command file e differs none (Run other limits image) a =
-    let r = reads_run words other limits image a in
-    none limits r.image_words (run_front words options command file other limits image e r)
-no_limits words options command file e differs none (Exec other limits) a =
-    none limits [] (exec_front words options command file other limits e (reads_exec words other limits a))
+no_limits words options command file e differs none (Run other limits input image) a =
+    let r = reads_run words other limits input image a in
+    none limits r.after_limits (limits_of r.options options r.after_limits limits
+    (run_options words options command file other limits input image e r).1 r.front)
+no_limits words options command file e differs none (Exec other limits input) a =
+    let r = reads_exec words other limits input a in
+    none limits r.after_limits (limits_of r.options options r.after_limits limits
+    (exec_options words options command file other limits input e r).1 r.front)
 no_limits words options command file e differs none (Check other) a =
     not_a_check words options command file other e differs.0 a
 no_limits words options command file e differs none (Audit other) a =
     not_an_audit words options command file other e differs.1 a
 
--- the words after the limits are no name of an image, or the command is not `run`; they aren't empty, or the command
--- is not `exec`; and it may have options
-pub nothing_fits : (words options left : List (List ℕ)) (command file : List ℕ) (found : Limits)
-    → words ≡ command ∷ file ∷ options → MayHaveOptions command → LimitsAtFront options found left
+-- no input stands behind the limits
+pub no_input : (words options after : List (List ℕ)) (command file : List ℕ) (found : Limits)
+    → words ≡ command ∷ file ∷ options → MayHaveOptions command → LimitsAtFront options found after
+    → ((input : Option (List ℕ)) (rest : List (List ℕ)) → NameAtFront (codes "--input") after input rest → ⊥)
+    → AreNoCommand words
+no_input words options after command file found e differs front none (Run other limits input image) a =
+    let r = reads_run words other limits input image a in
+    let l = one_limits options r.after_limits after limits found (limits_of r.options options r.after_limits limits
+    (run_options words options command file other limits input image e r).1 r.front) front in
+    none input r.image_words
+    (subst (λ (ws : List (List ℕ)). NameAtFront (codes "--input") ws input r.image_words) l.1 r.input_is)
+no_input words options after command file found e differs front none (Exec other limits input) a =
+    let r = reads_exec words other limits input a in
+    let l = one_limits options r.after_limits after limits found (limits_of r.options options r.after_limits limits
+    (exec_options words options command file other limits input e r).1 r.front) front in
+    none input [] (subst (λ (ws : List (List ℕ)). NameAtFront (codes "--input") ws input []) l.1 r.input_is)
+no_input words options after command file found e differs front none (Check other) a =
+    not_a_check words options command file other e differs.0 a
+no_input words options after command file found e differs front none (Audit other) a =
+    not_an_audit words options command file other e differs.1 a
+
+-- the words after the input are no name of an image, or the command is not `run`; they aren't empty, or the command is
+-- not `exec`; and it may have options
+pub nothing_fits : (words options after left : List (List ℕ)) (command file : List ℕ) (found : Limits)
+    (entered : Option (List ℕ)) → words ≡ command ∷ file ∷ options → MayHaveOptions command
+    → LimitsAtFront options found after → NameAtFront (codes "--input") after entered left
     → (command ≡ codes "run" → (image : Option (List ℕ)) → IsNameOption (codes "--image") left image → ⊥)
     → (command ≡ codes "exec" → left ≡ [] → ⊥)
     → AreNoCommand words
-nothing_fits words options left command file found e differs front run exec (Run other limits image) a =
-    let r = reads_run words other limits image a in
-    let l = one_limits options r.image_words left limits found
-    (run_front words options command file other limits image e r) front in
-    run (same_words command (codes "run") file other options r.options (sym e ∙ r.words_are)).first image
-    (subst (λ (ws : List (List ℕ)). IsNameOption (codes "--image") ws image) l.1 r.image_is)
-nothing_fits words options left command file found e differs front run exec (Exec other limits) a =
-    let r = reads_exec words other limits a in
-    let l = one_limits options [] left limits found (exec_front words options command file other limits e r) front in
-    exec (same_words command (codes "exec") file other options r.options (sym e ∙ r.words_are)).first (sym l.1)
-nothing_fits words options left command file found e differs front run exec (Check other) a =
+nothing_fits words options after left command file found entered e differs front i run exec
+    (Run other limits input image) a =
+    let r = reads_run words other limits input image a in
+    let is = run_options words options command file other limits input image e r in
+    let o = same_options r.options options r.after_limits after r.image_words left limits found input entered is.1
+    r.front front r.input_is i in
+    run is.0 image (subst (λ (ws : List (List ℕ)). IsNameOption (codes "--image") ws image) o.2 r.image_is)
+nothing_fits words options after left command file found entered e differs front i run exec
+    (Exec other limits input) a =
+    let r = reads_exec words other limits input a in
+    let is = exec_options words options command file other limits input e r in
+    let o = same_options r.options options r.after_limits after [] left limits found input entered is.1
+    r.front front r.input_is i in
+    exec is.0 (sym o.2)
+nothing_fits words options after left command file found entered e differs front i run exec (Check other) a =
     not_a_check words options command file other e differs.0 a
-nothing_fits words options left command file found e differs front run exec (Audit other) a =
+nothing_fits words options after left command file found entered e differs front i run exec (Audit other) a =
     not_an_audit words options command file other e differs.1 a
+
+-- words are left behind the name of an image, so that they are no such option alone
+pub more_than_image : (left rest : List (List ℕ)) (found image : Option (List ℕ))
+    → NameAtFront (codes "--image") left found rest → (rest ≡ [] → ⊥) → IsNameOption (codes "--image") left image → ⊥
+more_than_image left rest found image a some m =
+    some (one_name (codes "--image") left found image rest [] a (whole_name (codes "--image") left image m)).1
 
 -- ---- the name of an image
 
 pub none_without_image : (words : List (List ℕ)) → AreNoCommand words → (name : List ℕ) → GivesImage words name → ⊥
-none_without_image words none name g = none (Run g.file g.limits (Some name)) g.run
+none_without_image words none name g = none (Run g.file g.limits g.input (Some name)) g.run

@@ -96,12 +96,16 @@ option_begins name other IsAllowed default n part rest differ option h = elim op
       (sym (ap (λ (ws : List (List ℕ)). ws ++ rest) p.1) ∙ e)))
 ]
 
-image_begins : (name : List ℕ) (words : List (List ℕ)) (image : Option (List ℕ)) → name ≢ codes "--image"
-    → IsNameOption (codes "--image") words image → BeginOtherwise name words
-image_begins name words image differ option left e = elim option [
-  | inl p ↦ (let q : [] ≡ name ∷ left = sym p.0 ∙ e in let no_words : ⊥ = cc in no_words)
-  | inr p ↦ differ (sym (heads (codes "--image") name (p.0 ∷ []) left (sym p.1 ∙ e)))
+pub named_begins : (name other : List ℕ) (part rest : List (List ℕ)) (found : Option (List ℕ)) → name ≢ other
+    → IsNameOption other part found → BeginOtherwise name rest → BeginOtherwise name (part ++ rest)
+named_begins name other part rest found differ option h = elim option [
+  | inl p ↦ subst (λ (ws : List (List ℕ)). BeginOtherwise name (ws ++ rest)) (sym p.0) h
+  | inr p ↦ λ left e. differ (sym (heads other name (p.0 ∷ rest) left
+      (sym (ap (λ (ws : List (List ℕ)). ws ++ rest) p.1) ∙ e)))
 ]
+
+pub no_words_begin : (name : List ℕ) → BeginOtherwise name []
+no_words_begin name left e = let z : ⊥ = cc in z
 
 -- two names that differ at a place
 pub differ_at : (place : ℕ) (name other : List ℕ) → get_or name place 0 ≢ get_or other place 0 → name ≢ other
@@ -116,33 +120,28 @@ region_is_not_steps = differ_at 2 (codes "--region") (codes "--steps") (omega ar
 stack_is_not_steps : codes "--stack" ≢ codes "--steps"
 stack_is_not_steps = differ_at 4 (codes "--stack") (codes "--steps") (omega arith)
 
-region_is_not_image : codes "--region" ≢ codes "--image"
-region_is_not_image = differ_at 2 (codes "--region") (codes "--image") (omega arith)
+-- the words begin with no limit
+pub record NoLimitBegins (words : List (List ℕ)) : Type 0 where
+  pub region : BeginOtherwise (codes "--region") words
+  pub stack : BeginOtherwise (codes "--stack") words
+  pub steps : BeginOtherwise (codes "--steps") words
 
-stack_is_not_image : codes "--stack" ≢ codes "--image"
-stack_is_not_image = differ_at 2 (codes "--stack") (codes "--image") (omega arith)
-
-steps_is_not_image : codes "--steps" ≢ codes "--image"
-steps_is_not_image = differ_at 2 (codes "--steps") (codes "--image") (omega arith)
-
-pub limits_front : (words limit_words image_words : List (List ℕ)) (limits : Limits) (image : Option (List ℕ))
-    → words ≡ limit_words ++ image_words → AreLimits limit_words limits
-    → IsNameOption (codes "--image") image_words image → LimitsAtFront words limits image_words
-limits_front words limit_words image_words limits image e a option =
-    let in_steps = image_begins (codes "--steps") image_words image steps_is_not_image option in
+pub limits_front : (words limit_words rest : List (List ℕ)) (limits : Limits)
+    → words ≡ limit_words ++ rest → AreLimits limit_words limits → NoLimitBegins rest
+    → LimitsAtFront words limits rest
+limits_front words limit_words rest limits e a others =
+    let in_steps = others.steps in
     let in_stack = option_begins (codes "--stack") (codes "--steps") IsStepLimit steps_default limits.steps
-    a.steps_words image_words stack_is_not_steps a.steps
-    (image_begins (codes "--stack") image_words image stack_is_not_image option) in
+    a.steps_words rest stack_is_not_steps a.steps others.stack in
     let in_region = option_begins (codes "--region") (codes "--stack") IsStackSize stack_default limits.stack
-    a.stack_words (a.steps_words ++ image_words) region_is_not_stack a.stack
+    a.stack_words (a.steps_words ++ rest) region_is_not_stack a.stack
     (option_begins (codes "--region") (codes "--steps") IsStepLimit steps_default limits.steps a.steps_words
-    image_words region_is_not_steps a.steps
-    (image_begins (codes "--region") image_words image region_is_not_image option)) in
-    let whole : words ≡ a.region_words ++ (a.stack_words ++ (a.steps_words ++ image_words)) =
-    e ∙ ap (λ (ws : List (List ℕ)). ws ++ image_words) a.words_are ∙ (rw (append_assoc, append_assoc) refl) in
+    rest region_is_not_steps a.steps others.region) in
+    let whole : words ≡ a.region_words ++ (a.stack_words ++ (a.steps_words ++ rest)) =
+    e ∙ ap (λ (ws : List (List ℕ)). ws ++ rest) a.words_are ∙ (rw (append_assoc, append_assoc) refl) in
     record {
-      after_region = a.stack_words ++ (a.steps_words ++ image_words);
-      after_stack = a.steps_words ++ image_words;
+      after_region = a.stack_words ++ (a.steps_words ++ rest);
+      after_stack = a.steps_words ++ rest;
       region = record { part = a.region_words; words_are = whole; option = a.region; absent = λ p. in_region };
       stack = record { part = a.stack_words; words_are = refl; option = a.stack; absent = λ p. in_stack };
       steps = record { part = a.steps_words; words_are = refl; option = a.steps; absent = λ p. in_steps };

@@ -1,10 +1,10 @@
 -- Options at the front of words.
 use Rattle.std.proofs.Common.{ℕ, false, ◌-◌, ◌<◌, ◌≤◌, ◌≡◌, List, [], ◌∷◌, ◌++◌, map, length, take, drop, get_or, inl}
-use Rattle.std.proofs.Common.{inr, refl, sym, ap, subst, ◌∙◌, arith}
-use Rattle.std.specs.Prelude.{◌≢◌, ◌==◌, Some}
+use Rattle.std.proofs.Common.{inr, refl, sym, ap, subst, ◌∙◌, append-nil, arith}
+use Rattle.std.specs.Prelude.{◌≢◌, ◌==◌, Option, Some, None}
 use Rattle.std.proofs.lemmas.List.{take_all}
 use Rattle.grift_cli.specs.Commands.{IsNameOption, IsNumber, number_of}
-use Rattle.grift_cli.specs.ReadCommands.{BeginOtherwise, NumberAtFront}
+use Rattle.grift_cli.specs.ReadCommands.{BeginOtherwise, NameAtFront, NumberAtFront}
 
 -- ---- the first of a list, and the others
 
@@ -112,38 +112,72 @@ pub two_words : {A : Type 0} (bytes : A → List ℕ) (words rest : List A) (y :
 two_words bytes words rest y text name e h f t =
     e ∙ ap (λ (xs : List (List ℕ)). name ∷ xs) (first_word bytes rest y text text h f t refl)
 
--- ---- the option of an image
-
--- a list of two elements is made of them
-two_items : {A : Type 0} (xs : List A) (x y : A) → 2 ≤ length xs → length xs < 3 → x ≡ get_or xs 0 x
-    → y ≡ get_or xs 1 y → xs ≡ x ∷ y ∷ []
-two_items [] x y h k e f = absurd (let p : ⊥ = omega arith in p)
-two_items (a ∷ []) x y h k e f = absurd (let p : ⊥ = omega arith in p)
-two_items (a ∷ b ∷ []) x y h k e f = rw (e, f) refl
-two_items (a ∷ b ∷ c ∷ xs) x y h k e f = absurd (let p : ⊥ = omega arith in p)
+-- ---- options with a name
 
 pub not_empty : (xs : List ℕ) → false ≡ (length xs == 0) → xs ≢ []
 not_empty [] h e = cc
 not_empty (x ∷ xs) h e = cc
 
-pub two_texts : {A : Type 0} (bytes : A → List ℕ) (words : List A) (x y : A) (first second : List ℕ)
-    → 2 ≤ length words → length words < 3 → x ≡ get_or words 0 x → y ≡ get_or words 1 y → first ≡ bytes x
-    → second ≡ bytes y → map bytes words ≡ first ∷ second ∷ []
-two_texts bytes words x y first second h k e f p q = ap (map bytes) (two_items words x y h k e f) ∙ (rw (p, q) refl)
+pub one_name : (option : List ℕ) (words : List (List ℕ)) (name other : Option (List ℕ)) (rest left : List (List ℕ))
+    → NameAtFront option words name rest → NameAtFront option words other left → (name ≡ other) × (rest ≡ left)
+one_name option words name other rest left a b = elim a.option [
+  | inl p ↦ elim b.option [
+    | inl q ↦ (p.1 ∙ sym q.1, sym (front a.part a.words_are p.0) ∙ front b.part b.words_are q.0)
+    | inr q ↦ absurd (a.absent p.0 (q.0 ∷ left)
+        (sym (front a.part a.words_are p.0) ∙ front_two b.part option q.0 b.words_are q.1))
+  ]
+  | inr p ↦ elim b.option [
+    | inl q ↦ absurd (b.absent q.0 (p.0 ∷ rest)
+        (sym (front b.part b.words_are q.0) ∙ front_two a.part option p.0 a.words_are p.1))
+    | inr q ↦ let same = others option p.0 option q.0 rest left
+        (sym (front_two a.part option p.0 a.words_are p.1) ∙ front_two b.part option q.0 b.words_are q.1) in
+        (p.3 ∙ ap Some same.0 ∙ sym q.3, same.1)
+  ]
+]
 
--- ---- the two words that a command begins with
+pub without_name : (option : List ℕ) (words : List (List ℕ)) → BeginOtherwise option words
+    → NameAtFront option words None words
+without_name option words h = record { part = []; words_are = refl; option = inl (refl, refl); absent = λ p. h }
 
-two_and_others : {A : Type 0} (xs : List A) (x y : A) → 2 ≤ length xs → x ≡ get_or xs 0 x → y ≡ get_or xs 1 y
-    → xs ≡ x ∷ y ∷ take (length xs - 2) (drop 2 xs)
-two_and_others [] x y h e f = absurd (let p : ⊥ = omega arith in p)
-two_and_others (a ∷ []) x y h e f = absurd (let p : ⊥ = omega arith in p)
-two_and_others (a ∷ b ∷ xs) x y h e f = rw (e, f, take_all (length (a ∷ b ∷ xs) - 2) xs (omega arith)) refl
+pub with_name : (option : List ℕ) (words rest : List (List ℕ)) (name : List ℕ) → words ≡ option ∷ name ∷ rest
+    → name ≢ [] → NameAtFront option words (Some name) rest
+with_name option words rest name e some = record {
+  part = option ∷ name ∷ [];
+  words_are = e;
+  option = inr (name, refl, some, refl);
+  absent = λ p. absurd (let q : ⊥ = cc in q);
+}
+
+pub no_word_behind : (option : List ℕ) (words : List (List ℕ)) (name : Option (List ℕ)) (rest : List (List ℕ))
+    → words ≡ option ∷ [] → NameAtFront option words name rest → ⊥
+no_word_behind option words name rest e a = elim a.option [
+  | inl p ↦ a.absent p.0 [] (sym (front a.part a.words_are p.0) ∙ e)
+  | inr p ↦ one_is_not_two option option p.0 rest (sym e ∙ front_two a.part option p.0 a.words_are p.1)
+]
+
+pub no_empty_name : (option : List ℕ) (words left : List (List ℕ)) (word : List ℕ) (name : Option (List ℕ))
+    (rest : List (List ℕ)) → words ≡ option ∷ word ∷ left → word ≡ [] → NameAtFront option words name rest → ⊥
+no_empty_name option words left word name rest e empty a = elim a.option [
+  | inl p ↦ a.absent p.0 (word ∷ left) (sym (front a.part a.words_are p.0) ∙ e)
+  | inr p ↦ let same = others option p.0 option word rest left
+      (sym (front_two a.part option p.0 a.words_are p.1) ∙ e) in
+      p.2 (same.0 ∙ empty)
+]
+
+-- an option with a name that is all of the words
+pub whole_name : (option : List ℕ) (words : List (List ℕ)) (name : Option (List ℕ)) → IsNameOption option words name
+    → NameAtFront option words name []
+whole_name option words name h =
+    record { part = words; words_are = sym (append-nil words); option = h; absent = λ p left e. let z : ⊥ = cc in z }
+
+pub name_alone : (option : List ℕ) (words : List (List ℕ)) (name : Option (List ℕ)) → NameAtFront option words name []
+    → IsNameOption option words name
+name_alone option words name a =
+    subst (λ (ws : List (List ℕ)). IsNameOption option ws name) (sym (a.words_are ∙ append-nil a.part)) a.option
+
+-- ---- words are left
 
 pub some_texts : {A : Type 0} (bytes : A → List ℕ) (words : List A) → false ≡ (length words == 0)
     → map bytes words ≡ [] → ⊥
 some_texts bytes [] h e = cc
 some_texts bytes (x ∷ xs) h e = cc
-
-pub an_image : (words : List (List ℕ)) (first second option name : List ℕ) → words ≡ first ∷ second ∷ []
-    → first ≡ option → name ≡ second → name ≢ [] → IsNameOption option words (Some name)
-an_image words first second option name e f n some = inr (name, e ∙ (rw (f, n) refl), some, refl)

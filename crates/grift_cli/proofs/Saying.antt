@@ -1,16 +1,14 @@
 -- What the report of a call says of it.
 use Rattle.std.proofs.Common.{ℕ, ◌≤◌, ◌≡◌, inl, inr, List, [], ◌∷◌, length, Option, Some, None, ◌++◌, refl, sym, ◌∙◌}
 use Rattle.std.proofs.Common.{ap}
-use Rattle.std.proofs.Common.{subst, append-nil, Global}
-use Rattle.std.specs.Prelude.{IfSome, option_map, Err, Vec, ◌≢◌}
+use Rattle.std.proofs.Common.{subst}
+use Rattle.std.specs.Prelude.{Err, ◌≢◌}
 use Rattle.run_laws.specs.Runs.{Ending, EndsAs, Follows}
 use Rattle.run_laws.proofs.Public.{follower_never_goes_wrong}
 use Rattle.assembler.specs.declared.image.ImageFault.{ImageFault}
 use Rattle.assembler.specs.declared.image.ImageFault.TheVariants.{BadMagic, BadLength, BadSection}
 use Rattle.assembler.specs.declared.image.ImageFault.TheVariants.{OutOfMemory as ImageMemory}
 use Rattle.assembler.specs.Faults.{IsFirstFault}
-use Rattle.grift_base.specs.Outside.{Counts}
-use Rattle.grift_base.specs.Shelf.{Loads, load_failed, asked_after}
 use Rattle.grift_base.specs.declared.places.Pos.{Pos}
 use Rattle.grift_base.specs.declared.refusals.FrontFault.{FrontFault}
 use Rattle.grift_base.specs.declared.refusals.FrontFault.TheVariants.{Refused as SourceRefused}
@@ -29,10 +27,10 @@ use Rattle.front_end.specs.Texts.{IsFault}
 use Rattle.cast_insert.specs.Making.{Entry}
 use Rattle.compile_driver.specs.Compiling.{FollowsProgram}
 use Rattle.blame_audit.specs.Claims.{NeverTellsBlame}
-use Rattle.grift_cli.specs.Calls.{CallSeen, PutsNothing, AsksFor, FailsNoLoad, HasLoaded, size_limit}
+use Rattle.grift_cli.specs.Calls.{CallSeen, PutsNothing, AreLoaded, LoadsFiles, HasLoaded, file_of, input_of}
 use Rattle.grift_cli.specs.Auditing.{IsAuditFile, IsNeverBlamed, PutsAudit}
 use Rattle.grift_cli.specs.Checking.{ElaboratesFile, PutsLines}
-use Rattle.grift_cli.specs.Commands.{Command, Run, Exec, Check, Audit, file_of, IsCommand}
+use Rattle.grift_cli.specs.Commands.{Command, Run, Exec, Check, Audit, IsCommand}
 use Rattle.grift_cli.specs.Outcome.{IsCompiled, IsImageFile, HasEndedBy, ComesTo, Says}
 use Rattle.grift_cli.specs.Reporting.{load_report, source_report, image_report}
 use Rattle.grift_cli.specs.Running.{RunsWell, Runs, Executes}
@@ -46,9 +44,9 @@ use Rattle.grift_cli.specs.declared.reports.Report.TheVariants.{Audited, NoMemor
 -- ---- the run of an image and of its program
 
 -- an image that follows a program never goes wrong
-pub runs_well : (limits : Limits) (image : List ℕ) (program : Program) → IsRegionSize limits.region
-    → IsStackSize limits.stack → FollowsProgram image program → RunsWell limits image
-runs_well limits image program r k f = follower_never_goes_wrong (f limits.region limits.stack [] r k)
+pub runs_well : (limits : Limits) (image input : List ℕ) (program : Program) → IsRegionSize limits.region
+    → IsStackSize limits.stack → FollowsProgram image program → RunsWell limits image input
+runs_well limits image input program r k f = follower_never_goes_wrong (f limits.region limits.stack input r k)
 
 same_verdict : (a b : Verdict) → ◌≡◌ {A = Option Verdict} (Some a) (Some b) → a ≡ b
 same_verdict a b e = cc
@@ -79,155 +77,190 @@ output_of : (s : State) (o : Option Halt) → (moment_of (s, o)).output ≡ s.wo
 output_of s None = refl
 output_of s (Some halt) = refl
 
-comes_at : (s : State) (o : Option Halt) (program : Program) (verdict : Verdict) (n : ℕ)
-    → verdict_of_run o ≡ Some verdict → (moment_of (s, o)).output ≡ (calc program [] n).output
-    → EndsAs (moment_of (s, o)).ending (calc program [] n).ending → ComesTo program s.world.output verdict
-comes_at s o program verdict n t out e = record {
+comes_at : (s : State) (o : Option Halt) (program : Program) (input : List ℕ) (verdict : Verdict) (n : ℕ)
+    → verdict_of_run o ≡ Some verdict → (moment_of (s, o)).output ≡ (calc program input n).output
+    → EndsAs (moment_of (s, o)).ending (calc program input n).ending → ComesTo program input s.world.output verdict
+comes_at s o program input verdict n t out e = record {
   steps = n;
   output_is = sym out ∙ output_of s o;
-  ended = ended_by o s verdict (calc program [] n).ending t e;
+  ended = ended_by o s verdict (calc program input n).ending t e;
 }
 
 -- the program comes to the verdict of its image's run
-comes_to : (limits : Limits) (image : List ℕ) (program : Program) (verdict : Verdict) → IsRegionSize limits.region
-    → IsStackSize limits.stack → FollowsProgram image program
-    → verdict_of_run (run_within limits image).1 ≡ Some verdict
-    → ComesTo program (printed limits image) verdict
-comes_to limits image program verdict r k f t =
-    let follows : Follows (mach image limits.region limits.stack []) (calc program []) =
-    f limits.region limits.stack [] r k in
+comes_to : (limits : Limits) (image input : List ℕ) (program : Program) (verdict : Verdict)
+    → IsRegionSize limits.region → IsStackSize limits.stack → FollowsProgram image program
+    → verdict_of_run (run_within limits image input).1 ≡ Some verdict
+    → ComesTo program input (printed limits image input) verdict
+comes_to limits image input program verdict r k f t =
+    let follows : Follows (mach image limits.region limits.stack input) (calc program input) =
+    f limits.region limits.stack input r k in
     let (n, out, e) = follows.back limits.steps in
-    let here = run_is_its_turns-states limits.steps (start_of image limits.region limits.stack (fresh_world [])) in
-    comes_at (run_within limits image).0 (run_within limits image).1 program verdict n t
-    (sym (ap (λ m. m.output) here) ∙ out) (subst (λ m. EndsAs m.ending (calc program [] n).ending) here e)
+    let here = run_is_its_turns-states limits.steps (start_of image limits.region limits.stack (fresh_world input)) in
+    comes_at (run_within limits image input).0 (run_within limits image input).1 program input verdict n t
+    (sym (ap (λ m. m.output) here) ∙ out) (subst (λ m. EndsAs m.ending (calc program input n).ending) here e)
 
--- ---- the file of a command
+-- ---- the files of a command
 
--- a file that was loaded
-pub has_loaded : (call : CallSeen) (command : Command) (bytes items : List ℕ) → IsCommand call.words command
-    → AsksFor (file_of command ∷ []) call.shelf → FailsNoLoad call.shelf → bytes ≡ items
-    → length items ≤ size_limit command → IfSome (call.shelf.holds (file_of command)) (λ held. items ≡ held)
-    → HasLoaded call command bytes
-has_loaded call command bytes items is asked count e short h = record {
-  has = record { words = is; asks = asked };
-  shelf = count;
-  short = rw e short;
-  held = subst (λ xs. IfSome (call.shelf.holds (file_of command)) (λ held. xs ≡ held)) (sym e) h;
+-- files that were loaded
+pub has_loaded : (call : CallSeen) (command : Command) (bytes input items read : List ℕ) → IsCommand call.words command
+    → AreLoaded call.shelf (file_of command) (input_of command) items read → bytes ≡ items → input ≡ read
+    → HasLoaded call command bytes input
+has_loaded call command bytes input items read is loaded e f = record {
+  words = is;
+  loaded =
+      subst (λ xs. AreLoaded call.shelf (file_of command) (input_of command) xs input) (sym e)
+      (subst (λ ys. AreLoaded call.shelf (file_of command) (input_of command) items ys) (sym f) loaded);
 }
-
-no_names : (asked : Option (List (List ℕ)))
-    → option_map (λ (names : List (List ℕ)). names) asked ≡ option_map (λ before. before ++ []) asked
-no_names None = refl
-no_names (Some names) = ap Some (sym (append-nil names))
 
 -- a file that was not loaded
 pub says_load_fault : (call : CallSeen) (command : Command) (fault : LoadFault) → IsCommand call.words command
-    → PutsNothing call → Loads {Z = Global} (call.shelf.holds (file_of command)) (size_limit command) (Err fault)
-    → call.shelf.asked_after
-    ≡ option_map (asked_after {A = Vec ℕ Global} (Err fault) (file_of command)) call.shelf.asked
-    → Counts (load_failed {A = Vec ℕ Global} (Err fault)) call.shelf.faults call.shelf.faults_after
+    → PutsNothing call → LoadsFiles (file_of command) (input_of command) (Err fault) call.shelf
     → Says (load_report fault) call
-says_load_fault call command ShelfFailed is p loads names count =
-    record { command = command; has = record { words = is; asks = names }; shelf = count; nothing = p }
-says_load_fault call command ShelfTooLong is p loads names count = record {
-  command = command;
-  has = record { words = is; asks = names };
-  shelf = count;
-  long = loads;
-  nothing = p;
-}
-says_load_fault call command ShelfMemory is p loads names count = inl (record {
-  command = command;
-  words = is;
-  asks = names ∙ no_names call.shelf.asked;
-  shelf = count;
-  nothing = p;
-})
+says_load_fault call command ShelfFailed is p loads =
+    record { command = command; words = is; not_loaded = loads; nothing = p }
+says_load_fault call command ShelfTooLong is p loads =
+    record { command = command; words = is; too_long = loads; nothing = p }
+says_load_fault call command ShelfMemory is p loads =
+    inl (record { command = command; words = is; lacks = loads; nothing = p })
 
 -- ---- a source that is compiled and run
 
 -- there is no memory for what is made of the file
-pub says_no_memory : (call : CallSeen) (command : Command) (bytes : List ℕ) → HasLoaded call command bytes
+pub says_no_memory : (call : CallSeen) (command : Command) (bytes input : List ℕ) → HasLoaded call command bytes input
     → PutsNothing call → Says NoMemory call
-says_no_memory call command bytes l p =
-    inr (inl (record { command = command; bytes = bytes; loaded = l; nothing = p }))
+says_no_memory call command bytes input l p =
+    inr (inl (record { command = command; bytes = bytes; input = input; loaded = l; nothing = p }))
 
 -- the source is refused
-pub says_source_fault : (call : CallSeen) (file : List ℕ) (limits : Limits) (name : Option (List ℕ)) (text : List ℕ)
-    (fault : FrontFault) → HasLoaded call (Run file limits name) text → PutsNothing call → IsFault text fault
-    → Says (source_report fault) call
-says_source_fault call file limits name text (SourceRefused refusal) l p f =
-    inl (record { file = file; limits = limits; name = name; text = text; loaded = l; refused = f; nothing = p })
-says_source_fault call file limits name text SourceMemory l p f =
-    says_no_memory call (Run file limits name) text l p
+pub says_source_fault : (call : CallSeen) (file : List ℕ) (limits : Limits) (input_name name : Option (List ℕ))
+    (text input : List ℕ) (fault : FrontFault) → HasLoaded call (Run file limits input_name name) text input
+    → PutsNothing call → IsFault text fault → Says (source_report fault) call
+says_source_fault call file limits input_name name text input (SourceRefused refusal) l p f = inl (record {
+  file = file;
+  limits = limits;
+  input_name = input_name;
+  name = name;
+  text = text;
+  input = input;
+  loaded = l;
+  refused = f;
+  nothing = p;
+})
+says_source_fault call file limits input_name name text input SourceMemory l p f =
+    says_no_memory call (Run file limits input_name name) text input l p
 
 -- the image of the source is run
-pub says_run : (call : CallSeen) (limits : Limits) (image : List ℕ) (report : Report) → IsRegionSize limits.region
-    → IsStackSize limits.stack → IsCompiled call limits image → Runs limits image call.out call.img report
-    → Says report call
-says_run call limits image (HasVerdict verdict) r k c x = inl (record {
+pub says_run : (call : CallSeen) (limits : Limits) (image input : List ℕ) (report : Report)
+    → IsRegionSize limits.region → IsStackSize limits.stack → IsCompiled call limits image input
+    → Runs limits image input call.out call.img report → Says report call
+says_run call limits image input (HasVerdict verdict) r k c x = inl (record {
   limits = limits;
   image = image;
+  input = input;
   compiled = c;
   image_put = x.0;
   verdict_is = x.1;
-  meant = comes_to limits image c.program verdict r k c.follows x.1;
+  meant = comes_to limits image input c.program verdict r k c.follows x.1;
   output_put = x.2;
 })
-says_run call limits image PutFailed r k c x =
-    inl (record { limits = limits; image = image; compiled = c; fails = x })
-says_run call limits image NoMemory r k c x =
-    inr (inr (record { limits = limits; image = image; compiled = c; image_put = x.0; no_output = x.1 }))
-says_run call limits image (HasFault fault) r k c x = absurd x
-says_run call limits image Checked r k c x = absurd x
-says_run call limits image Audited r k c x = absurd x
-says_run call limits image (Refused refusal) r k c x = absurd x
-says_run call limits image (ImageRefused fault) r k c x = absurd x
-says_run call limits image WordsRefused r k c x = absurd x
-says_run call limits image LoadFailed r k c x = absurd x
-says_run call limits image TooLong r k c x = absurd x
+says_run call limits image input PutFailed r k c x =
+    inl (record { limits = limits; image = image; input = input; compiled = c; fails = x })
+says_run call limits image input NoMemory r k c x = inr (inr (record {
+  limits = limits;
+  image = image;
+  input = input;
+  compiled = c;
+  image_put = x.0;
+  no_output = x.1;
+}))
+says_run call limits image input (HasFault fault) r k c x = absurd x
+says_run call limits image input Checked r k c x = absurd x
+says_run call limits image input Audited r k c x = absurd x
+says_run call limits image input (Refused refusal) r k c x = absurd x
+says_run call limits image input (ImageRefused fault) r k c x = absurd x
+says_run call limits image input WordsRefused r k c x = absurd x
+says_run call limits image input LoadFailed r k c x = absurd x
+says_run call limits image input TooLong r k c x = absurd x
 
 -- ---- an image from a file that is run
 
 -- the file holds no image
-pub says_image_fault : (call : CallSeen) (file : List ℕ) (limits : Limits) (bytes : List ℕ) (fault : ImageFault)
-    → HasLoaded call (Exec file limits) bytes → PutsNothing call → (fault ≢ ImageMemory → IsFirstFault bytes fault)
+pub says_image_fault : (call : CallSeen) (file : List ℕ) (limits : Limits) (input_name : Option (List ℕ))
+    (bytes input : List ℕ) (fault : ImageFault) → HasLoaded call (Exec file limits input_name) bytes input
+    → PutsNothing call → (fault ≢ ImageMemory → IsFirstFault bytes fault)
     → Says (image_report fault) call
-says_image_fault call file limits bytes BadMagic l p f =
-    record { file = file; limits = limits; bytes = bytes; loaded = l; first = f (λ e. cc); nothing = p }
-says_image_fault call file limits bytes BadLength l p f =
-    record { file = file; limits = limits; bytes = bytes; loaded = l; first = f (λ e. cc); nothing = p }
-says_image_fault call file limits bytes BadSection l p f =
-    record { file = file; limits = limits; bytes = bytes; loaded = l; first = f (λ e. cc); nothing = p }
-says_image_fault call file limits bytes ImageMemory l p f = says_no_memory call (Exec file limits) bytes l p
+says_image_fault call file limits input_name bytes input BadMagic l p f = record {
+  file = file;
+  limits = limits;
+  input_name = input_name;
+  bytes = bytes;
+  input = input;
+  loaded = l;
+  first = f (λ e. cc);
+  nothing = p;
+}
+says_image_fault call file limits input_name bytes input BadLength l p f = record {
+  file = file;
+  limits = limits;
+  input_name = input_name;
+  bytes = bytes;
+  input = input;
+  loaded = l;
+  first = f (λ e. cc);
+  nothing = p;
+}
+says_image_fault call file limits input_name bytes input BadSection l p f = record {
+  file = file;
+  limits = limits;
+  input_name = input_name;
+  bytes = bytes;
+  input = input;
+  loaded = l;
+  first = f (λ e. cc);
+  nothing = p;
+}
+says_image_fault call file limits input_name bytes input ImageMemory l p f =
+    says_no_memory call (Exec file limits input_name) bytes input l p
 
 -- the image that the file holds is run
-pub says_exec : (call : CallSeen) (limits : Limits) (image : List ℕ) (report : Report)
-    → IsImageFile call limits image → Executes limits image call.out report → Says report call
-says_exec call limits image (HasVerdict verdict) i x =
-    inr (record { limits = limits; image = image; image_file = i; verdict_is = x.0; output_put = x.1 })
-says_exec call limits image (HasFault fault) i x =
-    record { limits = limits; image = image; image_file = i; fault_is = x.0; output_put = x.1 }
-says_exec call limits image PutFailed i x =
-    inr (inl (record { limits = limits; image = image; image_file = i; fails = x }))
-says_exec call limits image NoMemory i x =
-    says_no_memory call (Exec i.file limits) image i.loaded (record { out = x; img = i.no_image })
-says_exec call limits image Checked i x = absurd x.0
-says_exec call limits image Audited i x = absurd x.0
-says_exec call limits image (Refused refusal) i x = absurd x.0
-says_exec call limits image (ImageRefused fault) i x = absurd x.0
-says_exec call limits image WordsRefused i x = absurd x.0
-says_exec call limits image LoadFailed i x = absurd x.0
-says_exec call limits image TooLong i x = absurd x.0
+pub says_exec : (call : CallSeen) (limits : Limits) (image input : List ℕ) (report : Report)
+    → IsImageFile call limits image input → Executes limits image input call.out report → Says report call
+says_exec call limits image input (HasVerdict verdict) i x = inr (record {
+  limits = limits;
+  image = image;
+  input = input;
+  image_file = i;
+  verdict_is = x.0;
+  output_put = x.1;
+})
+says_exec call limits image input (HasFault fault) i x = record {
+  limits = limits;
+  image = image;
+  input = input;
+  image_file = i;
+  fault_is = x.0;
+  output_put = x.1;
+}
+says_exec call limits image input PutFailed i x =
+    inr (inl (record { limits = limits; image = image; input = input; image_file = i; fails = x }))
+says_exec call limits image input NoMemory i x =
+    says_no_memory call (Exec i.file limits i.input_name) image input i.loaded (record { out = x; img = i.no_image })
+says_exec call limits image input Checked i x = absurd x.0
+says_exec call limits image input Audited i x = absurd x.0
+says_exec call limits image input (Refused refusal) i x = absurd x.0
+says_exec call limits image input (ImageRefused fault) i x = absurd x.0
+says_exec call limits image input WordsRefused i x = absurd x.0
+says_exec call limits image input LoadFailed i x = absurd x.0
+says_exec call limits image input TooLong i x = absurd x.0
 
 -- ---- a source that is elaborated
 
 -- the source of a check is refused
 pub says_check_fault : (call : CallSeen) (file text : List ℕ) (fault : FrontFault)
-    → HasLoaded call (Check file) text → PutsNothing call → IsFault text fault → Says (source_report fault) call
+    → HasLoaded call (Check file) text [] → PutsNothing call → IsFault text fault → Says (source_report fault) call
 says_check_fault call file text (SourceRefused refusal) l p f =
     inr (inl (record { file = file; text = text; loaded = l; refused = f; nothing = p }))
-says_check_fault call file text SourceMemory l p f = says_no_memory call (Check file) text l p
+says_check_fault call file text SourceMemory l p f = says_no_memory call (Check file) text [] l p
 
 -- the lines of a source are put
 pub says_check : (call : CallSeen) (lines : List ℕ) (report : Report) → ElaboratesFile call lines
@@ -235,7 +268,7 @@ pub says_check : (call : CallSeen) (lines : List ℕ) (report : Report) → Elab
 says_check call lines Checked e x = record { lines = lines; elaborates = e; lines_put = x }
 says_check call lines PutFailed e x = inr (inr (inl (record { lines = lines; elaborates = e; fails = x })))
 says_check call lines NoMemory e x =
-    says_no_memory call (Check e.file) e.text e.loaded (record { out = x; img = e.no_image })
+    says_no_memory call (Check e.file) e.text [] e.loaded (record { out = x; img = e.no_image })
 says_check call lines (HasVerdict verdict) e x = absurd x
 says_check call lines (HasFault fault) e x = absurd x
 says_check call lines (Refused refusal) e x = absurd x
@@ -255,10 +288,10 @@ never_blamed program place never image region stack input n follows r k blames =
 
 -- the source of an audit is refused
 pub says_audit_fault : (call : CallSeen) (file text : List ℕ) (fault : FrontFault)
-    → HasLoaded call (Audit file) text → PutsNothing call → IsFault text fault → Says (source_report fault) call
+    → HasLoaded call (Audit file) text [] → PutsNothing call → IsFault text fault → Says (source_report fault) call
 says_audit_fault call file text (SourceRefused refusal) l p f =
     inr (inr (record { file = file; text = text; loaded = l; refused = f; nothing = p }))
-says_audit_fault call file text SourceMemory l p f = says_no_memory call (Audit file) text l p
+says_audit_fault call file text SourceMemory l p f = says_no_memory call (Audit file) text [] l p
 
 -- the lines of an audit are put
 pub says_audit : (call : CallSeen) (program : Program) (casts : List Entry) (report : Report)
@@ -273,7 +306,7 @@ says_audit call program casts Audited a x = record {
 says_audit call program casts PutFailed a x =
     inr (inr (inr (record { program = program; casts = casts; audits = a; fails = x })))
 says_audit call program casts NoMemory a x =
-    says_no_memory call (Audit a.file) a.text a.loaded (record { out = x; img = a.no_image })
+    says_no_memory call (Audit a.file) a.text [] a.loaded (record { out = x; img = a.no_image })
 says_audit call program casts Checked a x = absurd x
 says_audit call program casts (HasVerdict verdict) a x = absurd x
 says_audit call program casts (HasFault fault) a x = absurd x

@@ -1,5 +1,5 @@
 -- What `audit` puts, and what it comes to.
-use Rattle.std.specs.Prelude.{ℕ, ◌≡◌, ◌≢◌, List, Some, Contains, length, slice_get}
+use Rattle.std.specs.Prelude.{ℕ, ◌≡◌, ◌≢◌, List, [], Some, Contains, length, slice_get}
 use Rattle.run_laws.specs.Runs.{Verdict as EndsWith}
 use Rattle.grift_base.specs.Sink.{SinkSeen, Untouched, Takes, Breaks}
 use Rattle.grift_base.specs.declared.places.Pos.{Pos}
@@ -48,7 +48,7 @@ IsNeverBlamed program place =
 pub record IsAuditFile (call : CallSeen) (program : Program) (casts : List Entry) : Type 0 where
   pub file : List ℕ
   pub text : List ℕ
-  pub loaded : HasLoaded call (Audit file) text
+  pub loaded : HasLoaded call (Audit file) text []
   pub type : ℕ
   pub elaborated : HasOutcome text (Elaborates program.term type program.types program.labels casts)
   pub no_image : Untouched call.img
@@ -72,7 +72,7 @@ pub record FailsToPutAudit (call : CallSeen) : Type 0 where
 pub record IsRefusedAudit (call : CallSeen) (refusal : Refusal) : Type 0 where
   pub file : List ℕ
   pub text : List ℕ
-  pub loaded : HasLoaded call (Audit file) text
+  pub loaded : HasLoaded call (Audit file) text []
   pub refused : HasOutcome text (IsRefused refusal.kind refusal.pos)
   pub nothing : PutsNothing call
 

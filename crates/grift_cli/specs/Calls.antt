@@ -1,10 +1,14 @@
 -- What is seen of a call, and what it asks the shelf for.
-use Rattle.std.specs.Prelude.{ℕ, ◌≡◌, ◌≤◌, ◌<◌, List, [], ◌∷◌, ◌++◌, length, option_map, IfSome}
+use Rattle.std.specs.Prelude.{ℕ, ◌≡◌, ◌≤◌, ◌<◌, List, [], ◌∷◌, ◌++◌, length, Option, Some, None, option_map, IfSome}
+use Rattle.std.specs.Prelude.{Result, Ok, Err}
 use Rattle.grift_base.specs.Outside.{next_count}
 use Rattle.grift_base.specs.Shelf.{ShelfSeen}
 use Rattle.grift_base.specs.Sink.{SinkSeen, Untouched}
-use Rattle.grift_base.specs.Sizes.{source_limit, image_limit}
-use Rattle.grift_cli.specs.Commands.{Command, Run, Exec, Check, Audit, file_of, IsCommand, AreNoCommand}
+use Rattle.grift_base.specs.Sizes.{source_limit, image_limit, input_limit}
+use Rattle.grift_base.specs.declared.shelves.LoadFault.{LoadFault}
+use Rattle.grift_base.specs.declared.shelves.LoadFault.TheVariants.{Failed, TooLong, OutOfMemory}
+use Rattle.grift_cli.specs.Commands.{Command, Run, Exec, Check, Audit, IsCommand, AreNoCommand}
+use Rattle.grift_cli.specs.declared.loads.Loaded.{Loaded}
 
 -- its words, and what is seen of the shelf and of the sinks for output and image
 pub record CallSeen : Type 0 where
@@ -26,27 +30,98 @@ AsksFor names shelf = shelf.asked_after ≡ option_map (λ before. before ++ nam
 abbrev pub FailsNoLoad : ShelfSeen → Type 0
 FailsNoLoad shelf = shelf.faults_after ≡ shelf.faults
 
--- the words are this command, and the shelf was asked for its file
-pub record HasCommand (call : CallSeen) (command : Command) : Type 0 where
+-- ---- the files of a command
+
+-- a file that is to be loaded, and how many bytes it may have at most
+pub record File : Type 0 where
+  pub name : List ℕ
+  pub most : ℕ
+
+-- the file that a command is about
+abbrev pub file_of : Command → File
+file_of (Run file limits input image) = record { name = file; most = source_limit }
+file_of (Exec file limits input) = record { name = file; most = image_limit }
+file_of (Check file) = record { name = file; most = source_limit }
+file_of (Audit file) = record { name = file; most = source_limit }
+
+-- a file of input, where a name is given
+abbrev pub input_file : Option (List ℕ) → Option File
+input_file None = None
+input_file (Some name) = Some (record { name = name; most = input_limit })
+
+-- the file of its input, if it has one
+abbrev pub input_of : Command → Option File
+input_of (Run file limits input image) = input_file input
+input_of (Exec file limits input) = input_file input
+input_of (Check file) = None
+input_of (Audit file) = None
+
+-- its name, if there is one
+abbrev pub names_of : Option File → List (List ℕ)
+names_of None = []
+names_of (Some file) = file.name ∷ []
+
+-- these bytes were loaded: they are no more than the file may have, and they are what its name holds, where that is told
+pub record IsContent (shelf : ShelfSeen) (file : File) (bytes : List ℕ) : Type 0 where
+  pub short : length bytes ≤ file.most
+  pub held : IfSome (shelf.holds file.name) (λ held. bytes ≡ held)
+
+-- these bytes are the input: those of its file, and none without one
+abbrev pub IsInput : ShelfSeen → Option File → List ℕ → Type 0
+IsInput shelf None bytes = bytes ≡ []
+IsInput shelf (Some file) bytes = IsContent shelf file bytes
+
+-- this file comes next, when those of these names were loaded: the file first, and when that was loaded the input
+pub data ComesNext (shelf : ShelfSeen) (file : File) (input : Option File) : List (List ℕ) → File → Type 0 where
+  FileComes : ComesNext shelf file input [] file
+  InputComes : {next : File} {bytes : List ℕ} → IsContent shelf file bytes → input ≡ Some next
+      → ComesNext shelf file input (file.name ∷ []) next
+
+-- both files were loaded, with these bytes
+pub record AreLoaded (shelf : ShelfSeen) (file : File) (input : Option File) (bytes read : List ℕ) : Type 0 where
+  pub asks : AsksFor (file.name ∷ names_of input) shelf
+  pub faults : FailsNoLoad shelf
+  pub content : IsContent shelf file bytes
+  pub input_is : IsInput shelf input read
+
+-- one of the two files could not be read: one load failed
+pub record IsNotLoaded (shelf : ShelfSeen) (file : File) (input : Option File) : Type 0 where
+  pub before : List (List ℕ)
+  pub last : File
+  pub comes : ComesNext shelf file input before last
+  pub asks : AsksFor (before ++ last.name ∷ []) shelf
+  pub faults : shelf.faults_after ≡ next_count shelf.faults
+
+-- one of them has more bytes than it may have, where that is told
+pub record IsTooLong (shelf : ShelfSeen) (file : File) (input : Option File) : Type 0 where
+  pub before : List (List ℕ)
+  pub last : File
+  pub comes : ComesNext shelf file input before last
+  pub asks : AsksFor (before ++ last.name ∷ []) shelf
+  pub faults : FailsNoLoad shelf
+  pub long : IfSome (shelf.holds last.name) (λ bytes. last.most < length bytes)
+
+-- no memory was left for one of them
+pub record LacksMemory (shelf : ShelfSeen) (file : File) (input : Option File) : Type 0 where
+  pub before : List (List ℕ)
+  pub last : File
+  pub comes : ComesNext shelf file input before last
+  pub asks : AsksFor before shelf
+  pub faults : FailsNoLoad shelf
+
+-- what the loads of a file and of an input come to
+abbrev pub LoadsFiles : File → Option File → Result Loaded LoadFault → ShelfSeen → Type 0
+LoadsFiles file input (Ok loaded) shelf = AreLoaded shelf file input loaded.bytes loaded.input
+LoadsFiles file input (Err Failed) shelf = IsNotLoaded shelf file input
+LoadsFiles file input (Err TooLong) shelf = IsTooLong shelf file input
+LoadsFiles file input (Err OutOfMemory) shelf = LacksMemory shelf file input
+
+-- ---- calls
+
+-- the words are this command, and its file and its input were loaded, with these bytes
+pub record HasLoaded (call : CallSeen) (command : Command) (bytes input : List ℕ) : Type 0 where
   pub words : IsCommand call.words command
-  pub asks : AsksFor (file_of command ∷ []) call.shelf
-
--- how many bytes the file of a command may have at most
-abbrev pub size_limit : Command → ℕ
-size_limit (Run file limits image) = source_limit
-size_limit (Exec file limits) = image_limit
-size_limit (Check file) = source_limit
-size_limit (Audit file) = source_limit
-
--- these bytes were loaded: they are no more than the command's file may have, and they are what the name holds, where
--- that is told
-pub record HasLoaded (call : CallSeen) (command : Command) (bytes : List ℕ) : Type 0 where
-  pub has : HasCommand call command
-  pub shelf : FailsNoLoad call.shelf
-  pub short : length bytes ≤ size_limit command
-  pub held : IfSome (call.shelf.holds (file_of command)) (λ held. bytes ≡ held)
-
--- ---- calls that come to no file
+  pub loaded : AreLoaded call.shelf (file_of command) (input_of command) bytes input
 
 -- the words are no command, and the shelf was asked for nothing
 pub record HasNoCommand (call : CallSeen) : Type 0 where
@@ -55,25 +130,23 @@ pub record HasNoCommand (call : CallSeen) : Type 0 where
   pub shelf : FailsNoLoad call.shelf
   pub nothing : PutsNothing call
 
--- the file could not be read: one load failed
+-- a file could not be read
 pub record HasNoFile (call : CallSeen) : Type 0 where
   pub command : Command
-  pub has : HasCommand call command
-  pub shelf : call.shelf.faults_after ≡ next_count call.shelf.faults
+  pub words : IsCommand call.words command
+  pub not_loaded : IsNotLoaded call.shelf (file_of command) (input_of command)
   pub nothing : PutsNothing call
 
--- the file has more bytes than the command's file may have, where that is told
+-- a file has more bytes than it may have
 pub record HasLongFile (call : CallSeen) : Type 0 where
   pub command : Command
-  pub has : HasCommand call command
-  pub shelf : FailsNoLoad call.shelf
-  pub long : IfSome (call.shelf.holds (file_of command)) (λ bytes. size_limit command < length bytes)
+  pub words : IsCommand call.words command
+  pub too_long : IsTooLong call.shelf (file_of command) (input_of command)
   pub nothing : PutsNothing call
 
--- no memory was left for the file
+-- no memory was left for a file
 pub record LacksFile (call : CallSeen) : Type 0 where
   pub command : Command
   pub words : IsCommand call.words command
-  pub asks : AsksFor [] call.shelf
-  pub shelf : FailsNoLoad call.shelf
+  pub lacks : LacksMemory call.shelf (file_of command) (input_of command)
   pub nothing : PutsNothing call

@@ -1,5 +1,5 @@
 -- What `check` puts, and what it comes to.
-use Rattle.std.specs.Prelude.{ℕ, ◌≡◌, List, ◌++◌, codes, length}
+use Rattle.std.specs.Prelude.{ℕ, ◌≡◌, List, [], ◌++◌, codes, length}
 use Rattle.std.specs.Fmt.{decimal}
 use Rattle.grift_base.specs.Sink.{SinkSeen, Untouched, Takes, Breaks}
 use Rattle.grift_base.specs.Types.{TypeRows}
@@ -24,7 +24,7 @@ checked_text types type casts =
 pub record ElaboratesFile (call : CallSeen) (lines : List ℕ) : Type 0 where
   pub file : List ℕ
   pub text : List ℕ
-  pub loaded : HasLoaded call (Check file) text
+  pub loaded : HasLoaded call (Check file) text []
   pub term : Term
   pub type : ℕ
   pub types : TypeRows
@@ -50,7 +50,7 @@ pub record FailsToPutLines (call : CallSeen) : Type 0 where
 pub record IsRefusedCheck (call : CallSeen) (refusal : Refusal) : Type 0 where
   pub file : List ℕ
   pub text : List ℕ
-  pub loaded : HasLoaded call (Check file) text
+  pub loaded : HasLoaded call (Check file) text []
   pub refused : HasOutcome text (IsRefused refusal.kind refusal.pos)
   pub nothing : PutsNothing call
 

@@ -58,34 +58,33 @@ pub record AreLimits (words : List (List ℕ)) (limits : Limits) : Type 0 where
 
 -- ---- commands
 
--- a file that is compiled and run, perhaps with a name for its image; an image in a file that is run; a file whose
--- program's type and number of casts are put; a file whose program's safe labels are put
+-- a file that is compiled and run, perhaps with a file of input and with a name for its image; an image in a file that
+-- is run, perhaps with a file of input; a file whose program's type and number of casts are put; a file whose program's
+-- safe labels are put
 pub data Command : Type 0 where
-  Run : List ℕ → Limits → Option (List ℕ) → Command
-  Exec : List ℕ → Limits → Command
+  Run : List ℕ → Limits → Option (List ℕ) → Option (List ℕ) → Command
+  Exec : List ℕ → Limits → Option (List ℕ) → Command
   Check : List ℕ → Command
   Audit : List ℕ → Command
 
--- the name of its file
-abbrev pub file_of : Command → List ℕ
-file_of (Run file limits image) = file
-file_of (Exec file limits) = file
-file_of (Check file) = file
-file_of (Audit file) = file
-
-pub record IsRun (words : List (List ℕ)) (file : List ℕ) (limits : Limits) (image : Option (List ℕ)) : Type 0 where
+pub record IsRun (words : List (List ℕ)) (file : List ℕ) (limits : Limits) (input image : Option (List ℕ)) : Type 0
+    where
   pub limit_words : List (List ℕ)
+  pub input_words : List (List ℕ)
   pub image_words : List (List ℕ)
-  pub words_are : words ≡ codes "run" ∷ file ∷ limit_words ++ image_words
+  pub words_are : words ≡ codes "run" ∷ file ∷ limit_words ++ (input_words ++ image_words)
   pub named : file ≢ []
   pub limits_are : AreLimits limit_words limits
+  pub input_is : IsNameOption (codes "--input") input_words input
   pub image_is : IsNameOption (codes "--image") image_words image
 
-pub record IsExec (words : List (List ℕ)) (file : List ℕ) (limits : Limits) : Type 0 where
+pub record IsExec (words : List (List ℕ)) (file : List ℕ) (limits : Limits) (input : Option (List ℕ)) : Type 0 where
   pub limit_words : List (List ℕ)
-  pub words_are : words ≡ codes "exec" ∷ file ∷ limit_words
+  pub input_words : List (List ℕ)
+  pub words_are : words ≡ codes "exec" ∷ file ∷ limit_words ++ input_words
   pub named : file ≢ []
   pub limits_are : AreLimits limit_words limits
+  pub input_is : IsNameOption (codes "--input") input_words input
 
 pub record IsCheck (words : List (List ℕ)) (file : List ℕ) : Type 0 where
   pub words_are : words ≡ codes "check" ∷ file ∷ []
@@ -96,8 +95,8 @@ pub record IsAudit (words : List (List ℕ)) (file : List ℕ) : Type 0 where
   pub named : file ≢ []
 
 abbrev pub IsCommand : List (List ℕ) → Command → Type 0
-IsCommand words (Run file limits image) = IsRun words file limits image
-IsCommand words (Exec file limits) = IsExec words file limits
+IsCommand words (Run file limits input image) = IsRun words file limits input image
+IsCommand words (Exec file limits input) = IsExec words file limits input
 IsCommand words (Check file) = IsCheck words file
 IsCommand words (Audit file) = IsAudit words file
 

@@ -41,19 +41,22 @@ OutputFails output out = (output ≢ []) × Breaks output out
 pub record IsRefused (call : CallSeen) (refusal : Refusal) : Type 0 where
   pub file : List ℕ
   pub limits : Limits
+  pub input_name : Option (List ℕ)
   pub name : Option (List ℕ)
   pub text : List ℕ
-  pub loaded : HasLoaded call (Run file limits name) text
+  pub input : List ℕ
+  pub loaded : HasLoaded call (Run file limits input_name name) text input
   pub refused : HasOutcome text (IsRefusedText refusal.kind refusal.pos)
   pub nothing : PutsNothing call
 
 -- the text is the source of a program, whose term is a program term, and which this image follows; it is to be run
--- within these limits
-pub record IsCompiled (call : CallSeen) (limits : Limits) (image : List ℕ) : Type 0 where
+-- within these limits on this input
+pub record IsCompiled (call : CallSeen) (limits : Limits) (image input : List ℕ) : Type 0 where
   pub file : List ℕ
+  pub input_name : Option (List ℕ)
   pub name : Option (List ℕ)
   pub text : List ℕ
-  pub loaded : HasLoaded call (Run file limits name) text
+  pub loaded : HasLoaded call (Run file limits input_name name) text input
   pub program : Program
   pub source : HasProgram text program
   pub whole : IsImage image
@@ -66,46 +69,51 @@ HasEndedBy (Blame place) ending = ending ≡ Some (EndsWith (Blame place))
 HasEndedBy (Trap trap) ending = ending ≡ Some (EndsWith (Trap trap))
 HasEndedBy _ ending = Unit {0}
 
--- without input the calculus of the program comes, after some number of steps, to this very output, and has then ended
+-- on this input the calculus of the program comes, after some number of steps, to this very output, and has then ended
 -- with the verdict, where that is an answer, a blame or a trap
-pub record ComesTo (program : Program) (output : List ℕ) (verdict : Verdict) : Type 0 where
+pub record ComesTo (program : Program) (input output : List ℕ) (verdict : Verdict) : Type 0 where
   pub steps : ℕ
-  pub output_is : (calc program [] steps).output ≡ output
-  pub ended : HasEndedBy verdict (calc program [] steps).ending
+  pub output_is : (calc program input steps).output ≡ output
+  pub ended : HasEndedBy verdict (calc program input steps).ending
 
--- the image was put whole, the verdict of its run is this one, which is what the program comes to, and what it prints
--- was put whole
+-- the image was put whole, the verdict of its run on the input is this one, which is what the program comes to on it,
+-- and what it prints was put whole
 pub record HasRun (call : CallSeen) (verdict : Verdict) : Type 0 where
   pub limits : Limits
   pub image : List ℕ
-  pub compiled : IsCompiled call limits image
+  pub input : List ℕ
+  pub compiled : IsCompiled call limits image input
   pub image_put : Takes image call.img
-  pub verdict_is : verdict_of_run (run_within limits image).1 ≡ Some verdict
-  pub meant : ComesTo compiled.program (printed limits image) verdict
-  pub output_put : Takes (printed limits image) call.out
+  pub verdict_is : verdict_of_run (run_within limits image input).1 ≡ Some verdict
+  pub meant : ComesTo compiled.program input (printed limits image input) verdict
+  pub output_put : Takes (printed limits image input) call.out
 
 -- a sink failed when there was an image
 pub record FailsToPut (call : CallSeen) : Type 0 where
   pub limits : Limits
   pub image : List ℕ
-  pub compiled : IsCompiled call limits image
-  pub fails : ImageFails image call.out call.img ⊎ (Takes image call.img × OutputFails (printed limits image) call.out)
+  pub input : List ℕ
+  pub compiled : IsCompiled call limits image input
+  pub fails : ImageFails image call.out call.img
+      ⊎ (Takes image call.img × OutputFails (printed limits image input) call.out)
 
 -- no memory was left when there was an image, for its put, its run or the put of the output: nothing was put on the
 -- output, and the image whole or not at all
 pub record LacksRun (call : CallSeen) : Type 0 where
   pub limits : Limits
   pub image : List ℕ
-  pub compiled : IsCompiled call limits image
+  pub input : List ℕ
+  pub compiled : IsCompiled call limits image input
   pub image_put : Untouched call.img ⊎ Takes image call.img
   pub no_output : Untouched call.out
 
 -- ---- an image from a file that is run
 
--- the file holds an image, which is to be run within these limits; none is put
-pub record IsImageFile (call : CallSeen) (limits : Limits) (image : List ℕ) : Type 0 where
+-- the file holds an image, which is to be run within these limits on this input; none is put
+pub record IsImageFile (call : CallSeen) (limits : Limits) (image input : List ℕ) : Type 0 where
   pub file : List ℕ
-  pub loaded : HasLoaded call (Exec file limits) image
+  pub input_name : Option (List ℕ)
+  pub loaded : HasLoaded call (Exec file limits input_name) image input
   pub whole : IsImage image
   pub no_image : Untouched call.img
 
@@ -113,8 +121,10 @@ pub record IsImageFile (call : CallSeen) (limits : Limits) (image : List ℕ) : 
 pub record IsNoImageFile (call : CallSeen) (fault : BadImage) : Type 0 where
   pub file : List ℕ
   pub limits : Limits
+  pub input_name : Option (List ℕ)
   pub bytes : List ℕ
-  pub loaded : HasLoaded call (Exec file limits) bytes
+  pub input : List ℕ
+  pub loaded : HasLoaded call (Exec file limits input_name) bytes input
   pub first : IsFirstFault bytes (image_fault fault)
   pub nothing : PutsNothing call
 
@@ -122,30 +132,34 @@ pub record IsNoImageFile (call : CallSeen) (fault : BadImage) : Type 0 where
 pub record HasExecuted (call : CallSeen) (verdict : Verdict) : Type 0 where
   pub limits : Limits
   pub image : List ℕ
-  pub image_file : IsImageFile call limits image
-  pub verdict_is : verdict_of_run (run_within limits image).1 ≡ Some verdict
-  pub output_put : Takes (printed limits image) call.out
+  pub input : List ℕ
+  pub image_file : IsImageFile call limits image input
+  pub verdict_is : verdict_of_run (run_within limits image input).1 ≡ Some verdict
+  pub output_put : Takes (printed limits image input) call.out
 
 -- its run has gone wrong by this fault, and what it prints was put whole
 pub record HasGoneWrong (call : CallSeen) (fault : MachineFault) : Type 0 where
   pub limits : Limits
   pub image : List ℕ
-  pub image_file : IsImageFile call limits image
-  pub fault_is : fault_of_run (run_within limits image).1 ≡ Some fault
-  pub output_put : Takes (printed limits image) call.out
+  pub input : List ℕ
+  pub image_file : IsImageFile call limits image input
+  pub fault_is : fault_of_run (run_within limits image input).1 ≡ Some fault
+  pub output_put : Takes (printed limits image input) call.out
 
 -- the put of what it prints failed
 pub record FailsToPutOutput (call : CallSeen) : Type 0 where
   pub limits : Limits
   pub image : List ℕ
-  pub image_file : IsImageFile call limits image
-  pub fails : OutputFails (printed limits image) call.out
+  pub input : List ℕ
+  pub image_file : IsImageFile call limits image input
+  pub fails : OutputFails (printed limits image input) call.out
 
 -- no memory was left for what is made of the file, or for the run of the image that it holds: nothing was put
 pub record LacksImage (call : CallSeen) : Type 0 where
   pub command : Command
   pub bytes : List ℕ
-  pub loaded : HasLoaded call command bytes
+  pub input : List ℕ
+  pub loaded : HasLoaded call command bytes input
   pub nothing : PutsNothing call
 
 -- ---- reports

@@ -2,7 +2,7 @@
 use Rattle.std.specs.Prelude.{ℕ, ◌≤◌, ◌%◌, ◌≡◌, false, List, [], ◌∷◌, ◌++◌, codes, Option, Some, None}
 use Rattle.std.specs.Borrow.{Bor}
 use Rattle.rv_machine.specs.Start.{IsRegionSize, IsStackSize}
-use Rattle.grift_cli.specs.Commands.{Command, Run, Exec, Check, Audit, IsNumberOption, IsRun}
+use Rattle.grift_cli.specs.Commands.{Command, Run, Exec, Check, Audit, IsNameOption, IsNumberOption, IsRun}
 use Rattle.grift_cli.specs.Commands.{IsStepLimit, region_default, stack_default, steps_default}
 use Rattle.grift_cli.specs.declared.commands.Command.{Command as ReadCommand}
 use Rattle.grift_cli.specs.declared.commands.Command.TheVariants.{Run as ReadRun, Exec as ReadExec, Check as ReadCheck}
@@ -25,6 +25,14 @@ pub record NumberAtFront (name : List ℕ) (IsAllowed : ℕ → Type 0) (default
   pub option : IsNumberOption name IsAllowed default part n
   pub absent : part ≡ [] → BeginOtherwise name rest
 
+-- the words begin with an option with a name, or not with this word; these are left after it
+pub record NameAtFront (word : List ℕ) (words : List (List ℕ)) (name : Option (List ℕ)) (rest : List (List ℕ)) : Type 0
+    where
+  pub part : List (List ℕ)
+  pub words_are : words ≡ part ++ rest
+  pub option : IsNameOption word part name
+  pub absent : part ≡ [] → BeginOtherwise word rest
+
 -- the words begin with limits; these are left after them
 pub record LimitsAtFront (words : List (List ℕ)) (limits : Limits) (rest : List (List ℕ)) : Type 0 where
   pub after_region : List (List ℕ)
@@ -41,16 +49,16 @@ name_bytes (Some name) = Some name.now
 -- a command that was read, as the definitions have it
 abbrev pub command_of : ReadCommand → Command
 command_of (ReadRun file region stack steps input space image) =
-    Run file.now (record { region = region; stack = stack; steps = steps }) (name_bytes image)
+    Run file.now (record { region = region; stack = stack; steps = steps }) (name_bytes input) (name_bytes image)
 command_of (ReadExec file region stack steps input) =
-    Exec file.now (record { region = region; stack = stack; steps = steps })
+    Exec file.now (record { region = region; stack = stack; steps = steps }) (name_bytes input)
 command_of (ReadCheck file) = Check file.now
 command_of (ReadAudit file) = Audit file.now
 
 -- it tells nothing beside this
 abbrev pub TellsNoMore : ReadCommand → Type 0
-TellsNoMore (ReadRun file region stack steps input space image) = (input ≡ None) × (space ≡ false)
-TellsNoMore (ReadExec file region stack steps input) = input ≡ None
+TellsNoMore (ReadRun file region stack steps input space image) = space ≡ false
+TellsNoMore (ReadExec file region stack steps input) = Unit {0}
 TellsNoMore (ReadCheck file) = Unit {0}
 TellsNoMore (ReadAudit file) = Unit {0}
 
@@ -58,7 +66,8 @@ TellsNoMore (ReadAudit file) = Unit {0}
 pub record GivesImage (words : List (List ℕ)) (name : List ℕ) : Type 0 where
   pub file : List ℕ
   pub limits : Limits
-  pub run : IsRun words file limits (Some name)
+  pub input : Option (List ℕ)
+  pub run : IsRun words file limits input (Some name)
 
 -- they are none that gives its image a name
 abbrev pub GivesNoImage : List (List ℕ) → Type 0

@@ -15,9 +15,9 @@ use Rattle.grift_cli.specs.declared.reports.Report.TheVariants.{HasVerdict, HasF
 
 -- ---- the run of an image
 
--- the image's run without input never goes wrong
-abbrev pub RunsWell : Limits → List ℕ → Type 0
-RunsWell limits image = NeverWrong (mach image limits.region limits.stack [])
+-- the image's run on this input never goes wrong
+abbrev pub RunsWell : Limits → List ℕ → List ℕ → Type 0
+RunsWell limits image input = NeverWrong (mach image limits.region limits.stack input)
 
 -- the report tells the run that has come to this: by its verdict, or by how it went wrong
 abbrev pub TellsRun : Option Halt → Report → Type 0
@@ -47,18 +47,19 @@ sink_report SinkMemory = NoMemory
 -- ---- reports
 
 -- the image was run, and then what it prints was put
-abbrev pub Executes : Limits → List ℕ → SinkSeen → Report → Type 0
-Executes limits image out PutFailed = OutputFails (printed limits image) out
-Executes limits image out NoMemory = Untouched out
-Executes limits image out report = TellsRun (run_within limits image).1 report × Takes (printed limits image) out
+abbrev pub Executes : Limits → List ℕ → List ℕ → SinkSeen → Report → Type 0
+Executes limits image input out PutFailed = OutputFails (printed limits image input) out
+Executes limits image input out NoMemory = Untouched out
+Executes limits image input out report =
+    TellsRun (run_within limits image input).1 report × Takes (printed limits image input) out
 
 -- the image was put, then run, and then what it prints was put; it didn't go wrong
-abbrev pub Runs : Limits → List ℕ → SinkSeen → SinkSeen → Report → Type 0
-Runs limits image out img (HasVerdict verdict) =
+abbrev pub Runs : Limits → List ℕ → List ℕ → SinkSeen → SinkSeen → Report → Type 0
+Runs limits image input out img (HasVerdict verdict) =
     Takes image img
-    × (verdict_of_run (run_within limits image).1 ≡ Some verdict)
-    × Takes (printed limits image) out
-Runs limits image out img PutFailed =
-    ImageFails image out img ⊎ (Takes image img × OutputFails (printed limits image) out)
-Runs limits image out img NoMemory = (Untouched img ⊎ Takes image img) × Untouched out
-Runs limits image out img _ = ⊥
+    × (verdict_of_run (run_within limits image input).1 ≡ Some verdict)
+    × Takes (printed limits image input) out
+Runs limits image input out img PutFailed =
+    ImageFails image out img ⊎ (Takes image img × OutputFails (printed limits image input) out)
+Runs limits image input out img NoMemory = (Untouched img ⊎ Takes image img) × Untouched out
+Runs limits image input out img _ = ⊥

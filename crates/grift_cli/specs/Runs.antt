@@ -1,5 +1,5 @@
 -- The run of an image within limits, and what it is told as.
-use Rattle.std.specs.Prelude.{ℕ, List, [], Option, Some, None}
+use Rattle.std.specs.Prelude.{ℕ, List, Option, Some, None}
 use Rattle.grift_base.specs.declared.verdicts.Verdict.{Verdict}
 use Rattle.grift_base.specs.declared.verdicts.Verdict.TheVariants.{StepsSpent}
 use Rattle.rv_machine.specs.State.{State, Halt, verdict_of, fault_of}
@@ -8,13 +8,13 @@ use Rattle.rv_machine.specs.Mach.{run_of}
 use Rattle.rv_machine.specs.declared.faults.MachineFault.{MachineFault}
 use Rattle.grift_cli.specs.declared.commands.Limits.{Limits}
 
--- the run within the limits, without input: the state, and the stop if there was one
-abbrev pub run_within : Limits → List ℕ → State × Option Halt
-run_within limits image = run_of limits.steps (start_of image limits.region limits.stack (fresh_world []))
+-- the run within the limits on this input: the state, and the stop if there was one
+abbrev pub run_within : Limits → List ℕ → List ℕ → State × Option Halt
+run_within limits image input = run_of limits.steps (start_of image limits.region limits.stack (fresh_world input))
 
 -- what the image prints
-abbrev pub printed : Limits → List ℕ → List ℕ
-printed limits image = (run_within limits image).0.world.output
+abbrev pub printed : Limits → List ℕ → List ℕ → List ℕ
+printed limits image input = (run_within limits image input).0.world.output
 
 -- the verdict of a run: that of its stop, or spent steps where there was none; none where it went wrong
 abbrev pub verdict_of_run : Option Halt → Option Verdict

@@ -2,8 +2,8 @@
 
 ghost use Rattle.std.specs.Prelude.{ℕ, ◌≡◌, ◌≢◌, ◌≤◌, ◌<◌, ◌%◌, ◌∷◌, [], List, Option, codes, map, string_bytes};
 ghost use Rattle.std.specs.Prelude.{MatchOption, IfSome};
-ghost use Rattle.grift_cli.specs.Commands.{Command as WordsCommand, IsNumber, IsNameOption, IsCommand, AreNoCommand};
-ghost use Rattle.grift_cli.specs.ReadCommands.{NumberAtFront, LimitsAtFront, IsWithin, TellsNoMore};
+ghost use Rattle.grift_cli.specs.Commands.{Command as WordsCommand, IsNumber, IsCommand, AreNoCommand};
+ghost use Rattle.grift_cli.specs.ReadCommands.{NumberAtFront, NameAtFront, LimitsAtFront, IsWithin, TellsNoMore};
 ghost use Rattle.grift_cli.specs.ReadCommands.{GivesImage, GivesNoImage, command_of, name_bytes};
 
 // The limits of a run: the greatest that may be told, and what they are where none is told.
@@ -19,10 +19,10 @@ const MOST_STEPS: u64 = 9_223_372_036_854_775_807;
 
 const DEFAULT_STEPS: u64 = 100_000_000;
 
-/// A command of the program. An `input` and a `space` are told by no words.
+/// A command of the program. A `space` is told by no words.
 #[derive(Clone, Copy, PartialEq, Eq, Debug)]
 pub enum Command<'a> {
-    /// A file that is compiled and run, and the name of its image, if it gets one.
+    /// A file that is compiled and run, the file of its input, if it gets one, and the name of its image, if it gets one.
     Run {
         file: &'a str,
         region: u64,
@@ -32,7 +32,7 @@ pub enum Command<'a> {
         space: bool,
         image: Option<&'a str>,
     },
-    /// An image in a file that is run.
+    /// An image in a file that is run, and the file of its input, if it gets one.
     Exec {
         file: &'a str,
         region: u64,
@@ -125,19 +125,27 @@ fn limits_after(words: &[String]) -> Option<(Limits, &[String])>
     ))
 }
 
-// The name of an image, if the words give one; none where they are no such option.
-fn image_in(words: &[String]) -> Option<Option<&str>>
-    ensures { MatchOption result
-        ((name : Option (List ℕ)) → IsNameOption (codes "--image") (map string_bytes words.now) name → ⊥)
-        (λ name. IsNameOption (codes "--image") (map string_bytes words.now) (name_bytes name)) }
+// The name of an option, which is none where the words don't begin with its word, and the words after it.
+fn name_after<'a>(words: &'a [String], option: &str) -> Option<(Option<&'a str>, &'a [String])>
+    ensures { let InFront = NameAtFront option.now (map string_bytes words.now) in
+        MatchOption result
+        ((name : Option (List ℕ)) (rest : List (List ℕ)) → InFront name rest → ⊥)
+        (λ found. InFront (name_bytes found.0) (map string_bytes found.1.now)) }
 {
-    match words {
-        [] => Some(None),
-        [option, name] if option.as_str() == "--image" && !name.as_str().is_empty() => {
-            Some(Some(name.as_str()))
-        }
-        _ => None,
+    let [first, rest @ ..] = words else {
+        return Some((None, words));
+    };
+    if first.as_str() != option {
+        return Some((None, words));
     }
+    let [name, rest @ ..] = rest else {
+        return None;
+    };
+    let name = name.as_str();
+    if name.is_empty() {
+        return None;
+    }
+    Some((Some(name), rest))
 }
 
 // The run command of a file with these options, if they are its options.
@@ -148,13 +156,17 @@ fn run_of<'a>(file: &'a str, options: &'a [String]) -> Option<Command<'a>>
     ensures rest { IfSome result TellsNoMore }
 {
     let (limits, rest) = limits_after(options)?;
-    let image = image_in(rest)?;
+    let (input, rest) = name_after(rest, "--input")?;
+    let (image, rest) = name_after(rest, "--image")?;
+    if !rest.is_empty() {
+        return None;
+    }
     Some(Command::Run {
         file,
         region: limits.region,
         stack: limits.stack,
         steps: limits.steps,
-        input: None,
+        input,
         space: false,
         image,
     })
@@ -168,6 +180,7 @@ fn exec_of<'a>(file: &'a str, options: &'a [String]) -> Option<Command<'a>>
     ensures rest { IfSome result TellsNoMore }
 {
     let (limits, rest) = limits_after(options)?;
+    let (input, rest) = name_after(rest, "--input")?;
     if !rest.is_empty() {
         return None;
     }
@@ -176,7 +189,7 @@ fn exec_of<'a>(file: &'a str, options: &'a [String]) -> Option<Command<'a>>
         region: limits.region,
         stack: limits.stack,
         steps: limits.steps,
-        input: None,
+        input,
     })
 }
 

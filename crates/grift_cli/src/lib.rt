@@ -4,6 +4,7 @@
 mod audits;
 mod checks;
 pub mod commands;
+mod loads;
 mod reports;
 mod runner;
 pub mod top;

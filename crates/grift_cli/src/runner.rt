@@ -1,6 +1,6 @@
 // The run of an image.
 
-ghost use Rattle.std.specs.Prelude.{◌≡◌, ℕ, List, [], Option, IfOk, IfSome};
+ghost use Rattle.std.specs.Prelude.{◌≡◌, ℕ, List, Option, IfOk, IfSome};
 ghost use Rattle.rv_machine.specs.Start.{IsRegionSize, IsStackSize, fresh_world, start_of};
 ghost use Rattle.rv_emulator.specs.Processor.{state_of};
 ghost use Rattle.rv_emulator.specs.Turns.{outcome_of};
@@ -22,35 +22,42 @@ use rv_emulator::stops::Stop;
 use rv_machine::faults::MachineFault;
 use std::alloc::Global;
 
-/// Puts an image that never goes wrong, runs it within the limits, and puts what it prints.
+/// Puts an image that never goes wrong, runs it within the limits on this input, and puts what it prints.
 pub fn run_image<O: Sink, I: Sink>(
     alloc: Global,
     image: &Image,
     limits: Limits,
+    input: Bytes,
     out: &mut O,
     img: &mut I,
 ) -> Report
     requires region { IsRegionSize limits.region }
     requires stack { IsStackSize limits.stack }
-    requires well { RunsWell limits image.now }
-    ensures { Runs limits image.now
+    requires well { RunsWell limits image.now input }
+    ensures { Runs limits image.now input
         (sink_seen O.written O.fault_count out.old out.new)
         (sink_seen I.written I.fault_count img.old img.new)
         result }
 {
     match put_all(img, image.bytes()) {
-        Ok(()) => exec_image(alloc, image, limits, out),
+        Ok(()) => exec_image(alloc, image, limits, input, out),
         Err(fault) => report_of(fault),
     }
 }
 
-/// Runs an image within the limits, and puts what it prints.
-pub fn exec_image<O: Sink>(alloc: Global, image: &Image, limits: Limits, out: &mut O) -> Report
+/// Runs an image within the limits on this input, and puts what it prints.
+pub fn exec_image<O: Sink>(
+    alloc: Global,
+    image: &Image,
+    limits: Limits,
+    input: Bytes,
+    out: &mut O,
+) -> Report
     requires region { IsRegionSize limits.region }
     requires stack { IsStackSize limits.stack }
-    ensures { Executes limits image.now (sink_seen O.written O.fault_count out.old out.new) result }
+    ensures { Executes limits image.now input (sink_seen O.written O.fault_count out.old out.new) result }
 {
-    match run_machine(alloc, image, limits) {
+    match run_machine(alloc, image, limits, input) {
         None => Report::NoMemory,
         Some((report, machine)) => match put_all(out, machine.world().output.as_slice()) {
             Ok(()) => report,
@@ -80,14 +87,19 @@ fn report_of(fault: SinkFault) -> Report
 }
 
 // How the run of an image is reported, and the machine as it stopped; none for want of memory.
-fn run_machine(alloc: Global, image: &Image, limits: Limits) -> Option<(Report, Machine<FlatRam>)>
+fn run_machine(
+    alloc: Global,
+    image: &Image,
+    limits: Limits,
+    input: Bytes,
+) -> Option<(Report, Machine<FlatRam>)>
     requires region { IsRegionSize limits.region }
     requires stack { IsStackSize limits.stack }
-    ensures told { IfSome result (λ run. TellsRun (run_within limits image.now).1 run.0) }
+    ensures told { IfSome result (λ run. TellsRun (run_within limits image.now input).1 run.0) }
     ensures printed { IfSome result (λ run.
-        (state_of ⟦<FlatRam as Ram>⟧.memory run.1).world.output ≡ printed limits image.now) }
+        (state_of ⟦<FlatRam as Ram>⟧.memory run.1).world.output ≡ printed limits image.now input) }
 {
-    let Ok(mut machine) = machine_of(alloc, image, limits) else {
+    let Ok(mut machine) = machine_of(alloc, image, limits, input) else {
         return None;
     };
     let stop = machine.run(limits.steps);
@@ -95,17 +107,22 @@ fn run_machine(alloc: Global, image: &Image, limits: Limits) -> Option<(Report, 
     Some((report, machine))
 }
 
-// The machine in its start state, with these limits and no input.
-fn machine_of(alloc: Global, image: &Image, limits: Limits) -> Result<Machine<FlatRam>, OutOfMemory>
+// The machine in its start state, with these limits and this input.
+fn machine_of(
+    alloc: Global,
+    image: &Image,
+    limits: Limits,
+    input: Bytes,
+) -> Result<Machine<FlatRam>, OutOfMemory>
     requires region { IsRegionSize limits.region }
     requires stack { IsStackSize limits.stack }
     ensures { IfOk result (λ machine.
         state_of ⟦<FlatRam as Ram>⟧.memory machine
-        ≡ start_of image.now limits.region limits.stack (fresh_world [])) }
+        ≡ start_of image.now limits.region limits.stack (fresh_world input)) }
 {
     let size = image.loaded().len() as u64 + limits.region + limits.stack;
     let ram = FlatRam::new(alloc, size)?;
-    let world = World::new(alloc, Bytes::new(alloc));
+    let world = World::new(alloc, input);
     let machine = Machine::load(alloc, image, ram, limits.region, limits.stack, world)?;
     Ok(machine)
 }

@@ -6,11 +6,13 @@ ghost use Rattle.grift_base.specs.Sink.{SinkSeen, Untouched, sink_seen};
 ghost use Rattle.rv_machine.specs.Start.{IsRegionSize, IsStackSize};
 ghost use Rattle.grift_cli.specs.Commands.{IsRun, IsExec, IsCheck, IsAudit};
 ghost use Rattle.grift_cli.specs.Outcome.{Says};
+ghost use Rattle.grift_cli.specs.ReadCommands.{name_bytes};
 ghost use Rattle.grift_cli.specs.Reporting.{PutsLine, PutsReport, IsAnswered, report_line, report_status};
 
 use crate::audits::put_audit;
 use crate::checks::put_lines;
 use crate::commands::{Command, Limits, read_words};
+use crate::loads::{Loaded, load_files};
 use crate::reports::{
     Report, line_of, report_of_image, report_of_load, report_of_source, status_of, status_of_fault,
 };
@@ -67,6 +69,7 @@ fn report_of_call<S: Shelf, O: Sink, I: Sink>(
             region,
             stack,
             steps,
+            input,
             ..
         } => {
             let limits = Limits {
@@ -74,31 +77,32 @@ fn report_of_call<S: Shelf, O: Sink, I: Sink>(
                 stack,
                 steps,
             };
-            report_of_run(alloc, file, limits, shelf, out, img)
+            report_of_run(alloc, file, input, limits, shelf, out, img)
         }
         Command::Exec {
             file,
             region,
             stack,
             steps,
-            ..
+            input,
         } => {
             let limits = Limits {
                 region,
                 stack,
                 steps,
             };
-            report_of_exec(alloc, file, limits, shelf, out)
+            report_of_exec(alloc, file, input, limits, shelf, out)
         }
         Command::Check { file } => report_of_check(alloc, file, shelf, out),
         Command::Audit { file } => report_of_audit(alloc, file, shelf, out),
     }
 }
 
-// The report of a call that compiles the source in this file and runs its image.
+// The report of a call that compiles the source in this file and runs its image on this file of input.
 fn report_of_run<S: Shelf, O: Sink, I: Sink>(
     alloc: Global,
     file: &str,
+    input: Option<&str>,
     limits: Limits,
     shelf: &mut S,
     out: &mut O,
@@ -106,7 +110,7 @@ fn report_of_run<S: Shelf, O: Sink, I: Sink>(
 ) -> Report
     requires region { IsRegionSize limits.region }
     requires stack { IsStackSize limits.stack }
-    ensures { (words : List (List ℕ)) (name : Option (List ℕ)) → IsRun words file.now limits name
+    ensures { (words : List (List ℕ)) (name : Option (List ℕ)) → IsRun words file.now limits (name_bytes input) name
         → Says result (record {
           words = words;
           shelf = shelf_seen S.holds S.asked S.fault_count shelf.old shelf.new;
@@ -114,27 +118,28 @@ fn report_of_run<S: Shelf, O: Sink, I: Sink>(
           img = sink_seen I.written I.fault_count img.old img.new;
         }) }
 {
-    let text = match shelf.load(alloc, file, SOURCE_LIMIT) {
-        Ok(text) => text,
+    let Loaded { bytes, input } = match load_files(alloc, shelf, file, SOURCE_LIMIT, input) {
+        Ok(loaded) => loaded,
         Err(fault) => return report_of_load(fault),
     };
-    match compile(alloc, text.as_slice()) {
+    match compile(alloc, bytes.as_slice()) {
         Err(fault) => report_of_source(fault),
-        Ok(compiled) => run_image(alloc, &compiled.image, limits, out, img),
+        Ok(compiled) => run_image(alloc, &compiled.image, limits, input, out, img),
     }
 }
 
-// The report of a call that runs the image in this file.
+// The report of a call that runs the image in this file on this file of input.
 fn report_of_exec<S: Shelf, O: Sink>(
     alloc: Global,
     file: &str,
+    input: Option<&str>,
     limits: Limits,
     shelf: &mut S,
     out: &mut O,
 ) -> Report
     requires region { IsRegionSize limits.region }
     requires stack { IsStackSize limits.stack }
-    ensures { (words : List (List ℕ)) (img : SinkSeen) → IsExec words file.now limits → Untouched img
+    ensures { (words : List (List ℕ)) (img : SinkSeen) → IsExec words file.now limits (name_bytes input) → Untouched img
         → Says result (record {
           words = words;
           shelf = shelf_seen S.holds S.asked S.fault_count shelf.old shelf.new;
@@ -142,12 +147,12 @@ fn report_of_exec<S: Shelf, O: Sink>(
           img = img;
         }) }
 {
-    let bytes = match shelf.load(alloc, file, IMAGE_LIMIT) {
-        Ok(bytes) => bytes,
+    let Loaded { bytes, input } = match load_files(alloc, shelf, file, IMAGE_LIMIT, input) {
+        Ok(loaded) => loaded,
         Err(fault) => return report_of_load(fault),
     };
     match read_image(alloc, bytes.as_slice()) {
-        Ok(image) => exec_image(alloc, &image, limits, out),
+        Ok(image) => exec_image(alloc, &image, limits, input, out),
         Err(fault) => report_of_image(fault),
     }
 }
@@ -167,11 +172,11 @@ fn report_of_check<S: Shelf, O: Sink>(
           img = img;
         }) }
 {
-    let text = match shelf.load(alloc, file, SOURCE_LIMIT) {
-        Ok(text) => text,
+    let loaded = match load_files(alloc, shelf, file, SOURCE_LIMIT, None) {
+        Ok(loaded) => loaded,
         Err(fault) => return report_of_load(fault),
     };
-    match elaborate_text(alloc, text.as_slice()) {
+    match elaborate_text(alloc, loaded.bytes.as_slice()) {
         Ok(done) => put_lines(alloc, &done, out),
         Err(fault) => report_of_source(fault),
     }
@@ -192,11 +197,11 @@ fn report_of_audit<S: Shelf, O: Sink>(
           img = img;
         }) }
 {
-    let text = match shelf.load(alloc, file, SOURCE_LIMIT) {
-        Ok(text) => text,
+    let loaded = match load_files(alloc, shelf, file, SOURCE_LIMIT, None) {
+        Ok(loaded) => loaded,
         Err(fault) => return report_of_load(fault),
     };
-    match elaborate_text(alloc, text.as_slice()) {
+    match elaborate_text(alloc, loaded.bytes.as_slice()) {
         Ok(done) => put_audit(alloc, &done, out),
         Err(fault) => report_of_source(fault),
     }

@@ -1,10 +1,11 @@
 -- In each state of a run over words those that were taken fill the region up to the allocation word.
 use Rattle.std.proofs.Common.{Bool, true, false, ◌&&◌, ◌||◌, ℕ, zero, suc, ◌+◌, ◌*◌, ◌%◌, ◌^◌, ◌<◌, ◌≤◌, ◌≡◌, ◌≢◌}
 use Rattle.std.proofs.Common.{◌⊎◌, inl, inr, List, [], ◌∷◌, Option, Some, None, length, refl, ap, subst, All, arith}
-use Rattle.std.specs.Prelude.{pos, nat_lt, nat_le, ◌==◌, slice_get, if◌then◌else◌}
+use Rattle.std.specs.Prelude.{ℤ, pos, nat_lt, nat_le, ◌==◌, slice_get, if◌then◌else◌}
 use Rattle.std.proofs.lemmas.List.Elements.{All-head, All-tail}
 use Rattle.grift_base.specs.World.{WorldState}
-use Rattle.grift_base.specs.EnvironmentCall.{Called, environment_call, ends, ends_plain, traps}
+use Rattle.grift_base.specs.Reading.{next_number}
+use Rattle.grift_base.specs.EnvironmentCall.{Called, environment_call, ends, ends_plain, traps, reads}
 use Rattle.grift_base.specs.declared.places.Pos.{Pos}
 use Rattle.grift_base.specs.declared.verdicts.Answer.{Answer}
 use Rattle.grift_base.specs.declared.verdicts.AnswerKind.{AnswerKind}
@@ -74,6 +75,10 @@ trap_ends kind =
     either (kind == 3) _ _ (traps_end _) (
     either (kind == 4) _ _ (traps_end _) refused_ends)))
 
+read_ends : (o : Option ℤ) → reads o ≢ RegionEnds
+read_ends (Some n) e = cc
+read_ends None e = cc
+
 -- of a choice between calls
 chosen : (b : Bool) (x y : Called) → (b ≡ true → x.effect ≢ RegionEnds) → y.effect ≢ RegionEnds
     → (if b then x else y).effect ≢ RegionEnds
@@ -91,7 +96,8 @@ no_region number a b labels w h =
     chosen (number == 3) _ _ (λ e. either (nat_lt a labels) _ _ (λ n. cc) refused_ends) (
     chosen (number == 4) _ _ (λ e. trap_ends a) (
     chosen (number == 5) _ _ (λ e. absurd (let z : ⊥ = cc in z)) (
-    chosen (number == 6) _ _ (λ e n. cc) refused_ends))))))
+    chosen (number == 6) _ _ (λ e n. cc) (
+    chosen (number == 7) _ _ (λ e. read_ends (next_number w)) refused_ends)))))))
 
 blames_halt : (o : Option Pos) → blame_of o ≢ Halts (Lacks Region)
 blames_halt None e = cc

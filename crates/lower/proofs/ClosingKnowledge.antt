@@ -155,14 +155,21 @@ module _ (procs : List Proc) (n : ℕ) where
       → Ends a (Take s k) Q
   take_ends a s k Q r e = goes_on (Take s k) k a a Q refl (read_one a s r) refl e
 
+  -- the words that the environment hands back are put into two words
+  pub two_words_end : (a : Known) (number : ℕ) (s t : LowSource) (d e : ℕ) (k : Code) (Q : Known → Type 0) → d < n
+      → e < n → Reads a s → Reads a t → ((b : Known) → More a b → b d ≡ true → b e ≡ true → Ends b k Q)
+      → Ends a (Environment number s t d e k) Q
+  two_words_end a number s t d e k Q l m r q go =
+      let once = all_words.also d a in
+      let both = all_words.also e once in
+      goes_on (Environment number s t d e k) k a both Q refl (read_two a s t r q)
+      (and_from (nat_lt d n) (nat_lt e n) (lt-ltb d n l) (lt-ltb e n m))
+      (go both (more_then a once both (more_also a d) (more_also once e)) (more_also once e d (has_also a d))
+      (has_also once e))
+
   pub environment_ends : (a : Known) (number : ℕ) (s t : LowSource) (d : ℕ) (k : Code) (Q : Known → Type 0) → d < n
       → Reads a s → Reads a t → Onward a d k Q → Ends a (Environment number s t d d k) Q
-  environment_ends a number s t d k Q l r q go =
-      let once = all_words.also d a in
-      goes_on (Environment number s t d d k) k a (all_words.also d once) Q refl (read_two a s t r q)
-      (and_from (nat_lt d n) (nat_lt d n) (lt-ltb d n l) (lt-ltb d n l))
-      (go (all_words.also d once) (more_then a once (all_words.also d once) (more_also a d) (more_also once d))
-      (has_also once d))
+  environment_ends a number s t d k Q l r q go = two_words_end a number s t d d k Q l l r q (λ b m h h'. go b m h)
 
   pub call_ends : (a : Known) (d number : ℕ) (ss : List LowSource) (k : Code) (Q : Known → Type 0) → d < n
       → AllRead a ss → takes_words (slice_get procs number) ss ≡ true → Onward a d k Q → Ends a (Call d number ss k) Q

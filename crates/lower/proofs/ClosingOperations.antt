@@ -10,7 +10,7 @@ use Rattle.grift_base.specs.declared.operators.PrimOp.TheVariants.{Add, Sub, Mul
 use Rattle.grift_base.specs.declared.operators.PrimOp.TheVariants.{Gt, Not, PrintInt, Newline, ReadInt, MakeBox}
 use Rattle.grift_base.specs.declared.operators.PrimOp.TheVariants.{Unbox, BoxSet, MakeVector, VectorRef, VectorSet}
 use Rattle.grift_base.specs.declared.operators.PrimOp.TheVariants.{VectorLength}
-use Rattle.rv_isa.specs.declared.inst.Cond.TheVariants.{Eq}
+use Rattle.rv_isa.specs.declared.inst.Cond.TheVariants.{Eq, Ne}
 use Rattle.low_ir.specs.declared.code.WordOp.TheVariants.{Add as Plus, Sub as Minus, And, Xor, Slt, Sltu}
 use Rattle.low_ir.specs.declared.code.LowSource.{LowSource}
 use Rattle.low_ir.specs.declared.code.LowSource.TheVariants.{Word, Number}
@@ -24,12 +24,12 @@ use Rattle.lower.specs.declared.numbering.Shape.{Shape}
 use Rattle.lower.specs.declared.served.Served.{Served}
 use Rattle.lower.specs.Numbering.{operand_word, test_word}
 use Rattle.lower.specs.Emit.{header, cast_word, found, found_all, of_kind, turned, source_at, operator}
-use Rattle.lower.specs.Emit.{part, perform}
+use Rattle.lower.specs.Emit.{part, perform, read_number}
 use Rattle.lower.specs.Serving.{takes, Serve, operands_have_words}
 use Rattle.lower.proofs.ClosingKnowledge.{Known, More, more_then, more_both, Reads, AllRead, read_more}
 use Rattle.lower.proofs.ClosingKnowledge.{read_word, read_then, read_two, Ends, Onward}
 use Rattle.lower.proofs.ClosingKnowledge.{ends_done, set_ends, compute_ends, load_ends, store_ends, build_ends}
-use Rattle.lower.proofs.ClosingKnowledge.{environment_ends, call_ends, if_ends}
+use Rattle.lower.proofs.ClosingKnowledge.{more_same, environment_ends, two_words_end, call_ends, if_ends}
 use Rattle.lower.proofs.ClosingOperands.{Ready, fetch_ends, fetch_all_ends, source_read}
 
 -- a procedure that takes so many words may be handed so many
@@ -97,6 +97,25 @@ module _ (procs : List Proc) (n : ℕ) where
         environment_ends procs n a number x (Number 0) (test_word s) (Set d (Number 0) k) Q t r refl
         (λ b m h. set_ends procs n b d (Number 0) k Q l refl (λ c m' h'. go c (more_then a b c m m') h'))
 
+    -- a number is read, or the program traps
+    reads_number : (s : Shape) (d : ℕ) (a : Known) (k : Code) (Q : Known → Type 0) → d < n → test_word s < n
+        → Onward procs n a d k Q → Ends procs n a (read_number s d k) Q
+    reads_number s d a k Q l t go =
+        let o = operand_word s 0 in
+        let w = test_word s in
+        let small : operand_word s 0 < n = omega (arith, t) in
+        let stop = Environment 4 (Number 4) (Number 0) w w Done in
+        two_words_end procs n a 7 (Number 0) (Number 0) o w (If Ne (Word w) (Number 0) stop Done (Set d (Word o) k)) Q
+        small t refl refl
+        (λ b m h h'. if_ends procs n b Ne (Word w) (Number 0) stop Done (Set d (Word o) k) (Sets b o) Q
+        (read_word procs n b w t h') refl
+        (environment_ends procs n b 4 (Number 4) (Number 0) w Done (Sets b o) t refl refl
+        (λ c m' h''. ends_done procs n c (Sets b o) (m', m' o h)))
+        (ends_done procs n b (Sets b o) (more_same b, h))
+        (sets_both b o (Set d (Word o) k) Q
+        (λ c m' h''. set_ends procs n c d (Word o) k Q l (read_word procs n c o small h'')
+        (λ e m'' h'''. go e (more_then a c e (more_then a b c m m') m'') h'''))))
+
     operator_ends : (s : Shape) (d : ℕ) (op : PrimOp) (x y z : LowSource) (a : Known) (k : Code) (Q : Known → Type 0)
         → d < n → test_word s < n → Reads procs n a x → Reads procs n a y → Reads procs n a z
         → Onward procs n a d k Q → Ends procs n a (operator run s d op x y z k) Q
@@ -123,7 +142,7 @@ module _ (procs : List Proc) (n : ℕ) where
     operator_ends s d Not x y z a k Q l t rx ry rz go = compute_ends procs n a Xor d x (Number 1) k Q l rx refl go
     operator_ends s d PrintInt x y z a k Q l t rx ry rz go = printed s d 1 x a k Q l t rx go
     operator_ends s d Newline x y z a k Q l t rx ry rz go = printed s d 2 (Number 10) a k Q l t refl go
-    operator_ends s d ReadInt x y z a k Q l t rx ry rz go = printed s d 7 (Number 0) a k Q l t refl go
+    operator_ends s d ReadInt x y z a k Q l t rx ry rz go = reads_number s d a k Q l t go
     operator_ends s d MakeBox x y z a k Q l t rx ry rz go =
         build_ends procs n a d (Number (header 5 1) ∷ x ∷ []) k Q l
         (read_two procs n a (Number (header 5 1)) x refl rx) (omega arith) go

@@ -25,7 +25,6 @@ use Rattle.lower.specs.Storage.{Filled}
 use Rattle.lower.specs.Numbering.{operand_word, test_word}
 use Rattle.lower.specs.Emit.{Then, found_all, fetch_all, source_at, of_kind}
 use Rattle.lower.specs.CarriedValues.{AreCarried, CellsHeld}
-use Rattle.lower.specs.CoveredPrograms.{covers_operator}
 use Rattle.lower.specs.RelatedStates.{Fits, Falls}
 use Rattle.lower.specs.SimulationServices.{StandsAs}
 use Rattle.lower.specs.SchemeLaws.{Goes, Returns, OperatorDone, IsHandedOn, at_or_zero}
@@ -61,7 +60,7 @@ module _ (program : Program) (typed : TypesStand program.l)
       (Prim operator os) next fits rest
 
   few : length os ≤ 8
-  few = let z = (and_true (covers_operator operator) (nat_le (length os) 8) fits.covered).1 in grind (arith, z)
+  few = let z : nat_le (length os) 8 ≡ true = fits.covered in grind (arith, z)
 
   abbrev d : ℕ
   d = word_for program places objects s next

@@ -1,21 +1,26 @@
 -- The turns of operators that are done in place.
-use Rattle.std.proofs.Common.{◌≡◌, inl, inr, ℕ, ℤ, ◌+◌, ◌<◌, ◌≤◌, List, [], ◌∷◌, Some, true}
+use Rattle.std.proofs.Common.{◌≡◌, inl, inr, ℕ, ℤ, ◌+◌, ◌<◌, ◌≤◌, List, [], ◌∷◌, Option, Some, None, true}
 use Rattle.std.proofs.Common.{refl, sym, ap, ◌∙◌, subst, arith, Bool, false}
 use Rattle.std.specs.Prelude.{◌+ℤ◌, ◌-ℤ◌, int_lt, int_le, not, codes}
-use Rattle.std.specs.Int.{w64, int_wrap}
+use Rattle.std.specs.Int.{w64, int_wrap, cast_unsigned}
+use Rattle.std.proofs.lemmas.Int.{int_wrap_fits}
 use Rattle.std.specs.Fmt.{signed_decimal}
 use Rattle.std.specs.Ordering.{int_eq}
 use Rattle.grift_base.specs.World.{printing}
+use Rattle.grift_base.specs.Reading.{next_number, past_white, past_run}
+use Rattle.grift_base.proofs.Public.{next_number_fits}
 use Rattle.grift_base.specs.declared.operators.PrimOp.{PrimOp}
 use Rattle.grift_base.specs.declared.operators.PrimOp.TheVariants.{Add, Sub, Mul, Quot, Rem, Lt, Le, Eq as Equal, Ge}
 use Rattle.grift_base.specs.declared.operators.PrimOp.TheVariants.{Gt, Not, PrintInt, Newline, ReadInt, MakeBox}
 use Rattle.grift_base.specs.declared.operators.PrimOp.TheVariants.{Unbox, BoxSet, MakeVector, VectorRef, VectorSet}
 use Rattle.grift_base.specs.declared.operators.PrimOp.TheVariants.{VectorLength}
-use Rattle.low_ir.specs.Procedures.{Code}
+use Rattle.low_ir.specs.declared.code.LowSource.TheVariants.{Number}
+use Rattle.low_ir.specs.Procedures.{Code, Done, Environment}
 use Rattle.low_ir.specs.Steps.{Locals}
 use Rattle.low_ir.specs.Run.{Waiting as LowWaiting, LowState}
 use Rattle.coercion_norm.specs.RunValues.{RunInt, RunBool, RunUnit}
 use Rattle.coercion_norm.specs.ValueSteps.{Return, On, NoNext, run_on_ints, run_on_int, run_on_bool, run_newline}
+use Rattle.coercion_norm.specs.ValueSteps.{run_reads, run_read}
 use Rattle.flat_ir.specs.declared.code.Operand.{Operand}
 use Rattle.flat_ir.specs.declared.code.Operation.TheVariants.{Prim}
 use Rattle.flat_ir.specs.Bodies.{Give}
@@ -27,6 +32,7 @@ use Rattle.coercion_norm.specs.Objects.{Object}
 use Rattle.rt_cast.specs.States.{Heap}
 use Rattle.lower.specs.Storage.{Filled}
 use Rattle.lower.specs.declared.numbering.Shape.{Shape}
+use Rattle.lower.specs.Numbering.{test_word}
 use Rattle.lower.specs.Emit.{Then, perform}
 use Rattle.lower.specs.CarriedValues.{CellsHeld}
 use Rattle.lower.specs.RelatedStates.{Fits}
@@ -34,7 +40,7 @@ use Rattle.std.proofs.Common.{pos}
 use Rattle.std.specs.Prelude.{◌*ℤ◌, int_rem, if◌then◌else◌}
 use Rattle.std.specs.Int.{int_wrapping_div}
 use Rattle.run_laws.specs.Runs.{Ending, Verdict as EndsWith}
-use Rattle.grift_base.specs.declared.verdicts.Trap.TheVariants.{ZeroDivisor}
+use Rattle.grift_base.specs.declared.verdicts.Trap.TheVariants.{ZeroDivisor, Input}
 use Rattle.grift_base.specs.declared.verdicts.Verdict.{Verdict}
 use Rattle.grift_base.specs.declared.verdicts.Verdict.TheVariants.{Trap as TrapVerdict}
 use Rattle.rv_machine.specs.Mach.{ending_of}
@@ -48,7 +54,7 @@ use Rattle.lower.proofs.SimulationWay.{Seen, Stopping}
 use Rattle.lower.proofs.WordArithmetic.{le_turned}
 use Rattle.lower.proofs.WordOperations.{Touches}
 use Rattle.lower.proofs.WordOperators.{adds, subtracts, less, greater, at_most, at_least, equal, negates, prints_int}
-use Rattle.lower.proofs.WordOperators.{prints_newline}
+use Rattle.lower.proofs.WordOperators.{prints_newline, input_stops, reads_int, reads_none}
 use Rattle.lower.proofs.SimulationWay.{mode_of}
 use Rattle.lower.proofs.SimulationWay.{Program, R, Follows, next_state, Way, scene_for}
 use Rattle.lower.proofs.SimulationGives.{CarriedHere, RestHere, given, word_for, code_for}
@@ -56,7 +62,7 @@ use Rattle.lower.proofs.SimulationOperations.{settle, goes_wrong, room, word_les
 use Rattle.lower.proofs.WordScene.{Scene}
 use Rattle.lower.proofs.SimulationAnswers.{true_false}
 
--- an operator on integers and truth values, or one that prints
+-- an operator on integers and truth values, or one that prints or reads
 abbrev pub is_plain : PrimOp → Bool
 is_plain Add = true
 is_plain Sub = true
@@ -71,6 +77,7 @@ is_plain Gt = true
 is_plain Not = true
 is_plain PrintInt = true
 is_plain Newline = true
+is_plain ReadInt = true
 is_plain _ = false
 
 module _ {C : Type 0} (locals : FlatLocals C) (group : Group C) where
@@ -297,6 +304,81 @@ module _ (program : Program) (typed : TypesStand program.l)
       waiting size rests s count group depth locals wide words fits.knows d less_than_size k (inr refl)
       (λ new e touches. gives_unit (codes "\n") new e touches))
 
+  -- ---- reading
+
+  -- the number that was read
+  abbrev number_read : ℤ → FlatAfter program.meaning.Cast
+  number_read n = On (Return (RunInt n)) f.frames f.store (past_run f.world)
+
+  gives_number : (n : ℤ) → int_wrap w64 n ≡ n → (new : Locals) → new d ≡ Some (cast_unsigned w64 n)
+      → Touches s d words new
+      → Follows program f (number_read n) (at (past_run f.world) h waiting size rests new k)
+  gives_number n small new e touches =
+      here program.setting (Way program f (next_state program f (number_read n)))
+      (R program (next_state program f (number_read n))) (at (past_run f.world) h waiting size rests new k)
+      (settle program typed places objects h (past_run f.world) filled f.store f.frames cells (RunInt n) waiting
+      size rests new k
+      (given program places objects waiting s count size group depth f.frames next rests words new (RunInt n)
+      (cast_unsigned w64 n) rest (refl, small) e touches))
+
+  -- without a number the program traps
+  abbrev no_number : FlatState program.meaning.Cast
+  no_number = next_state program f (TrapOf Input (past_white f.world))
+
+  abbrev no_number_ending : Ending Verdict
+  no_number_ending = EndsWith (TrapVerdict Input)
+
+  abbrev no_number_scene : Scene
+  no_number_scene = record (scene_by RunUnit) {
+    P = Seen program no_number;
+    Q = Stopping program no_number no_number_ending;
+    allowed = λ world. world.output ≡ f.world.output;
+    calm = λ world h objects filled allowed active waiting. record { output = allowed; filling = (objects, filled) };
+  }
+
+  -- the call that traps stops there
+  traps_input : (inner : List Code) (new : Locals) → Stopping program no_number no_number_ending
+      (at (past_white f.world) h waiting size inner new
+      (Environment 4 (Number 4) (Number 0) (test_word s) (test_word s) Done))
+  traps_input inner new =
+      record {
+        now = record { output = refl; filling = (objects, filled) };
+        last = at (past_white f.world) h waiting size inner new Done;
+        stops =
+            input_stops program.setting (past_white f.world) h waiting size inner new (test_word s) (omega (arith, wide));
+        seen = record { output = refl; filling = (objects, filled) };
+      }
+
+  turns_read_by : (o : Option ℤ) → next_number f.world ≡ o
+      → Does ReadInt [] (run_reads (mode_of program) (flat_arity program.procs) (flat_entered program.procs) f.store
+      f.world o f.frames)
+  turns_read_by (Some n) e =
+      reads_int (scene_for program f (next_state program f (number_read n))
+      (R program (next_state program f (number_read n))) places) f.world (inl refl) h objects filled
+      waiting size rests s count group depth locals wide words fits.knows n d e less_than_size k (inr refl)
+      (λ new g touches. gives_number n (int_wrap_fits w64 n (next_number_fits f.world n e)) new g touches)
+  turns_read_by None e =
+      let t = at f.world h waiting size rests words (perform program.run s d (Prim ReadInt []) k) in
+      let c = reads_none no_number_scene f.world refl h objects filled waiting size rests s count group depth locals
+      wide words fits.knows d e k refl
+      (here program.setting (Seen program no_number) (Stopping program no_number no_number_ending) _
+      (traps_input _ _)) in
+      here program.setting (Way program f no_number) (R program no_number) t (inr (inl (record {
+        seen = record { output = refl; filling = (objects, filled) };
+        e = no_number_ending;
+        is = refl;
+        ends = record { steps = c.steps; reach = c.reach };
+      })))
+
+  turns_read : (vs : List (FlatValue program.meaning.Cast)) → values locals group os ≡ vs
+      → Does ReadInt os (run_read (mode_of program) (flat_arity program.procs) (flat_entered program.procs) f.store
+      f.world vs f.frames)
+  turns_read (v ∷ vs) e = wrong ReadInt os
+  turns_read [] e =
+      subst (λ l. Does ReadInt l (run_reads (mode_of program) (flat_arity program.procs) (flat_entered program.procs)
+      f.store f.world (next_number f.world) f.frames)) (sym (no_operand locals group os e))
+      (turns_read_by (next_number f.world) refl)
+
   multiplied : TwoInts Mul (λ a b. On (Return (RunInt (int_wrap w64 (a *ℤ b)))) f.frames f.store f.world)
   multiplied o p a b ea eb bound =
       multiplies (scene_by (RunInt (int_wrap w64 (a *ℤ b)))) f.world (inl refl) h objects filled waiting size rests s
@@ -402,10 +484,10 @@ module _ (program : Program) (typed : TypesStand program.l)
   operator_turns Not c = turns_not
   operator_turns PrintInt c = turns_print
   operator_turns Newline c = turns_line (values locals group os) refl
+  operator_turns ReadInt c = turns_read (values locals group os) refl
   operator_turns Mul c = two_ints Mul _ multiplied
   operator_turns Quot c = two_ints Quot _ divided
   operator_turns Rem c = two_ints Rem _ left_over
-  operator_turns ReadInt c = true_false c
   operator_turns MakeBox c = true_false c
   operator_turns Unbox c = true_false c
   operator_turns BoxSet c = true_false c

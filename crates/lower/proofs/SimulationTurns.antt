@@ -4,6 +4,7 @@ use Rattle.std.proofs.Common.{None, true, length, refl, sym, ap, ◌∙◌, subs
 use Rattle.std.specs.Prelude.{◌==◌, ◌&&◌, if◌then◌else◌, nat_le}
 use Rattle.flat_ir.specs.Closed.{operand_bound, operands_bound}
 use Rattle.grift_base.specs.World.{WorldState}
+use Rattle.grift_base.specs.Reading.{next_number, past_run}
 use Rattle.grift_base.specs.declared.operators.PrimOp.{PrimOp}
 use Rattle.grift_base.specs.declared.operators.PrimOp.TheVariants.{Add, Sub, Mul, Quot, Rem, Lt, Le, Eq as Equal, Ge}
 use Rattle.grift_base.specs.declared.operators.PrimOp.TheVariants.{Gt, Not, PrintInt, Newline, ReadInt, MakeBox}
@@ -17,7 +18,7 @@ use Rattle.coercion_norm.specs.RunValues.{Pending}
 use Rattle.coercion_norm.specs.RunValues.{all_plain, row_list}
 use Rattle.coercion_norm.specs.ValueSteps.{CastFrame, ProjFrame, PrimFrame, EnterFrame, OwnFrame, Own, Return, Entering}
 use Rattle.coercion_norm.specs.ValueSteps.{On, NoNext, onto, next_argument, enter, on_some, run_on_ints, run_on_int}
-use Rattle.coercion_norm.specs.ValueSteps.{run_on_bool, run_newline}
+use Rattle.coercion_norm.specs.ValueSteps.{run_on_bool, run_newline, run_reads, run_read}
 use Rattle.grift_base.specs.World.{printing}
 use Rattle.std.specs.Prelude.{codes, not, int_lt, int_le, ◌+ℤ◌, ◌-ℤ◌}
 use Rattle.std.specs.Int.{w64, int_wrap}
@@ -198,6 +199,17 @@ module _ (program : Program) (typed : TypesStand program.l) where
       newline_falls [] = given_falls RunUnit (printing (codes "\n") world)
       newline_falls (v ∷ vs) = wrong_falls
 
+      number_falls : (o : Option ℤ) → FallsAt f (run_reads (mode_of program) (flat_arity program.procs)
+          (flat_entered program.procs) store world o frames)
+      number_falls (Some n) = given_falls (RunInt n) (past_run world)
+      number_falls None = omega arith
+
+      read_falls : (vs : List (FlatValue program.meaning.Cast))
+          → FallsAt f (run_read (mode_of program) (flat_arity program.procs) (flat_entered program.procs) store world vs
+          frames)
+      read_falls [] = number_falls (next_number world)
+      read_falls (v ∷ vs) = wrong_falls
+
       divided_falls : (t : Bool) (v : FlatValue program.meaning.Cast)
           → FallsAt f (if t then TrapOf ZeroDivisor world else On (Return v) frames store world)
       divided_falls true v = omega arith
@@ -232,6 +244,7 @@ module _ (program : Program) (typed : TypesStand program.l) where
           on_int (λ a. On (Return RunUnit) frames store (printing (signed_decimal a) world))
           (λ a. given_falls RunUnit (printing (signed_decimal a) world)) vs
       operator_falls Newline c vs = newline_falls vs
+      operator_falls ReadInt c vs = read_falls vs
       operator_falls Mul c vs =
           on_ints (λ a b. On (Return (RunInt (int_wrap w64 (a *ℤ b)))) frames store world)
           (λ a b. given_falls (RunInt (int_wrap w64 (a *ℤ b))) world) vs
@@ -243,7 +256,6 @@ module _ (program : Program) (typed : TypesStand program.l) where
           on_ints (λ a b. if int_eq b (pos 0) then TrapOf ZeroDivisor world
           else On (Return (RunInt (int_rem a b))) frames store world)
           (λ a b. divided_falls (int_eq b (pos 0)) (RunInt (int_rem a b))) vs
-      operator_falls ReadInt c vs = true_false c
       operator_falls MakeBox c vs = true_false c
       operator_falls Unbox c vs = true_false c
       operator_falls BoxSet c vs = true_false c
@@ -547,7 +559,7 @@ module _ (program : Program) (typed : TypesStand program.l) where
           runs_operation (Prim Not os) fits rest = runs_plain Not os refl fits rest
           runs_operation (Prim PrintInt os) fits rest = runs_plain PrintInt os refl fits rest
           runs_operation (Prim Newline os) fits rest = runs_plain Newline os refl fits rest
-          runs_operation (Prim ReadInt os) fits rest = true_false fits.covered
+          runs_operation (Prim ReadInt os) fits rest = runs_plain ReadInt os refl fits rest
           runs_operation (Prim MakeVector os) fits rest =
               as_served MakeVector os (vector_made program typed (fl (Give (Prim MakeVector os))) places objects h
               filled

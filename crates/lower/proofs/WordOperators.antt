@@ -6,17 +6,18 @@ use Rattle.std.specs.Int.{w64, cast_unsigned, cast_signed, int_wrap}
 use Rattle.std.specs.Fmt.{signed_decimal}
 use Rattle.std.specs.Ordering.{int_eq}
 use Rattle.grift_base.specs.World.{WorldState, printing}
-use Rattle.grift_base.specs.EnvironmentCall.{environment_call}
-use Rattle.grift_base.specs.declared.worlds.EnvEffect.TheVariants.{Next as GoesOn}
+use Rattle.grift_base.specs.Reading.{next_number, past_white, past_run, after_reading}
+use Rattle.grift_base.specs.EnvironmentCall.{Called, environment_call, reads}
+use Rattle.grift_base.specs.declared.worlds.EnvEffect.TheVariants.{Next as GoesOn, Trapped}
 use Rattle.rv_machine.specs.Turn.{flag}
 use Rattle.low_ir.specs.declared.code.WordOp.{WordOp}
 use Rattle.low_ir.specs.declared.code.WordOp.TheVariants.{Add as Plus, Sub as Minus, Xor, Slt, Sltu}
 use Rattle.low_ir.specs.declared.code.LowSource.{LowSource}
 use Rattle.low_ir.specs.declared.code.LowSource.TheVariants.{Word, Number}
 use Rattle.low_ir.specs.Operations.{compute}
-use Rattle.low_ir.specs.Procedures.{Code, Compute, Set, Environment}
+use Rattle.low_ir.specs.Procedures.{Code, Done, Compute, Set, Environment}
 use Rattle.low_ir.specs.Steps.{Locals, set_local}
-use Rattle.low_ir.specs.Run.{Waiting, word_of, words_of, and_more}
+use Rattle.low_ir.specs.Run.{Setting, Waiting, word_of, words_of, and_more, code_step}
 use Rattle.coercion_norm.specs.RunValues.{RunInt, RunBool, in_row}
 use Rattle.flat_ir.specs.declared.code.Operand.{Operand}
 use Rattle.flat_ir.specs.Closed.{operands_bound}
@@ -26,14 +27,17 @@ use Rattle.rt_cast.specs.States.{Heap}
 use Rattle.lower.specs.Storage.{Filled}
 use Rattle.lower.specs.declared.numbering.Shape.{Shape}
 use Rattle.lower.specs.Numbering.{operand_word, test_word}
-use Rattle.lower.specs.Emit.{found, fetch_all, found_all, turned}
+use Rattle.lower.specs.Emit.{found, fetch_all, found_all, turned, read_number}
 use Rattle.lower.proofs.HeapObjects.{none_some, same_some}
 use Rattle.lower.proofs.WordArithmetic.{sum_made, difference_made, less_made, turned_made, equal_made, wraps_once}
 use Rattle.lower.proofs.WordArithmetic.{word_read}
 use Rattle.std.proofs.Common.{pos, mod-eq_of_lt}
 use Rattle.std.specs.Prelude.{◌*ℤ◌, int_rem}
 use Rattle.std.specs.Int.{int_wrapping_div}
-use Rattle.grift_base.specs.declared.verdicts.Trap.TheVariants.{ZeroDivisor}
+use Rattle.grift_base.specs.declared.verdicts.Trap.TheVariants.{ZeroDivisor, Input}
+use Rattle.grift_base.specs.declared.verdicts.Verdict.TheVariants.{Trap as TrapVerdict}
+use Rattle.run_laws.specs.Runs.{Verdict as EndsWith}
+use Rattle.run_laws.specs.Machines.{Stop}
 use Rattle.rv_machine.specs.Mach.{ending_of}
 use Rattle.low_ir.specs.Procedures.{Call}
 use Rattle.low_ir.specs.Run.{LowState}
@@ -43,7 +47,8 @@ use Rattle.lower.proofs.WordArithmetic.{word_small, product_made, quotient_wraps
 use Rattle.lower.proofs.WordArithmetic.{some_divisor}
 use Rattle.lower.proofs.WordServices.{answered_by, traps_by}
 use Rattle.lower.proofs.WordSteps.{waiting_for}
-use Rattle.lower.proofs.WordSteps.{at, Calm, sets_word, computes, environment_goes}
+use Rattle.lower.proofs.WordSteps.{lt_true, at, Calm, sets_word, computes, environment_goes, if_true, if_false}
+use Rattle.lower.proofs.WordSteps.{falls_through}
 use Rattle.lower.proofs.WordScene.{Scene, Carries, CarryAll, Arrives}
 use Rattle.lower.proofs.RelationKept.{word_here, word_other}
 use Rattle.lower.proofs.WordOperands.{ChangesFrom, KnowsHere, fetch_all_reads, both_words}
@@ -71,6 +76,28 @@ prints_line : (labels : ℕ) (world : WorldState) → environment_call 2 10 0 la
     ≡ record { effect = GoesOn 10 0; world = printing (codes "\n") world }
 unfolding environment_call
 prints_line labels world = refl
+
+-- the call that reads, told what stands next in the input
+reads_next : (labels : ℕ) (world : WorldState) (o : Option ℤ) → next_number world ≡ o
+    → environment_call 7 0 0 labels world ≡ record { effect = reads o; world = after_reading o world }
+unfolding environment_call
+reads_next labels world o e =
+    let called : Option ℤ → Called = λ x. record { effect = reads x; world = after_reading x world } in ap called e
+
+traps_input : (labels : ℕ) (world : WorldState) → environment_call 4 4 0 labels world
+    ≡ record { effect = Trapped Input; world = world }
+unfolding environment_call
+traps_input labels world = refl
+
+-- the call that traps for want of a number
+pub input_stops : (setting : Setting) (world : WorldState) (h : Heap) (waiting : List Waiting) (size : ℕ)
+    (rests : List Code) (words : Locals) (t : ℕ) → t < size
+    → code_step ending_of setting (Environment 4 (Number 4) (Number 0) t t Done)
+    (at world h waiting size rests words (Environment 4 (Number 4) (Number 0) t t Done))
+    ≡ Stop (EndsWith (TrapVerdict Input)) (at world h waiting size rests words Done)
+input_stops setting world h waiting size rests words t lt =
+    let less = lt_true t size lt in
+    let called = traps_input (length setting.labels) world in rw (less, called) refl
 
 module _ (scene : Scene) (world : WorldState) (allowed : scene.allowed world) (h : Heap) (objects : List Object)
     (filled : Filled scene.meaning scene.setting scene.l scene.number objects h) (waiting : List Waiting) (size : ℕ)
@@ -277,6 +304,55 @@ module _ (scene : Scene) (world : WorldState) (allowed : scene.allowed world) (h
       environment_goes scene.setting scene.P scene.Q calm 10 0 10 0 (printing (codes "\n") world) refl refl
       (prints_line (length scene.setting.labels) world) (omega (arith, room)) (omega (arith, room))
       (set_unit (printing (codes "\n") world) allowed' d 10 0 0 k words (omega arith) (λ j side. refl) lt go)
+
+  -- ---- reading
+
+  -- a number is put into a word, in the world that has changed
+  abbrev pub PutsNumberIn : WorldState → ℤ → ℕ → Code → Type 0
+  PutsNumberIn world' a d k =
+      (new : Locals) → new d ≡ Some (cast_unsigned w64 a) → Touches s d words new
+      → Arrives scene (at world' h waiting size rests new k)
+
+  -- the words after call 7, of which the second tells that there is no number
+  abbrev called_back : ℕ → ℕ → Locals
+  called_back x none = set_local (test_word s) none (set_local (operand_word s 0) x words)
+
+  number_there : (x none : ℕ) → called_back x none (operand_word s 0) ≡ Some x
+  number_there x none =
+      word_other (test_word s) none (set_local (operand_word s 0) x words) (operand_word s 0)
+      (λ e. let z : ⊥ = omega (arith, e) in z)
+      ∙ word_here (operand_word s 0) x words
+
+  pub reads_int : (a : ℤ) (d : ℕ) → next_number world ≡ Some a → d < size → (k : Code)
+      → scene.allowed (past_run world) → PutsNumberIn (past_run world) a d k → On words (read_number s d k)
+  reads_int a d e lt k allowed' go =
+      let x = cast_unsigned w64 a in
+      let t = test_word s in
+      let o = operand_word s 0 in
+      let calm' = scene.calm (past_run world) h objects filled allowed' in
+      let new = called_back x 0 in
+      environment_goes scene.setting scene.P scene.Q calm 0 0 x 0 (past_run world) refl refl
+      (reads_next (length scene.setting.labels) world (Some a) e) (omega (arith, room)) (omega (arith, room))
+      (if_false scene.setting scene.P scene.Q calm' 0 0 (word_here t 0 (set_local o x words)) refl refl
+      (falls_through scene.setting scene.P scene.Q calm'
+      (sets_word scene.setting scene.P scene.Q calm' x (number_there x 0) lt
+      (go (set_local d x new) (word_here d x new)
+      (λ j ne side. word_other d x new j ne
+      ∙ (word_other t 0 (set_local o x words) j (not_computed s t j (omega arith) (omega arith) side)
+      ∙ word_other o x words j (not_computed s o j (omega arith) (omega arith) side)))))))
+
+  -- without a number it comes to the call that traps
+  pub reads_none : (d : ℕ) → next_number world ≡ None → (k : Code) → scene.allowed (past_white world)
+      → Arrives scene (at (past_white world) h waiting size (Set d (Word (operand_word s 0)) k ∷ rests)
+      (called_back 0 1) (Environment 4 (Number 4) (Number 0) (test_word s) (test_word s) Done))
+      → On words (read_number s d k)
+  reads_none d e k allowed' c =
+      let t = test_word s in
+      let o = operand_word s 0 in
+      let calm' = scene.calm (past_white world) h objects filled allowed' in
+      environment_goes scene.setting scene.P scene.Q calm 0 0 0 1 (past_white world) refl refl
+      (reads_next (length scene.setting.labels) world None e) (omega (arith, room)) (omega (arith, room))
+      (if_true scene.setting scene.P scene.Q calm' 1 0 (word_here t 1 (set_local o 0 words)) refl refl c)
 
   -- ---- products, quotients and remainders, by the procedures that serve
 

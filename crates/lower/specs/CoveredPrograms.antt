@@ -1,21 +1,14 @@
--- The programs of which it is proved that words follow values: those that read no input, where no operator has more
--- than eight operands, and numbers and labels of parts of values in Dyn are words of 64 and of 32 bits.
-use Rattle.std.specs.Prelude.{Bool, true, false, ◌&&◌, nat_lt, nat_le, length, List, [], ◌∷◌}
+-- The programs of which it is proved that words follow values: those where no operator has more than eight operands,
+-- and numbers and labels of parts of values in Dyn are words of 64 and of 32 bits.
+use Rattle.std.specs.Prelude.{Bool, true, ◌&&◌, nat_lt, nat_le, length, List, [], ◌∷◌}
 use Rattle.std.specs.Int.{int_wrap, w64}
 use Rattle.std.specs.Ordering.{int_eq}
-use Rattle.grift_base.specs.declared.operators.PrimOp.{PrimOp}
-use Rattle.grift_base.specs.declared.operators.PrimOp.TheVariants.{ReadInt}
 use Rattle.flat_ir.specs.declared.code.Operation.{Operation}
 use Rattle.flat_ir.specs.declared.code.Operation.TheVariants.{Prim, ProjDyn}
 use Rattle.flat_ir.specs.Bodies.{Body, Give, Call, Choose, LetBody, LetGroup, Proc}
 
--- all operators but the one that reads
-abbrev pub covers_operator : PrimOp → Bool
-covers_operator ReadInt = false
-covers_operator _ = true
-
 abbrev pub covers_operation : Operation → Bool
-covers_operation (Prim op os) = covers_operator op && nat_le (length os) 8
+covers_operation (Prim op os) = nat_le (length os) 8
 covers_operation (ProjDyn o i label) = nat_lt label.0 4294967296 && int_eq (int_wrap w64 i) i
 covers_operation _ = true
 

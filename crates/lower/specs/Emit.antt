@@ -96,6 +96,13 @@ of_kind s o kind one other k =
 abbrev pub turned : ℕ → Code → Code
 turned d k = Compute Xor d (Word d) (Number 1) k
 
+-- the next number of the input is put into a word; where there is none, the program traps
+abbrev pub read_number : Shape → ℕ → Code → Code
+read_number s d k =
+    Environment 7 (Number 0) (Number 0) (operand_word s 0) (test_word s) (
+    If Ne (Word (test_word s)) (Number 0) (Environment 4 (Number 4) (Number 0) (test_word s) (test_word s) Done) Done (
+    Set d (Word (operand_word s 0)) k))
+
 -- a source by its place; of an operand that isn't there, which no program lacks, it is 0
 abbrev pub or_zero : Option LowSource → LowSource
 or_zero (Some a) = a
@@ -122,8 +129,7 @@ module _ (run : Served) where
       Environment 1 a (Number 0) (test_word s) (test_word s) (Set d (Number 0) k)
   operator s d Newline a b c k =
       Environment 2 (Number 10) (Number 0) (test_word s) (test_word s) (Set d (Number 0) k)
-  operator s d ReadInt a b c k =
-      Environment 7 (Number 0) (Number 0) (test_word s) (test_word s) (Set d (Number 0) k)
+  operator s d ReadInt a b c k = read_number s d k
   operator s d MakeBox a b c k = Build d (Number (header 5 1) ∷ a ∷ []) k
   operator s d Unbox a b c k =
       of_kind s a 5 (Load d a 8 Done) (CallOf d run.read (Number 0 ∷ a ∷ Number 0 ∷ []) Done) k

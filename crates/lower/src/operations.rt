@@ -7,7 +7,7 @@ ghost use Rattle.flat_ir.specs.declared.code.Operation.TheVariants.{ProjDyn};
 ghost use Rattle.low_ir.specs.Procedures.{Done, Set, Compute, Load, Store, Build, Environment, Call};
 ghost use Rattle.low_ir.specs.Views.{code_of};
 ghost use Rattle.lower.specs.Emit.{cast_word, fetch, fetch_all, found, found_all, header, of_kind, operator, part};
-ghost use Rattle.lower.specs.Emit.{perform};
+ghost use Rattle.lower.specs.Emit.{perform, read_number};
 ghost use Rattle.lower.specs.Emit.{source_at, turned};
 ghost use Rattle.lower.specs.Numbering.{operand_word, test_word};
 ghost use Rattle.lower.specs.Steps.{put, Adds};
@@ -152,6 +152,18 @@ impl Emitter<'_> {
         steps.push(Step::Set(d, Number(0)))
     }
 
+    // The next number of the input. Where there is none, the program traps.
+    fn read_number(&self, steps: &mut Steps, d: u32) -> Result<(), OutOfMemory>
+        ensures { OnOk result (Adds steps.old.steps.items steps.new.steps.items (λ k. read_number self.now.shape d k)) }
+    {
+        let number = self.shape.operand_word(0)?;
+        let test = self.shape.operand_word(TEST_PLACE)?;
+        steps.push(Step::Environment(7, Number(0), Number(0), number, test))?;
+        let trapped = self.only(Step::Environment(4, Number(4), Number(0), test, test))?;
+        steps.push(Step::If(Cond::Ne, Word(test), Number(0), trapped, LowCode::Done))?;
+        steps.push(Step::Set(d, Word(number)))
+    }
+
     // What is in a box.
     fn unbox(&self, steps: &mut Steps, d: u32, a: LowSource) -> Result<(), OutOfMemory>
         ensures { OnOk result (Adds steps.old.steps.items steps.new.steps.items (λ k.
@@ -220,7 +232,7 @@ impl Emitter<'_> {
             PrimOp::Not => steps.push(Step::Compute(WordOp::Xor, d, a, Number(1))),
             PrimOp::PrintInt => self.environment(steps, d, 1, a),
             PrimOp::Newline => self.environment(steps, d, 2, Number(10)),
-            PrimOp::ReadInt => self.environment(steps, d, 7, Number(0)),
+            PrimOp::ReadInt => self.read_number(steps, d),
             PrimOp::MakeBox => self.make_box(steps, d, a),
             PrimOp::Unbox => self.unbox(steps, d, a),
             PrimOp::BoxSet => self.set_box(steps, d, a, b),

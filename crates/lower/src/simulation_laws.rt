@@ -37,7 +37,7 @@ pub fn words_follow<S: Scheme>(scheme: &S)
 
 /// So it is in the merged mode, where a value has one proxy at most, with one coercion. At each moment of the run over
 /// words whole objects fill the region up to the allocation word, and are a row without gaps for a walk of it. The
-/// programs are those of which `all_covered` tells: they don't read input.
+/// programs are those of which `all_covered` tells.
 pub fn words_follow_procedures()
     ensures storage { (setting : Setting) (l : Layout) (words : List ℕ) (procs : List Proc) (entry : ℕ)
         (answer : TypeRow) (memory : Memory) (told : Told) (casts : List TypeCast) (input : List ℕ)

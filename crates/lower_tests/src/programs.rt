@@ -6,7 +6,7 @@ use flat_ir::programs::{FlatProc, FlatProcs, FlatProgram};
 use grift_base::lists::OutOfMemory;
 use grift_base::operators::PrimOp;
 use grift_base::places::TypeId;
-use grift_base::verdicts::AnswerKind;
+use grift_base::verdicts::{AnswerKind, Trap};
 use rv_emulator::stops::Stop;
 use std::alloc::Global;
 use std::test::Fail;
@@ -179,6 +179,16 @@ fn boxed(alloc: Global) -> Result<FlatProgram, OutOfMemory> {
     let body = named(alloc, 1, write, read)?;
     let made = prim(alloc, PrimOp::MakeBox, &[Operand::Int(1)])?;
     plain(alloc, named(alloc, 0, made, body)?)
+}
+
+// Without input, as the machine is here, a number that is read is a trap.
+#[test]
+fn reading_without_input_traps(rt: HostRuntime) -> Result<(), Fail> {
+    let alloc = rt.alloc();
+    let read = plain(alloc, prim(alloc, PrimOp::ReadInt, &[])?)?;
+    let trapped = Some(Stop::Trapped(Trap::Input));
+    assert!(rt; comes_to(alloc, &read, &Row::Int, 0, 1024)? == trapped);
+    Ok(())
 }
 
 #[test]

@@ -57,9 +57,23 @@ pub(crate) fn machine_of(
     requires region { IsRegionSize region }
     requires stack { IsStackSize stack }
 {
+    machine_on(alloc, image, region, stack, Bytes::new(alloc))
+}
+
+// One with this input.
+fn machine_on(
+    alloc: Global,
+    image: &Image,
+    region: u64,
+    stack: u64,
+    input: Bytes,
+) -> Result<Machine<FlatRam>, OutOfMemory>
+    requires region { IsRegionSize region }
+    requires stack { IsStackSize stack }
+{
     let size = image.loaded().len() as u64 + region + stack;
     let ram = FlatRam::new(alloc, size)?;
-    let world = World::new(alloc, Bytes::new(alloc));
+    let world = World::new(alloc, input);
     Machine::load(alloc, image, ram, region, stack, world)
 }
 
@@ -136,7 +150,7 @@ const ANSWERS: [Row; 7] = [
     ),
 ];
 
-const CALLS: [Row; 9] = [
+const CALLS: [Row; 10] = [
     // addi x10, x0, -7; call 1; then 0
     (
         &[
@@ -183,8 +197,10 @@ const CALLS: [Row; 9] = [
     (&[0x00500893, 0x00000073], Stop::RegionOut, b""),
     // call 6
     (&[0x00600893, 0x00000073], Stop::StackOut, b""),
-    // call 7
-    (&[0x00700893, 0x00000073], Stop::Undefined(65540), b""),
+    // call 7 without input, and past the code
+    (&[0x00700893, 0x00000073], Stop::BadAddress(65544), b""),
+    // call 8
+    (&[0x00800893, 0x00000073], Stop::Undefined(65540), b""),
 ];
 
 const STOPS: [Row; 14] = [
@@ -325,6 +341,34 @@ fn a_run_goes_on(rt: HostRuntime) -> Result<(), Fail> {
             (came_to, machine.pc(), machine.reg(Reg::new(11))),
             (stop, pc, word)
         );
+    }
+    Ok(())
+}
+
+// Each call 7 hands back a number and 0, or 0 and 1 where there is none, and leaves the number of the call as it is.
+#[test]
+fn call_7_reads(rt: HostRuntime) -> Result<(), Fail> {
+    let alloc = rt.alloc();
+    // addi x17, x0, 7; ecall; ecall; ecall
+    let code = [0x00700893, 0x00000073, 0x00000073, 0x00000073];
+    let Some(image) = image_of(alloc, &code, &[])? else {
+        return Err(Fail::from("no image"));
+    };
+    let input = Bytes::from_slice(alloc, b"42 -1 x")?;
+    let mut machine = machine_on(alloc, &image, 0, 0, input)?;
+    for (steps, number, none, place) in [
+        (2, 42, 0, 2),
+        (1, 0xFFFF_FFFF_FFFF_FFFF, 0, 5),
+        (1, 0, 1, 6),
+    ] {
+        assert!(rt; machine.run(steps) == Stop::StepsSpent);
+        let words = (
+            machine.reg(Reg::new(10)),
+            machine.reg(Reg::new(11)),
+            machine.reg(Reg::new(17)),
+        );
+        assert!(rt; words == (number, none, 7));
+        assert!(rt; machine.world().place == place);
     }
     Ok(())
 }

@@ -9,7 +9,7 @@ use Rattle.grift_base.specs.declared.refusals.RefusalKind.TheVariants.{BadForm, 
 use Rattle.grift_base.specs.declared.refusals.FrontFault.{FrontFault}
 use Rattle.surface_syntax.specs.declared.words.Word.{Word}
 use Rattle.surface_syntax.specs.declared.words.Word.TheVariants.{Lambda, Let, Letrec, If, Begin, And, Or, Repeat, Tuple}
-use Rattle.surface_syntax.specs.declared.words.Word.TheVariants.{TupleProj, Define, Colon, Arrow, ReadInt, Operator}
+use Rattle.surface_syntax.specs.declared.words.Word.TheVariants.{TupleProj, Define, Colon, Arrow, Operator}
 use Rattle.surface_syntax.specs.declared.words.Mark.{Mark}
 use Rattle.surface_syntax.specs.declared.words.Mark.TheVariants.{Reserved, Free}
 use Rattle.surface_syntax.specs.Marked.{Sexpr, Sexprs, number, truth_value, word, name, list, end, ◌▹◌, place}

@@ -8,7 +8,7 @@ use Rattle.grift_base.specs.declared.places.Pos.{Pos}
 use Rattle.grift_base.specs.declared.refusals.RefusalKind.TheVariants.{BadForm}
 use Rattle.surface_syntax.specs.declared.words.Word.{Word}
 use Rattle.surface_syntax.specs.declared.words.Word.TheVariants.{Lambda, Let, Letrec, If, Begin, And, Or, Repeat, Tuple}
-use Rattle.surface_syntax.specs.declared.words.Word.TheVariants.{TupleProj, Define, Colon, Arrow, ReadInt, Operator}
+use Rattle.surface_syntax.specs.declared.words.Word.TheVariants.{TupleProj, Define, Colon, Arrow, Operator}
 use Rattle.surface_syntax.specs.declared.operands.Head.TheVariants.{Operator as OperatorHead}
 use Rattle.surface_syntax.specs.Words.{is_arrow_word, operand_count}
 use Rattle.surface_syntax.specs.Marked.{Sexpr, Sexprs, number, truth_value, word, name, list, end, ◌▹◌, place}
@@ -102,7 +102,6 @@ behind_row p params ((word q Define) ▹ rest) names = refl
 behind_row p params (word q Colon ▹ end) names = refl
 behind_row p params (word q Colon ▹ t ▹ body) names = refl
 behind_row p params ((word q Arrow) ▹ rest) names = refl
-behind_row p params ((word q ReadInt) ▹ rest) names = refl
 behind_row p params ((word q (Operator o)) ▹ rest) names = refl
 behind_row p params ((number q n) ▹ rest) names = refl
 behind_row p params ((truth_value q b) ▹ rest) names = refl
@@ -129,7 +128,6 @@ function_row (list r ((word q TupleProj) ▹ rest)) names = refl
 function_row (list r ((word q Define) ▹ rest)) names = refl
 function_row (list r ((word q Colon) ▹ rest)) names = refl
 function_row (list r ((word q Arrow) ▹ rest)) names = refl
-function_row (list r ((word q ReadInt) ▹ rest)) names = refl
 function_row (list r ((word q (Operator o)) ▹ rest)) names = refl
 function_row (list r ((number q n) ▹ rest)) names = refl
 function_row (list r ((truth_value q b) ▹ rest)) names = refl
@@ -198,7 +196,6 @@ headed_row p q Colon (a ▹ t ▹ end) names e =
     plain_last (parse a names) (walk_type t) (λ expr type. ExprAt p (AscribeNode expr type))
 headed_row p q Colon (a ▹ b ▹ c ▹ more) names e = refl
 headed_row p q Arrow rest names e = absurd (let z : ⊥ = cc in z)
-headed_row p q ReadInt rest names e = refl
 headed_row p q (Operator o) rest names e =
     plain_test (nat_eq (how_many rest) (operand_count o)) p None
     (λ room names. then_with (parse_operands room rest names)

@@ -9,7 +9,7 @@ use Rattle.grift_base.specs.declared.refusals.FrontFault.{FrontFault}
 use Rattle.grift_base.specs.declared.refusals.FrontFault.TheVariants.{Refused, OutOfMemory}
 use Rattle.surface_syntax.specs.declared.words.Word.{Word}
 use Rattle.surface_syntax.specs.declared.words.Word.TheVariants.{Lambda, Let, Letrec, If, Begin, And, Or, Repeat, Tuple}
-use Rattle.surface_syntax.specs.declared.words.Word.TheVariants.{TupleProj, Define, Colon, Arrow, ReadInt, Operator}
+use Rattle.surface_syntax.specs.declared.words.Word.TheVariants.{TupleProj, Define, Colon, Arrow, Operator}
 use Rattle.surface_syntax.specs.declared.words.Mark.{Mark}
 use Rattle.surface_syntax.specs.declared.words.Mark.TheVariants.{Reserved, Free}
 use Rattle.surface_syntax.specs.Words.{is_arrow_word}
@@ -101,7 +101,6 @@ lambda_lacks p ps (word q Colon ▹ end) names e = refl
 lambda_lacks p ps (word q Colon ▹ t ▹ end) names e = refl
 lambda_lacks p ps (word q Colon ▹ t ▹ b ▹ more) names e = absurd (let z : ⊥ = cc in z)
 lambda_lacks p ps (word q Arrow ▹ rest) names e = absurd (let z : ⊥ = cc in z)
-lambda_lacks p ps (word q ReadInt ▹ rest) names e = absurd (let z : ⊥ = cc in z)
 lambda_lacks p ps (word q (Operator o) ▹ rest) names e = absurd (let z : ⊥ = cc in z)
 lambda_lacks p ps (number q n ▹ rest) names e = absurd (let z : ⊥ = cc in z)
 lambda_lacks p ps (truth_value q b ▹ rest) names e = absurd (let z : ⊥ = cc in z)
@@ -128,7 +127,6 @@ lambda_has p ps (word q Colon ▹ end) names e = absurd (let z : ⊥ = cc in z)
 lambda_has p ps (word q Colon ▹ t ▹ end) names e = absurd (let z : ⊥ = cc in z)
 lambda_has p ps (word q Colon ▹ t ▹ b ▹ more) names e = refl
 lambda_has p ps (word q Arrow ▹ rest) names e = refl
-lambda_has p ps (word q ReadInt ▹ rest) names e = refl
 lambda_has p ps (word q (Operator o) ▹ rest) names e = refl
 lambda_has p ps (number q n ▹ rest) names e = refl
 lambda_has p ps (truth_value q b ▹ rest) names e = refl

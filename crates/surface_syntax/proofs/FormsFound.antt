@@ -8,7 +8,7 @@ use Rattle.grift_base.specs.declared.refusals.RefusalKind.TheVariants.{BadForm, 
 use Rattle.surface_syntax.specs.Trees.{TypeExpr, Param}
 use Rattle.surface_syntax.specs.declared.names.Ident.TheVariants.{Source}
 use Rattle.surface_syntax.specs.declared.words.Word.TheVariants.{Lambda, Let, Letrec, If, Begin, And, Or, Repeat, Tuple}
-use Rattle.surface_syntax.specs.declared.words.Word.TheVariants.{TupleProj, Define, Colon, Arrow, ReadInt, Operator}
+use Rattle.surface_syntax.specs.declared.words.Word.TheVariants.{TupleProj, Define, Colon, Arrow, Operator}
 use Rattle.surface_syntax.specs.Marked.{Sexpr, Sexprs, number, truth_value, word, name, list, end, ◌▹◌, how_many}
 use Rattle.surface_syntax.specs.Written.{Form, FormAt, BeginForm, RepeatForm, RepeatIntoForm, TupleForm, LetForm}
 use Rattle.surface_syntax.specs.Written.{LetrecForm, Forms, LambdaWritten, LambdaFrom, LetForms, LetrecForms}
@@ -68,7 +68,6 @@ typed_param p s (word q TupleProj) t x type e h k = absurd (let z : ⊥ = cc in 
 typed_param p s (word q Define) t x type e h k = absurd (let z : ⊥ = cc in z)
 typed_param p s (word q Colon) t x type e h k = is_typed h k
 typed_param p s (word q Arrow) t x type e h k = absurd (let z : ⊥ = cc in z)
-typed_param p s (word q ReadInt) t x type e h k = absurd (let z : ⊥ = cc in z)
 typed_param p s (word q (Operator o)) t x type e h k = absurd (let z : ⊥ = cc in z)
 typed_param p s (name q y u) t x type e h k = absurd (let z : ⊥ = cc in z)
 typed_param p s (number q n) t x type e h k = absurd (let z : ⊥ = cc in z)
@@ -169,7 +168,6 @@ typed_binding_of p s (word q TupleProj) t e x type form f h k l = absurd (let z 
 typed_binding_of p s (word q Define) t e x type form f h k l = absurd (let z : ⊥ = cc in z)
 typed_binding_of p s (word q Colon) t e x type form f h k l = typed_binding h k l
 typed_binding_of p s (word q Arrow) t e x type form f h k l = absurd (let z : ⊥ = cc in z)
-typed_binding_of p s (word q ReadInt) t e x type form f h k l = absurd (let z : ⊥ = cc in z)
 typed_binding_of p s (word q (Operator o)) t e x type form f h k l = absurd (let z : ⊥ = cc in z)
 typed_binding_of p s (name q y u) t e x type form f h k l = absurd (let z : ⊥ = cc in z)
 typed_binding_of p s (number q n) t e x type form f h k l = absurd (let z : ⊥ = cc in z)
@@ -196,7 +194,6 @@ plain_member_of p s (list r (word q TupleProj ▹ rest)) x lambda h k = absurd k
 plain_member_of p s (list r (word q Define ▹ rest)) x lambda h k = absurd k
 plain_member_of p s (list r (word q Colon ▹ rest)) x lambda h k = absurd k
 plain_member_of p s (list r (word q Arrow ▹ rest)) x lambda h k = absurd k
-plain_member_of p s (list r (word q ReadInt ▹ rest)) x lambda h k = absurd k
 plain_member_of p s (list r (word q (Operator o) ▹ rest)) x lambda h k = absurd k
 plain_member_of p s (list r end) x lambda h k = absurd k
 plain_member_of p s (list r (name q y u ▹ rest)) x lambda h k = absurd k
@@ -223,7 +220,6 @@ typed_member_at p c s t (list r (word q TupleProj ▹ rest)) x type lambda h k m
 typed_member_at p c s t (list r (word q Define ▹ rest)) x type lambda h k m = absurd m
 typed_member_at p c s t (list r (word q Colon ▹ rest)) x type lambda h k m = absurd m
 typed_member_at p c s t (list r (word q Arrow ▹ rest)) x type lambda h k m = absurd m
-typed_member_at p c s t (list r (word q ReadInt ▹ rest)) x type lambda h k m = absurd m
 typed_member_at p c s t (list r (word q (Operator o) ▹ rest)) x type lambda h k m = absurd m
 typed_member_at p c s t (list r end) x type lambda h k m = absurd m
 typed_member_at p c s t (list r (name q y u ▹ rest)) x type lambda h k m = absurd m
@@ -251,7 +247,6 @@ typed_member_of p s (word q TupleProj) t e x type lambda f h k m = absurd (let z
 typed_member_of p s (word q Define) t e x type lambda f h k m = absurd (let z : ⊥ = cc in z)
 typed_member_of p s (word q Colon) t e x type lambda f h k m = typed_member_at p q s t e x type lambda h k m
 typed_member_of p s (word q Arrow) t e x type lambda f h k m = absurd (let z : ⊥ = cc in z)
-typed_member_of p s (word q ReadInt) t e x type lambda f h k m = absurd (let z : ⊥ = cc in z)
 typed_member_of p s (word q (Operator o)) t e x type lambda f h k m = absurd (let z : ⊥ = cc in z)
 typed_member_of p s (name q y u) t e x type lambda f h k m = absurd (let z : ⊥ = cc in z)
 typed_member_of p s (number q n) t e x type lambda f h k m = absurd (let z : ⊥ = cc in z)

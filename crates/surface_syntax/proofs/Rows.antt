@@ -13,7 +13,7 @@ use Rattle.sexpr_reader.specs.declared.sexps.SexpList.{SexpList}
 use Rattle.sexpr_reader.specs.View.{datum_at}
 use Rattle.surface_syntax.specs.declared.words.Word.{Word}
 use Rattle.surface_syntax.specs.declared.words.Word.TheVariants.{Lambda, Let, Letrec, If, Begin, And, Or, Repeat, Tuple}
-use Rattle.surface_syntax.specs.declared.words.Word.TheVariants.{TupleProj, Define, Colon, Arrow, ReadInt, Operator}
+use Rattle.surface_syntax.specs.declared.words.Word.TheVariants.{TupleProj, Define, Colon, Arrow, Operator}
 use Rattle.surface_syntax.specs.declared.words.TypeWord.{TypeWord}
 use Rattle.surface_syntax.specs.declared.words.Mark.{Mark}
 use Rattle.surface_syntax.specs.declared.words.Mark.TheVariants.{Reserved, Free}
@@ -55,7 +55,6 @@ run_stays (list r (word l TupleProj ▹ f)) run e = absurd (let z : ⊥ = cc in 
 run_stays (list r (word l Define ▹ f)) run e = absurd (let z : ⊥ = cc in z)
 run_stays (list r (word l Colon ▹ f)) run e = absurd (let z : ⊥ = cc in z)
 run_stays (list r (word l Arrow ▹ f)) run e = absurd (let z : ⊥ = cc in z)
-run_stays (list r (word l ReadInt ▹ f)) run e = absurd (let z : ⊥ = cc in z)
 run_stays (list r (word l (Operator o) ▹ f)) run e = absurd (let z : ⊥ = cc in z)
 run_stays (list r (number l n ▹ f)) run e = absurd (let z : ⊥ = cc in z)
 run_stays (list r (truth_value l b ▹ f)) run e = absurd (let z : ⊥ = cc in z)
@@ -81,7 +80,6 @@ run_ends (list r (word l TupleProj ▹ f)) run e = refl
 run_ends (list r (word l Define ▹ f)) run e = refl
 run_ends (list r (word l Colon ▹ f)) run e = refl
 run_ends (list r (word l Arrow ▹ f)) run e = refl
-run_ends (list r (word l ReadInt ▹ f)) run e = refl
 run_ends (list r (word l (Operator o) ▹ f)) run e = refl
 run_ends (list r (number l n ▹ f)) run e = refl
 run_ends (list r (truth_value l b ▹ f)) run e = refl
@@ -109,7 +107,6 @@ bound_function p x t (list r (word l TupleProj ▹ f)) names e = absurd (let z :
 bound_function p x t (list r (word l Define ▹ f)) names e = absurd (let z : ⊥ = cc in z)
 bound_function p x t (list r (word l Colon ▹ f)) names e = absurd (let z : ⊥ = cc in z)
 bound_function p x t (list r (word l Arrow ▹ f)) names e = absurd (let z : ⊥ = cc in z)
-bound_function p x t (list r (word l ReadInt ▹ f)) names e = absurd (let z : ⊥ = cc in z)
 bound_function p x t (list r (word l (Operator o) ▹ f)) names e = absurd (let z : ⊥ = cc in z)
 bound_function p x t (list r (number l n ▹ f)) names e = absurd (let z : ⊥ = cc in z)
 bound_function p x t (list r (truth_value l b ▹ f)) names e = absurd (let z : ⊥ = cc in z)
@@ -136,7 +133,6 @@ bound_value p x t (list r (word l TupleProj ▹ f)) names e = refl
 bound_value p x t (list r (word l Define ▹ f)) names e = refl
 bound_value p x t (list r (word l Colon ▹ f)) names e = refl
 bound_value p x t (list r (word l Arrow ▹ f)) names e = refl
-bound_value p x t (list r (word l ReadInt ▹ f)) names e = refl
 bound_value p x t (list r (word l (Operator o) ▹ f)) names e = refl
 bound_value p x t (list r (number l n ▹ f)) names e = refl
 bound_value p x t (list r (truth_value l b ▹ f)) names e = refl
@@ -157,7 +153,6 @@ lambda_form_is r (word l TupleProj) rest = refl
 lambda_form_is r (word l Define) rest = refl
 lambda_form_is r (word l Colon) rest = refl
 lambda_form_is r (word l Arrow) rest = refl
-lambda_form_is r (word l ReadInt) rest = refl
 lambda_form_is r (word l (Operator o)) rest = refl
 lambda_form_is r (number l n) rest = refl
 lambda_form_is r (truth_value l b) rest = refl
@@ -194,7 +189,6 @@ top_definition run (list r (word l TupleProj ▹ f)) names e = absurd (let z : �
 top_definition run (list r (word l Define ▹ f)) names e = refl
 top_definition run (list r (word l Colon ▹ f)) names e = absurd (let z : ⊥ = cc in z)
 top_definition run (list r (word l Arrow ▹ f)) names e = absurd (let z : ⊥ = cc in z)
-top_definition run (list r (word l ReadInt ▹ f)) names e = absurd (let z : ⊥ = cc in z)
 top_definition run (list r (word l (Operator o) ▹ f)) names e = absurd (let z : ⊥ = cc in z)
 top_definition run (list r (number l n ▹ f)) names e = absurd (let z : ⊥ = cc in z)
 top_definition run (list r (truth_value l b ▹ f)) names e = absurd (let z : ⊥ = cc in z)
@@ -221,7 +215,6 @@ top_expression run (list r (word l TupleProj ▹ f)) names e = refl
 top_expression run (list r (word l Define ▹ f)) names e = absurd (let z : ⊥ = cc in z)
 top_expression run (list r (word l Colon ▹ f)) names e = refl
 top_expression run (list r (word l Arrow ▹ f)) names e = refl
-top_expression run (list r (word l ReadInt ▹ f)) names e = refl
 top_expression run (list r (word l (Operator o) ▹ f)) names e = refl
 top_expression run (list r (number l n ▹ f)) names e = refl
 top_expression run (list r (truth_value l b ▹ f)) names e = refl

@@ -6,7 +6,7 @@ use Rattle.grift_base.specs.declared.refusals.RefusalKind.{RefusalKind}
 use Rattle.grift_base.specs.declared.refusals.RefusalKind.TheVariants.{BadForm, TooWide}
 use Rattle.surface_syntax.specs.declared.words.Word.{Word}
 use Rattle.surface_syntax.specs.declared.words.Word.TheVariants.{Lambda, Let, Letrec, If, Begin, And, Or, Repeat, Tuple}
-use Rattle.surface_syntax.specs.declared.words.Word.TheVariants.{TupleProj, Define, Colon, Arrow, ReadInt, Operator}
+use Rattle.surface_syntax.specs.declared.words.Word.TheVariants.{TupleProj, Define, Colon, Arrow, Operator}
 use Rattle.surface_syntax.specs.declared.words.TypeWord.TheVariants.{Int, Bool as BoolWord, Unit as UnitWord, Dyn}
 use Rattle.surface_syntax.specs.declared.words.TypeWord.TheVariants.{Tuple as TupleWord, Ref, Vect, Rec}
 use Rattle.sexpr_reader.specs.declared.sexps.SexpNode.{SexpNode}
@@ -180,7 +180,6 @@ signature_end zero (word q TupleProj) rest e = absurd (let z : ⊥ = cc in z)
 signature_end zero (word q Define) rest e = absurd (let z : ⊥ = cc in z)
 signature_end zero (word q Colon) rest e = absurd (let z : ⊥ = cc in z)
 signature_end zero (word q Arrow) rest e = refl
-signature_end zero (word q ReadInt) rest e = absurd (let z : ⊥ = cc in z)
 signature_end zero (word q (Operator o)) rest e = absurd (let z : ⊥ = cc in z)
 signature_end zero (name q x t) rest e = absurd (let z : ⊥ = cc in z)
 signature_end zero (number q n) rest e = absurd (let z : ⊥ = cc in z)
@@ -199,7 +198,6 @@ signature_end (suc room) (word q TupleProj) rest e = absurd (let z : ⊥ = cc in
 signature_end (suc room) (word q Define) rest e = absurd (let z : ⊥ = cc in z)
 signature_end (suc room) (word q Colon) rest e = absurd (let z : ⊥ = cc in z)
 signature_end (suc room) (word q Arrow) rest e = refl
-signature_end (suc room) (word q ReadInt) rest e = absurd (let z : ⊥ = cc in z)
 signature_end (suc room) (word q (Operator o)) rest e = absurd (let z : ⊥ = cc in z)
 signature_end (suc room) (name q x t) rest e = absurd (let z : ⊥ = cc in z)
 signature_end (suc room) (number q n) rest e = absurd (let z : ⊥ = cc in z)
@@ -221,7 +219,6 @@ signature_full zero (word q TupleProj) rest e m = refl
 signature_full zero (word q Define) rest e m = refl
 signature_full zero (word q Colon) rest e m = refl
 signature_full zero (word q Arrow) rest e m = absurd (let z : ⊥ = cc in z)
-signature_full zero (word q ReadInt) rest e m = refl
 signature_full zero (word q (Operator o)) rest e m = refl
 signature_full zero (name q x t) rest e m = refl
 signature_full zero (number q n) rest e m = refl
@@ -240,7 +237,6 @@ signature_full (suc room) (word q TupleProj) rest e m = absurd (omega arith)
 signature_full (suc room) (word q Define) rest e m = absurd (omega arith)
 signature_full (suc room) (word q Colon) rest e m = absurd (omega arith)
 signature_full (suc room) (word q Arrow) rest e m = absurd (let z : ⊥ = cc in z)
-signature_full (suc room) (word q ReadInt) rest e m = absurd (omega arith)
 signature_full (suc room) (word q (Operator o)) rest e m = absurd (omega arith)
 signature_full (suc room) (name q x t) rest e m = absurd (omega arith)
 signature_full (suc room) (number q n) rest e m = absurd (omega arith)
@@ -264,7 +260,6 @@ signature_next room (word q TupleProj) rest e = refl
 signature_next room (word q Define) rest e = refl
 signature_next room (word q Colon) rest e = refl
 signature_next room (word q Arrow) rest e = absurd (let z : ⊥ = cc in z)
-signature_next room (word q ReadInt) rest e = refl
 signature_next room (word q (Operator o)) rest e = refl
 signature_next room (name q x t) rest e = refl
 signature_next room (number q n) rest e = refl

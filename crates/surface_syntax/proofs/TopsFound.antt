@@ -6,7 +6,7 @@ use Rattle.grift_base.specs.declared.places.Pos.{Pos}
 use Rattle.grift_base.specs.declared.refusals.RefusalKind.TheVariants.{BadForm}
 use Rattle.surface_syntax.specs.Trees.{TypeExpr}
 use Rattle.surface_syntax.specs.declared.words.Word.TheVariants.{Lambda, Let, Letrec, If, Begin, And, Or, Repeat, Tuple}
-use Rattle.surface_syntax.specs.declared.words.Word.TheVariants.{TupleProj, Define, Colon, Arrow, ReadInt, Operator}
+use Rattle.surface_syntax.specs.declared.words.Word.TheVariants.{TupleProj, Define, Colon, Arrow, Operator}
 use Rattle.surface_syntax.specs.Marked.{Sexpr, Sexprs, number, truth_value, word, name, list, end, ◌▹◌, place, how_many}
 use Rattle.surface_syntax.specs.Written.{Top, ExprTop, ValueTop, FunctionTop}
 use Rattle.surface_syntax.specs.Walking.{Reads, is_colon, is_among}
@@ -52,7 +52,6 @@ typed_define_of p q s (word c TupleProj) t e x type top f h k b = absurd (let z 
 typed_define_of p q s (word c Define) t e x type top f h k b = absurd (let z : ⊥ = cc in z)
 typed_define_of p q s (word c Colon) t e x type top f h k b = typed_define_row h k b
 typed_define_of p q s (word c Arrow) t e x type top f h k b = absurd (let z : ⊥ = cc in z)
-typed_define_of p q s (word c ReadInt) t e x type top f h k b = absurd (let z : ⊥ = cc in z)
 typed_define_of p q s (word c (Operator o)) t e x type top f h k b = absurd (let z : ⊥ = cc in z)
 typed_define_of p q s (name c y u) t e x type top f h k b = absurd (let z : ⊥ = cc in z)
 typed_define_of p q s (number c n) t e x type top f h k b = absurd (let z : ⊥ = cc in z)

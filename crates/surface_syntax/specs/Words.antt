@@ -2,12 +2,12 @@
 use Rattle.std.specs.Prelude.{ℕ, Bool, true, false, cond, List, [], ◌∷◌, Option, Some, None, codes, bytes_eq}
 use Rattle.grift_base.specs.declared.operators.PrimOp.{PrimOp}
 use Rattle.grift_base.specs.declared.operators.PrimOp.TheVariants.{Add, Sub, Mul, Quot, Rem, Lt, Le, Eq, Ge, Gt, Not}
-use Rattle.grift_base.specs.declared.operators.PrimOp.TheVariants.{PrintInt, Newline, ReadInt as ReadIntOperator}
+use Rattle.grift_base.specs.declared.operators.PrimOp.TheVariants.{PrintInt, Newline, ReadInt}
 use Rattle.grift_base.specs.declared.operators.PrimOp.TheVariants.{MakeBox, Unbox, BoxSet, MakeVector, VectorRef}
 use Rattle.grift_base.specs.declared.operators.PrimOp.TheVariants.{VectorSet, VectorLength}
 use Rattle.surface_syntax.specs.declared.words.Word.{Word}
 use Rattle.surface_syntax.specs.declared.words.Word.TheVariants.{Lambda, Let, Letrec, If, Begin, And, Or, Repeat, Tuple}
-use Rattle.surface_syntax.specs.declared.words.Word.TheVariants.{TupleProj, Define, Colon, Arrow, ReadInt, Operator}
+use Rattle.surface_syntax.specs.declared.words.Word.TheVariants.{TupleProj, Define, Colon, Arrow, Operator}
 use Rattle.surface_syntax.specs.declared.words.TypeWord.{TypeWord}
 use Rattle.surface_syntax.specs.declared.words.TypeWord.TheVariants.{Int, Bool as BoolWord, Unit as UnitWord, Dyn}
 use Rattle.surface_syntax.specs.declared.words.TypeWord.TheVariants.{Tuple as TupleWord, Ref, Vect, Rec}
@@ -29,7 +29,7 @@ operator_text Gt = codes ">"
 operator_text Not = codes "not"
 operator_text PrintInt = codes "print-int"
 operator_text Newline = codes "newline"
-operator_text ReadIntOperator = codes "read-int"
+operator_text ReadInt = codes "read-int"
 operator_text MakeBox = codes "box"
 operator_text Unbox = codes "unbox"
 operator_text BoxSet = codes "box-set!"
@@ -53,7 +53,7 @@ operand_count Gt = 2
 operand_count Not = 1
 operand_count PrintInt = 1
 operand_count Newline = 0
-operand_count ReadIntOperator = 0
+operand_count ReadInt = 0
 operand_count MakeBox = 1
 operand_count Unbox = 1
 operand_count BoxSet = 2
@@ -76,7 +76,6 @@ word_text TupleProj = codes "tuple-proj"
 word_text Define = codes "define"
 word_text Colon = codes ":"
 word_text Arrow = codes "->"
-word_text ReadInt = codes "read-int"
 word_text (Operator operator) = operator_text operator
 
 abbrev pub type_word_text : TypeWord → List ℕ

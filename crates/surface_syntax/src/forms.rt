@@ -172,7 +172,7 @@ fn headed(
         Word::Tuple => applied(alloc, names, pos, Head::Tuple, rest),
         Word::TupleProj => projection(alloc, names, pos, rest),
         Word::Operator(operator) => applied(alloc, names, pos, Head::Operator(operator), rest),
-        Word::Define | Word::Arrow | Word::ReadInt => bad_form(pos),
+        Word::Define | Word::Arrow => bad_form(pos),
     }
 }
 

@@ -22,7 +22,6 @@ pub enum Word {
     Define,
     Colon,
     Arrow,
-    ReadInt,
     /// An operator that heads a form with its operands.
     Operator(PrimOp),
 }
@@ -64,7 +63,6 @@ pub const RESERVED_WORDS: [Word; 34] = [
     Word::Define,
     Word::Colon,
     Word::Arrow,
-    Word::ReadInt,
     Word::Operator(PrimOp::Add),
     Word::Operator(PrimOp::Sub),
     Word::Operator(PrimOp::Mul),
@@ -78,6 +76,7 @@ pub const RESERVED_WORDS: [Word; 34] = [
     Word::Operator(PrimOp::Not),
     Word::Operator(PrimOp::PrintInt),
     Word::Operator(PrimOp::Newline),
+    Word::Operator(PrimOp::ReadInt),
     Word::Operator(PrimOp::MakeBox),
     Word::Operator(PrimOp::Unbox),
     Word::Operator(PrimOp::BoxSet),
@@ -204,7 +203,6 @@ impl Spelled for Word {
             Word::Define => "define",
             Word::Colon => ":",
             Word::Arrow => "->",
-            Word::ReadInt => "read-int",
             Word::Operator(operator) => operator_text(operator),
         }
     }

@@ -8,7 +8,7 @@ use Rattle.rv_machine.specs.Image.{statics_len, code_len}
 use Rattle.core_calc.specs.Typing.{ProgramTermHasType}
 use Rattle.core_calc.specs.Views.{term_of}
 use Rattle.cast_insert.specs.Views.{entries_of}
-use Rattle.front_end.specs.Placed.{IsPlaced, takes_no_input}
+use Rattle.front_end.specs.Placed.{IsPlaced, any_operator}
 use Rattle.front_end.proofs.Public.{program_type_there}
 use Rattle.lower.specs.Serving.{all_have_words}
 use Rattle.coercion_norm.specs.Modes.{row_cast, row_casts}
@@ -97,7 +97,7 @@ returns-clause-follows c =
     let row_there = c.row.ensures in
     let flat_row = subst (λ (t : TypeId). row_at types t.0 ≡ Some (row_of c.row.result.now))
     (sym c.in_ok-flat.ensures.answer) row_there in
-    let placed = subst (IsPlaced takes_no_input (entries_of elab.casts)) (sym c.in_ok-coer.ensures.reads) c.requires.placed in
+    let placed = subst (IsPlaced any_operator (entries_of elab.casts)) (sym c.in_ok-coer.ensures.reads) c.requires.placed in
     let words : All (λ w. w < 2 ^ 64) low_program.statics.words = search rules in
     let cast_words : All (λ w. w < 2 ^ 64) low_program.statics.cast_at = search rules in
     let entries_fit : All HasWords (entries_of elab.casts) = search rules in

@@ -1,4 +1,4 @@
-use Rattle.std.proofs.Common.{refl}
+use Rattle.std.proofs.Common.{[], refl, sym}
 use Rattle.surface_syntax.specs.Views.{expr_of}
 use Rattle.cast_insert.specs.Views.{entries_of}
 use Rattle.front_end.proofs.Public.{read_programs_are_sources}
@@ -10,8 +10,7 @@ use Rattle.grift_cli.proofs.top.report_of_audit.Goals as goal
 pub returns-in-Err : goal.returns-in-Err
 returns-in-Err g c words img is none =
     rw c.report_of_load.ensures (says_load_fault _ (Audit c.args.file.now) c.in-Err.fault is
-    (record { out = record { written = refl; faults = refl }; img = none })
-    c.in-Err.ensures.loads c.in-Err.ensures.names c.in-Err.ensures.count)
+    (record { out = record { written = refl; faults = refl }; img = none }) c.in-Err.ensures)
 
 pub put_audit-requires : goal.put_audit-requires
 put_audit-requires g c =
@@ -25,12 +24,13 @@ put_audit-requires g c =
 
 pub returns-in-Ok-elaborate_text : goal.returns-in-Ok-elaborate_text
 returns-in-Ok-elaborate_text g c words img is none =
+    let loaded = c.in-Ok.loaded in
     let done = c.in-Ok-elaborate_text.done in
     says_audit _ (program_over done.types done.elab) (entries_of done.elab.casts) c.put_audit.result (record {
       file = c.args.file.now;
       text = c.as_slice.result.now;
-      loaded = has_loaded _ (Audit c.args.file.now) c.as_slice.result.now _ is c.in-Ok.ensures.names
-          c.in-Ok.ensures.count c.as_slice.ensures.value c.in-Ok.ensures.loads.0 c.in-Ok.ensures.loads.1;
+      loaded = has_loaded _ (Audit c.args.file.now) c.as_slice.result.now [] loaded.bytes loaded.input is
+          c.in-Ok.ensures c.as_slice.ensures (sym c.in-Ok.ensures.input_is);
       type = done.elab.ty.0;
       elaborated = c.in-Ok-elaborate_text.ensures.outcome;
       no_image = none;
@@ -39,7 +39,7 @@ returns-in-Ok-elaborate_text g c words img is none =
 pub returns : goal.returns
 returns g c words img is none =
     rw c.report_of_source.ensures (says_audit_fault _ c.args.file.now c.as_slice.result.now
-    c.in-Err-elaborate_text.fault (has_loaded _ (Audit c.args.file.now) c.as_slice.result.now _ is
-    c.in-Ok.ensures.names c.in-Ok.ensures.count c.as_slice.ensures.value c.in-Ok.ensures.loads.0
-    c.in-Ok.ensures.loads.1)
+    c.in-Err-elaborate_text.fault (has_loaded _ (Audit c.args.file.now) c.as_slice.result.now []
+    c.in-Ok.loaded.bytes c.in-Ok.loaded.input is c.in-Ok.ensures c.as_slice.ensures
+    (sym c.in-Ok.ensures.input_is))
     (record { out = record { written = refl; faults = refl }; img = none }) c.in-Err-elaborate_text.ensures.refused)

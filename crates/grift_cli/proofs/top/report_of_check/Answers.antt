@@ -1,4 +1,4 @@
-use Rattle.std.proofs.Common.{refl, length}
+use Rattle.std.proofs.Common.{[], refl, sym, length}
 use Rattle.core_calc.specs.Views.{term_of}
 use Rattle.cast_insert.specs.Views.{entries_of}
 use Rattle.front_end.proofs.Public.{program_type_there}
@@ -10,8 +10,7 @@ use Rattle.grift_cli.proofs.top.report_of_check.Goals as goal
 pub returns-in-Err : goal.returns-in-Err
 returns-in-Err g c words img is none =
     rw c.report_of_load.ensures (says_load_fault _ (Check c.args.file.now) c.in-Err.fault is
-    (record { out = record { written = refl; faults = refl }; img = none })
-    c.in-Err.ensures.loads c.in-Err.ensures.names c.in-Err.ensures.count)
+    (record { out = record { written = refl; faults = refl }; img = none }) c.in-Err.ensures)
 
 pub put_lines-requires : goal.put_lines-requires
 put_lines-requires g c =
@@ -21,12 +20,13 @@ put_lines-requires g c =
 
 pub returns-in-Ok-elaborate_text : goal.returns-in-Ok-elaborate_text
 returns-in-Ok-elaborate_text g c words img is none =
+    let loaded = c.in-Ok.loaded in
     let done = c.in-Ok-elaborate_text.done in
     says_check _ (checked_text done.types done.elab.ty.0 (entries_of done.elab.casts)) c.put_lines.result (record {
       file = c.args.file.now;
       text = c.as_slice.result.now;
-      loaded = has_loaded _ (Check c.args.file.now) c.as_slice.result.now _ is c.in-Ok.ensures.names
-          c.in-Ok.ensures.count c.as_slice.ensures.value c.in-Ok.ensures.loads.0 c.in-Ok.ensures.loads.1;
+      loaded = has_loaded _ (Check c.args.file.now) c.as_slice.result.now [] loaded.bytes loaded.input is
+          c.in-Ok.ensures c.as_slice.ensures (sym c.in-Ok.ensures.input_is);
       term = term_of done.elab.core;
       type = done.elab.ty.0;
       types = done.types;
@@ -40,7 +40,7 @@ returns-in-Ok-elaborate_text g c words img is none =
 pub returns : goal.returns
 returns g c words img is none =
     rw c.report_of_source.ensures (says_check_fault _ c.args.file.now c.as_slice.result.now
-    c.in-Err-elaborate_text.fault (has_loaded _ (Check c.args.file.now) c.as_slice.result.now _ is
-    c.in-Ok.ensures.names c.in-Ok.ensures.count c.as_slice.ensures.value c.in-Ok.ensures.loads.0
-    c.in-Ok.ensures.loads.1)
+    c.in-Err-elaborate_text.fault (has_loaded _ (Check c.args.file.now) c.as_slice.result.now []
+    c.in-Ok.loaded.bytes c.in-Ok.loaded.input is c.in-Ok.ensures c.as_slice.ensures
+    (sym c.in-Ok.ensures.input_is))
     (record { out = record { written = refl; faults = refl }; img = none }) c.in-Err-elaborate_text.ensures.refused)

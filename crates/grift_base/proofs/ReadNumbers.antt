@@ -1,0 +1,38 @@
+-- A number that is read has 64 bits.
+use Rattle.std.proofs.Common.{◌≡◌, ◌<◌, ◌^◌, Bool, true, false, Some, None, ℤ, pos, negsuc, refl, subst, arith}
+use Rattle.std.specs.Prelude.{cond, nat_lt, FitsSigned}
+use Rattle.std.specs.Int.{w64}
+use Rattle.std.proofs.lemmas.Bool.{ltb-true}
+use Rattle.std.proofs.lemmas.Option.{option_and_then_some}
+use Rattle.grift_base.specs.Numbers.{in_word, number_of}
+use Rattle.grift_base.specs.Reading.{run_first, unread, next_number}
+use Rattle.grift_base.specs.World.{WorldState}
+
+same_number : (a b : ℤ) → Some a ≡ Some b → a ≡ b
+same_number a b e = cc
+
+no_number : (n : ℤ) → None ≡ Some n → FitsSigned w64 n
+no_number n e = absurd (let z : ⊥ = cc in z)
+
+in_word_fits : (z n : ℤ) → in_word z ≡ Some n → FitsSigned w64 n
+in_word_fits (pos m) n e = at (nat_lt m (2 ^ 63)) refl e
+  where
+    at : (b : Bool) → nat_lt m (2 ^ 63) ≡ b → cond b (Some (pos m)) None ≡ Some n → FitsSigned w64 n
+    at true f e =
+        let below : m < 2 ^ 63 = ltb-true m (2 ^ 63) f in
+        let fits : FitsSigned w64 (pos m) = omega arith in
+        subst (λ x. FitsSigned w64 x) (same_number (pos m) n e) fits
+    at false f e = no_number n e
+in_word_fits (negsuc m) n e = at (nat_lt m (2 ^ 63)) refl e
+  where
+    at : (b : Bool) → nat_lt m (2 ^ 63) ≡ b → cond b (Some (negsuc m)) None ≡ Some n → FitsSigned w64 n
+    at true f e =
+        let below : m < 2 ^ 63 = ltb-true m (2 ^ 63) f in
+        let fits : FitsSigned w64 (negsuc m) = omega arith in
+        subst (λ x. FitsSigned w64 x) (same_number (negsuc m) n e) fits
+    at false f e = no_number n e
+
+-- the number that stands next in the input is a word with a sign
+pub next_number_fits : (w : WorldState) (n : ℤ) → next_number w ≡ Some n → FitsSigned w64 n
+next_number_fits w n e =
+    option_and_then_some in_word (number_of (run_first (unread w))) n e (λ z f g. in_word_fits z n g)
