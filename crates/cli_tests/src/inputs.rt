@@ -111,16 +111,37 @@ fn numbers_are_read(rt: HostRuntime) -> Result<(), NoMemory> {
         (ten_times, b"+3\n4", 0, b"", b"answer 43\n"),
         (ten_times, b"3 - 4", 4, b"", b"trap input\n"),
         (sum, b"1 2\t3\r\n4 0 9", 0, b"", b"answer 10\n"),
-        (sum, b"9223372036854775807 1 0", 0, b"", b"answer -9223372036854775808\n"),
+        (
+            sum,
+            b"9223372036854775807 1 0",
+            0,
+            b"",
+            b"answer -9223372036854775808\n",
+        ),
         (b"(+ 1 (: (read-int) Dyn))", b"7", 0, b"", b"answer 8\n"),
         (b"(: (: (read-int) Dyn) Bool)", b"7", 3, b"", b"blame 1:1\n"),
-        (b"(if (= (read-int) 1) (read-int) 5)", b"1 x", 4, b"", b"trap input\n"),
-        (b"(if (= (read-int) 1) (read-int) 5)", b"2 x", 0, b"", b"answer 5\n"),
+        (
+            b"(if (= (read-int) 1) (read-int) 5)",
+            b"1 x",
+            4,
+            b"",
+            b"trap input\n",
+        ),
+        (
+            b"(if (= (read-int) 1) (read-int) 5)",
+            b"2 x",
+            0,
+            b"",
+            b"answer 5\n",
+        ),
         (b"(unbox (box (read-int)))", b"-1", 0, b"", b"answer -1\n"),
     ];
     for (file, input, status, output, line) in rows {
         let case = run_on(file, input);
-        assert!(rt; comes_to(rt.alloc(), &case, status, output, line)?, "{file:?}");
+        assert!(rt;
+            comes_to(rt.alloc(), &case, status, output, line)?,
+            "{file:?}"
+        );
     }
     Ok(())
 }

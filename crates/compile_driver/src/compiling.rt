@@ -78,8 +78,8 @@ fn are_narrow(casts: &[CastEntry])
 // The most bytes that statics and code may have: with every region they end below 2 ^ 34.
 const MOST_LOADED: usize = 8_589_934_592;
 
-// The image of a program with all casts. One whose statics and code are too long for the memory that the procedures over
-// words are proved for is want of memory.
+// The image of a program with all casts. One whose statics and code are too long for the memory that the procedures
+// over words are proved for is want of memory.
 fn made_of(alloc: Global, types: &TypeTable, elab: &Elab) -> Result<Made, OutOfMemory>
     requires typed { ProgramTermHasType types.now (length elab.now.labels) (term_of elab.now.core) elab.now.ty.0 }
     requires placed { IsPlaced any_operator (entries_of elab.now.casts) (term_of elab.now.core) }

@@ -6,7 +6,7 @@ use Rattle.grift_base.specs.Outside.{Counts, next_count}
 use Rattle.grift_base.specs.Shelf.{ShelfSeen, Loads, load_failed, asked_after}
 use Rattle.grift_base.specs.declared.shelves.LoadFault.{LoadFault}
 use Rattle.grift_base.specs.declared.shelves.LoadFault.TheVariants.{Failed, TooLong, OutOfMemory}
-use Rattle.grift_cli.specs.Calls.{File, IsContent, FileComes, InputComes, AreLoaded, LoadsFiles}
+use Rattle.grift_cli.specs.Calls.{File, IsContent, FileComes, InputComes, LoadsFiles}
 
 -- the names asked for: none more, one, and one after another
 no_names : (asked : Option (List (List ℕ)))
@@ -46,47 +46,31 @@ file_fails shelf file input OutOfMemory loads names count =
 module _ (shelf : ShelfSeen) (file : File) (bytes : List ℕ) (content : IsContent shelf file bytes)
     (asked : Option (List (List ℕ))) (faults : ℕ)
     (first : asked ≡ option_map (λ names. names ++ file.name ∷ []) shelf.asked) (none : faults ≡ shelf.faults) where
-  -- without a file of input, and with one
-  pub file_loaded : (input : List ℕ) → input ≡ [] → shelf.asked_after ≡ asked → shelf.faults_after ≡ faults
-      → AreLoaded shelf file None bytes input
-  file_loaded input empty names count =
-      record { asks = names ∙ first; faults = count ∙ none; content = content; input_is = empty }
-
-  pub both_loaded : (next : File) (input : List ℕ) → IsContent shelf next input
-      → shelf.asked_after ≡ option_map (λ names. names ++ next.name ∷ []) asked → shelf.faults_after ≡ faults
-      → AreLoaded shelf file (Some next) bytes input
-  both_loaded next input is names count = record {
-    asks = two_names shelf.asked asked shelf.asked_after file.name next.name first names;
-    faults = count ∙ none;
-    content = content;
-    input_is = is;
-  }
-
   -- the input isn't loaded
-  pub input_fails : (next : File) (fault : LoadFault)
+  pub input_fails : (input : Option File) (next : File) (fault : LoadFault) → input ≡ Some next
       → Loads {Z = Global} (shelf.holds next.name) next.most (Err fault)
       → shelf.asked_after ≡ option_map (asked_after {A = Vec ℕ Global} (Err fault) next.name) asked
       → Counts (load_failed {A = Vec ℕ Global} (Err fault)) faults shelf.faults_after
-      → LoadsFiles file (Some next) (Err fault) shelf
-  input_fails next Failed loads names count = record {
+      → LoadsFiles file input (Err fault) shelf
+  input_fails input next Failed e loads names count = record {
     before = file.name ∷ [];
     last = next;
-    comes = InputComes content refl;
+    comes = InputComes content e;
     asks = two_names shelf.asked asked shelf.asked_after file.name next.name first names;
     faults = count ∙ ap next_count none;
   }
-  input_fails next TooLong loads names count = record {
+  input_fails input next TooLong e loads names count = record {
     before = file.name ∷ [];
     last = next;
-    comes = InputComes content refl;
+    comes = InputComes content e;
     asks = two_names shelf.asked asked shelf.asked_after file.name next.name first names;
     faults = count ∙ none;
     long = loads;
   }
-  input_fails next OutOfMemory loads names count = record {
+  input_fails input next OutOfMemory e loads names count = record {
     before = file.name ∷ [];
     last = next;
-    comes = InputComes content refl;
+    comes = InputComes content e;
     asks = one_name shelf.asked asked shelf.asked_after file.name first names;
     faults = count ∙ none;
   }

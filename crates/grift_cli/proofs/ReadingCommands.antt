@@ -12,15 +12,15 @@ use Rattle.grift_cli.proofs.ReadingLimits.{one_limits, NoLimitBegins}
 -- ---- how a command's words are read
 
 pub record ReadsRun (words : List (List ℕ)) (file : List ℕ) (limits : Limits) (input image : Option (List ℕ)) : Type 0
-    where
-  pub options : List (List ℕ)
-  pub after_limits : List (List ℕ)
-  pub image_words : List (List ℕ)
-  pub words_are : words ≡ codes "run" ∷ file ∷ options
-  pub named : file ≢ []
-  pub front : LimitsAtFront options limits after_limits
-  pub input_is : NameAtFront (codes "--input") after_limits input image_words
-  pub image_is : IsNameOption (codes "--image") image_words image
+  where
+    pub options : List (List ℕ)
+    pub after_limits : List (List ℕ)
+    pub image_words : List (List ℕ)
+    pub words_are : words ≡ codes "run" ∷ file ∷ options
+    pub named : file ≢ []
+    pub front : LimitsAtFront options limits after_limits
+    pub input_is : NameAtFront (codes "--input") after_limits input image_words
+    pub image_is : IsNameOption (codes "--image") image_words image
 
 pub record ReadsExec (words : List (List ℕ)) (file : List ℕ) (limits : Limits) (input : Option (List ℕ)) : Type 0 where
   pub options : List (List ℕ)
@@ -81,8 +81,8 @@ input_front : (input_words rest : List (List ℕ)) (input : Option (List ℕ))
 input_front input_words rest input i h =
     record { part = input_words; words_are = refl; option = i; absent = λ p. h }
 
-image_begins : (image_words : List (List ℕ)) (image : Option (List ℕ)) → IsNameOption (codes "--image") image_words image
-    → BeginOtherwise (codes "--input") image_words
+image_begins : (image_words : List (List ℕ)) (image : Option (List ℕ))
+    → IsNameOption (codes "--image") image_words image → BeginOtherwise (codes "--input") image_words
 image_begins image_words image m =
     subst (λ (ws : List (List ℕ)). BeginOtherwise (codes "--input") ws) (sym (nothing_more image_words))
     (named_begins (codes "--input") (codes "--image") image_words [] image

@@ -1,6 +1,6 @@
 -- Options at the front of words.
-use Rattle.std.proofs.Common.{ℕ, false, ◌-◌, ◌<◌, ◌≤◌, ◌≡◌, List, [], ◌∷◌, ◌++◌, map, length, take, drop, get_or, inl}
-use Rattle.std.proofs.Common.{inr, refl, sym, ap, subst, ◌∙◌, append-nil, arith}
+use Rattle.std.proofs.Common.{ℕ, true, false, ◌-◌, ◌<◌, ◌≤◌, ◌≡◌, List, [], ◌∷◌, ◌++◌, map, length, take, drop, get_or}
+use Rattle.std.proofs.Common.{inl, inr, refl, sym, ap, subst, ◌∙◌, append-nil, arith, eqb-true}
 use Rattle.std.specs.Prelude.{◌≢◌, ◌==◌, Option, Some, None}
 use Rattle.std.proofs.lemmas.List.{take_all}
 use Rattle.grift_cli.specs.Commands.{IsNameOption, IsNumber, number_of}
@@ -118,6 +118,11 @@ pub not_empty : (xs : List ℕ) → false ≡ (length xs == 0) → xs ≢ []
 not_empty [] h e = cc
 not_empty (x ∷ xs) h e = cc
 
+pub empty_text : (xs : List ℕ) → true ≡ (length xs == 0) → xs ≡ []
+empty_text [] h = refl
+empty_text (x ∷ xs) h =
+    let e = eqb-true (length (x ∷ xs)) 0 (sym h) in absurd (let z : ⊥ = omega (arith, e) in z)
+
 pub one_name : (option : List ℕ) (words : List (List ℕ)) (name other : Option (List ℕ)) (rest left : List (List ℕ))
     → NameAtFront option words name rest → NameAtFront option words other left → (name ≡ other) × (rest ≡ left)
 one_name option words name other rest left a b = elim a.option [
@@ -176,6 +181,18 @@ name_alone option words name a =
     subst (λ (ws : List (List ℕ)). IsNameOption option ws name) (sym (a.words_are ∙ append-nil a.part)) a.option
 
 -- ---- words are left
+
+no_texts : {A : Type 0} (bytes : A → List ℕ) (words : List A) → true ≡ (length words == 0) → map bytes words ≡ []
+no_texts bytes [] h = refl
+no_texts bytes (x ∷ xs) h =
+    let e = eqb-true (length (x ∷ xs)) 0 (sym h) in absurd (let z : ⊥ = omega (arith, e) in z)
+
+-- an option with a name behind which no words are left
+pub at_end : {A : Type 0} (bytes : A → List ℕ) (option : List ℕ) (words : List (List ℕ)) (name : Option (List ℕ))
+    (rest : List A) → true ≡ (length rest == 0) → NameAtFront option words name (map bytes rest)
+    → NameAtFront option words name []
+at_end bytes option words name rest h a =
+    subst (λ (ws : List (List ℕ)). NameAtFront option words name ws) (no_texts bytes rest h) a
 
 pub some_texts : {A : Type 0} (bytes : A → List ℕ) (words : List A) → false ≡ (length words == 0)
     → map bytes words ≡ [] → ⊥

@@ -25,8 +25,9 @@ from_start limits image input whole t Spent report r h = stopped_with limits ima
 from_start limits image input whole t NoMemory report r h = absurd (let f : ⊥ = cc in f)
 
 -- a run from the start state that stops for another reason than want of memory
-pub has_stopped : (limits : Limits) (image input : List ℕ) (whole : Bool) (s t : State) (outcome : Outcome) (report : Report)
-    → s ≡ start_of image limits.region limits.stack (fresh_world input) → RunsTo whole limits.steps s outcome t
+pub has_stopped : (limits : Limits) (image input : List ℕ) (whole : Bool) (s t : State) (outcome : Outcome)
+    (report : Report) → s ≡ start_of image limits.region limits.stack (fresh_world input)
+    → RunsTo whole limits.steps s outcome t
     → TellsStop outcome (Some report) → HasStopped limits image input t report
 has_stopped limits image input whole s t outcome report e r h =
     from_start limits image input whole t outcome report (rw (sym e) r) h

@@ -61,7 +61,7 @@ abbrev pub names_of : Option File → List (List ℕ)
 names_of None = []
 names_of (Some file) = file.name ∷ []
 
--- these bytes were loaded: they are no more than the file may have, and they are what its name holds, where that is told
+-- these bytes were loaded: they are no more than the file may have, and what its name holds, where that is told
 pub record IsContent (shelf : ShelfSeen) (file : File) (bytes : List ℕ) : Type 0 where
   pub short : length bytes ≤ file.most
   pub held : IfSome (shelf.holds file.name) (λ held. bytes ≡ held)

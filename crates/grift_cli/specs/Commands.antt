@@ -68,15 +68,15 @@ pub data Command : Type 0 where
   Audit : List ℕ → Command
 
 pub record IsRun (words : List (List ℕ)) (file : List ℕ) (limits : Limits) (input image : Option (List ℕ)) : Type 0
-    where
-  pub limit_words : List (List ℕ)
-  pub input_words : List (List ℕ)
-  pub image_words : List (List ℕ)
-  pub words_are : words ≡ codes "run" ∷ file ∷ limit_words ++ (input_words ++ image_words)
-  pub named : file ≢ []
-  pub limits_are : AreLimits limit_words limits
-  pub input_is : IsNameOption (codes "--input") input_words input
-  pub image_is : IsNameOption (codes "--image") image_words image
+  where
+    pub limit_words : List (List ℕ)
+    pub input_words : List (List ℕ)
+    pub image_words : List (List ℕ)
+    pub words_are : words ≡ codes "run" ∷ file ∷ limit_words ++ (input_words ++ image_words)
+    pub named : file ≢ []
+    pub limits_are : AreLimits limit_words limits
+    pub input_is : IsNameOption (codes "--input") input_words input
+    pub image_is : IsNameOption (codes "--image") image_words image
 
 pub record IsExec (words : List (List ℕ)) (file : List ℕ) (limits : Limits) (input : Option (List ℕ)) : Type 0 where
   pub limit_words : List (List ℕ)

@@ -27,11 +27,11 @@ pub record NumberAtFront (name : List ℕ) (IsAllowed : ℕ → Type 0) (default
 
 -- the words begin with an option with a name, or not with this word; these are left after it
 pub record NameAtFront (word : List ℕ) (words : List (List ℕ)) (name : Option (List ℕ)) (rest : List (List ℕ)) : Type 0
-    where
-  pub part : List (List ℕ)
-  pub words_are : words ≡ part ++ rest
-  pub option : IsNameOption word part name
-  pub absent : part ≡ [] → BeginOtherwise word rest
+  where
+    pub part : List (List ℕ)
+    pub words_are : words ≡ part ++ rest
+    pub option : IsNameOption word part name
+    pub absent : part ≡ [] → BeginOtherwise word rest
 
 -- the words begin with limits; these are left after them
 pub record LimitsAtFront (words : List (List ℕ)) (limits : Limits) (rest : List (List ℕ)) : Type 0 where

@@ -22,7 +22,7 @@ const DEFAULT_STEPS: u64 = 100_000_000;
 /// A command of the program. A `space` is told by no words.
 #[derive(Clone, Copy, PartialEq, Eq, Debug)]
 pub enum Command<'a> {
-    /// A file that is compiled and run, the file of its input, if it gets one, and the name of its image, if it gets one.
+    /// A file that is compiled and run, the file of its input and the name of its image, if it gets these.
     Run {
         file: &'a str,
         region: u64,

@@ -25,7 +25,7 @@ pub fn load_files<S: Shelf>(
     most: usize,
     input: Option<&str>,
 ) -> Result<Loaded, LoadFault>
-    ensures { LoadsFiles (record { name = file.now; most = most }) (input_file (name_bytes input)) result
+    ensures { LoadsFiles (record { name = file.now; most = most }) (input_file (name_bytes input.entry)) result
         (shelf_seen S.holds S.asked S.fault_count shelf.old shelf.new) }
 {
     let bytes = Bytes::from_vec(shelf.load(alloc, file, most)?);

@@ -110,8 +110,8 @@ fn report_of_run<S: Shelf, O: Sink, I: Sink>(
 ) -> Report
     requires region { IsRegionSize limits.region }
     requires stack { IsStackSize limits.stack }
-    ensures { (words : List (List ℕ)) (name : Option (List ℕ)) → IsRun words file.now limits (name_bytes input) name
-        → Says result (record {
+    ensures { (words : List (List ℕ)) (name : Option (List ℕ))
+        → IsRun words file.now limits (name_bytes input.entry) name → Says result (record {
           words = words;
           shelf = shelf_seen S.holds S.asked S.fault_count shelf.old shelf.new;
           out = sink_seen O.written O.fault_count out.old out.new;
@@ -139,8 +139,8 @@ fn report_of_exec<S: Shelf, O: Sink>(
 ) -> Report
     requires region { IsRegionSize limits.region }
     requires stack { IsStackSize limits.stack }
-    ensures { (words : List (List ℕ)) (img : SinkSeen) → IsExec words file.now limits (name_bytes input) → Untouched img
-        → Says result (record {
+    ensures { (words : List (List ℕ)) (img : SinkSeen) → IsExec words file.now limits (name_bytes input.entry)
+        → Untouched img → Says result (record {
           words = words;
           shelf = shelf_seen S.holds S.asked S.fault_count shelf.old shelf.new;
           out = sink_seen O.written O.fault_count out.old out.new;

@@ -345,7 +345,8 @@ module _ (program : Program) (typed : TypesStand program.l)
         now = record { output = refl; filling = (objects, filled) };
         last = at (past_white f.world) h waiting size inner new Done;
         stops =
-            input_stops program.setting (past_white f.world) h waiting size inner new (test_word s) (omega (arith, wide));
+            input_stops program.setting (past_white f.world) h waiting size inner new (test_word s)
+            (omega (arith, wide));
         seen = record { output = refl; filling = (objects, filled) };
       }
 

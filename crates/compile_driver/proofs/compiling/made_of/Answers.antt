@@ -97,7 +97,8 @@ returns-clause-follows c =
     let row_there = c.row.ensures in
     let flat_row = subst (λ (t : TypeId). row_at types t.0 ≡ Some (row_of c.row.result.now))
     (sym c.in_ok-flat.ensures.answer) row_there in
-    let placed = subst (IsPlaced any_operator (entries_of elab.casts)) (sym c.in_ok-coer.ensures.reads) c.requires.placed in
+    let placed = subst (IsPlaced any_operator (entries_of elab.casts)) (sym c.in_ok-coer.ensures.reads)
+    c.requires.placed in
     let words : All (λ w. w < 2 ^ 64) low_program.statics.words = search rules in
     let cast_words : All (λ w. w < 2 ^ 64) low_program.statics.cast_at = search rules in
     let entries_fit : All HasWords (entries_of elab.casts) = search rules in

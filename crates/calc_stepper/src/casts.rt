@@ -1,0 +1,179 @@
+// Casts and parts of values.
+
+ghost use Rattle.std.specs.Prelude.{◌≡◌, IfOk, OnErr, option_map};
+ghost use Rattle.grift_base.specs.World.{WorldState};
+ghost use Rattle.core_calc.specs.Outcome.{Store};
+ghost use Rattle.core_calc.specs.Views.{term_of};
+ghost use Rattle.calc_stepper.specs.Moves.{after};
+ghost use Rattle.calc_stepper.specs.Redexes.{cast_redex, dyn_part_asked, part_asked, proj_dyn_redex, proj_redex};
+
+use crate::copies::{boxed, boxed_value, copy_value};
+use crate::forms::{
+    dyn_type, is_base, is_dyn, is_value, part_of, row, same_head, take_injected, take_value,
+    unwrap_value, wrapper_of,
+};
+use crate::moves::Moved;
+use core_calc::terms::{Core, Value};
+use grift_base::lists::OutOfMemory;
+use grift_base::places::LabelId;
+use std::alloc::Global;
+use std::mem;
+use type_graph::tables::TypeTable;
+
+/// Casts a value.
+pub fn cast_redex(alloc: Global, types: &TypeTable, term: &mut Core) -> Result<Moved, OutOfMemory>
+    ensures moves { IfOk result (λ moved. (store : Store) (world : WorldState)
+        → after (cast_redex types.now store world (term_of term.old)) (term_of term.old) store world
+        ≡ record { moved = moved; item = term_of term.new; store = store; world = world }) }
+    ensures stays { OnErr result (term_of term.new ≡ term_of term.old) }
+{
+    let Core::Cast(inner, from, to, label) = term else {
+        return Ok(Moved::Stuck);
+    };
+    if !is_value(inner) {
+        return Ok(Moved::Stuck);
+    }
+    let Some(first) = row(types, *from) else {
+        return Ok(Moved::Stuck);
+    };
+    let Some(second) = row(types, *to) else {
+        return Ok(Moved::Stuck);
+    };
+    if is_dyn(second) && !is_dyn(first) {
+        let mut place = boxed_value(alloc, Value::Unit)?;
+        let Some(v) = take_value(inner) else {
+            return Ok(Moved::Stuck);
+        };
+        *place = v;
+        *term = Core::Value(Value::Inject(place, *from));
+        return Ok(Moved::Goes);
+    }
+    if is_dyn(first) && !is_dyn(second) {
+        let Some((held, kept)) = take_injected(inner) else {
+            return Ok(Moved::Stuck);
+        };
+        **inner = Core::Value(held);
+        *from = kept;
+        return Ok(Moved::Goes);
+    }
+    if !same_head(first, second) {
+        return Ok(Moved::Blames(*label));
+    }
+    if is_dyn(first) || is_base(first) {
+        let Some(v) = take_value(inner) else {
+            return Ok(Moved::Stuck);
+        };
+        *term = Core::Value(v);
+        return Ok(Moved::Goes);
+    }
+    let mut place = boxed_value(alloc, Value::Unit)?;
+    let Some(v) = take_value(inner) else {
+        return Ok(Moved::Stuck);
+    };
+    *place = v;
+    *term = Core::Value(Value::Wrap(place, *from, *label, *to));
+    Ok(Moved::Goes)
+}
+
+// The part that a projection asks for.
+fn part_asked(term: &Core) -> Option<i64>
+    ensures { result ≡ part_asked (term_of term.now) }
+{
+    match term {
+        Core::Proj(_, k) => Some(*k),
+        _ => None,
+    }
+}
+
+// The part that a projection from Dyn asks for, and its label.
+fn dyn_part_asked(term: &Core) -> Option<(i64, LabelId)>
+    ensures { option_map (λ asked. (asked.0, asked.1.0)) result ≡ dyn_part_asked (term_of term.now) }
+{
+    match term {
+        Core::ProjDyn(_, k, label) => Some((*k, *label)),
+        _ => None,
+    }
+}
+
+/// Projects a part of a tuple.
+pub fn proj_redex(alloc: Global, types: &TypeTable, term: &mut Core) -> Result<Moved, OutOfMemory>
+    ensures moves { IfOk result (λ moved. (store : Store) (world : WorldState)
+        → after (proj_redex types.now store world (term_of term.old)) (term_of term.old) store world
+        ≡ record { moved = moved; item = term_of term.new; store = store; world = world }) }
+    ensures stays { OnErr result (term_of term.new ≡ term_of term.old) }
+{
+    let Some(k) = part_asked(term) else {
+        return Ok(Moved::Stuck);
+    };
+    let Core::Proj(inner, _) = term else {
+        return Ok(Moved::Stuck);
+    };
+    if let Core::Value(Value::Tuple(parts)) = &**inner {
+        if k < 0 {
+            return Ok(Moved::Stuck);
+        }
+        let Some(part) = parts.get(k as u64) else {
+            return Ok(Moved::Stuck);
+        };
+        let v = copy_value(alloc, part)?;
+        *term = Core::Value(v);
+        return Ok(Moved::Goes);
+    }
+    let Some(wrapper) = wrapper_of(inner) else {
+        return Ok(Moved::Stuck);
+    };
+    let Some(from) = part_of(types, wrapper.from, k) else {
+        return Ok(Moved::Stuck);
+    };
+    let Some(to) = part_of(types, wrapper.to, k) else {
+        return Ok(Moved::Stuck);
+    };
+    let mut place = boxed(alloc, Core::Unit)?;
+    if !unwrap_value(inner) {
+        return Ok(Moved::Stuck);
+    }
+    *place = mem::replace(term, Core::Unit);
+    *term = Core::Cast(place, from, to, wrapper.label);
+    Ok(Moved::Goes)
+}
+
+/// Projects a part of the tuple that Dyn holds.
+pub fn proj_dyn_redex(
+    alloc: Global,
+    types: &TypeTable,
+    term: &mut Core,
+) -> Result<Moved, OutOfMemory>
+    ensures moves { IfOk result (λ moved. (store : Store) (world : WorldState)
+        → after (proj_dyn_redex types.now store world (term_of term.old)) (term_of term.old) store world
+        ≡ record { moved = moved; item = term_of term.new; store = store; world = world }) }
+    ensures stays { OnErr result (term_of term.new ≡ term_of term.old) }
+{
+    let Some((k, label)) = dyn_part_asked(term) else {
+        return Ok(Moved::Stuck);
+    };
+    let Core::ProjDyn(inner, _, _) = term else {
+        return Ok(Moved::Stuck);
+    };
+    let Core::Value(Value::Inject(_, kept)) = &**inner else {
+        return Ok(Moved::Stuck);
+    };
+    let kept = *kept;
+    if row(types, kept).is_none() {
+        return Ok(Moved::Stuck);
+    }
+    let Some(part) = part_of(types, kept, k) else {
+        return Ok(Moved::Blames(label));
+    };
+    let Some(to) = dyn_type(types) else {
+        return Ok(Moved::Stuck);
+    };
+    let mut place = boxed(alloc, Core::Unit)?;
+    let mut below = boxed(alloc, Core::Unit)?;
+    let Some((held, _)) = take_injected(inner) else {
+        return Ok(Moved::Stuck);
+    };
+    *below = Core::Value(held);
+    *place = Core::Proj(below, k);
+    *term = Core::Cast(place, part, to, label);
+    Ok(Moved::Goes)
+}

@@ -1,0 +1,229 @@
+// Copies of values and terms.
+
+ghost use Rattle.std.specs.Prelude.{◌≡◌, IfOk, option_map};
+ghost use Rattle.core_calc.specs.Terms.{as_value};
+ghost use Rattle.core_calc.specs.Views.{bindings_of, members_of, term_of, terms_of, value_of, values_of};
+
+use crate::lists::{
+    binding_then, bindings_onto, member_then, members_onto, term_then, terms_onto, value_then,
+    values_onto,
+};
+use core_calc::terms::{
+    Core, CoreBinding, CoreBindings, CoreList, GroupMember, GroupMembers, Value, Values, VarIds,
+};
+use grift_base::lists::OutOfMemory;
+use std::alloc::Global;
+
+/// A term in a box.
+pub fn boxed(alloc: Global, term: Core) -> Result<Box<Core>, OutOfMemory>
+    ensures { IfOk result (λ b. b.value ≡ term) }
+{
+    Ok(Box::new(alloc, term)?)
+}
+
+/// A value in a box.
+pub fn boxed_value(alloc: Global, v: Value) -> Result<Box<Value>, OutOfMemory>
+    ensures { IfOk result (λ b. b.value ≡ v) }
+{
+    Ok(Box::new(alloc, v)?)
+}
+
+/// The same names again.
+pub fn copy_names(alloc: Global, names: &VarIds) -> Result<VarIds, OutOfMemory>
+    ensures { IfOk result (λ copy. copy ≡ names.now) }
+{
+    Ok(VarIds::from_slice(alloc, names.as_slice())?)
+}
+
+/// The same value again.
+#[cycle(copies)]
+pub fn copy_value(alloc: Global, v: &Value) -> Result<Value, OutOfMemory>
+    ensures { IfOk result (λ copy. value_of copy ≡ value_of v.now) }
+{
+    match v {
+        Value::Int(n) => Ok(Value::Int(*n)),
+        Value::Bool(b) => Ok(Value::Bool(*b)),
+        Value::Unit => Ok(Value::Unit),
+        Value::Fun(params, body, ty) => {
+            let params = copy_names(alloc, params)?;
+            let body = boxed(alloc, copy_term(alloc, body)?)?;
+            Ok(Value::Fun(params, body, *ty))
+        }
+        Value::GroupMember(members, place) => {
+            let members = copy_members(alloc, members)?;
+            Ok(Value::GroupMember(members, *place))
+        }
+        Value::Tuple(parts) => {
+            let parts = copy_values(alloc, parts)?;
+            Ok(Value::Tuple(parts))
+        }
+        Value::Loc(cell, is_vector) => Ok(Value::Loc(*cell, *is_vector)),
+        Value::Wrap(v, from, label, to) => {
+            let v = boxed_value(alloc, copy_value(alloc, v)?)?;
+            Ok(Value::Wrap(v, *from, *label, *to))
+        }
+        Value::Inject(v, kept) => {
+            let v = boxed_value(alloc, copy_value(alloc, v)?)?;
+            Ok(Value::Inject(v, *kept))
+        }
+    }
+}
+
+/// The same term again.
+#[cycle(copies)]
+pub fn copy_term(alloc: Global, core: &Core) -> Result<Core, OutOfMemory>
+    ensures { IfOk result (λ copy. term_of copy ≡ term_of core.now) }
+{
+    match core {
+        Core::Int(n) => Ok(Core::Int(*n)),
+        Core::Bool(b) => Ok(Core::Bool(*b)),
+        Core::Unit => Ok(Core::Unit),
+        Core::Var(name) => Ok(Core::Var(*name)),
+        Core::Lambda(params, body, ty) => {
+            let params = copy_names(alloc, params)?;
+            let body = boxed(alloc, copy_term(alloc, body)?)?;
+            Ok(Core::Lambda(params, body, *ty))
+        }
+        Core::Group(members, body) => {
+            let members = copy_members(alloc, members)?;
+            let body = boxed(alloc, copy_term(alloc, body)?)?;
+            Ok(Core::Group(members, body))
+        }
+        Core::Let(bindings, body) => {
+            let bindings = copy_bindings(alloc, bindings)?;
+            let body = boxed(alloc, copy_term(alloc, body)?)?;
+            Ok(Core::Let(bindings, body))
+        }
+        Core::Call(function, arguments) => {
+            let function = boxed(alloc, copy_term(alloc, function)?)?;
+            let arguments = copy_terms(alloc, arguments)?;
+            Ok(Core::Call(function, arguments))
+        }
+        Core::Enter(function, arguments) => {
+            let function = boxed(alloc, copy_term(alloc, function)?)?;
+            let arguments = copy_terms(alloc, arguments)?;
+            Ok(Core::Enter(function, arguments))
+        }
+        Core::If(condition, on_true, on_false) => {
+            let condition = boxed(alloc, copy_term(alloc, condition)?)?;
+            let on_true = boxed(alloc, copy_term(alloc, on_true)?)?;
+            let on_false = boxed(alloc, copy_term(alloc, on_false)?)?;
+            Ok(Core::If(condition, on_true, on_false))
+        }
+        Core::Seq(terms) => {
+            let terms = copy_terms(alloc, terms)?;
+            Ok(Core::Seq(terms))
+        }
+        Core::Cast(term, from, to, label) => {
+            let term = boxed(alloc, copy_term(alloc, term)?)?;
+            Ok(Core::Cast(term, *from, *to, *label))
+        }
+        Core::Proj(term, k) => {
+            let term = boxed(alloc, copy_term(alloc, term)?)?;
+            Ok(Core::Proj(term, *k))
+        }
+        Core::ProjDyn(term, k, label) => {
+            let term = boxed(alloc, copy_term(alloc, term)?)?;
+            Ok(Core::ProjDyn(term, *k, *label))
+        }
+        Core::Tuple(parts) => {
+            let parts = copy_terms(alloc, parts)?;
+            Ok(Core::Tuple(parts))
+        }
+        Core::Prim(operator, operands) => {
+            let operands = copy_terms(alloc, operands)?;
+            Ok(Core::Prim(*operator, operands))
+        }
+        Core::Value(v) => {
+            let v = copy_value(alloc, v)?;
+            Ok(Core::Value(v))
+        }
+    }
+}
+
+/// The same terms again.
+#[cycle(copies)]
+pub fn copy_terms(alloc: Global, terms: &CoreList) -> Result<CoreList, OutOfMemory>
+    ensures { IfOk result (λ copy. terms_of copy ≡ terms_of terms.now) }
+{
+    let mut done = CoreList::Nil;
+    let mut left = terms;
+    while let CoreList::Cons(first, rest) = left {
+        let term = copy_term(alloc, first)?;
+        done = term_then(alloc, term, done)?;
+        left = rest;
+    }
+    Ok(terms_onto(done, CoreList::Nil))
+}
+
+/// The same functions of a group again.
+#[cycle(copies)]
+pub fn copy_members(alloc: Global, members: &GroupMembers) -> Result<GroupMembers, OutOfMemory>
+    ensures { IfOk result (λ copy. members_of copy ≡ members_of members.now) }
+{
+    let mut done = GroupMembers::Nil;
+    let mut left = members;
+    while let GroupMembers::Cons(first, rest) = left {
+        let params = copy_names(alloc, &first.params)?;
+        let body = copy_term(alloc, &first.body)?;
+        let member = GroupMember {
+            name: first.name,
+            params,
+            body,
+            ty: first.ty,
+        };
+        done = member_then(alloc, member, done)?;
+        left = rest;
+    }
+    Ok(members_onto(done, GroupMembers::Nil))
+}
+
+/// The same bindings again.
+#[cycle(copies)]
+pub fn copy_bindings(alloc: Global, bindings: &CoreBindings) -> Result<CoreBindings, OutOfMemory>
+    ensures { IfOk result (λ copy. bindings_of copy ≡ bindings_of bindings.now) }
+{
+    let mut done = CoreBindings::Nil;
+    let mut left = bindings;
+    while let CoreBindings::Cons(first, rest) = left {
+        let value = copy_term(alloc, &first.value)?;
+        let binding = CoreBinding {
+            name: first.name,
+            value,
+        };
+        done = binding_then(alloc, binding, done)?;
+        left = rest;
+    }
+    Ok(bindings_onto(done, CoreBindings::Nil))
+}
+
+/// The same values again.
+#[cycle(copies)]
+pub fn copy_values(alloc: Global, values: &Values) -> Result<Values, OutOfMemory>
+    ensures { IfOk result (λ copy. values_of copy ≡ values_of values.now) }
+{
+    let mut done = Values::Nil;
+    let mut left = values;
+    while let Values::Cons(first, rest) = left {
+        let v = copy_value(alloc, first)?;
+        done = value_then(alloc, v, done)?;
+        left = rest;
+    }
+    Ok(values_onto(done, Values::Nil))
+}
+
+/// A copy of the value that a term is, if it is one.
+pub fn copy_as_value(alloc: Global, term: &Core) -> Result<Option<Value>, OutOfMemory>
+    ensures { IfOk result (λ o. option_map value_of o ≡ as_value (term_of term.now)) }
+{
+    match term {
+        Core::Int(n) => Ok(Some(Value::Int(*n))),
+        Core::Bool(b) => Ok(Some(Value::Bool(*b))),
+        Core::Unit => Ok(Some(Value::Unit)),
+        Core::Value(v) => {
+            let v = copy_value(alloc, v)?;
+            Ok(Some(v))
+        }
+        _ => Ok(None),
+    }
+}
