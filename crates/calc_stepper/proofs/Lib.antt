@@ -9,3 +9,4 @@ mod Hiding
 mod Filling
 mod Running
 mod Stepping
+pub mod Public

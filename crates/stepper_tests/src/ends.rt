@@ -2,7 +2,8 @@
 
 use crate::samples::{
     BOOL, DYN, DYN_TO_INT, F, INT, INT_TO_INT, P, PAIR, PAIR_OF_DYN, Q, REF_DYN, REF_INT, VECT_DYN,
-    VECT_INT, X, answer, boxed, call_f, cast, group_of_one, int, let_one, one, prim, ran, three, two,
+    VECT_INT, X, answer, boxed, call_f, cast, group_of_one, int, let_one, one, prim, ran, three,
+    two,
 };
 use core_calc::ends::Stepped;
 use core_calc::terms::{Core, CoreList, Value, VarIds};
@@ -34,7 +35,12 @@ fn sums(alloc: Global, rows: &mut Vec<Row>) -> Result<(), OutOfMemory> {
     push(rows, Core::Int(42), 0, int(42))?;
     push(rows, Core::Bool(true), 0, answer(AnswerKind::Bool, 1))?;
     push(rows, Core::Unit, 3, answer(AnswerKind::Unit, 0))?;
-    push(rows, Core::Value(Value::Loc(0, true)), 0, answer(AnswerKind::Vector, 0))?;
+    push(
+        rows,
+        Core::Value(Value::Loc(0, true)),
+        0,
+        answer(AnswerKind::Vector, 0),
+    )?;
     for (steps, wanted) in [(0, Stepped::More), (1, int(3))] {
         let sum = prim(alloc, PrimOp::Add, Core::Int(1), Core::Int(2))?;
         push(rows, sum, steps, wanted)?;
@@ -142,10 +148,7 @@ fn vectors(alloc: Global, rows: &mut Vec<Row>) -> Result<(), OutOfMemory> {
     let made = prim(alloc, PrimOp::MakeVector, Core::Int(-1), Core::Int(0))?;
     push(rows, made, 1, Stepped::Trap(Trap::Length))?;
     // The index is tested before the written value is cast.
-    for (index, wanted) in [
-        (0, Stepped::Blame(Q)),
-        (3, Stepped::Trap(Trap::Index)),
-    ] {
+    for (index, wanted) in [(0, Stepped::Blame(Q)), (3, Stepped::Trap(Trap::Index))] {
         let made = prim(alloc, PrimOp::MakeVector, Core::Int(3), Core::Int(1))?;
         let seen = cast(alloc, made, VECT_INT, VECT_DYN, Q)?;
         let written = sent(alloc, true, 0)?;

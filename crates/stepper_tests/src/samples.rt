@@ -62,12 +62,7 @@ fn sample_types(alloc: Global) -> Result<TypeTable, Fail> {
         let parameters = TypeIds::from_slice(alloc, &[parameter])?;
         put(&mut types, Row::Fun(parameters, INT))?;
     }
-    for row in [
-        Row::Ref(INT),
-        Row::Ref(DYN),
-        Row::Vect(INT),
-        Row::Vect(DYN),
-    ] {
+    for row in [Row::Ref(INT), Row::Ref(DYN), Row::Vect(INT), Row::Vect(DYN)] {
         put(&mut types, row)?;
     }
     for (first, second) in [(INT, BOOL), (DYN, DYN)] {
@@ -85,12 +80,7 @@ pub(crate) fn ran(alloc: Global, core: &Core, steps: u64) -> Result<Stepped, Fai
 }
 
 // What a run of a term prints in so many steps, with this input.
-pub(crate) fn printed(
-    alloc: Global,
-    core: &Core,
-    input: &[u8],
-    steps: u64,
-) -> Result<Bytes, Fail> {
+pub(crate) fn printed(alloc: Global, core: &Core, input: &[u8], steps: u64) -> Result<Bytes, Fail> {
     let types = sample_types(alloc)?;
     let mut state = start(alloc, core, Bytes::from_slice(alloc, input)?)?;
     run(alloc, &mut state, &types, steps)?;
@@ -177,10 +167,7 @@ pub(crate) fn group_of_one(
 
 // A call of F with one argument.
 pub(crate) fn call_f(alloc: Global, argument: Core) -> Result<Core, OutOfMemory> {
-    Ok(Core::Call(
-        boxed(alloc, Core::Var(F))?,
-        one(alloc, argument)?,
-    ))
+    Ok(Core::Call(boxed(alloc, Core::Var(F))?, one(alloc, argument)?))
 }
 
 // A function F that calls itself with less by one, down to 0, where it answers 7; its body is a call with n. It takes

@@ -1,6 +1,6 @@
 // Long runs, wide terms, and what runs print.
 
-use crate::samples::{counting, int, let_one, one, printed, ran, three, X};
+use crate::samples::{X, counting, int, let_one, one, printed, ran, three};
 use core_calc::ends::Stepped;
 use core_calc::terms::{Core, CoreList};
 use grift_base::operators::PrimOp;
