@@ -1,0 +1,9 @@
+pub mod CastLemmas
+pub mod Cuts
+pub mod Elaborated
+pub mod HexWritten
+pub mod Hexadecimal
+pub mod LineLemmas
+pub mod Public
+pub mod ReadSoFar
+pub mod Words

@@ -1,0 +1,4 @@
+pub mod Instructions
+pub mod CodeLines
+pub mod Readings
+pub mod CastLines

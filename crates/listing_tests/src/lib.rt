@@ -1,0 +1,12 @@
+//! Tests of listings and of the programs made from a number. They stand in a crate of their own, since the tests of a
+//! crate are proved with all of that crate once more.
+#![tactic(auto)]
+
+#[cfg(test)]
+mod casts;
+#[cfg(test)]
+mod codes;
+#[cfg(test)]
+mod programs;
+#[cfg(test)]
+mod readings;
