@@ -4,6 +4,8 @@
 #![tactic(auto)]
 
 #[cfg(test)]
+mod dyns;
+#[cfg(test)]
 mod labels;
 #[cfg(test)]
 mod laws;

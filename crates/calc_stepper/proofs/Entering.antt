@@ -8,7 +8,7 @@ use Rattle.core_calc.specs.Terms.{Term, Terms, Value, IntValue, BoolValue, UnitV
 use Rattle.core_calc.specs.Terms.{TupleValue, LocValue, WrapValue, InjectValue, NoTerms, TermThen, Cast, Enter}
 use Rattle.core_calc.specs.Terms.{ValueTerm, all_values, as_value}
 use Rattle.core_calc.specs.Substitution.{group_values}
-use Rattle.core_calc.specs.Outcome.{Store, Outcome, Goes, Stuck, if_some, with_some}
+use Rattle.core_calc.specs.Outcome.{Store, Goes, Stuck, if_some, with_some}
 use Rattle.core_calc.specs.Calls.{enter_step, enter_wrapped, cast_arguments}
 use Rattle.calc_stepper.specs.Entered.{entered}
 use Rattle.calc_stepper.specs.Moves.{after}

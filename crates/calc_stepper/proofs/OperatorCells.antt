@@ -11,7 +11,7 @@ use Rattle.grift_base.specs.declared.verdicts.Trap.TheVariants.{Index}
 use Rattle.grift_base.specs.declared.operators.PrimOp.TheVariants.{VectorSet}
 use Rattle.core_calc.specs.Terms.{Term, Value, Prim, ValueTerm, IntValue, UnitValue, LocValue, WrapValue}
 use Rattle.core_calc.specs.Terms.{terms_from}
-use Rattle.core_calc.specs.Outcome.{Store, Outcome, Goes, Traps, Stuck, if_some, with_some}
+use Rattle.core_calc.specs.Outcome.{Store, Outcome, Goes, Traps, if_some, with_some}
 use Rattle.core_calc.specs.Operators.{cell_behind, with_element, cast_written, writes_cell, new_cell}
 use Rattle.core_calc.specs.Operators.{make_vector_step, vector_set_step}
 use Rattle.core_calc.proofs.Public.{same_some, some_is_not_none}

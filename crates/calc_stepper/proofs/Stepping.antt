@@ -16,13 +16,14 @@ use Rattle.core_calc.specs.Terms.{TupleValue, LocValue, WrapValue, InjectValue, 
 use Rattle.core_calc.specs.Terms.{Var, Lambda, Group, NoBindings, Let, Call, Enter, If, Seq, Cast, Proj}
 use Rattle.core_calc.specs.Terms.{ProjDyn, Tuple, Prim, ValueTerm, NoTerms, TermThen, BindingThen, as_value}
 use Rattle.core_calc.specs.Terms.{all_values, bound_values, values_from}
-use Rattle.core_calc.specs.Outcome.{Store, Outcome, Goes, Blames, Traps, Stuck, inside, if_some, with_some}
+use Rattle.core_calc.specs.Outcome.{Store, Outcome, Goes, Stuck, inside, if_some, with_some}
 use Rattle.core_calc.specs.Casts.{cast_step}
 use Rattle.core_calc.specs.Calls.{enter_step, proj_step, proj_dyn_step}
 use Rattle.core_calc.specs.Operators.{operator_step}
 use Rattle.core_calc.specs.Step.{step, step_terms, step_bindings, if_step, let_step}
 use Rattle.calc_stepper.specs.Moves.{After, after, after_inside}
-use Rattle.calc_stepper.specs.Redexes.{lambda_redex, group_redex, cast_redex, if_redex, let_redex, seq_redex, call_redex, enter_redex, proj_redex}
+use Rattle.calc_stepper.specs.Redexes.{lambda_redex, group_redex, cast_redex, if_redex, let_redex, seq_redex}
+use Rattle.calc_stepper.specs.Redexes.{call_redex, enter_redex, proj_redex}
 use Rattle.calc_stepper.specs.Redexes.{proj_dyn_redex, tuple_redex, prim_redex, waits_for_first, enters_now, is_redex}
 use Rattle.calc_stepper.specs.Values.{wrapper_in}
 use Rattle.calc_stepper.proofs.Inside.{after_of_inside, part_steps, redex_steps, passes, second_steps, both_step}
@@ -415,9 +416,11 @@ module _ (types : TypeRows) (store : Store) (world : WorldState) where
       IfOk r (λ moved. after_bindings types store world bindings ≡ d moved) →
       IfOk r (λ moved. after_step types store world whole ≡ after_inside (λ next. Let next body) (d moved))
   let_part whole redex bindings body r d e f g h =
-      in_part r (λ next. Let next body) (after_bindings types store world bindings) (after_step types store world whole) d
+      in_part r (λ next. Let next body) (after_bindings types store world bindings)
+      (after_step types store world whole) d
       (ap (after_step types store world) e
-      ∙ let_part_steps bindings body (after_bindings types store world bindings) (no_redex whole (Let bindings body) redex e f g) refl) h
+      ∙ let_part_steps bindings body (after_bindings types store world bindings) (no_redex whole
+      (Let bindings body) redex e f g) refl) h
 
   pub called_part : (whole : Term) (redex : Bool) (function : Term) (arguments : Terms) (r : Result Moved OutOfMemory)
       (d : Moved → After Term) → whole ≡ Call function arguments → redex ≡ is_redex whole → redex ≡ false →
@@ -425,11 +428,13 @@ module _ (types : TypeRows) (store : Store) (world : WorldState) where
       IfOk r (λ moved. after_step types store world function ≡ d moved) →
       IfOk r (λ moved. after_step types store world whole ≡ after_inside (λ next. Call next arguments) (d moved))
   called_part whole redex function arguments r d e f g v h =
-      in_part r (λ next. Call next arguments) (after_step types store world function) (after_step types store world whole) d
+      in_part r (λ next. Call next arguments) (after_step types store world function)
+      (after_step types store world whole) d
       (ap (after_step types store world) e
       ∙ called_steps function arguments (after_step types store world function) v refl) h
 
-  pub arguments_part : (whole : Term) (redex : Bool) (function : Term) (arguments : Terms) (r : Result Moved OutOfMemory)
+  pub arguments_part : (whole : Term) (redex : Bool) (function : Term) (arguments : Terms)
+      (r : Result Moved OutOfMemory)
       (d : Moved → After Terms) → whole ≡ Call function arguments → redex ≡ is_redex whole → redex ≡ false →
       is_some (as_value function) ≡ true →
       IfOk r (λ moved. after_terms types store world arguments ≡ d moved) →
@@ -437,7 +442,8 @@ module _ (types : TypeRows) (store : Store) (world : WorldState) where
   arguments_part whole redex function arguments r d e f g v h =
       in_part r (Call function) (after_terms types store world arguments) (after_step types store world whole) d
       (ap (after_step types store world) e
-      ∙ arguments_step function arguments (after_terms types store world arguments) v (no_redex whole (Call function arguments) redex e f g) refl) h
+      ∙ arguments_step function arguments (after_terms types store world arguments) v (no_redex whole
+      (Call function arguments) redex e f g) refl) h
 
   pub enter_part : (whole : Term) (redex : Bool) (function : Term) (arguments : Terms) (r : Result Moved OutOfMemory)
       (d : Moved → After Terms) → whole ≡ Enter function arguments → redex ≡ is_redex whole → redex ≡ false →
@@ -446,16 +452,19 @@ module _ (types : TypeRows) (store : Store) (world : WorldState) where
   enter_part whole redex function arguments r d e f g h =
       in_part r (Enter function) (after_terms types store world arguments) (after_step types store world whole) d
       (ap (after_step types store world) e
-      ∙ enter_part_steps function arguments (after_terms types store world arguments) (no_redex whole (Enter function arguments) redex e f g) refl) h
+      ∙ enter_part_steps function arguments (after_terms types store world arguments) (no_redex whole
+      (Enter function arguments) redex e f g) refl) h
 
   pub if_part : (whole : Term) (redex : Bool) (condition on_true on_false : Term) (r : Result Moved OutOfMemory)
       (d : Moved → After Term) → whole ≡ If condition on_true on_false → redex ≡ is_redex whole → redex ≡ false →
       IfOk r (λ moved. after_step types store world condition ≡ d moved) →
       IfOk r (λ moved. after_step types store world whole ≡ after_inside (λ next. If next on_true on_false) (d moved))
   if_part whole redex condition on_true on_false r d e f g h =
-      in_part r (λ next. If next on_true on_false) (after_step types store world condition) (after_step types store world whole) d
+      in_part r (λ next. If next on_true on_false) (after_step types store world condition)
+      (after_step types store world whole) d
       (ap (after_step types store world) e
-      ∙ if_part_steps condition on_true on_false (after_step types store world condition) (no_redex whole (If condition on_true on_false) redex e f g) refl) h
+      ∙ if_part_steps condition on_true on_false (after_step types store world condition) (no_redex whole
+      (If condition on_true on_false) redex e f g) refl) h
 
   pub seq_part : (whole : Term) (redex : Bool) (terms : Terms) (r : Result Moved OutOfMemory)
       (d : Moved → After Terms) → whole ≡ Seq terms → redex ≡ is_redex whole → redex ≡ false →
@@ -471,9 +480,11 @@ module _ (types : TypeRows) (store : Store) (world : WorldState) where
       IfOk r (λ moved. after_step types store world term ≡ d moved) →
       IfOk r (λ moved. after_step types store world whole ≡ after_inside (λ next. Cast next from to label) (d moved))
   cast_part whole redex term from to label r d e f g h =
-      in_part r (λ next. Cast next from to label) (after_step types store world term) (after_step types store world whole) d
+      in_part r (λ next. Cast next from to label) (after_step types store world term)
+      (after_step types store world whole) d
       (ap (after_step types store world) e
-      ∙ cast_part_steps term from to label (after_step types store world term) (no_redex whole (Cast term from to label) redex e f g) refl) h
+      ∙ cast_part_steps term from to label (after_step types store world term) (no_redex whole
+      (Cast term from to label) redex e f g) refl) h
 
   pub proj_part : (whole : Term) (redex : Bool) (term : Term) (k : ℤ) (r : Result Moved OutOfMemory)
       (d : Moved → After Term) → whole ≡ Proj term k → redex ≡ is_redex whole → redex ≡ false →
@@ -489,9 +500,11 @@ module _ (types : TypeRows) (store : Store) (world : WorldState) where
       IfOk r (λ moved. after_step types store world term ≡ d moved) →
       IfOk r (λ moved. after_step types store world whole ≡ after_inside (λ next. ProjDyn next k label) (d moved))
   proj_dyn_part whole redex term k label r d e f g h =
-      in_part r (λ next. ProjDyn next k label) (after_step types store world term) (after_step types store world whole) d
+      in_part r (λ next. ProjDyn next k label) (after_step types store world term)
+      (after_step types store world whole) d
       (ap (after_step types store world) e
-      ∙ proj_dyn_part_steps term k label (after_step types store world term) (no_redex whole (ProjDyn term k label) redex e f g) refl) h
+      ∙ proj_dyn_part_steps term k label (after_step types store world term) (no_redex whole
+      (ProjDyn term k label) redex e f g) refl) h
 
   pub tuple_part : (whole : Term) (redex : Bool) (parts : Terms) (r : Result Moved OutOfMemory)
       (d : Moved → After Terms) → whole ≡ Tuple parts → redex ≡ is_redex whole → redex ≡ false →
@@ -509,7 +522,8 @@ module _ (types : TypeRows) (store : Store) (world : WorldState) where
   prim_part whole redex operator operands r d e f g h =
       in_part r (Prim operator) (after_terms types store world operands) (after_step types store world whole) d
       (ap (after_step types store world) e
-      ∙ prim_part_steps operator operands (after_terms types store world operands) (no_redex whole (Prim operator operands) redex e f g) refl) h
+      ∙ prim_part_steps operator operands (after_terms types store world operands) (no_redex whole
+      (Prim operator operands) redex e f g) refl) h
 
   -- ---- what a call answers of the redex
 

@@ -9,7 +9,7 @@ use Rattle.core_calc.specs.Terms.{Term, Terms, Let, Bindings, Members, Value, Va
 use Rattle.core_calc.specs.Terms.{BindingThen, NoMembers, MemberThen, ValueThen, ValueTerm, TupleValue, as_value}
 use Rattle.core_calc.specs.Terms.{all_values, bound_values, both_in_front, values_from, binding_names, member_list}
 use Rattle.core_calc.specs.Substitution.{Substitution, bind, substitute}
-use Rattle.core_calc.specs.Outcome.{Store, Outcome, Goes, Stuck, if_some, with_some}
+use Rattle.core_calc.specs.Outcome.{Store, Goes, Stuck, if_some, with_some}
 use Rattle.core_calc.specs.Step.{let_step}
 use Rattle.core_calc.specs.Calls.{enter_body, enter_member}
 use Rattle.calc_stepper.specs.Taken.{as_many, entry_then, taken_bindings, taken_arguments}
@@ -45,7 +45,8 @@ tuple_of : (store : Store) (world : WorldState) (values : Option (List Value)) (
     option_map values_from values ≡ Some taken →
     with_some values (λ vs. Goes (ValueTerm (TupleValue (values_from vs))) store world)
     ≡ Goes (ValueTerm (TupleValue taken)) store world
-tuple_of store world (Some vs) taken e = ap (λ x. Goes (ValueTerm (TupleValue x)) store world) (same_some (values_from vs) taken e)
+tuple_of store world (Some vs) taken e = ap (λ x. Goes (ValueTerm (TupleValue x)) store world) (same_some
+    (values_from vs) taken e)
 tuple_of store world None taken e = absurd (none_is_some taken e)
 
 pub tuple_taken : (store : Store) (world : WorldState) (terms : Terms) → is_some (all_values terms) ≡ true →

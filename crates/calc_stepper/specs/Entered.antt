@@ -1,6 +1,6 @@
 -- The body of a function that is entered.
 use Rattle.std.specs.Prelude.{ℕ, ◌++◌, cond, List, [], Option, Some, None, slice_get}
-use Rattle.core_calc.specs.Terms.{Term, Terms, Members, Member, Value, FunValue, MemberValue, member_list}
+use Rattle.core_calc.specs.Terms.{Term, Terms, Member, Value, FunValue, MemberValue, member_list}
 use Rattle.core_calc.specs.Substitution.{Substitution, substitute, group_values}
 use Rattle.calc_stepper.specs.Taken.{as_many, taken_arguments}
 

@@ -1,6 +1,6 @@
 -- The places of a term at which names stand, in order, and what is put into them. A hole holds the value that is put in
 -- the place of its name, or none, where the name stays.
-use Rattle.std.specs.Prelude.{List, [], ◌∷◌, ◌++◌, Option, Some, None, map, option_map, reverse}
+use Rattle.std.specs.Prelude.{List, [], ◌∷◌, ◌++◌, Option, None, map, option_map, reverse}
 use Rattle.core_calc.specs.Terms.{Term, Terms, Members, Bindings, Value, IntLit, BoolLit, UnitLit, Var, Lambda, Group}
 use Rattle.core_calc.specs.Terms.{Let, Call, Enter, If, Seq, Cast, Proj, ProjDyn, Tuple, Prim, ValueTerm, NoTerms}
 use Rattle.core_calc.specs.Terms.{TermThen, NoMembers, MemberThen, NoBindings, BindingThen, member_names}

@@ -1,5 +1,5 @@
 -- The step of a term whose evaluated parts are values, form by form. Of another term nothing is said.
-use Rattle.std.specs.Prelude.{ℕ, ℤ, List, Bool, true, false, not, ◌&&◌, ◌||◌, is_some, Option, Some, None}
+use Rattle.std.specs.Prelude.{ℕ, ℤ, Bool, true, false, not, ◌&&◌, ◌||◌, is_some, Option, Some, None}
 use Rattle.grift_base.specs.World.{WorldState}
 use Rattle.grift_base.specs.Types.{TypeRows}
 use Rattle.core_calc.specs.Terms.{Term, Terms, Value, Lambda, Group, Let, Call, Seq, NoTerms, TermThen, FunValue}

@@ -254,8 +254,8 @@ fn wrapped_casts(
     Ok(Some((casts, *answer, *wanted)))
 }
 
-// The body of a function with arguments in the place of its parameters, and with the functions of its group in the place
-// of their names. None where it is no function of so many parameters; then nothing has changed.
+// The body of a function with arguments in the place of its parameters, and with the functions of its group in the
+// place of their names. None where it is no function of so many parameters; then nothing has changed.
 fn entered(
     alloc: Global,
     function: &mut Core,

@@ -105,7 +105,8 @@ pub fn wrapper_of(term: &Core) -> Option<Wrapper>
 
 /// Takes a wrapper off the value that a term is. A term without one stays, and says so.
 pub fn unwrap_value(term: &mut Core) -> bool
-    ensures done { IsTrue result → option_map ValueTerm (wrapped_of (as_value (term_of term.old))) ≡ Some (term_of term.new) }
+    ensures done { IsTrue result
+        → option_map ValueTerm (wrapped_of (as_value (term_of term.old))) ≡ Some (term_of term.new) }
     ensures stays { IsFalse result → wrapped_of (as_value (term_of term.old)) ≡ None }
     ensures same { IsFalse result → term_of term.new ≡ term_of term.old }
 {

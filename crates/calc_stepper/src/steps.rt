@@ -279,8 +279,8 @@ fn step_bindings(
         after (step_bindings types.now (store_of store.old) world.old (bindings_of bindings.old))
         (bindings_of bindings.old) (store_of store.old) world.old
         ≡ record { moved = moved; item = bindings_of bindings.new; store = store_of store.new; world = world.new }) }
-    ensures stays { OnErr result ((bindings_of bindings.new ≡ bindings_of bindings.old) × (store_of store.new ≡ store_of store.old)
-        × (world.new ≡ world.old)) }
+    ensures stays { OnErr result ((bindings_of bindings.new ≡ bindings_of bindings.old)
+        × (store_of store.new ≡ store_of store.old) × (world.new ≡ world.old)) }
 {
     let mut done = CoreBindings::Nil;
     let mut left = mem::replace(bindings, CoreBindings::Nil);

@@ -1,9 +1,9 @@
 // Values put in the place of names, in place: all copies are made first, so that nothing has changed where memory runs
 // out.
 
-ghost use Rattle.std.specs.Prelude.{◌≡◌, ◌==◌, ◌++◌, ◌∷◌, [], IfOk, MatchOption, OnErr, OnOk, Option, IsTrue, map};
+ghost use Rattle.std.specs.Prelude.{◌≡◌, ◌==◌, ◌++◌, ◌∷◌, [], IfOk, MatchOption, OnErr, OnOk, IsTrue};
 ghost use Rattle.std.specs.Prelude.{ℕ, option_map, not, false};
-ghost use Rattle.core_calc.specs.Terms.{Members, MemberValue, NoMembers, Value as CalcValue, binding_names, member_names};
+ghost use Rattle.core_calc.specs.Terms.{Members, NoMembers, binding_names, member_names};
 ghost use Rattle.core_calc.specs.Substitution.{entry_of, without, is_among, group_values, members_from, substitute};
 ghost use Rattle.core_calc.specs.Views.{bindings_of, members_of, names_of, term_of, terms_of, value_of};
 ghost use Rattle.calc_stepper.specs.Entries.{entries_of, with_group};

@@ -398,13 +398,18 @@ fn limits_of_a_run(rt: HostRuntime) -> Result<(), NoMemory> {
     let region: &[&str] = &["run", "a", "--region", "24"];
     let little: &[&str] = &["run", "a", "--region", "16"];
     let short: &[&str] = &["run", "a", "--region", "64"];
+    let none: &[&str] = &["run", "a", "--region", "0"];
+    let wide = b"(let ([d : Dyn 1152921504606846976]) d)";
     let loops = b"(letrec ([f (lambda ([x : Int]) : Int (f x))]) (f 0))";
     let deep = b"(letrec ([f (lambda ([x : Int]) : Int (+ 1 (f x)))]) (f 0))";
     let calls = b"(letrec ([f (lambda ([n : Int]) : Int (if (= n 0) 7 (g (- n 1))))]\n\
                   [g (lambda ([n : Int]) : Int (f n))]) (f 1000000))";
     let tails = b"(letrec ([f (lambda ([n : Int]) : Bool\n\
                   (if (= n 0) #t (and #t (or #f (let ([m (- n 1)]) (begin 1 (f m)))))))]) (f 100000))";
-    let rows: [(&[&str], &[u8], u8, &[u8]); 8] = [
+    let rows: [(&[&str], &[u8], u8, &[u8]); 11] = [
+        (none, b"(let ([d : Dyn 5]) d)", 0, b"answer 5\n"),
+        (none, wide, 5, b"exhausted region\n"),
+        (region, wide, 0, b"answer 1152921504606846976\n"),
         (stack, tails, 0, b"answer #t\n"),
         (short, b"(make-vector 100 0)", 5, b"exhausted region\n"),
         (steps, loops, 7, b"spent steps\n"),

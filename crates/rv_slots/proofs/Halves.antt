@@ -1,4 +1,4 @@
--- A word below 2^31 in absolute value is put into a register by two instructions.
+-- A word that is a number from -2^31 to 2^31 - 1 is put into a register by two instructions.
 use Rattle.std.proofs.Common.{ℕ, ◌+◌, ◌-◌, ◌*◌, ◌%◌, ◌^◌, ◌<◌, ◌≤◌, ◌≡◌, Bool, true, false, refl, sym}
 use Rattle.std.proofs.Common.{◌∙◌, ap, arith, subst}
 use Rattle.std.specs.Prelude.{nat_lt, if◌then◌else◌, pos, negsuc}

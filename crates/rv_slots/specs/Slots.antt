@@ -36,7 +36,7 @@ op_inst Sra rd a b = SraInst rd a b
 op_inst Slt rd a b = SltInst rd a b
 op_inst Sltu rd a b = SltuInst rd a b
 
--- that with a small number
+-- that with a small number; a difference and a signed comparison are never asked for with one
 abbrev pub op_with : WordOp → ℕ → ℕ → ℕ → Inst
 op_with Add rd a n = Addi rd a (pos n)
 op_with Sub rd a n = Addi rd a (pos n)
@@ -67,7 +67,7 @@ abbrev pub chunk_items : ℕ → ℕ → ℕ → List RealItem
 chunk_items rd word zero = []
 chunk_items rd word (suc k) = Op (Slli rd rd 11) ∷ Op (Addi rd rd (pos (chunk_of word k))) ∷ chunk_items rd word k
 
--- whether a word is a number below 2^31 in absolute value
+-- whether a word is a number from -2^31 to 2^31 - 1
 abbrev pub is_half : ℕ → Bool
 is_half word = nat_lt word (2 ^ 31) || nat_le (2 ^ 64 - 2 ^ 31) word
 
@@ -78,7 +78,7 @@ upper_of word = (word + 2048) / 4096 % 2 ^ 20
 abbrev pub lower_of : ℕ → ℤ
 lower_of word = if nat_lt (word % 4096) 2048 then pos (word % 4096) else negsuc (4095 - word % 4096)
 
--- a word that doesn't stand in one instruction is put into a register
+-- a word that isn't below 2048 is put into a register
 abbrev pub long_items : ℕ → ℕ → List RealItem
 long_items rd word =
     if is_half word then Op (Lui rd (upper_of word)) ∷ Op (Addiw rd rd (lower_of word)) ∷ []

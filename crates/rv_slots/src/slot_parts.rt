@@ -85,7 +85,7 @@ fn put_chunk(items: &mut RealItems, rd: Reg, chunk: Imm12) -> Result<(), OutOfMe
     put(items, Inst::Addi(rd, rd, chunk))
 }
 
-// Whether a word is a number below 2^31 in absolute value.
+// Whether a word is a number from -2^31 to 2^31 - 1.
 fn is_half(word: u64) -> bool
     ensures { result ≡ is_half word }
 {
@@ -126,7 +126,7 @@ fn put_chunks(items: &mut RealItems, rd: Reg, word: u64) -> Result<(), OutOfMemo
     Ok(())
 }
 
-// Adds what puts a word into a register, where it doesn't stand in one instruction.
+// Adds what puts a word into a register, where it isn't below 2048.
 fn put_long(items: &mut RealItems, rd: Reg, word: u64) -> Result<(), OutOfMemory>
     ensures { OnOk result (items.new ≡ items.old ++ long_items rd word) }
 {

@@ -1,4 +1,4 @@
-use Rattle.std.proofs.Common.{◌≡◌, ◌∙◌, ap, sym}
+use Rattle.std.proofs.Common.{◌∙◌, ap, sym}
 use Rattle.core_calc.specs.Substitution.{substitute}
 use Rattle.core_calc.specs.Terms.{NoMembers}
 use Rattle.core_calc.specs.Views.{bindings_of, term_of}

@@ -6,7 +6,8 @@ use Rattle.calc_stepper.proofs.runs.run.Goals.{then-loop-left-test+else-is_none,
 
 pub loop-left-preserved : goal.loop-left-preserved
 loop-left-preserved c =
-    let k : (c.loop-left.invariant.0 + 1) + (c.loop-left.left - 1) ≡ c.args.steps = omega (arith, c.loop-left.invariant.1) in (
+    let k : (c.loop-left.invariant.0 + 1) + (c.loop-left.left - 1)
+    ≡ c.args.steps = omega (arith, c.loop-left.invariant.1) in (
       c.loop-left.invariant.0 + 1,
       k,
       λ labels.

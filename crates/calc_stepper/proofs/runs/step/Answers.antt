@@ -1,4 +1,4 @@
-use Rattle.std.proofs.Common.{◌≡◌, ap}
+use Rattle.std.proofs.Common.{ap}
 use Rattle.std.specs.Prelude.{option_map}
 use Rattle.core_calc.specs.States.{end_of, store_of}
 use Rattle.core_calc.specs.Views.{term_of}

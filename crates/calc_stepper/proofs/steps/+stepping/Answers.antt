@@ -1,4 +1,4 @@
-use Rattle.std.proofs.Common.{◌≡◌, ◌∙◌, refl, ap, sym, rules}
+use Rattle.std.proofs.Common.{◌∙◌, ap, sym, rules}
 use Rattle.std.specs.Prelude.{is_some}
 use Rattle.core_calc.specs.States.{store_of}
 use Rattle.core_calc.specs.Terms.{BindingThen, Call, Cast, If, Proj, ProjDyn, TermThen, as_value}
@@ -6,7 +6,6 @@ use Rattle.core_calc.specs.Views.{bindings_of, term_of, terms_of}
 use Rattle.core_calc.specs.declared.terms.CoreBinding.{out-CoreBinding}
 use Rattle.core_calc.specs.declared.terms.CoreBindings.{the_lemmas as bindings_lemmas}
 use Rattle.core_calc.specs.declared.terms.CoreList.{the_lemmas as terms_lemmas}
-use Rattle.calc_stepper.specs.Lists.{bindings_onto, terms_onto}
 use Rattle.calc_stepper.proofs.Stepping.{arguments_part, called_part, cast_part, enter_part, if_part, let_part}
 use Rattle.calc_stepper.proofs.Stepping.{prim_part, proj_dyn_part, proj_part, seq_part, tuple_part}
 use Rattle.calc_stepper.proofs.Stepping.{bindings_arrive, bindings_end, bindings_pass, terms_arrive, terms_end}
@@ -50,7 +49,8 @@ step_term-returns-else-is_value-clause-moves t c =
       world = c.step_term.new.world;
     })
     (ap term_of c.in-Call.is
-    ∙ ap (λ x. Call (term_of x) (terms_of c.in-Call.arguments)) (sym c.deref_mut.ensures.value)) c.is_redex.ensures c.if-is_redex.false
+    ∙ ap (λ x. Call (term_of x) (terms_of c.in-Call.arguments))
+    (sym c.deref_mut.ensures.value)) c.is_redex.ensures c.if-is_redex.false
     (ap (λ x. is_some (as_value (term_of x))) (c.deref_mut.ensures.value ∙ sym c.deref.ensures)
     ∙ sym c.is_value.ensures ∙ c.if-is_value.false)
     c.step_term.ensures.moves
@@ -120,7 +120,8 @@ step_term-returns-in-Proj-clause-moves t c =
       world = c.step_term-in-Proj.new.world;
     })
     (ap term_of c.in-Proj.is
-    ∙ ap (λ x. Proj (term_of x) c.in-Proj.field-1) (sym c.deref_mut-in-Proj.ensures.value)) c.is_redex.ensures c.if-is_redex.false c.step_term-in-Proj.ensures.moves
+    ∙ ap (λ x. Proj (term_of x) c.in-Proj.field-1) (sym c.deref_mut-in-Proj.ensures.value)) c.is_redex.ensures
+    c.if-is_redex.false c.step_term-in-Proj.ensures.moves
 
 pub step_term-returns-in-ProjDyn-clause-moves : goal.step_term-returns-in-ProjDyn-clause-moves
 step_term-returns-in-ProjDyn-clause-moves t c =
@@ -135,7 +136,8 @@ step_term-returns-in-ProjDyn-clause-moves t c =
     })
     (ap term_of c.in-ProjDyn.is
     ∙ ap (λ x. ProjDyn (term_of x) c.in-ProjDyn.field-1 c.in-ProjDyn.field-2.0)
-    (sym c.deref_mut-in-ProjDyn.ensures.value)) c.is_redex.ensures c.if-is_redex.false c.step_term-in-ProjDyn.ensures.moves
+    (sym c.deref_mut-in-ProjDyn.ensures.value)) c.is_redex.ensures c.if-is_redex.false
+    c.step_term-in-ProjDyn.ensures.moves
 
 pub step_term-returns-in-Tuple-clause-moves : goal.step_term-returns-in-Tuple-clause-moves
 step_term-returns-in-Tuple-clause-moves t c =

@@ -1,4 +1,4 @@
-use Rattle.std.proofs.Common.{◌≡◌, ◌∙◌, refl, ap}
+use Rattle.std.proofs.Common.{◌∙◌, refl, ap}
 use Rattle.core_calc.specs.States.{store_of}
 use Rattle.core_calc.specs.Views.{term_of}
 use Rattle.calc_stepper.specs.Redexes.{call_redex, cast_redex, enter_redex, group_redex, if_redex, lambda_redex}
@@ -57,7 +57,8 @@ returns-in-Proj-clause-moves c =
 pub returns-in-ProjDyn-clause-moves : goal.returns-in-ProjDyn-clause-moves
 returns-in-ProjDyn-clause-moves c =
     answers_here c.args.types.now (store_of c.args.store.now) c.args.world.now (term_of c.args.term.now) _
-    (term_of c.proj_dyn_redex.new.term) (proj_dyn_redex c.args.types.now) c.proj_dyn_redex.result (ap term_of c.in-ProjDyn.is) refl
+    (term_of c.proj_dyn_redex.new.term) (proj_dyn_redex c.args.types.now) c.proj_dyn_redex.result
+    (ap term_of c.in-ProjDyn.is) refl
     c.requires c.proj_dyn_redex.ensures.moves
 
 pub returns-in-If-clause-moves : goal.returns-in-If-clause-moves

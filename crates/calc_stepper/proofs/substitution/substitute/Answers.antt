@@ -1,4 +1,4 @@
-use Rattle.std.proofs.Common.{◌≡◌, ◌∙◌, ap, sym}
+use Rattle.std.proofs.Common.{◌∙◌, ap}
 use Rattle.core_calc.specs.Views.{members_of, term_of}
 use Rattle.calc_stepper.specs.Entries.{with_group}
 use Rattle.calc_stepper.specs.Holes.{filled, found_in, holes_of, stack_of}
