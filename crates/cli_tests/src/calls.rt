@@ -431,6 +431,46 @@ fn limits_of_a_run(rt: HostRuntime) -> Result<(), NoMemory> {
     Ok(())
 }
 
+// The calculus itself, for so many steps at most.
+#[test]
+fn models(rt: HostRuntime) -> Result<(), NoMemory> {
+    let none: &[&str] = &["model", "a", "--steps", "0"];
+    let one: &[&str] = &["model", "a", "--steps", "1"];
+    let many: &[&str] = &["model", "a", "--steps", "1000"];
+    let prints = b"(begin (print-int 4) (newline) (%/ 1 0))";
+    let handed: &[u8] = b"(define (f [g : (Int -> Int)]) : Int (g 1))\n(f (lambda (x) (: #t Dyn)))";
+    let rows: [(&[&str], &[u8], u8, &[u8], &[u8]); 9] = [
+        (none, b"(+ 1 2)", 7, b"", b"spent steps\n"),
+        (one, b"(+ 1 2)", 0, b"", b"answer 3\n"),
+        (none, b"42", 0, b"", b"answer 42\n"),
+        (many, b"(: (: #t Dyn) Int)", 3, b"", b"blame 1:1\n"),
+        (many, handed, 3, b"", b"blame 2:4\n"),
+        (many, prints, 4, b"4\n", b"trap zero-divisor\n"),
+        (
+            many,
+            b"(letrec ([f (lambda ([x : Int]) : Int (f x))]) (f 0))",
+            7,
+            b"",
+            b"spent steps\n",
+        ),
+        (many, b"(read-int)", 4, b"", b"trap input\n"),
+        (many, b"(", 1, b"", b"refused unclosed 1:1\n"),
+    ];
+    for (words, file, status, output, line) in rows {
+        let case = call_of(words, file);
+        assert!(rt;
+            comes_to(rt.alloc(), &case, status, output, line)?,
+            "{file:?}"
+        );
+    }
+    let case = Case {
+        out_fails: &[0],
+        ..call_of(many, prints)
+    };
+    assert!(rt; comes_to(rt.alloc(), &case, 9, b"", b"put failed\n")?);
+    Ok(())
+}
+
 // So many copies of what stands between two numbers, told the number of each.
 fn numbered(
     alloc: Global,

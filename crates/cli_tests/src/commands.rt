@@ -61,9 +61,18 @@ const fn input_exec(
     })
 }
 
+// A model of the file `a` with an input.
+const fn a_model(steps: u64, input: Option<&'static str>) -> Option<Command<'static>> {
+    Some(Command::Model {
+        file: "a",
+        steps,
+        input,
+    })
+}
+
 #[test]
 fn words_and_commands(rt: HostRuntime) -> Result<(), NoMemory> {
-    let rows: [(&[&str], Option<Command>); 47] = [
+    let rows: [(&[&str], Option<Command>); 56] = [
         (&["run", "a"], a_run(16777216, 1048576, 100000000)),
         (&["exec", "a"], an_exec(16777216, 1048576, 100000000)),
         (
@@ -142,6 +151,18 @@ fn words_and_commands(rt: HostRuntime) -> Result<(), NoMemory> {
         (&["check", "a", "--steps", "5"], None),
         (&["check"], None),
         (&["casts", "a"], None),
+        (&["model", "a", "--steps", "0"], a_model(0, None)),
+        (
+            &["model", "a", "--steps", "10000000", "--input", "b"],
+            a_model(10000000, Some("b")),
+        ),
+        (&["model", "a", "--steps", "10000001"], None),
+        (&["model", "a", "--steps", "5", "--image", "b"], None),
+        (&["model", "a", "--input", "b", "--steps", "5"], None),
+        (&["model", "a", "--steps", "5", "--input"], None),
+        (&["model", "a", "--steps"], None),
+        (&["model", "a"], None),
+        (&["model", "", "--steps", "5"], None),
         (&["run"], None),
         (&[], None),
     ];

@@ -21,6 +21,8 @@ const RUN: &[&str] = &["run", "a", "--input", "b"];
 
 const RUN_ALONE: &[&str] = &["run", "a"];
 
+const MODEL: &[&str] = &["model", "a", "--steps", "1000", "--input", "b"];
+
 const EXEC: &[&str] = &["exec", "a", "--input", "b"];
 
 const EXEC_ALONE: &[&str] = &["exec", "a"];
@@ -142,6 +144,14 @@ fn numbers_are_read(rt: HostRuntime) -> Result<(), NoMemory> {
             comes_to(rt.alloc(), &case, status, output, line)?,
             "{file:?}"
         );
+        let model = Case {
+            words: MODEL,
+            ..case
+        };
+        assert!(rt;
+            comes_to(rt.alloc(), &model, status, output, line)?,
+            "{file:?}"
+        );
     }
     Ok(())
 }
@@ -164,7 +174,11 @@ fn files_of_input(rt: HostRuntime) -> Result<(), NoMemory> {
         ..two
     };
     let faulty = run_on(b"(", b"5");
-    let rows: [(Case, &[u64], u8, &[u8], u64); 8] = [
+    let model = Case {
+        words: MODEL,
+        ..faulty
+    };
+    let rows: [(Case, &[u64], u8, &[u8], u64); 10] = [
         (alone, &[], 4, b"trap input\n", 1),
         (alone, &[1], 4, b"trap input\n", 1),
         (two, &[0], 8, b"load failed\n", 1),
@@ -173,6 +187,8 @@ fn files_of_input(rt: HostRuntime) -> Result<(), NoMemory> {
         (short, &[], 7, b"spent steps\n", 2),
         (faulty, &[1], 8, b"load failed\n", 2),
         (faulty, &[], 1, b"refused unclosed 1:1\n", 2),
+        (model, &[1], 8, b"load failed\n", 2),
+        (model, &[], 1, b"refused unclosed 1:1\n", 2),
     ];
     for (case, fails, status, line, asked) in rows {
         let outcome = outcome_of(rt.alloc(), &Case { fails, ..case })?;

@@ -1,10 +1,10 @@
 -- Which words are which command.
-use Rattle.std.proofs.Common.{ℕ, ◌≡◌, List, [], ◌∷◌, ◌++◌, inl, inr, refl, sym, ap, subst, ◌∙◌, arith}
-use Rattle.std.specs.Prelude.{codes, ◌≢◌, Option, Some, None}
-use Rattle.grift_cli.specs.Commands.{AreNoCommand, Command, Check, Exec, IsCommand, IsCheck, IsExec, IsNameOption}
-use Rattle.grift_cli.specs.Commands.{IsRun, Run, Audit, IsAudit}
+use Rattle.std.proofs.Common.{ℕ, ◌≡◌, ◌⊎◌, List, [], ◌∷◌, ◌++◌, inl, inr, refl, sym, ap, subst, ◌∙◌, arith}
+use Rattle.std.specs.Prelude.{codes, sum, ◌≢◌, Option, Some, None}
+use Rattle.grift_cli.specs.Commands.{AreNoCommand, Command, Run, Exec, Check, Audit, Model, IsCommand, IsCheck, IsAudit}
+use Rattle.grift_cli.specs.Commands.{IsExec, IsModel, IsNameOption, IsRun, number_of}
 use Rattle.grift_cli.specs.declared.commands.Limits.{Limits}
-use Rattle.grift_cli.specs.ReadCommands.{BeginOtherwise, GivesImage, LimitsAtFront, NameAtFront}
+use Rattle.grift_cli.specs.ReadCommands.{BeginOtherwise, GivesImage, LimitsAtFront, NameAtFront, StepsAtFront}
 use Rattle.grift_cli.proofs.ReadingOptions.{name_alone, one_name, whole_name}
 use Rattle.grift_cli.proofs.ReadingLimits.{differ_at, limit_words, limits_front, named_begins, no_words_begin}
 use Rattle.grift_cli.proofs.ReadingLimits.{one_limits, NoLimitBegins}
@@ -177,27 +177,69 @@ one_image words a b p q = elim p [
     not_both : (words : List (List ℕ)) (x : List ℕ) (xs : List (List ℕ)) → words ≡ [] → words ≡ x ∷ xs → ⊥
     not_both words x xs e f = cc
 
-pub run_is_not_exec : codes "run" ≢ codes "exec"
-run_is_not_exec = differ_at 0 (codes "run") (codes "exec") (omega arith)
+-- ---- words of commands
 
--- the command is none of those that have a file alone
+-- the word of a command
+abbrev pub word_of : Command → List ℕ
+word_of (Run file limits input image) = codes "run"
+word_of (Exec file limits input) = codes "exec"
+word_of (Check file) = codes "check"
+word_of (Audit file) = codes "audit"
+word_of (Model file steps input) = codes "model"
+
+-- words that begin with this one, and have another behind it
+pub record BeginWith (command : List ℕ) (words : List (List ℕ)) : Type 0 where
+  pub second : List ℕ
+  pub rest : List (List ℕ)
+  pub words_are : words ≡ command ∷ second ∷ rest
+
+pub begin_with : (words : List (List ℕ)) (command : Command) → IsCommand words command
+    → BeginWith (word_of command) words
+begin_with words (Run file limits input image) a =
+    record { second = file; rest = a.limit_words ++ (a.input_words ++ a.image_words); words_are = a.words_are }
+begin_with words (Exec file limits input) a =
+    record { second = file; rest = a.limit_words ++ a.input_words; words_are = a.words_are }
+begin_with words (Check file) a = record { second = file; rest = []; words_are = a.words_are }
+begin_with words (Audit file) a = record { second = file; rest = []; words_are = a.words_are }
+begin_with words (Model file steps input) a =
+    record { second = file; rest = codes "--steps" ∷ a.steps_word ∷ a.input_words; words_are = a.words_are }
+
+-- the words of commands are told apart by the sums of their bytes
+pub other_word : (a b : List ℕ) → (sum a ≡ sum b → ⊥) → a ≡ b → ⊥
+other_word a b differ same = differ (ap sum same)
+
+-- words that begin with one word are no command with another
+pub other_command : (words : List (List ℕ)) (command : Command) (word : List ℕ) (file : List ℕ)
+    (options : List (List ℕ)) → words ≡ word ∷ file ∷ options → IsCommand words command
+    → (word ≡ word_of command → ⊥) → ⊥
+other_command words command word file options is a differ =
+    let b = begin_with words command a in
+    differ (same_words word (word_of command) file b.second options b.rest (sym is ∙ b.words_are)).first
+
+two_commands : (words : List (List ℕ)) (first second : Command) → IsCommand words first → IsCommand words second
+    → (word_of first ≡ word_of second → ⊥) → ⊥
+two_commands words first second a b differ =
+    let begins = begin_with words first a in
+    other_command words second (word_of first) begins.second begins.rest begins.words_are b differ
+
+pub run_is_not_exec : codes "run" ≢ codes "exec"
+run_is_not_exec = other_word (codes "run") (codes "exec") (λ e. omega arith)
+
+-- the word of a command that may have options
 abbrev pub MayHaveOptions : List ℕ → Type 0
-MayHaveOptions command = (command ≢ codes "check") × (command ≢ codes "audit")
+MayHaveOptions command = (command ≡ codes "run") ⊎ (command ≡ codes "exec")
 
 pub run_may_have_options : MayHaveOptions (codes "run")
-run_may_have_options = (
-  differ_at 0 (codes "run") (codes "check") (omega arith),
-  differ_at 0 (codes "run") (codes "audit") (omega arith),
-)
+run_may_have_options = inl refl
 
 pub exec_may_have_options : MayHaveOptions (codes "exec")
-exec_may_have_options = (
-  differ_at 0 (codes "exec") (codes "check") (omega arith),
-  differ_at 0 (codes "exec") (codes "audit") (omega arith),
-)
+exec_may_have_options = inr refl
 
-check_is_not_audit : codes "check" ≢ codes "audit"
-check_is_not_audit = differ_at 0 (codes "check") (codes "audit") (omega arith)
+-- it is no word of another command
+not_another : (command word : List ℕ) → MayHaveOptions command → (sum (codes "run") ≡ sum word → ⊥)
+    → (sum (codes "exec") ≡ sum word → ⊥) → command ≡ word → ⊥
+not_another command word (inl run) no_run no_exec is = other_word (codes "run") word no_run (sym run ∙ is)
+not_another command word (inr exec) no_run no_exec is = other_word (codes "exec") word no_exec (sym exec ∙ is)
 
 -- limits and an input that are read from the same words are the same, and so is what is left
 same_options : (options others after later rest left : List (List ℕ)) (limits found : Limits)
@@ -232,84 +274,66 @@ two_execs words file other limits left input entered a b =
     input entered same.others a.front b.front a.input_is b.input_is in
     λ k. Exec (same.second k) (o.0 k) (o.1 k)
 
-not_both_commands : (words : List (List ℕ)) (file other : List ℕ) (limits left : Limits)
-    (input image entered : Option (List ℕ)) → IsRun words file limits input image → IsExec words other left entered → ⊥
-not_both_commands words file other limits left input image entered a b =
-    run_is_not_exec (same_words (codes "run") (codes "exec") file other
-    (a.limit_words ++ (a.input_words ++ a.image_words)) (b.limit_words ++ b.input_words)
-    (sym a.words_are ∙ b.words_are)).first
-
-run_and_check : (words : List (List ℕ)) (file other : List ℕ) (limits : Limits) (input image : Option (List ℕ))
-    → IsRun words file limits input image → IsCheck words other → ⊥
-run_and_check words file other limits input image a b =
-    run_may_have_options.0 (same_words (codes "run") (codes "check") file other
-    (a.limit_words ++ (a.input_words ++ a.image_words)) [] (sym a.words_are ∙ b.words_are)).first
-
-exec_and_check : (words : List (List ℕ)) (file other : List ℕ) (limits : Limits) (input : Option (List ℕ))
-    → IsExec words file limits input → IsCheck words other → ⊥
-exec_and_check words file other limits input a b =
-    exec_may_have_options.0 (same_words (codes "exec") (codes "check") file other (a.limit_words ++ a.input_words) []
-    (sym a.words_are ∙ b.words_are)).first
-
 two_checks : (words : List (List ℕ)) (file other : List ℕ) → IsCheck words file → IsCheck words other
     → Check file ≡ Check other
 two_checks words file other a b =
     ap Check (same_words (codes "check") (codes "check") file other [] [] (sym a.words_are ∙ b.words_are)).second
-
-run_and_audit : (words : List (List ℕ)) (file other : List ℕ) (limits : Limits) (input image : Option (List ℕ))
-    → IsRun words file limits input image → IsAudit words other → ⊥
-run_and_audit words file other limits input image a b =
-    run_may_have_options.1 (same_words (codes "run") (codes "audit") file other
-    (a.limit_words ++ (a.input_words ++ a.image_words)) [] (sym a.words_are ∙ b.words_are)).first
-
-exec_and_audit : (words : List (List ℕ)) (file other : List ℕ) (limits : Limits) (input : Option (List ℕ))
-    → IsExec words file limits input → IsAudit words other → ⊥
-exec_and_audit words file other limits input a b =
-    exec_may_have_options.1 (same_words (codes "exec") (codes "audit") file other (a.limit_words ++ a.input_words) []
-    (sym a.words_are ∙ b.words_are)).first
-
-check_and_audit : (words : List (List ℕ)) (file other : List ℕ) → IsCheck words file → IsAudit words other → ⊥
-check_and_audit words file other a b =
-    check_is_not_audit (same_words (codes "check") (codes "audit") file other [] []
-    (sym a.words_are ∙ b.words_are)).first
 
 two_audits : (words : List (List ℕ)) (file other : List ℕ) → IsAudit words file → IsAudit words other
     → Audit file ≡ Audit other
 two_audits words file other a b =
     ap Audit (same_words (codes "audit") (codes "audit") file other [] [] (sym a.words_are ∙ b.words_are)).second
 
+-- the steps of a model, and what is left after them, are told by the words
+pub one_steps : (words : List (List ℕ)) (steps other : ℕ) (rest left : List (List ℕ)) → StepsAtFront words steps rest
+    → StepsAtFront words other left → (steps ≡ other) × (rest ≡ left)
+one_steps words steps other rest left a b =
+    let same = same_words (codes "--steps") (codes "--steps") a.word b.word rest left (sym a.words_are ∙ b.words_are) in
+    (a.number.value ∙ ap number_of same.second ∙ sym b.number.value, same.others)
+
+-- the options of a model begin with its steps
+pub model_steps : (words options : List (List ℕ)) (file other : List ℕ) (steps : ℕ) (input : Option (List ℕ))
+    → words ≡ codes "model" ∷ file ∷ options → (a : IsModel words other steps input)
+    → StepsAtFront options steps a.input_words
+model_steps words options file other steps input e a = record {
+  word = a.steps_word;
+  words_are = (same_words (codes "model") (codes "model") file other options
+      (codes "--steps" ∷ a.steps_word ∷ a.input_words) (sym e ∙ a.words_are)).others;
+  number = a.steps_are;
+  allowed = a.allowed;
+}
+
+two_models : (words : List (List ℕ)) (file other : List ℕ) (steps left : ℕ) (input entered : Option (List ℕ))
+    → IsModel words file steps input → IsModel words other left entered
+    → Model file steps input ≡ Model other left entered
+two_models words file other steps left input entered a b =
+    let options : List (List ℕ) = codes "--steps" ∷ b.steps_word ∷ b.input_words in
+    let same = same_words (codes "model") (codes "model") file other
+    (codes "--steps" ∷ a.steps_word ∷ a.input_words) options (sym a.words_are ∙ b.words_are) in
+    let s = one_steps options steps left a.input_words b.input_words
+    (model_steps words options other file steps input b.words_are a)
+    (model_steps words options other other left entered b.words_are b) in
+    let i = one_name (codes "--input") b.input_words input entered [] []
+    (whole_name (codes "--input") b.input_words input
+    (subst (λ (ws : List (List ℕ)). IsNameOption (codes "--input") ws input) s.1 a.input_is))
+    (whole_name (codes "--input") b.input_words entered b.input_is) in
+    λ k. Model (same.second k) (s.0 k) (i.0 k)
+
 pub one_command : (words : List (List ℕ)) (first second : Command) → IsCommand words first → IsCommand words second
     → first ≡ second
 one_command words (Run file limits input image) (Run other left entered name) a b =
     two_runs words file other limits left input entered image name (reads_run words file limits input image a)
     (reads_run words other left entered name b)
-one_command words (Run file limits input image) (Exec other left entered) a b =
-    absurd (not_both_commands words file other limits left input image entered a b)
-one_command words (Exec file limits input) (Run other left entered name) a b =
-    absurd (not_both_commands words other file left limits entered name input b a)
 one_command words (Exec file limits input) (Exec other left entered) a b =
     two_execs words file other limits left input entered (reads_exec words file limits input a)
     (reads_exec words other left entered b)
 one_command words (Check file) (Check other) a b = two_checks words file other a b
-one_command words (Run file limits input image) (Check other) a b =
-    absurd (run_and_check words file other limits input image a b)
-one_command words (Check file) (Run other limits input image) a b =
-    absurd (run_and_check words other file limits input image b a)
-one_command words (Exec file limits input) (Check other) a b =
-    absurd (exec_and_check words file other limits input a b)
-one_command words (Check file) (Exec other limits input) a b =
-    absurd (exec_and_check words other file limits input b a)
 one_command words (Audit file) (Audit other) a b = two_audits words file other a b
-one_command words (Run file limits input image) (Audit other) a b =
-    absurd (run_and_audit words file other limits input image a b)
-one_command words (Audit file) (Run other limits input image) a b =
-    absurd (run_and_audit words other file limits input image b a)
-one_command words (Exec file limits input) (Audit other) a b =
-    absurd (exec_and_audit words file other limits input a b)
-one_command words (Audit file) (Exec other limits input) a b =
-    absurd (exec_and_audit words other file limits input b a)
-one_command words (Check file) (Audit other) a b = absurd (check_and_audit words file other a b)
-one_command words (Audit file) (Check other) a b = absurd (check_and_audit words other file b a)
+one_command words (Model file steps input) (Model other left entered) a b =
+    two_models words file other steps left input entered a b
+one_command words first second a b =
+    absurd (two_commands words first second a b
+    (other_word (word_of first) (word_of second) (λ e. omega arith)))
 
 -- ---- what is no command
 
@@ -332,15 +356,12 @@ limits_of : (options others after : List (List ℕ)) (limits : Limits) → optio
     → LimitsAtFront options limits after → LimitsAtFront others limits after
 limits_of options others after limits e front = subst (λ (ws : List (List ℕ)). LimitsAtFront ws limits after) e front
 
-not_a_check : (words options : List (List ℕ)) (command file other : List ℕ) → words ≡ command ∷ file ∷ options
-    → command ≢ codes "check" → IsCheck words other → ⊥
-not_a_check words options command file other e differs a =
-    differs (same_words command (codes "check") file other options [] (sym e ∙ a.words_are)).first
-
-not_an_audit : (words options : List (List ℕ)) (command file other : List ℕ) → words ≡ command ∷ file ∷ options
-    → command ≢ codes "audit" → IsAudit words other → ⊥
-not_an_audit words options command file other e differs a =
-    differs (same_words command (codes "audit") file other options [] (sym e ∙ a.words_are)).first
+-- what may have limits is no command with another word
+no_options : (words options : List (List ℕ)) (command file : List ℕ) (other : Command)
+    → words ≡ command ∷ file ∷ options → MayHaveOptions command → IsCommand words other
+    → (sum (codes "run") ≡ sum (word_of other) → ⊥) → (sum (codes "exec") ≡ sum (word_of other) → ⊥) → ⊥
+no_options words options command file other e may a no_run no_exec =
+    other_command words other command file options e a (not_another command (word_of other) may no_run no_exec)
 
 pub no_limits : (words options : List (List ℕ)) (command file : List ℕ) → words ≡ command ∷ file ∷ options
     → MayHaveOptions command
@@ -353,10 +374,8 @@ no_limits words options command file e differs none (Exec other limits input) a 
     let r = reads_exec words other limits input a in
     none limits r.after_limits (limits_of r.options options r.after_limits limits
     (exec_options words options command file other limits input e r).1 r.front)
-no_limits words options command file e differs none (Check other) a =
-    not_a_check words options command file other e differs.0 a
-no_limits words options command file e differs none (Audit other) a =
-    not_an_audit words options command file other e differs.1 a
+no_limits words options command file e differs none other a =
+    no_options words options command file other e differs a (λ z. omega arith) (λ z. omega arith)
 
 -- no input stands behind the limits
 pub no_input : (words options after : List (List ℕ)) (command file : List ℕ) (found : Limits)
@@ -374,10 +393,8 @@ no_input words options after command file found e differs front none (Exec other
     let l = one_limits options r.after_limits after limits found (limits_of r.options options r.after_limits limits
     (exec_options words options command file other limits input e r).1 r.front) front in
     none input [] (subst (λ (ws : List (List ℕ)). NameAtFront (codes "--input") ws input []) l.1 r.input_is)
-no_input words options after command file found e differs front none (Check other) a =
-    not_a_check words options command file other e differs.0 a
-no_input words options after command file found e differs front none (Audit other) a =
-    not_an_audit words options command file other e differs.1 a
+no_input words options after command file found e differs front none other a =
+    no_options words options command file other e differs a (λ z. omega arith) (λ z. omega arith)
 
 -- the words after the input are no name of an image, or the command is not `run`; they aren't empty, or the command is
 -- not `exec`; and it may have options
@@ -401,16 +418,68 @@ nothing_fits words options after left command file found entered e differs front
     let o = same_options r.options options r.after_limits after [] left limits found input entered is.1
     r.front front r.input_is i in
     exec is.0 (sym o.2)
-nothing_fits words options after left command file found entered e differs front i run exec (Check other) a =
-    not_a_check words options command file other e differs.0 a
-nothing_fits words options after left command file found entered e differs front i run exec (Audit other) a =
-    not_an_audit words options command file other e differs.1 a
+nothing_fits words options after left command file found entered e differs front i run exec other a =
+    no_options words options command file other e differs a (λ z. omega arith) (λ z. omega arith)
 
 -- words are left behind the name of an image, so that they are no such option alone
 pub more_than_image : (left rest : List (List ℕ)) (found image : Option (List ℕ))
     → NameAtFront (codes "--image") left found rest → (rest ≡ [] → ⊥) → IsNameOption (codes "--image") left image → ⊥
 more_than_image left rest found image a some m =
     some (one_name (codes "--image") left found image rest [] a (whole_name (codes "--image") left image m)).1
+
+-- ---- what is no model
+
+-- words that begin as a model's are no other command
+model_alone : (words options : List (List ℕ)) (file : List ℕ) (other : Command)
+    → words ≡ codes "model" ∷ file ∷ options → IsCommand words other
+    → (sum (codes "model") ≡ sum (word_of other) → ⊥) → ⊥
+model_alone words options file other e a differ =
+    other_command words other (codes "model") file options e a (other_word (codes "model") (word_of other) differ)
+
+-- no steps stand behind its file
+pub no_steps : (words options : List (List ℕ)) (file : List ℕ) → words ≡ codes "model" ∷ file ∷ options
+    → ((steps : ℕ) (rest : List (List ℕ)) → StepsAtFront options steps rest → ⊥) → AreNoCommand words
+no_steps words options file e none (Model other steps input) a =
+    none steps a.input_words (model_steps words options file other steps input e a)
+no_steps words options file e none other a = model_alone words options file other e a (λ z. omega arith)
+
+-- no input stands behind the steps
+pub no_model_input : (words options after : List (List ℕ)) (file : List ℕ) (found : ℕ)
+    → words ≡ codes "model" ∷ file ∷ options → StepsAtFront options found after
+    → ((input : Option (List ℕ)) (rest : List (List ℕ)) → NameAtFront (codes "--input") after input rest → ⊥)
+    → AreNoCommand words
+no_model_input words options after file found e front none (Model other steps input) a =
+    let s = one_steps options steps found a.input_words after
+    (model_steps words options file other steps input e a) front in
+    none input [] (whole_name (codes "--input") after input
+    (subst (λ (ws : List (List ℕ)). IsNameOption (codes "--input") ws input) s.1 a.input_is))
+no_model_input words options after file found e front none other a =
+    model_alone words options file other e a (λ z. omega arith)
+
+-- words are left behind the input
+pub more_than_model : (words options after left : List (List ℕ)) (file : List ℕ) (found : ℕ)
+    (entered : Option (List ℕ)) → words ≡ codes "model" ∷ file ∷ options → StepsAtFront options found after
+    → NameAtFront (codes "--input") after entered left → (left ≡ [] → ⊥) → AreNoCommand words
+more_than_model words options after left file found entered e front i some (Model other steps input) a =
+    let s = one_steps options steps found a.input_words after
+    (model_steps words options file other steps input e a) front in
+    some (one_name (codes "--input") after entered input left [] i (whole_name (codes "--input") after input
+    (subst (λ (ws : List (List ℕ)). IsNameOption (codes "--input") ws input) s.1 a.input_is))).1
+more_than_model words options after left file found entered e front i some other a =
+    model_alone words options file other e a (λ z. omega arith)
+
+pub is_model : (words options after : List (List ℕ)) (file : List ℕ) (steps : ℕ) (input : Option (List ℕ))
+    → words ≡ codes "model" ∷ file ∷ options → file ≢ [] → StepsAtFront options steps after
+    → NameAtFront (codes "--input") after input [] → IsModel words file steps input
+is_model words options after file steps input e named front i = record {
+  steps_word = front.word;
+  input_words = after;
+  words_are = e ∙ ap (λ (ws : List (List ℕ)). codes "model" ∷ file ∷ ws) front.words_are;
+  named = named;
+  steps_are = front.number;
+  allowed = front.allowed;
+  input_is = name_alone (codes "--input") after input i;
+}
 
 -- ---- the name of an image
 

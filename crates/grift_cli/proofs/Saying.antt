@@ -30,7 +30,8 @@ use Rattle.blame_audit.specs.Claims.{NeverTellsBlame}
 use Rattle.grift_cli.specs.Calls.{CallSeen, PutsNothing, AreLoaded, LoadsFiles, HasLoaded, file_of, input_of}
 use Rattle.grift_cli.specs.Auditing.{IsAuditFile, IsNeverBlamed, PutsAudit}
 use Rattle.grift_cli.specs.Checking.{ElaboratesFile, PutsLines}
-use Rattle.grift_cli.specs.Commands.{Command, Run, Exec, Check, Audit, IsCommand}
+use Rattle.grift_cli.specs.Commands.{Command, Run, Exec, Check, Audit, Model, IsCommand}
+use Rattle.grift_cli.specs.Modelling.{IsModelFile, Models}
 use Rattle.grift_cli.specs.Outcome.{IsCompiled, IsImageFile, HasEndedBy, ComesTo, Says}
 use Rattle.grift_cli.specs.Reporting.{load_report, source_report, image_report}
 use Rattle.grift_cli.specs.Running.{RunsWell, Runs, Executes}
@@ -225,14 +226,14 @@ says_image_fault call file limits input_name bytes input ImageMemory l p f =
 -- the image that the file holds is run
 pub says_exec : (call : CallSeen) (limits : Limits) (image input : List ℕ) (report : Report)
     → IsImageFile call limits image input → Executes limits image input call.out report → Says report call
-says_exec call limits image input (HasVerdict verdict) i x = inr (record {
+says_exec call limits image input (HasVerdict verdict) i x = inr (inl (record {
   limits = limits;
   image = image;
   input = input;
   image_file = i;
   verdict_is = x.0;
   output_put = x.1;
-})
+}))
 says_exec call limits image input (HasFault fault) i x = record {
   limits = limits;
   image = image;
@@ -290,7 +291,7 @@ never_blamed program place never image region stack input n follows r k blames =
 pub says_audit_fault : (call : CallSeen) (file text : List ℕ) (fault : FrontFault)
     → HasLoaded call (Audit file) text [] → PutsNothing call → IsFault text fault → Says (source_report fault) call
 says_audit_fault call file text (SourceRefused refusal) l p f =
-    inr (inr (record { file = file; text = text; loaded = l; refused = f; nothing = p }))
+    inr (inr (inl (record { file = file; text = text; loaded = l; refused = f; nothing = p })))
 says_audit_fault call file text SourceMemory l p f = says_no_memory call (Audit file) text [] l p
 
 -- the lines of an audit are put
@@ -304,7 +305,7 @@ says_audit call program casts Audited a x = record {
   never_blamed = λ p place listed at. never_blamed program place (x.1 p place listed at);
 }
 says_audit call program casts PutFailed a x =
-    inr (inr (inr (record { program = program; casts = casts; audits = a; fails = x })))
+    inr (inr (inr (inl (record { program = program; casts = casts; audits = a; fails = x }))))
 says_audit call program casts NoMemory a x =
     says_no_memory call (Audit a.file) a.text [] a.loaded (record { out = x; img = a.no_image })
 says_audit call program casts Checked a x = absurd x
@@ -315,3 +316,53 @@ says_audit call program casts (ImageRefused fault) a x = absurd x
 says_audit call program casts WordsRefused a x = absurd x
 says_audit call program casts LoadFailed a x = absurd x
 says_audit call program casts TooLong a x = absurd x
+
+-- ---- a source whose calculus is run
+
+-- the source of a model is refused
+pub says_model_fault : (call : CallSeen) (file : List ℕ) (steps : ℕ) (input_name : Option (List ℕ))
+    (text input : List ℕ) (fault : FrontFault) → HasLoaded call (Model file steps input_name) text input
+    → PutsNothing call → IsFault text fault → Says (source_report fault) call
+says_model_fault call file steps input_name text input (SourceRefused refusal) l p f = inr (inr (inr (record {
+  file = file;
+  steps = steps;
+  input_name = input_name;
+  text = text;
+  input = input;
+  loaded = l;
+  refused = f;
+  nothing = p;
+})))
+says_model_fault call file steps input_name text input SourceMemory l p f =
+    says_no_memory call (Model file steps input_name) text input l p
+
+-- the calculus of the source is run
+pub says_model : (call : CallSeen) (program : Program) (steps : ℕ) (input : List ℕ) (report : Report)
+    → IsModelFile call program steps input → Models program steps input call.out report → Says report call
+says_model call program steps input (HasVerdict verdict) m x = inr (inr (record {
+  program = program;
+  steps = steps;
+  input = input;
+  modelled = m;
+  verdict_is = x.0;
+  output_put = x.1;
+}))
+says_model call program steps input PutFailed m x = inr (inr (inr (inr (record {
+  program = program;
+  steps = steps;
+  input = input;
+  modelled = m;
+  some = x.0;
+  fails = x.1;
+}))))
+says_model call program steps input NoMemory m x =
+    says_no_memory call (Model m.file steps m.input_name) m.text input m.loaded
+    (record { out = x; img = m.no_image })
+says_model call program steps input (HasFault fault) m x = absurd x
+says_model call program steps input Checked m x = absurd x
+says_model call program steps input Audited m x = absurd x
+says_model call program steps input (Refused refusal) m x = absurd x
+says_model call program steps input (ImageRefused fault) m x = absurd x
+says_model call program steps input WordsRefused m x = absurd x
+says_model call program steps input LoadFailed m x = absurd x
+says_model call program steps input TooLong m x = absurd x

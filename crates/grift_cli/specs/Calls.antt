@@ -7,7 +7,7 @@ use Rattle.grift_base.specs.Sink.{SinkSeen, Untouched}
 use Rattle.grift_base.specs.Sizes.{source_limit, image_limit, input_limit}
 use Rattle.grift_base.specs.declared.shelves.LoadFault.{LoadFault}
 use Rattle.grift_base.specs.declared.shelves.LoadFault.TheVariants.{Failed, TooLong, OutOfMemory}
-use Rattle.grift_cli.specs.Commands.{Command, Run, Exec, Check, Audit, IsCommand, AreNoCommand}
+use Rattle.grift_cli.specs.Commands.{Command, Run, Exec, Check, Audit, Model, IsCommand, AreNoCommand}
 use Rattle.grift_cli.specs.declared.loads.Loaded.{Loaded}
 
 -- its words, and what is seen of the shelf and of the sinks for output and image
@@ -43,6 +43,7 @@ file_of (Run file limits input image) = record { name = file; most = source_limi
 file_of (Exec file limits input) = record { name = file; most = image_limit }
 file_of (Check file) = record { name = file; most = source_limit }
 file_of (Audit file) = record { name = file; most = source_limit }
+file_of (Model file steps input) = record { name = file; most = source_limit }
 
 -- a file of input, where a name is given
 abbrev pub input_file : Option (List ℕ) → Option File
@@ -55,6 +56,7 @@ input_of (Run file limits input image) = input_file input
 input_of (Exec file limits input) = input_file input
 input_of (Check file) = None
 input_of (Audit file) = None
+input_of (Model file steps input) = input_file input
 
 -- its name, if there is one
 abbrev pub names_of : Option File → List (List ℕ)

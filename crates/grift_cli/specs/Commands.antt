@@ -60,12 +60,13 @@ pub record AreLimits (words : List (List ℕ)) (limits : Limits) : Type 0 where
 
 -- a file that is compiled and run, perhaps with a file of input and with a name for its image; an image in a file that
 -- is run, perhaps with a file of input; a file whose program's type and number of casts are put; a file whose program's
--- safe labels are put
+-- safe labels are put; a file whose program's calculus is run for so many steps at most, perhaps with a file of input
 pub data Command : Type 0 where
   Run : List ℕ → Limits → Option (List ℕ) → Option (List ℕ) → Command
   Exec : List ℕ → Limits → Option (List ℕ) → Command
   Check : List ℕ → Command
   Audit : List ℕ → Command
+  Model : List ℕ → ℕ → Option (List ℕ) → Command
 
 pub record IsRun (words : List (List ℕ)) (file : List ℕ) (limits : Limits) (input image : Option (List ℕ)) : Type 0
   where
@@ -94,11 +95,25 @@ pub record IsAudit (words : List (List ℕ)) (file : List ℕ) : Type 0 where
   pub words_are : words ≡ codes "audit" ∷ file ∷ []
   pub named : file ≢ []
 
+-- the steps that a model may be given
+abbrev pub IsModelLimit : ℕ → Type 0
+IsModelLimit steps = steps ≤ 10000000
+
+pub record IsModel (words : List (List ℕ)) (file : List ℕ) (steps : ℕ) (input : Option (List ℕ)) : Type 0 where
+  pub steps_word : List ℕ
+  pub input_words : List (List ℕ)
+  pub words_are : words ≡ codes "model" ∷ file ∷ codes "--steps" ∷ steps_word ∷ input_words
+  pub named : file ≢ []
+  pub steps_are : IsNumber steps_word steps
+  pub allowed : IsModelLimit steps
+  pub input_is : IsNameOption (codes "--input") input_words input
+
 abbrev pub IsCommand : List (List ℕ) → Command → Type 0
 IsCommand words (Run file limits input image) = IsRun words file limits input image
 IsCommand words (Exec file limits input) = IsExec words file limits input
 IsCommand words (Check file) = IsCheck words file
 IsCommand words (Audit file) = IsAudit words file
+IsCommand words (Model file steps input) = IsModel words file steps input
 
 -- the words are no command
 abbrev pub AreNoCommand : List (List ℕ) → Type 0

@@ -5,6 +5,7 @@ pub mod Answers
 pub mod Calls
 pub mod Checking
 pub mod Auditing
+pub mod Modelling
 pub mod Outcome
 pub mod Running
 pub mod Reporting

@@ -17,6 +17,7 @@ use Rattle.grift_cli.specs.Commands.{Command, Run, Exec}
 use Rattle.grift_cli.specs.Calls.{CallSeen, PutsNothing, HasLoaded, HasNoCommand, HasNoFile, HasLongFile, LacksFile}
 use Rattle.grift_cli.specs.Auditing.{HasAudited, FailsToPutAudit, IsRefusedAudit}
 use Rattle.grift_cli.specs.Checking.{HasChecked, FailsToPutLines, IsRefusedCheck}
+use Rattle.grift_cli.specs.Modelling.{HasModelled, FailsToPutModel, IsRefusedModel}
 use Rattle.grift_cli.specs.Answers.{image_fault}
 use Rattle.grift_cli.specs.declared.commands.Limits.{Limits}
 use Rattle.grift_cli.specs.declared.reports.BadImage.{BadImage}
@@ -166,16 +167,18 @@ pub record LacksImage (call : CallSeen) : Type 0 where
 
 -- what a report says of the call up to its line
 abbrev pub Says : Report → CallSeen → Type 0
-Says (HasVerdict verdict) call = HasRun call verdict ⊎ HasExecuted call verdict
+Says (HasVerdict verdict) call = HasRun call verdict ⊎ (HasExecuted call verdict ⊎ HasModelled call verdict)
 Says (HasFault fault) call = HasGoneWrong call fault
 Says Checked call = HasChecked call
 Says Audited call = HasAudited call
 Says (Refused refusal) call =
-    IsRefused call refusal ⊎ (IsRefusedCheck call refusal ⊎ IsRefusedAudit call refusal)
+    IsRefused call refusal
+    ⊎ (IsRefusedCheck call refusal ⊎ (IsRefusedAudit call refusal ⊎ IsRefusedModel call refusal))
 Says (ImageRefused fault) call = IsNoImageFile call fault
 Says WordsRefused call = HasNoCommand call
 Says LoadFailed call = HasNoFile call
 Says TooLong call = HasLongFile call
 Says PutFailed call =
-    FailsToPut call ⊎ (FailsToPutOutput call ⊎ (FailsToPutLines call ⊎ FailsToPutAudit call))
+    FailsToPut call
+    ⊎ (FailsToPutOutput call ⊎ (FailsToPutLines call ⊎ (FailsToPutAudit call ⊎ FailsToPutModel call)))
 Says NoMemory call = LacksFile call ⊎ (LacksImage call ⊎ LacksRun call)

@@ -2,11 +2,12 @@
 use Rattle.std.specs.Prelude.{ℕ, ◌≤◌, ◌%◌, ◌≡◌, false, List, [], ◌∷◌, ◌++◌, codes, Option, Some, None}
 use Rattle.std.specs.Borrow.{Bor}
 use Rattle.rv_machine.specs.Start.{IsRegionSize, IsStackSize}
-use Rattle.grift_cli.specs.Commands.{Command, Run, Exec, Check, Audit, IsNameOption, IsNumberOption, IsRun}
+use Rattle.grift_cli.specs.Commands.{Command, Run, Exec, Check, Audit, Model, IsModelLimit, IsNameOption, IsNumber}
+use Rattle.grift_cli.specs.Commands.{IsNumberOption, IsRun}
 use Rattle.grift_cli.specs.Commands.{IsStepLimit, region_default, stack_default, steps_default}
 use Rattle.grift_cli.specs.declared.commands.Command.{Command as ReadCommand}
 use Rattle.grift_cli.specs.declared.commands.Command.TheVariants.{Run as ReadRun, Exec as ReadExec, Check as ReadCheck}
-use Rattle.grift_cli.specs.declared.commands.Command.TheVariants.{Audit as ReadAudit}
+use Rattle.grift_cli.specs.declared.commands.Command.TheVariants.{Audit as ReadAudit, Model as ReadModel}
 use Rattle.grift_cli.specs.declared.commands.Limits.{Limits}
 
 -- a multiple, up to a greatest one
@@ -41,6 +42,13 @@ pub record LimitsAtFront (words : List (List ℕ)) (limits : Limits) (rest : Lis
   pub stack : NumberAtFront (codes "--stack") IsStackSize stack_default after_region limits.stack after_stack
   pub steps : NumberAtFront (codes "--steps") IsStepLimit steps_default after_stack limits.steps rest
 
+-- the words begin with the steps of a model; these are left after them
+pub record StepsAtFront (words : List (List ℕ)) (steps : ℕ) (rest : List (List ℕ)) : Type 0 where
+  pub word : List ℕ
+  pub words_are : words ≡ codes "--steps" ∷ word ∷ rest
+  pub number : IsNumber word steps
+  pub allowed : IsModelLimit steps
+
 -- the bytes of a name
 abbrev pub name_bytes : Option (Bor (List ℕ)) → Option (List ℕ)
 name_bytes None = None
@@ -54,6 +62,7 @@ command_of (ReadExec file region stack steps input) =
     Exec file.now (record { region = region; stack = stack; steps = steps }) (name_bytes input)
 command_of (ReadCheck file) = Check file.now
 command_of (ReadAudit file) = Audit file.now
+command_of (ReadModel file steps input) = Model file.now steps (name_bytes input)
 
 -- it tells nothing beside this
 abbrev pub TellsNoMore : ReadCommand → Type 0
@@ -61,6 +70,7 @@ TellsNoMore (ReadRun file region stack steps input space image) = space ≡ fals
 TellsNoMore (ReadExec file region stack steps input) = Unit {0}
 TellsNoMore (ReadCheck file) = Unit {0}
 TellsNoMore (ReadAudit file) = Unit {0}
+TellsNoMore (ReadModel file steps input) = Unit {0}
 
 -- the words are a run command that gives its image this name
 pub record GivesImage (words : List (List ℕ)) (name : List ℕ) : Type 0 where

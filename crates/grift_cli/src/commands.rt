@@ -3,8 +3,8 @@
 ghost use Rattle.std.specs.Prelude.{ℕ, ◌≡◌, ◌≢◌, ◌≤◌, ◌<◌, ◌%◌, ◌∷◌, [], List, Option, codes, map, string_bytes};
 ghost use Rattle.std.specs.Prelude.{MatchOption, IfSome};
 ghost use Rattle.grift_cli.specs.Commands.{Command as WordsCommand, IsNumber, IsCommand, AreNoCommand};
-ghost use Rattle.grift_cli.specs.ReadCommands.{NumberAtFront, NameAtFront, LimitsAtFront, IsWithin, TellsNoMore};
-ghost use Rattle.grift_cli.specs.ReadCommands.{GivesImage, GivesNoImage, command_of, name_bytes};
+ghost use Rattle.grift_cli.specs.ReadCommands.{NumberAtFront, NameAtFront, LimitsAtFront, StepsAtFront, IsWithin};
+ghost use Rattle.grift_cli.specs.ReadCommands.{GivesImage, GivesNoImage, TellsNoMore, command_of, name_bytes};
 
 // The limits of a run: the greatest that may be told, and what they are where none is told.
 const MOST_REGION: u64 = 1_073_741_824;
@@ -18,6 +18,9 @@ const DEFAULT_STACK: u64 = 1_048_576;
 const MOST_STEPS: u64 = 9_223_372_036_854_775_807;
 
 const DEFAULT_STEPS: u64 = 100_000_000;
+
+// The most steps that a model may be given.
+const MOST_MODEL_STEPS: u64 = 10_000_000;
 
 /// A command of the program. A `space` is told by no words.
 #[derive(Clone, Copy, PartialEq, Eq, Debug)]
@@ -47,6 +50,12 @@ pub enum Command<'a> {
     /// A file whose program's safe labels are put.
     Audit {
         file: &'a str,
+    },
+    /// A file whose program's calculus is run for so many steps at most, and the file of its input, if it gets one.
+    Model {
+        file: &'a str,
+        steps: u64,
+        input: Option<&'a str>,
     },
 }
 
@@ -193,6 +202,43 @@ fn exec_of<'a>(file: &'a str, options: &'a [String]) -> Option<Command<'a>>
     })
 }
 
+// The steps of a model at the front of the words, and the words after them.
+fn steps_at_front(words: &[String]) -> Option<(u64, &[String])>
+    ensures { MatchOption result
+        ((steps : ℕ) (rest : List (List ℕ)) → StepsAtFront (map string_bytes words.now) steps rest → ⊥)
+        (λ found. StepsAtFront (map string_bytes words.now) found.0 (map string_bytes found.1.now)) }
+{
+    let [first, rest @ ..] = words else {
+        return None;
+    };
+    if first.as_str() != "--steps" {
+        return None;
+    }
+    let [word, rest @ ..] = rest else {
+        return None;
+    };
+    let steps = number_in(word.as_str())?;
+    if steps > MOST_MODEL_STEPS {
+        return None;
+    }
+    Some((steps, rest))
+}
+
+// The model command of a file with these options, if they are its options.
+fn model_of<'a>(file: &'a str, options: &'a [String]) -> Option<Command<'a>>
+    requires { file.now ≢ [] }
+    ensures command { (words : List (List ℕ)) → words ≡ codes "model" ∷ file.now ∷ map string_bytes options.now
+        → MatchOption result (AreNoCommand words) (λ command. IsCommand words (command_of command)) }
+    ensures rest { IfSome result TellsNoMore }
+{
+    let (steps, rest) = steps_at_front(options)?;
+    let (input, rest) = name_after(rest, "--input")?;
+    if !rest.is_empty() {
+        return None;
+    }
+    Some(Command::Model { file, steps, input })
+}
+
 /// The command that the words are; none exactly where they are none. Takes no memory.
 pub fn read_words(words: &[String]) -> Option<Command<'_>>
     ensures command { let texts = map string_bytes words.now in
@@ -209,6 +255,7 @@ pub fn read_words(words: &[String]) -> Option<Command<'_>>
     match command.as_str() {
         "run" => run_of(file, options),
         "exec" => exec_of(file, options),
+        "model" => model_of(file, options),
         "check" if options.is_empty() => Some(Command::Check { file }),
         "audit" if options.is_empty() => Some(Command::Audit { file }),
         _ => None,

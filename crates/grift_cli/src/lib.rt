@@ -5,6 +5,7 @@ mod audits;
 mod checks;
 pub mod commands;
 mod loads;
+mod models;
 mod reports;
 mod runner;
 pub mod top;

@@ -66,8 +66,8 @@ pub fn exec_image<O: Sink>(
     }
 }
 
-// Puts these bytes, if there are any.
-fn put_all<S: Sink>(sink: &mut S, bytes: &[u8]) -> Result<(), SinkFault>
+/// Puts these bytes, if there are any.
+pub fn put_all<S: Sink>(sink: &mut S, bytes: &[u8]) -> Result<(), SinkFault>
     ensures { PutsAll bytes.now result (sink_seen S.written S.fault_count sink.old sink.new) }
 {
     if bytes.is_empty() {
@@ -76,8 +76,8 @@ fn put_all<S: Sink>(sink: &mut S, bytes: &[u8]) -> Result<(), SinkFault>
     sink.put(bytes)
 }
 
-// What a fault of a sink is reported as.
-fn report_of(fault: SinkFault) -> Report
+/// What a fault of a sink is reported as.
+pub fn report_of(fault: SinkFault) -> Report
     ensures { result ≡ sink_report fault }
 {
     match fault {

@@ -4,7 +4,7 @@ ghost use Rattle.std.specs.Prelude.{◌≡◌, ℕ, List, Option, map, string_by
 ghost use Rattle.grift_base.specs.Shelf.{shelf_seen};
 ghost use Rattle.grift_base.specs.Sink.{SinkSeen, Untouched, sink_seen};
 ghost use Rattle.rv_machine.specs.Start.{IsRegionSize, IsStackSize};
-ghost use Rattle.grift_cli.specs.Commands.{IsRun, IsExec, IsCheck, IsAudit};
+ghost use Rattle.grift_cli.specs.Commands.{IsRun, IsExec, IsCheck, IsAudit, IsModel};
 ghost use Rattle.grift_cli.specs.Outcome.{Says};
 ghost use Rattle.grift_cli.specs.ReadCommands.{name_bytes};
 ghost use Rattle.grift_cli.specs.Reporting.{PutsLine, PutsReport, IsAnswered, report_line, report_status};
@@ -13,6 +13,7 @@ use crate::audits::put_audit;
 use crate::checks::put_lines;
 use crate::commands::{Command, Limits, read_words};
 use crate::loads::{Loaded, load_files};
+use crate::models::run_model;
 use crate::reports::{
     Report, line_of, report_of_image, report_of_load, report_of_source, status_of, status_of_fault,
 };
@@ -95,6 +96,9 @@ fn report_of_call<S: Shelf, O: Sink, I: Sink>(
         }
         Command::Check { file } => report_of_check(alloc, file, shelf, out),
         Command::Audit { file } => report_of_audit(alloc, file, shelf, out),
+        Command::Model { file, steps, input } => {
+            report_of_model(alloc, file, input, steps, shelf, out)
+        }
     }
 }
 
@@ -203,6 +207,34 @@ fn report_of_audit<S: Shelf, O: Sink>(
     };
     match elaborate_text(alloc, loaded.bytes.as_slice()) {
         Ok(done) => put_audit(alloc, &done, out),
+        Err(fault) => report_of_source(fault),
+    }
+}
+
+// The report of a call that runs the calculus of the source in this file, on this file of input.
+fn report_of_model<S: Shelf, O: Sink>(
+    alloc: Global,
+    file: &str,
+    input: Option<&str>,
+    steps: u64,
+    shelf: &mut S,
+    out: &mut O,
+) -> Report
+    ensures { (words : List (List ℕ)) (img : SinkSeen) → IsModel words file.now steps (name_bytes input.entry)
+        → Untouched img
+        → Says result (record {
+          words = words;
+          shelf = shelf_seen S.holds S.asked S.fault_count shelf.old shelf.new;
+          out = sink_seen O.written O.fault_count out.old out.new;
+          img = img;
+        }) }
+{
+    let Loaded { bytes, input } = match load_files(alloc, shelf, file, SOURCE_LIMIT, input) {
+        Ok(loaded) => loaded,
+        Err(fault) => return report_of_load(fault),
+    };
+    match elaborate_text(alloc, bytes.as_slice()) {
+        Ok(done) => run_model(alloc, &done, steps, input, out),
         Err(fault) => report_of_source(fault),
     }
 }
