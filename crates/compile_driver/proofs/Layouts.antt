@@ -11,10 +11,8 @@ use Rattle.grift_base.specs.declared.worlds.EnvEffect.TheVariants.{StackOut as S
 use Rattle.run_laws.specs.Machines.{and_then, seen, steps}
 use Rattle.rv_isa.specs.declared.inst.Inst.{Inst}
 use Rattle.rv_isa.specs.declared.inst.Inst.TheVariants.{Lui, Auipc, Jal, Jalr, Beq, Bne, Blt, Bge, Bltu, Bgeu, Lb, Lh}
-use Rattle.rv_isa.specs.declared.inst.Inst.TheVariants.{Lw, Ld, Lbu, Lhu, Lwu, Sb, Sh, Sw, Sd, Addi, Slti, Sltiu, Xori}
-use Rattle.rv_isa.specs.declared.inst.Inst.TheVariants.{Ori, Andi, Slli, Srli, Srai, Add, Sub, Sll, Slt, Sltu, Xor, Srl}
-use Rattle.rv_isa.specs.declared.inst.Inst.TheVariants.{Sra, Or, And, Addiw, Slliw, Srliw, Sraiw, Addw, Subw, Sllw}
-use Rattle.rv_isa.specs.declared.inst.Inst.TheVariants.{Srlw, Sraw, Fence, Ecall, Ebreak}
+use Rattle.rv_isa.specs.declared.inst.Inst.TheVariants.{Lw, Ld, Lbu, Lhu, Lwu, Sb, Sh, Sw, Sd}
+use Rattle.rv_isa.specs.declared.inst.Inst.TheVariants.{Ecall, Ebreak}
 use Rattle.rv_isa.specs.Decoding.{decode_of}
 use Rattle.rv_machine.specs.Mach.{ending_of, machine, step_by}
 use Rattle.rv_machine.specs.Memory.{first_address, load_bytes}

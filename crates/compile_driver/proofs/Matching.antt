@@ -1,13 +1,13 @@
 -- Objects and headers of the same row: where the one stands the other does.
-use Rattle.std.proofs.Common.{◌≡◌, ℕ, zero, suc, ◌+◌, ◌*◌, ◌<◌, Bool, true, false, cond, nat_eq, List, [], ◌∷◌, ◌++◌}
-use Rattle.std.proofs.Common.{length, map, Option, Some, None, refl, sym, ap, ◌∙◌, subst, slice_get, eqb-true, arith}
+use Rattle.std.proofs.Common.{◌≡◌, ℕ, zero, suc, ◌+◌, ◌*◌, Bool, true, false, cond, nat_eq, List, [], ◌∷◌, ◌++◌}
+use Rattle.std.proofs.Common.{length, Option, Some, None, refl, sym, ap, ◌∙◌, subst, slice_get, eqb-true, arith}
 use Rattle.std.proofs.lemmas.List.{length-map}
 use Rattle.grift_base.specs.Types.{TypeRows, parts_of}
 use Rattle.type_graph.specs.Trees.{height}
 use Rattle.rv_machine.specs.Memory.{Memory}
 use Rattle.object_layout.specs.declared.headers.Header.{Header}
 use Rattle.object_layout.specs.Wholes.{IsNth, StartsAt}
-use Rattle.coercion_norm.specs.Coercions.{Coercion, Coercions, NoCoercions, CoercionThen, rows_of}
+use Rattle.coercion_norm.specs.Coercions.{Coercion, rows_of}
 use Rattle.coercion_norm.specs.Heights.{coercion_height}
 use Rattle.coercion_norm.specs.Nodes.{Node, IdNode, FailNode, MiddleNode, InjectNode, ProjectNode, grown, tree_of}
 use Rattle.coercion_norm.specs.Nodes.{tree_to, trees}
@@ -15,7 +15,7 @@ use Rattle.coercion_norm.specs.Objects.{Object, Fixed, Cell, bytes_of, bytes_of_
 use Rattle.coercion_norm.specs.ObjectsOfRows.{object_of_type, objects_of_node, objects_of_place, static_objects}
 use Rattle.coercion_norm.specs.StaticObjects.{coercion_headers, count_of, static_headers, type_headers, up_to}
 use Rattle.rt_cast.specs.Objects.{Holds, HoldsWords}
-use Rattle.rt_cast.proofs.Public.{none_some, same_some}
+use Rattle.rt_cast.proofs.Public.{none_some}
 
 -- each object is as long as its header says
 abbrev pub Match : List Object → List Header → Type 0

@@ -1,10 +1,9 @@
 -- Where whole objects of a program fill the region of a run over words, storage is as it has to be in every memory that
 -- tells their words.
-use Rattle.std.proofs.Common.{◌≡◌, ◌⊎◌, inl, inr, ℕ, zero, suc, ◌+◌, ◌*◌, ◌%◌, ◌<◌, ◌≤◌, Bool, true, false, cond, nat_eq}
+use Rattle.std.proofs.Common.{◌≡◌, ◌⊎◌, inl, inr, ℕ, suc, ◌+◌, ◌*◌, ◌%◌, ◌<◌, ◌≤◌, Bool, true, false, cond, nat_eq}
 use Rattle.std.proofs.Common.{max, List, [], ◌∷◌, ◌++◌, length, replicate, Some, None, refl, sym, ap, ap₂, ◌∙◌, subst}
 use Rattle.std.proofs.Common.{append_assoc, append-nil, eqb-true, arith}
 use Rattle.std.specs.Prelude.{◌==◌, ◌&&◌, nat_le, if◌then◌else◌, option_and_then}
-use Rattle.grift_base.specs.Types.{TypeRow, IntRow, BoolRow, UnitRow, DynRow, FunRow, TupleRow, RefRow, VectRow}
 use Rattle.rv_machine.specs.Memory.{Memory, first_address, load_bytes}
 use Rattle.low_ir.specs.Run.{Setting}
 use Rattle.object_layout.specs.declared.headers.Header.{Header}
@@ -17,8 +16,8 @@ use Rattle.object_layout.specs.declared.kinds.Wanted.TheVariants.{Anything, Targ
 use Rattle.object_layout.specs.declared.wholes.Area.TheVariants.{Region, Statics}
 use Rattle.object_layout.specs.Headers.{unpacked}
 use Rattle.object_layout.specs.Kinds.{kind_number as number_of, kind_of, is_free, wanted_words}
-use Rattle.object_layout.specs.Reports.{header_behind, is_proxy, is_some_proxy, proxy_height}
-use Rattle.object_layout.specs.Wholes.{Telling, header_at, height_of, kind_at, coercion_height, height_behind, highest}
+use Rattle.object_layout.specs.Reports.{header_behind, is_proxy, is_some_proxy}
+use Rattle.object_layout.specs.Wholes.{Telling, header_at, height_of, coercion_height, height_behind, highest}
 use Rattle.object_layout.specs.Wholes.{AreWanted, Fills, HasHeight, IsAddress, IsNth, IsRow, IsWanted, IsWhole}
 use Rattle.object_layout.specs.Wholes.{StartsAt}
 use Rattle.object_layout.proofs.Public.{an_object_of_a_row_is_whole, fills_few, fills_same}
@@ -256,8 +255,7 @@ module _ (setting : Setting) (l : Layout) (objects : List Object) (heap : Heap) 
       let one : Some k ≡ Some (told s.kind s.height s.count) = sym f.0.header ∙ t.under in
       let same : k ≡ told s.kind s.height s.count = same_some k (told s.kind s.height s.count) one in
       let count : k.count ≡ s.count = ap (λ (x : Header). x.count) same in
-      let long = s.long in
-      (
+      let long = s.long in (
         omega (arith, long, count),
         match_row (before ++ o ∷ []) os hs (from + bytes_of o) to w.1 h.1 (omega (arith, even, long))
             (omega (arith, above)) (omega (arith, le))
