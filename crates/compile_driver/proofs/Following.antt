@@ -1,4 +1,4 @@
--- An image follows the program that its source is.
+-- An image follows the program that its source is, and whole objects fill its region at each moment.
 use Rattle.std.proofs.Common.{◌≡◌, ℕ, zero, suc, ◌+◌, ◌<◌, ◌≤◌, ◌^◌, true, List, [], ◌∷◌, ◌++◌, length, map, Some, refl, sym, ◌∙◌}
 use Rattle.std.proofs.Common.{ap, subst}
 use Rattle.std.proofs.Common.{slice_get, arith}
@@ -7,12 +7,15 @@ use Rattle.std.proofs.lemmas.List.{length-map}
 use Rattle.std.proofs.lemmas.List.Elements.{All-nil, All-cons, All-head, All-tail}
 use Rattle.grift_base.specs.Types.{TypeRow, TypeRows, row_at}
 use Rattle.grift_base.specs.declared.words.Statics.{Statics}
-use Rattle.run_laws.specs.Runs.{Follows, NeverWrong}
+use Rattle.grift_base.specs.declared.verdicts.Verdict.{Verdict}
+use Rattle.run_laws.specs.Machines.{run}
+use Rattle.run_laws.specs.Runs.{Any, Follows, FollowsBy, NeverWrong, Run}
 use Rattle.run_laws.proofs.Public.{follows_is_transitive, follows_of, follower_never_goes_wrong}
 use Rattle.rv_machine.specs.Memory.{first_address}
 use Rattle.rv_machine.specs.Image.{statics_len, code_len}
-use Rattle.rv_machine.specs.Mach.{ending_of}
-use Rattle.rv_machine.specs.Start.{fresh_world, start_of}
+use Rattle.rv_machine.specs.Mach.{ending_of, mach}
+use Rattle.rv_machine.specs.Start.{IsRegionSize, IsStackSize, fresh_world, start_of}
+use Rattle.rv_machine.specs.State.{State}
 use Rattle.core_calc.specs.Calculus.{Program, calc}
 use Rattle.core_calc.specs.Typing.{ProgramTermHasType}
 use Rattle.coercion_norm.specs.MergedMode.{merging}
@@ -29,22 +32,27 @@ use Rattle.coer_core.proofs.Public.{merged_runs_follow_the_calculus-follows}
 use Rattle.coer_core.proofs.Public.{merged_runs_follow_the_calculus-never_wrong}
 use Rattle.flat_ir.specs.Bodies.{Proc as FlatProc}
 use Rattle.flat_ir.specs.Closed.{is_closed}
-use Rattle.flat_ir.specs.Counts.{flat_run_in}
+use Rattle.flat_ir.specs.Counts.{FlatCounts, flat_run_in}
 use Rattle.closure_convert.specs.Conversion.{converted, made}
 use Rattle.closure_convert.specs.Programs.{HasNoFreeNames}
 use Rattle.closure_convert.proofs.Public.{procedures_follow_their_term-merged}
 use Rattle.closure_convert.proofs.Public.{procedures_of_program_terms_are_closed-names}
 use Rattle.low_ir.specs.Procedures.{Proc}
+use Rattle.low_ir.specs.Run.{LowShown, Setting, low_machine, low_start}
+use Rattle.coercion_norm.specs.Held.{Layout}
 use Rattle.lower.specs.declared.served.Served.{Served}
 use Rattle.lower.specs.CoveredPrograms.{all_covered}
 use Rattle.lower.specs.Lowered.{low_proc, entry_proc, lowered}
-use Rattle.lower.specs.SimulationClaims.{AreNarrow}
+use Rattle.lower.specs.SimulationClaims.{AreNarrow, StorageIsWhole}
 use Rattle.lower.specs.Serving.{all_narrow}
 use Rattle.lower.specs.Sets.{merged_numbers, merged_procs, with_casts}
 use Rattle.lower.proofs.Public.{words_follow_procedures-storage, procedures_are_narrow}
-use Rattle.rv_slots.specs.Images.{IsImageOfWords}
+use Rattle.rv_slots.specs.Images.{HasRegionOf, IsImageOfWords}
 use Rattle.compile_driver.specs.Compiling.{FollowsProgram}
+use Rattle.compile_driver.specs.Space.{KeepsSpace, KeepsStorage}
 use Rattle.compile_driver.proofs.HeldCasts.{casts_held, tallest_low}
+use Rattle.compile_driver.proofs.Kept.{kept}
+use Rattle.compile_driver.proofs.Layouts.{layout_stays}
 use Rattle.compile_driver.proofs.Starting.{told, setting, layout, runs_in, code_addresses, are_placed}
 use Rattle.compile_driver.proofs.Starting.{statics_hold, top_low}
 
@@ -129,45 +137,101 @@ pub record IsMade (program : Program) (nodes : List Node) (rows : List CastRow) 
   pub narrow : AreNarrow procs
   pub short : statics_len image + code_len image ≤ 8589934592
 
+-- what the passes have made of a program
+pub record HasPassed (program : Program) (rows : List CastRow) (nodes : List Node) (term : RowTerm) (answer : ℕ)
+    (image : List ℕ) : Type 0 where
+  pub row : TypeRow
+  pub statics : Statics
+  pub passed : IsPassed program (row_casts rows) term answer
+  pub row_is : row_at program.types answer ≡ Some row
+  pub made_so : IsMade program nodes rows (converted term) (made term) row statics image
+
 module _ {program : Program} {rows : List CastRow} {term : RowTerm} {answer : ℕ} {nodes : List Node} {row : TypeRow}
     {statics : Statics} {image : List ℕ}
     (passed : IsPassed program (row_casts rows) term answer) (row_is : row_at program.types answer ≡ Some row)
     (made_so : IsMade program nodes rows (converted term) (made term) row statics image) where
+  abbrev tallest : ℕ
+  tallest = tallest_of program.types (row_casts rows)
+
+  -- the tallest coercion is no higher than a type may be
+  low : tallest ≤ 65534
+  low =
+      let types = made_so.statics_are.types_stand [] 0 0 in
+      tallest_low program.types types.heights types.low (row_casts rows)
+
+  module _ (region stack : ℕ) (input : List ℕ) (r : IsRegionSize region) (s : IsStackSize stack) where
+    abbrev begin : State
+    begin = start_of image region stack (fresh_world input)
+
+    -- what the run over words is told, where the machine is in its start state
+    abbrev set : Setting
+    set = setting made_so.image_is made_so.statics_are made_so.words region stack r s (fresh_world input)
+
+    abbrev l : Layout
+    l = layout made_so.image_is made_so.statics_are made_so.words region stack r s (fresh_world input) tallest
+
+    abbrev words_run : Run LowShown Verdict
+    words_run = run (low_machine ending_of set) (low_start set (entry_proc (made term) row) begin.memory begin.world)
+
+    abbrev flat_run : Run FlatCounts Verdict
+    flat_run =
+        flat_run_in (converted term) (made term) (merging program.types (row_casts rows)) (told_of program answer) input
+
+    -- it follows the procedures, with whole objects in its region
+    words_follow : FollowsBy (StorageIsWhole set l) Any words_run flat_run
+    words_follow =
+        let is = made_so.image_is in
+        let at = made_so.statics_are in
+        let world = fresh_world input in
+        words_follow_procedures-storage set l statics.cast_at (converted term) (made term) row begin.memory
+        (told_of program answer) (row_casts rows) input
+        (record {
+          procs_are = refl;
+          addresses = code_addresses is at made_so.words region stack r s world;
+          placed = are_placed is at made_so.words region stack r s world tallest;
+          begins = refl;
+          fits = omega arith;
+          statics = statics_hold is at made_so.words region stack r s world tallest;
+        })
+        (top_low is at made_so.words region stack r s world made_so.short) is.is_image.labels_are row_is refl
+        (at.types_stand [] begin.layout.region tallest)
+        (casts_held at made_so.coercions made_so.cast_words begin.layout.region low) made_so.closed made_so.covered
+        made_so.narrow (follower_never_goes_wrong (flat_follows passed input))
+
+    -- and the machine follows it, with the same region
+    machine_follows : FollowsBy (HasRegionOf (begin.regs 25)) Any (mach image region stack input) words_run
+    machine_follows =
+        let is = made_so.image_is in
+        let at = made_so.statics_are in
+        let world = fresh_world input in
+        let procs = converted term in
+        let first = entry_proc (made term) row in
+        let there = entry_there (map (low_proc (run_by procs statics)) procs) first (serving procs) (length procs)
+        (length-map procs (low_proc (run_by procs statics))) in
+        let words = is.runs ending_of refl first (told is at made_so.words region stack r s world) region stack world
+        (runs_in is at made_so.words region stack r s world first there)
+        (follower_never_goes_wrong (follows_of words_follow)) in
+        words.follows
+
+    pub follows : Follows (mach image region stack input) (calc program input)
+    follows =
+        follows_is_transitive (follows_of machine_follows)
+        (follows_is_transitive (follows_of words_follow) (flat_follows passed input))
+
+    -- so whole objects fill the machine's region at each moment
+    pub keeps : (m : ℕ) → KeepsStorage tallest begin (mach image region stack input m).shown
+    keeps m =
+        let machine = machine_follows.back m in
+        let words = words_follow.back machine.0 in
+        kept made_so.image_is made_so.statics_are made_so.words region stack r s input tallest low
+        (mach image region stack input m).shown (words_run machine.0).shown (layout_stays m begin) machine.1.0.shown
+        words.1.0.shown.0 words.1.0.shown.1
+
   pub follows_program : FollowsProgram image program
-  follows_program region stack input r s =
-      let procs = converted term in
-      let entry = made term in
-      let run = run_by procs statics in
-      let is = made_so.image_is in
-      let at = made_so.statics_are in
-      let world = fresh_world input in
-      let there = entry_there (map (low_proc run) procs) (entry_proc entry row) (serving procs) (length procs)
-      (length-map procs (low_proc run)) in
-      let st = start_of image region stack world in
-      let set = setting is at made_so.words region stack r s world in
-      let tallest = tallest_of program.types (row_casts rows) in
-      let l = layout is at made_so.words region stack r s world tallest in
-      let placed = are_placed is at made_so.words region stack r s world tallest in
-      let types = at.types_stand [] st.layout.region tallest in
-      let low_casts = tallest_low program.types types.heights types.low (row_casts rows) in
-      let flat = flat_follows passed input in
-      let low = words_follow_procedures-storage set l statics.cast_at procs entry row st.memory
-      (told_of program answer) (row_casts rows) input
-      (record {
-        procs_are = refl;
-        addresses = code_addresses is at made_so.words region stack r s world;
-        placed = placed;
-        begins = refl;
-        fits = omega arith;
-        statics = statics_hold is at made_so.words region stack r s world tallest;
-      })
-      (top_low is at made_so.words region stack r s world made_so.short) is.is_image.labels_are row_is refl types
-      (casts_held at made_so.coercions made_so.cast_words st.layout.region low_casts) made_so.closed made_so.covered
-      made_so.narrow (follower_never_goes_wrong flat) in
-      let words = is.runs ending_of refl (entry_proc entry row) (told is at made_so.words region stack r s world) region
-      stack world (runs_in is at made_so.words region stack r s world (entry_proc entry row) there)
-      (follower_never_goes_wrong (follows_of low)) in
-      follows_is_transitive (follows_of words.follows) (follows_is_transitive (follows_of low) flat)
+  follows_program region stack input r s = follows region stack input r s
+
+  pub keeps_space : KeepsSpace image tallest
+  keeps_space region stack input m r s = keeps region stack input r s m
 
 -- ---- what the passes answer
 

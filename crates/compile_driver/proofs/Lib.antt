@@ -3,5 +3,9 @@ pub mod UsesPass
 pub mod LabelsLow
 pub mod HeldCasts
 pub mod Starting
+pub mod Layouts
+pub mod Matching
+pub mod Storing
+pub mod Kept
 pub mod Following
 mod Compiled

@@ -40,8 +40,8 @@ abbrev pub program_of : Compiled → Program
 program_of compiled = program_over compiled.types compiled.elab
 
 -- the greatest height of the coercions of the casts of a program, each cast once
-abbrev pub tallest_in : TypeRows → Elab → ℕ
-tallest_in types elab = tallest_of types (with_casts [] (casts_in (term_of elab.core)))
+abbrev pub tallest_in : Program → ℕ
+tallest_in program = tallest_of program.types (with_casts [] (casts_in program.term))
 
 -- what is told of a source beside its image: its elaboration, how many forms it has, and how high its coercions are
 pub record IsTold (text : List ℕ) (compiled : Compiled) : Type 0 where
@@ -49,4 +49,4 @@ pub record IsTold (text : List ℕ) (compiled : Compiled) : Type 0 where
       compiled.elab.labels (entries_of compiled.elab.casts))
   pub source : Expr
   pub forms : IsProgramOf text source compiled.forms
-  pub tallest : compiled.tallest ≡ tallest_in compiled.types compiled.elab
+  pub tallest : compiled.tallest ≡ tallest_in (program_of compiled)

@@ -11,6 +11,7 @@ ghost use Rattle.front_end.specs.Texts.{IsFault};
 ghost use Rattle.compile_driver.specs.Compiling.{FollowsProgram, HasProgram, IsTold, program_of};
 ghost use Rattle.compile_driver.specs.Compiling.{program_over, tallest_in};
 ghost use Rattle.compile_driver.specs.Parts.{HasWords};
+ghost use Rattle.compile_driver.specs.Space.{KeepsSpace};
 
 use assembler::image::Image;
 use cast_insert::casts::CastEntry;
@@ -84,8 +85,9 @@ fn made_of(alloc: Global, types: &TypeTable, elab: &Elab) -> Result<Made, OutOfM
     requires typed { ProgramTermHasType types.now (length elab.now.labels) (term_of elab.now.core) elab.now.ty.0 }
     requires placed { IsPlaced any_operator (entries_of elab.now.casts) (term_of elab.now.core) }
     ensures whole { IfOk result (λ made. IsImage made.image) }
-    ensures tallest { IfOk result (λ made. made.tallest ≡ tallest_in types.now elab.now) }
+    ensures tallest { IfOk result (λ made. made.tallest ≡ tallest_in (program_over types.now elab.now)) }
     ensures follows { IfOk result (λ made. FollowsProgram made.image (program_over types.now elab.now)) }
+    ensures space { IfOk result (λ made. KeepsSpace made.image made.tallest) }
 {
     types.len();
     are_narrow(elab.casts.as_slice());
@@ -106,14 +108,16 @@ fn made_of(alloc: Global, types: &TypeTable, elab: &Elab) -> Result<Made, OutOfM
 }
 
 /// Compiles a source: it is read, parsed and elaborated, casts become coercions, functions become procedures, and these
-/// become words and instructions. The image follows the source's program, for every region, stack and input. A source
-/// is refused exactly as it is read, parsed or elaborated.
+/// become words and instructions. The image follows the source's program, for every region, stack and input, and after
+/// each instruction whole objects fill the region, no proxy stands on a proxy, and no proxy's coercion is higher than
+/// the tallest of the casts. A source is refused exactly as it is read, parsed or elaborated.
 pub fn compile(alloc: Global, text: &[u8]) -> Result<Compiled, FrontFault>
     requires { length text.now ≤ source_limit }
     ensures source { IfOk result (λ compiled. HasProgram text.now (program_of compiled)) }
     ensures told { IfOk result (λ compiled. IsTold text.now compiled) }
     ensures whole { IfOk result (λ compiled. IsImage compiled.image) }
     ensures follows { IfOk result (λ compiled. FollowsProgram compiled.image (program_of compiled)) }
+    ensures space { IfOk result (λ compiled. KeepsSpace compiled.image compiled.tallest) }
     ensures refused { IfErr result (IsFault text.now) }
 {
     let done = elaborate_text(alloc, text)?;

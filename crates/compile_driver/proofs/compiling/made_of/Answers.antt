@@ -20,11 +20,14 @@ use Rattle.closure_convert.specs.Conversion.{converted}
 use Rattle.closure_convert.proofs.Public.{operators_have_few_operands, procedures_use_what_their_term_uses}
 use Rattle.compile_driver.specs.Compiling.{program_over}
 use Rattle.compile_driver.specs.Parts.{HasWords}
+use Rattle.compile_driver.specs.Space.{KeepsSpace}
 use Rattle.compile_driver.proofs.Covered.{covers_all, is_covered, words_for_all}
-use Rattle.compile_driver.proofs.Following.{are_made, casts_within, follows_program, no_names}
+use Rattle.compile_driver.proofs.Following.{HasPassed, are_made, casts_within, follows_program, keeps_space}
+use Rattle.compile_driver.proofs.Following.{no_names}
 use Rattle.compile_driver.proofs.LabelsLow.{labels_low}
 use Rattle.compile_driver.proofs.UsesPass.{pass}
 use Rattle.compile_driver.proofs.compiling.made_of.Goals as goal
+use Rattle.compile_driver.proofs.compiling.made_of.Goals.{After-drop-coer-10}
 
 pub to_coercions-requires : goal.to_coercions-requires
 to_coercions-requires c = (length c.args.elab.now.labels, c.args.elab.now.ty.0, c.requires.typed)
@@ -78,8 +81,11 @@ pub returns-clause-tallest : goal.returns-clause-tallest
 returns-clause-tallest c =
     c.in_ok-coer.ensures.tallest ∙ ap (tallest_of c.args.types.now) c.in_ok-coer.ensures.order
 
-pub returns-clause-follows : goal.returns-clause-follows
-returns-clause-follows c =
+-- what the passes answer is what the laws on images ask for
+answers : (c : After-drop-coer-10) → HasPassed (program_over c.args.types.now c.args.elab.now) c.in_ok-coer.coer.casts
+    c.in_ok-coer.coer.coercions.nodes (row_term_of c.in_ok-coer.coer.body) c.in_ok-coer.coer.answer.0
+    c.in_ok-image.image
+answers c =
     let types = c.args.types.now in
     let elab = c.args.elab.now in
     let coer = c.in_ok-coer.coer in
@@ -103,30 +109,44 @@ returns-clause-follows c =
     let cast_words : All (λ w. w < 2 ^ 64) low_program.statics.cast_at = search rules in
     let entries_fit : All HasWords (entries_of elab.casts) = search rules in
     let short : statics_len c.in_ok-image.image + code_len c.in_ok-image.image ≤ 8589934592 = search rules in
-    follows_program {program = program_over types elab}
-    (record {
-      reads = c.in_ok-coer.ensures.reads;
-      typed = answer_typed;
-      table = c.len.ensures.table;
-    })
-    row_there
-    (are_made {term = term} (record {
-      procs_are = procs_are;
-      entry_is = c.in_ok-flat.ensures.entry;
-      counted = sym (length-map flat.procs flat_proc_of);
-      low_is = c.in_ok-low.ensures.procs (row_of c.row.result.now) flat_row;
-      begins = c.in_ok-low.ensures.entry;
-      image_is = c.in_ok-image.ensures;
-      statics_are = c.in_ok-low.ensures.statics;
-      coercions = c.in_ok-coer.ensures.coercions;
-      words = words;
-      cast_words = cast_words;
-      closed = c.in_ok-flat.ensures.closed (row_casts rows) types labels coer.answer.0 c.len.ensures.table.widths typed;
-      covered = covers_all (converted term)
-          (procedures_use_what_their_term_uses term is_covered
-          (pass (entries_of elab.casts) entries_fit (row_casts rows) term
-          (subst (λ n. NumbersBelow n term) (sym (length-map rows row_cast)) c.in_ok-coer.ensures.numbers) placed))
-          (operators_have_few_operands (row_casts rows) types labels term coer.answer.0 c.len.ensures.table.widths typed);
-      narrow = c.in_ok-low.ensures.narrow;
-      short = short;
-    }))
+    record {
+      statics = low_program.statics;
+      row = row_of c.row.result.now;
+      passed = record {
+        reads = c.in_ok-coer.ensures.reads;
+        typed = answer_typed;
+        table = c.len.ensures.table;
+      };
+      row_is = row_there;
+      made_so = are_made {term = term} (record {
+        procs_are = procs_are;
+        entry_is = c.in_ok-flat.ensures.entry;
+        counted = sym (length-map flat.procs flat_proc_of);
+        low_is = c.in_ok-low.ensures.procs (row_of c.row.result.now) flat_row;
+        begins = c.in_ok-low.ensures.entry;
+        image_is = c.in_ok-image.ensures;
+        statics_are = c.in_ok-low.ensures.statics;
+        coercions = c.in_ok-coer.ensures.coercions;
+        words = words;
+        cast_words = cast_words;
+        closed = c.in_ok-flat.ensures.closed (row_casts rows) types labels coer.answer.0 c.len.ensures.table.widths typed;
+        covered = covers_all (converted term)
+            (procedures_use_what_their_term_uses term is_covered
+            (pass (entries_of elab.casts) entries_fit (row_casts rows) term
+            (subst (λ n. NumbersBelow n term) (sym (length-map rows row_cast)) c.in_ok-coer.ensures.numbers) placed))
+            (operators_have_few_operands (row_casts rows) types labels term coer.answer.0 c.len.ensures.table.widths typed);
+        narrow = c.in_ok-low.ensures.narrow;
+        short = short;
+      });
+    }
+
+pub returns-clause-follows : goal.returns-clause-follows
+returns-clause-follows c =
+    let a = answers c in
+    follows_program {program = program_over c.args.types.now c.args.elab.now} a.passed a.row_is a.made_so
+
+pub returns-clause-space : goal.returns-clause-space
+returns-clause-space c =
+    let a = answers c in
+    subst (λ n. KeepsSpace c.in_ok-image.image n) (sym c.in_ok-coer.ensures.tallest)
+    (keeps_space {program = program_over c.args.types.now c.args.elab.now} a.passed a.row_is a.made_so)
