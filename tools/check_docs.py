@@ -1,12 +1,15 @@
 #!/usr/bin/env python3
-"""Checks the pages: runs each line of their `check` blocks, looks for each file that they name, and compares the kinds
-of refusals in the table of docs/LANGUAGE.md, which ./grift tells what to do from, with those of the program.
+"""Checks the pages: runs each line of their `check` blocks and the source of each `casts` and `code` block, looks for
+each file that they name, and compares the kinds of refusals in the table of docs/LANGUAGE.md, which ./grift tells what
+to do from, with those of the program.
 
 In docs/ARCHITECTURE.md each name of a definition, lemma, function, test, edit or crate has to be there, too.
 
 Usage: tools/check_docs.py [--files]. With --files nothing is run, so that the program need not be built; else the
 status is 2 where it isn't.
-A line of a `check` block is a source, `=>`, and what `grift check` says of it: `type T, casts N`, or its refusal.
+A line of a `check` block is a source, `=>`, and what `grift check` says of it: `type T, casts N`, or its refusal. The
+first line of a `casts` or a `code` block is a source, the others lines that `grift casts` or `grift code` puts of it, one
+after another.
 """
 import pathlib
 import re
@@ -22,6 +25,7 @@ PROGRAM = ROOT / "crates" / "grift" / "out" / "grift"
 REFUSALS = ROOT / "crates" / "grift_base" / "src" / "refusals.rt"
 PAGES = [ROOT / "README.md", *sorted((ROOT / "docs").glob("*.md")), *sorted(ROOT.glob("crates/*/README.md"))]
 BLOCK = re.compile(r"^```check\n(.*?)^```$", re.M | re.S)
+LISTING = re.compile(r"^```(casts|code)\n(.*?)\n(.*?)^```$", re.M | re.S)
 QUOTED = re.compile(r"`([^`\n]+)`")
 LINKED = re.compile(r"\]\(([^)#:]+)\)")
 ARCHITECTURE = ROOT / "docs" / "ARCHITECTURE.md"
@@ -29,12 +33,17 @@ NAME = re.compile(r"[a-z]+(?:_[a-z0-9]+)+")
 FILE = re.compile(r"[\w+./-]+\.(rt|antt|md|py|grift|edit)|\./grift|(docs|tools|crates|examples)(/[\w+.-]+)*/?")
 
 
-def said_of(source):
-    """What `grift check` says of a source, in one line."""
+def run_on(command, source):
+    """What a command of the program does with a source."""
     with tempfile.NamedTemporaryFile("w", suffix=".grift") as file:
         file.write(source)
         file.flush()
-        run = subprocess.run([PROGRAM, "check", file.name], capture_output=True, text=True)
+        return subprocess.run([PROGRAM, command, file.name], capture_output=True, text=True)
+
+
+def said_of(source):
+    """What `grift check` says of a source, in one line."""
+    run = run_on("check", source)
     return ", ".join(run.stdout.splitlines()) if run.returncode == 0 else run.stderr.strip()
 
 
@@ -45,6 +54,12 @@ def faults_of_examples(page):
             said = said_of(source.strip())
             if said != wanted.strip():
                 yield f"{source.strip()}: {said}, where the page has {wanted.strip()}"
+
+
+def faults_of_listings(page):
+    for command, source, lines in LISTING.findall(page.read_text()):
+        if f"\n{lines}" not in f"\n{run_on(command, source).stdout}":
+            yield f"{source}: `grift {command}` puts no such lines"
 
 
 def faults_of_files(page, names):
@@ -94,7 +109,7 @@ def main():
         if page == ARCHITECTURE:
             found += faults_of_names(page)
         if is_run:
-            found += faults_of_examples(page)
+            found += [*faults_of_examples(page), *faults_of_listings(page)]
         for fault in found:
             print(f"{page.relative_to(ROOT)}: {fault}")
         faults += len(found)

@@ -150,7 +150,7 @@ fn words_and_commands(rt: HostRuntime) -> Result<(), NoMemory> {
         (&["check", ""], None),
         (&["check", "a", "--steps", "5"], None),
         (&["check"], None),
-        (&["casts", "a"], None),
+        (&["casts", "a", "b"], None),
         (&["model", "a", "--steps", "0"], a_model(0, None)),
         (
             &["model", "a", "--steps", "10000000", "--input", "b"],

@@ -7,3 +7,4 @@ mod Putting
 mod Stopping
 mod Loading
 mod Saying
+mod Generated

@@ -12,14 +12,16 @@ use Rattle.rv_machine.specs.Start.{start_of, fresh_world}
 use Rattle.rv_machine.specs.Mach.{moment_of}
 use Rattle.rv_machine.specs.declared.faults.MachineFault.{MachineFault}
 use Rattle.rv_machine.proofs.Public.{run_is_its_turns-states}
-use Rattle.grift_cli.specs.Runs.{run_within, fault_of_run}
+use Rattle.grift_cli.specs.Commands.{default_limits}
+use Rattle.grift_cli.specs.Generating.{PutsNumbers}
+use Rattle.grift_cli.specs.Runs.{run_within, printed, fault_of_run}
 use Rattle.grift_cli.specs.Reporting.{PutsLine, Fails, Lacks, fault_status}
-use Rattle.grift_cli.specs.Running.{RunsWell, PutsAll, Executes, Runs}
+use Rattle.grift_cli.specs.Running.{RunsWell, PutsAll, TellsRun, Executes, Runs}
 use Rattle.grift_cli.specs.declared.commands.Limits.{Limits}
 use Rattle.grift_cli.specs.declared.reports.Report.{Report}
-use Rattle.grift_cli.specs.declared.reports.Report.TheVariants.{HasVerdict, HasFault, Checked, Refused, ImageRefused}
-use Rattle.grift_cli.specs.declared.reports.Report.TheVariants.{WordsRefused, LoadFailed, PutFailed}
-use Rattle.grift_cli.specs.declared.reports.Report.TheVariants.{Audited, NoMemory, TooLong}
+use Rattle.grift_cli.specs.declared.reports.Report.TheVariants.{HasVerdict, HasFault}
+use Rattle.grift_cli.specs.declared.reports.Report.TheVariants.{PutFailed}
+use Rattle.grift_cli.specs.declared.reports.Report.TheVariants.{NoMemory}
 
 -- ---- one put
 
@@ -67,10 +69,12 @@ runs_after_put limits image input bytes out img (HasFault fault) well b t x =
     no_fault limits image input fault well x.0
 runs_after_put limits image input bytes out img PutFailed well b t x = inr (subst (λ xs. Takes xs img) b t, x)
 runs_after_put limits image input bytes out img NoMemory well b t x = (inr (subst (λ xs. Takes xs img) b t), x)
-runs_after_put limits image input bytes out img Checked well b t x = absurd x.0
-runs_after_put limits image input bytes out img Audited well b t x = absurd x.0
-runs_after_put limits image input bytes out img (Refused refusal) well b t x = absurd x.0
-runs_after_put limits image input bytes out img (ImageRefused fault) well b t x = absurd x.0
-runs_after_put limits image input bytes out img WordsRefused well b t x = absurd x.0
-runs_after_put limits image input bytes out img LoadFailed well b t x = absurd x.0
-runs_after_put limits image input bytes out img TooLong well b t x = absurd x.0
+runs_after_put limits image input bytes out img report well b t x = absurd x.0
+
+-- an image that never goes wrong was run without input, and then its lines were put
+pub numbers_put : (image bytes : List ℕ) (lines : ℕ → List ℕ) (out : SinkSeen) (report : Report)
+    → RunsWell default_limits image [] → TellsRun (run_within default_limits image []).1 report
+    → bytes ≡ lines (length (printed default_limits image [])) → Takes bytes out → PutsNumbers image lines out report
+numbers_put image bytes lines out (HasVerdict verdict) well t b x = (t, subst (λ xs. Takes xs out) b x)
+numbers_put image bytes lines out (HasFault fault) well t b x = no_fault default_limits image [] fault well t
+numbers_put image bytes lines out report well t b x = absurd t

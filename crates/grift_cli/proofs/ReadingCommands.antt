@@ -1,8 +1,8 @@
 -- Which words are which command.
 use Rattle.std.proofs.Common.{ℕ, ◌≡◌, ◌⊎◌, List, [], ◌∷◌, ◌++◌, inl, inr, refl, sym, ap, subst, ◌∙◌, arith}
 use Rattle.std.specs.Prelude.{codes, sum, ◌≢◌, Option, Some, None}
-use Rattle.grift_cli.specs.Commands.{AreNoCommand, Command, Run, Exec, Check, Audit, Model, IsCommand, IsCheck, IsAudit}
-use Rattle.grift_cli.specs.Commands.{IsExec, IsModel, IsNameOption, IsRun, number_of}
+use Rattle.grift_cli.specs.Commands.{AreNoCommand, Command, Run, Exec, Check, Audit, Casts, Code, ImageOf, Model, Gen}
+use Rattle.grift_cli.specs.Commands.{IsCommand, IsExec, IsGen, IsModel, IsNameOption, IsOfFile, IsRun, number_of}
 use Rattle.grift_cli.specs.declared.commands.Limits.{Limits}
 use Rattle.grift_cli.specs.ReadCommands.{BeginOtherwise, GivesImage, LimitsAtFront, NameAtFront, StepsAtFront}
 use Rattle.grift_cli.proofs.ReadingOptions.{name_alone, one_name, whole_name}
@@ -185,7 +185,11 @@ word_of (Run file limits input image) = codes "run"
 word_of (Exec file limits input) = codes "exec"
 word_of (Check file) = codes "check"
 word_of (Audit file) = codes "audit"
+word_of (Casts file) = codes "casts"
+word_of (Code file) = codes "code"
+word_of (ImageOf file) = codes "image"
 word_of (Model file steps input) = codes "model"
+word_of (Gen number) = codes "gen"
 
 -- words that begin with this one, and have another behind it
 pub record BeginWith (command : List ℕ) (words : List (List ℕ)) : Type 0 where
@@ -201,6 +205,10 @@ begin_with words (Exec file limits input) a =
     record { second = file; rest = a.limit_words ++ a.input_words; words_are = a.words_are }
 begin_with words (Check file) a = record { second = file; rest = []; words_are = a.words_are }
 begin_with words (Audit file) a = record { second = file; rest = []; words_are = a.words_are }
+begin_with words (Casts file) a = record { second = file; rest = []; words_are = a.words_are }
+begin_with words (Code file) a = record { second = file; rest = []; words_are = a.words_are }
+begin_with words (ImageOf file) a = record { second = file; rest = []; words_are = a.words_are }
+begin_with words (Gen number) a = record { second = a.word; rest = []; words_are = a.words_are }
 begin_with words (Model file steps input) a =
     record { second = file; rest = codes "--steps" ∷ a.steps_word ∷ a.input_words; words_are = a.words_are }
 
@@ -274,15 +282,16 @@ two_execs words file other limits left input entered a b =
     input entered same.others a.front b.front a.input_is b.input_is in
     λ k. Exec (same.second k) (o.0 k) (o.1 k)
 
-two_checks : (words : List (List ℕ)) (file other : List ℕ) → IsCheck words file → IsCheck words other
-    → Check file ≡ Check other
-two_checks words file other a b =
-    ap Check (same_words (codes "check") (codes "check") file other [] [] (sym a.words_are ∙ b.words_are)).second
+one_file : (command : List ℕ) (words : List (List ℕ)) (file other : List ℕ) → IsOfFile command words file
+    → IsOfFile command words other → file ≡ other
+one_file command words file other a b =
+    (same_words command command file other [] [] (sym a.words_are ∙ b.words_are)).second
 
-two_audits : (words : List (List ℕ)) (file other : List ℕ) → IsAudit words file → IsAudit words other
-    → Audit file ≡ Audit other
-two_audits words file other a b =
-    ap Audit (same_words (codes "audit") (codes "audit") file other [] [] (sym a.words_are ∙ b.words_are)).second
+one_number : (words : List (List ℕ)) (number other : ℕ) → IsGen words number → IsGen words other → number ≡ other
+one_number words number other a b =
+    a.number_is.value
+    ∙ ap number_of (same_words (codes "gen") (codes "gen") a.word b.word [] [] (sym a.words_are ∙ b.words_are)).second
+    ∙ sym b.number_is.value
 
 -- the steps of a model, and what is left after them, are told by the words
 pub one_steps : (words : List (List ℕ)) (steps other : ℕ) (rest left : List (List ℕ)) → StepsAtFront words steps rest
@@ -327,8 +336,12 @@ one_command words (Run file limits input image) (Run other left entered name) a 
 one_command words (Exec file limits input) (Exec other left entered) a b =
     two_execs words file other limits left input entered (reads_exec words file limits input a)
     (reads_exec words other left entered b)
-one_command words (Check file) (Check other) a b = two_checks words file other a b
-one_command words (Audit file) (Audit other) a b = two_audits words file other a b
+one_command words (Check file) (Check other) a b = ap Check (one_file (codes "check") words file other a b)
+one_command words (Audit file) (Audit other) a b = ap Audit (one_file (codes "audit") words file other a b)
+one_command words (Casts file) (Casts other) a b = ap Casts (one_file (codes "casts") words file other a b)
+one_command words (Code file) (Code other) a b = ap Code (one_file (codes "code") words file other a b)
+one_command words (ImageOf file) (ImageOf other) a b = ap ImageOf (one_file (codes "image") words file other a b)
+one_command words (Gen number) (Gen other) a b = ap Gen (one_number words number other a b)
 one_command words (Model file steps input) (Model other left entered) a b =
     two_models words file other steps left input entered a b
 one_command words first second a b =

@@ -27,20 +27,26 @@ use Rattle.front_end.specs.Texts.{IsFault}
 use Rattle.cast_insert.specs.Making.{Entry}
 use Rattle.compile_driver.specs.Compiling.{FollowsProgram}
 use Rattle.blame_audit.specs.Claims.{NeverTellsBlame}
-use Rattle.grift_cli.specs.Calls.{CallSeen, PutsNothing, AreLoaded, LoadsFiles, HasLoaded, file_of, input_of}
+use Rattle.grift_base.specs.Sink.{Untouched}
+use Rattle.grift_cli.specs.Calls.{CallSeen, PutsNothing, File, AreLoaded, AsksNothing, LoadsFiles, HasLoaded}
+use Rattle.grift_cli.specs.Calls.{file_of, input_of, source_file}
 use Rattle.grift_cli.specs.Auditing.{IsAuditFile, IsNeverBlamed, PutsAudit}
 use Rattle.grift_cli.specs.Checking.{ElaboratesFile, PutsLines}
-use Rattle.grift_cli.specs.Commands.{Command, Run, Exec, Check, Audit, Model, IsCommand}
+use Rattle.grift_cli.specs.Commands.{Command, Exec, Check, Audit, Code, ImageOf, Model, IsCommand, IsGen}
+use Rattle.grift_cli.specs.Generating.{Generates, HasGenerated}
+use Rattle.grift_cli.specs.Listing.{IsImageOf, IsShownFile, PutsShown, Shows, command_by, seen_by}
 use Rattle.grift_cli.specs.Modelling.{IsModelFile, Models}
-use Rattle.grift_cli.specs.Outcome.{IsCompiled, IsImageFile, HasEndedBy, ComesTo, Says}
+use Rattle.grift_cli.specs.Outcome.{IsCompiled, IsImageFile, IsOfSource, Says}
 use Rattle.grift_cli.specs.Reporting.{load_report, source_report, image_report}
 use Rattle.grift_cli.specs.Running.{RunsWell, Runs, Executes}
-use Rattle.grift_cli.specs.Runs.{run_within, printed, verdict_of_run}
+use Rattle.grift_cli.specs.Runs.{run_within, printed, verdict_of_run, HasEndedBy, ComesTo}
 use Rattle.grift_cli.specs.declared.commands.Limits.{Limits}
+use Rattle.grift_cli.specs.declared.listings.View.{View}
+use Rattle.grift_cli.specs.declared.listings.View.TheVariants.{Listing, Bytes}
 use Rattle.grift_cli.specs.declared.reports.Report.{Report}
-use Rattle.grift_cli.specs.declared.reports.Report.TheVariants.{HasVerdict, HasFault, Checked, Refused, ImageRefused}
-use Rattle.grift_cli.specs.declared.reports.Report.TheVariants.{WordsRefused, LoadFailed, PutFailed}
-use Rattle.grift_cli.specs.declared.reports.Report.TheVariants.{Audited, NoMemory, TooLong}
+use Rattle.grift_cli.specs.declared.reports.Report.TheVariants.{HasVerdict, HasFault, Checked, Refused}
+use Rattle.grift_cli.specs.declared.reports.Report.TheVariants.{PutFailed}
+use Rattle.grift_cli.specs.declared.reports.Report.TheVariants.{Audited, Shown, NoMemory}
 
 -- ---- the run of an image and of its program
 
@@ -88,7 +94,7 @@ comes_at s o program input verdict n t out e = record {
 }
 
 -- the program comes to the verdict of its image's run
-comes_to : (limits : Limits) (image input : List ℕ) (program : Program) (verdict : Verdict)
+pub comes_to : (limits : Limits) (image input : List ℕ) (program : Program) (verdict : Verdict)
     → IsRegionSize limits.region → IsStackSize limits.stack → FollowsProgram image program
     → verdict_of_run (run_within limits image input).1 ≡ Some verdict
     → ComesTo program input (printed limits image input) verdict
@@ -103,28 +109,29 @@ comes_to limits image input program verdict r k f t =
 -- ---- the files of a command
 
 -- files that were loaded
-pub has_loaded : (call : CallSeen) (command : Command) (bytes input items read : List ℕ) → IsCommand call.words command
-    → AreLoaded call.shelf (file_of command) (input_of command) items read → bytes ≡ items → input ≡ read
+pub has_loaded : (call : CallSeen) (command : Command) (file : File) (bytes input items read : List ℕ)
+    → IsCommand call.words command → file_of command ≡ Some file
+    → AreLoaded call.shelf file (input_of command) items read → bytes ≡ items → input ≡ read
     → HasLoaded call command bytes input
-has_loaded call command bytes input items read is loaded e f = record {
+has_loaded call command file bytes input items read is of loaded e f = record {
   words = is;
+  file = file;
+  file_is = of;
   loaded =
-      subst (λ xs. AreLoaded call.shelf (file_of command) (input_of command) xs input) (sym e)
-      (subst (λ ys. AreLoaded call.shelf (file_of command) (input_of command) items ys) (sym f) loaded);
+      subst (λ xs. AreLoaded call.shelf file (input_of command) xs input) (sym e)
+      (subst (λ ys. AreLoaded call.shelf file (input_of command) items ys) (sym f) loaded);
 }
 
 -- a file that was not loaded
-pub says_load_fault : (call : CallSeen) (command : Command) (fault : LoadFault) → IsCommand call.words command
-    → PutsNothing call → LoadsFiles (file_of command) (input_of command) (Err fault) call.shelf
-    → Says (load_report fault) call
-says_load_fault call command ShelfFailed is p loads =
-    record { command = command; words = is; not_loaded = loads; nothing = p }
-says_load_fault call command ShelfTooLong is p loads =
-    record { command = command; words = is; too_long = loads; nothing = p }
-says_load_fault call command ShelfMemory is p loads =
-    inl (record { command = command; words = is; lacks = loads; nothing = p })
-
--- ---- a source that is compiled and run
+pub says_load_fault : (call : CallSeen) (command : Command) (file : File) (fault : LoadFault)
+    → IsCommand call.words command → file_of command ≡ Some file → PutsNothing call
+    → LoadsFiles file (input_of command) (Err fault) call.shelf → Says (load_report fault) call
+says_load_fault call command file ShelfFailed is of p loads =
+    record { command = command; words = is; file = file; file_is = of; not_loaded = loads; nothing = p }
+says_load_fault call command file ShelfTooLong is of p loads =
+    record { command = command; words = is; file = file; file_is = of; too_long = loads; nothing = p }
+says_load_fault call command file ShelfMemory is of p loads =
+    inl (record { command = command; words = is; file = file; file_is = of; lacks = loads; nothing = p })
 
 -- there is no memory for what is made of the file
 pub says_no_memory : (call : CallSeen) (command : Command) (bytes input : List ℕ) → HasLoaded call command bytes input
@@ -133,22 +140,21 @@ says_no_memory call command bytes input l p =
     inr (inl (record { command = command; bytes = bytes; input = input; loaded = l; nothing = p }))
 
 -- the source is refused
-pub says_source_fault : (call : CallSeen) (file : List ℕ) (limits : Limits) (input_name name : Option (List ℕ))
-    (text input : List ℕ) (fault : FrontFault) → HasLoaded call (Run file limits input_name name) text input
-    → PutsNothing call → IsFault text fault → Says (source_report fault) call
-says_source_fault call file limits input_name name text input (SourceRefused refusal) l p f = inl (record {
-  file = file;
-  limits = limits;
-  input_name = input_name;
-  name = name;
+pub says_source_fault : (call : CallSeen) (command : Command) (text input : List ℕ) (fault : FrontFault)
+    → IsOfSource command → HasLoaded call command text input → PutsNothing call → IsFault text fault
+    → Says (source_report fault) call
+says_source_fault call command text input (SourceRefused refusal) s l p f = inl (record {
+  command = command;
+  of_source = s;
   text = text;
   input = input;
   loaded = l;
   refused = f;
   nothing = p;
 })
-says_source_fault call file limits input_name name text input SourceMemory l p f =
-    says_no_memory call (Run file limits input_name name) text input l p
+says_source_fault call command text input SourceMemory s l p f = says_no_memory call command text input l p
+
+-- ---- a source that is compiled and run
 
 -- the image of the source is run
 pub says_run : (call : CallSeen) (limits : Limits) (image input : List ℕ) (report : Report)
@@ -166,22 +172,15 @@ says_run call limits image input (HasVerdict verdict) r k c x = inl (record {
 })
 says_run call limits image input PutFailed r k c x =
     inl (record { limits = limits; image = image; input = input; compiled = c; fails = x })
-says_run call limits image input NoMemory r k c x = inr (inr (record {
+says_run call limits image input NoMemory r k c x = inr (inr (inl (record {
   limits = limits;
   image = image;
   input = input;
   compiled = c;
   image_put = x.0;
   no_output = x.1;
-}))
-says_run call limits image input (HasFault fault) r k c x = absurd x
-says_run call limits image input Checked r k c x = absurd x
-says_run call limits image input Audited r k c x = absurd x
-says_run call limits image input (Refused refusal) r k c x = absurd x
-says_run call limits image input (ImageRefused fault) r k c x = absurd x
-says_run call limits image input WordsRefused r k c x = absurd x
-says_run call limits image input LoadFailed r k c x = absurd x
-says_run call limits image input TooLong r k c x = absurd x
+})))
+says_run call limits image input report r k c x = absurd x
 
 -- ---- an image from a file that is run
 
@@ -246,22 +245,9 @@ says_exec call limits image input PutFailed i x =
     inr (inl (record { limits = limits; image = image; input = input; image_file = i; fails = x }))
 says_exec call limits image input NoMemory i x =
     says_no_memory call (Exec i.file limits i.input_name) image input i.loaded (record { out = x; img = i.no_image })
-says_exec call limits image input Checked i x = absurd x.0
-says_exec call limits image input Audited i x = absurd x.0
-says_exec call limits image input (Refused refusal) i x = absurd x.0
-says_exec call limits image input (ImageRefused fault) i x = absurd x.0
-says_exec call limits image input WordsRefused i x = absurd x.0
-says_exec call limits image input LoadFailed i x = absurd x.0
-says_exec call limits image input TooLong i x = absurd x.0
+says_exec call limits image input report i x = absurd x.0
 
 -- ---- a source that is elaborated
-
--- the source of a check is refused
-pub says_check_fault : (call : CallSeen) (file text : List ℕ) (fault : FrontFault)
-    → HasLoaded call (Check file) text [] → PutsNothing call → IsFault text fault → Says (source_report fault) call
-says_check_fault call file text (SourceRefused refusal) l p f =
-    inr (inl (record { file = file; text = text; loaded = l; refused = f; nothing = p }))
-says_check_fault call file text SourceMemory l p f = says_no_memory call (Check file) text [] l p
 
 -- the lines of a source are put
 pub says_check : (call : CallSeen) (lines : List ℕ) (report : Report) → ElaboratesFile call lines
@@ -270,14 +256,7 @@ says_check call lines Checked e x = record { lines = lines; elaborates = e; line
 says_check call lines PutFailed e x = inr (inr (inl (record { lines = lines; elaborates = e; fails = x })))
 says_check call lines NoMemory e x =
     says_no_memory call (Check e.file) e.text [] e.loaded (record { out = x; img = e.no_image })
-says_check call lines (HasVerdict verdict) e x = absurd x
-says_check call lines (HasFault fault) e x = absurd x
-says_check call lines (Refused refusal) e x = absurd x
-says_check call lines (ImageRefused fault) e x = absurd x
-says_check call lines WordsRefused e x = absurd x
-says_check call lines LoadFailed e x = absurd x
-says_check call lines TooLong e x = absurd x
-says_check call lines Audited e x = absurd x
+says_check call lines report e x = absurd x
 
 -- ---- a source whose labels are audited
 
@@ -286,13 +265,6 @@ never_blamed : (program : Program) (place : Pos) → NeverTellsBlame program pla
 never_blamed program place never image region stack input n follows r k blames =
     let (at, out, e) = (follows region stack input r k).back n in
     never input at (subst (λ ending. EndsAs ending (calc program input at).ending) blames e)
-
--- the source of an audit is refused
-pub says_audit_fault : (call : CallSeen) (file text : List ℕ) (fault : FrontFault)
-    → HasLoaded call (Audit file) text [] → PutsNothing call → IsFault text fault → Says (source_report fault) call
-says_audit_fault call file text (SourceRefused refusal) l p f =
-    inr (inr (inl (record { file = file; text = text; loaded = l; refused = f; nothing = p })))
-says_audit_fault call file text SourceMemory l p f = says_no_memory call (Audit file) text [] l p
 
 -- the lines of an audit are put
 pub says_audit : (call : CallSeen) (program : Program) (casts : List Entry) (report : Report)
@@ -308,61 +280,91 @@ says_audit call program casts PutFailed a x =
     inr (inr (inr (inl (record { program = program; casts = casts; audits = a; fails = x }))))
 says_audit call program casts NoMemory a x =
     says_no_memory call (Audit a.file) a.text [] a.loaded (record { out = x; img = a.no_image })
-says_audit call program casts Checked a x = absurd x
-says_audit call program casts (HasVerdict verdict) a x = absurd x
-says_audit call program casts (HasFault fault) a x = absurd x
-says_audit call program casts (Refused refusal) a x = absurd x
-says_audit call program casts (ImageRefused fault) a x = absurd x
-says_audit call program casts WordsRefused a x = absurd x
-says_audit call program casts LoadFailed a x = absurd x
-says_audit call program casts TooLong a x = absurd x
+says_audit call program casts report a x = absurd x
 
 -- ---- a source whose calculus is run
-
--- the source of a model is refused
-pub says_model_fault : (call : CallSeen) (file : List ℕ) (steps : ℕ) (input_name : Option (List ℕ))
-    (text input : List ℕ) (fault : FrontFault) → HasLoaded call (Model file steps input_name) text input
-    → PutsNothing call → IsFault text fault → Says (source_report fault) call
-says_model_fault call file steps input_name text input (SourceRefused refusal) l p f = inr (inr (inr (record {
-  file = file;
-  steps = steps;
-  input_name = input_name;
-  text = text;
-  input = input;
-  loaded = l;
-  refused = f;
-  nothing = p;
-})))
-says_model_fault call file steps input_name text input SourceMemory l p f =
-    says_no_memory call (Model file steps input_name) text input l p
 
 -- the calculus of the source is run
 pub says_model : (call : CallSeen) (program : Program) (steps : ℕ) (input : List ℕ) (report : Report)
     → IsModelFile call program steps input → Models program steps input call.out report → Says report call
-says_model call program steps input (HasVerdict verdict) m x = inr (inr (record {
+says_model call program steps input (HasVerdict verdict) m x = inr (inr (inl (record {
   program = program;
   steps = steps;
   input = input;
   modelled = m;
   verdict_is = x.0;
   output_put = x.1;
-}))
-says_model call program steps input PutFailed m x = inr (inr (inr (inr (record {
+})))
+says_model call program steps input PutFailed m x = inr (inr (inr (inr (inl (record {
   program = program;
   steps = steps;
   input = input;
   modelled = m;
   some = x.0;
   fails = x.1;
-}))))
+})))))
 says_model call program steps input NoMemory m x =
     says_no_memory call (Model m.file steps m.input_name) m.text input m.loaded
     (record { out = x; img = m.no_image })
-says_model call program steps input (HasFault fault) m x = absurd x
-says_model call program steps input Checked m x = absurd x
-says_model call program steps input Audited m x = absurd x
-says_model call program steps input (Refused refusal) m x = absurd x
-says_model call program steps input (ImageRefused fault) m x = absurd x
-says_model call program steps input WordsRefused m x = absurd x
-says_model call program steps input LoadFailed m x = absurd x
-says_model call program steps input TooLong m x = absurd x
+says_model call program steps input report m x = absurd x
+
+-- ---- a source of which something is shown
+
+-- what is seen of an image stands for a source
+pub shows_image : (view : View) (file text image : List ℕ) → IsImageOf text image
+    → Shows (command_by view file) text (seen_by view image)
+shows_image Listing file text image i = record { image = image; image_of = i; bytes_are = refl }
+shows_image Bytes file text image i = record { image = image; image_of = i; bytes_are = refl }
+
+-- the command that shows it is about a source
+pub view_of_source : (view : View) (file : List ℕ) → IsOfSource (command_by view file)
+view_of_source Listing file = tt
+view_of_source Bytes file = tt
+
+-- its file was loaded
+pub view_loaded : (call : CallSeen) (view : View) (file bytes items read : List ℕ)
+    → IsCommand call.words (command_by view file) → AreLoaded call.shelf (source_file file) None items read
+    → bytes ≡ items → [] ≡ read → HasLoaded call (command_by view file) bytes []
+view_loaded call Listing file bytes items read is loaded e f =
+    has_loaded call (Code file) (source_file file) bytes [] items read is refl loaded e f
+view_loaded call Bytes file bytes items read is loaded e f =
+    has_loaded call (ImageOf file) (source_file file) bytes [] items read is refl loaded e f
+
+-- or it was not
+pub says_view_fault : (call : CallSeen) (view : View) (file : List ℕ) (fault : LoadFault)
+    → IsCommand call.words (command_by view file) → PutsNothing call
+    → LoadsFiles (source_file file) None (Err fault) call.shelf → Says (load_report fault) call
+says_view_fault call Listing file fault is p loads =
+    says_load_fault call (Code file) (source_file file) fault is refl p loads
+says_view_fault call Bytes file fault is p loads =
+    says_load_fault call (ImageOf file) (source_file file) fault is refl p loads
+
+-- what is shown of the source is put
+pub says_shown : (call : CallSeen) (bytes : List ℕ) (report : Report) → IsShownFile call bytes
+    → PutsShown bytes call.out report → Says report call
+says_shown call bytes Shown s x = record { bytes = bytes; shown = s; bytes_put = x }
+says_shown call bytes PutFailed s x =
+    inr (inr (inr (inr (inr (inl (record { bytes = bytes; shown = s; some = x.0; fails = x.1 }))))))
+says_shown call bytes NoMemory s x =
+    says_no_memory call s.command s.text [] s.loaded (record { out = x; img = s.no_image })
+says_shown call bytes report s x = absurd x
+
+-- ---- a program of the family
+
+-- what the program of a number comes to
+pub says_generated : (call : CallSeen) (number : ℕ) (report : Report) → IsGen call.words number
+    → AsksNothing call.shelf → Untouched call.img → Generates number call.out report → Says report call
+says_generated call number report is shelf none x = by report x (record {
+  number = number;
+  words = is;
+  shelf = shelf;
+  no_image = none;
+  generates = x;
+})
+  where
+    by : (report : Report) → Generates number call.out report → HasGenerated call report → Says report call
+    by (HasVerdict verdict) x g = inr (inr (inr g))
+    by (Refused refusal) x g = inr g
+    by PutFailed x g = inr (inr (inr (inr (inr (inr g)))))
+    by NoMemory x g = inr (inr (inr g))
+    by report x g = absurd x

@@ -3,20 +3,19 @@ use Rattle.std.specs.Prelude.{ℕ, ◌≡◌, ◌≢◌, List, [], Some, Contain
 use Rattle.run_laws.specs.Runs.{Verdict as EndsWith}
 use Rattle.grift_base.specs.Sink.{SinkSeen, Untouched, Takes, Breaks}
 use Rattle.grift_base.specs.declared.places.Pos.{Pos}
-use Rattle.grift_base.specs.declared.refusals.Refusal.{Refusal}
 use Rattle.grift_base.specs.declared.verdicts.Verdict.TheVariants.{Blame}
 use Rattle.rv_machine.specs.Start.{IsRegionSize, IsStackSize}
 use Rattle.rv_machine.specs.Mach.{mach}
 use Rattle.core_calc.specs.Calculus.{Program}
 use Rattle.cast_insert.specs.Making.{Entry}
-use Rattle.cast_insert.specs.Outcomes.{Elaborates, IsRefused}
+use Rattle.cast_insert.specs.Outcomes.{Elaborates}
 use Rattle.front_end.specs.Texts.{HasOutcome}
 use Rattle.compile_driver.specs.Compiling.{FollowsProgram}
 use Rattle.blame_audit.specs.Claims.{NeverTellsBlame}
 use Rattle.blame_audit.specs.SafeLabels.{safe_labels}
 use Rattle.blame_audit.specs.Texts.{audit_lines}
 use Rattle.grift_cli.specs.Commands.{Audit}
-use Rattle.grift_cli.specs.Calls.{CallSeen, PutsNothing, HasLoaded}
+use Rattle.grift_cli.specs.Calls.{CallSeen, HasLoaded}
 use Rattle.grift_cli.specs.declared.reports.Report.{Report}
 use Rattle.grift_cli.specs.declared.reports.Report.TheVariants.{Audited, PutFailed, NoMemory}
 
@@ -67,14 +66,6 @@ pub record FailsToPutAudit (call : CallSeen) : Type 0 where
   pub casts : List Entry
   pub audits : IsAuditFile call program casts
   pub fails : Breaks (audited_text program casts) call.out
-
--- the file of an audit holds no source that is elaborated: this is its first refusal
-pub record IsRefusedAudit (call : CallSeen) (refusal : Refusal) : Type 0 where
-  pub file : List ℕ
-  pub text : List ℕ
-  pub loaded : HasLoaded call (Audit file) text []
-  pub refused : HasOutcome text (IsRefused refusal.kind refusal.pos)
-  pub nothing : PutsNothing call
 
 -- the lines were put whole, and no run of the program blames a place that they list; or the sink failed; or no memory
 -- was left and nothing was put

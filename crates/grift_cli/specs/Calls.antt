@@ -7,7 +7,8 @@ use Rattle.grift_base.specs.Sink.{SinkSeen, Untouched}
 use Rattle.grift_base.specs.Sizes.{source_limit, image_limit, input_limit}
 use Rattle.grift_base.specs.declared.shelves.LoadFault.{LoadFault}
 use Rattle.grift_base.specs.declared.shelves.LoadFault.TheVariants.{Failed, TooLong, OutOfMemory}
-use Rattle.grift_cli.specs.Commands.{Command, Run, Exec, Check, Audit, Model, IsCommand, AreNoCommand}
+use Rattle.grift_cli.specs.Commands.{Command, Run, Exec, Check, Audit, Casts, Code, ImageOf, Model, Gen}
+use Rattle.grift_cli.specs.Commands.{IsCommand, AreNoCommand}
 use Rattle.grift_cli.specs.declared.loads.Loaded.{Loaded}
 
 -- its words, and what is seen of the shelf and of the sinks for output and image
@@ -37,13 +38,21 @@ pub record File : Type 0 where
   pub name : List ℕ
   pub most : ℕ
 
--- the file that a command is about
-abbrev pub file_of : Command → File
-file_of (Run file limits input image) = record { name = file; most = source_limit }
-file_of (Exec file limits input) = record { name = file; most = image_limit }
-file_of (Check file) = record { name = file; most = source_limit }
-file_of (Audit file) = record { name = file; most = source_limit }
-file_of (Model file steps input) = record { name = file; most = source_limit }
+-- a file with a source
+abbrev pub source_file : List ℕ → File
+source_file name = record { name = name; most = source_limit }
+
+-- the file that a command is about, if it is about one
+abbrev pub file_of : Command → Option File
+file_of (Run file limits input image) = Some (source_file file)
+file_of (Exec file limits input) = Some (record { name = file; most = image_limit })
+file_of (Check file) = Some (source_file file)
+file_of (Audit file) = Some (source_file file)
+file_of (Casts file) = Some (source_file file)
+file_of (Code file) = Some (source_file file)
+file_of (ImageOf file) = Some (source_file file)
+file_of (Model file steps input) = Some (source_file file)
+file_of (Gen number) = None
 
 -- a file of input, where a name is given
 abbrev pub input_file : Option (List ℕ) → Option File
@@ -54,9 +63,8 @@ input_file (Some name) = Some (record { name = name; most = input_limit })
 abbrev pub input_of : Command → Option File
 input_of (Run file limits input image) = input_file input
 input_of (Exec file limits input) = input_file input
-input_of (Check file) = None
-input_of (Audit file) = None
 input_of (Model file steps input) = input_file input
+input_of _ = None
 
 -- its name, if there is one
 abbrev pub names_of : Option File → List (List ℕ)
@@ -123,32 +131,44 @@ LoadsFiles file input (Err OutOfMemory) shelf = LacksMemory shelf file input
 -- the words are this command, and its file and its input were loaded, with these bytes
 pub record HasLoaded (call : CallSeen) (command : Command) (bytes input : List ℕ) : Type 0 where
   pub words : IsCommand call.words command
-  pub loaded : AreLoaded call.shelf (file_of command) (input_of command) bytes input
+  pub file : File
+  pub file_is : file_of command ≡ Some file
+  pub loaded : AreLoaded call.shelf file (input_of command) bytes input
+
+-- the shelf was asked for nothing
+pub record AsksNothing (shelf : ShelfSeen) : Type 0 where
+  pub asks : AsksFor [] shelf
+  pub faults : FailsNoLoad shelf
 
 -- the words are no command, and the shelf was asked for nothing
 pub record HasNoCommand (call : CallSeen) : Type 0 where
   pub words : AreNoCommand call.words
-  pub asks : AsksFor [] call.shelf
-  pub shelf : FailsNoLoad call.shelf
+  pub shelf : AsksNothing call.shelf
   pub nothing : PutsNothing call
 
 -- a file could not be read
 pub record HasNoFile (call : CallSeen) : Type 0 where
   pub command : Command
   pub words : IsCommand call.words command
-  pub not_loaded : IsNotLoaded call.shelf (file_of command) (input_of command)
+  pub file : File
+  pub file_is : file_of command ≡ Some file
+  pub not_loaded : IsNotLoaded call.shelf file (input_of command)
   pub nothing : PutsNothing call
 
 -- a file has more bytes than it may have
 pub record HasLongFile (call : CallSeen) : Type 0 where
   pub command : Command
   pub words : IsCommand call.words command
-  pub too_long : IsTooLong call.shelf (file_of command) (input_of command)
+  pub file : File
+  pub file_is : file_of command ≡ Some file
+  pub too_long : IsTooLong call.shelf file (input_of command)
   pub nothing : PutsNothing call
 
 -- no memory was left for a file
 pub record LacksFile (call : CallSeen) : Type 0 where
   pub command : Command
   pub words : IsCommand call.words command
-  pub lacks : LacksMemory call.shelf (file_of command) (input_of command)
+  pub file : File
+  pub file_is : file_of command ≡ Some file
+  pub lacks : LacksMemory call.shelf file (input_of command)
   pub nothing : PutsNothing call

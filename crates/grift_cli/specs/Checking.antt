@@ -4,14 +4,13 @@ use Rattle.std.specs.Fmt.{decimal}
 use Rattle.grift_base.specs.Sink.{SinkSeen, Untouched, Takes, Breaks}
 use Rattle.grift_base.specs.Types.{TypeRows}
 use Rattle.grift_base.specs.declared.places.Pos.{Pos}
-use Rattle.grift_base.specs.declared.refusals.Refusal.{Refusal}
 use Rattle.type_graph.specs.Texts.{type_text}
 use Rattle.core_calc.specs.Terms.{Term}
 use Rattle.cast_insert.specs.Making.{Entry}
-use Rattle.cast_insert.specs.Outcomes.{Elaborates, IsRefused}
+use Rattle.cast_insert.specs.Outcomes.{Elaborates}
 use Rattle.front_end.specs.Texts.{HasOutcome}
 use Rattle.grift_cli.specs.Commands.{Check}
-use Rattle.grift_cli.specs.Calls.{CallSeen, PutsNothing, HasLoaded}
+use Rattle.grift_cli.specs.Calls.{CallSeen, HasLoaded}
 use Rattle.grift_cli.specs.declared.reports.Report.{Report}
 use Rattle.grift_cli.specs.declared.reports.Report.TheVariants.{Checked, PutFailed, NoMemory}
 
@@ -45,14 +44,6 @@ pub record FailsToPutLines (call : CallSeen) : Type 0 where
   pub lines : List ℕ
   pub elaborates : ElaboratesFile call lines
   pub fails : Breaks lines call.out
-
--- the file of a check holds no source that is elaborated: this is its first refusal
-pub record IsRefusedCheck (call : CallSeen) (refusal : Refusal) : Type 0 where
-  pub file : List ℕ
-  pub text : List ℕ
-  pub loaded : HasLoaded call (Check file) text []
-  pub refused : HasOutcome text (IsRefused refusal.kind refusal.pos)
-  pub nothing : PutsNothing call
 
 -- the lines were put whole, or the sink failed, or no memory was left and nothing was put
 abbrev pub PutsLines : List ℕ → SinkSeen → Report → Type 0

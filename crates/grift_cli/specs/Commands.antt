@@ -43,6 +43,10 @@ stack_default = 1048576
 abbrev pub steps_default : ℕ
 steps_default = 100000000
 
+-- the limits of a run whose words tell none
+abbrev pub default_limits : Limits
+default_limits = record { region = region_default; stack = stack_default; steps = steps_default }
+
 abbrev pub IsStepLimit : ℕ → Type 0
 IsStepLimit steps = steps ≤ 9223372036854775807
 
@@ -60,13 +64,19 @@ pub record AreLimits (words : List (List ℕ)) (limits : Limits) : Type 0 where
 
 -- a file that is compiled and run, perhaps with a file of input and with a name for its image; an image in a file that
 -- is run, perhaps with a file of input; a file whose program's type and number of casts are put; a file whose program's
--- safe labels are put; a file whose program's calculus is run for so many steps at most, perhaps with a file of input
+-- safe labels are put; a file whose program's casts are put; a file whose program's code is put, instruction by
+-- instruction; a file whose program's image is put; a file whose program's calculus is run for so many steps at most,
+-- perhaps with a file of input; a number whose program of the family is made, compiled, run and measured
 pub data Command : Type 0 where
   Run : List ℕ → Limits → Option (List ℕ) → Option (List ℕ) → Command
   Exec : List ℕ → Limits → Option (List ℕ) → Command
   Check : List ℕ → Command
   Audit : List ℕ → Command
+  Casts : List ℕ → Command
+  Code : List ℕ → Command
+  ImageOf : List ℕ → Command
   Model : List ℕ → ℕ → Option (List ℕ) → Command
+  Gen : ℕ → Command
 
 pub record IsRun (words : List (List ℕ)) (file : List ℕ) (limits : Limits) (input image : Option (List ℕ)) : Type 0
   where
@@ -87,12 +97,9 @@ pub record IsExec (words : List (List ℕ)) (file : List ℕ) (limits : Limits) 
   pub limits_are : AreLimits limit_words limits
   pub input_is : IsNameOption (codes "--input") input_words input
 
-pub record IsCheck (words : List (List ℕ)) (file : List ℕ) : Type 0 where
-  pub words_are : words ≡ codes "check" ∷ file ∷ []
-  pub named : file ≢ []
-
-pub record IsAudit (words : List (List ℕ)) (file : List ℕ) : Type 0 where
-  pub words_are : words ≡ codes "audit" ∷ file ∷ []
+-- the words are this one and a file
+pub record IsOfFile (command : List ℕ) (words : List (List ℕ)) (file : List ℕ) : Type 0 where
+  pub words_are : words ≡ command ∷ file ∷ []
   pub named : file ≢ []
 
 -- the steps that a model may be given
@@ -108,12 +115,26 @@ pub record IsModel (words : List (List ℕ)) (file : List ℕ) (steps : ℕ) (in
   pub allowed : IsModelLimit steps
   pub input_is : IsNameOption (codes "--input") input_words input
 
+-- the numbers that have a program of the family
+abbrev pub IsFamilyNumber : ℕ → Type 0
+IsFamilyNumber n = (1 ≤ n) × (n ≤ 200)
+
+pub record IsGen (words : List (List ℕ)) (number : ℕ) : Type 0 where
+  pub word : List ℕ
+  pub words_are : words ≡ codes "gen" ∷ word ∷ []
+  pub number_is : IsNumber word number
+  pub allowed : IsFamilyNumber number
+
 abbrev pub IsCommand : List (List ℕ) → Command → Type 0
 IsCommand words (Run file limits input image) = IsRun words file limits input image
 IsCommand words (Exec file limits input) = IsExec words file limits input
-IsCommand words (Check file) = IsCheck words file
-IsCommand words (Audit file) = IsAudit words file
+IsCommand words (Check file) = IsOfFile (codes "check") words file
+IsCommand words (Audit file) = IsOfFile (codes "audit") words file
+IsCommand words (Casts file) = IsOfFile (codes "casts") words file
+IsCommand words (Code file) = IsOfFile (codes "code") words file
+IsCommand words (ImageOf file) = IsOfFile (codes "image") words file
 IsCommand words (Model file steps input) = IsModel words file steps input
+IsCommand words (Gen number) = IsGen words number
 
 -- the words are no command
 abbrev pub AreNoCommand : List (List ℕ) → Type 0

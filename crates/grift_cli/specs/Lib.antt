@@ -6,6 +6,8 @@ pub mod Calls
 pub mod Checking
 pub mod Auditing
 pub mod Modelling
+pub mod Listing
+pub mod Generating
 pub mod Outcome
 pub mod Running
 pub mod Reporting

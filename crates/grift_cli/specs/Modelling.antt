@@ -2,16 +2,15 @@
 use Rattle.std.specs.Prelude.{ℕ, ◌≡◌, ◌≢◌, List, [], length, Option, Some, None}
 use Rattle.run_laws.specs.Runs.{Ending, Verdict as EndsWith, Exhausted, Wrong}
 use Rattle.grift_base.specs.Sink.{SinkSeen, Untouched, Takes, Breaks}
-use Rattle.grift_base.specs.declared.refusals.Refusal.{Refusal}
 use Rattle.grift_base.specs.declared.verdicts.Verdict.{Verdict}
 use Rattle.grift_base.specs.declared.verdicts.Verdict.TheVariants.{StepsSpent}
 use Rattle.core_calc.specs.Calculus.{Program, calc}
 use Rattle.core_calc.specs.Typing.{ProgramTermHasType}
 use Rattle.cast_insert.specs.Making.{Entry}
-use Rattle.cast_insert.specs.Outcomes.{Elaborates, IsRefused}
+use Rattle.cast_insert.specs.Outcomes.{Elaborates}
 use Rattle.front_end.specs.Texts.{HasOutcome}
 use Rattle.grift_cli.specs.Commands.{Model}
-use Rattle.grift_cli.specs.Calls.{CallSeen, PutsNothing, HasLoaded}
+use Rattle.grift_cli.specs.Calls.{CallSeen, HasLoaded}
 use Rattle.grift_cli.specs.declared.reports.Report.{Report}
 use Rattle.grift_cli.specs.declared.reports.Report.TheVariants.{HasVerdict, PutFailed, NoMemory}
 
@@ -64,14 +63,3 @@ pub record FailsToPutModel (call : CallSeen) : Type 0 where
   pub modelled : IsModelFile call program steps input
   pub some : (calc program input steps).output ≢ []
   pub fails : Breaks (calc program input steps).output call.out
-
--- the file of a model holds no source that is elaborated: this is its first refusal
-pub record IsRefusedModel (call : CallSeen) (refusal : Refusal) : Type 0 where
-  pub file : List ℕ
-  pub steps : ℕ
-  pub input_name : Option (List ℕ)
-  pub text : List ℕ
-  pub input : List ℕ
-  pub loaded : HasLoaded call (Model file steps input_name) text input
-  pub refused : HasOutcome text (IsRefused refusal.kind refusal.pos)
-  pub nothing : PutsNothing call

@@ -1,30 +1,30 @@
 -- What a report says of a call of the program.
 use Rattle.std.specs.Prelude.{ℕ, ◌≡◌, ◌≢◌, ◌⊎◌, List, [], Option, Some}
-use Rattle.run_laws.specs.Runs.{Ending, Verdict as EndsWith}
 use Rattle.grift_base.specs.Sink.{SinkSeen, Untouched, Takes, Breaks}
 use Rattle.grift_base.specs.declared.refusals.Refusal.{Refusal}
 use Rattle.grift_base.specs.declared.verdicts.Verdict.{Verdict}
-use Rattle.grift_base.specs.declared.verdicts.Verdict.TheVariants.{Answer, Blame, Trap}
 use Rattle.rv_machine.specs.Image.{IsImage}
 use Rattle.rv_machine.specs.declared.faults.MachineFault.{MachineFault}
-use Rattle.core_calc.specs.Calculus.{Program, calc}
+use Rattle.core_calc.specs.Calculus.{Program}
 use Rattle.assembler.specs.Faults.{IsFirstFault}
 use Rattle.cast_insert.specs.Outcomes.{IsRefused as IsRefusedText}
 use Rattle.front_end.specs.Texts.{HasOutcome}
 use Rattle.compile_driver.specs.Compiling.{HasProgram, FollowsProgram}
-use Rattle.grift_cli.specs.Runs.{run_within, printed, verdict_of_run, fault_of_run}
-use Rattle.grift_cli.specs.Commands.{Command, Run, Exec}
+use Rattle.grift_cli.specs.Runs.{run_within, printed, verdict_of_run, fault_of_run, ComesTo}
+use Rattle.grift_cli.specs.Commands.{Command, Run, Exec, Gen}
 use Rattle.grift_cli.specs.Calls.{CallSeen, PutsNothing, HasLoaded, HasNoCommand, HasNoFile, HasLongFile, LacksFile}
-use Rattle.grift_cli.specs.Auditing.{HasAudited, FailsToPutAudit, IsRefusedAudit}
-use Rattle.grift_cli.specs.Checking.{HasChecked, FailsToPutLines, IsRefusedCheck}
-use Rattle.grift_cli.specs.Modelling.{HasModelled, FailsToPutModel, IsRefusedModel}
+use Rattle.grift_cli.specs.Auditing.{HasAudited, FailsToPutAudit}
+use Rattle.grift_cli.specs.Checking.{HasChecked, FailsToPutLines}
+use Rattle.grift_cli.specs.Generating.{HasGenerated}
+use Rattle.grift_cli.specs.Listing.{HasShown, FailsToShow}
+use Rattle.grift_cli.specs.Modelling.{HasModelled, FailsToPutModel}
 use Rattle.grift_cli.specs.Answers.{image_fault}
 use Rattle.grift_cli.specs.declared.commands.Limits.{Limits}
 use Rattle.grift_cli.specs.declared.reports.BadImage.{BadImage}
 use Rattle.grift_cli.specs.declared.reports.Report.{Report}
 use Rattle.grift_cli.specs.declared.reports.Report.TheVariants.{HasVerdict, HasFault, Checked, Refused, ImageRefused}
 use Rattle.grift_cli.specs.declared.reports.Report.TheVariants.{WordsRefused, LoadFailed, PutFailed}
-use Rattle.grift_cli.specs.declared.reports.Report.TheVariants.{Audited, NoMemory, TooLong}
+use Rattle.grift_cli.specs.declared.reports.Report.TheVariants.{Audited, Shown, NoMemory, TooLong}
 
 -- ---- puts that fail
 
@@ -36,19 +36,25 @@ ImageFails image out img = Breaks image img × Untouched out
 abbrev pub OutputFails : List ℕ → SinkSeen → Type 0
 OutputFails output out = (output ≢ []) × Breaks output out
 
--- ---- a source that is compiled and run
+-- ---- a source that is refused
 
--- the file of a run holds no source that is elaborated: this is its first refusal
+-- the command is about a source
+abbrev pub IsOfSource : Command → Type 0
+IsOfSource (Exec file limits input) = ⊥
+IsOfSource (Gen number) = ⊥
+IsOfSource _ = Unit {0}
+
+-- the file of the command holds no source that is elaborated: this is its first refusal
 pub record IsRefused (call : CallSeen) (refusal : Refusal) : Type 0 where
-  pub file : List ℕ
-  pub limits : Limits
-  pub input_name : Option (List ℕ)
-  pub name : Option (List ℕ)
+  pub command : Command
+  pub of_source : IsOfSource command
   pub text : List ℕ
   pub input : List ℕ
-  pub loaded : HasLoaded call (Run file limits input_name name) text input
+  pub loaded : HasLoaded call command text input
   pub refused : HasOutcome text (IsRefusedText refusal.kind refusal.pos)
   pub nothing : PutsNothing call
+
+-- ---- a source that is compiled and run
 
 -- the text is the source of a program, whose term is a program term, and which this image follows; it is to be run
 -- within these limits on this input
@@ -62,20 +68,6 @@ pub record IsCompiled (call : CallSeen) (limits : Limits) (image input : List �
   pub source : HasProgram text program
   pub whole : IsImage image
   pub follows : FollowsProgram image program
-
--- a run that has come to this has ended with the verdict, where that is an answer, a blame or a trap
-abbrev pub HasEndedBy : Verdict → Option (Ending Verdict) → Type 0
-HasEndedBy (Answer answer) ending = ending ≡ Some (EndsWith (Answer answer))
-HasEndedBy (Blame place) ending = ending ≡ Some (EndsWith (Blame place))
-HasEndedBy (Trap trap) ending = ending ≡ Some (EndsWith (Trap trap))
-HasEndedBy _ ending = Unit {0}
-
--- on this input the calculus of the program comes, after some number of steps, to this very output, and has then ended
--- with the verdict, where that is an answer, a blame or a trap
-pub record ComesTo (program : Program) (input output : List ℕ) (verdict : Verdict) : Type 0 where
-  pub steps : ℕ
-  pub output_is : (calc program input steps).output ≡ output
-  pub ended : HasEndedBy verdict (calc program input steps).ending
 
 -- the image was put whole, the verdict of its run on the input is this one, which is what the program comes to on it,
 -- and what it prints was put whole
@@ -167,18 +159,21 @@ pub record LacksImage (call : CallSeen) : Type 0 where
 
 -- what a report says of the call up to its line
 abbrev pub Says : Report → CallSeen → Type 0
-Says (HasVerdict verdict) call = HasRun call verdict ⊎ (HasExecuted call verdict ⊎ HasModelled call verdict)
+Says (HasVerdict verdict) call =
+    HasRun call verdict
+    ⊎ (HasExecuted call verdict ⊎ (HasModelled call verdict ⊎ HasGenerated call (HasVerdict verdict)))
 Says (HasFault fault) call = HasGoneWrong call fault
 Says Checked call = HasChecked call
 Says Audited call = HasAudited call
-Says (Refused refusal) call =
-    IsRefused call refusal
-    ⊎ (IsRefusedCheck call refusal ⊎ (IsRefusedAudit call refusal ⊎ IsRefusedModel call refusal))
+Says Shown call = HasShown call
+Says (Refused refusal) call = IsRefused call refusal ⊎ HasGenerated call (Refused refusal)
 Says (ImageRefused fault) call = IsNoImageFile call fault
 Says WordsRefused call = HasNoCommand call
 Says LoadFailed call = HasNoFile call
 Says TooLong call = HasLongFile call
 Says PutFailed call =
     FailsToPut call
-    ⊎ (FailsToPutOutput call ⊎ (FailsToPutLines call ⊎ (FailsToPutAudit call ⊎ FailsToPutModel call)))
-Says NoMemory call = LacksFile call ⊎ (LacksImage call ⊎ LacksRun call)
+    ⊎ (FailsToPutOutput call
+    ⊎ (FailsToPutLines call
+    ⊎ (FailsToPutAudit call ⊎ (FailsToPutModel call ⊎ (FailsToShow call ⊎ HasGenerated call PutFailed)))))
+Says NoMemory call = LacksFile call ⊎ (LacksImage call ⊎ (LacksRun call ⊎ HasGenerated call NoMemory))

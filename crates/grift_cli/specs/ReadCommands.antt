@@ -1,13 +1,15 @@
 -- The commands that are read from words, and options at the front of words.
-use Rattle.std.specs.Prelude.{ℕ, ◌≤◌, ◌%◌, ◌≡◌, false, List, [], ◌∷◌, ◌++◌, codes, Option, Some, None}
+use Rattle.std.specs.Prelude.{ℕ, ◌≤◌, ◌%◌, ◌≡◌, ◌≢◌, false, List, [], ◌∷◌, ◌++◌, codes, Option, Some, None}
 use Rattle.std.specs.Borrow.{Bor}
 use Rattle.rv_machine.specs.Start.{IsRegionSize, IsStackSize}
-use Rattle.grift_cli.specs.Commands.{Command, Run, Exec, Check, Audit, Model, IsModelLimit, IsNameOption, IsNumber}
-use Rattle.grift_cli.specs.Commands.{IsNumberOption, IsRun}
+use Rattle.grift_cli.specs.Commands.{Command, Run, Exec, Check, Audit, Casts, Code, ImageOf, Model, Gen}
+use Rattle.grift_cli.specs.Commands.{IsModelLimit, IsNameOption, IsNumber, IsNumberOption, IsRun}
 use Rattle.grift_cli.specs.Commands.{IsStepLimit, region_default, stack_default, steps_default}
 use Rattle.grift_cli.specs.declared.commands.Command.{Command as ReadCommand}
 use Rattle.grift_cli.specs.declared.commands.Command.TheVariants.{Run as ReadRun, Exec as ReadExec, Check as ReadCheck}
 use Rattle.grift_cli.specs.declared.commands.Command.TheVariants.{Audit as ReadAudit, Model as ReadModel}
+use Rattle.grift_cli.specs.declared.commands.Command.TheVariants.{Casts as ReadCasts, Code as ReadCode}
+use Rattle.grift_cli.specs.declared.commands.Command.TheVariants.{ImageOf as ReadImageOf, Gen as ReadGen}
 use Rattle.grift_cli.specs.declared.commands.Limits.{Limits}
 
 -- a multiple, up to a greatest one
@@ -62,15 +64,20 @@ command_of (ReadExec file region stack steps input) =
     Exec file.now (record { region = region; stack = stack; steps = steps }) (name_bytes input)
 command_of (ReadCheck file) = Check file.now
 command_of (ReadAudit file) = Audit file.now
+command_of (ReadCasts file) = Casts file.now
+command_of (ReadCode file) = Code file.now
+command_of (ReadImageOf file) = ImageOf file.now
 command_of (ReadModel file steps input) = Model file.now steps (name_bytes input)
+command_of (ReadGen number) = Gen number
 
 -- it tells nothing beside this
 abbrev pub TellsNoMore : ReadCommand → Type 0
 TellsNoMore (ReadRun file region stack steps input space image) = space ≡ false
-TellsNoMore (ReadExec file region stack steps input) = Unit {0}
-TellsNoMore (ReadCheck file) = Unit {0}
-TellsNoMore (ReadAudit file) = Unit {0}
-TellsNoMore (ReadModel file steps input) = Unit {0}
+TellsNoMore _ = Unit {0}
+
+-- the word is that of no command that has options
+abbrev pub HasNoOptions : List ℕ → Type 0
+HasNoOptions word = (word ≢ codes "run") × (word ≢ codes "exec") × (word ≢ codes "model")
 
 -- the words are a run command that gives its image this name
 pub record GivesImage (words : List (List ℕ)) (name : List ℕ) : Type 0 where

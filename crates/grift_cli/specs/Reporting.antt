@@ -28,7 +28,7 @@ use Rattle.grift_cli.specs.declared.reports.Line.TheVariants.{Fixed, Made}
 use Rattle.grift_cli.specs.declared.reports.Report.{Report}
 use Rattle.grift_cli.specs.declared.reports.Report.TheVariants.{HasVerdict, HasFault, Checked, Refused, ImageRefused}
 use Rattle.grift_cli.specs.declared.reports.Report.TheVariants.{WordsRefused, LoadFailed, PutFailed}
-use Rattle.grift_cli.specs.declared.reports.Report.TheVariants.{Audited, NoMemory, TooLong}
+use Rattle.grift_cli.specs.declared.reports.Report.TheVariants.{Audited, Shown, NoMemory, TooLong}
 
 -- ---- statuses and lines
 
@@ -41,6 +41,7 @@ report_status (HasVerdict StackOut) = 6
 report_status (HasVerdict StepsSpent) = 7
 report_status Checked = 0
 report_status Audited = 0
+report_status Shown = 0
 report_status (Refused refusal) = 1
 report_status WordsRefused = 2
 report_status LoadFailed = 8
@@ -72,9 +73,10 @@ bad_image_line Section = codes "bad image section\n"
 abbrev pub report_line : Report → List ℕ
 report_line (HasVerdict verdict) = verdict_text verdict ++ codes "\n"
 report_line (HasFault fault) = fault_line fault
--- a check or an audit that went well has none
+-- a check, an audit or a listing that went well has none
 report_line Checked = codes ""
 report_line Audited = codes ""
+report_line Shown = codes ""
 report_line (Refused refusal) = refusal_line refusal
 report_line (ImageRefused fault) = bad_image_line fault
 report_line WordsRefused = codes "words refused\n"
@@ -104,11 +106,12 @@ IsMadeLine (HasFault fault) = Unit {0}
 IsMadeLine (Refused refusal) = Unit {0}
 IsMadeLine _ = ⊥
 
--- a check or an audit that went well puts nothing; else the report's line was put, or, where no memory was left to
+-- a check, an audit or a listing that went well puts nothing; else the report's line was put, or, where no memory was left to
 -- make it, that of want of memory
 abbrev pub PutsReport : Report → SinkSeen → ℕ → Type 0
 PutsReport Checked err status = (status ≡ 0) × Untouched err
 PutsReport Audited err status = (status ≡ 0) × Untouched err
+PutsReport Shown err status = (status ≡ 0) × Untouched err
 PutsReport report err status =
     PutsLine (report_line report) (report_status report) err status
     ⊎ (IsMadeLine report × PutsLine (report_line NoMemory) (report_status NoMemory) err status)

@@ -2,9 +2,10 @@
 
 ghost use Rattle.std.specs.Prelude.{ℕ, ◌≡◌, ◌≢◌, ◌≤◌, ◌<◌, ◌%◌, ◌∷◌, [], List, Option, codes, map, string_bytes};
 ghost use Rattle.std.specs.Prelude.{MatchOption, IfSome};
-ghost use Rattle.grift_cli.specs.Commands.{Command as WordsCommand, IsNumber, IsCommand, AreNoCommand};
+ghost use Rattle.grift_cli.specs.Commands.{Command as WordsCommand, IsNumber, IsCommand, AreNoCommand, default_limits};
 ghost use Rattle.grift_cli.specs.ReadCommands.{NumberAtFront, NameAtFront, LimitsAtFront, StepsAtFront, IsWithin};
-ghost use Rattle.grift_cli.specs.ReadCommands.{GivesImage, GivesNoImage, TellsNoMore, command_of, name_bytes};
+ghost use Rattle.grift_cli.specs.ReadCommands.{GivesImage, GivesNoImage, TellsNoMore, HasNoOptions, command_of};
+ghost use Rattle.grift_cli.specs.ReadCommands.{name_bytes};
 
 // The limits of a run: the greatest that may be told, and what they are where none is told.
 const MOST_REGION: u64 = 1_073_741_824;
@@ -21,6 +22,9 @@ const DEFAULT_STEPS: u64 = 100_000_000;
 
 // The most steps that a model may be given.
 const MOST_MODEL_STEPS: u64 = 10_000_000;
+
+// The greatest number that has a program.
+const MOST_NUMBER: u64 = 200;
 
 /// A command of the program. A `space` is told by no words.
 #[derive(Clone, Copy, PartialEq, Eq, Debug)]
@@ -51,11 +55,27 @@ pub enum Command<'a> {
     Audit {
         file: &'a str,
     },
+    /// A file whose program's casts are put, a line each.
+    Casts {
+        file: &'a str,
+    },
+    /// A file whose program's code is put, a line for each instruction.
+    Code {
+        file: &'a str,
+    },
+    /// A file whose program's image is put.
+    ImageOf {
+        file: &'a str,
+    },
     /// A file whose program's calculus is run for so many steps at most, and the file of its input, if it gets one.
     Model {
         file: &'a str,
         steps: u64,
         input: Option<&'a str>,
+    },
+    /// A number whose program is made, compiled and run, and told in numbers.
+    Gen {
+        number: u32,
     },
 }
 
@@ -65,6 +85,17 @@ pub struct Limits {
     pub region: u64,
     pub stack: u64,
     pub steps: u64,
+}
+
+/// The limits of a run whose words tell none.
+pub fn default_limits() -> Limits
+    ensures { result ≡ default_limits }
+{
+    Limits {
+        region: DEFAULT_REGION,
+        stack: DEFAULT_STACK,
+        steps: DEFAULT_STEPS,
+    }
 }
 
 // The number that a word is.
@@ -239,25 +270,58 @@ fn model_of<'a>(file: &'a str, options: &'a [String]) -> Option<Command<'a>>
     Some(Command::Model { file, steps, input })
 }
 
+// The gen command of a number, if the word is one that has a program.
+fn gen_of<'a>(number: &str) -> Option<Command<'a>>
+    ensures command { (words : List (List ℕ)) → words ≡ codes "gen" ∷ number.now ∷ []
+        → MatchOption result (AreNoCommand words) (λ command. IsCommand words (command_of command)) }
+    ensures rest { IfSome result TellsNoMore }
+{
+    let number = number_in(number)?;
+    if number < 1 || number > MOST_NUMBER {
+        return None;
+    }
+    Some(Command::Gen {
+        number: number as u32,
+    })
+}
+
+// The command of these two words, if they are one; it is none that may have options.
+fn pair_of<'a>(command: &str, second: &'a str) -> Option<Command<'a>>
+    requires some { second.now ≢ [] }
+    requires other { HasNoOptions command.now }
+    ensures command { (words : List (List ℕ)) → words ≡ command.now ∷ second.now ∷ []
+        → MatchOption result (AreNoCommand words) (λ command. IsCommand words (command_of command)) }
+    ensures rest { IfSome result TellsNoMore }
+{
+    match command {
+        "check" => Some(Command::Check { file: second }),
+        "audit" => Some(Command::Audit { file: second }),
+        "casts" => Some(Command::Casts { file: second }),
+        "code" => Some(Command::Code { file: second }),
+        "image" => Some(Command::ImageOf { file: second }),
+        "gen" => gen_of(second),
+        _ => None,
+    }
+}
+
 /// The command that the words are; none exactly where they are none. Takes no memory.
 pub fn read_words(words: &[String]) -> Option<Command<'_>>
     ensures command { let texts = map string_bytes words.now in
         MatchOption result (AreNoCommand texts) (λ command. IsCommand texts (command_of command)) }
     ensures rest { IfSome result TellsNoMore }
 {
-    let [command, file, options @ ..] = words else {
+    let [command, second, options @ ..] = words else {
         return None;
     };
-    let file = file.as_str();
-    if file.is_empty() {
+    let second = second.as_str();
+    if second.is_empty() {
         return None;
     }
     match command.as_str() {
-        "run" => run_of(file, options),
-        "exec" => exec_of(file, options),
-        "model" => model_of(file, options),
-        "check" if options.is_empty() => Some(Command::Check { file }),
-        "audit" if options.is_empty() => Some(Command::Audit { file }),
+        "run" => run_of(second, options),
+        "exec" => exec_of(second, options),
+        "model" => model_of(second, options),
+        word if options.is_empty() => pair_of(word, second),
         _ => None,
     }
 }

@@ -4,6 +4,8 @@
 mod audits;
 mod checks;
 pub mod commands;
+mod generator;
+mod listings;
 mod loads;
 mod models;
 mod reports;

@@ -37,6 +37,8 @@ pub enum Report {
     Checked,
     /// The source was elaborated, and the lines of an audit were put.
     Audited,
+    /// The source was elaborated, and what the command shows of it was put.
+    Shown,
     /// The source is no program.
     Refused(Refusal),
     /// The file holds no image.
@@ -77,7 +79,10 @@ pub fn status_of(report: Report) -> u8
     ensures { result ≡ report_status report }
 {
     match report {
-        Report::HasVerdict(Verdict::Answer(_)) | Report::Checked | Report::Audited => 0,
+        Report::HasVerdict(Verdict::Answer(_))
+        | Report::Checked
+        | Report::Audited
+        | Report::Shown => 0,
         Report::Refused(_) => 1,
         Report::WordsRefused => 2,
         Report::HasVerdict(Verdict::Blame(_)) => 3,
@@ -94,7 +99,7 @@ pub fn status_of(report: Report) -> u8
     }
 }
 
-/// The line of a report, with its line feed; a check or an audit that went well has none.
+/// The line of a report, with its line feed; a check, an audit or a listing that went well has none.
 pub fn line_of(alloc: Global, report: Report) -> Result<Line, OutOfMemory>
     ensures ok { IfOk result (λ line. bytes_of_line line ≡ report_line report) }
     ensures err { OnErr result (IsMadeLine report) }
@@ -102,7 +107,7 @@ pub fn line_of(alloc: Global, report: Report) -> Result<Line, OutOfMemory>
     match report {
         Report::HasVerdict(verdict) => verdict_line(alloc, &verdict).map(Line::Made),
         Report::HasFault(fault) => fault_line(alloc, fault).map(Line::Made),
-        Report::Checked | Report::Audited => Ok(Line::Fixed(b"")),
+        Report::Checked | Report::Audited | Report::Shown => Ok(Line::Fixed(b"")),
         Report::Refused(refusal) => refusal_line(alloc, refusal).map(Line::Made),
         Report::ImageRefused(fault) => Ok(Line::Fixed(bad_image_line(fault))),
         Report::WordsRefused => Ok(Line::Fixed(b"words refused\n")),

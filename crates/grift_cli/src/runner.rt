@@ -86,8 +86,8 @@ pub fn report_of(fault: SinkFault) -> Report
     }
 }
 
-// How the run of an image is reported, and the machine as it stopped; none for want of memory.
-fn run_machine(
+/// How the run of an image is reported, and the machine as it stopped; none for want of memory.
+pub fn run_machine(
     alloc: Global,
     image: &Image,
     limits: Limits,

@@ -1,10 +1,11 @@
 // The top call: all that the program does.
 
-ghost use Rattle.std.specs.Prelude.{◌≡◌, ℕ, List, Option, map, string_bytes};
+ghost use Rattle.std.specs.Prelude.{◌≡◌, ℕ, List, Option, codes, map, string_bytes};
 ghost use Rattle.grift_base.specs.Shelf.{shelf_seen};
 ghost use Rattle.grift_base.specs.Sink.{SinkSeen, Untouched, sink_seen};
 ghost use Rattle.rv_machine.specs.Start.{IsRegionSize, IsStackSize};
-ghost use Rattle.grift_cli.specs.Commands.{IsRun, IsExec, IsCheck, IsAudit, IsModel};
+ghost use Rattle.grift_cli.specs.Commands.{IsRun, IsExec, IsOfFile, IsModel, IsCommand};
+ghost use Rattle.grift_cli.specs.Listing.{command_by};
 ghost use Rattle.grift_cli.specs.Outcome.{Says};
 ghost use Rattle.grift_cli.specs.ReadCommands.{name_bytes};
 ghost use Rattle.grift_cli.specs.Reporting.{PutsLine, PutsReport, IsAnswered, report_line, report_status};
@@ -12,6 +13,8 @@ ghost use Rattle.grift_cli.specs.Reporting.{PutsLine, PutsReport, IsAnswered, re
 use crate::audits::put_audit;
 use crate::checks::put_lines;
 use crate::commands::{Command, Limits, read_words};
+use crate::generator::generate;
+use crate::listings::{View, put_casts, put_view};
 use crate::loads::{Loaded, load_files};
 use crate::models::run_model;
 use crate::reports::{
@@ -96,9 +99,13 @@ fn report_of_call<S: Shelf, O: Sink, I: Sink>(
         }
         Command::Check { file } => report_of_check(alloc, file, shelf, out),
         Command::Audit { file } => report_of_audit(alloc, file, shelf, out),
+        Command::Casts { file } => report_of_casts(alloc, file, shelf, out),
+        Command::Code { file } => report_of_view(alloc, View::Listing, file, shelf, out),
+        Command::ImageOf { file } => report_of_view(alloc, View::Bytes, file, shelf, out),
         Command::Model { file, steps, input } => {
             report_of_model(alloc, file, input, steps, shelf, out)
         }
+        Command::Gen { number } => generate(alloc, number, out),
     }
 }
 
@@ -168,7 +175,7 @@ fn report_of_check<S: Shelf, O: Sink>(
     shelf: &mut S,
     out: &mut O,
 ) -> Report
-    ensures { (words : List (List ℕ)) (img : SinkSeen) → IsCheck words file.now → Untouched img
+    ensures { (words : List (List ℕ)) (img : SinkSeen) → IsOfFile (codes "check") words file.now → Untouched img
         → Says result (record {
           words = words;
           shelf = shelf_seen S.holds S.asked S.fault_count shelf.old shelf.new;
@@ -193,7 +200,7 @@ fn report_of_audit<S: Shelf, O: Sink>(
     shelf: &mut S,
     out: &mut O,
 ) -> Report
-    ensures { (words : List (List ℕ)) (img : SinkSeen) → IsAudit words file.now → Untouched img
+    ensures { (words : List (List ℕ)) (img : SinkSeen) → IsOfFile (codes "audit") words file.now → Untouched img
         → Says result (record {
           words = words;
           shelf = shelf_seen S.holds S.asked S.fault_count shelf.old shelf.new;
@@ -207,6 +214,57 @@ fn report_of_audit<S: Shelf, O: Sink>(
     };
     match elaborate_text(alloc, loaded.bytes.as_slice()) {
         Ok(done) => put_audit(alloc, &done, out),
+        Err(fault) => report_of_source(fault),
+    }
+}
+
+// The report of a call that puts the casts of the source in this file.
+fn report_of_casts<S: Shelf, O: Sink>(
+    alloc: Global,
+    file: &str,
+    shelf: &mut S,
+    out: &mut O,
+) -> Report
+    ensures { (words : List (List ℕ)) (img : SinkSeen) → IsOfFile (codes "casts") words file.now → Untouched img
+        → Says result (record {
+          words = words;
+          shelf = shelf_seen S.holds S.asked S.fault_count shelf.old shelf.new;
+          out = sink_seen O.written O.fault_count out.old out.new;
+          img = img;
+        }) }
+{
+    let loaded = match load_files(alloc, shelf, file, SOURCE_LIMIT, None) {
+        Ok(loaded) => loaded,
+        Err(fault) => return report_of_load(fault),
+    };
+    match elaborate_text(alloc, loaded.bytes.as_slice()) {
+        Ok(done) => put_casts(alloc, &done, out),
+        Err(fault) => report_of_source(fault),
+    }
+}
+
+// The report of a call that compiles the source in this file and puts what the view shows of its image.
+fn report_of_view<S: Shelf, O: Sink>(
+    alloc: Global,
+    view: View,
+    file: &str,
+    shelf: &mut S,
+    out: &mut O,
+) -> Report
+    ensures { (words : List (List ℕ)) (img : SinkSeen) → IsCommand words (command_by view file.now) → Untouched img
+        → Says result (record {
+          words = words;
+          shelf = shelf_seen S.holds S.asked S.fault_count shelf.old shelf.new;
+          out = sink_seen O.written O.fault_count out.old out.new;
+          img = img;
+        }) }
+{
+    let loaded = match load_files(alloc, shelf, file, SOURCE_LIMIT, None) {
+        Ok(loaded) => loaded,
+        Err(fault) => return report_of_load(fault),
+    };
+    match compile(alloc, loaded.bytes.as_slice()) {
+        Ok(compiled) => put_view(alloc, view, &compiled.image, out),
         Err(fault) => report_of_source(fault),
     }
 }
@@ -243,7 +301,7 @@ fn report_of_model<S: Shelf, O: Sink>(
 fn put_report<E: Sink>(alloc: Global, err: &mut E, report: Report) -> u8
     ensures { PutsReport report (sink_seen E.written E.fault_count err.old err.new) result }
 {
-    if report == Report::Checked || report == Report::Audited {
+    if matches!(report, Report::Checked | Report::Audited | Report::Shown) {
         return 0;
     }
     match line_of(alloc, report) {

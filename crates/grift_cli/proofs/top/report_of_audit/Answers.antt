@@ -4,12 +4,12 @@ use Rattle.cast_insert.specs.Views.{entries_of}
 use Rattle.front_end.proofs.Public.{read_programs_are_sources}
 use Rattle.blame_audit.specs.Claims.{program_over}
 use Rattle.grift_cli.specs.Commands.{Audit}
-use Rattle.grift_cli.proofs.Saying.{has_loaded, says_load_fault, says_audit_fault, says_audit}
+use Rattle.grift_cli.proofs.Saying.{has_loaded, says_load_fault, says_source_fault, says_audit}
 use Rattle.grift_cli.proofs.top.report_of_audit.Goals as goal
 
 pub returns-in-Err : goal.returns-in-Err
 returns-in-Err g c words img is none =
-    rw c.report_of_load.ensures (says_load_fault _ (Audit c.args.file.now) c.in-Err.fault is
+    rw c.report_of_load.ensures (says_load_fault _ (Audit c.args.file.now) _ c.in-Err.fault is refl
     (record { out = record { written = refl; faults = refl }; img = none }) c.in-Err.ensures)
 
 pub put_audit-requires : goal.put_audit-requires
@@ -29,7 +29,7 @@ returns-in-Ok-elaborate_text g c words img is none =
     says_audit _ (program_over done.types done.elab) (entries_of done.elab.casts) c.put_audit.result (record {
       file = c.args.file.now;
       text = c.as_slice.result.now;
-      loaded = has_loaded _ (Audit c.args.file.now) c.as_slice.result.now [] loaded.bytes loaded.input is
+      loaded = has_loaded _ (Audit c.args.file.now) _ c.as_slice.result.now [] loaded.bytes loaded.input is refl
           c.in-Ok.ensures c.as_slice.ensures (sym c.in-Ok.ensures.input_is);
       type = done.elab.ty.0;
       elaborated = c.in-Ok-elaborate_text.ensures.outcome;
@@ -38,8 +38,8 @@ returns-in-Ok-elaborate_text g c words img is none =
 
 pub returns : goal.returns
 returns g c words img is none =
-    rw c.report_of_source.ensures (says_audit_fault _ c.args.file.now c.as_slice.result.now
-    c.in-Err-elaborate_text.fault (has_loaded _ (Audit c.args.file.now) c.as_slice.result.now []
-    c.in-Ok.loaded.bytes c.in-Ok.loaded.input is c.in-Ok.ensures c.as_slice.ensures
+    rw c.report_of_source.ensures (says_source_fault _ (Audit c.args.file.now) c.as_slice.result.now []
+    c.in-Err-elaborate_text.fault tt (has_loaded _ (Audit c.args.file.now) _ c.as_slice.result.now []
+    c.in-Ok.loaded.bytes c.in-Ok.loaded.input is refl c.in-Ok.ensures c.as_slice.ensures
     (sym c.in-Ok.ensures.input_is))
     (record { out = record { written = refl; faults = refl }; img = none }) c.in-Err-elaborate_text.ensures.refused)

@@ -3,13 +3,13 @@ use Rattle.blame_audit.specs.Claims.{program_over}
 use Rattle.cast_insert.specs.Views.{entries_of}
 use Rattle.grift_cli.specs.Commands.{Model}
 use Rattle.grift_cli.specs.ReadCommands.{name_bytes}
-use Rattle.grift_cli.proofs.Saying.{has_loaded, says_load_fault, says_model, says_model_fault}
+use Rattle.grift_cli.proofs.Saying.{has_loaded, says_load_fault, says_model, says_source_fault}
 use Rattle.grift_cli.proofs.top.report_of_model.Goals as goal
 
 pub returns-in-Err : goal.returns-in-Err
 returns-in-Err g c words img is none =
-    rw c.report_of_load.ensures (says_load_fault _ (Model c.args.file.now c.args.steps (name_bytes c.args.input))
-    c.in-Err.fault is (record { out = record { written = refl; faults = refl }; img = none }) c.in-Err.ensures)
+    rw c.report_of_load.ensures (says_load_fault _ (Model c.args.file.now c.args.steps (name_bytes c.args.input)) _
+    c.in-Err.fault is refl (record { out = record { written = refl; faults = refl }; img = none }) c.in-Err.ensures)
 
 pub returns-in-Ok-elaborate_text : goal.returns-in-Ok-elaborate_text
 returns-in-Ok-elaborate_text g c words img is none =
@@ -19,8 +19,8 @@ returns-in-Ok-elaborate_text g c words img is none =
       file = c.args.file.now;
       input_name = name_bytes c.args.input;
       text = c.as_slice.result.now;
-      loaded = has_loaded _ (Model c.args.file.now c.args.steps (name_bytes c.args.input)) c.as_slice.result.now
-          loaded.input loaded.bytes loaded.input is c.in-Ok.ensures c.as_slice.ensures refl;
+      loaded = has_loaded _ (Model c.args.file.now c.args.steps (name_bytes c.args.input)) _ c.as_slice.result.now
+          loaded.input loaded.bytes loaded.input is refl c.in-Ok.ensures c.as_slice.ensures refl;
       type = done.elab.ty.0;
       casts = entries_of done.elab.casts;
       elaborated = c.in-Ok-elaborate_text.ensures.outcome;
@@ -31,8 +31,8 @@ returns-in-Ok-elaborate_text g c words img is none =
 pub returns : goal.returns
 returns g c words img is none =
     let loaded = c.in-Ok.loaded in
-    rw c.report_of_source.ensures (says_model_fault _ c.args.file.now c.args.steps (name_bytes c.args.input)
-    c.as_slice.result.now loaded.input c.in-Err-elaborate_text.fault
-    (has_loaded _ (Model c.args.file.now c.args.steps (name_bytes c.args.input)) c.as_slice.result.now loaded.input
-    loaded.bytes loaded.input is c.in-Ok.ensures c.as_slice.ensures refl)
+    rw c.report_of_source.ensures (says_source_fault _ (Model c.args.file.now c.args.steps (name_bytes c.args.input))
+    c.as_slice.result.now loaded.input c.in-Err-elaborate_text.fault tt
+    (has_loaded _ (Model c.args.file.now c.args.steps (name_bytes c.args.input)) _ c.as_slice.result.now loaded.input
+    loaded.bytes loaded.input is refl c.in-Ok.ensures c.as_slice.ensures refl)
     (record { out = record { written = refl; faults = refl }; img = none }) c.in-Err-elaborate_text.ensures.refused)

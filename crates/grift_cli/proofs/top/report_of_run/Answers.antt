@@ -8,17 +8,17 @@ use Rattle.grift_cli.proofs.top.report_of_run.Goals as goal
 pub returns-in-Err : goal.returns-in-Err
 returns-in-Err g c words name is =
     rw c.report_of_load.ensures (says_load_fault _
-    (Run c.args.file.now c.args.limits (name_bytes c.args.input) name) c.in-Err.fault is
+    (Run c.args.file.now c.args.limits (name_bytes c.args.input) name) _ c.in-Err.fault is refl
     (record { out = record { written = refl; faults = refl }; img = record { written = refl; faults = refl } })
     c.in-Err.ensures)
 
 pub returns-in-Err-compile : goal.returns-in-Err-compile
 returns-in-Err-compile g c words name is =
     let loaded = c.in-Ok.loaded in
-    rw c.report_of_source.ensures (says_source_fault _ c.args.file.now c.args.limits (name_bytes c.args.input) name
-    c.as_slice.result.now loaded.input c.in-Err-compile.fault
-    (has_loaded _ (Run c.args.file.now c.args.limits (name_bytes c.args.input) name) c.as_slice.result.now
-    loaded.input loaded.bytes loaded.input is c.in-Ok.ensures c.as_slice.ensures refl)
+    rw c.report_of_source.ensures (says_source_fault _ (Run c.args.file.now c.args.limits (name_bytes c.args.input) name)
+    c.as_slice.result.now loaded.input c.in-Err-compile.fault tt
+    (has_loaded _ (Run c.args.file.now c.args.limits (name_bytes c.args.input) name) _ c.as_slice.result.now
+    loaded.input loaded.bytes loaded.input is refl c.in-Ok.ensures c.as_slice.ensures refl)
     (record { out = record { written = refl; faults = refl }; img = record { written = refl; faults = refl } })
     c.in-Err-compile.ensures.refused)
 
@@ -37,8 +37,8 @@ returns g c words name is =
       input_name = name_bytes c.args.input;
       name = name;
       text = c.as_slice.result.now;
-      loaded = has_loaded _ (Run c.args.file.now c.args.limits (name_bytes c.args.input) name)
-          c.as_slice.result.now loaded.input loaded.bytes loaded.input is c.in-Ok.ensures c.as_slice.ensures refl;
+      loaded = has_loaded _ (Run c.args.file.now c.args.limits (name_bytes c.args.input) name) _
+          c.as_slice.result.now loaded.input loaded.bytes loaded.input is refl c.in-Ok.ensures c.as_slice.ensures refl;
       program = program_of c.in-Ok-compile.compiled;
       source = c.in-Ok-compile.ensures.source;
       whole = c.in-Ok-compile.ensures.whole;
