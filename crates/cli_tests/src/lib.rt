@@ -9,4 +9,6 @@ mod commands;
 #[cfg(test)]
 mod inputs;
 #[cfg(test)]
+mod spaces;
+#[cfg(test)]
 mod words;

@@ -6,4 +6,5 @@ mod Addresses
 mod Putting
 mod Stopping
 mod Loading
+mod StoppedStorage
 mod Saying

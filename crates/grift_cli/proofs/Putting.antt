@@ -12,14 +12,16 @@ use Rattle.rv_machine.specs.Start.{start_of, fresh_world}
 use Rattle.rv_machine.specs.Mach.{moment_of}
 use Rattle.rv_machine.specs.declared.faults.MachineFault.{MachineFault}
 use Rattle.rv_machine.proofs.Public.{run_is_its_turns-states}
-use Rattle.grift_cli.specs.Runs.{run_within, fault_of_run}
+use Rattle.grift_cli.specs.Runs.{run_within, printed, fault_of_run}
 use Rattle.grift_cli.specs.Reporting.{PutsLine, Fails, Lacks, fault_status}
-use Rattle.grift_cli.specs.Running.{RunsWell, PutsAll, Executes, Runs}
+use Rattle.grift_cli.specs.Running.{RunsWell, PutsAll, Executes, Runs, RunsInSpace, TellsRun}
+use Rattle.grift_cli.specs.Spaces.{ReportsSpace, in_space}
+use Rattle.grift_cli.specs.declared.reports.Space.{Space}
 use Rattle.grift_cli.specs.declared.commands.Limits.{Limits}
 use Rattle.grift_cli.specs.declared.reports.Report.{Report}
 use Rattle.grift_cli.specs.declared.reports.Report.TheVariants.{HasVerdict, HasFault, Checked, Refused, ImageRefused}
 use Rattle.grift_cli.specs.declared.reports.Report.TheVariants.{WordsRefused, LoadFailed, PutFailed}
-use Rattle.grift_cli.specs.declared.reports.Report.TheVariants.{Audited, NoMemory, TooLong}
+use Rattle.grift_cli.specs.declared.reports.Report.TheVariants.{Audited, HasSpace, NoMemory, TooLong}
 
 -- ---- one put
 
@@ -63,6 +65,7 @@ pub runs_after_put : (limits : Limits) (image input bytes : List ℕ) (out img :
     → Runs limits image input out img report
 runs_after_put limits image input bytes out img (HasVerdict verdict) well b t x =
     (subst (λ xs. Takes xs img) b t, x.0, x.1)
+runs_after_put limits image input bytes out img (HasSpace verdict space) well b t x = absurd x.0
 runs_after_put limits image input bytes out img (HasFault fault) well b t x =
     no_fault limits image input fault well x.0
 runs_after_put limits image input bytes out img PutFailed well b t x = inr (subst (λ xs. Takes xs img) b t, x)
@@ -74,3 +77,24 @@ runs_after_put limits image input bytes out img (ImageRefused fault) well b t x 
 runs_after_put limits image input bytes out img WordsRefused well b t x = absurd x.0
 runs_after_put limits image input bytes out img LoadFailed well b t x = absurd x.0
 runs_after_put limits image input bytes out img TooLong well b t x = absurd x.0
+
+-- an image that never goes wrong was put, then run, and what it prints was put: it is told with its storage
+module _ (limits : Limits) (image input : List ℕ) (tallest : ℕ) (well : RunsWell limits image input)
+    {bytes text : List ℕ} {out img : SinkSeen} (image_is : bytes ≡ image) (taken : Takes bytes img)
+    (text_is : text ≡ printed limits image input) (put : Takes text out) where
+  pub shows_space : (report : Report) (space : Space) → TellsRun (run_within limits image input).1 report
+      → ReportsSpace limits image input tallest space
+      → RunsInSpace limits image input tallest out img (in_space report space)
+  shows_space (HasVerdict verdict) space t r =
+      ((subst (λ xs. Takes xs img) image_is taken, t, subst (λ xs. Takes xs out) text_is put), r)
+  shows_space (HasFault fault) space t r = absurd (no_fault limits image input fault well t)
+  shows_space (HasSpace verdict told) space t r = absurd t
+  shows_space PutFailed space t r = absurd t
+  shows_space NoMemory space t r = absurd t
+  shows_space Checked space t r = absurd t
+  shows_space Audited space t r = absurd t
+  shows_space (Refused refusal) space t r = absurd t
+  shows_space (ImageRefused fault) space t r = absurd t
+  shows_space WordsRefused space t r = absurd t
+  shows_space LoadFailed space t r = absurd t
+  shows_space TooLong space t r = absurd t

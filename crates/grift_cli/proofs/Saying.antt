@@ -1,5 +1,5 @@
 -- What the report of a call says of it.
-use Rattle.std.proofs.Common.{ℕ, ◌≡◌, inl, inr, List, [], Option, Some, None, refl, sym, ◌∙◌}
+use Rattle.std.proofs.Common.{ℕ, ◌≡◌, inl, inr, Bool, true, false, List, [], Option, Some, None, refl, sym, ◌∙◌}
 use Rattle.std.proofs.Common.{ap}
 use Rattle.std.proofs.Common.{subst}
 use Rattle.std.specs.Prelude.{Err, ◌≢◌}
@@ -21,11 +21,14 @@ use Rattle.grift_base.specs.declared.verdicts.Verdict.TheVariants.{Answer, Blame
 use Rattle.core_calc.specs.Calculus.{Program, calc}
 use Rattle.rv_machine.specs.State.{State, Region, Stack, Halt, Ended, Lacks, GoesWrong}
 use Rattle.rv_machine.specs.Start.{IsRegionSize, IsStackSize, start_of, fresh_world}
+use Rattle.rv_machine.specs.Image.{IsImage}
 use Rattle.rv_machine.specs.Mach.{mach, moment_of}
 use Rattle.rv_machine.proofs.Public.{run_is_its_turns-states}
 use Rattle.front_end.specs.Texts.{IsFault}
 use Rattle.cast_insert.specs.Making.{Entry}
-use Rattle.compile_driver.specs.Compiling.{FollowsProgram}
+use Rattle.compile_driver.specs.Compiling.{FollowsProgram, HasProgram, IsTold, program_of, tallest_in}
+use Rattle.compile_driver.specs.Space.{KeepsSpace}
+use Rattle.compile_driver.specs.declared.compiling.Compiled.{Compiled}
 use Rattle.blame_audit.specs.Claims.{NeverTellsBlame}
 use Rattle.grift_cli.specs.Calls.{CallSeen, PutsNothing, AreLoaded, LoadsFiles, HasLoaded, file_of, input_of}
 use Rattle.grift_cli.specs.Auditing.{IsAuditFile, IsNeverBlamed, PutsAudit}
@@ -34,13 +37,14 @@ use Rattle.grift_cli.specs.Commands.{Command, Run, Exec, Check, Audit, Model, Is
 use Rattle.grift_cli.specs.Modelling.{IsModelFile, Models}
 use Rattle.grift_cli.specs.Outcome.{IsCompiled, IsImageFile, HasEndedBy, ComesTo, Says}
 use Rattle.grift_cli.specs.Reporting.{load_report, source_report, image_report}
-use Rattle.grift_cli.specs.Running.{RunsWell, Runs, Executes}
+use Rattle.grift_cli.specs.Running.{RunsWell, Runs, RunsInSpace, Executes}
 use Rattle.grift_cli.specs.Runs.{run_within, printed, verdict_of_run}
+use Rattle.grift_cli.specs.Spaces.{ReportsSpace}
 use Rattle.grift_cli.specs.declared.commands.Limits.{Limits}
 use Rattle.grift_cli.specs.declared.reports.Report.{Report}
 use Rattle.grift_cli.specs.declared.reports.Report.TheVariants.{HasVerdict, HasFault, Checked, Refused, ImageRefused}
 use Rattle.grift_cli.specs.declared.reports.Report.TheVariants.{WordsRefused, LoadFailed, PutFailed}
-use Rattle.grift_cli.specs.declared.reports.Report.TheVariants.{Audited, NoMemory, TooLong}
+use Rattle.grift_cli.specs.declared.reports.Report.TheVariants.{Audited, HasSpace, NoMemory, TooLong}
 
 -- ---- the run of an image and of its program
 
@@ -133,13 +137,14 @@ says_no_memory call command bytes input l p =
     inr (inl (record { command = command; bytes = bytes; input = input; loaded = l; nothing = p }))
 
 -- the source is refused
-pub says_source_fault : (call : CallSeen) (file : List ℕ) (limits : Limits) (input_name name : Option (List ℕ))
-    (text input : List ℕ) (fault : FrontFault) → HasLoaded call (Run file limits input_name name) text input
-    → PutsNothing call → IsFault text fault → Says (source_report fault) call
-says_source_fault call file limits input_name name text input (SourceRefused refusal) l p f = inl (record {
+pub says_source_fault : (call : CallSeen) (file : List ℕ) (limits : Limits) (input_name : Option (List ℕ))
+    (space : Bool) (name : Option (List ℕ)) (text input : List ℕ) (fault : FrontFault)
+    → HasLoaded call (Run file limits input_name space name) text input → PutsNothing call → IsFault text fault → Says (source_report fault) call
+says_source_fault call file limits input_name space name text input (SourceRefused refusal) l p f = inl (record {
   file = file;
   limits = limits;
   input_name = input_name;
+  space = space;
   name = name;
   text = text;
   input = input;
@@ -147,12 +152,31 @@ says_source_fault call file limits input_name name text input (SourceRefused ref
   refused = f;
   nothing = p;
 })
-says_source_fault call file limits input_name name text input SourceMemory l p f =
-    says_no_memory call (Run file limits input_name name) text input l p
+says_source_fault call file limits input_name space name text input SourceMemory l p f =
+    says_no_memory call (Run file limits input_name space name) text input l p
+
+-- what was compiled is to be run
+abbrev pub is_compiled : (call : CallSeen) (file : List ℕ) (limits : Limits) (input_name : Option (List ℕ))
+    (space : Bool) (name : Option (List ℕ)) (text input : List ℕ) (compiled : Compiled)
+    → HasLoaded call (Run file limits input_name space name) text input → HasProgram text (program_of compiled)
+    → IsTold text compiled → IsImage compiled.image → FollowsProgram compiled.image (program_of compiled)
+    → KeepsSpace compiled.image compiled.tallest → IsCompiled call limits space compiled.image input
+is_compiled call file limits input_name space name text input compiled l source told whole follows keeps = record {
+  file = file;
+  input_name = input_name;
+  name = name;
+  text = text;
+  loaded = l;
+  program = program_of compiled;
+  source = source;
+  whole = whole;
+  follows = follows;
+  keeps = subst (KeepsSpace compiled.image) told.tallest keeps;
+}
 
 -- the image of the source is run
 pub says_run : (call : CallSeen) (limits : Limits) (image input : List ℕ) (report : Report)
-    → IsRegionSize limits.region → IsStackSize limits.stack → IsCompiled call limits image input
+    → IsRegionSize limits.region → IsStackSize limits.stack → IsCompiled call limits false image input
     → Runs limits image input call.out call.img report → Says report call
 says_run call limits image input (HasVerdict verdict) r k c x = inl (record {
   limits = limits;
@@ -165,15 +189,17 @@ says_run call limits image input (HasVerdict verdict) r k c x = inl (record {
   output_put = x.2;
 })
 says_run call limits image input PutFailed r k c x =
-    inl (record { limits = limits; image = image; input = input; compiled = c; fails = x })
+    inl (record { limits = limits; space = false; image = image; input = input; compiled = c; fails = x })
 says_run call limits image input NoMemory r k c x = inr (inr (record {
   limits = limits;
+  space = false;
   image = image;
   input = input;
   compiled = c;
   image_put = x.0;
   no_output = x.1;
 }))
+says_run call limits image input (HasSpace verdict space) r k c x = absurd x
 says_run call limits image input (HasFault fault) r k c x = absurd x
 says_run call limits image input Checked r k c x = absurd x
 says_run call limits image input Audited r k c x = absurd x
@@ -182,6 +208,45 @@ says_run call limits image input (ImageRefused fault) r k c x = absurd x
 says_run call limits image input WordsRefused r k c x = absurd x
 says_run call limits image input LoadFailed r k c x = absurd x
 says_run call limits image input TooLong r k c x = absurd x
+
+-- so it is with lines on its storage
+pub says_run_in_space : (call : CallSeen) (limits : Limits) (image input : List ℕ) (tallest : ℕ) (report : Report)
+    → IsRegionSize limits.region → IsStackSize limits.stack → (c : IsCompiled call limits true image input)
+    → tallest ≡ tallest_in c.program → RunsInSpace limits image input tallest call.out call.img report
+    → Says report call
+says_run_in_space call limits image input tallest (HasSpace verdict space) r k c e x = record {
+  run = record {
+    limits = limits;
+    image = image;
+    input = input;
+    compiled = c;
+    image_put = x.0.0;
+    verdict_is = x.0.1;
+    meant = comes_to limits image input c.program verdict r k c.follows x.0.1;
+    output_put = x.0.2;
+  };
+  reported = subst (λ n. ReportsSpace limits image input n space) e x.1;
+}
+says_run_in_space call limits image input tallest PutFailed r k c e x =
+    inl (record { limits = limits; space = true; image = image; input = input; compiled = c; fails = x })
+says_run_in_space call limits image input tallest NoMemory r k c e x = inr (inr (record {
+  limits = limits;
+  space = true;
+  image = image;
+  input = input;
+  compiled = c;
+  image_put = x.0;
+  no_output = x.1;
+}))
+says_run_in_space call limits image input tallest (HasVerdict verdict) r k c e x = absurd x
+says_run_in_space call limits image input tallest (HasFault fault) r k c e x = absurd x
+says_run_in_space call limits image input tallest Checked r k c e x = absurd x
+says_run_in_space call limits image input tallest Audited r k c e x = absurd x
+says_run_in_space call limits image input tallest (Refused refusal) r k c e x = absurd x
+says_run_in_space call limits image input tallest (ImageRefused fault) r k c e x = absurd x
+says_run_in_space call limits image input tallest WordsRefused r k c e x = absurd x
+says_run_in_space call limits image input tallest LoadFailed r k c e x = absurd x
+says_run_in_space call limits image input tallest TooLong r k c e x = absurd x
 
 -- ---- an image from a file that is run
 
@@ -253,6 +318,7 @@ says_exec call limits image input (ImageRefused fault) i x = absurd x.0
 says_exec call limits image input WordsRefused i x = absurd x.0
 says_exec call limits image input LoadFailed i x = absurd x.0
 says_exec call limits image input TooLong i x = absurd x.0
+says_exec call limits image input (HasSpace verdict space) i x = absurd x.0
 
 -- ---- a source that is elaborated
 
@@ -277,6 +343,7 @@ says_check call lines (ImageRefused fault) e x = absurd x
 says_check call lines WordsRefused e x = absurd x
 says_check call lines LoadFailed e x = absurd x
 says_check call lines TooLong e x = absurd x
+says_check call lines (HasSpace verdict space) e x = absurd x
 says_check call lines Audited e x = absurd x
 
 -- ---- a source whose labels are audited
@@ -316,6 +383,7 @@ says_audit call program casts (ImageRefused fault) a x = absurd x
 says_audit call program casts WordsRefused a x = absurd x
 says_audit call program casts LoadFailed a x = absurd x
 says_audit call program casts TooLong a x = absurd x
+says_audit call program casts (HasSpace verdict space) a x = absurd x
 
 -- ---- a source whose calculus is run
 
@@ -366,3 +434,4 @@ says_model call program steps input (ImageRefused fault) m x = absurd x
 says_model call program steps input WordsRefused m x = absurd x
 says_model call program steps input LoadFailed m x = absurd x
 says_model call program steps input TooLong m x = absurd x
+says_model call program steps input (HasSpace verdict space) m x = absurd x

@@ -39,7 +39,7 @@ pub record File : Type 0 where
 
 -- the file that a command is about
 abbrev pub file_of : Command → File
-file_of (Run file limits input image) = record { name = file; most = source_limit }
+file_of (Run file limits input space image) = record { name = file; most = source_limit }
 file_of (Exec file limits input) = record { name = file; most = image_limit }
 file_of (Check file) = record { name = file; most = source_limit }
 file_of (Audit file) = record { name = file; most = source_limit }
@@ -52,7 +52,7 @@ input_file (Some name) = Some (record { name = name; most = input_limit })
 
 -- the file of its input, if it has one
 abbrev pub input_of : Command → Option File
-input_of (Run file limits input image) = input_file input
+input_of (Run file limits input space image) = input_file input
 input_of (Exec file limits input) = input_file input
 input_of (Check file) = None
 input_of (Audit file) = None

@@ -1,4 +1,5 @@
 pub mod Runs
+pub mod Spaces
 pub mod Commands
 pub mod ReadCommands
 pub mod Answers

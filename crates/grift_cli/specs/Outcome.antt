@@ -1,5 +1,5 @@
 -- What a report says of a call of the program.
-use Rattle.std.specs.Prelude.{ℕ, ◌≡◌, ◌≢◌, ◌⊎◌, List, [], Option, Some}
+use Rattle.std.specs.Prelude.{ℕ, ◌≡◌, ◌≢◌, ◌⊎◌, Bool, true, false, List, [], Option, Some}
 use Rattle.run_laws.specs.Runs.{Ending, Verdict as EndsWith}
 use Rattle.grift_base.specs.Sink.{SinkSeen, Untouched, Takes, Breaks}
 use Rattle.grift_base.specs.declared.refusals.Refusal.{Refusal}
@@ -11,8 +11,10 @@ use Rattle.core_calc.specs.Calculus.{Program, calc}
 use Rattle.assembler.specs.Faults.{IsFirstFault}
 use Rattle.cast_insert.specs.Outcomes.{IsRefused as IsRefusedText}
 use Rattle.front_end.specs.Texts.{HasOutcome}
-use Rattle.compile_driver.specs.Compiling.{HasProgram, FollowsProgram}
+use Rattle.compile_driver.specs.Compiling.{HasProgram, FollowsProgram, tallest_in}
+use Rattle.compile_driver.specs.Space.{KeepsSpace}
 use Rattle.grift_cli.specs.Runs.{run_within, printed, verdict_of_run, fault_of_run}
+use Rattle.grift_cli.specs.Spaces.{ReportsSpace}
 use Rattle.grift_cli.specs.Commands.{Command, Run, Exec}
 use Rattle.grift_cli.specs.Calls.{CallSeen, PutsNothing, HasLoaded, HasNoCommand, HasNoFile, HasLongFile, LacksFile}
 use Rattle.grift_cli.specs.Auditing.{HasAudited, FailsToPutAudit, IsRefusedAudit}
@@ -23,6 +25,8 @@ use Rattle.grift_cli.specs.declared.commands.Limits.{Limits}
 use Rattle.grift_cli.specs.declared.reports.BadImage.{BadImage}
 use Rattle.grift_cli.specs.declared.reports.Report.{Report}
 use Rattle.grift_cli.specs.declared.reports.Report.TheVariants.{HasVerdict, HasFault, Checked, Refused, ImageRefused}
+use Rattle.grift_cli.specs.declared.reports.Report.TheVariants.{HasSpace}
+use Rattle.grift_cli.specs.declared.reports.Space.{Space}
 use Rattle.grift_cli.specs.declared.reports.Report.TheVariants.{WordsRefused, LoadFailed, PutFailed}
 use Rattle.grift_cli.specs.declared.reports.Report.TheVariants.{Audited, NoMemory, TooLong}
 
@@ -43,25 +47,27 @@ pub record IsRefused (call : CallSeen) (refusal : Refusal) : Type 0 where
   pub file : List ℕ
   pub limits : Limits
   pub input_name : Option (List ℕ)
+  pub space : Bool
   pub name : Option (List ℕ)
   pub text : List ℕ
   pub input : List ℕ
-  pub loaded : HasLoaded call (Run file limits input_name name) text input
+  pub loaded : HasLoaded call (Run file limits input_name space name) text input
   pub refused : HasOutcome text (IsRefusedText refusal.kind refusal.pos)
   pub nothing : PutsNothing call
 
--- the text is the source of a program, whose term is a program term, and which this image follows; it is to be run
--- within these limits on this input
-pub record IsCompiled (call : CallSeen) (limits : Limits) (image input : List ℕ) : Type 0 where
+-- the text is the source of a program, whose term is a program term, and which this image follows, with storage as it
+-- has to be at each instruction; it is to be run within these limits on this input, with or without lines on its storage
+pub record IsCompiled (call : CallSeen) (limits : Limits) (space : Bool) (image input : List ℕ) : Type 0 where
   pub file : List ℕ
   pub input_name : Option (List ℕ)
   pub name : Option (List ℕ)
   pub text : List ℕ
-  pub loaded : HasLoaded call (Run file limits input_name name) text input
+  pub loaded : HasLoaded call (Run file limits input_name space name) text input
   pub program : Program
   pub source : HasProgram text program
   pub whole : IsImage image
   pub follows : FollowsProgram image program
+  pub keeps : KeepsSpace image (tallest_in program)
 
 -- a run that has come to this has ended with the verdict, where that is an answer, a blame or a trap
 abbrev pub HasEndedBy : Verdict → Option (Ending Verdict) → Type 0
@@ -79,22 +85,28 @@ pub record ComesTo (program : Program) (input output : List ℕ) (verdict : Verd
 
 -- the image was put whole, the verdict of its run on the input is this one, which is what the program comes to on it,
 -- and what it prints was put whole
-pub record HasRun (call : CallSeen) (verdict : Verdict) : Type 0 where
+pub record HasRun (call : CallSeen) (space : Bool) (verdict : Verdict) : Type 0 where
   pub limits : Limits
   pub image : List ℕ
   pub input : List ℕ
-  pub compiled : IsCompiled call limits image input
+  pub compiled : IsCompiled call limits space image input
   pub image_put : Takes image call.img
   pub verdict_is : verdict_of_run (run_within limits image input).1 ≡ Some verdict
   pub meant : ComesTo compiled.program input (printed limits image input) verdict
   pub output_put : Takes (printed limits image input) call.out
 
+-- so it was with `--space`, and this is what is told of the run's storage
+pub record HasRunInSpace (call : CallSeen) (verdict : Verdict) (told : Space) : Type 0 where
+  pub run : HasRun call true verdict
+  pub reported : ReportsSpace run.limits run.image run.input (tallest_in run.compiled.program) told
+
 -- a sink failed when there was an image
 pub record FailsToPut (call : CallSeen) : Type 0 where
   pub limits : Limits
+  pub space : Bool
   pub image : List ℕ
   pub input : List ℕ
-  pub compiled : IsCompiled call limits image input
+  pub compiled : IsCompiled call limits space image input
   pub fails : ImageFails image call.out call.img
       ⊎ (Takes image call.img × OutputFails (printed limits image input) call.out)
 
@@ -102,9 +114,10 @@ pub record FailsToPut (call : CallSeen) : Type 0 where
 -- output, and the image whole or not at all
 pub record LacksRun (call : CallSeen) : Type 0 where
   pub limits : Limits
+  pub space : Bool
   pub image : List ℕ
   pub input : List ℕ
-  pub compiled : IsCompiled call limits image input
+  pub compiled : IsCompiled call limits space image input
   pub image_put : Untouched call.img ⊎ Takes image call.img
   pub no_output : Untouched call.out
 
@@ -167,7 +180,8 @@ pub record LacksImage (call : CallSeen) : Type 0 where
 
 -- what a report says of the call up to its line
 abbrev pub Says : Report → CallSeen → Type 0
-Says (HasVerdict verdict) call = HasRun call verdict ⊎ (HasExecuted call verdict ⊎ HasModelled call verdict)
+Says (HasVerdict verdict) call = HasRun call false verdict ⊎ (HasExecuted call verdict ⊎ HasModelled call verdict)
+Says (HasSpace verdict space) call = HasRunInSpace call verdict space
 Says (HasFault fault) call = HasGoneWrong call fault
 Says Checked call = HasChecked call
 Says Audited call = HasAudited call

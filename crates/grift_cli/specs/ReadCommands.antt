@@ -1,8 +1,9 @@
 -- The commands that are read from words, and options at the front of words.
-use Rattle.std.specs.Prelude.{ℕ, ◌≤◌, ◌%◌, ◌≡◌, false, List, [], ◌∷◌, ◌++◌, codes, Option, Some, None}
+use Rattle.std.specs.Prelude.{ℕ, ◌≤◌, ◌%◌, ◌≡◌, Bool, List, [], ◌∷◌, ◌++◌, codes, Option, Some, None}
 use Rattle.std.specs.Borrow.{Bor}
 use Rattle.rv_machine.specs.Start.{IsRegionSize, IsStackSize}
-use Rattle.grift_cli.specs.Commands.{Command, Run, Exec, Check, Audit, Model, IsModelLimit, IsNameOption, IsNumber}
+use Rattle.grift_cli.specs.Commands.{Command, Run, Exec, Check, Audit, Model, IsFlag, IsModelLimit, IsNameOption}
+use Rattle.grift_cli.specs.Commands.{IsNumber}
 use Rattle.grift_cli.specs.Commands.{IsNumberOption, IsRun}
 use Rattle.grift_cli.specs.Commands.{IsStepLimit, region_default, stack_default, steps_default}
 use Rattle.grift_cli.specs.declared.commands.Command.{Command as ReadCommand}
@@ -34,6 +35,13 @@ pub record NameAtFront (word : List ℕ) (words : List (List ℕ)) (name : Optio
     pub option : IsNameOption word part name
     pub absent : part ≡ [] → BeginOtherwise word rest
 
+-- the words begin with an option that is a word alone, or not with it; these are left after it
+pub record FlagAtFront (word : List ℕ) (words : List (List ℕ)) (stands : Bool) (rest : List (List ℕ)) : Type 0 where
+  pub part : List (List ℕ)
+  pub words_are : words ≡ part ++ rest
+  pub option : IsFlag word part stands
+  pub absent : part ≡ [] → BeginOtherwise word rest
+
 -- the words begin with limits; these are left after them
 pub record LimitsAtFront (words : List (List ℕ)) (limits : Limits) (rest : List (List ℕ)) : Type 0 where
   pub after_region : List (List ℕ)
@@ -57,27 +65,20 @@ name_bytes (Some name) = Some name.now
 -- a command that was read, as the definitions have it
 abbrev pub command_of : ReadCommand → Command
 command_of (ReadRun file region stack steps input space image) =
-    Run file.now (record { region = region; stack = stack; steps = steps }) (name_bytes input) (name_bytes image)
+    Run file.now (record { region = region; stack = stack; steps = steps }) (name_bytes input) space (name_bytes image)
 command_of (ReadExec file region stack steps input) =
     Exec file.now (record { region = region; stack = stack; steps = steps }) (name_bytes input)
 command_of (ReadCheck file) = Check file.now
 command_of (ReadAudit file) = Audit file.now
 command_of (ReadModel file steps input) = Model file.now steps (name_bytes input)
 
--- it tells nothing beside this
-abbrev pub TellsNoMore : ReadCommand → Type 0
-TellsNoMore (ReadRun file region stack steps input space image) = space ≡ false
-TellsNoMore (ReadExec file region stack steps input) = Unit {0}
-TellsNoMore (ReadCheck file) = Unit {0}
-TellsNoMore (ReadAudit file) = Unit {0}
-TellsNoMore (ReadModel file steps input) = Unit {0}
-
 -- the words are a run command that gives its image this name
 pub record GivesImage (words : List (List ℕ)) (name : List ℕ) : Type 0 where
   pub file : List ℕ
   pub limits : Limits
   pub input : Option (List ℕ)
-  pub run : IsRun words file limits input (Some name)
+  pub space : Bool
+  pub run : IsRun words file limits input space (Some name)
 
 -- they are none that gives its image a name
 abbrev pub GivesNoImage : List (List ℕ) → Type 0

@@ -1,10 +1,10 @@
 // The words of the command line.
 
 ghost use Rattle.std.specs.Prelude.{ℕ, ◌≡◌, ◌≢◌, ◌≤◌, ◌<◌, ◌%◌, ◌∷◌, [], List, Option, codes, map, string_bytes};
-ghost use Rattle.std.specs.Prelude.{MatchOption, IfSome};
+ghost use Rattle.std.specs.Prelude.{MatchOption};
 ghost use Rattle.grift_cli.specs.Commands.{Command as WordsCommand, IsNumber, IsCommand, AreNoCommand};
-ghost use Rattle.grift_cli.specs.ReadCommands.{NumberAtFront, NameAtFront, LimitsAtFront, StepsAtFront, IsWithin};
-ghost use Rattle.grift_cli.specs.ReadCommands.{GivesImage, GivesNoImage, TellsNoMore, command_of, name_bytes};
+ghost use Rattle.grift_cli.specs.ReadCommands.{NumberAtFront, NameAtFront, FlagAtFront, LimitsAtFront, StepsAtFront};
+ghost use Rattle.grift_cli.specs.ReadCommands.{IsWithin, GivesImage, GivesNoImage, command_of, name_bytes};
 
 // The limits of a run: the greatest that may be told, and what they are where none is told.
 const MOST_REGION: u64 = 1_073_741_824;
@@ -22,10 +22,11 @@ const DEFAULT_STEPS: u64 = 100_000_000;
 // The most steps that a model may be given.
 const MOST_MODEL_STEPS: u64 = 10_000_000;
 
-/// A command of the program. A `space` is told by no words.
+/// A command of the program.
 #[derive(Clone, Copy, PartialEq, Eq, Debug)]
 pub enum Command<'a> {
-    /// A file that is compiled and run, the file of its input and the name of its image, if it gets these.
+    /// A file that is compiled and run, the file of its input, whether its storage is reported, and the name of its image,
+    /// if it gets one.
     Run {
         file: &'a str,
         region: u64,
@@ -157,15 +158,28 @@ fn name_after<'a>(words: &'a [String], option: &str) -> Option<(Option<&'a str>,
     Some((Some(name), rest))
 }
 
+// Whether the words begin with this one, and the words after it.
+fn flag_after<'a>(words: &'a [String], option: &str) -> (bool, &'a [String])
+    ensures { FlagAtFront option.now (map string_bytes words.now) result.0 (map string_bytes result.1.now) }
+{
+    let [first, rest @ ..] = words else {
+        return (false, words);
+    };
+    if first.as_str() != option {
+        return (false, words);
+    }
+    (true, rest)
+}
+
 // The run command of a file with these options, if they are its options.
 fn run_of<'a>(file: &'a str, options: &'a [String]) -> Option<Command<'a>>
     requires { file.now ≢ [] }
-    ensures command { (words : List (List ℕ)) → words ≡ codes "run" ∷ file.now ∷ map string_bytes options.now
+    ensures { (words : List (List ℕ)) → words ≡ codes "run" ∷ file.now ∷ map string_bytes options.now
         → MatchOption result (AreNoCommand words) (λ command. IsCommand words (command_of command)) }
-    ensures rest { IfSome result TellsNoMore }
 {
     let (limits, rest) = limits_after(options)?;
     let (input, rest) = name_after(rest, "--input")?;
+    let (space, rest) = flag_after(rest, "--space");
     let (image, rest) = name_after(rest, "--image")?;
     if !rest.is_empty() {
         return None;
@@ -176,7 +190,7 @@ fn run_of<'a>(file: &'a str, options: &'a [String]) -> Option<Command<'a>>
         stack: limits.stack,
         steps: limits.steps,
         input,
-        space: false,
+        space,
         image,
     })
 }
@@ -184,9 +198,8 @@ fn run_of<'a>(file: &'a str, options: &'a [String]) -> Option<Command<'a>>
 // The exec command of a file with these options, if they are its options.
 fn exec_of<'a>(file: &'a str, options: &'a [String]) -> Option<Command<'a>>
     requires { file.now ≢ [] }
-    ensures command { (words : List (List ℕ)) → words ≡ codes "exec" ∷ file.now ∷ map string_bytes options.now
+    ensures { (words : List (List ℕ)) → words ≡ codes "exec" ∷ file.now ∷ map string_bytes options.now
         → MatchOption result (AreNoCommand words) (λ command. IsCommand words (command_of command)) }
-    ensures rest { IfSome result TellsNoMore }
 {
     let (limits, rest) = limits_after(options)?;
     let (input, rest) = name_after(rest, "--input")?;
@@ -227,9 +240,8 @@ fn steps_at_front(words: &[String]) -> Option<(u64, &[String])>
 // The model command of a file with these options, if they are its options.
 fn model_of<'a>(file: &'a str, options: &'a [String]) -> Option<Command<'a>>
     requires { file.now ≢ [] }
-    ensures command { (words : List (List ℕ)) → words ≡ codes "model" ∷ file.now ∷ map string_bytes options.now
+    ensures { (words : List (List ℕ)) → words ≡ codes "model" ∷ file.now ∷ map string_bytes options.now
         → MatchOption result (AreNoCommand words) (λ command. IsCommand words (command_of command)) }
-    ensures rest { IfSome result TellsNoMore }
 {
     let (steps, rest) = steps_at_front(options)?;
     let (input, rest) = name_after(rest, "--input")?;
@@ -241,9 +253,8 @@ fn model_of<'a>(file: &'a str, options: &'a [String]) -> Option<Command<'a>>
 
 /// The command that the words are; none exactly where they are none. Takes no memory.
 pub fn read_words(words: &[String]) -> Option<Command<'_>>
-    ensures command { let texts = map string_bytes words.now in
+    ensures { let texts = map string_bytes words.now in
         MatchOption result (AreNoCommand texts) (λ command. IsCommand texts (command_of command)) }
-    ensures rest { IfSome result TellsNoMore }
 {
     let [command, file, options @ ..] = words else {
         return None;

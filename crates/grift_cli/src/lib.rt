@@ -8,4 +8,5 @@ mod loads;
 mod models;
 mod reports;
 mod runner;
+mod spaces;
 pub mod top;
