@@ -96,7 +96,9 @@ def explained(words, line, columns):
 
 def main():
     sys.stdout.reconfigure(errors="replace")
-    line, *words = sys.argv[1:]
+    lines, *words = sys.argv[1:]
+    # Behind the line of a run stand those of `--space`, if it was given.
+    line = lines.partition("\n")[0]
     columns = shutil.get_terminal_size().columns or 80
     for told in explained(words, line, columns):
         if told:

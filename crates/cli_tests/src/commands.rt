@@ -143,7 +143,7 @@ fn words_and_commands(rt: HostRuntime) -> Result<(), NoMemory> {
             input_exec(16777216, 1048576, 7, Some("b")),
         ),
         (&["exec", "a", "--input", "b", "--image", "c"], None),
-        (&["run", "a", "--space"], None),
+        (&["exec", "a", "--space"], None),
         (&["run", ""], None),
         (&["exec", ""], None),
         (&["check", "a"], Some(Command::Check { file: "a" })),

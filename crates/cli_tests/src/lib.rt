@@ -11,4 +11,6 @@ mod inputs;
 #[cfg(test)]
 mod listings;
 #[cfg(test)]
+mod spaces;
+#[cfg(test)]
 mod words;

@@ -6,5 +6,6 @@ mod Addresses
 mod Putting
 mod Stopping
 mod Loading
+mod StoppedStorage
 mod Saying
 mod Generated

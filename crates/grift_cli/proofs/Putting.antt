@@ -16,7 +16,9 @@ use Rattle.grift_cli.specs.Commands.{default_limits}
 use Rattle.grift_cli.specs.Generating.{PutsNumbers}
 use Rattle.grift_cli.specs.Runs.{run_within, printed, fault_of_run}
 use Rattle.grift_cli.specs.Reporting.{PutsLine, Fails, Lacks, fault_status}
-use Rattle.grift_cli.specs.Running.{RunsWell, PutsAll, TellsRun, Executes, Runs}
+use Rattle.grift_cli.specs.Running.{RunsWell, PutsAll, TellsRun, Executes, Runs, RunsInSpace}
+use Rattle.grift_cli.specs.Spaces.{ReportsSpace, in_space}
+use Rattle.grift_cli.specs.declared.reports.Space.{Space}
 use Rattle.grift_cli.specs.declared.commands.Limits.{Limits}
 use Rattle.grift_cli.specs.declared.reports.Report.{Report}
 use Rattle.grift_cli.specs.declared.reports.Report.TheVariants.{HasVerdict, HasFault}
@@ -78,3 +80,15 @@ pub numbers_put : (image bytes : List ℕ) (lines : ℕ → List ℕ) (out : Sin
 numbers_put image bytes lines out (HasVerdict verdict) well t b x = (t, subst (λ xs. Takes xs out) b x)
 numbers_put image bytes lines out (HasFault fault) well t b x = no_fault default_limits image [] fault well t
 numbers_put image bytes lines out report well t b x = absurd t
+
+-- an image that never goes wrong was put, then run, and what it prints was put: it is told with its storage
+module _ (limits : Limits) (image input : List ℕ) (tallest : ℕ) (well : RunsWell limits image input)
+    {bytes text : List ℕ} {out img : SinkSeen} (image_is : bytes ≡ image) (taken : Takes bytes img)
+    (text_is : text ≡ printed limits image input) (put : Takes text out) where
+  pub shows_space : (report : Report) (space : Space) → TellsRun (run_within limits image input).1 report
+      → ReportsSpace limits image input tallest space
+      → RunsInSpace limits image input tallest out img (in_space report space)
+  shows_space (HasVerdict verdict) space t r =
+      ((subst (λ xs. Takes xs img) image_is taken, t, subst (λ xs. Takes xs out) text_is put), r)
+  shows_space (HasFault fault) space t r = absurd (no_fault limits image input fault well t)
+  shows_space report space t r = absurd t

@@ -1,26 +1,35 @@
 -- Which words are which command.
 use Rattle.std.proofs.Common.{ℕ, ◌≡◌, ◌⊎◌, List, [], ◌∷◌, ◌++◌, inl, inr, refl, sym, ap, subst, ◌∙◌, arith}
-use Rattle.std.specs.Prelude.{codes, sum, ◌≢◌, Option, Some, None}
+use Rattle.std.specs.Prelude.{codes, sum, ◌≢◌, Bool, false, MatchOption, Option, Some, None}
+use Rattle.std.specs.Borrow.{Bor}
 use Rattle.grift_cli.specs.Commands.{AreNoCommand, Command, Run, Exec, Check, Audit, Casts, Code, ImageOf, Model, Gen}
-use Rattle.grift_cli.specs.Commands.{IsCommand, IsExec, IsGen, IsModel, IsNameOption, IsOfFile, IsRun, number_of}
+use Rattle.grift_cli.specs.Commands.{IsCommand, IsExec, IsFlag, IsGen, IsModel, IsNameOption, IsOfFile, IsRun, number_of}
 use Rattle.grift_cli.specs.declared.commands.Limits.{Limits}
-use Rattle.grift_cli.specs.ReadCommands.{BeginOtherwise, GivesImage, LimitsAtFront, NameAtFront, StepsAtFront}
-use Rattle.grift_cli.proofs.ReadingOptions.{name_alone, one_name, whole_name}
-use Rattle.grift_cli.proofs.ReadingLimits.{differ_at, limit_words, limits_front, named_begins, no_words_begin}
+use Rattle.grift_cli.specs.ReadCommands.{BeginOtherwise, FlagAtFront, GivesImage, LimitsAtFront, NameAtFront}
+use Rattle.grift_cli.specs.ReadCommands.{GivesNoImage, StepsAtFront, name_bytes}
+use Rattle.grift_cli.proofs.ReadingOptions.{name_alone, one_flag, one_name, whole_name}
+use Rattle.grift_cli.proofs.ReadingLimits.{differ_at, flag_begins, limit_words, limits_front, named_begins}
+use Rattle.grift_cli.proofs.ReadingLimits.{no_words_begin}
 use Rattle.grift_cli.proofs.ReadingLimits.{one_limits, NoLimitBegins}
 
 -- ---- how a command's words are read
 
-pub record ReadsRun (words : List (List ℕ)) (file : List ℕ) (limits : Limits) (input image : Option (List ℕ)) : Type 0
-  where
-    pub options : List (List ℕ)
-    pub after_limits : List (List ℕ)
-    pub image_words : List (List ℕ)
-    pub words_are : words ≡ codes "run" ∷ file ∷ options
-    pub named : file ≢ []
-    pub front : LimitsAtFront options limits after_limits
-    pub input_is : NameAtFront (codes "--input") after_limits input image_words
-    pub image_is : IsNameOption (codes "--image") image_words image
+-- what stands behind the input of a run
+pub record RunTail (words : List (List ℕ)) (space : Bool) (image : Option (List ℕ)) : Type 0 where
+  pub image_words : List (List ℕ)
+  pub space_is : FlagAtFront (codes "--space") words space image_words
+  pub image_is : IsNameOption (codes "--image") image_words image
+
+pub record ReadsRun (words : List (List ℕ)) (file : List ℕ) (limits : Limits) (input : Option (List ℕ)) (space : Bool)
+    (image : Option (List ℕ)) : Type 0 where
+  pub options : List (List ℕ)
+  pub after_limits : List (List ℕ)
+  pub after_input : List (List ℕ)
+  pub words_are : words ≡ codes "run" ∷ file ∷ options
+  pub named : file ≢ []
+  pub front : LimitsAtFront options limits after_limits
+  pub input_is : NameAtFront (codes "--input") after_limits input after_input
+  pub tail : RunTail after_input space image
 
 pub record ReadsExec (words : List (List ℕ)) (file : List ℕ) (limits : Limits) (input : Option (List ℕ)) : Type 0 where
   pub options : List (List ℕ)
@@ -30,49 +39,58 @@ pub record ReadsExec (words : List (List ℕ)) (file : List ℕ) (limits : Limit
   pub front : LimitsAtFront options limits after_limits
   pub input_is : NameAtFront (codes "--input") after_limits input []
 
--- a word that isn't that of an option of files
+-- a word that isn't that of an option behind the limits
 abbrev OtherWord : List ℕ → Type 0
-OtherWord name = (name ≢ codes "--input") × (name ≢ codes "--image")
+OtherWord name = (name ≢ codes "--input") × (name ≢ codes "--space") × (name ≢ codes "--image")
 
 nothing_more : (xs : List (List ℕ)) → xs ≡ xs ++ []
 nothing_more [] = refl
 nothing_more (x ∷ xs) = ap (λ (ys : List (List ℕ)). x ∷ ys) (nothing_more xs)
 
--- the options of an input and of an image begin with no other word
-files_begin : (name : List ℕ) (input_words image_words : List (List ℕ)) (input image : Option (List ℕ))
-    → OtherWord name → IsNameOption (codes "--input") input_words input
-    → IsNameOption (codes "--image") image_words image → BeginOtherwise name (input_words ++ image_words)
-files_begin name input_words image_words input image other i m =
-    named_begins name (codes "--input") input_words image_words input other.0 i
+-- the options behind the input of a run begin with no other word
+tail_begins : (name : List ℕ) (space_words image_words : List (List ℕ)) (space : Bool) (image : Option (List ℕ))
+    → name ≢ codes "--space" → name ≢ codes "--image" → IsFlag (codes "--space") space_words space
+    → IsNameOption (codes "--image") image_words image → BeginOtherwise name (space_words ++ image_words)
+tail_begins name space_words image_words space image no_space no_image f m =
+    flag_begins name (codes "--space") space_words image_words space no_space f
     (subst (λ (ws : List (List ℕ)). BeginOtherwise name ws) (sym (nothing_more image_words))
-    (named_begins name (codes "--image") image_words [] image other.1 m (no_words_begin name)))
+    (named_begins name (codes "--image") image_words [] image no_image m (no_words_begin name)))
 
 region_is_other : OtherWord (codes "--region")
 region_is_other = (
   differ_at 2 (codes "--region") (codes "--input") (omega arith),
+  differ_at 2 (codes "--region") (codes "--space") (omega arith),
   differ_at 2 (codes "--region") (codes "--image") (omega arith),
 )
 
 stack_is_other : OtherWord (codes "--stack")
 stack_is_other = (
   differ_at 2 (codes "--stack") (codes "--input") (omega arith),
+  differ_at 3 (codes "--stack") (codes "--space") (omega arith),
   differ_at 2 (codes "--stack") (codes "--image") (omega arith),
 )
 
 steps_is_other : OtherWord (codes "--steps")
 steps_is_other = (
   differ_at 2 (codes "--steps") (codes "--input") (omega arith),
+  differ_at 3 (codes "--steps") (codes "--space") (omega arith),
   differ_at 2 (codes "--steps") (codes "--image") (omega arith),
 )
 
-no_limit_begins : (input_words image_words : List (List ℕ)) (input image : Option (List ℕ))
-    → IsNameOption (codes "--input") input_words input → IsNameOption (codes "--image") image_words image
-    → NoLimitBegins (input_words ++ image_words)
-no_limit_begins input_words image_words input image i m = record {
-  region = files_begin (codes "--region") input_words image_words input image region_is_other i m;
-  stack = files_begin (codes "--stack") input_words image_words input image stack_is_other i m;
-  steps = files_begin (codes "--steps") input_words image_words input image steps_is_other i m;
+no_limit_begins : (input_words space_words image_words : List (List ℕ)) (input : Option (List ℕ)) (space : Bool)
+    (image : Option (List ℕ)) → IsNameOption (codes "--input") input_words input
+    → IsFlag (codes "--space") space_words space → IsNameOption (codes "--image") image_words image
+    → NoLimitBegins (input_words ++ (space_words ++ image_words))
+no_limit_begins input_words space_words image_words input space image i f m = record {
+  region = begins (codes "--region") region_is_other;
+  stack = begins (codes "--stack") stack_is_other;
+  steps = begins (codes "--steps") steps_is_other;
 }
+  where
+    begins : (name : List ℕ) → OtherWord name → BeginOtherwise name (input_words ++ (space_words ++ image_words))
+    begins name other =
+        named_begins name (codes "--input") input_words (space_words ++ image_words) input other.0 i
+        (tail_begins name space_words image_words space image other.1 other.2 f m)
 
 -- the option of an input stands in front of what doesn't begin with its word
 input_front : (input_words rest : List (List ℕ)) (input : Option (List ℕ))
@@ -82,26 +100,41 @@ input_front input_words rest input i h =
     record { part = input_words; words_are = refl; option = i; absent = λ p. h }
 
 image_begins : (image_words : List (List ℕ)) (image : Option (List ℕ))
-    → IsNameOption (codes "--image") image_words image → BeginOtherwise (codes "--input") image_words
+    → IsNameOption (codes "--image") image_words image → BeginOtherwise (codes "--space") image_words
 image_begins image_words image m =
-    subst (λ (ws : List (List ℕ)). BeginOtherwise (codes "--input") ws) (sym (nothing_more image_words))
-    (named_begins (codes "--input") (codes "--image") image_words [] image
-    (differ_at 3 (codes "--input") (codes "--image") (omega arith)) m (no_words_begin (codes "--input")))
+    subst (λ (ws : List (List ℕ)). BeginOtherwise (codes "--space") ws) (sym (nothing_more image_words))
+    (named_begins (codes "--space") (codes "--image") image_words [] image
+    (differ_at 2 (codes "--space") (codes "--image") (omega arith)) m (no_words_begin (codes "--space")))
 
-pub reads_run : (words : List (List ℕ)) (file : List ℕ) (limits : Limits) (input image : Option (List ℕ))
-    → IsRun words file limits input image → ReadsRun words file limits input image
-reads_run words file limits input image a = record {
-  options = a.limit_words ++ (a.input_words ++ a.image_words);
-  after_limits = a.input_words ++ a.image_words;
-  image_words = a.image_words;
-  words_are = a.words_are;
-  named = a.named;
-  front = limits_front (a.limit_words ++ (a.input_words ++ a.image_words)) a.limit_words
-      (a.input_words ++ a.image_words) limits refl a.limits_are
-      (no_limit_begins a.input_words a.image_words input image a.input_is a.image_is);
-  input_is = input_front a.input_words a.image_words input a.input_is (image_begins a.image_words image a.image_is);
-  image_is = a.image_is;
-}
+pub reads_run : (words : List (List ℕ)) (file : List ℕ) (limits : Limits) (input : Option (List ℕ)) (space : Bool)
+    (image : Option (List ℕ)) → IsRun words file limits input space image
+    → ReadsRun words file limits input space image
+reads_run words file limits input space image a =
+    let tail = a.space_words ++ a.image_words in
+    record {
+      options = a.limit_words ++ (a.input_words ++ tail);
+      after_limits = a.input_words ++ tail;
+      after_input = tail;
+      words_are = a.words_are;
+      named = a.named;
+      front = limits_front (a.limit_words ++ (a.input_words ++ tail)) a.limit_words (a.input_words ++ tail) limits refl
+          a.limits_are (no_limit_begins a.input_words a.space_words a.image_words input space image a.input_is
+          a.space_is a.image_is);
+      input_is = input_front a.input_words tail input a.input_is
+          (tail_begins (codes "--input") a.space_words a.image_words space image
+          (differ_at 2 (codes "--input") (codes "--space") (omega arith))
+          (differ_at 3 (codes "--input") (codes "--image") (omega arith)) a.space_is a.image_is);
+      tail = record {
+        image_words = a.image_words;
+        space_is = record {
+          part = a.space_words;
+          words_are = refl;
+          option = a.space_is;
+          absent = λ p. image_begins a.image_words image a.image_is;
+        };
+        image_is = a.image_is;
+      };
+    }
 
 pub reads_exec : (words : List (List ℕ)) (file : List ℕ) (limits : Limits) (input : Option (List ℕ))
     → IsExec words file limits input → ReadsExec words file limits input
@@ -112,25 +145,30 @@ reads_exec words file limits input a = record {
       ∙ ap (λ (ws : List (List ℕ)). codes "exec" ∷ file ∷ a.limit_words ++ ws) (nothing_more a.input_words);
   named = a.named;
   front = limits_front (a.limit_words ++ (a.input_words ++ [])) a.limit_words (a.input_words ++ []) limits refl
-      a.limits_are (no_limit_begins a.input_words [] input None a.input_is (inl (refl, refl)));
+      a.limits_are (no_limit_begins a.input_words [] [] input false None a.input_is (inl (refl, refl))
+      (inl (refl, refl)));
   input_is = input_front a.input_words [] input a.input_is (no_words_begin (codes "--input"));
 }
 
-pub is_run : (words options after image_words : List (List ℕ)) (file : List ℕ) (limits : Limits)
-    (input image : Option (List ℕ)) → words ≡ codes "run" ∷ file ∷ options → file ≢ []
-    → LimitsAtFront options limits after → NameAtFront (codes "--input") after input image_words
-    → NameAtFront (codes "--image") image_words image [] → IsRun words file limits input image
-is_run words options after image_words file limits input image e named front i m =
+pub is_run : (words options after after_input image_words : List (List ℕ)) (file : List ℕ) (limits : Limits)
+    (input : Option (List ℕ)) (space : Bool) (image : Option (List ℕ)) → words ≡ codes "run" ∷ file ∷ options
+    → file ≢ [] → LimitsAtFront options limits after → NameAtFront (codes "--input") after input after_input
+    → FlagAtFront (codes "--space") after_input space image_words
+    → NameAtFront (codes "--image") image_words image [] → IsRun words file limits input space image
+is_run words options after after_input image_words file limits input space image e named front i f m =
     let l = limit_words options after limits front in
     record {
       limit_words = l.limit_words;
       input_words = i.part;
+      space_words = f.part;
       image_words = image_words;
       words_are = e ∙ ap (λ (ws : List (List ℕ)). codes "run" ∷ file ∷ ws)
-          (l.words_are ∙ ap (λ (ws : List (List ℕ)). l.limit_words ++ ws) i.words_are);
+          (l.words_are ∙ ap (λ (ws : List (List ℕ)). l.limit_words ++ ws)
+          (i.words_are ∙ ap (λ (ws : List (List ℕ)). i.part ++ ws) f.words_are));
       named = named;
       limits_are = l.limits_are;
       input_is = i.option;
+      space_is = f.option;
       image_is = name_alone (codes "--image") image_words image m;
     }
 
@@ -177,11 +215,22 @@ one_image words a b p q = elim p [
     not_both : (words : List (List ℕ)) (x : List ℕ) (xs : List (List ℕ)) → words ≡ [] → words ≡ x ∷ xs → ⊥
     not_both words x xs e f = cc
 
+-- what stands behind the input is read in one way
+one_tail : (words left : List (List ℕ)) (space other : Bool) (image name : Option (List ℕ)) → words ≡ left
+    → RunTail words space image → RunTail left other name → (space ≡ other) × (image ≡ name)
+one_tail words left space other image name e a b =
+    let f = one_flag (codes "--space") left space other a.image_words b.image_words
+    (subst (λ (ws : List (List ℕ)). FlagAtFront (codes "--space") ws space a.image_words) e a.space_is) b.space_is in (
+      f.0,
+      one_image b.image_words image name
+          (subst (λ (ws : List (List ℕ)). IsNameOption (codes "--image") ws image) f.1 a.image_is) b.image_is,
+    )
+
 -- ---- words of commands
 
 -- the word of a command
 abbrev pub word_of : Command → List ℕ
-word_of (Run file limits input image) = codes "run"
+word_of (Run file limits input space image) = codes "run"
 word_of (Exec file limits input) = codes "exec"
 word_of (Check file) = codes "check"
 word_of (Audit file) = codes "audit"
@@ -199,8 +248,11 @@ pub record BeginWith (command : List ℕ) (words : List (List ℕ)) : Type 0 whe
 
 pub begin_with : (words : List (List ℕ)) (command : Command) → IsCommand words command
     → BeginWith (word_of command) words
-begin_with words (Run file limits input image) a =
-    record { second = file; rest = a.limit_words ++ (a.input_words ++ a.image_words); words_are = a.words_are }
+begin_with words (Run file limits input space image) a = record {
+  second = file;
+  rest = a.limit_words ++ (a.input_words ++ (a.space_words ++ a.image_words));
+  words_are = a.words_are;
+}
 begin_with words (Exec file limits input) a =
     record { second = file; rest = a.limit_words ++ a.input_words; words_are = a.words_are }
 begin_with words (Check file) a = record { second = file; rest = []; words_are = a.words_are }
@@ -261,16 +313,16 @@ same_options options others after later rest left limits found input other e f g
     (subst (λ (ws : List (List ℕ)). NameAtFront (codes "--input") ws input rest) l.1 i) j in
     (l.0, n.0, n.1)
 
-two_runs : (words : List (List ℕ)) (file other : List ℕ) (limits left : Limits)
-    (input entered image name : Option (List ℕ)) → ReadsRun words file limits input image
-    → ReadsRun words other left entered name → Run file limits input image ≡ Run other left entered name
-two_runs words file other limits left input entered image name a b =
+two_runs : (words : List (List ℕ)) (file other : List ℕ) (limits left : Limits) (input entered : Option (List ℕ))
+    (space shown : Bool) (image name : Option (List ℕ)) → ReadsRun words file limits input space image
+    → ReadsRun words other left entered shown name
+    → Run file limits input space image ≡ Run other left entered shown name
+two_runs words file other limits left input entered space shown image name a b =
     let same = same_words (codes "run") (codes "run") file other a.options b.options (sym a.words_are ∙ b.words_are) in
-    let o = same_options a.options b.options a.after_limits b.after_limits a.image_words b.image_words limits left
+    let o = same_options a.options b.options a.after_limits b.after_limits a.after_input b.after_input limits left
     input entered same.others a.front b.front a.input_is b.input_is in
-    let i = one_image b.image_words image name
-    (subst (λ (ws : List (List ℕ)). IsNameOption (codes "--image") ws image) o.2 a.image_is) b.image_is in
-    λ k. Run (same.second k) (o.0 k) (o.1 k) (i k)
+    let t = one_tail a.after_input b.after_input space shown image name o.2 a.tail b.tail in
+    λ k. Run (same.second k) (o.0 k) (o.1 k) (t.0 k) (t.1 k)
 
 two_execs : (words : List (List ℕ)) (file other : List ℕ) (limits left : Limits) (input entered : Option (List ℕ))
     → ReadsExec words file limits input → ReadsExec words other left entered
@@ -330,9 +382,9 @@ two_models words file other steps left input entered a b =
 
 pub one_command : (words : List (List ℕ)) (first second : Command) → IsCommand words first → IsCommand words second
     → first ≡ second
-one_command words (Run file limits input image) (Run other left entered name) a b =
-    two_runs words file other limits left input entered image name (reads_run words file limits input image a)
-    (reads_run words other left entered name b)
+one_command words (Run file limits input space image) (Run other left entered shown name) a b =
+    two_runs words file other limits left input entered space shown image name
+    (reads_run words file limits input space image a) (reads_run words other left entered shown name b)
 one_command words (Exec file limits input) (Exec other left entered) a b =
     two_execs words file other limits left input entered (reads_exec words file limits input a)
     (reads_exec words other left entered b)
@@ -352,9 +404,9 @@ one_command words first second a b =
 
 -- options that a command with this word and this file would have
 run_options : (words options : List (List ℕ)) (command file other : List ℕ) (limits : Limits)
-    (input image : Option (List ℕ)) → words ≡ command ∷ file ∷ options → (a : ReadsRun words other limits input image)
-    → (command ≡ codes "run") × (a.options ≡ options)
-run_options words options command file other limits input image e a =
+    (input : Option (List ℕ)) (space : Bool) (image : Option (List ℕ)) → words ≡ command ∷ file ∷ options
+    → (a : ReadsRun words other limits input space image) → (command ≡ codes "run") × (a.options ≡ options)
+run_options words options command file other limits input space image e a =
     let same = same_words command (codes "run") file other options a.options (sym e ∙ a.words_are) in
     (same.first, sym same.others)
 
@@ -379,10 +431,10 @@ no_options words options command file other e may a no_run no_exec =
 pub no_limits : (words options : List (List ℕ)) (command file : List ℕ) → words ≡ command ∷ file ∷ options
     → MayHaveOptions command
     → ((limits : Limits) (rest : List (List ℕ)) → LimitsAtFront options limits rest → ⊥) → AreNoCommand words
-no_limits words options command file e differs none (Run other limits input image) a =
-    let r = reads_run words other limits input image a in
+no_limits words options command file e differs none (Run other limits input space image) a =
+    let r = reads_run words other limits input space image a in
     none limits r.after_limits (limits_of r.options options r.after_limits limits
-    (run_options words options command file other limits input image e r).1 r.front)
+    (run_options words options command file other limits input space image e r).1 r.front)
 no_limits words options command file e differs none (Exec other limits input) a =
     let r = reads_exec words other limits input a in
     none limits r.after_limits (limits_of r.options options r.after_limits limits
@@ -395,12 +447,12 @@ pub no_input : (words options after : List (List ℕ)) (command file : List ℕ)
     → words ≡ command ∷ file ∷ options → MayHaveOptions command → LimitsAtFront options found after
     → ((input : Option (List ℕ)) (rest : List (List ℕ)) → NameAtFront (codes "--input") after input rest → ⊥)
     → AreNoCommand words
-no_input words options after command file found e differs front none (Run other limits input image) a =
-    let r = reads_run words other limits input image a in
+no_input words options after command file found e differs front none (Run other limits input space image) a =
+    let r = reads_run words other limits input space image a in
     let l = one_limits options r.after_limits after limits found (limits_of r.options options r.after_limits limits
-    (run_options words options command file other limits input image e r).1 r.front) front in
-    none input r.image_words
-    (subst (λ (ws : List (List ℕ)). NameAtFront (codes "--input") ws input r.image_words) l.1 r.input_is)
+    (run_options words options command file other limits input space image e r).1 r.front) front in
+    none input r.after_input
+    (subst (λ (ws : List (List ℕ)). NameAtFront (codes "--input") ws input r.after_input) l.1 r.input_is)
 no_input words options after command file found e differs front none (Exec other limits input) a =
     let r = reads_exec words other limits input a in
     let l = one_limits options r.after_limits after limits found (limits_of r.options options r.after_limits limits
@@ -409,21 +461,21 @@ no_input words options after command file found e differs front none (Exec other
 no_input words options after command file found e differs front none other a =
     no_options words options command file other e differs a (λ z. omega arith) (λ z. omega arith)
 
--- the words after the input are no name of an image, or the command is not `run`; they aren't empty, or the command is
--- not `exec`; and it may have options
+-- the words after the input are none that a run has there, or the command is not `run`; they aren't empty, or the
+-- command is not `exec`; and it may have options
 pub nothing_fits : (words options after left : List (List ℕ)) (command file : List ℕ) (found : Limits)
     (entered : Option (List ℕ)) → words ≡ command ∷ file ∷ options → MayHaveOptions command
     → LimitsAtFront options found after → NameAtFront (codes "--input") after entered left
-    → (command ≡ codes "run" → (image : Option (List ℕ)) → IsNameOption (codes "--image") left image → ⊥)
+    → (command ≡ codes "run" → (space : Bool) (image : Option (List ℕ)) → RunTail left space image → ⊥)
     → (command ≡ codes "exec" → left ≡ [] → ⊥)
     → AreNoCommand words
 nothing_fits words options after left command file found entered e differs front i run exec
-    (Run other limits input image) a =
-    let r = reads_run words other limits input image a in
-    let is = run_options words options command file other limits input image e r in
-    let o = same_options r.options options r.after_limits after r.image_words left limits found input entered is.1
+    (Run other limits input space image) a =
+    let r = reads_run words other limits input space image a in
+    let is = run_options words options command file other limits input space image e r in
+    let o = same_options r.options options r.after_limits after r.after_input left limits found input entered is.1
     r.front front r.input_is i in
-    run is.0 image (subst (λ (ws : List (List ℕ)). IsNameOption (codes "--image") ws image) o.2 r.image_is)
+    run is.0 space image (subst (λ (ws : List (List ℕ)). RunTail ws space image) o.2 r.tail)
 nothing_fits words options after left command file found entered e differs front i run exec
     (Exec other limits input) a =
     let r = reads_exec words other limits input a in
@@ -433,6 +485,14 @@ nothing_fits words options after left command file found entered e differs front
     exec is.0 (sym o.2)
 nothing_fits words options after left command file found entered e differs front i run exec other a =
     no_options words options command file other e differs a (λ z. omega arith) (λ z. omega arith)
+
+-- behind the option of storage stands no name of an image, so that a run has no such words there
+pub no_tail : (left rest : List (List ℕ)) (found : Bool) → FlagAtFront (codes "--space") left found rest
+    → ((image : Option (List ℕ)) → IsNameOption (codes "--image") rest image → ⊥) → (space : Bool)
+    (image : Option (List ℕ)) → RunTail left space image → ⊥
+no_tail left rest found f none space image t =
+    let same = one_flag (codes "--space") left space found t.image_words rest t.space_is f in
+    none image (subst (λ (ws : List (List ℕ)). IsNameOption (codes "--image") ws image) same.1 t.image_is)
 
 -- words are left behind the name of an image, so that they are no such option alone
 pub more_than_image : (left rest : List (List ℕ)) (found image : Option (List ℕ))
@@ -497,4 +557,15 @@ is_model words options after file steps input e named front i = record {
 -- ---- the name of an image
 
 pub none_without_image : (words : List (List ℕ)) → AreNoCommand words → (name : List ℕ) → GivesImage words name → ⊥
-none_without_image words none name g = none (Run g.file g.limits g.input (Some name)) g.run
+none_without_image words none name g = none (Run g.file g.limits g.input g.space (Some name)) g.run
+
+-- a run's name of an image is the one that its words give it
+pub image_given : (words : List (List ℕ)) (file : List ℕ) (limits : Limits) (input : Option (List ℕ)) (space : Bool)
+    (image : Option (Bor (List ℕ))) → IsRun words file limits input space (name_bytes image)
+    → MatchOption image (GivesNoImage words) (λ name. GivesImage words name.now)
+image_given words file limits input space None a = λ name g.
+    let same : Run file limits input space None ≡ Run g.file g.limits g.input g.space (Some name) =
+    one_command words (Run file limits input space None) (Run g.file g.limits g.input g.space (Some name)) a g.run in
+    cc
+image_given words file limits input space (Some name) a =
+    record { file = file; limits = limits; input = input; space = space; run = a }

@@ -1,9 +1,9 @@
 -- Limits at the front of words.
 use Rattle.std.proofs.Common.{ℕ, ◌%◌, ◌≡◌, List, [], ◌∷◌, ◌++◌, get_or, inl, inr, refl, sym, ap, subst, ◌∙◌}
 use Rattle.std.proofs.Common.{append_assoc, arith}
-use Rattle.std.specs.Prelude.{codes, ◌≢◌, Option}
+use Rattle.std.specs.Prelude.{codes, ◌≢◌, Bool, Option}
 use Rattle.rv_machine.specs.Start.{IsRegionSize, IsStackSize}
-use Rattle.grift_cli.specs.Commands.{AreLimits, IsNumberOption, IsNameOption, IsStepLimit, region_default}
+use Rattle.grift_cli.specs.Commands.{AreLimits, IsFlag, IsNumberOption, IsNameOption, IsStepLimit, region_default}
 use Rattle.grift_cli.specs.Commands.{stack_default, steps_default}
 use Rattle.grift_cli.specs.declared.commands.Limits.{Limits}
 use Rattle.grift_cli.specs.ReadCommands.{BeginOtherwise, IsWithin, LimitsAtFront, NumberAtFront}
@@ -102,6 +102,14 @@ named_begins name other part rest found differ option h = elim option [
   | inl p ↦ subst (λ (ws : List (List ℕ)). BeginOtherwise name (ws ++ rest)) (sym p.0) h
   | inr p ↦ λ left e. differ (sym (heads other name (p.0 ∷ rest) left
       (sym (ap (λ (ws : List (List ℕ)). ws ++ rest) p.1) ∙ e)))
+]
+
+pub flag_begins : (name other : List ℕ) (part rest : List (List ℕ)) (stands : Bool) → name ≢ other
+    → IsFlag other part stands → BeginOtherwise name rest → BeginOtherwise name (part ++ rest)
+flag_begins name other part rest stands differ option h = elim option [
+  | inl p ↦ subst (λ (ws : List (List ℕ)). BeginOtherwise name (ws ++ rest)) (sym p.0) h
+  | inr p ↦ λ left e. differ (sym (heads other name rest left
+      (sym (ap (λ (ws : List (List ℕ)). ws ++ rest) p.0) ∙ e)))
 ]
 
 pub no_words_begin : (name : List ℕ) → BeginOtherwise name []

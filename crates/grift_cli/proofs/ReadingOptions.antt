@@ -1,10 +1,10 @@
 -- Options at the front of words.
 use Rattle.std.proofs.Common.{ℕ, true, false, ◌-◌, ◌<◌, ◌≤◌, ◌≡◌, List, [], ◌∷◌, ◌++◌, map, length, take, drop, get_or}
 use Rattle.std.proofs.Common.{inl, inr, refl, sym, ap, subst, ◌∙◌, append-nil, arith, eqb-true}
-use Rattle.std.specs.Prelude.{◌≢◌, ◌==◌, Option, Some, None}
+use Rattle.std.specs.Prelude.{◌≢◌, ◌==◌, Bool, Option, Some, None}
 use Rattle.std.proofs.lemmas.List.{take_all}
 use Rattle.grift_cli.specs.Commands.{IsNameOption, IsNumber, number_of}
-use Rattle.grift_cli.specs.ReadCommands.{BeginOtherwise, NameAtFront, NumberAtFront}
+use Rattle.grift_cli.specs.ReadCommands.{BeginOtherwise, FlagAtFront, NameAtFront, NumberAtFront}
 
 -- ---- the first of a list, and the others
 
@@ -179,6 +179,47 @@ pub name_alone : (option : List ℕ) (words : List (List ℕ)) (name : Option (L
     → IsNameOption option words name
 name_alone option words name a =
     subst (λ (ws : List (List ℕ)). IsNameOption option ws name) (sym (a.words_are ∙ append-nil a.part)) a.option
+
+-- ---- options that are words alone
+
+pub without_flag : (option : List ℕ) (words : List (List ℕ)) → BeginOtherwise option words
+    → FlagAtFront option words false words
+without_flag option words h = record { part = []; words_are = refl; option = inl (refl, refl); absent = λ p. h }
+
+pub with_flag : (option : List ℕ) (words rest : List (List ℕ)) → words ≡ option ∷ rest
+    → FlagAtFront option words true rest
+with_flag option words rest e = record {
+  part = option ∷ [];
+  words_are = e;
+  option = inr (refl, refl);
+  absent = λ p. absurd (let q : ⊥ = cc in q);
+}
+
+front_one : {rest words : List (List ℕ)} (part : List (List ℕ)) (option : List ℕ) → words ≡ part ++ rest
+    → part ≡ option ∷ [] → words ≡ option ∷ rest
+front_one {rest} part option e p = e ∙ ap (λ (q : List (List ℕ)). q ++ rest) p
+
+tails : {A : Type 0} (x : A) (xs ys : List A) → x ∷ xs ≡ x ∷ ys → xs ≡ ys
+tails x xs ys e = cc
+
+pub one_flag : (option : List ℕ) (words : List (List ℕ)) (stands other : Bool) (rest left : List (List ℕ))
+    → FlagAtFront option words stands rest → FlagAtFront option words other left → (stands ≡ other) × (rest ≡ left)
+one_flag option words stands other rest left a b = elim a.option [
+  | inl p ↦ elim b.option [
+    | inl q ↦ (p.1 ∙ sym q.1, sym (front a.part a.words_are p.0) ∙ front b.part b.words_are q.0)
+    | inr q ↦ absurd (a.absent p.0 left
+        (sym (front a.part a.words_are p.0) ∙ front_one b.part option b.words_are q.0))
+  ]
+  | inr p ↦ elim b.option [
+    | inl q ↦ absurd (b.absent q.0 rest
+        (sym (front b.part b.words_are q.0) ∙ front_one a.part option a.words_are p.0))
+    | inr q ↦ (
+      p.1 ∙ sym q.1,
+      tails option rest left
+          (sym (front_one a.part option a.words_are p.0) ∙ front_one b.part option b.words_are q.0),
+    )
+  ]
+]
 
 -- ---- words are left
 

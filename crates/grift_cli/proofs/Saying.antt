@@ -1,5 +1,5 @@
 -- What the report of a call says of it.
-use Rattle.std.proofs.Common.{ℕ, ◌≡◌, inl, inr, List, [], Option, Some, None, refl, sym, ◌∙◌}
+use Rattle.std.proofs.Common.{ℕ, ◌≡◌, inl, inr, Bool, true, false, List, [], Option, Some, None, refl, sym, ◌∙◌}
 use Rattle.std.proofs.Common.{ap}
 use Rattle.std.proofs.Common.{subst}
 use Rattle.std.specs.Prelude.{Err, ◌≢◌}
@@ -21,30 +21,34 @@ use Rattle.grift_base.specs.declared.verdicts.Verdict.TheVariants.{Answer, Blame
 use Rattle.core_calc.specs.Calculus.{Program, calc}
 use Rattle.rv_machine.specs.State.{State, Region, Stack, Halt, Ended, Lacks, GoesWrong}
 use Rattle.rv_machine.specs.Start.{IsRegionSize, IsStackSize, start_of, fresh_world}
+use Rattle.rv_machine.specs.Image.{IsImage}
 use Rattle.rv_machine.specs.Mach.{mach, moment_of}
 use Rattle.rv_machine.proofs.Public.{run_is_its_turns-states}
 use Rattle.front_end.specs.Texts.{IsFault}
 use Rattle.cast_insert.specs.Making.{Entry}
-use Rattle.compile_driver.specs.Compiling.{FollowsProgram}
+use Rattle.compile_driver.specs.Compiling.{FollowsProgram, HasProgram, IsTold, program_of, tallest_in}
+use Rattle.compile_driver.specs.Space.{KeepsSpace}
+use Rattle.compile_driver.specs.declared.compiling.Compiled.{Compiled}
 use Rattle.blame_audit.specs.Claims.{NeverTellsBlame}
 use Rattle.grift_base.specs.Sink.{Untouched}
 use Rattle.grift_cli.specs.Calls.{CallSeen, PutsNothing, File, AreLoaded, AsksNothing, LoadsFiles, HasLoaded}
 use Rattle.grift_cli.specs.Calls.{file_of, input_of, source_file}
 use Rattle.grift_cli.specs.Auditing.{IsAuditFile, IsNeverBlamed, PutsAudit}
 use Rattle.grift_cli.specs.Checking.{ElaboratesFile, PutsLines}
-use Rattle.grift_cli.specs.Commands.{Command, Exec, Check, Audit, Code, ImageOf, Model, IsCommand, IsGen}
+use Rattle.grift_cli.specs.Commands.{Command, Run, Exec, Check, Audit, Code, ImageOf, Model, IsCommand, IsGen}
 use Rattle.grift_cli.specs.Generating.{Generates, HasGenerated}
 use Rattle.grift_cli.specs.Listing.{IsImageOf, IsShownFile, PutsShown, Shows, command_by, seen_by}
 use Rattle.grift_cli.specs.Modelling.{IsModelFile, Models}
 use Rattle.grift_cli.specs.Outcome.{IsCompiled, IsImageFile, IsOfSource, Says}
 use Rattle.grift_cli.specs.Reporting.{load_report, source_report, image_report}
-use Rattle.grift_cli.specs.Running.{RunsWell, Runs, Executes}
+use Rattle.grift_cli.specs.Running.{RunsWell, Runs, RunsInSpace, Executes}
 use Rattle.grift_cli.specs.Runs.{run_within, printed, verdict_of_run, HasEndedBy, ComesTo}
+use Rattle.grift_cli.specs.Spaces.{ReportsSpace}
 use Rattle.grift_cli.specs.declared.commands.Limits.{Limits}
 use Rattle.grift_cli.specs.declared.listings.View.{View}
 use Rattle.grift_cli.specs.declared.listings.View.TheVariants.{Listing, Bytes}
 use Rattle.grift_cli.specs.declared.reports.Report.{Report}
-use Rattle.grift_cli.specs.declared.reports.Report.TheVariants.{HasVerdict, HasFault, Checked, Refused}
+use Rattle.grift_cli.specs.declared.reports.Report.TheVariants.{HasVerdict, HasSpace, HasFault, Checked, Refused}
 use Rattle.grift_cli.specs.declared.reports.Report.TheVariants.{PutFailed}
 use Rattle.grift_cli.specs.declared.reports.Report.TheVariants.{Audited, Shown, NoMemory}
 
@@ -156,9 +160,28 @@ says_source_fault call command text input SourceMemory s l p f = says_no_memory 
 
 -- ---- a source that is compiled and run
 
+-- what was compiled is to be run
+abbrev pub is_compiled : (call : CallSeen) (file : List ℕ) (limits : Limits) (input_name : Option (List ℕ))
+    (space : Bool) (name : Option (List ℕ)) (text input : List ℕ) (compiled : Compiled)
+    → HasLoaded call (Run file limits input_name space name) text input → HasProgram text (program_of compiled)
+    → IsTold text compiled → IsImage compiled.image → FollowsProgram compiled.image (program_of compiled)
+    → KeepsSpace compiled.image compiled.tallest → IsCompiled call limits space compiled.image input
+is_compiled call file limits input_name space name text input compiled l source told whole follows keeps = record {
+  file = file;
+  input_name = input_name;
+  name = name;
+  text = text;
+  loaded = l;
+  program = program_of compiled;
+  source = source;
+  whole = whole;
+  follows = follows;
+  keeps = subst (KeepsSpace compiled.image) told.tallest keeps;
+}
+
 -- the image of the source is run
 pub says_run : (call : CallSeen) (limits : Limits) (image input : List ℕ) (report : Report)
-    → IsRegionSize limits.region → IsStackSize limits.stack → IsCompiled call limits image input
+    → IsRegionSize limits.region → IsStackSize limits.stack → IsCompiled call limits false image input
     → Runs limits image input call.out call.img report → Says report call
 says_run call limits image input (HasVerdict verdict) r k c x = inl (record {
   limits = limits;
@@ -171,9 +194,10 @@ says_run call limits image input (HasVerdict verdict) r k c x = inl (record {
   output_put = x.2;
 })
 says_run call limits image input PutFailed r k c x =
-    inl (record { limits = limits; image = image; input = input; compiled = c; fails = x })
+    inl (record { limits = limits; space = false; image = image; input = input; compiled = c; fails = x })
 says_run call limits image input NoMemory r k c x = inr (inr (inl (record {
   limits = limits;
+  space = false;
   image = image;
   input = input;
   compiled = c;
@@ -181,6 +205,37 @@ says_run call limits image input NoMemory r k c x = inr (inr (inl (record {
   no_output = x.1;
 })))
 says_run call limits image input report r k c x = absurd x
+
+-- so it is with lines on its storage
+pub says_run_in_space : (call : CallSeen) (limits : Limits) (image input : List ℕ) (tallest : ℕ) (report : Report)
+    → IsRegionSize limits.region → IsStackSize limits.stack → (c : IsCompiled call limits true image input)
+    → tallest ≡ tallest_in c.program → RunsInSpace limits image input tallest call.out call.img report
+    → Says report call
+says_run_in_space call limits image input tallest (HasSpace verdict space) r k c e x = record {
+  run = record {
+    limits = limits;
+    image = image;
+    input = input;
+    compiled = c;
+    image_put = x.0.0;
+    verdict_is = x.0.1;
+    meant = comes_to limits image input c.program verdict r k c.follows x.0.1;
+    output_put = x.0.2;
+  };
+  reported = subst (λ n. ReportsSpace limits image input n space) e x.1;
+}
+says_run_in_space call limits image input tallest PutFailed r k c e x =
+    inl (record { limits = limits; space = true; image = image; input = input; compiled = c; fails = x })
+says_run_in_space call limits image input tallest NoMemory r k c e x = inr (inr (inl (record {
+  limits = limits;
+  space = true;
+  image = image;
+  input = input;
+  compiled = c;
+  image_put = x.0;
+  no_output = x.1;
+})))
+says_run_in_space call limits image input tallest report r k c e x = absurd x
 
 -- ---- an image from a file that is run
 

@@ -44,7 +44,7 @@ source_file name = record { name = name; most = source_limit }
 
 -- the file that a command is about, if it is about one
 abbrev pub file_of : Command → Option File
-file_of (Run file limits input image) = Some (source_file file)
+file_of (Run file limits input space image) = Some (source_file file)
 file_of (Exec file limits input) = Some (record { name = file; most = image_limit })
 file_of (Check file) = Some (source_file file)
 file_of (Audit file) = Some (source_file file)
@@ -61,7 +61,7 @@ input_file (Some name) = Some (record { name = name; most = input_limit })
 
 -- the file of its input, if it has one
 abbrev pub input_of : Command → Option File
-input_of (Run file limits input image) = input_file input
+input_of (Run file limits input space image) = input_file input
 input_of (Exec file limits input) = input_file input
 input_of (Model file steps input) = input_file input
 input_of _ = None

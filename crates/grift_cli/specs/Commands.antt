@@ -1,6 +1,6 @@
 -- Which words are which command.
 use Rattle.std.specs.Prelude.{ℕ, ◌+◌, ◌-◌, ◌*◌, ◌≤◌, ◌≡◌, ◌≢◌, ◌⊎◌, List, [], ◌∷◌, ◌++◌, length, codes, All, fold}
-use Rattle.std.specs.Prelude.{Option, Some, None}
+use Rattle.std.specs.Prelude.{Bool, true, false, Option, Some, None}
 use Rattle.rv_machine.specs.Start.{IsRegionSize, IsStackSize}
 use Rattle.grift_cli.specs.declared.commands.Limits.{Limits}
 
@@ -32,6 +32,10 @@ IsNameOption option words found =
     ((words ≡ []) × (found ≡ None)) ⊎ ((word : List ℕ) × (words ≡ option ∷ word ∷ []) × (word ≢ [])
     × (found ≡ Some word))
 
+-- an option that is a word alone: it stands there, or there are no words
+abbrev pub IsFlag : List ℕ → List (List ℕ) → Bool → Type 0
+IsFlag option words stands = ((words ≡ []) × (stands ≡ false)) ⊎ ((words ≡ option ∷ []) × (stands ≡ true))
+
 -- ---- the limits of a run
 
 abbrev pub region_default : ℕ
@@ -62,13 +66,14 @@ pub record AreLimits (words : List (List ℕ)) (limits : Limits) : Type 0 where
 
 -- ---- commands
 
--- a file that is compiled and run, perhaps with a file of input and with a name for its image; an image in a file that
+-- a file that is compiled and run, perhaps with a file of input, with lines on its storage and with a name for its
+-- image; an image in a file that
 -- is run, perhaps with a file of input; a file whose program's type and number of casts are put; a file whose program's
 -- safe labels are put; a file whose program's casts are put; a file whose program's code is put, instruction by
 -- instruction; a file whose program's image is put; a file whose program's calculus is run for so many steps at most,
 -- perhaps with a file of input; a number whose program of the family is made, compiled, run and measured
 pub data Command : Type 0 where
-  Run : List ℕ → Limits → Option (List ℕ) → Option (List ℕ) → Command
+  Run : List ℕ → Limits → Option (List ℕ) → Bool → Option (List ℕ) → Command
   Exec : List ℕ → Limits → Option (List ℕ) → Command
   Check : List ℕ → Command
   Audit : List ℕ → Command
@@ -78,16 +83,18 @@ pub data Command : Type 0 where
   Model : List ℕ → ℕ → Option (List ℕ) → Command
   Gen : ℕ → Command
 
-pub record IsRun (words : List (List ℕ)) (file : List ℕ) (limits : Limits) (input image : Option (List ℕ)) : Type 0
-  where
-    pub limit_words : List (List ℕ)
-    pub input_words : List (List ℕ)
-    pub image_words : List (List ℕ)
-    pub words_are : words ≡ codes "run" ∷ file ∷ limit_words ++ (input_words ++ image_words)
-    pub named : file ≢ []
-    pub limits_are : AreLimits limit_words limits
-    pub input_is : IsNameOption (codes "--input") input_words input
-    pub image_is : IsNameOption (codes "--image") image_words image
+pub record IsRun (words : List (List ℕ)) (file : List ℕ) (limits : Limits) (input : Option (List ℕ)) (space : Bool)
+    (image : Option (List ℕ)) : Type 0 where
+  pub limit_words : List (List ℕ)
+  pub input_words : List (List ℕ)
+  pub space_words : List (List ℕ)
+  pub image_words : List (List ℕ)
+  pub words_are : words ≡ codes "run" ∷ file ∷ limit_words ++ (input_words ++ (space_words ++ image_words))
+  pub named : file ≢ []
+  pub limits_are : AreLimits limit_words limits
+  pub input_is : IsNameOption (codes "--input") input_words input
+  pub space_is : IsFlag (codes "--space") space_words space
+  pub image_is : IsNameOption (codes "--image") image_words image
 
 pub record IsExec (words : List (List ℕ)) (file : List ℕ) (limits : Limits) (input : Option (List ℕ)) : Type 0 where
   pub limit_words : List (List ℕ)
@@ -126,7 +133,7 @@ pub record IsGen (words : List (List ℕ)) (number : ℕ) : Type 0 where
   pub allowed : IsFamilyNumber number
 
 abbrev pub IsCommand : List (List ℕ) → Command → Type 0
-IsCommand words (Run file limits input image) = IsRun words file limits input image
+IsCommand words (Run file limits input space image) = IsRun words file limits input space image
 IsCommand words (Exec file limits input) = IsExec words file limits input
 IsCommand words (Check file) = IsOfFile (codes "check") words file
 IsCommand words (Audit file) = IsOfFile (codes "audit") words file

@@ -1,6 +1,5 @@
 -- What `gen` puts, and what it comes to: the program of a number is made, compiled and run, and told in numbers.
 use Rattle.std.specs.Prelude.{ℕ, ◌≡◌, List, [], ◌++◌, codes, length, Some}
-use Rattle.std.specs.Fmt.{decimal}
 use Rattle.grift_base.specs.Sink.{SinkSeen, Untouched, Takes, Breaks}
 use Rattle.grift_base.specs.declared.verdicts.Verdict.{Verdict}
 use Rattle.surface_syntax.specs.Trees.{Expr}
@@ -9,14 +8,11 @@ use Rattle.front_end.specs.Texts.{HasOutcome, IsProgramOf}
 use Rattle.grift_gen.specs.Family.{family_text}
 use Rattle.grift_cli.specs.Commands.{IsGen, default_limits}
 use Rattle.grift_cli.specs.Calls.{CallSeen, AsksNothing}
+use Rattle.grift_cli.specs.Lines.{number_line}
 use Rattle.grift_cli.specs.Listing.{IsImageOf}
 use Rattle.grift_cli.specs.Runs.{run_within, printed, verdict_of_run, ComesTo}
 use Rattle.grift_cli.specs.declared.reports.Report.{Report}
 use Rattle.grift_cli.specs.declared.reports.Report.TheVariants.{HasVerdict, Refused, PutFailed, NoMemory}
-
--- the line of a number
-abbrev pub number_line : List ℕ → ℕ → List ℕ
-number_line name n = name ++ decimal n ++ codes "\n"
 
 -- its lines: how many bytes the source has, how many forms at top level, how many casts and parts the elaboration put
 -- into its program, and how many bytes the run printed

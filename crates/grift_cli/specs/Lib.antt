@@ -1,4 +1,5 @@
 pub mod Runs
+pub mod Spaces
 pub mod Commands
 pub mod ReadCommands
 pub mod Answers
@@ -6,6 +7,7 @@ pub mod Calls
 pub mod Checking
 pub mod Auditing
 pub mod Modelling
+pub mod Lines
 pub mod Listing
 pub mod Generating
 pub mod Outcome

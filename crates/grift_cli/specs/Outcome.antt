@@ -1,5 +1,5 @@
 -- What a report says of a call of the program.
-use Rattle.std.specs.Prelude.{ℕ, ◌≡◌, ◌≢◌, ◌⊎◌, List, [], Option, Some}
+use Rattle.std.specs.Prelude.{ℕ, ◌≡◌, ◌≢◌, ◌⊎◌, Bool, true, false, List, [], Option, Some}
 use Rattle.grift_base.specs.Sink.{SinkSeen, Untouched, Takes, Breaks}
 use Rattle.grift_base.specs.declared.refusals.Refusal.{Refusal}
 use Rattle.grift_base.specs.declared.verdicts.Verdict.{Verdict}
@@ -9,8 +9,10 @@ use Rattle.core_calc.specs.Calculus.{Program}
 use Rattle.assembler.specs.Faults.{IsFirstFault}
 use Rattle.cast_insert.specs.Outcomes.{IsRefused as IsRefusedText}
 use Rattle.front_end.specs.Texts.{HasOutcome}
-use Rattle.compile_driver.specs.Compiling.{HasProgram, FollowsProgram}
+use Rattle.compile_driver.specs.Compiling.{HasProgram, FollowsProgram, tallest_in}
+use Rattle.compile_driver.specs.Space.{KeepsSpace}
 use Rattle.grift_cli.specs.Runs.{run_within, printed, verdict_of_run, fault_of_run, ComesTo}
+use Rattle.grift_cli.specs.Spaces.{ReportsSpace}
 use Rattle.grift_cli.specs.Commands.{Command, Run, Exec, Gen}
 use Rattle.grift_cli.specs.Calls.{CallSeen, PutsNothing, HasLoaded, HasNoCommand, HasNoFile, HasLongFile, LacksFile}
 use Rattle.grift_cli.specs.Auditing.{HasAudited, FailsToPutAudit}
@@ -23,6 +25,8 @@ use Rattle.grift_cli.specs.declared.commands.Limits.{Limits}
 use Rattle.grift_cli.specs.declared.reports.BadImage.{BadImage}
 use Rattle.grift_cli.specs.declared.reports.Report.{Report}
 use Rattle.grift_cli.specs.declared.reports.Report.TheVariants.{HasVerdict, HasFault, Checked, Refused, ImageRefused}
+use Rattle.grift_cli.specs.declared.reports.Report.TheVariants.{HasSpace}
+use Rattle.grift_cli.specs.declared.reports.Space.{Space}
 use Rattle.grift_cli.specs.declared.reports.Report.TheVariants.{WordsRefused, LoadFailed, PutFailed}
 use Rattle.grift_cli.specs.declared.reports.Report.TheVariants.{Audited, Shown, NoMemory, TooLong}
 
@@ -56,37 +60,44 @@ pub record IsRefused (call : CallSeen) (refusal : Refusal) : Type 0 where
 
 -- ---- a source that is compiled and run
 
--- the text is the source of a program, whose term is a program term, and which this image follows; it is to be run
--- within these limits on this input
-pub record IsCompiled (call : CallSeen) (limits : Limits) (image input : List ℕ) : Type 0 where
+-- the text is the source of a program, whose term is a program term, and which this image follows, with storage as it
+-- has to be at each instruction; it is to be run within these limits on this input, with or without lines on its storage
+pub record IsCompiled (call : CallSeen) (limits : Limits) (space : Bool) (image input : List ℕ) : Type 0 where
   pub file : List ℕ
   pub input_name : Option (List ℕ)
   pub name : Option (List ℕ)
   pub text : List ℕ
-  pub loaded : HasLoaded call (Run file limits input_name name) text input
+  pub loaded : HasLoaded call (Run file limits input_name space name) text input
   pub program : Program
   pub source : HasProgram text program
   pub whole : IsImage image
   pub follows : FollowsProgram image program
+  pub keeps : KeepsSpace image (tallest_in program)
 
 -- the image was put whole, the verdict of its run on the input is this one, which is what the program comes to on it,
 -- and what it prints was put whole
-pub record HasRun (call : CallSeen) (verdict : Verdict) : Type 0 where
+pub record HasRun (call : CallSeen) (space : Bool) (verdict : Verdict) : Type 0 where
   pub limits : Limits
   pub image : List ℕ
   pub input : List ℕ
-  pub compiled : IsCompiled call limits image input
+  pub compiled : IsCompiled call limits space image input
   pub image_put : Takes image call.img
   pub verdict_is : verdict_of_run (run_within limits image input).1 ≡ Some verdict
   pub meant : ComesTo compiled.program input (printed limits image input) verdict
   pub output_put : Takes (printed limits image input) call.out
 
+-- so it was with `--space`, and this is what is told of the run's storage
+pub record HasRunInSpace (call : CallSeen) (verdict : Verdict) (told : Space) : Type 0 where
+  pub run : HasRun call true verdict
+  pub reported : ReportsSpace run.limits run.image run.input (tallest_in run.compiled.program) told
+
 -- a sink failed when there was an image
 pub record FailsToPut (call : CallSeen) : Type 0 where
   pub limits : Limits
+  pub space : Bool
   pub image : List ℕ
   pub input : List ℕ
-  pub compiled : IsCompiled call limits image input
+  pub compiled : IsCompiled call limits space image input
   pub fails : ImageFails image call.out call.img
       ⊎ (Takes image call.img × OutputFails (printed limits image input) call.out)
 
@@ -94,9 +105,10 @@ pub record FailsToPut (call : CallSeen) : Type 0 where
 -- output, and the image whole or not at all
 pub record LacksRun (call : CallSeen) : Type 0 where
   pub limits : Limits
+  pub space : Bool
   pub image : List ℕ
   pub input : List ℕ
-  pub compiled : IsCompiled call limits image input
+  pub compiled : IsCompiled call limits space image input
   pub image_put : Untouched call.img ⊎ Takes image call.img
   pub no_output : Untouched call.out
 
@@ -160,8 +172,9 @@ pub record LacksImage (call : CallSeen) : Type 0 where
 -- what a report says of the call up to its line
 abbrev pub Says : Report → CallSeen → Type 0
 Says (HasVerdict verdict) call =
-    HasRun call verdict
+    HasRun call false verdict
     ⊎ (HasExecuted call verdict ⊎ (HasModelled call verdict ⊎ HasGenerated call (HasVerdict verdict)))
+Says (HasSpace verdict space) call = HasRunInSpace call verdict space
 Says (HasFault fault) call = HasGoneWrong call fault
 Says Checked call = HasChecked call
 Says Audited call = HasAudited call

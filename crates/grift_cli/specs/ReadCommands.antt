@@ -1,9 +1,9 @@
 -- The commands that are read from words, and options at the front of words.
-use Rattle.std.specs.Prelude.{ℕ, ◌≤◌, ◌%◌, ◌≡◌, ◌≢◌, false, List, [], ◌∷◌, ◌++◌, codes, Option, Some, None}
+use Rattle.std.specs.Prelude.{ℕ, ◌≤◌, ◌%◌, ◌≡◌, ◌≢◌, Bool, List, [], ◌∷◌, ◌++◌, codes, Option, Some, None}
 use Rattle.std.specs.Borrow.{Bor}
 use Rattle.rv_machine.specs.Start.{IsRegionSize, IsStackSize}
 use Rattle.grift_cli.specs.Commands.{Command, Run, Exec, Check, Audit, Casts, Code, ImageOf, Model, Gen}
-use Rattle.grift_cli.specs.Commands.{IsModelLimit, IsNameOption, IsNumber, IsNumberOption, IsRun}
+use Rattle.grift_cli.specs.Commands.{IsFlag, IsModelLimit, IsNameOption, IsNumber, IsNumberOption, IsRun}
 use Rattle.grift_cli.specs.Commands.{IsStepLimit, region_default, stack_default, steps_default}
 use Rattle.grift_cli.specs.declared.commands.Command.{Command as ReadCommand}
 use Rattle.grift_cli.specs.declared.commands.Command.TheVariants.{Run as ReadRun, Exec as ReadExec, Check as ReadCheck}
@@ -36,6 +36,13 @@ pub record NameAtFront (word : List ℕ) (words : List (List ℕ)) (name : Optio
     pub option : IsNameOption word part name
     pub absent : part ≡ [] → BeginOtherwise word rest
 
+-- the words begin with an option that is a word alone, or not with it; these are left after it
+pub record FlagAtFront (word : List ℕ) (words : List (List ℕ)) (stands : Bool) (rest : List (List ℕ)) : Type 0 where
+  pub part : List (List ℕ)
+  pub words_are : words ≡ part ++ rest
+  pub option : IsFlag word part stands
+  pub absent : part ≡ [] → BeginOtherwise word rest
+
 -- the words begin with limits; these are left after them
 pub record LimitsAtFront (words : List (List ℕ)) (limits : Limits) (rest : List (List ℕ)) : Type 0 where
   pub after_region : List (List ℕ)
@@ -59,7 +66,7 @@ name_bytes (Some name) = Some name.now
 -- a command that was read, as the definitions have it
 abbrev pub command_of : ReadCommand → Command
 command_of (ReadRun file region stack steps input space image) =
-    Run file.now (record { region = region; stack = stack; steps = steps }) (name_bytes input) (name_bytes image)
+    Run file.now (record { region = region; stack = stack; steps = steps }) (name_bytes input) space (name_bytes image)
 command_of (ReadExec file region stack steps input) =
     Exec file.now (record { region = region; stack = stack; steps = steps }) (name_bytes input)
 command_of (ReadCheck file) = Check file.now
@@ -70,11 +77,6 @@ command_of (ReadImageOf file) = ImageOf file.now
 command_of (ReadModel file steps input) = Model file.now steps (name_bytes input)
 command_of (ReadGen number) = Gen number
 
--- it tells nothing beside this
-abbrev pub TellsNoMore : ReadCommand → Type 0
-TellsNoMore (ReadRun file region stack steps input space image) = space ≡ false
-TellsNoMore _ = Unit {0}
-
 -- the word is that of no command that has options
 abbrev pub HasNoOptions : List ℕ → Type 0
 HasNoOptions word = (word ≢ codes "run") × (word ≢ codes "exec") × (word ≢ codes "model")
@@ -84,7 +86,8 @@ pub record GivesImage (words : List (List ℕ)) (name : List ℕ) : Type 0 where
   pub file : List ℕ
   pub limits : Limits
   pub input : Option (List ℕ)
-  pub run : IsRun words file limits input (Some name)
+  pub space : Bool
+  pub run : IsRun words file limits input space (Some name)
 
 -- they are none that gives its image a name
 abbrev pub GivesNoImage : List (List ℕ) → Type 0

@@ -8,6 +8,7 @@ use Rattle.grift_base.specs.Refusals.{refusal_text}
 use Rattle.grift_base.specs.Sink.{SinkSeen, Untouched, Takes, Breaks}
 use Rattle.grift_base.specs.VerdictLine.{verdict_text}
 use Rattle.grift_base.specs.declared.refusals.Refusal.{Refusal}
+use Rattle.grift_base.specs.declared.verdicts.Verdict.{Verdict}
 use Rattle.grift_base.specs.declared.verdicts.Verdict.TheVariants.{Answer, Blame, Trap, RegionOut, StackOut, StepsSpent}
 use Rattle.grift_base.specs.declared.refusals.FrontFault.{FrontFault}
 use Rattle.grift_base.specs.declared.refusals.FrontFault.TheVariants.{Refused as SourceRefused}
@@ -20,6 +21,7 @@ use Rattle.grift_base.specs.declared.sinks.SinkFault.TheVariants.{Failed as Sink
 use Rattle.rv_machine.specs.declared.faults.MachineFault.{MachineFault}
 use Rattle.rv_machine.specs.declared.faults.MachineFault.TheVariants.{Undefined, BadAddress, Misaligned}
 use Rattle.grift_cli.specs.Calls.{CallSeen}
+use Rattle.grift_cli.specs.Lines.{number_line}
 use Rattle.grift_cli.specs.Outcome.{Says}
 use Rattle.grift_cli.specs.declared.reports.BadImage.{BadImage}
 use Rattle.grift_cli.specs.declared.reports.BadImage.TheVariants.{Magic, Length, Section}
@@ -28,17 +30,22 @@ use Rattle.grift_cli.specs.declared.reports.Line.TheVariants.{Fixed, Made}
 use Rattle.grift_cli.specs.declared.reports.Report.{Report}
 use Rattle.grift_cli.specs.declared.reports.Report.TheVariants.{HasVerdict, HasFault, Checked, Refused, ImageRefused}
 use Rattle.grift_cli.specs.declared.reports.Report.TheVariants.{WordsRefused, LoadFailed, PutFailed}
-use Rattle.grift_cli.specs.declared.reports.Report.TheVariants.{Audited, Shown, NoMemory, TooLong}
+use Rattle.grift_cli.specs.declared.reports.Report.TheVariants.{Audited, HasSpace, Shown, NoMemory, TooLong}
+use Rattle.grift_cli.specs.declared.reports.Space.{Space}
 
 -- ---- statuses and lines
 
+abbrev pub verdict_status : Verdict → ℕ
+verdict_status (Answer answer) = 0
+verdict_status (Blame place) = 3
+verdict_status (Trap trap) = 4
+verdict_status RegionOut = 5
+verdict_status StackOut = 6
+verdict_status StepsSpent = 7
+
 abbrev pub report_status : Report → ℕ
-report_status (HasVerdict (Answer answer)) = 0
-report_status (HasVerdict (Blame place)) = 3
-report_status (HasVerdict (Trap trap)) = 4
-report_status (HasVerdict RegionOut) = 5
-report_status (HasVerdict StackOut) = 6
-report_status (HasVerdict StepsSpent) = 7
+report_status (HasVerdict verdict) = verdict_status verdict
+report_status (HasSpace verdict space) = verdict_status verdict
 report_status Checked = 0
 report_status Audited = 0
 report_status Shown = 0
@@ -70,8 +77,18 @@ bad_image_line Magic = codes "bad image magic\n"
 bad_image_line Length = codes "bad image length\n"
 bad_image_line Section = codes "bad image section\n"
 
+-- what is told of storage: six lines
+abbrev pub space_lines : Space → List ℕ
+space_lines space =
+    number_line (codes "space bytes ") space.report.bytes ++ number_line (codes "space objects ") space.report.objects
+    ++ number_line (codes "space proxies ") space.report.proxies
+    ++ number_line (codes "space stacked ") space.report.stacked
+    ++ number_line (codes "space highest ") space.report.highest ++ number_line (codes "space tallest ") space.tallest
+
+-- the line of a report; that of a verdict with its storage has six more behind it
 abbrev pub report_line : Report → List ℕ
 report_line (HasVerdict verdict) = verdict_text verdict ++ codes "\n"
+report_line (HasSpace verdict space) = verdict_text verdict ++ codes "\n" ++ space_lines space
 report_line (HasFault fault) = fault_line fault
 -- a check, an audit or a listing that went well has none
 report_line Checked = codes ""
@@ -102,6 +119,7 @@ pub data PutsLine (line : List ℕ) (wanted : ℕ) (err : SinkSeen) (status : �
 -- the line of the report takes memory to be made; the other lines are fixed
 abbrev pub IsMadeLine : Report → Type 0
 IsMadeLine (HasVerdict verdict) = Unit {0}
+IsMadeLine (HasSpace verdict space) = Unit {0}
 IsMadeLine (HasFault fault) = Unit {0}
 IsMadeLine (Refused refusal) = Unit {0}
 IsMadeLine _ = ⊥

@@ -8,10 +8,11 @@ use Rattle.rv_machine.specs.State.{Halt}
 use Rattle.rv_machine.specs.Mach.{mach}
 use Rattle.rv_emulator.specs.Turns.{Outcome, Halts, Spent, NoMemory as WantsMemory}
 use Rattle.grift_cli.specs.Runs.{run_within, printed, verdict_of_run, fault_of_run}
+use Rattle.grift_cli.specs.Spaces.{ReportsSpace}
 use Rattle.grift_cli.specs.Outcome.{ImageFails, OutputFails}
 use Rattle.grift_cli.specs.declared.commands.Limits.{Limits}
 use Rattle.grift_cli.specs.declared.reports.Report.{Report}
-use Rattle.grift_cli.specs.declared.reports.Report.TheVariants.{HasVerdict, HasFault, PutFailed, NoMemory}
+use Rattle.grift_cli.specs.declared.reports.Report.TheVariants.{HasVerdict, HasSpace, HasFault, PutFailed, NoMemory}
 
 -- ---- the run of an image
 
@@ -63,3 +64,10 @@ Runs limits image input out img PutFailed =
     ImageFails image out img ⊎ (Takes image img × OutputFails (printed limits image input) out)
 Runs limits image input out img NoMemory = (Untouched img ⊎ Takes image img) × Untouched out
 Runs limits image input out img _ = ⊥
+
+-- so it was with lines on its storage
+abbrev pub RunsInSpace : Limits → List ℕ → List ℕ → ℕ → SinkSeen → SinkSeen → Report → Type 0
+RunsInSpace limits image input tallest out img (HasSpace verdict space) =
+    Runs limits image input out img (HasVerdict verdict) × ReportsSpace limits image input tallest space
+RunsInSpace limits image input tallest out img (HasVerdict verdict) = ⊥
+RunsInSpace limits image input tallest out img report = Runs limits image input out img report

@@ -1,10 +1,10 @@
 // The words of the command line.
 
 ghost use Rattle.std.specs.Prelude.{ℕ, ◌≡◌, ◌≢◌, ◌≤◌, ◌<◌, ◌%◌, ◌∷◌, [], List, Option, codes, map, string_bytes};
-ghost use Rattle.std.specs.Prelude.{MatchOption, IfSome};
+ghost use Rattle.std.specs.Prelude.{MatchOption};
 ghost use Rattle.grift_cli.specs.Commands.{Command as WordsCommand, IsNumber, IsCommand, AreNoCommand, default_limits};
-ghost use Rattle.grift_cli.specs.ReadCommands.{NumberAtFront, NameAtFront, LimitsAtFront, StepsAtFront, IsWithin};
-ghost use Rattle.grift_cli.specs.ReadCommands.{GivesImage, GivesNoImage, TellsNoMore, HasNoOptions, command_of};
+ghost use Rattle.grift_cli.specs.ReadCommands.{NumberAtFront, NameAtFront, FlagAtFront, LimitsAtFront, StepsAtFront};
+ghost use Rattle.grift_cli.specs.ReadCommands.{IsWithin, GivesImage, GivesNoImage, HasNoOptions, command_of};
 ghost use Rattle.grift_cli.specs.ReadCommands.{name_bytes};
 
 // The limits of a run: the greatest that may be told, and what they are where none is told.
@@ -26,10 +26,11 @@ const MOST_MODEL_STEPS: u64 = 10_000_000;
 // The greatest number that has a program.
 const MOST_NUMBER: u64 = 200;
 
-/// A command of the program. A `space` is told by no words.
+/// A command of the program.
 #[derive(Clone, Copy, PartialEq, Eq, Debug)]
 pub enum Command<'a> {
-    /// A file that is compiled and run, the file of its input and the name of its image, if it gets these.
+    /// A file that is compiled and run, the file of its input, whether its storage is reported, and the name of its image,
+    /// if it gets one.
     Run {
         file: &'a str,
         region: u64,
@@ -188,15 +189,28 @@ fn name_after<'a>(words: &'a [String], option: &str) -> Option<(Option<&'a str>,
     Some((Some(name), rest))
 }
 
+// Whether the words begin with this one, and the words after it.
+fn flag_after<'a>(words: &'a [String], option: &str) -> (bool, &'a [String])
+    ensures { FlagAtFront option.now (map string_bytes words.now) result.0 (map string_bytes result.1.now) }
+{
+    let [first, rest @ ..] = words else {
+        return (false, words);
+    };
+    if first.as_str() != option {
+        return (false, words);
+    }
+    (true, rest)
+}
+
 // The run command of a file with these options, if they are its options.
 fn run_of<'a>(file: &'a str, options: &'a [String]) -> Option<Command<'a>>
     requires { file.now ≢ [] }
-    ensures command { (words : List (List ℕ)) → words ≡ codes "run" ∷ file.now ∷ map string_bytes options.now
+    ensures { (words : List (List ℕ)) → words ≡ codes "run" ∷ file.now ∷ map string_bytes options.now
         → MatchOption result (AreNoCommand words) (λ command. IsCommand words (command_of command)) }
-    ensures rest { IfSome result TellsNoMore }
 {
     let (limits, rest) = limits_after(options)?;
     let (input, rest) = name_after(rest, "--input")?;
+    let (space, rest) = flag_after(rest, "--space");
     let (image, rest) = name_after(rest, "--image")?;
     if !rest.is_empty() {
         return None;
@@ -207,7 +221,7 @@ fn run_of<'a>(file: &'a str, options: &'a [String]) -> Option<Command<'a>>
         stack: limits.stack,
         steps: limits.steps,
         input,
-        space: false,
+        space,
         image,
     })
 }
@@ -215,9 +229,8 @@ fn run_of<'a>(file: &'a str, options: &'a [String]) -> Option<Command<'a>>
 // The exec command of a file with these options, if they are its options.
 fn exec_of<'a>(file: &'a str, options: &'a [String]) -> Option<Command<'a>>
     requires { file.now ≢ [] }
-    ensures command { (words : List (List ℕ)) → words ≡ codes "exec" ∷ file.now ∷ map string_bytes options.now
+    ensures { (words : List (List ℕ)) → words ≡ codes "exec" ∷ file.now ∷ map string_bytes options.now
         → MatchOption result (AreNoCommand words) (λ command. IsCommand words (command_of command)) }
-    ensures rest { IfSome result TellsNoMore }
 {
     let (limits, rest) = limits_after(options)?;
     let (input, rest) = name_after(rest, "--input")?;
@@ -258,9 +271,8 @@ fn steps_at_front(words: &[String]) -> Option<(u64, &[String])>
 // The model command of a file with these options, if they are its options.
 fn model_of<'a>(file: &'a str, options: &'a [String]) -> Option<Command<'a>>
     requires { file.now ≢ [] }
-    ensures command { (words : List (List ℕ)) → words ≡ codes "model" ∷ file.now ∷ map string_bytes options.now
+    ensures { (words : List (List ℕ)) → words ≡ codes "model" ∷ file.now ∷ map string_bytes options.now
         → MatchOption result (AreNoCommand words) (λ command. IsCommand words (command_of command)) }
-    ensures rest { IfSome result TellsNoMore }
 {
     let (steps, rest) = steps_at_front(options)?;
     let (input, rest) = name_after(rest, "--input")?;
@@ -272,9 +284,8 @@ fn model_of<'a>(file: &'a str, options: &'a [String]) -> Option<Command<'a>>
 
 // The gen command of a number, if the word is one that has a program.
 fn gen_of<'a>(number: &str) -> Option<Command<'a>>
-    ensures command { (words : List (List ℕ)) → words ≡ codes "gen" ∷ number.now ∷ []
+    ensures { (words : List (List ℕ)) → words ≡ codes "gen" ∷ number.now ∷ []
         → MatchOption result (AreNoCommand words) (λ command. IsCommand words (command_of command)) }
-    ensures rest { IfSome result TellsNoMore }
 {
     let number = number_in(number)?;
     if number < 1 || number > MOST_NUMBER {
@@ -289,9 +300,8 @@ fn gen_of<'a>(number: &str) -> Option<Command<'a>>
 fn pair_of<'a>(command: &str, second: &'a str) -> Option<Command<'a>>
     requires some { second.now ≢ [] }
     requires other { HasNoOptions command.now }
-    ensures command { (words : List (List ℕ)) → words ≡ command.now ∷ second.now ∷ []
+    ensures { (words : List (List ℕ)) → words ≡ command.now ∷ second.now ∷ []
         → MatchOption result (AreNoCommand words) (λ command. IsCommand words (command_of command)) }
-    ensures rest { IfSome result TellsNoMore }
 {
     match command {
         "check" => Some(Command::Check { file: second }),
@@ -306,9 +316,8 @@ fn pair_of<'a>(command: &str, second: &'a str) -> Option<Command<'a>>
 
 /// The command that the words are; none exactly where they are none. Takes no memory.
 pub fn read_words(words: &[String]) -> Option<Command<'_>>
-    ensures command { let texts = map string_bytes words.now in
+    ensures { let texts = map string_bytes words.now in
         MatchOption result (AreNoCommand texts) (λ command. IsCommand texts (command_of command)) }
-    ensures rest { IfSome result TellsNoMore }
 {
     let [command, second, options @ ..] = words else {
         return None;

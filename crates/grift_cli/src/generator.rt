@@ -4,19 +4,18 @@ ghost use Rattle.std.specs.Prelude.{◌≡◌, ◌++◌, [], IfOk, IfSome, OnOk,
 ghost use Rattle.grift_base.specs.Sink.{sink_seen};
 ghost use Rattle.cast_insert.specs.Views.{entries_of};
 ghost use Rattle.grift_cli.specs.Commands.{IsFamilyNumber, default_limits};
-ghost use Rattle.grift_cli.specs.Generating.{Generates, PutsNumbers, number_line, numbers_text};
+ghost use Rattle.grift_cli.specs.Generating.{Generates, PutsNumbers, numbers_text};
 ghost use Rattle.grift_cli.specs.Running.{RunsWell, TellsRun};
 ghost use Rattle.grift_cli.specs.Runs.{run_within, printed};
 
 use crate::commands::default_limits;
-use crate::reports::{Report, report_of_source};
+use crate::reports::{Report, push_number, report_of_source};
 use crate::runner::{report_of, run_machine};
 use assembler::image::Image;
 use compile_driver::compiling::{Compiled, compile};
 use grift_base::lists::{Bytes, OutOfMemory, Text};
 use grift_base::sinks::Sink;
 use grift_gen::program_of;
-use itoa::Buffer;
 use std::alloc::Global;
 
 /// Makes the program of a number, compiles it, runs its image without input, and puts how many bytes, forms and casts
@@ -74,18 +73,9 @@ fn lines_of(
     ensures { IfOk result (λ lines. lines ≡ numbers_text source forms casts output) }
 {
     let mut lines = Text::new(alloc);
-    write_number(&mut lines, b"source ", source)?;
-    write_number(&mut lines, b"forms ", u64::from(forms))?;
-    write_number(&mut lines, b"casts ", casts)?;
-    write_number(&mut lines, b"output ", output)?;
+    push_number(&mut lines, b"source ", source)?;
+    push_number(&mut lines, b"forms ", u64::from(forms))?;
+    push_number(&mut lines, b"casts ", casts)?;
+    push_number(&mut lines, b"output ", output)?;
     Ok(lines)
-}
-
-// Writes the line of a number behind the lines.
-fn write_number(lines: &mut Text, name: &[u8], number: u64) -> Result<(), OutOfMemory>
-    ensures { OnOk result (lines.new ≡ lines.old ++ number_line name.now number) }
-{
-    lines.extend(name)?;
-    lines.extend(Buffer::new().format(number).as_bytes())?;
-    lines.extend(b"\n")
 }

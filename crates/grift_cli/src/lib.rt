@@ -10,4 +10,5 @@ mod loads;
 mod models;
 mod reports;
 mod runner;
+mod spaces;
 pub mod top;

@@ -1,9 +1,11 @@
 // What a call of the program reports.
 
-ghost use Rattle.std.specs.Prelude.{◌≡◌, ◌++◌, codes, string_bytes, IfOk, OnErr};
+ghost use Rattle.std.specs.Prelude.{◌≡◌, ◌++◌, codes, string_bytes, IfOk, OnErr, OnOk};
 ghost use Rattle.grift_cli.specs.Reporting.{report_status, report_line, address_text, fault_line, bad_image_line};
 ghost use Rattle.grift_cli.specs.Reporting.{bytes_of_line, IsMadeLine, refusal_line, load_report, source_report};
-ghost use Rattle.grift_cli.specs.Reporting.{image_report, fault_status};
+ghost use Rattle.grift_base.specs.VerdictLine.{verdict_text};
+ghost use Rattle.grift_cli.specs.Reporting.{image_report, fault_status, verdict_status, space_lines};
+ghost use Rattle.grift_cli.specs.Lines.{number_line};
 
 use assembler::image::ImageFault;
 use grift_base::lists::{OutOfMemory, Text};
@@ -12,6 +14,7 @@ use grift_base::shelves::LoadFault;
 use grift_base::sinks::SinkFault;
 use grift_base::verdicts::{Verdict, verdict_line};
 use itoa::Buffer;
+use object_layout::walks::SpaceReport;
 use rv_machine::faults::MachineFault;
 use std::alloc::Global;
 
@@ -26,11 +29,21 @@ pub enum BadImage {
     Section,
 }
 
+/// What is told of the storage of a run: the report of its region as the machine stopped, and the greatest height of the
+/// coercions of the program's casts.
+#[derive(Clone, Copy, PartialEq, Eq, Debug)]
+pub struct Space {
+    pub report: SpaceReport,
+    pub tallest: u32,
+}
+
 /// What a call of the program reports.
 #[derive(Clone, Copy, PartialEq, Eq, Debug)]
 pub enum Report {
     /// The run of the image has this verdict.
     HasVerdict(Verdict),
+    /// The run of the image has this verdict, and this is told of its storage.
+    HasSpace(Verdict, Space),
     /// The run of a stranger's image went wrong by this fault.
     HasFault(MachineFault),
     /// The source was elaborated, and the lines of a check were put.
@@ -79,17 +92,10 @@ pub fn status_of(report: Report) -> u8
     ensures { result ≡ report_status report }
 {
     match report {
-        Report::HasVerdict(Verdict::Answer(_))
-        | Report::Checked
-        | Report::Audited
-        | Report::Shown => 0,
+        Report::HasVerdict(verdict) | Report::HasSpace(verdict, _) => status_of_verdict(verdict),
+        Report::Checked | Report::Audited | Report::Shown => 0,
         Report::Refused(_) => 1,
         Report::WordsRefused => 2,
-        Report::HasVerdict(Verdict::Blame(_)) => 3,
-        Report::HasVerdict(Verdict::Trap(_)) => 4,
-        Report::HasVerdict(Verdict::RegionOut) => 5,
-        Report::HasVerdict(Verdict::StackOut) => 6,
-        Report::HasVerdict(Verdict::StepsSpent) => 7,
         Report::LoadFailed => 8,
         Report::PutFailed => 9,
         Report::NoMemory => 10,
@@ -99,13 +105,29 @@ pub fn status_of(report: Report) -> u8
     }
 }
 
-/// The line of a report, with its line feed; a check, an audit or a listing that went well has none.
+// The status of a verdict.
+fn status_of_verdict(verdict: Verdict) -> u8
+    ensures { result ≡ verdict_status verdict }
+{
+    match verdict {
+        Verdict::Answer(_) => 0,
+        Verdict::Blame(_) => 3,
+        Verdict::Trap(_) => 4,
+        Verdict::RegionOut => 5,
+        Verdict::StackOut => 6,
+        Verdict::StepsSpent => 7,
+    }
+}
+
+/// The line of a report, with its line feed, and behind it those of storage; a check, an audit or a listing that went well
+/// has none.
 pub fn line_of(alloc: Global, report: Report) -> Result<Line, OutOfMemory>
     ensures ok { IfOk result (λ line. bytes_of_line line ≡ report_line report) }
     ensures err { OnErr result (IsMadeLine report) }
 {
     match report {
         Report::HasVerdict(verdict) => verdict_line(alloc, &verdict).map(Line::Made),
+        Report::HasSpace(verdict, space) => lines_in_space(alloc, verdict, space).map(Line::Made),
         Report::HasFault(fault) => fault_line(alloc, fault).map(Line::Made),
         Report::Checked | Report::Audited | Report::Shown => Ok(Line::Fixed(b"")),
         Report::Refused(refusal) => refusal_line(alloc, refusal).map(Line::Made),
@@ -116,6 +138,33 @@ pub fn line_of(alloc: Global, report: Report) -> Result<Line, OutOfMemory>
         Report::PutFailed => Ok(Line::Fixed(b"put failed\n")),
         Report::NoMemory => Ok(Line::Fixed(b"out of memory\n")),
     }
+}
+
+// The line of a verdict, and the six lines of storage.
+fn lines_in_space(alloc: Global, verdict: Verdict, space: Space) -> Result<Text, OutOfMemory>
+    ensures { IfOk result (λ text. text ≡ verdict_text verdict ++ codes "\n" ++ space_lines space) }
+{
+    let mut text = verdict_line(alloc, &verdict)?;
+    push_number(&mut text, b"space bytes ", space.report.bytes)?;
+    push_number(&mut text, b"space objects ", space.report.objects)?;
+    push_number(&mut text, b"space proxies ", space.report.proxies)?;
+    push_number(&mut text, b"space stacked ", space.report.stacked)?;
+    push_number(
+        &mut text,
+        b"space highest ",
+        u64::from(space.report.highest),
+    )?;
+    push_number(&mut text, b"space tallest ", u64::from(space.tallest))?;
+    Ok(text)
+}
+
+/// Adds a line of these words and a number, in decimal. `OutOfMemory` comes where no memory is left for it.
+pub fn push_number(text: &mut Text, words: &[u8], number: u64) -> Result<(), OutOfMemory>
+    ensures { OnOk result (text.new ≡ text.old ++ number_line words.now number) }
+{
+    text.extend(words)?;
+    text.extend(Buffer::new().format(number).as_bytes())?;
+    text.extend(b"\n")
 }
 
 // The line of an image that went wrong.

@@ -96,6 +96,8 @@ pub fn run_machine(
     requires region { IsRegionSize limits.region }
     requires stack { IsStackSize limits.stack }
     ensures told { IfSome result (λ run. TellsRun (run_within limits image.now input).1 run.0) }
+    ensures stopped { IfSome result (λ run.
+        state_of ⟦<FlatRam as Ram>⟧.memory run.1 ≡ (run_within limits image.now input).0) }
     ensures printed { IfSome result (λ run.
         (state_of ⟦<FlatRam as Ram>⟧.memory run.1).world.output ≡ printed limits image.now input) }
 {

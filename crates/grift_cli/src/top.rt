@@ -21,6 +21,7 @@ use crate::reports::{
     Report, line_of, report_of_image, report_of_load, report_of_source, status_of, status_of_fault,
 };
 use crate::runner::{exec_image, run_image};
+use crate::spaces::run_in_space;
 use assembler::image::read_image;
 use compile_driver::compiling::compile;
 use front_end::elaborate_text;
@@ -74,6 +75,7 @@ fn report_of_call<S: Shelf, O: Sink, I: Sink>(
             stack,
             steps,
             input,
+            space,
             ..
         } => {
             let limits = Limits {
@@ -81,7 +83,7 @@ fn report_of_call<S: Shelf, O: Sink, I: Sink>(
                 stack,
                 steps,
             };
-            report_of_run(alloc, file, input, limits, shelf, out, img)
+            report_of_run(alloc, file, input, space, limits, shelf, out, img)
         }
         Command::Exec {
             file,
@@ -114,6 +116,7 @@ fn report_of_run<S: Shelf, O: Sink, I: Sink>(
     alloc: Global,
     file: &str,
     input: Option<&str>,
+    space: bool,
     limits: Limits,
     shelf: &mut S,
     out: &mut O,
@@ -122,7 +125,7 @@ fn report_of_run<S: Shelf, O: Sink, I: Sink>(
     requires region { IsRegionSize limits.region }
     requires stack { IsStackSize limits.stack }
     ensures { (words : List (List ℕ)) (name : Option (List ℕ))
-        → IsRun words file.now limits (name_bytes input.entry) name → Says result (record {
+        → IsRun words file.now limits (name_bytes input.entry) space name → Says result (record {
           words = words;
           shelf = shelf_seen S.holds S.asked S.fault_count shelf.old shelf.new;
           out = sink_seen O.written O.fault_count out.old out.new;
@@ -135,7 +138,14 @@ fn report_of_run<S: Shelf, O: Sink, I: Sink>(
     };
     match compile(alloc, bytes.as_slice()) {
         Err(fault) => report_of_source(fault),
-        Ok(compiled) => run_image(alloc, &compiled.image, limits, input, out, img),
+        Ok(compiled) => {
+            let image = &compiled.image;
+            if space {
+                run_in_space(alloc, image, compiled.tallest, limits, input, out, img)
+            } else {
+                run_image(alloc, image, limits, input, out, img)
+            }
+        }
     }
 }
 

@@ -1,7 +1,17 @@
-use Rattle.std.proofs.Common.{map, string_bytes}
-use Rattle.grift_cli.proofs.ReadingCommands.{none_without_image}
+use Rattle.std.proofs.Common.{map, string_bytes, subst}
+use Rattle.grift_cli.specs.Commands.{IsCommand}
+use Rattle.grift_cli.specs.ReadCommands.{command_of, name_bytes}
+use Rattle.grift_cli.proofs.ReadingCommands.{image_given, none_without_image}
 use Rattle.grift_cli.proofs.commands.image_name.Goals as goal
 
 pub returns-in_err-image : goal.returns-in_err-image
 returns-in_err-image c =
-    rw c.from_residual.ensures (none_without_image (map string_bytes c.args.words.now) c.in_err-image.ensures.command)
+    rw c.from_residual.ensures (none_without_image (map string_bytes c.args.words.now) c.in_err-image.ensures)
+
+pub returns : goal.returns
+returns c =
+    let run = c.in-Run in
+    image_given (map string_bytes c.args.words.now) run.file.now
+    (record { region = run.region; stack = run.stack; steps = run.steps }) (name_bytes run.input) run.space run.image
+    (subst (λ command. IsCommand (map string_bytes c.args.words.now) (command_of command)) run.is
+    c.in_ok-image.ensures)

@@ -9,6 +9,11 @@ returns-clause-told c =
     (has_stopped c.args.limits c.args.image.now c.args.input _ _ _ (outcome_of c.run-stop.result) c.in_ok-report.report
     c.in-Ok.ensures c.run-stop.ensures.ran c.in_ok-report.ensures).told
 
+pub returns-clause-stopped : goal.returns-clause-stopped
+returns-clause-stopped c =
+    sym (has_stopped c.args.limits c.args.image.now c.args.input _ _ _ (outcome_of c.run-stop.result)
+    c.in_ok-report.report c.in-Ok.ensures c.run-stop.ensures.ran c.in_ok-report.ensures).state
+
 pub returns-clause-printed : goal.returns-clause-printed
 returns-clause-printed c =
     sym (ap (λ (s : State). s.world.output) (has_stopped c.args.limits c.args.image.now c.args.input _ _ _
