@@ -1,0 +1,15 @@
+mod Names
+mod Renaming
+mod Dense
+mod Follows
+mod InSlots
+mod AppliedRuns
+mod Keeps
+mod Checks
+mod Greedy
+mod Prices
+mod Samples
+mod FrameSizes
+mod SampleHolding
+mod SlotLists
+mod Renamed

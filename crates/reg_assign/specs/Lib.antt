@@ -1,0 +1,6 @@
+pub mod Places
+pub mod Rename
+pub mod Sized
+pub mod Applied
+pub mod Check
+pub mod Prices
