@@ -13,3 +13,7 @@ mod FrameSizes
 mod SampleHolding
 mod SlotLists
 mod Renamed
+mod Listings
+mod Walking
+mod Kept
+mod Fine

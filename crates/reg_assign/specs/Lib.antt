@@ -4,3 +4,7 @@ pub mod Sized
 pub mod Applied
 pub mod Check
 pub mod Prices
+pub mod Numbers
+pub mod Flow
+pub mod Walks
+pub mod Fits

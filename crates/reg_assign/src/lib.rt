@@ -3,4 +3,9 @@
 
 pub mod apply;
 pub mod assignment;
+pub mod check;
+mod flow;
 pub mod laws;
+mod named;
+mod positions;
+mod walks;
