@@ -1,3 +1,4 @@
+pub mod Public
 mod Halves
 mod PutWords
 mod Items

@@ -1,0 +1,191 @@
+-- The machine that runs the real code of a code with places follows the virtual run.
+use Rattle.std.proofs.Common.{ℕ, zero, suc, ◌^◌, ◌<◌, ◌≡◌, ◌≢◌, List, [], ◌∷◌, Some, refl}
+use Rattle.std.proofs.Common.{sym, ◌∙◌, ap, subst, arith}
+use Rattle.std.specs.Prelude.{slice_get}
+use Rattle.run_laws.specs.Runs.{Ending, Wrong, Exhausted, NeverWrong, FollowsBy, Any}
+use Rattle.run_laws.specs.Machines.{Machine, run}
+use Rattle.run_laws.specs.Meters.{unspent, metered, each_one, Spends, OfRest}
+use Rattle.run_laws.proofs.Public.{follows_at_cost, follows_of, follows_by_trans, follows_by_weaken, metered_follows}
+use Rattle.run_laws.proofs.Public.{follows_metered, unmetered_never_wrong, follower_never_goes_wrong, spends_through}
+use Rattle.rv_isa.specs.declared.real.RealItem.{RealItem}
+use Rattle.rv_machine.specs.State.{State, Halt, Lacks, Stack}
+use Rattle.rv_machine.specs.Real.{Setting as RealSetting, real_machine}
+use Rattle.rv_select.specs.declared.code.Place.{Place}
+use Rattle.rv_select.specs.declared.code.VirtualItem.{VirtualItem}
+use Rattle.rv_select.specs.declared.code.VirtualItem.TheVariants.{Mark, Procedure}
+use Rattle.rv_select.specs.Run.{VirtualState, Shown, virtual_machine}
+use Rattle.rv_select.specs.Holding.{Sets, IsHolding}
+use Rattle.rv_select.specs.Marks.{marks, Distinct}
+use Rattle.rv_select.specs.Stacks.{stacked_machine}
+use Rattle.rv_slots.specs.Slotted.{Starts, setting_in, room_in, start_in, IsSeenAs, FollowsVirtual}
+use Rattle.rv_slots.proofs.Public.{follows_in_stack}
+use Rattle.reg_assign.specs.Rename.{Naming, densely, rename_all, renamed}
+use Rattle.reg_assign.specs.Sized.{sized_machine, SameOrFewer}
+use Rattle.reg_assign.specs.Applied.{applied, slots_of, DoesInSlots, DoesAsVirtual}
+use Rattle.reg_assign.proofs.Renaming.{Pass}
+use Rattle.reg_assign.proofs.Dense.{dense_naming}
+use Rattle.reg_assign.proofs.InSlots.{sized_never_wrong, sized_bound_simulates}
+use Rattle.reg_assign.proofs.Follows.{free_simulates, sized_simulates, related_start}
+
+-- ---- marks and procedures of the renamed code
+
+pub same_marks : (w : Naming) (first count : ℕ) (items : List VirtualItem)
+    → marks (rename_all w first count items) ≡ marks items
+same_marks w first count [] = refl
+same_marks w first count (Procedure k f c ∷ rest) = ap (λ xs. k ∷ xs) (same_marks w f c rest)
+same_marks w first count (Mark m ∷ rest) = ap (λ xs. m ∷ xs) (same_marks w first count rest)
+same_marks w first count (item ∷ rest) = same_marks w first count rest
+
+-- a procedure of the renamed code is one of the code
+pub procedure_back : (w : Naming) (first count : ℕ) (items : List VirtualItem) (p k f n : ℕ)
+    → slice_get (rename_all w first count items) p ≡ Some (Procedure k f n)
+    → (c : ℕ) × (slice_get items p ≡ Some (Procedure k f c)) × (n ≡ w.slots f c)
+procedure_back w first count [] p k f n e = absurd (let z : ⊥ = cc in z)
+procedure_back w first count (Procedure i g c ∷ rest) zero k f n e = same i k g f (w.slots g c) n e c refl
+  where
+    same : (a b x y z u : ℕ) → Some (Procedure a x z) ≡ Some (Procedure b y u) → (c : ℕ) → z ≡ w.slots x c
+        → (d : ℕ) × (Some (Procedure a x c) ≡ Some (Procedure b y d)) × (u ≡ w.slots y d)
+    same a b x y z u h c s =
+        let e0 : a ≡ b = cc in
+        let e1 : x ≡ y = cc in
+        let e2 : z ≡ u = cc in (
+          c,
+          ap (λ v. Some (Procedure v x c)) e0 ∙ ap (λ v. Some (Procedure b v c)) e1,
+          sym e2 ∙ (s ∙ ap (λ v. w.slots v c) e1),
+        )
+procedure_back w first count (item ∷ rest) zero k f n e = absurd (let z : ⊥ = cc in z)
+procedure_back w first count (Procedure i g c ∷ rest) (suc p) k f n e = procedure_back w g c rest p k f n e
+procedure_back w first count (item ∷ rest) (suc p) k f n e = procedure_back w first count rest p k f n e
+
+-- a machine that follows another at a cost follows it
+unmetered : {A B V S T : Type 0} (K : A → B → Type 0) (c : ℕ) (X : Machine S A V) (Y : Machine T B V) (s : S) (t : T)
+    → NeverWrong (run Y t)
+    → FollowsBy (OfRest K) (Spends c) (run (metered each_one X) (unspent s)) (run (metered each_one Y) (unspent t))
+    → FollowsBy K Any (run X s) (run Y t)
+unmetered K c X Y s t never h =
+    let never1 = unmetered_never_wrong X each_one (unspent s) (follower_never_goes_wrong (follows_of h)) in
+    let below = follows_metered X each_one (unspent s) never1 in
+    let above = metered_follows Y each_one (unspent t) never in
+    follows_by_weaken K Any (λ a b k. subst (λ x. K x b) (sym k.1) (subst (λ y. K k.0.rest y) k.2.2 k.2.1))
+    (λ a b k. tt) (follows_by_trans below (follows_by_trans h above))
+
+seen_through : (bound : ℕ) (s : State) (b a : Shown) → IsSeenAs bound s b → SameOrFewer b a → IsSeenAs bound s a
+seen_through bound s b a h k = record {
+  memory = λ at l. h.memory at l ∙ ap (λ m. m at) k.memory;
+  stack = h.stack ∙ k.stack;
+  alloc = h.alloc ∙ k.alloc;
+  top = h.top ∙ k.top;
+  above = h.above;
+  used = (let x = h.used in let y = k.frames in let z = k.held in omega (arith, x, y, z));
+}
+
+module _ {V : Type 0} (reading : Halt → Ending V) (items : List VirtualItem) (place : ℕ → Place) (live : Sets)
+    (hold : IsHolding items place live) (distinct : Distinct (marks items))
+    (counts : (p k first count : ℕ) → slice_get items p ≡ Some (Procedure k first count) → count < 2 ^ 32) where
+  abbrev naming : Naming
+  naming = densely place
+
+  abbrev others : List VirtualItem
+  others = renamed naming items
+
+  abbrev code : List RealItem
+  code = applied place items
+
+  others_distinct : Distinct (marks others)
+  others_distinct = subst Distinct (sym (same_marks naming 0 0 items)) distinct
+
+  others_counts : (p k first count : ℕ) → slice_get others p ≡ Some (Procedure k first count) → count < 2 ^ 32
+  others_counts p k first count e =
+      let b = procedure_back naming 0 0 items p k first count e in
+      let few = (dense_naming place).few first b.0 in
+      let small = counts p k first b.0 b.1 in
+      let is = b.2 in omega (arith, few, small, is)
+
+  module _ (setting : RealSetting) (told : ℕ → ℕ) (s : State) (starts : Starts items code setting told s)
+      (never : NeverWrong (run (virtual_machine reading (setting_in items told s)) (start_in s))) where
+    abbrev pass : Pass V
+    pass = record {
+      reading = reading;
+      setting = setting_in items told s;
+      naming = naming;
+      live = live;
+      hold = hold;
+      is = dense_naming place;
+    }
+
+    abbrev free : Machine VirtualState Shown V
+    free = virtual_machine reading (setting_in items told s)
+
+    abbrev sized : Machine VirtualState Shown V
+    sized = sized_machine reading (setting_in items told s) (slots_of place) (room_in s)
+
+    abbrev free_others : Machine VirtualState Shown V
+    free_others = virtual_machine reading (setting_in others told s)
+
+    abbrev stacked_others : Machine VirtualState Shown V
+    stacked_others = stacked_machine reading (setting_in others told s) (room_in s)
+
+    others_start : Starts others code setting told s
+    others_start = record {
+      addresses = starts.addresses;
+      calls = starts.calls;
+      tells = λ p k first count at e m.
+          let b = procedure_back naming 0 0 items p k first count e in starts.tells p k first b.0 at b.1 m;
+      lies = starts.lies;
+      pc = starts.pc;
+      stack = starts.stack;
+      fits = starts.fits;
+      bytes = starts.bytes;
+    }
+
+    others_never : NeverWrong (run free_others (start_in s))
+    others_never =
+        let h = follows_at_cost (free_simulates pass) (start_in s) (start_in s)
+        (related_start pass s.regs s.memory s.world) never in
+        follower_never_goes_wrong (follows_of (unmetered SameOrFewer 1 free_others free (start_in s) (start_in s) never h))
+
+    sized_never : reading (Lacks Stack) ≢ Wrong → NeverWrong (run sized (start_in s))
+    sized_never lacking =
+        sized_never_wrong reading (setting_in items told s) (slots_of place) (room_in s) lacking (start_in s) never
+
+    pub follows_in_slots : reading (Lacks Stack) ≢ Wrong → FollowsVirtual 43 (real_machine reading code setting) sized s
+    follows_in_slots lacking =
+        let lower = follows_in_stack reading others others_distinct others_counts setting told s others_start
+        others_never lacking in
+        let never1 = sized_never lacking in
+        let upper = follows_at_cost (sized_simulates pass (room_in s)) (start_in s) (start_in s)
+        (related_start pass s.regs s.memory s.world) never1 in
+        let turns = follows_by_weaken (OfRest (IsSeenAs (s.regs 25))) (Spends 43)
+        (λ a b k. seen_through (s.regs 25) a.rest k.0.rest b.rest k.1 k.2) (λ a b k. spends_through 43 1 a b k)
+        (follows_by_trans lower.turns upper) in
+        record {
+          follows = unmetered (IsSeenAs (s.regs 25)) 43 (real_machine reading code setting) sized s (start_in s) never1
+              turns;
+          turns = turns;
+        }
+
+    pub follows_virtual : reading (Lacks Stack) ≡ Exhausted
+        → FollowsVirtual 43 (real_machine reading code setting) free s
+    follows_virtual out =
+        let lacking : reading (Lacks Stack) ≢ Wrong = (λ e. not_both (reading (Lacks Stack)) out e) in
+        let upper = follows_at_cost (sized_bound_simulates reading (setting_in items told s) (slots_of place) (room_in s)
+        out) (start_in s) (start_in s) refl never in
+        let turns = follows_by_weaken (OfRest (IsSeenAs (s.regs 25))) (Spends 43)
+        (λ a b k. subst (λ x. IsSeenAs (s.regs 25) a.rest x) k.2 k.1) (λ a b k. spends_through 43 1 a b k)
+        (follows_by_trans (follows_in_slots lacking).turns upper) in
+        record {
+          follows = unmetered (IsSeenAs (s.regs 25)) 43 (real_machine reading code setting) free s (start_in s) never
+              turns;
+          turns = turns;
+        }
+      where
+        not_both : (o : Ending V) → o ≡ Exhausted → o ≡ Wrong → ⊥
+        not_both o e f = cc
+
+  -- the claims of the definition
+  pub does_in_slots : DoesInSlots reading place items code
+  does_in_slots is setting told s starts never =
+      follows_in_slots setting told s starts never (is.lacking Stack)
+
+  pub does_as_virtual : DoesAsVirtual reading items code
+  does_as_virtual out setting told s starts never = follows_virtual setting told s starts never out

@@ -1,0 +1,10 @@
+pub mod Places
+pub mod Rename
+pub mod Sized
+pub mod Applied
+pub mod Check
+pub mod Prices
+pub mod Numbers
+pub mod Flow
+pub mod Walks
+pub mod Fits

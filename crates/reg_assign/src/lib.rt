@@ -1,0 +1,11 @@
+//! Places of the virtual registers of a virtual code: real registers, and slots of frames.
+#![tactic(auto)]
+
+pub mod apply;
+pub mod assignment;
+pub mod check;
+mod flow;
+pub mod laws;
+mod named;
+mod positions;
+mod walks;
