@@ -19,9 +19,7 @@ use Rattle.grift_cli.specs.Reporting.{PutsLine, Fails, Lacks, fault_status}
 use Rattle.grift_cli.specs.Running.{RunsWell, PutsAll, TellsRun, Executes, Runs}
 use Rattle.grift_cli.specs.declared.commands.Limits.{Limits}
 use Rattle.grift_cli.specs.declared.reports.Report.{Report}
-use Rattle.grift_cli.specs.declared.reports.Report.TheVariants.{HasVerdict, HasFault}
-use Rattle.grift_cli.specs.declared.reports.Report.TheVariants.{PutFailed}
-use Rattle.grift_cli.specs.declared.reports.Report.TheVariants.{NoMemory}
+use Rattle.grift_cli.specs.declared.reports.Report.TheVariants.{HasVerdict, HasFault, PutFailed, NoMemory}
 
 -- ---- one put
 

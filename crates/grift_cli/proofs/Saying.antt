@@ -44,8 +44,7 @@ use Rattle.grift_cli.specs.declared.commands.Limits.{Limits}
 use Rattle.grift_cli.specs.declared.listings.View.{View}
 use Rattle.grift_cli.specs.declared.listings.View.TheVariants.{Listing, Bytes}
 use Rattle.grift_cli.specs.declared.reports.Report.{Report}
-use Rattle.grift_cli.specs.declared.reports.Report.TheVariants.{HasVerdict, HasFault, Checked, Refused}
-use Rattle.grift_cli.specs.declared.reports.Report.TheVariants.{PutFailed}
+use Rattle.grift_cli.specs.declared.reports.Report.TheVariants.{HasVerdict, HasFault, Checked, Refused, PutFailed}
 use Rattle.grift_cli.specs.declared.reports.Report.TheVariants.{Audited, Shown, NoMemory}
 
 -- ---- the run of an image and of its program

@@ -15,8 +15,8 @@ returns-in-Err g c words name is =
 pub returns-in-Err-compile : goal.returns-in-Err-compile
 returns-in-Err-compile g c words name is =
     let loaded = c.in-Ok.loaded in
-    rw c.report_of_source.ensures (says_source_fault _ (Run c.args.file.now c.args.limits (name_bytes c.args.input) name)
-    c.as_slice.result.now loaded.input c.in-Err-compile.fault tt
+    rw c.report_of_source.ensures (says_source_fault _
+    (Run c.args.file.now c.args.limits (name_bytes c.args.input) name) c.as_slice.result.now loaded.input c.in-Err-compile.fault tt
     (has_loaded _ (Run c.args.file.now c.args.limits (name_bytes c.args.input) name) _ c.as_slice.result.now
     loaded.input loaded.bytes loaded.input is refl c.in-Ok.ensures c.as_slice.ensures refl)
     (record { out = record { written = refl; faults = refl }; img = record { written = refl; faults = refl } })
