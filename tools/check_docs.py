@@ -8,8 +8,8 @@ In docs/ARCHITECTURE.md each name of a definition, lemma, function, test, edit o
 Usage: tools/check_docs.py [--files]. With --files nothing is run, so that the program need not be built; else the
 status is 2 where it isn't.
 A line of a `check` block is a source, `=>`, and what `grift check` says of it: `type T, casts N`, or its refusal. The
-first line of a `casts` or a `code` block is a source, the others lines that `grift casts` or `grift code` puts of it, one
-after another.
+first line of a `casts` or a `code` block is a source, the others lines that `grift casts` or `grift code` puts of it,
+one after another.
 """
 import pathlib
 import re

@@ -25,9 +25,7 @@ use Rattle.grift_cli.specs.Commands.{default_limits}
 use Rattle.grift_cli.specs.Generating.{Generates, IsGenerated, PutsNumbers, numbers_text}
 use Rattle.grift_cli.specs.Reporting.{source_report}
 use Rattle.grift_cli.specs.declared.reports.Report.{Report}
-use Rattle.grift_cli.specs.declared.reports.Report.TheVariants.{HasVerdict}
-use Rattle.grift_cli.specs.declared.reports.Report.TheVariants.{PutFailed}
-use Rattle.grift_cli.specs.declared.reports.Report.TheVariants.{NoMemory}
+use Rattle.grift_cli.specs.declared.reports.Report.TheVariants.{HasVerdict, PutFailed, NoMemory}
 use Rattle.grift_cli.proofs.Saying.{comes_to}
 
 pub default_region : IsRegionSize default_limits.region

@@ -21,9 +21,7 @@ use Rattle.grift_cli.specs.Spaces.{ReportsSpace, in_space}
 use Rattle.grift_cli.specs.declared.reports.Space.{Space}
 use Rattle.grift_cli.specs.declared.commands.Limits.{Limits}
 use Rattle.grift_cli.specs.declared.reports.Report.{Report}
-use Rattle.grift_cli.specs.declared.reports.Report.TheVariants.{HasVerdict, HasFault}
-use Rattle.grift_cli.specs.declared.reports.Report.TheVariants.{PutFailed}
-use Rattle.grift_cli.specs.declared.reports.Report.TheVariants.{NoMemory}
+use Rattle.grift_cli.specs.declared.reports.Report.TheVariants.{HasVerdict, HasFault, PutFailed, NoMemory}
 
 -- ---- one put
 
