@@ -85,8 +85,8 @@ fn casts_do_not_pile_up(rt: HostRuntime) -> Result<(), NoMemory> {
     Ok(())
 }
 
-// A run with every region up to 1,024 bytes is exhausted or ends, with no proxy on a proxy; and once one ends, each with
-// more room does.
+// A run with every region up to 1,024 bytes is exhausted or ends, with no proxy on a proxy; and once one ends, each
+// with more room does.
 #[test]
 fn regions_of_all_sizes(rt: HostRuntime) -> Result<(), NoMemory> {
     let alloc = rt.alloc();

@@ -35,7 +35,8 @@ none_in_sum f from (h ∷ rest) none =
 
 -- what is low for each object is low for the greatest
 low_in_all : (f : ℕ → Header → ℕ) (from most : ℕ) (headers : List Header)
-    → ((place at : ℕ) (h : Header) → IsNth from headers place at h → f at h ≤ most) → greatest_over f from headers ≤ most
+    → ((place at : ℕ) (h : Header) → IsNth from headers place at h → f at h ≤ most)
+    → greatest_over f from headers ≤ most
 low_in_all f from most [] low = omega arith
 low_in_all f from most (h ∷ rest) low =
     let first = low 0 from h (refl, refl) in
@@ -135,7 +136,8 @@ module _ (limits : Limits) (image input : List ℕ) (tallest : ℕ) (r : IsRegio
       let T = told_by (run_within limits image input).0 in
       let to = (run_within limits image input).0.regs 26 in
       let here : IsReported T start to report =
-      subst (λ n. IsReported T n to report) f (subst (λ t. IsReported (told_by t) from (t.regs 26) report) e reported) in
+      subst (λ n. IsReported T n to report) f
+      (subst (λ t. IsReported (told_by t) from (t.regs 26) report) e reported) in
       let row = subst (λ n. IsRow T Region n k.stored.objects to) k.begins k.is_stored.row in
       let one = a_range_is_one_row T Region to to start to here.0 k.stored.objects here.1 row in
       let none : sum_over (stacked_count T) start k.stored.objects ≡ 0 =

@@ -66,12 +66,11 @@ pub record AreLimits (words : List (List ℕ)) (limits : Limits) : Type 0 where
 
 -- ---- commands
 
--- a file that is compiled and run, perhaps with a file of input, with lines on its storage and with a name for its
--- image; an image in a file that
--- is run, perhaps with a file of input; a file whose program's type and number of casts are put; a file whose program's
--- safe labels are put; a file whose program's casts are put; a file whose program's code is put, instruction by
--- instruction; a file whose program's image is put; a file whose program's calculus is run for so many steps at most,
--- perhaps with a file of input; a number whose program of the family is made, compiled, run and measured
+-- a file that is compiled and run, perhaps with a file of input, lines on its storage and a name for its image; an
+-- image in a file that is run, perhaps with a file of input; a file whose program's type and number of casts are put; a
+-- file whose program's safe labels are put; a file whose program's casts are put; a file whose program's code is put,
+-- instruction by instruction; a file whose program's image is put; a file whose program's calculus is run for so many
+-- steps at most, perhaps with a file of input; a number whose program of the family is made, compiled, run and measured
 pub data Command : Type 0 where
   Run : List ℕ → Limits → Option (List ℕ) → Bool → Option (List ℕ) → Command
   Exec : List ℕ → Limits → Option (List ℕ) → Command

@@ -61,7 +61,7 @@ pub record IsRefused (call : CallSeen) (refusal : Refusal) : Type 0 where
 -- ---- a source that is compiled and run
 
 -- the text is the source of a program, whose term is a program term, and which this image follows, with storage as it
--- has to be at each instruction; it is to be run within these limits on this input, with or without lines on its storage
+-- has to be at each instruction; it is to be run within these limits on this input, with or without lines on storage
 pub record IsCompiled (call : CallSeen) (limits : Limits) (space : Bool) (image input : List ℕ) : Type 0 where
   pub file : List ℕ
   pub input_name : Option (List ℕ)

@@ -18,8 +18,8 @@ pub record IsFilled (s : State) (from : ℕ) : Type 0 where
   pub headers : List Header
   pub row : IsRow (told_by s) Region from headers (s.regs 26)
 
--- The report is that of the region as the run within the limits has stopped, from its start to x26: no proxy stands on a
--- proxy, and no proxy's coercion is higher than the tallest of the program's casts, which is told beside it.
+-- The report is that of the region as the run within the limits has stopped, from its start to x26: no proxy stands on
+-- a proxy, and no proxy's coercion is higher than the tallest of the program's casts, which is told beside it.
 pub record ReportsSpace (limits : Limits) (image input : List ℕ) (tallest : ℕ) (space : Space) : Type 0 where
   pub walked : IsReported (told_by (run_within limits image input).0)
       (layout_of image limits.region limits.stack).region ((run_within limits image input).0.regs 26) space.report

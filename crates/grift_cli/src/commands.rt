@@ -29,8 +29,8 @@ const MOST_NUMBER: u64 = 200;
 /// A command of the program.
 #[derive(Clone, Copy, PartialEq, Eq, Debug)]
 pub enum Command<'a> {
-    /// A file that is compiled and run, the file of its input, whether its storage is reported, and the name of its image,
-    /// if it gets one.
+    /// A file that is compiled and run, the file of its input, if it gets one, whether its storage is told, and the
+    /// name of its image, if it gets one.
     Run {
         file: &'a str,
         region: u64,

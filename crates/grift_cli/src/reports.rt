@@ -29,8 +29,8 @@ pub enum BadImage {
     Section,
 }
 
-/// What is told of the storage of a run: the report of its region as the machine stopped, and the greatest height of the
-/// coercions of the program's casts.
+/// What is told of the storage of a run: the report of its region as the machine stopped, and the greatest height of
+/// the coercions of the program's casts.
 #[derive(Clone, Copy, PartialEq, Eq, Debug)]
 pub struct Space {
     pub report: SpaceReport,
@@ -119,8 +119,8 @@ fn status_of_verdict(verdict: Verdict) -> u8
     }
 }
 
-/// The line of a report, with its line feed, and behind it those of storage; a check, an audit or a listing that went well
-/// has none.
+/// The line of a report, with its line feed, and those of storage behind it; a check, an audit or a listing that went
+/// well has none.
 pub fn line_of(alloc: Global, report: Report) -> Result<Line, OutOfMemory>
     ensures ok { IfOk result (λ line. bytes_of_line line ≡ report_line report) }
     ensures err { OnErr result (IsMadeLine report) }
