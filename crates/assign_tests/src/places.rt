@@ -155,6 +155,6 @@ fn code_with_real_registers_is_shorter(rt: HostRuntime) -> Result<(), Fail> {
     let real_fit = check(alloc, &code, &real)?;
     assert!(rt; real_fit);
     let short = apply(alloc, &code, &real)?;
-    assert!(rt; short.items.len() + 8 == same.items.len());
+    assert!(rt; short.items.len() + 5 == same.items.len());
     Ok(())
 }

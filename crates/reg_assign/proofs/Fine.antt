@@ -1,5 +1,6 @@
 -- What a walk shows place by place of whether a register is kept wherever it is needed.
-use Rattle.std.proofs.Common.{ℕ, suc, ◌+◌, ◌<◌, ◌≤◌, ◌≡◌, Bool, true, false, List, [], ◌++◌, Some, None, Option, refl, sym, ◌∙◌, ap}
+use Rattle.std.proofs.Common.{ℕ, suc, ◌+◌, ◌<◌, ◌≤◌, ◌≡◌, Bool, true, false, List, [], ◌++◌, Some, None, Option, refl}
+use Rattle.std.proofs.Common.{sym, ◌∙◌, ap}
 use Rattle.std.proofs.Common.{subst, length, get_or, inl, arith}
 use Rattle.std.specs.Prelude.{◌==◌, nat_lt, slice_index, unwrap_or, Contains}
 use Rattle.std.proofs.lemmas.Option.{slice_get_read, slice_get_past}
@@ -40,7 +41,8 @@ steps_more P w v p s before here j l = pick (j == w.done) refl
         let less : j < w.done = grind arith in
         subst P (sym (same j (omega arith))) (before j less)
 
-module _ (items : List VirtualItem) (place : ℕ → Place) (lists : ℕ → List ℕ) (listed : IsListed IsRead items lists) where
+module _ (items : List VirtualItem) (place : ℕ → Place) (lists : ℕ → List ℕ) (listed : IsListed IsRead items lists)
+    where
   -- a register that may be needed behind all places is kept
   pub kept_now : (w : Walk) → IsClosed items w → w.done ≡ length w.found.items
       → ((j : ℕ) → j < w.done → IsFine items place (register_at w.number) (slice_index w.found.items j))
@@ -55,13 +57,15 @@ module _ (items : List VirtualItem) (place : ℕ → Place) (lists : ℕ → Lis
       at : (p : ℕ) → Contains w.found.items p → IsFine items place (register_at w.number) p
       at p h =
           let l : h.0 < length w.found.items = h.1 in
-          subst (IsFine items place (register_at w.number)) (at_index w.found.items p h) (fine h.0 (omega (arith, l, all)))
+          subst (IsFine items place (register_at w.number)) (at_index w.found.items p h) (fine h.0 (omega (arith, l,
+              all)))
 
   pub kept_at : (w : Walk) (k : ℕ) → w.number ≡ k → IsClosed items w → w.done ≡ length w.found.items
       → ((j : ℕ) → j < w.done → IsFine items place (register_at k) (slice_index w.found.items j))
       → (IsVirtual (register_at k) → Contains (lists k) 0 → ⊥) → IsKept items place (register_at k)
   kept_at w k e closed all =
-      let P : ℕ → Type 0 = λ n. ((j : ℕ) → j < w.done → IsFine items place (register_at n) (slice_index w.found.items j))
+      let P : ℕ → Type 0 = λ n. ((j : ℕ) → j < w.done → IsFine items place (register_at n) (slice_index w.found.items
+          j))
       → (IsVirtual (register_at n) → Contains (lists n) 0 → ⊥) → IsKept items place (register_at n) in
       subst P e (λ fine begins. kept_now w closed all fine begins)
 
@@ -69,12 +73,14 @@ module _ (items : List VirtualItem) (place : ℕ → Place) (lists : ℕ → Lis
   pub fine_where_kept : (k p : ℕ) → Behind items (register_at k) p → IsKept items place (register_at k)
       → IsFine items place (register_at k) p
   fine_where_kept k p b h = (
-    (λ v begins. none_where_kept items place (register_at k) v h p (behind_kept items place (register_at k) h p b).0 begins),
+    (λ v begins. none_where_kept items place (register_at k) v h p (behind_kept items place (register_at k) h p b).0
+        begins),
     (λ item e. spared_where_kept items place (register_at k) h p b item e),
   )
 
   -- and isn't read at the start
-  pub unread_where_kept : (k : ℕ) → IsKept items place (register_at k) → IsVirtual (register_at k) → Contains (lists k) 0 → ⊥
+  pub unread_where_kept : (k : ℕ) → IsKept items place (register_at k) → IsVirtual (register_at k) → Contains (lists
+      k) 0 → ⊥
   unread_where_kept k h v m =
       let o = listed.only k 0 m in
       none_where_kept items place (register_at k) v h 0 (h.finds 0 o.0 o.1 o.2) (inl refl)

@@ -93,7 +93,8 @@ module _ (w : Naming) (allowed : (v r : ℕ) → w.place v ≡ InReg r → may_h
       (registers_stay first count item (All-head Registers item rest h))
       (registers_all first count rest (All-tail Registers item rest h))
 
-  named_stay : (first count : ℕ) (item : VirtualItem) → marks_named (rename (name w first count) item) ≡ marks_named item
+  named_stay : (first count : ℕ) (item : VirtualItem) → marks_named (rename (name w first count) item) ≡ marks_named
+      item
   named_stay f c (Constant rd word) = refl
   named_stay f c (Move rd a) = refl
   named_stay f c (Compute op rd a b) = refl
@@ -131,7 +132,8 @@ module _ (w : Naming) (allowed : (v r : ℕ) → w.place v ≡ InReg r → may_h
       let same = same_marks w 0 0 items in
       record {
         distinct = subst Distinct (sym same) well.distinct;
-        named = subst (λ ms. All (Names ms) (renamed w items)) (sym same) (named_all (marks items) 0 0 items well.named);
+        named = subst (λ ms. All (Names ms) (renamed w items)) (sym same) (named_all (marks items) 0 0 items
+            well.named);
         registers = registers_all 0 0 items well.registers;
       }
 

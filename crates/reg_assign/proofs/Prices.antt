@@ -131,7 +131,8 @@ leave_length count xs n e =
     joined (leave_items count) xs ∙ (ap (λ k. suc k + length xs) l ∙ (ap (λ k. suc (w + 1) + k) e ∙ s))
 
 -- the price is what an item becomes
-pub price_is : (out first count : ℕ) (item : VirtualItem) → length (expand out first count item) ≡ price first count item
+pub price_is : (out first count : ℕ) (item : VirtualItem) → length (expand out first count item) ≡ price first count
+    item
 price_is out first count (Constant rd word) = constant_length first rd (word % 2 ^ 64)
 price_is out first count (Move rd a) = move_length first rd a
 price_is out first count (Compute op rd a b) =

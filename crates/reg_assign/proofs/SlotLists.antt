@@ -15,7 +15,8 @@ in_is : (i : ℕ) (xs : List ℕ) → is_in i xs ≡ list_any (nat_eq i) xs
 in_is i [] = refl
 in_is i (x ∷ xs) = pick (x == i) (nat_eq i x) (same_test i x) (in_is i xs)
   where
-    pick : (b c : Bool) → b ≡ c → is_in i xs ≡ list_any (nat_eq i) xs → (b || is_in i xs) ≡ (c || list_any (nat_eq i) xs)
+    pick : (b c : Bool) → b ≡ c → is_in i xs ≡ list_any (nat_eq i) xs → (b || is_in i xs) ≡ (c || list_any (nat_eq i)
+        xs)
     pick b c e f = ap (λ z. z || is_in i xs) e ∙ ap (λ z. c || z) f
 
 -- one more slot is put into the set

@@ -1,6 +1,8 @@
 -- A walk back from where a register is read: what one more place keeps, and that in the end all places are found.
-use Rattle.std.proofs.Common.{ℕ, zero, suc, ◌+◌, ◌-◌, ◌<◌, ◌≤◌, ◌≡◌, ◌≢◌, ◌⊎◌, inl, inr, Bool, true, false, List, [], ◌∷◌}
-use Rattle.std.proofs.Common.{◌++◌, refl, sym, ◌∙◌, ap, subst, Some, length, get_or, set, cond, arith, length-append, append_assoc}
+use Rattle.std.proofs.Common.{ℕ, zero, suc, ◌+◌, ◌-◌, ◌<◌, ◌≤◌, ◌≡◌, ◌≢◌, ◌⊎◌, inl, inr, Bool, true, false, List, []}
+use Rattle.std.proofs.Common.{◌∷◌}
+use Rattle.std.proofs.Common.{◌++◌, refl, sym, ◌∙◌, ap, subst, Some, length, get_or, set, cond, arith, length-append}
+use Rattle.std.proofs.Common.{append_assoc}
 use Rattle.std.proofs.Common.{get_or-set_same, get_or-set_other}
 use Rattle.std.specs.Prelude.{◌==◌, not, count_by, slice_get, slice_index, All, Contains}
 use Rattle.std.proofs.lemmas.Grind.{common_steps}
@@ -107,7 +109,8 @@ module _ (items : List VirtualItem) where
         (slice_get_read w.found.items (length w.found.items) h.0 p refl h.1 (sym h.2)) in
         subst (λ x. Reaches items (register_at w.number) w.found.items x) e (is.closed h.0 l)
 
-    reach_needed : (p : ℕ) → Needed items p (register_at w.number) → Reaches items (register_at w.number) w.found.items p
+    reach_needed : (p : ℕ) → Needed items p (register_at w.number) → Reaches items (register_at w.number)
+        w.found.items p
     reach_needed p n = go p (register_at w.number) n refl
       where
         go : (p : ℕ) (a : VReg) → Needed items p a → a ≡ register_at w.number
@@ -232,7 +235,8 @@ module _ (items : List VirtualItem) where
       at j true s k =
           let e = equal_of j w.done s in
           subst (λ x. Reaches items (register_at w.number) v.found.items x)
-          (ap (λ x. slice_index w.found.items x) (sym e) ∙ sym (same j (let z : j < length w.found.items = omega arith in z)))
+          (ap (λ x. slice_index w.found.items x) (sym e) ∙ sym (same j (let z : j < length w.found.items = omega arith
+              in z)))
           here
       at j false s k =
           let less : j < w.done = grind arith in

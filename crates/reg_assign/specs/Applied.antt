@@ -29,8 +29,8 @@ applied place items =
 abbrev pub slots_of : (ℕ → Place) → ℕ → ℕ → ℕ
 slots_of place first count = (densely place).slots first count
 
--- however stops are read, the machine follows the virtual run in a stack of so many bytes where a frame has the link and
--- these slots: so it stops for want of stack only where that does
+-- however stops are read, the machine follows the virtual run in a stack of so many bytes where a frame has the link
+-- and these slots: so it stops for want of stack only where that does
 abbrev pub DoesInSlots : {V : Type 0} → (Halt → Ending V) → (ℕ → Place) → List VirtualItem → List RealItem → Type 0
 DoesInSlots reading place items code =
     IsReading reading → (setting : RealSetting) (told : ℕ → ℕ) (s : State) → Starts items code setting told s

@@ -1,5 +1,6 @@
 -- Where a register is needed behind items, and lists of items by the registers that they name.
-use Rattle.std.specs.Prelude.{ℕ, ◌<◌, ◌≡◌, ◌⊎◌, [], Bool, true, false, List, Option, Some, None, slice_get, unwrap_or, Contains}
+use Rattle.std.specs.Prelude.{ℕ, ◌<◌, ◌≡◌, ◌⊎◌, [], Bool, true, false, List, Option, Some, None, slice_get, unwrap_or}
+use Rattle.std.specs.Prelude.{Contains}
 use Rattle.rv_select.specs.declared.code.VReg.{VReg}
 use Rattle.rv_select.specs.declared.code.VReg.TheVariants.{Real, Virtual}
 use Rattle.rv_select.specs.declared.code.Place.{Place}

@@ -18,8 +18,8 @@ use rv_select::code::{Place, VReg, VirtualCode, VirtualItem, VirtualItems};
 use rv_slots::slots::slots;
 use std::alloc::Global;
 
-// The slots of a procedure, each once, in the order of the first register that is kept in it, and that procedure's first
-// register.
+// The slots of a procedure, each once, in the order of the first register that is kept in it, and that procedure's
+// first register.
 #[derive(Drop)]
 struct Kept {
     first: u32,

@@ -1,6 +1,7 @@
 // Whether places fit a code.
 
-ghost use Rattle.std.specs.Prelude.{◌≡◌, ◌<◌, ◌↔◌, ℕ, suc, length, true, IsTrue, OnOk, IfOk, slice_get, option_to_list, Contains};
+ghost use Rattle.std.specs.Prelude.{◌≡◌, ◌<◌, ◌↔◌, ℕ, suc, length, true, IsTrue, OnOk, IfOk, slice_get, option_to_list};
+ghost use Rattle.std.specs.Prelude.{Contains};
 ghost use Rattle.rv_select.specs.Holding.{place_of, may_hold, NoneAt, SparedByCall, SparedBy, writes};
 ghost use Rattle.rv_select.specs.declared.code.VirtualItem.{VirtualItem};
 ghost use Rattle.reg_assign.specs.Places.{place_in};
@@ -215,10 +216,10 @@ fn are_allowed(places: &[Place]) -> bool
     true
 }
 
-/// Whether an assignment fits a code: it has a place for each virtual register, none of them x0, x1, x2, x25, x26, x27 or
-/// one from x28 on, and whatever path is taken, each read finds the word that was written last. A register that the
-/// assignment has no place for counts as kept in the slot of its number. `OutOfMemory` comes where no memory is left, and
-/// where a register or a mark has a number that is too large for a list with an entry for each number below.
+/// Whether an assignment fits a code: it has a place for each virtual register, none of them x0, x1, x2, x25, x26, x27
+/// or one from x28 on, and whatever path is taken, each read finds the word that was written last. A register that the
+/// assignment has no place for counts as kept in the slot of its number. `OutOfMemory` comes where no memory is left,
+/// and where a register or a mark has a number that is too large for a list with an entry for each number below.
 pub fn check(
     alloc: Global,
     code: &VirtualCode,

@@ -19,8 +19,8 @@ ghost use Rattle.rv_slots.specs.Slots.{expand};
 ghost use Rattle.reg_assign.specs.Rename.{densely, name, rename};
 ghost use Rattle.reg_assign.specs.Prices.{price, OwnsNamed};
 
-/// Where there is a holding, the real code with these places is all that is claimed of it: the machine follows the virtual
-/// run.
+/// Where there is a holding, the real code with these places is all that is claimed of it: the machine follows the
+/// virtual run.
 pub fn code_with_places_follows()
     ensures { (items : List VirtualItem) (place : ℕ → Place) (live : Sets) (code : List RealItem)
         → IsHolding items place live → EachHasFew items → code ≡ applied place items → IsApplied place items code }
@@ -42,8 +42,8 @@ pub fn needs_decide()
         → AreNeeded items needed → HasHolding items place → NeedsAreKept items place needed }
 {}
 
-/// A greedy assignment has a holding where slots of their own have one, and where it gives a slot no holding exists with
-/// any allowed real register there.
+/// A greedy assignment has a holding where slots of their own have one, and where it gives a slot no holding exists
+/// with any allowed real register there.
 pub fn greedy_is_best_in_each_place()
     ensures maximal { (items : List VirtualItem) (place : ℕ → Place) → IsGreedy items place → IsMaximal items place }
     ensures holds { (items : List VirtualItem) (place : ℕ → Place) (n : ℕ) → IsGreedy items place
@@ -56,8 +56,8 @@ pub fn slots_of_their_own_hold()
         → HasHolding items other → HasHolding items place }
 {}
 
-/// An item of a procedure becomes no more real items with places than with a slot for each register, and the price is how
-/// many it becomes.
+/// An item of a procedure becomes no more real items with places than with a slot for each register, and the price is
+/// how many it becomes.
 pub fn places_cost_no_more()
     ensures exact { (out first count : ℕ) (item : VirtualItem)
         → length (expand out first count item) ≡ price first count item }
@@ -67,8 +67,8 @@ pub fn places_cost_no_more()
         ≤ price f.first f.count item }
 {}
 
-/// Frames with the slots that are left have no more bytes than frames with all registers: so stack lacks only where those
-/// wouldn't fit either.
+/// Frames with the slots that are left have no more bytes than frames with all registers: so stack lacks only where
+/// those wouldn't fit either.
 pub fn frames_are_no_larger()
     ensures { (place : ℕ → Place) (found : Found) (fs : List Frame)
         → stack_by (slots_of place) found fs ≤ stack_of found fs }

@@ -1,6 +1,7 @@
 // Walks back from where a register is read to all items behind which it is needed.
 
-ghost use Rattle.std.specs.Prelude.{◌≡◌, ◌<◌, ◌≤◌, ◌+◌, ℕ, suc, [], length, None, OnOk, IfOk, MatchOption, All, Contains, slice_get, true};
+ghost use Rattle.std.specs.Prelude.{◌≡◌, ◌<◌, ◌≤◌, ◌+◌, ℕ, suc, [], length, None, OnOk, IfOk, MatchOption, All};
+ghost use Rattle.std.specs.Prelude.{Contains, slice_get, true};
 ghost use Rattle.std.specs.Option.{option_copied};
 ghost use Rattle.rv_select.specs.Holding.{Among, writes, has_next, target};
 ghost use Rattle.rv_select.specs.declared.code.VirtualItem.{VirtualItem};

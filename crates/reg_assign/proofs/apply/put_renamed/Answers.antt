@@ -5,7 +5,8 @@ use Rattle.reg_assign.specs.Places.{place_in}
 use Rattle.reg_assign.specs.Rename.{kept_in, densely, rename_all}
 use Rattle.reg_assign.proofs.Renamed.{put_procedure, put_other, few_procedure, few_other, rest_is}
 use Rattle.reg_assign.proofs.apply.put_renamed.Goals as goal
-use Rattle.reg_assign.proofs.apply.put_renamed.Goals.{in-Procedure+in_ok-kept-2+in_ok-slots+in_ok-push, in_default+in_ok-other+in_ok-push-2}
+use Rattle.reg_assign.proofs.apply.put_renamed.Goals.{in-Procedure+in_ok-kept-2+in_ok-slots+in_ok-push}
+use Rattle.reg_assign.proofs.apply.put_renamed.Goals.{in_default+in_ok-other+in_ok-push-2}
 
 pub loop-item-preserved : goal.loop-item-preserved
 loop-item-preserved c =
@@ -20,12 +21,14 @@ loop-item-preserved c =
           let f : c.match-item.kept.first ≡ w.in-Procedure.first =
           ap (λ k. k.first) w.kept-is ∙ w.in_ok-kept-2.ensures.kept.0 in
           let s = w.in_ok-kept-2.ensures.kept.1 in
-          let e : drop i items ≡ Procedure w.in-Procedure.k w.in-Procedure.first w.in-Procedure.count ∷ drop (i + 1) items =
+          let e : drop i items ≡ Procedure w.in-Procedure.k w.in-Procedure.first w.in-Procedure.count ∷ drop (i + 1)
+              items =
           rest_is items i c.item-item.result (Procedure w.in-Procedure.k w.in-Procedure.first w.in-Procedure.count)
           c.loop-item-test.true c.item-item.is w.in-Procedure.is in (
             w.in-Procedure.count,
             ap (λ k. k.slots.keys) w.kept-is ∙ (s ∙ ap (λ x. kept_in place x w.in-Procedure.count) (sym f)),
-            subst (λ x. c.match-item.renamed ++ rename_all (densely place) x w.in-Procedure.count (drop (i + 1) items) ≡ all)
+            subst (λ x. c.match-item.renamed ++ rename_all (densely place) x w.in-Procedure.count (drop (i + 1) items)
+                ≡ all)
                 (sym f)
                 (put_procedure place c.loop-item.kept.first inv.0 w.in-Procedure.k w.in-Procedure.first
                 w.in-Procedure.count w.in_ok-slots.slots kept.slots.keys c.loop-item.renamed c.match-item.renamed all
@@ -43,7 +46,8 @@ loop-item-preserved c =
                 (sym w.kept-is)
                 (put_other place c.loop-item.kept.first inv.0 c.loop-item.kept.slots.keys c.item-item.result
                 w.in_ok-other.other c.loop-item.renamed c.match-item.renamed all (drop i items) (drop (i + 1) items)
-                w.in_default.not-Procedure e inv.1 w.in_ok-other.ensures (w.renamed-is ∙ w.in_ok-push-2.ensures.ok) inv.2),
+                w.in_default.not-Procedure e inv.1 w.in_ok-other.ensures (w.renamed-is ∙ w.in_ok-push-2.ensures.ok)
+                    inv.2),
             few_other c.item-item.result (drop i items) (drop (i + 1) items) (EachHasFew items)
                 w.in_default.not-Procedure e inv.3,
           )

@@ -7,7 +7,8 @@ returns-then-not-is_allowed c = (
   λ z. absurd (let y : ⊥ = cc in y),
   λ allowed. c.if-not-is_allowed.ensures.1 (λ r e.
       allowed c.loop-place.place-index r
-      (placed c.args.places.now c.loop-place.place-index c.place-item.result c.loop-place-test.true c.place-item.is ∙ e)),
+      (placed c.args.places.now c.loop-place.place-index c.place-item.result c.loop-place-test.true c.place-item.is ∙
+          e)),
 )
 
 pub loop-place-preserved : goal.loop-place-preserved

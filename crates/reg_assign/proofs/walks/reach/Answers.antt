@@ -5,7 +5,8 @@ use Rattle.rv_select.specs.Holding.{Among, writes}
 use Rattle.reg_assign.specs.Numbers.{register_at}
 use Rattle.reg_assign.proofs.Walking.{there_written, walk_more, read_at, grows_one}
 use Rattle.reg_assign.proofs.walks.reach.Goals as goal
-use Rattle.reg_assign.proofs.walks.reach.Goals.{then-is_written-via-then-is_written, then-is_written-via-else-is_written+then-index-walk}
+use Rattle.reg_assign.proofs.walks.reach.Goals.{then-is_written-via-then-is_written}
+use Rattle.reg_assign.proofs.walks.reach.Goals.{then-is_written-via-else-is_written+then-index-walk}
 
 pub returns-then-is_written-clause-there : goal.returns-then-is_written-clause-there
 returns-then-is_written-clause-there c item e away =
@@ -16,7 +17,8 @@ returns-then-is_written-clause-there c item e away =
           c.args.walk.now.found.items there (w.if-is_written.ensures.0 refl) e away
       | then-is_written-via-else-is_written+then-index-walk w ↦
           let within = slice_get_within c.args.items.now c.args.place item e in
-          let read : w.index.result.now ≡ get_or c.args.walk.now.seen.items c.args.place w.index.result.now = omega arith in
+          let read : w.index.result.now ≡ get_or c.args.walk.now.seen.items c.args.place w.index.result.now = omega
+              arith in
           let size = c.requires.walk.size in
           let at = read_at c.args.walk.now.seen.items c.args.place w.index.result.now (omega arith) read in
           let noted : slice_index c.args.walk.now.seen.items c.args.place ≡ suc c.args.walk.now.number = omega arith in
