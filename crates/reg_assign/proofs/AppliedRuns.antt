@@ -143,7 +143,7 @@ module _ {V : Type 0} (reading : Halt → Ending V) (items : List VirtualItem) (
         let h = follows_at_cost (free_simulates pass) (start_in s) (start_in s)
         (related_start pass s.regs s.memory s.world) never in
         follower_never_goes_wrong (follows_of (unmetered SameOrFewer 1 free_others free (start_in s) (start_in s)
-            never h))
+        never h))
 
     sized_never : reading (Lacks Stack) ≢ Wrong → NeverWrong (run sized (start_in s))
     sized_never lacking =
@@ -170,7 +170,7 @@ module _ {V : Type 0} (reading : Halt → Ending V) (items : List VirtualItem) (
     follows_virtual out =
         let lacking : reading (Lacks Stack) ≢ Wrong = (λ e. not_both (reading (Lacks Stack)) out e) in
         let upper = follows_at_cost (sized_bound_simulates reading (setting_in items told s) (slots_of place) (room_in
-            s)
+        s)
         out) (start_in s) (start_in s) refl never in
         let turns = follows_by_weaken (OfRest (IsSeenAs (s.regs 25))) (Spends 43)
         (λ a b k. subst (λ x. IsSeenAs (s.regs 25) a.rest x) k.2 k.1) (λ a b k. spends_through 43 1 a b k)

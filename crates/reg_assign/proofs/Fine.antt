@@ -1,5 +1,5 @@
 -- What a walk shows place by place of whether a register is kept wherever it is needed.
-use Rattle.std.proofs.Common.{ℕ, suc, ◌+◌, ◌<◌, ◌≤◌, ◌≡◌, Bool, true, false, List, [], ◌++◌, Some, None, Option, refl}
+use Rattle.std.proofs.Common.{ℕ, suc, ◌+◌, ◌<◌, ◌≤◌, ◌≡◌, Bool, true, false, List, [], Some, refl}
 use Rattle.std.proofs.Common.{sym, ◌∙◌, ap}
 use Rattle.std.proofs.Common.{subst, length, get_or, inl, arith}
 use Rattle.std.specs.Prelude.{◌==◌, nat_lt, slice_index, unwrap_or, Contains}
@@ -7,15 +7,14 @@ use Rattle.std.proofs.lemmas.Option.{slice_get_read, slice_get_past}
 use Rattle.std.proofs.lemmas.Grind.{common_steps}
 use Rattle.rv_select.specs.declared.code.Place.{Place}
 use Rattle.rv_select.specs.declared.code.Place.TheVariants.{InReg, Slot}
-use Rattle.rv_select.specs.declared.code.VReg.{VReg}
 use Rattle.rv_select.specs.declared.code.VirtualItem.{VirtualItem}
-use Rattle.rv_select.specs.Holding.{Among, reads, may_hold}
+use Rattle.rv_select.specs.Holding.{may_hold}
 use Rattle.reg_assign.specs.declared.walks.Walk.{Walk}
 use Rattle.reg_assign.specs.Places.{place_in}
 use Rattle.reg_assign.specs.Check.{AreAllowed}
 use Rattle.reg_assign.specs.Numbers.{register_at}
 use Rattle.reg_assign.specs.Flow.{Behind, IsVirtual, IsKept, IsListed, IsRead}
-use Rattle.reg_assign.specs.Walks.{IsWalk, IsClosed, Steps}
+use Rattle.reg_assign.specs.Walks.{IsClosed, Steps}
 use Rattle.reg_assign.specs.Fits.{IsFine}
 use Rattle.reg_assign.proofs.Names.{equal_of}
 use Rattle.reg_assign.proofs.Walking.{reach_found, at_index}
@@ -42,55 +41,59 @@ steps_more P w v p s before here j l = pick (j == w.done) refl
         subst P (sym (same j (omega arith))) (before j less)
 
 module _ (items : List VirtualItem) (place : ℕ → Place) (lists : ℕ → List ℕ) (listed : IsListed IsRead items lists)
-    where
-  -- a register that may be needed behind all places is kept
-  pub kept_now : (w : Walk) → IsClosed items w → w.done ≡ length w.found.items
-      → ((j : ℕ) → j < w.done → IsFine items place (register_at w.number) (slice_index w.found.items j))
-      → (IsVirtual (register_at w.number) → Contains (lists w.number) 0 → ⊥) → IsKept items place (register_at w.number)
-  kept_now w closed all fine begins =
-      kept_by_walk items place (register_at w.number) (lists w.number) w.found.items
-      (λ p h. listed.only w.number p h) (λ p item e m. listed.all w.number p item e m)
-      (λ q h. let o = listed.only w.number q h in closed.roots q o.0 o.1 o.2)
-      (λ q h. reach_found items w closed all q h) begins
-      (λ p h. (at p h).0) (λ p h. (at p h).1)
-    where
-      at : (p : ℕ) → Contains w.found.items p → IsFine items place (register_at w.number) p
-      at p h =
-          let l : h.0 < length w.found.items = h.1 in
-          subst (IsFine items place (register_at w.number)) (at_index w.found.items p h) (fine h.0 (omega (arith, l,
-              all)))
+  where
+    -- a register that may be needed behind all places is kept
+    pub kept_now : (w : Walk) → IsClosed items w → w.done ≡ length w.found.items
+        → ((j : ℕ) → j < w.done → IsFine items place (register_at w.number) (slice_index w.found.items j))
+        → (IsVirtual (register_at w.number) → Contains (lists w.number) 0 → ⊥)
+        → IsKept items place (register_at w.number)
+    kept_now w closed all fine begins =
+        kept_by_walk items place (register_at w.number) (lists w.number) w.found.items
+        (λ p h. listed.only w.number p h) (λ p item e m. listed.all w.number p item e m)
+        (λ q h. let o = listed.only w.number q h in closed.roots q o.0 o.1 o.2)
+        (λ q h. reach_found items w closed all q h) begins
+        (λ p h. (at p h).0) (λ p h. (at p h).1)
+      where
+        at : (p : ℕ) → Contains w.found.items p → IsFine items place (register_at w.number) p
+        at p h =
+            let l : h.0 < length w.found.items = h.1 in
+            subst (IsFine items place (register_at w.number)) (at_index w.found.items p h) (fine h.0 (omega (
+              arith,
+              l,
+              all,
+            )))
 
-  pub kept_at : (w : Walk) (k : ℕ) → w.number ≡ k → IsClosed items w → w.done ≡ length w.found.items
-      → ((j : ℕ) → j < w.done → IsFine items place (register_at k) (slice_index w.found.items j))
-      → (IsVirtual (register_at k) → Contains (lists k) 0 → ⊥) → IsKept items place (register_at k)
-  kept_at w k e closed all =
-      let P : ℕ → Type 0 = λ n. ((j : ℕ) → j < w.done → IsFine items place (register_at n) (slice_index w.found.items
-          j))
-      → (IsVirtual (register_at n) → Contains (lists n) 0 → ⊥) → IsKept items place (register_at n) in
-      subst P e (λ fine begins. kept_now w closed all fine begins)
+    pub kept_at : (w : Walk) (k : ℕ) → w.number ≡ k → IsClosed items w → w.done ≡ length w.found.items
+        → ((j : ℕ) → j < w.done → IsFine items place (register_at k) (slice_index w.found.items j))
+        → (IsVirtual (register_at k) → Contains (lists k) 0 → ⊥) → IsKept items place (register_at k)
+    kept_at w k e closed all =
+        let P : ℕ → Type 0 = λ n. ((j : ℕ) → j < w.done → IsFine items place (register_at n) (slice_index w.found.items
+        j))
+        → (IsVirtual (register_at n) → Contains (lists n) 0 → ⊥) → IsKept items place (register_at n) in
+        subst P e (λ fine begins. kept_now w closed all fine begins)
 
-  -- one that is kept may be needed where it is
-  pub fine_where_kept : (k p : ℕ) → Behind items (register_at k) p → IsKept items place (register_at k)
-      → IsFine items place (register_at k) p
-  fine_where_kept k p b h = (
-    (λ v begins. none_where_kept items place (register_at k) v h p (behind_kept items place (register_at k) h p b).0
-        begins),
-    (λ item e. spared_where_kept items place (register_at k) h p b item e),
-  )
+    -- one that is kept may be needed where it is
+    pub fine_where_kept : (k p : ℕ) → Behind items (register_at k) p → IsKept items place (register_at k)
+        → IsFine items place (register_at k) p
+    fine_where_kept k p b h = (
+      (λ v begins. none_where_kept items place (register_at k) v h p (behind_kept items place (register_at k) h p b).0
+          begins),
+      (λ item e. spared_where_kept items place (register_at k) h p b item e),
+    )
 
-  -- and isn't read at the start
-  pub unread_where_kept : (k : ℕ) → IsKept items place (register_at k) → IsVirtual (register_at k) → Contains (lists
-      k) 0 → ⊥
-  unread_where_kept k h v m =
-      let o = listed.only k 0 m in
-      none_where_kept items place (register_at k) v h 0 (h.finds 0 o.0 o.1 o.2) (inl refl)
+    -- and isn't read at the start
+    pub unread_where_kept : (k : ℕ) → IsKept items place (register_at k) → IsVirtual (register_at k) → Contains (lists
+        k) 0 → ⊥
+    unread_where_kept k h v m =
+        let o = listed.only k 0 m in
+        none_where_kept items place (register_at k) v h 0 (h.finds 0 o.0 o.1 o.2) (inl refl)
 
-  -- a register whose number has no place is read nowhere
-  pub kept_unlisted : (k : ℕ) → lists k ≡ [] → IsKept items place (register_at k)
-  kept_unlisted k none =
-      kept_unread items place (register_at k) (λ p item e m.
-      let h : Contains (lists k) p = listed.all k p item e m in
-      let g = subst (λ xs. Contains xs p) none h in let l : g.0 < 0 = g.1 in omega (arith, l))
+    -- a register whose number has no place is read nowhere
+    pub kept_unlisted : (k : ℕ) → lists k ≡ [] → IsKept items place (register_at k)
+    kept_unlisted k none =
+        kept_unread items place (register_at k) (λ p item e m.
+        let h : Contains (lists k) p = listed.all k p item e m in
+        let g = subst (λ xs. Contains xs p) none h in let l : g.0 < 0 = g.1 in omega (arith, l))
 
 -- ---- registers by their numbers
 

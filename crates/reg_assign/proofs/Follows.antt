@@ -156,7 +156,7 @@ module _ {V : Type 0} (w : Pass V) where
       (virtual_machine w.reading (setting' w)) each_one each_one (Related w) (λ t. 0)
   free_simulates =
       in_step (virtual_machine w.reading w.setting) (virtual_machine w.reading (setting' w)) refl refl refl refl
-          free_step
+      free_step
 
   pub sized_simulates : (room : ℕ) → CostSimulation SameOrFewer 1
       (sized_machine w.reading w.setting w.naming.slots room) (stacked_machine w.reading (setting' w) room) each_one
@@ -192,6 +192,6 @@ module _ {V : Type 0} (w : Pass V) where
     where
       real_held : (a : VReg) (x : ℕ) → value (virtual_start regs memory world) a ≡ Some x
           → value (image w (virtual_start regs memory world) no_locals [] regs (λ r. false)) (name w.naming 0 0 a) ≡
-              Some x
+          Some x
       real_held (Real r) x e = e
       real_held (Virtual v) x e = absurd (none_is x e)

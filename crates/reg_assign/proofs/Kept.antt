@@ -1,8 +1,8 @@
 -- A holding register by register: what a walk back tells of one, and that all together are a holding.
-use Rattle.std.proofs.Common.{ℕ, suc, ◌+◌, ◌-◌, ◌<◌, ◌≤◌, ◌≡◌, ◌≢◌, ◌⊎◌, inl, inr, Bool, true, false, List, [], ◌∷◌}
+use Rattle.std.proofs.Common.{ℕ, ◌+◌, ◌-◌, ◌<◌, ◌≤◌, ◌≡◌, ◌≢◌, ◌⊎◌, inl, inr, Bool, true, false, List, [], ◌∷◌}
 use Rattle.std.proofs.Common.{◌++◌}
 use Rattle.std.proofs.Common.{refl, sym, ◌∙◌, ap, subst, Some, arith}
-use Rattle.std.specs.Prelude.{◌==◌, ◌||◌, nat_eq, nat_lt, if◌then◌else◌, slice_get, Contains}
+use Rattle.std.specs.Prelude.{◌==◌, nat_eq, nat_lt, if◌then◌else◌, slice_get, Contains}
 use Rattle.std.specs.Cmp.{decided}
 use Rattle.std.specs.List.{list_any}
 use Rattle.std.proofs.lemmas.Bool.Decides.{Decides-eqb}
@@ -11,13 +11,13 @@ use Rattle.std.proofs.lemmas.Map.Views.{Contains-from_any, list_any-from_Contain
 use Rattle.rv_select.specs.declared.code.VReg.{VReg}
 use Rattle.rv_select.specs.declared.code.VReg.TheVariants.{Real, Virtual}
 use Rattle.rv_select.specs.declared.code.Place.{Place}
-use Rattle.rv_select.specs.declared.code.Place.TheVariants.{InReg, Slot}
+use Rattle.rv_select.specs.declared.code.Place.TheVariants.{InReg}
 use Rattle.rv_select.specs.declared.code.VirtualItem.{VirtualItem}
 use Rattle.rv_select.specs.declared.code.VirtualItem.TheVariants.{Procedure, Call, CallAt}
 use Rattle.rv_select.specs.Holding.{Among, reads, writes, place_of, NoneAt, SparedBy, SparedByCall, MayFollow}
-use Rattle.rv_select.specs.Holding.{IsHolding, may_hold}
+use Rattle.rv_select.specs.Holding.{may_hold}
 use Rattle.reg_assign.specs.Check.{HasHolding, AreAllowed, Needed, Read, Later}
-use Rattle.reg_assign.specs.Numbers.{number_of, register_at}
+use Rattle.reg_assign.specs.Numbers.{register_at}
 use Rattle.reg_assign.specs.Flow.{Behind, IsVirtual, IsKept, IsTold, EachTold}
 use Rattle.reg_assign.specs.Walks.{Reaches}
 use Rattle.reg_assign.specs.Fits.{IsBeginning}
@@ -103,7 +103,7 @@ module _ (items : List VirtualItem) (place : ℕ → Place) where
 
   module _ (a : VReg) (reading found : List ℕ)
       (only : (p : ℕ) → Contains reading p → (item : VirtualItem) × (slice_get items p ≡ Some item) × Among a (reads
-          item))
+      item))
       (all : (p : ℕ) (item : VirtualItem) → slice_get items p ≡ Some item → Among a (reads item) → Contains reading p)
       (from_reads : (q : ℕ) → Contains reading q → Reaches items a found q)
       (from_found : (q : ℕ) → Contains found q → Reaches items a found q)

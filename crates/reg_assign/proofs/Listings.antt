@@ -1,7 +1,7 @@
 -- Lists of places by numbers: one more place under some numbers, and the items up to a place.
 use Rattle.std.proofs.Common.{ℕ, zero, suc, ◌+◌, ◌-◌, ◌<◌, ◌≤◌, ◌≡◌, ◌⊎◌, inl, inr, Bool, true, false, List, [], ◌∷◌}
 use Rattle.std.proofs.Common.{◌++◌}
-use Rattle.std.proofs.Common.{refl, sym, ◌∙◌, ap, subst, Some, length, arith}
+use Rattle.std.proofs.Common.{refl, sym, ◌∙◌, ap, subst, Some, arith}
 use Rattle.std.specs.Prelude.{◌==◌, nat_lt, min, if◌then◌else◌, slice_get, Contains}
 use Rattle.std.proofs.lemmas.List.Elements.{Contains-append_left, Contains-push, Contains-push_cases}
 use Rattle.rv_select.specs.declared.code.VReg.{VReg}
@@ -196,7 +196,7 @@ pub adds_lists : (xs ys : List VReg) (p : ℕ) (old mid new : ℕ → List ℕ)
     → Adds (λ k. Among (register_at k) (xs ++ ys)) p old new
 adds_lists xs ys p old mid new a b =
     adds_same (λ k. Among (register_at k) xs ⊎ Among (register_at k) ys) (λ k. Among (register_at k) (xs ++ ys)) p old
-        new
+    new
     both (λ k h. among_append (register_at k) xs ys h)
     (adds_then (λ k. Among (register_at k) xs) (λ k. Among (register_at k) ys) p old mid new a b)
   where
@@ -308,7 +308,7 @@ told_more items i item e r w t = record {
     by : (P : VirtualItem → Type 0) → P item
         → ((q : ℕ) (x : VirtualItem) → q < i → slice_get items q ≡ Some x → P x)
         → (p : ℕ) (other : VirtualItem) → p < i + 1 → slice_get items p ≡ Some other → (b : Bool) → (p == i) ≡ b → P
-            other
+        other
     by P here before p other l f true g =
         let s = equal_of p i g in
         let same : item ≡ other = (let z : Some item ≡ Some other = sym e ∙ (ap (slice_get items) (sym s) ∙ f) in cc) in

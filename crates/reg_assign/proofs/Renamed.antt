@@ -1,5 +1,5 @@
 -- Renamed items one after another: their numbers still fit, and procedures have no more slots than registers.
-use Rattle.std.proofs.Common.{ℕ, suc, ◌+◌, ◌≡◌, Bool, true, false, List, [], ◌∷◌, ◌++◌, refl, sym, ◌∙◌, ap, subst}
+use Rattle.std.proofs.Common.{ℕ, suc, ◌+◌, ◌≡◌, true, List, [], ◌∷◌, ◌++◌, refl, sym, ◌∙◌, ap, subst}
 use Rattle.std.proofs.Common.{append_assoc, get_or, drop, drop-cons, add-one}
 use Rattle.std.specs.Prelude.{◌<◌, ◌^◌, ◌&&◌, length}
 use Rattle.rv_select.specs.declared.code.Place.{Place}

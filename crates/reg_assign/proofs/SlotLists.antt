@@ -1,5 +1,5 @@
 -- The slots of a procedure in a set that keeps its order, and where a slot stands in it.
-use Rattle.std.proofs.Common.{ℕ, suc, ◌+◌, ◌<◌, ◌≤◌, ◌≡◌, Bool, true, false, List, [], ◌∷◌, ◌++◌, refl, sym, ◌∙◌, ap}
+use Rattle.std.proofs.Common.{ℕ, suc, ◌+◌, ◌≤◌, ◌≡◌, Bool, true, false, List, [], ◌∷◌, ◌++◌, refl, sym, ◌∙◌, ap}
 use Rattle.std.proofs.Common.{cond, Some, None, arith, add-one}
 use Rattle.std.specs.Prelude.{◌==◌, ◌||◌, nat_eq, nat_lt, not, if◌then◌else◌, length, unwrap_or, position}
 use Rattle.std.specs.List.{list_any, position_or_len}

@@ -1,9 +1,9 @@
 -- A walk back from where a register is read: what one more place keeps, and that in the end all places are found.
-use Rattle.std.proofs.Common.{ℕ, zero, suc, ◌+◌, ◌-◌, ◌<◌, ◌≤◌, ◌≡◌, ◌≢◌, ◌⊎◌, inl, inr, Bool, true, false, List, []}
+use Rattle.std.proofs.Common.{ℕ, suc, ◌+◌, ◌<◌, ◌≤◌, ◌≡◌, ◌≢◌, inr, Bool, true, false, List, []}
 use Rattle.std.proofs.Common.{◌∷◌}
 use Rattle.std.proofs.Common.{◌++◌, refl, sym, ◌∙◌, ap, subst, Some, length, get_or, set, cond, arith, length-append}
 use Rattle.std.proofs.Common.{append_assoc}
-use Rattle.std.proofs.Common.{get_or-set_same, get_or-set_other}
+use Rattle.std.proofs.Common.{get_or-set_other}
 use Rattle.std.specs.Prelude.{◌==◌, not, count_by, slice_get, slice_index, All, Contains}
 use Rattle.std.proofs.lemmas.Grind.{common_steps}
 use Rattle.std.proofs.lemmas.List.{length-set}
@@ -13,12 +13,12 @@ use Rattle.std.proofs.lemmas.Option.{slice_get_read, get_or_from_slice_get}
 use Rattle.rv_select.specs.declared.code.VReg.{VReg}
 use Rattle.rv_select.specs.declared.code.VirtualItem.{VirtualItem}
 use Rattle.rv_select.specs.declared.code.VirtualItem.TheVariants.{Mark}
-use Rattle.rv_select.specs.Holding.{Among, reads, writes, target, MayFollow}
+use Rattle.rv_select.specs.Holding.{Among, reads, writes, target}
 use Rattle.reg_assign.specs.declared.walks.Walk.{Walk}
 use Rattle.reg_assign.specs.Check.{Needed, Read, Later}
 use Rattle.reg_assign.specs.Numbers.{register_at}
-use Rattle.reg_assign.specs.Flow.{Behind, LeadsToNeed, IsListed, IsTarget, IsRead, mark_of}
-use Rattle.reg_assign.specs.Walks.{IsWalk, Grows, Reaches, HasRoots, IsClosed, Leads, left}
+use Rattle.reg_assign.specs.Flow.{Behind, IsListed, IsTarget, IsRead, mark_of}
+use Rattle.reg_assign.specs.Walks.{IsWalk, Grows, Reaches, HasRoots, IsClosed, Leads}
 use Rattle.reg_assign.proofs.Names.{equal_of}
 
 append_none : (xs : List ℕ) → xs ≡ xs ++ []
@@ -236,7 +236,7 @@ module _ (items : List VirtualItem) where
           let e = equal_of j w.done s in
           subst (λ x. Reaches items (register_at w.number) v.found.items x)
           (ap (λ x. slice_index w.found.items x) (sym e) ∙ sym (same j (let z : j < length w.found.items = omega arith
-              in z)))
+          in z)))
           here
       at j false s k =
           let less : j < w.done = grind arith in

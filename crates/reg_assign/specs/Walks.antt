@@ -1,5 +1,5 @@
 -- What holds along a walk back from where a register is read.
-use Rattle.std.specs.Prelude.{ℕ, zero, suc, ◌+◌, ◌-◌, ◌≤◌, ◌<◌, ◌^◌, ◌≡◌, ◌++◌, ◌==◌, not, true, List, [], length}
+use Rattle.std.specs.Prelude.{ℕ, suc, ◌+◌, ◌-◌, ◌≤◌, ◌<◌, ◌^◌, ◌≡◌, ◌++◌, ◌==◌, not, List, length}
 use Rattle.std.specs.Prelude.{Option, Some, None}
 use Rattle.std.specs.Prelude.{slice_get, slice_index, All, Contains, count_by}
 use Rattle.rv_select.specs.declared.code.VReg.{VReg}

@@ -22,7 +22,7 @@ loop-item-preserved c =
           ap (λ k. k.first) w.kept-is ∙ w.in_ok-kept-2.ensures.kept.0 in
           let s = w.in_ok-kept-2.ensures.kept.1 in
           let e : drop i items ≡ Procedure w.in-Procedure.k w.in-Procedure.first w.in-Procedure.count ∷ drop (i + 1)
-              items =
+          items =
           rest_is items i c.item-item.result (Procedure w.in-Procedure.k w.in-Procedure.first w.in-Procedure.count)
           c.loop-item-test.true c.item-item.is w.in-Procedure.is in (
             w.in-Procedure.count,
@@ -47,7 +47,7 @@ loop-item-preserved c =
                 (put_other place c.loop-item.kept.first inv.0 c.loop-item.kept.slots.keys c.item-item.result
                 w.in_ok-other.other c.loop-item.renamed c.match-item.renamed all (drop i items) (drop (i + 1) items)
                 w.in_default.not-Procedure e inv.1 w.in_ok-other.ensures (w.renamed-is ∙ w.in_ok-push-2.ensures.ok)
-                    inv.2),
+                inv.2),
             few_other c.item-item.result (drop i items) (drop (i + 1) items) (EachHasFew items)
                 w.in_default.not-Procedure e inv.3,
           )

@@ -1,4 +1,4 @@
-use Rattle.std.proofs.Common.{◌≡◌, false, true, refl, ◌∙◌, arith}
+use Rattle.std.proofs.Common.{refl, ◌∙◌, arith}
 use Rattle.reg_assign.proofs.Fine.{placed, allowed_more, allowed_all}
 use Rattle.reg_assign.proofs.check.are_allowed.Goals as goal
 
@@ -8,7 +8,7 @@ returns-then-not-is_allowed c = (
   λ allowed. c.if-not-is_allowed.ensures.1 (λ r e.
       allowed c.loop-place.place-index r
       (placed c.args.places.now c.loop-place.place-index c.place-item.result c.loop-place-test.true c.place-item.is ∙
-          e)),
+      e)),
 )
 
 pub loop-place-preserved : goal.loop-place-preserved

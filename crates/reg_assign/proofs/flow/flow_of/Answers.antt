@@ -1,7 +1,6 @@
-use Rattle.std.proofs.Common.{ℕ, ◌≡◌, ◌<◌, Some, length, refl, arith}
+use Rattle.std.proofs.Common.{◌≡◌, Some, length, refl, arith}
 use Rattle.std.specs.Prelude.{slice_get}
 use Rattle.std.proofs.lemmas.Option.{slice_get_within, slice_get_read}
-use Rattle.rv_select.specs.declared.code.VirtualItem.{VirtualItem}
 use Rattle.reg_assign.specs.Flow.{under, IsRead, IsWritten, IsTarget}
 use Rattle.reg_assign.proofs.Listings.{upto_none, upto_more, upto_all, told_none, told_more, told_all}
 use Rattle.reg_assign.proofs.flow.flow_of.Goals as goal

@@ -1,4 +1,4 @@
-use Rattle.std.proofs.Common.{sym, ◌∙◌, ap, subst, inl, inr, [], ◌∷◌}
+use Rattle.std.proofs.Common.{sym, ap, subst, inl, inr, [], ◌∷◌}
 use Rattle.std.proofs.lemmas.Result.{on_ok_weaker}
 use Rattle.std.specs.Prelude.{option_to_list}
 use Rattle.rv_select.specs.Holding.{Among}
@@ -11,7 +11,7 @@ pub returns-in-Some-clause-added : goal.returns-in-Some-clause-added
 returns-in-Some-clause-added c =
     on_ok_weaker c.push.result
     (λ each. subst (λ xs. Adds (λ k. Among (register_at k) xs) c.args.place (under c.args.lists.now) (under
-        c.push.new.self))
+    c.push.new.self))
     (sym (ap option_to_list c.in-Some.is))
     (adds_register c.in-Some.a c.number_of.result c.args.place (under c.args.lists.now) (under c.push.new.self)
     c.number_of.ensures.back each))

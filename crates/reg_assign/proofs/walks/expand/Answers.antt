@@ -1,6 +1,5 @@
-use Rattle.std.proofs.Common.{ℕ, ◌≡◌, ◌⊎◌, inl, inr, true, suc, Some, sym, subst}
-use Rattle.std.specs.Prelude.{slice_get, Contains}
-use Rattle.rv_select.specs.declared.code.VirtualItem.{VirtualItem}
+use Rattle.std.proofs.Common.{inl, inr, subst}
+use Rattle.std.specs.Prelude.{Contains}
 use Rattle.rv_select.specs.Holding.{Among, writes, MayFollow}
 use Rattle.reg_assign.specs.Numbers.{register_at}
 use Rattle.reg_assign.proofs.Walking.{found_on}

@@ -1,4 +1,4 @@
-use Rattle.std.proofs.Common.{◌≡◌, ◌<◌, length, refl, sym, subst, rules, arith}
+use Rattle.std.proofs.Common.{◌≡◌, ◌<◌, length, sym, subst, rules, arith}
 use Rattle.std.specs.Prelude.{slice_index}
 use Rattle.reg_assign.specs.Check.{Needed}
 use Rattle.reg_assign.specs.Numbers.{register_at}

@@ -1,7 +1,6 @@
 use Rattle.std.proofs.Common.{◌<◌, ◌≡◌, ◌+◌, true, false, suc, Some, length, get_or, refl, sym, rules, arith}
 use Rattle.std.specs.Prelude.{slice_get, slice_index}
 use Rattle.std.proofs.lemmas.Option.{slice_get_within}
-use Rattle.rv_select.specs.Holding.{Among, writes}
 use Rattle.reg_assign.specs.Numbers.{register_at}
 use Rattle.reg_assign.proofs.Walking.{there_written, walk_more, read_at, grows_one}
 use Rattle.reg_assign.proofs.walks.reach.Goals as goal
@@ -18,7 +17,7 @@ returns-then-is_written-clause-there c item e away =
       | then-is_written-via-else-is_written+then-index-walk w ↦
           let within = slice_get_within c.args.items.now c.args.place item e in
           let read : w.index.result.now ≡ get_or c.args.walk.now.seen.items c.args.place w.index.result.now = omega
-              arith in
+          arith in
           let size = c.requires.walk.size in
           let at = read_at c.args.walk.now.seen.items c.args.place w.index.result.now (omega arith) read in
           let noted : slice_index c.args.walk.now.seen.items c.args.place ≡ suc c.args.walk.now.number = omega arith in
