@@ -49,7 +49,10 @@ const PATHS: &[([u32; 4], &str)] = &[
     ([0, 0, 2, 0], "id"),
     ([3, 3, 4, 5], "(fun (fail 1:1) -> (fail 2:1))"),
     ([6, 6, 7, 8], "(ref (fail 2:1) (fail 1:1))"),
-    ([9, 9, 10, 9], "(tuple id (seq (project Int 1:1) (inject Int)))"),
+    (
+        [9, 9, 10, 9],
+        "(tuple id (seq (project Int 1:1) (inject Int)))",
+    ),
     (
         [3, 3, 4, 2],
         "(seq (fun (project Int 1:1) -> (inject Bool)) (inject (Dyn -> Dyn)))",
@@ -107,7 +110,10 @@ fn paths_have_texts(rt: HostRuntime) -> Result<(), Fail> {
         labels.intern(Pos { line, col: 1 })?;
     }
     for (path, text) in PATHS {
-        assert!(rt; has_text(rt.alloc(), &types, &labels, *path, text)?, "{text}");
+        assert!(rt;
+            has_text(rt.alloc(), &types, &labels, *path, text)?,
+            "{text}"
+        );
     }
     Ok(())
 }
@@ -154,7 +160,10 @@ fn shared_coercions_take_few_nodes(rt: HostRuntime) -> Result<(), Fail> {
     let path = nested_boxes(&mut types)?;
     let mut table = CoercionTable::new(rt.alloc())?;
     let (casts, height, all) = composed(rt.alloc(), &mut table, &types, path)?;
-    assert!(rt; casts <= 4 * 301 && height == 300 && all <= casts + 8 * 300, "{casts} {height} {all}");
+    assert!(rt;
+        casts <= 4 * 301 && height == 300 && all <= casts + 8 * 300,
+        "{casts} {height} {all}"
+    );
     Ok(())
 }
 

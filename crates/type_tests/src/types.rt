@@ -111,7 +111,11 @@ fn types_stand_once_and_are_written(rt: HostRuntime) -> Result<(), Fail> {
         for (place, told) in TYPES.iter().enumerate() {
             let (t, height, size) = measured(rt.alloc(), &mut types, told.sample)?;
             let is = (t as usize, height, size) == (place, told.height, told.size);
-            assert!(rt; is && is_told(rt.alloc(), &types, told)?, "{round}: {}", told.text);
+            assert!(rt;
+                is && is_told(rt.alloc(), &types, told)?,
+                "{round}: {}",
+                told.text
+            );
         }
     }
     for (sample, height, size) in TUPLES {
