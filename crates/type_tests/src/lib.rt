@@ -6,8 +6,6 @@
 #[cfg(test)]
 mod coercions;
 #[cfg(test)]
-mod compositions;
-#[cfg(test)]
 mod relations;
 #[cfg(test)]
 mod samples;

@@ -1,143 +1,116 @@
 // Types that are consistent, and their blends.
 
-use crate::samples::{Sample, table_of, tuple};
+use crate::samples::{Sample, put, table_of};
 use consistency::blends::blend;
 use consistency::checks::{consistent, same_head};
 use grift_base::places::TypeId;
 use std::alloc::Global;
 use std::test::Fail;
+use type_graph::rows::{Row, TypeIds};
 use type_graph::tables::TypeTable;
 
-// Whether two types that are there are consistent, and whether they have one head.
-fn compared(alloc: Global, types: &TypeTable, a: TypeId, b: TypeId) -> Result<(bool, bool), Fail> {
-    if a.0 >= types.len() || b.0 >= types.len() {
-        return Err(Fail::from("no type is there"));
-    }
-    Ok((consistent(alloc, types, a, b)?, same_head(types, a, b)))
-}
-
-// The blend of two types that have one.
-fn blended(alloc: Global, types: &mut TypeTable, a: TypeId, b: TypeId) -> Result<TypeId, Fail> {
-    if a.0 >= types.len() || b.0 >= types.len() {
-        return Err(Fail::from("no type is there"));
-    }
-    if !consistent(alloc, types, a, b)? {
-        return Err(Fail::from("the types are not consistent"));
-    }
-    Ok(blend(alloc, types, a, b)?)
-}
-
-// The types that the tests name by their places.
-const SAMPLE: &[Sample] = &[
+const TYPES: &[Sample] = &[
     Sample::Int,
     Sample::Bool,
     Sample::Dyn,
     Sample::Box(0),
     Sample::Box(2),
     Sample::Vector(0),
-    Sample::Function(0, 2),
-    Sample::Function(2, 1),
-    Sample::Thunk(0),
-    Sample::Pair(0, 3),
-    Sample::Pair(0, 4),
-    Sample::Single(0),
+    Sample::Function(&[0], 2),
+    Sample::Function(&[2], 1),
+    Sample::Function(&[], 0),
+    Sample::Tuple(&[0, 3]),
+    Sample::Tuple(&[0, 4]),
+    Sample::Tuple(&[0]),
 ];
 
-const INT: TypeId = TypeId(0);
+const INT: u32 = 0;
 
-const BOOL: TypeId = TypeId(1);
+const BOOL: u32 = 1;
 
-const DYN: TypeId = TypeId(2);
+const DYN: u32 = 2;
 
-const INT_BOX: TypeId = TypeId(3);
+const INT_BOX: u32 = 3;
 
-const DYN_BOX: TypeId = TypeId(4);
+const DYN_BOX: u32 = 4;
 
-const INT_VECTOR: TypeId = TypeId(5);
+const INT_VECTOR: u32 = 5;
 
-const FROM_INT: TypeId = TypeId(6);
+const FROM_INT: u32 = 6;
 
-const TO_BOOL: TypeId = TypeId(7);
+const TO_BOOL: u32 = 7;
 
-const THUNK: TypeId = TypeId(8);
+const THUNK: u32 = 8;
 
-const PAIR: TypeId = TypeId(9);
+const PAIR: u32 = 9;
 
-const LOOSE_PAIR: TypeId = TypeId(10);
+const LOOSE_PAIR: u32 = 10;
 
-const SINGLE: TypeId = TypeId(11);
+const SINGLE: u32 = 11;
 
-#[test]
-fn types_are_compared(rt: HostRuntime) -> Result<(), Fail> {
-    let types = table_of(rt.alloc(), SAMPLE)?;
-    let table = [
-        (INT, INT, true, true),
-        (INT, BOOL, false, false),
-        (INT, DYN, true, false),
-        (DYN, THUNK, true, false),
-        (INT_BOX, DYN_BOX, true, true),
-        (INT_BOX, INT_VECTOR, false, false),
-        (FROM_INT, TO_BOOL, true, true),
-        (FROM_INT, THUNK, false, false),
-        (PAIR, LOOSE_PAIR, true, true),
-        (PAIR, SINGLE, false, false),
-    ];
-    for (a, b, consistent, same_head) in table {
-        let there = compared(rt.alloc(), &types, a, b)?;
-        let back = compared(rt.alloc(), &types, b, a)?;
-        assert_eq!(rt;
-            [there, back],
-            [(consistent, same_head); 2],
-            "{a:?} and {b:?}"
-        );
+// `(Dyn -> Dyn)`, which only the blend puts there.
+const LOOSE_FUNCTION: u32 = 12;
+
+// Two types; whether they have one head, and their blend, where they are consistent.
+const PAIRS: &[(u32, u32, bool, Option<u32>)] = &[
+    (INT, INT, true, Some(INT)),
+    (INT, BOOL, false, None),
+    (INT, DYN, false, Some(DYN)),
+    (DYN, THUNK, false, Some(DYN)),
+    (INT_BOX, DYN_BOX, true, Some(DYN_BOX)),
+    (INT_BOX, INT_VECTOR, false, None),
+    (FROM_INT, TO_BOOL, true, Some(LOOSE_FUNCTION)),
+    (FROM_INT, THUNK, false, None),
+    (PAIR, LOOSE_PAIR, true, Some(LOOSE_PAIR)),
+    (PAIR, SINGLE, false, None),
+];
+
+// Whether two types have one head, and their blend.
+fn related(
+    alloc: Global,
+    types: &mut TypeTable,
+    a: TypeId,
+    b: TypeId,
+) -> Result<(bool, Option<u32>), Fail> {
+    if a.0 >= types.len() || b.0 >= types.len() {
+        return Err(Fail::from("no type is there"));
     }
-    Ok(())
+    let head = same_head(types, a, b);
+    if !consistent(alloc, types, a, b)? {
+        return Ok((head, None));
+    }
+    let both = blend(alloc, types, a, b)?;
+    Ok((head, Some(both.0)))
 }
 
 #[test]
-fn types_are_blended(rt: HostRuntime) -> Result<(), Fail> {
-    let mut types = table_of(rt.alloc(), SAMPLE)?;
-    let table = [
-        (INT, INT, INT),
-        (INT, DYN, DYN),
-        (DYN, THUNK, DYN),
-        (INT_BOX, DYN_BOX, DYN_BOX),
-        (PAIR, LOOSE_PAIR, LOOSE_PAIR),
-        // the row of `(Dyn -> Dyn)` was not there before
-        (FROM_INT, TO_BOOL, TypeId(12)),
-    ];
-    for (a, b, expected) in table {
-        let there = blended(rt.alloc(), &mut types, a, b)?;
-        let back = blended(rt.alloc(), &mut types, b, a)?;
-        assert_eq!(rt; [there, back], [expected; 2], "{a:?} and {b:?}");
+fn types_are_compared_and_blended(rt: HostRuntime) -> Result<(), Fail> {
+    let mut types = table_of(rt.alloc(), TYPES)?;
+    for (a, b, head, both) in PAIRS {
+        let there = related(rt.alloc(), &mut types, TypeId(*a), TypeId(*b))?;
+        let back = related(rt.alloc(), &mut types, TypeId(*b), TypeId(*a))?;
+        assert!(rt; [there, back] == [(*head, *both); 2], "{a} and {b}");
     }
-    assert_eq!(rt; types.len(), 13);
     Ok(())
 }
 
 // The pair of this type with itself, the pair of that with itself, and so on forty times.
-fn pairs_of_pairs(alloc: Global, types: &mut TypeTable, part: TypeId) -> Result<TypeId, Fail> {
-    let mut pair = part;
+fn pairs_of_pairs(alloc: Global, types: &mut TypeTable, part: u32) -> Result<TypeId, Fail> {
+    let mut pair = TypeId(part);
     for _ in 0..40 {
-        pair = tuple(alloc, types, &[pair, pair])?;
+        let parts = TypeIds::from_slice(alloc, &[pair, pair])?;
+        pair = put(types, Row::Tuple(parts))?;
     }
     Ok(pair)
 }
 
-// Whether such pairs of two types are consistent, and have a blend of forty rows more.
-fn pairs_are_blended(alloc: Global, types: &mut TypeTable) -> Result<bool, Fail> {
-    let first = pairs_of_pairs(alloc, types, FROM_INT)?;
-    let second = pairs_of_pairs(alloc, types, TO_BOOL)?;
-    let rows = types.len();
-    let related = compared(alloc, types, first, second)?;
-    let both = blended(alloc, types, first, second)?;
-    Ok(related == (true, true) && rows == 92 && types.len() == 133 && both == TypeId(132))
-}
-
-// Two types of forty shared rows each, which are trees of 2 to the 41 leaves.
+// Two types of forty shared rows each, which are trees of 2 to the 41 leaves, have a blend of forty rows more.
 #[test]
 fn types_of_shared_rows_take_no_time(rt: HostRuntime) -> Result<(), Fail> {
-    let mut types = table_of(rt.alloc(), SAMPLE)?;
-    assert!(rt; pairs_are_blended(rt.alloc(), &mut types)?);
+    let mut types = table_of(rt.alloc(), TYPES)?;
+    let first = pairs_of_pairs(rt.alloc(), &mut types, FROM_INT)?;
+    let second = pairs_of_pairs(rt.alloc(), &mut types, TO_BOOL)?;
+    let both = related(rt.alloc(), &mut types, first, second)?;
+    assert!(rt; (both, types.len()) == ((true, Some(132)), 133));
     Ok(())
 }

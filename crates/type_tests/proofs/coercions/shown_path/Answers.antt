@@ -7,7 +7,7 @@ use Rattle.coercion_norm.specs.Heights.{coercion_height}
 use Rattle.coercion_norm.specs.Nodes.{Node, Grows, IsTree, PartsBefore, tree_of}
 use Rattle.coercion_norm.specs.Texts.{HasLabels}
 use Rattle.coercion_norm.proofs.Public.{coerce_labels, compose_labels, tree_kept}
-use Rattle.type_tests.proofs.compositions.shown_path.Goals as goal
+use Rattle.type_tests.proofs.coercions.shown_path.Goals as goal
 
 of_cast : (types : TypeRows) (many : ℕ) (nodes : List Node) (place from to label : ℕ)
     → IsTree nodes place (cast_of types from to label) → label < many → HasLabels many (tree_of nodes place)
