@@ -17,3 +17,6 @@ mod Listings
 mod Walking
 mod Kept
 mod Fine
+mod Masks
+mod Rooms
+mod Assigned

@@ -53,7 +53,7 @@ real_number x k e = pick (nat_lt k 33) refl e
     pick true f e = ((cc), grind arith)
     pick false f e = absurd (let z : ⊥ = cc in z)
 
-at_real : (k : ℕ) → k < 33 → Real k ≡ register_at k
+pub at_real : (k : ℕ) → k < 33 → Real k ≡ register_at k
 at_real k l = let e : nat_lt k 33 ≡ true = grind arith in ap (λ b. if b then Real k else Virtual (k - 33)) (sym e)
 
 pub handed_number : (from n k : ℕ) → Among (register_at k) (handed_on from n) → IsHanded from n k

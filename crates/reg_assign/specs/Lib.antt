@@ -8,3 +8,4 @@ pub mod Numbers
 pub mod Flow
 pub mod Walks
 pub mod Fits
+pub mod Room

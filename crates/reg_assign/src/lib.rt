@@ -2,6 +2,7 @@
 #![tactic(auto)]
 
 pub mod apply;
+pub mod assign;
 pub mod assignment;
 pub mod check;
 mod flow;

@@ -1,0 +1,100 @@
+use Rattle.std.proofs.Common.{ℕ, ◌<◌, ◌+◌, ◌≡◌, length, refl, sym, ◌∙◌, ap, subst}
+use Rattle.std.specs.Int.{bit_at}
+use Rattle.std.specs.Prelude.{slice_index, Contains}
+use Rattle.rv_select.specs.declared.code.VReg.TheVariants.{Virtual}
+use Rattle.reg_assign.specs.Places.{place_in}
+use Rattle.reg_assign.specs.Numbers.{register_at}
+use Rattle.reg_assign.specs.Flow.{under}
+use Rattle.reg_assign.specs.Room.{Tells}
+use Rattle.reg_assign.proofs.Rooms.{room_with, room_same, known_by}
+use Rattle.reg_assign.proofs.Assigned.{own_slot, no_room, has_room, register_v}
+use Rattle.reg_assign.proofs.assign.place_for.Goals as goal
+
+pub returns-in-Some-clause-chosen : goal.returns-in-Some-clause-chosen
+returns-in-Some-clause-chosen c =
+    let items = c.args.items.now in
+    let place = place_in c.args.places.now in
+    let v = c.args.v in
+    let own = own_slot c.args.places.now v c.requires.last in
+    let lists = under c.args.flow.now.writes in
+    let reads = under c.args.flow.now.reads in
+    let bits = c.in_use-written.result in
+    let busy = c.args.room.now.busy.items in
+    let told : Tells (λ r. (j : ℕ) → j < length (lists (33 + v)) → bit_at (slice_index busy (slice_index (lists (33 +
+        v)) j)) r ≡ 0)
+        bits =
+        subst (λ xs. Tells (λ r. (j : ℕ) → j < length xs → bit_at (slice_index busy (slice_index xs j)) r ≡ 0) bits)
+        c.under.ensures
+        (subst (λ ys. Tells (λ r. (j : ℕ) → j < length c.under.result.now
+        → bit_at (slice_index ys (slice_index c.under.result.now j)) r ≡ 0) bits) c.as_slice.ensures.value
+        c.in_use-written.ensures) in
+    let ok = c.in-Some.ensures.some.0 in
+    let left = c.in_ok-taken.ensures.left c.in-Some.r ok c.in-Some.ensures.some.1 in (
+      ok,
+      has_room items place v own c.args.room.now c.requires.room lists c.requires.writes bits told c.in-Some.r ok
+          c.gather.new.walk reads c.requires.reads left,
+    )
+
+pub returns-in-Some-clause-room : goal.returns-in-Some-clause-room
+returns-in-Some-clause-room c =
+    let items = c.args.items.now in
+    let place = place_in c.args.places.now in
+    let v = c.args.v in
+    let own = own_slot c.args.places.now v c.requires.last in
+    let lists = under c.args.flow.now.writes in
+    let reads = under c.args.flow.now.reads in
+    let bits = c.in_use-written.result in
+    let busy = c.args.room.now.busy.items in
+    let told : Tells (λ r. (j : ℕ) → j < length (lists (33 + v)) → bit_at (slice_index busy (slice_index (lists (33 +
+        v)) j)) r ≡ 0)
+        bits =
+        subst (λ xs. Tells (λ r. (j : ℕ) → j < length xs → bit_at (slice_index busy (slice_index xs j)) r ≡ 0) bits)
+        c.under.ensures
+        (subst (λ ys. Tells (λ r. (j : ℕ) → j < length c.under.result.now
+        → bit_at (slice_index ys (slice_index c.under.result.now j)) r ≡ 0) bits) c.as_slice.ensures.value
+        c.in_use-written.ensures) in
+    let r = c.in-Some.r in
+    let ok = c.in-Some.ensures.some.0 in
+    let walk = c.gather.new.walk in
+    let left = c.in_ok-taken.ensures.left r ok c.in-Some.ensures.some.1 in
+    let mine =
+        known_by items walk (Virtual v) reads c.requires.reads (ap register_at left.same ∙ register_v v) left.walk
+        left.closed left.all in
+    let found = c.as_slice-in-Some.ensures.value in
+    room_with items place v r own (33 + v) c.args.room.now (record { walk = walk; busy = c.note_busy.new.busy })
+    c.requires.room mine c.in_ok-taken.ensures.idle c.note_busy.ensures.size c.note_busy.ensures.other
+    (λ p m. c.note_busy.ensures.found p (subst (λ xs. Contains xs p) (sym found) m))
+    (λ p away. c.note_busy.ensures.still p (λ m. away (subst (λ xs. Contains xs p) found m)))
+    (has_room items place v own c.args.room.now c.requires.room lists c.requires.writes bits told r ok walk reads
+    c.requires.reads left)
+
+pub returns-in-None-clause-chosen : goal.returns-in-None-clause-chosen
+returns-in-None-clause-chosen c =
+    let items = c.args.items.now in
+    let place = place_in c.args.places.now in
+    let v = c.args.v in
+    let own = own_slot c.args.places.now v c.requires.last in
+    let lists = under c.args.flow.now.writes in
+    let reads = under c.args.flow.now.reads in
+    let bits = c.in_use-written.result in
+    let busy = c.args.room.now.busy.items in
+    let told : Tells (λ r. (j : ℕ) → j < length (lists (33 + v)) → bit_at (slice_index busy (slice_index (lists (33 +
+        v)) j)) r ≡ 0)
+        bits =
+        subst (λ xs. Tells (λ r. (j : ℕ) → j < length xs → bit_at (slice_index busy (slice_index xs j)) r ≡ 0) bits)
+        c.under.ensures
+        (subst (λ ys. Tells (λ r. (j : ℕ) → j < length c.under.result.now
+        → bit_at (slice_index ys (slice_index c.under.result.now j)) r ≡ 0) bits) c.as_slice.ensures.value
+        c.in_use-written.ensures) in
+    (
+      refl,
+      λ r ok h.
+          no_room items place v own c.args.room.now c.requires.room lists c.requires.writes bits told r ok
+          (c.in_ok-taken.ensures.taken r ok (c.in-None.ensures.none refl r ok)) h,
+    )
+
+pub returns-in-None-clause-room : goal.returns-in-None-clause-room
+returns-in-None-clause-room c =
+    room_same c.args.items.now (place_in c.args.places.now) c.args.v (33 + c.args.v) c.args.room.now
+    (record { walk = c.gather.new.walk; busy = c.args.room.now.busy })
+    (own_slot c.args.places.now c.args.v c.requires.last) c.requires.room refl c.in_ok-taken.ensures.idle
