@@ -196,7 +196,7 @@ turns_more items places p t chosen = record {
         let k = equal_of u (length places) s in
         let turn = turn_same (place_in places) (length places) p (length places) (omega arith) ∙ turn_here places in
         let g = subst (λ x. HasHolding items
-            (with_place (at_turn (with_place (place_in places) (length places) p) x) x (InReg r))) k h in
+        (with_place (at_turn (with_place (place_in places) (length places) p) x) x (InReg r))) k h in
         last p i r (sym (ap (λ b. if b then p else place_in places u) s) ∙ e) chosen ok
         (subst (λ f. HasHolding items (with_place f (length places) (InReg r))) turn g)
     none u i r l e ok h false s =
@@ -240,8 +240,12 @@ module _ (items : List VirtualItem) (place : ℕ → Place) (number taken all mo
           → IsTaken items place number taken r
       by (inr o) y = before r h o
       by (inl z) (inr o) =
-          inr (p, behind, λ k. (told r h).1 o (λ item f.
-            subst (λ x. SparedBy place x (InReg r)) (same_item behind.item item behind.there f) k))
+          inr (
+            p,
+            behind,
+            λ k. (told r h).1 o (λ item f.
+                subst (λ x. SparedBy place x (InReg r)) (same_item behind.item item behind.there f) k),
+          )
       by (inl z) (inl y) = absurd (let o = bit_at_or all more r in let x : ⊥ = omega (arith, o, z, y, e) in x)
 
   both_zero : (r : ℕ) → bit_at (bit_or all more) r ≡ 0 → (bit_at all r ≡ 0) × (bit_at more r ≡ 0)
@@ -311,7 +315,7 @@ reals_more items old new r is mine size others set still = record {
         )
     here p false e =
         let away : Contains mine.found p → ⊥ =
-            (λ m. let t : true ≡ false = sym (is_member p mine.found m) ∙ e in let y : ⊥ = cc in y) in
+        (λ m. let t : true ≡ false = sym (is_member p mine.found m) ∙ e in let y : ⊥ = cc in y) in
         let none = ap (λ x. bit_at x r) (still p away) ∙ is.rest p r (omega arith) in (
           λ z b. away (mine.all p b),
           λ o k. let y : ⊥ = omega (arith, none, o) in y,

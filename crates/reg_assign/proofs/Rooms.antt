@@ -178,8 +178,8 @@ module _ (items : List VirtualItem) (place : ℕ → Place) (v r : ℕ) where
           (let o = k.reads_only 0 m in old.finds 0 o.0 o.1 o.2) (inl refl))
           (λ p m u b. none_where_kept items place a u old p (behind_kept items place a old p (k.only p m)).0 b)
           (λ p m item e.
-            let b = k.only p m in
-            subst (λ x. SparedBy other x (place_of other a)) (same_item p b.item item b.there e) (spared p b))
+          let b = k.only p m in
+          subst (λ x. SparedBy other x (place_of other a)) (same_item p b.item item b.there e) (spared p b))
         where
           needed_at : (q : ℕ) → Contains k.reading q → Needed items q a
           needed_at q m = let o = k.reads_only q m in Read q o.0 a o.1 o.2
@@ -187,18 +187,18 @@ module _ (items : List VirtualItem) (place : ℕ → Place) (v r : ℕ) where
       in_r : (a : VReg) → place_of place a ≡ InReg r → IsKept items other a
       in_r a e =
           by_known a (known a e) (λ p b.
-            subst (SparedBy other b.item) (sym (same_place a (not_v a e)))
-            (spared_on b.item (place_of place a) (λ m. free p b.item b.there m (record {
-              register = a;
-              here = e;
-              behind = b;
-            })) (behind_kept items place a (kept_of_all items place h a) p b).1))
+          subst (SparedBy other b.item) (sym (same_place a (not_v a e)))
+          (spared_on b.item (place_of place a) (λ m. free p b.item b.there m (record {
+            register = a;
+            here = e;
+            behind = b;
+          })) (behind_kept items place a (kept_of_all items place h a) p b).1))
 
       for_v : IsKept items other (Virtual v)
       for_v =
           by_known (Virtual v) mine (λ p b.
-            subst (SparedBy other b.item) (sym there)
-            (spared_on b.item (InReg r) b.away (spares p (mine.all p b) b.item b.there)))
+          subst (SparedBy other b.item) (sym there)
+          (spared_on b.item (InReg r) b.away (spares p (mine.all p b) b.item b.there)))
 
       apart : (a : VReg) → Virtual v ≢ a → place_of place a ≢ InReg r → IsKept items other a
       apart a d f = on (kept_of_all items place h a)
@@ -208,8 +208,11 @@ module _ (items : List VirtualItem) (place : ℕ → Place) (v r : ℕ) where
               → Among a (writes item) ⊎ (B × SparedBy other item (place_of other a))
           by B item (inl m) = inl m
           by B item (inr k) =
-              inr (k.0, subst (SparedBy other item) (sym (same_place a d))
-              (spared_apart item (place_of place a) (λ e. f (sym e)) k.1))
+              inr (
+                k.0,
+                subst (SparedBy other item) (sym (same_place a d))
+                    (spared_apart item (place_of place a) (λ e. f (sym e)) k.1),
+              )
 
           on : IsKept items place a → IsKept items other a
           on k = record {
@@ -304,7 +307,7 @@ module _ (items : List VirtualItem) (place : ℕ → Place) (v r : ℕ) where
             )
         by false e =
             let away : Contains mine.found p → ⊥ =
-                (λ m. let t : true ≡ false = sym (is_member p mine.found m) ∙ e in let y : ⊥ = cc in y) in
+            (λ m. let t : true ≡ false = sym (is_member p mine.found m) ∙ e in let y : ⊥ = cc in y) in
             let same = ap (λ n. bit_at n r) (still p away) in
             let t = room.bits p l r h in (
               λ z b. go b (moved_or b.register r b.here) (t.0 (sym same ∙ z)) away,
@@ -313,7 +316,7 @@ module _ (items : List VirtualItem) (place : ℕ → Place) (v r : ℕ) where
           where
             go : (b : IsBusy items other p r)
                 → ((Virtual v ≡ b.register) × (r ≡ r)) ⊎ ((Virtual v ≢ b.register) × (place_of place b.register ≡
-                    InReg r))
+                InReg r))
                 → (IsBusy items place p r → ⊥) → (Contains mine.found p → ⊥) → ⊥
             go b (inl s) never away = away (mine.all p (subst (λ x. Behind items x p) (sym s.0) b.behind))
             go b (inr d) never away = never (to_old p r b d.0)

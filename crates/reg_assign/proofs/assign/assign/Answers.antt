@@ -20,16 +20,16 @@ loop-v-preserved c =
     let whole = c.as_slice-items.ensures in
     let list = c.as_slice.ensures in
     let given : IsRoom items (with_place (place_in places) v p) (suc (33 + v)) c.place_for.new.room =
-        subst (λ xs. IsRoom xs (with_place (place_in places) v p) (suc (33 + v)) c.place_for.new.room) whole
-        (subst (λ ys. IsRoom c.as_slice-items.result.now (with_place (place_in ys) v p) (suc (33 + v))
-            c.place_for.new.room)
-        list c.in_ok-place.ensures.room) in
+    subst (λ xs. IsRoom xs (with_place (place_in places) v p) (suc (33 + v)) c.place_for.new.room) whole
+    (subst (λ ys. IsRoom c.as_slice-items.result.now (with_place (place_in ys) v p) (suc (33 + v))
+    c.place_for.new.room)
+    list c.in_ok-place.ensures.room) in
     let chosen : IsChosen items (place_in places) v p =
-        subst (λ xs. IsChosen xs (place_in places) v p) whole
-        (subst (λ ys. IsChosen c.as_slice-items.result.now (place_in ys) v p) list c.in_ok-place.ensures.chosen) in
+    subst (λ xs. IsChosen xs (place_in places) v p) whole
+    (subst (λ ys. IsChosen c.as_slice-items.result.now (place_in ys) v p) list c.in_ok-place.ensures.chosen) in
     let room = subst (λ n. IsRoom items (with_place (place_in places) n p) (suc (33 + v)) c.place_for.new.room) (sym
-        inv.0)
-        given in (
+    inv.0)
+    given in (
       (let n = inv.0 in omega (arith, long, n)),
       subst (λ n. IsRoom items (place_in c.push.new.self) n c.place_for.new.room) next
           (subst (λ f. IsRoom items f (suc (33 + v)) c.place_for.new.room) (sym (ap place_in more ∙ same)) room),

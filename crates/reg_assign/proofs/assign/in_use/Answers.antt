@@ -9,5 +9,5 @@ pub loop-place-preserved : goal.loop-place-preserved
 loop-place-preserved c =
     let f : ℕ → ℕ = λ j. slice_index c.args.busy.now (slice_index c.args.at.now j) in
     subst (λ x. Tells (λ r. (j : ℕ) → j < c.loop-place.place-index + 1 → bit_at (f j) r ≡ 0) (bit_or
-        c.loop-place.taken x))
+    c.loop-place.taken x))
     (sym c.bits_at-taken.ensures) (tells_more f c.loop-place.place-index c.loop-place.taken c.loop-place.invariant)

@@ -30,10 +30,10 @@ loop-r-preserved c =
     let inv = c.loop-r.invariant in
     let number = c.in_ok-finish.ensures.number ∙ c.in_ok-begin.ensures.number in
     let mine =
-        known_by items walk (Real r) (under c.args.flow.now.reads) c.requires.reads
-        (ap register_at number ∙ sym (at_real r (let l = c.loop-r-test.true in omega (arith, l))))
-            c.in_ok-finish.ensures.walk
-        c.in_ok-finish.ensures.closed c.in_ok-finish.ensures.all in
+    known_by items walk (Real r) (under c.args.flow.now.reads) c.requires.reads
+    (ap register_at number ∙ sym (at_real r (let l = c.loop-r-test.true in omega (arith, l))))
+    c.in_ok-finish.ensures.walk
+    c.in_ok-finish.ensures.closed c.in_ok-finish.ensures.all in
     let found = c.as_slice.ensures.value in (
       idle_after items walk r number c.in_ok-finish.ensures.walk,
       reals_more items c.loop-r.busy.items c.note_busy.new.busy.items r inv.1 mine c.note_busy.ensures.size

@@ -12,7 +12,7 @@ loop-place-preserved c =
     let below = c.requires c.loop-place.place-index 0 c.loop-place-test.true in
     let l : p < length c.loop-place.busy.items = omega arith in
     let read : slice_index c.loop-place.busy.items p ≡ c.index.result.now =
-        read_at c.loop-place.busy.items p c.index.result.now l (omega arith) in
+    read_at c.loop-place.busy.items p c.index.result.now l (omega arith) in
     noted_more c.args.busy.now.items c.loop-place.busy.items c.args.found.now c.args.r c.loop-place.place-index
     c.bit.result c.index.result.now c.bit.ensures.same c.bit.ensures.other c.loop-place.invariant l read
 

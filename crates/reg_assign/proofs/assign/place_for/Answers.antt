@@ -21,13 +21,13 @@ returns-in-Some-clause-chosen c =
     let bits = c.in_use-written.result in
     let busy = c.args.room.now.busy.items in
     let told : Tells (λ r. (j : ℕ) → j < length (lists (33 + v)) → bit_at (slice_index busy (slice_index (lists (33 +
-        v)) j)) r ≡ 0)
-        bits =
-        subst (λ xs. Tells (λ r. (j : ℕ) → j < length xs → bit_at (slice_index busy (slice_index xs j)) r ≡ 0) bits)
-        c.under.ensures
-        (subst (λ ys. Tells (λ r. (j : ℕ) → j < length c.under.result.now
-        → bit_at (slice_index ys (slice_index c.under.result.now j)) r ≡ 0) bits) c.as_slice.ensures.value
-        c.in_use-written.ensures) in
+    v)) j)) r ≡ 0)
+    bits =
+    subst (λ xs. Tells (λ r. (j : ℕ) → j < length xs → bit_at (slice_index busy (slice_index xs j)) r ≡ 0) bits)
+    c.under.ensures
+    (subst (λ ys. Tells (λ r. (j : ℕ) → j < length c.under.result.now
+    → bit_at (slice_index ys (slice_index c.under.result.now j)) r ≡ 0) bits) c.as_slice.ensures.value
+    c.in_use-written.ensures) in
     let ok = c.in-Some.ensures.some.0 in
     let left = c.in_ok-taken.ensures.left c.in-Some.r ok c.in-Some.ensures.some.1 in (
       ok,
@@ -46,20 +46,20 @@ returns-in-Some-clause-room c =
     let bits = c.in_use-written.result in
     let busy = c.args.room.now.busy.items in
     let told : Tells (λ r. (j : ℕ) → j < length (lists (33 + v)) → bit_at (slice_index busy (slice_index (lists (33 +
-        v)) j)) r ≡ 0)
-        bits =
-        subst (λ xs. Tells (λ r. (j : ℕ) → j < length xs → bit_at (slice_index busy (slice_index xs j)) r ≡ 0) bits)
-        c.under.ensures
-        (subst (λ ys. Tells (λ r. (j : ℕ) → j < length c.under.result.now
-        → bit_at (slice_index ys (slice_index c.under.result.now j)) r ≡ 0) bits) c.as_slice.ensures.value
-        c.in_use-written.ensures) in
+    v)) j)) r ≡ 0)
+    bits =
+    subst (λ xs. Tells (λ r. (j : ℕ) → j < length xs → bit_at (slice_index busy (slice_index xs j)) r ≡ 0) bits)
+    c.under.ensures
+    (subst (λ ys. Tells (λ r. (j : ℕ) → j < length c.under.result.now
+    → bit_at (slice_index ys (slice_index c.under.result.now j)) r ≡ 0) bits) c.as_slice.ensures.value
+    c.in_use-written.ensures) in
     let r = c.in-Some.r in
     let ok = c.in-Some.ensures.some.0 in
     let walk = c.gather.new.walk in
     let left = c.in_ok-taken.ensures.left r ok c.in-Some.ensures.some.1 in
     let mine =
-        known_by items walk (Virtual v) reads c.requires.reads (ap register_at left.same ∙ register_v v) left.walk
-        left.closed left.all in
+    known_by items walk (Virtual v) reads c.requires.reads (ap register_at left.same ∙ register_v v) left.walk
+    left.closed left.all in
     let found = c.as_slice-in-Some.ensures.value in
     room_with items place v r own (33 + v) c.args.room.now (record { walk = walk; busy = c.note_busy.new.busy })
     c.requires.room mine c.in_ok-taken.ensures.idle c.note_busy.ensures.size c.note_busy.ensures.other
@@ -79,14 +79,13 @@ returns-in-None-clause-chosen c =
     let bits = c.in_use-written.result in
     let busy = c.args.room.now.busy.items in
     let told : Tells (λ r. (j : ℕ) → j < length (lists (33 + v)) → bit_at (slice_index busy (slice_index (lists (33 +
-        v)) j)) r ≡ 0)
-        bits =
-        subst (λ xs. Tells (λ r. (j : ℕ) → j < length xs → bit_at (slice_index busy (slice_index xs j)) r ≡ 0) bits)
-        c.under.ensures
-        (subst (λ ys. Tells (λ r. (j : ℕ) → j < length c.under.result.now
-        → bit_at (slice_index ys (slice_index c.under.result.now j)) r ≡ 0) bits) c.as_slice.ensures.value
-        c.in_use-written.ensures) in
-    (
+    v)) j)) r ≡ 0)
+    bits =
+    subst (λ xs. Tells (λ r. (j : ℕ) → j < length xs → bit_at (slice_index busy (slice_index xs j)) r ≡ 0) bits)
+    c.under.ensures
+    (subst (λ ys. Tells (λ r. (j : ℕ) → j < length c.under.result.now
+    → bit_at (slice_index ys (slice_index c.under.result.now j)) r ≡ 0) bits) c.as_slice.ensures.value
+    c.in_use-written.ensures) in (
       refl,
       λ r ok h.
           no_room items place v own c.args.room.now c.requires.room lists c.requires.writes bits told r ok
