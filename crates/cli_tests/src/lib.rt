@@ -3,11 +3,13 @@
 #![tactic(auto)]
 
 #[cfg(test)]
+mod calling;
+#[cfg(test)]
 mod calls;
 #[cfg(test)]
 mod commands;
 #[cfg(test)]
-mod inputs;
+mod images;
 #[cfg(test)]
 mod listings;
 #[cfg(test)]

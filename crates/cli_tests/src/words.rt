@@ -2,6 +2,7 @@
 
 use grift_base::lists::OutOfMemory;
 use std::alloc::{AllocError, Global};
+use std::fmt;
 
 // No memory was left for a test.
 #[derive(Debug, Drop)]
@@ -19,10 +20,19 @@ impl From<AllocError> for NoMemory {
     }
 }
 
-// Words with these texts.
-pub(crate) fn words_of(alloc: Global, texts: &[&str]) -> Result<Vec<String>, NoMemory> {
+impl From<fmt::Error> for NoMemory {
+    fn from(_error: fmt::Error) -> NoMemory {
+        NoMemory
+    }
+}
+
+// The words of a line, which a space stands between; none where the line is empty.
+pub(crate) fn words_of(alloc: Global, line: &str) -> Result<Vec<String>, NoMemory> {
     let mut words = Vec::new(alloc);
-    for text in texts {
+    if line.is_empty() {
+        return Ok(words);
+    }
+    for text in line.split(' ') {
         let word = String::from_str(alloc, text)?;
         words.push(word).map_err(|_| NoMemory)?;
     }

@@ -1,0 +1,96 @@
+// The image that a run puts, which `exec` runs on other inputs; and a source that is cut short.
+
+use crate::calling::{Content, Row, bytes_of, call, comes_to};
+use crate::calls::{EXEC, ON_INPUT, RUN, TWICE_CAST};
+use crate::words::NoMemory;
+use Content::Text;
+use std::alloc::Global;
+
+// Runs of one source on two inputs.
+const RUNS: [&Row; 2] = [
+    &Row {
+        file: Text("(begin (print-int (read-int)) (read-int))"),
+        input: "5",
+        ..ON_INPUT
+    },
+    &Row {
+        file: Text("(begin (print-int (read-int)) (read-int))"),
+        input: "6 7",
+        ..ON_INPUT
+    },
+];
+
+const EXEC_ON_INPUT: Row = Row {
+    words: "exec a --input b",
+    asked: 2,
+    ..EXEC
+};
+
+// What the image of that source comes to on other inputs, and on none.
+const ANSWERS: &[Row] = &[
+    Row {
+        input: "8 9",
+        out: Text("8"),
+        err: "answer 9\n",
+        ..EXEC_ON_INPUT
+    },
+    Row {
+        input: "8",
+        status: 4,
+        out: Text("8"),
+        err: "trap input\n",
+        ..EXEC_ON_INPUT
+    },
+    Row {
+        input: "8 9",
+        words: "exec a",
+        status: 4,
+        asked: 1,
+        err: "trap input\n",
+        ..EXEC
+    },
+];
+
+// What a run puts as its image.
+fn image_put(alloc: Global, row: &Row) -> Result<Vec<u8>, NoMemory> {
+    let file = bytes_of(alloc, row.file)?;
+    let left = call(alloc, row, file.as_slice())?;
+    Ok(Vec::from_slice(alloc, left.img.bytes())?)
+}
+
+// The image of each run, where they are equal.
+fn one_image_put(alloc: Global) -> Result<Option<Vec<u8>>, NoMemory> {
+    let [first, second] = RUNS;
+    let image = image_put(alloc, first)?;
+    let other = image_put(alloc, second)?;
+    if image == other {
+        Ok(Some(image))
+    } else {
+        Ok(None)
+    }
+}
+
+// One image serves each input: that of a run on one input is that of a run on another, and `exec` runs it on any.
+#[test]
+fn one_image(rt: HostRuntime) -> Result<(), NoMemory> {
+    let image = one_image_put(rt.alloc())?.expect(&rt, "two images");
+    for row in ANSWERS {
+        assert!(rt; comes_to(rt.alloc(), row, image.as_slice())?, "{}", row.err);
+    }
+    Ok(())
+}
+
+// Whether a source is refused, and nothing is put but the line that says so.
+fn is_refused(alloc: Global, file: &[u8]) -> Result<bool, NoMemory> {
+    let left = call(alloc, &RUN, file)?;
+    Ok(left.status == 1 && left.out.bytes().is_empty() && left.img.bytes().is_empty())
+}
+
+#[test]
+fn a_source_that_is_cut_short_is_refused(rt: HostRuntime) -> Result<(), NoMemory> {
+    let source = TWICE_CAST.as_bytes();
+    for length in 0..source.len() {
+        assert!(rt; is_refused(rt.alloc(), &source[..length])?, "{length}");
+    }
+    Ok(())
+}
