@@ -131,7 +131,7 @@ const LOOPS: &[Row] = &[
     Row {
         words: "run a --region 1073741824 --steps 9223372036854775807 --space",
         file: Text(
-            "(letrec ([loop (lambda ([n : Int] [f : (Dyn -> Dyn)]) : (Dyn -> Dyn)\n(if (= n 0) f (loop (- n 1) (: (: f (Int -> Int)) (Dyn -> Dyn)))))])\n((loop 1000000 (lambda (x) x)) 7))",
+            "(letrec ([loop (lambda ([n : Int] [f : (Dyn -> Dyn)]) : (Dyn -> Dyn)\n(if (= n 0) f (loop (- n 1) (: (: f (Int -> Int)) (Dyn -> Dyn)))))])\n((loop 100000 (lambda (x) x)) 7))",
         ),
         err: "answer 7\nspace bytes ",
         err_end: "space stacked 0\nspace highest 1\nspace tallest 1\n",
