@@ -1009,8 +1009,8 @@ const SOURCES: &[Row] = &[
     },
 ];
 
-// Images, inputs, devices that fail, and words.
-const OUTSIDE: &[Row] = &[
+// Images, and inputs.
+const FILES: &[Row] = &[
     // images, one that answers 42 among them
     Row {
         file: Image(&[0x02a0_0593, 0x0000_0073]),
@@ -1300,6 +1300,10 @@ const OUTSIDE: &[Row] = &[
         err: "load failed\n",
         ..ON_INPUT
     },
+];
+
+// Devices that fail, and words.
+const OUTSIDE: &[Row] = &[
     // devices that fail at one call; each put is one call, and what is empty is not put
     Row {
         shelf_fails: &[0],
@@ -1699,6 +1703,13 @@ fn limits(rt: HostRuntime) -> Result<(), NoMemory> {
 #[test]
 fn sources(rt: HostRuntime) -> Result<(), NoMemory> {
     let wrong = wrong_row(rt.alloc(), SOURCES)?;
+    assert!(rt; wrong.is_empty(), "{wrong}");
+    Ok(())
+}
+
+#[test]
+fn files(rt: HostRuntime) -> Result<(), NoMemory> {
+    let wrong = wrong_row(rt.alloc(), FILES)?;
     assert!(rt; wrong.is_empty(), "{wrong}");
     Ok(())
 }

@@ -174,11 +174,17 @@ fn end_in(alloc: Global, region: u64) -> Result<End, NoMemory> {
     let file = b"(let ([b (box 1)]) (let ([d (: b (Ref Dyn))]) (begin (box-set! d 7) (unbox b))))";
     let left = call_by(alloc, words.as_str(), &SPACE, file)?;
     let text = left.err.bytes();
-    Ok(match left.status {
-        0 if is_lean(text) && begins_with(text, "answer 7\n") => End::Answers,
-        5 if is_lean(text) && begins_with(text, "exhausted region\n") => End::Exhausted,
-        _ => End::Otherwise,
-    })
+    let status = left.status;
+    if !is_lean(text) {
+        return Ok(End::Otherwise);
+    }
+    if status == 0 && begins_with(text, "answer 7\n") {
+        return Ok(End::Answers);
+    }
+    if status == 5 && begins_with(text, "exhausted region\n") {
+        return Ok(End::Exhausted);
+    }
+    Ok(End::Otherwise)
 }
 
 // A run with every region up to 1,024 bytes is exhausted or ends; and once one ends, each with more room does.
