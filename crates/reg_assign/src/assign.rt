@@ -132,6 +132,88 @@ fn free(taken: u32) -> Option<Reg>
     None
 }
 
+// Whether a real register may hold others and is left.
+fn is_left(taken: u32, r: Reg) -> bool
+    ensures { IsTrue result → (may_hold r ≡ true) × (bit_at taken r ≡ 0) }
+{
+    let number = number_in(r);
+    3 <= number && number < 25 && (taken >> number) & 1 == 0
+}
+
+// ---- moves
+
+// The real register that a register is or is kept in, if there is one.
+fn real_of(places: &[Place], a: &VReg) -> Option<Reg> {
+    match a {
+        VReg::Real(r) => Some(*r),
+        VReg::Virtual(v) => match place_at(places, *v) {
+            Place::InReg(r) => Some(r),
+            Place::Slot(_) => None,
+        },
+    }
+}
+
+// The real register to or from which an item moves the word of a virtual one, if it does.
+fn moved(places: &[Place], item: &VirtualItem, v: u32) -> Option<Reg> {
+    match item {
+        VirtualItem::Move(VReg::Virtual(to), a) if *to == v => real_of(places, a),
+        VirtualItem::Move(a, VReg::Virtual(from)) if *from == v => real_of(places, a),
+        _ => None,
+    }
+}
+
+// The real register to or from which the item at a place moves the word of a virtual one, if it does.
+fn wished_at(places: &[Place], items: &[VirtualItem], place: usize, v: u32) -> Option<Reg> {
+    match item_at(items, place) {
+        Some(item) => moved(places, item, v),
+        None => None,
+    }
+}
+
+// A real register that is left and to or from which an item at one of these places moves the word of a virtual one.
+fn wished(
+    places: &[Place],
+    items: &[VirtualItem],
+    at: &[usize],
+    v: u32,
+    taken: u32,
+) -> Option<Reg>
+    ensures { IfSome result (λ r. (may_hold r ≡ true) × (bit_at taken r ≡ 0)) }
+{
+    for place in at {
+        if let Some(r) = wished_at(places, items, *place, v) {
+            if is_left(taken, r) {
+                return Some(r);
+            }
+        }
+    }
+    None
+}
+
+// A real register that is left for a virtual one, so that a move of its word becomes nothing if there is such a one.
+fn choose(
+    places: &[Place],
+    items: &[VirtualItem],
+    flow: &Flow,
+    v: u32,
+    taken: u32,
+) -> Option<Reg>
+    ensures some { IfSome result (λ r. (may_hold r ≡ true) × (bit_at taken r ≡ 0)) }
+    ensures none { result ≡ None → (r : ℕ) → may_hold r ≡ true → bit_at taken r ≡ 1 }
+{
+    if is_full(taken) {
+        return None;
+    }
+    let number = REAL_NUMBERS + v as usize;
+    if let Some(r) = wished(places, items, flow.writes.under(number), v, taken) {
+        return Some(r);
+    }
+    if let Some(r) = wished(places, items, flow.reads.under(number), v, taken) {
+        return Some(r);
+    }
+    free(taken)
+}
+
 // ---- where a register is needed
 
 // The real registers in which the item at a place, if one stands there, changes words.
@@ -225,7 +307,7 @@ fn place_for(
     let number = REAL_NUMBERS + v as usize;
     let written = in_use(room.busy.as_slice(), flow.writes.under(number));
     let taken = gather(&mut room.walk, items, flow, places, number, written)?;
-    match free(taken) {
+    match choose(places, items, flow, v, taken) {
         Some(r) => {
             note_busy(&mut room.busy, room.walk.found.as_slice(), r);
             Ok(Place::InReg(r))
