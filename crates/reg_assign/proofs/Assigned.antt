@@ -1,12 +1,11 @@
 -- A register's turn: where a real register is free for it, and what is kept of all turns.
 use Rattle.std.proofs.Common.{ℕ, zero, suc, ◌-◌, ◌+◌, ◌<◌, ◌≤◌, ◌≡◌, ◌⊎◌, inl, inr, Bool, true, false, List, [], ◌∷◌}
 use Rattle.std.proofs.Common.{◌++◌, Some}
-use Rattle.std.proofs.Common.{refl, sym, ◌∙◌, ap, subst, length, get_or, nat_eq, arith, length-append, replicate}
+use Rattle.std.proofs.Common.{refl, sym, ◌∙◌, ap, subst, length, nat_eq, arith, length-append, replicate}
 use Rattle.std.proofs.lemmas.List.{length-replicate}
 use Rattle.std.proofs.Math.Path.{fun_ext}
-use Rattle.std.proofs.lemmas.Grind.{common_steps}
 use Rattle.std.proofs.lemmas.List.Elements.{Contains-get_or}
-use Rattle.std.proofs.lemmas.Option.{slice_get_within, slice_get_past, slice_get_read}
+use Rattle.std.proofs.lemmas.Option.{slice_get_within, slice_get_past}
 use Rattle.std.specs.Int.{bit_at}
 use Rattle.std.specs.Prelude.{◌==◌, nat_lt, if◌then◌else◌, slice_get, slice_index, slice_index_or, unwrap_or, bit_or}
 use Rattle.std.specs.Prelude.{Contains}

@@ -20,3 +20,7 @@ mod Fine
 mod Masks
 mod Rooms
 mod Assigned
+mod LacksStack
+mod ProcAddresses
+mod ImageBytes
+mod ImageRuns

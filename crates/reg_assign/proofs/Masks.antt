@@ -1,7 +1,7 @@
 -- Bits that tell which real registers are free.
 use Rattle.std.proofs.Common.{ℕ, zero, suc, ◌+◌, ◌*◌, ◌^◌, ◌%◌, ◌<◌, ◌≤◌, ◌≡◌, ◌≢◌, ◌⊎◌, inl, inr, Bool, true, false}
 use Rattle.std.proofs.Common.{refl}
-use Rattle.std.proofs.Common.{sym, ◌∙◌, ap, subst, arith, max, min, List, [], ◌∷◌, ◌++◌, length, set, w32}
+use Rattle.std.proofs.Common.{sym, ◌∙◌, ap, subst, arith, max, List, [], ◌∷◌, ◌++◌, length, set, w32}
 use Rattle.std.proofs.Common.{get_or-set_same, get_or-set_other}
 use Rattle.std.proofs.lemmas.List.{length-set}
 use Rattle.std.specs.Int.{bit_at}

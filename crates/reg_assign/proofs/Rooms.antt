@@ -15,12 +15,11 @@ use Rattle.rv_select.specs.declared.code.VirtualItem.{VirtualItem}
 use Rattle.rv_select.specs.declared.code.VirtualItem.TheVariants.{Call, CallAt}
 use Rattle.rv_select.specs.Holding.{Among, reads, writes, place_of, NoneAt, SparedBy, may_hold}
 use Rattle.reg_assign.specs.Check.{HasHolding, AreAllowed, Needed, Read, with_place}
-use Rattle.reg_assign.specs.Flow.{Behind, IsVirtual, IsKept, IsListed, IsRead}
+use Rattle.reg_assign.specs.Flow.{Behind, IsKept, IsListed, IsRead}
 use Rattle.reg_assign.specs.Numbers.{register_at}
 use Rattle.reg_assign.specs.Walks.{IsIdle, IsWalk, IsClosed}
 use Rattle.reg_assign.specs.declared.walks.Walk.{Walk}
 use Rattle.reg_assign.specs.declared.assign.Room.{Room}
-use Rattle.reg_assign.specs.Fits.{IsBeginning}
 use Rattle.reg_assign.specs.Room.{Known, IsBusy, IsRoom, Tells}
 use Rattle.reg_assign.proofs.Names.{equal_of}
 use Rattle.reg_assign.proofs.Walking.{behind_needed, all_found}

@@ -9,3 +9,4 @@ pub mod Flow
 pub mod Walks
 pub mod Fits
 pub mod Room
+pub mod Images

@@ -1,5 +1,5 @@
 -- Which real registers are free for a virtual one, as bits of numbers.
-use Rattle.std.specs.Prelude.{ℕ, suc, ◌≤◌, ◌<◌, ◌≡◌, ◌⊎◌, true, List, length, slice_index, slice_get, Some, Contains}
+use Rattle.std.specs.Prelude.{ℕ, ◌<◌, ◌≡◌, ◌⊎◌, true, List, length, slice_index, slice_get, Some, Contains}
 use Rattle.std.specs.Int.{bit_at}
 use Rattle.rv_select.specs.declared.code.VReg.{VReg}
 use Rattle.rv_select.specs.declared.code.Place.{Place}

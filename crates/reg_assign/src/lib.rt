@@ -6,6 +6,7 @@ pub mod assign;
 pub mod assignment;
 pub mod check;
 mod flow;
+pub mod images;
 pub mod laws;
 mod named;
 mod positions;

@@ -1,4 +1,4 @@
-use Rattle.std.proofs.Common.{ℕ, ◌≡◌, ◌+◌, ◌++◌, ◌∷◌, [], suc, length, refl, sym, ◌∙◌, ap, subst, length-append, arith}
+use Rattle.std.proofs.Common.{◌≡◌, ◌+◌, ◌∷◌, [], suc, length, sym, ◌∙◌, ap, subst, length-append, arith}
 use Rattle.rv_select.specs.declared.code.Place.TheVariants.{Slot}
 use Rattle.reg_assign.specs.Places.{place_in}
 use Rattle.reg_assign.specs.Check.{with_place}

@@ -1,4 +1,4 @@
-use Rattle.std.proofs.Common.{ℕ, ◌*◌, ◌^◌, ◌%◌, ◌≡◌, subst, sym, ◌∙◌}
+use Rattle.std.proofs.Common.{◌*◌, ◌^◌, ◌%◌, ◌≡◌, subst, ◌∙◌}
 use Rattle.std.specs.Int.{bit_at}
 use Rattle.reg_assign.proofs.Masks.{bit_same, bit_other}
 use Rattle.reg_assign.proofs.assign.bit.Goals as goal

@@ -1,4 +1,4 @@
-use Rattle.std.proofs.Common.{ℕ, sym, subst}
+use Rattle.std.proofs.Common.{sym, subst}
 use Rattle.rv_select.specs.declared.code.Place.TheVariants.{InReg}
 use Rattle.rv_select.specs.Holding.{SparedBy, SparedByCall, NoneAt, writes}
 use Rattle.reg_assign.specs.Places.{place_in}

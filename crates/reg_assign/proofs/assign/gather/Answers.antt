@@ -1,4 +1,4 @@
-use Rattle.std.proofs.Common.{ℕ, ◌<◌, ◌≡◌, inl, Some, None, length, refl, sym, ◌∙◌, ap, subst, add-one, arith}
+use Rattle.std.proofs.Common.{inl, sym, ◌∙◌, subst, arith}
 use Rattle.reg_assign.specs.Places.{place_in}
 use Rattle.reg_assign.specs.Walks.{Steps}
 use Rattle.reg_assign.specs.Room.{IsLeft}

@@ -1,4 +1,4 @@
-use Rattle.std.proofs.Common.{ℕ, ◌<◌, ◌≤◌, ◌+◌, ◌≡◌, length, replicate, sym, ◌∙◌, ap, subst, rules, arith}
+use Rattle.std.proofs.Common.{◌<◌, ◌≡◌, length, replicate, sym, ◌∙◌, ap, subst, rules, arith}
 use Rattle.std.specs.Int.{bit_at}
 use Rattle.std.specs.Prelude.{All, Contains, slice_index}
 use Rattle.rv_select.specs.declared.code.VReg.TheVariants.{Real}
