@@ -47,7 +47,7 @@ use Rattle.lower.specs.SimulationClaims.{AreNarrow, StorageIsWhole}
 use Rattle.lower.specs.Serving.{all_narrow}
 use Rattle.lower.specs.Sets.{merged_numbers, merged_procs, with_casts}
 use Rattle.lower.proofs.Public.{words_follow_procedures-storage, procedures_are_narrow}
-use Rattle.rv_slots.specs.Images.{HasRegionOf, IsImageOfWords}
+use Rattle.reg_assign.specs.Images.{HasRegionOf, IsImageOfWords}
 use Rattle.compile_driver.specs.Compiling.{FollowsProgram}
 use Rattle.compile_driver.specs.Space.{KeepsSpace, KeepsStorage}
 use Rattle.compile_driver.proofs.HeldCasts.{casts_held, tallest_low}

@@ -26,7 +26,7 @@ use Rattle.coercion_norm.proofs.Public.{number_of_kind}
 use Rattle.rt_cast.specs.Objects.{HasWord, Holds, HoldsWords}
 use Rattle.rt_cast.specs.States.{Filled, Heap}
 use Rattle.rt_cast.proofs.Public.{objects_fill_the_region}
-use Rattle.rv_slots.specs.Images.{HasRegionOf, IsImageOfWords}
+use Rattle.reg_assign.specs.Images.{HasRegionOf, IsImageOfWords}
 use Rattle.compile_driver.specs.Space.{IsStored, KeepsStorage, told_by}
 use Rattle.compile_driver.proofs.Matching.{Fit, fit_match, starts, statics_fit, words_hold}
 use Rattle.compile_driver.proofs.Starting.{are_placed, layout, setting, start}

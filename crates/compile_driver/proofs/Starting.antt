@@ -9,6 +9,7 @@ use Rattle.grift_base.specs.World.{WorldState}
 use Rattle.grift_base.specs.Types.{TypeRows}
 use Rattle.grift_base.specs.declared.places.Pos.{Pos}
 use Rattle.grift_base.specs.declared.words.Statics.{Statics}
+use Rattle.rv_isa.specs.declared.real.RealItem.{RealItem}
 use Rattle.rv_machine.specs.Memory.{Memory, first_address}
 use Rattle.rv_machine.specs.Image.{statics_len, code_len}
 use Rattle.rv_machine.specs.State.{State}
@@ -17,7 +18,7 @@ use Rattle.rv_machine.specs.Real.{mark_address}
 use Rattle.assembler.specs.Assembled.{item_address}
 use Rattle.low_ir.specs.Procedures.{Proc}
 use Rattle.low_ir.specs.Run.{Setting}
-use Rattle.rv_slots.specs.Images.{IsImageOfWords, RunsIn, words_code, words_setting}
+use Rattle.reg_assign.specs.Images.{IsImageOfWords, RunsIn, words_code, words_setting}
 use Rattle.coercion_norm.specs.Nodes.{Node}
 use Rattle.coercion_norm.specs.Objects.{Object, Fixed, Cell, bytes_of, bytes_of_all, words_of, words_of_all}
 use Rattle.coercion_norm.specs.Held.{Layout}
@@ -36,9 +37,8 @@ or_zero (Some at) = at
 or_zero None = 0
 
 -- what a run over words is told: the address of the mark of each procedure
-abbrev pub told_at : List Proc → ℕ → List ℕ → ℕ → ℕ
-told_at procs entry statics k =
-    or_zero (mark_address (item_address (words_code procs entry) statics) (words_code procs entry) k)
+abbrev pub told_at : List RealItem → List ℕ → ℕ → ℕ
+told_at code statics k = or_zero (mark_address (item_address code statics) code k)
 
 -- ---- statics
 
@@ -79,8 +79,11 @@ module _ {image : List ℕ} {procs : List Proc} {entry : ℕ} {statics : Statics
     (placed : AreStatics types nodes casts first_address statics)
     (words : All (λ w. w < 2 ^ 64) statics.words)
     (region stack : ℕ) (region_size : IsRegionSize region) (stack_size : IsStackSize stack) (world : WorldState) where
+  abbrev pub code : List RealItem
+  code = words_code is.places procs entry
+
   abbrev pub told : ℕ → ℕ
-  told = told_at procs entry statics.words
+  told = told_at code statics.words
 
   abbrev pub start : State
   start = start_of image region stack world
@@ -93,7 +96,7 @@ module _ {image : List ℕ} {procs : List Proc} {entry : ℕ} {statics : Statics
   layout tallest = layout_of types nodes first_address statics [] start.layout.region tallest
 
   pub runs_in : (p : Proc) → slice_get procs entry ≡ Some p
-      → RunsIn (words_code procs entry) statics.words procs entry p told region stack
+      → RunsIn code statics.words procs entry p told region stack
   runs_in p e = record {
     region_size = region_size;
     stack_size = stack_size;
@@ -102,7 +105,7 @@ module _ {image : List ℕ} {procs : List Proc} {entry : ℕ} {statics : Statics
   }
 
   there : (k : ℕ) (p : Proc) → slice_get procs k ≡ Some p
-      → (mark_address (item_address (words_code procs entry) statics.words) (words_code procs entry) k ≡ Some (told k))
+      → (mark_address (item_address code statics.words) code k ≡ Some (told k))
       × (told k < 2 ^ 64)
   there k p e =
       let a = is.addresses.there k (slice_get_within procs k p e) in

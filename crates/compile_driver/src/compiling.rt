@@ -22,7 +22,7 @@ use front_end::elaborate_text;
 use grift_base::lists::OutOfMemory;
 use grift_base::refusals::FrontFault;
 use lower::merged::lower;
-use rv_slots::images::image_of;
+use reg_assign::images::image_of;
 use std::alloc::Global;
 use type_graph::tables::TypeTable;
 
