@@ -2,8 +2,7 @@
 use Rattle.std.proofs.Common.{◌≡◌, ℕ, ◌+◌, ◌*◌, ◌%◌, ◌<◌, ◌≤◌, ◌^◌, true, List, [], ◌∷◌, ◌++◌, length, Some, None, refl}
 use Rattle.std.proofs.Common.{sym, ap, ◌∙◌, subst, append-nil, arith}
 use Rattle.std.specs.Prelude.{All, ◌==◌, ◌&&◌, nat_le, if◌then◌else◌, slice_index}
-use Rattle.grift_base.specs.Types.{TypeRow, TypeRows, IntRow, BoolRow, UnitRow, DynRow, FunRow, TupleRow, RefRow}
-use Rattle.grift_base.specs.Types.{VectRow}
+use Rattle.grift_base.specs.Types.{TypeRows}
 use Rattle.grift_base.specs.declared.places.Pos.{Pos}
 use Rattle.grift_base.specs.declared.words.Statics.{Statics}
 use Rattle.rv_machine.specs.Memory.{first_address, load_bytes}
@@ -11,7 +10,6 @@ use Rattle.rv_machine.specs.Start.{IsRegionSize, IsStackSize, fresh_world}
 use Rattle.rv_machine.specs.State.{State}
 use Rattle.rv_machine.proofs.Public.{load_same}
 use Rattle.object_layout.specs.declared.wholes.Area.TheVariants.{Statics as InStatics}
-use Rattle.object_layout.specs.Kinds.{is_type}
 use Rattle.object_layout.specs.Wholes.{Telling, IsRow}
 use Rattle.low_ir.specs.Procedures.{Proc}
 use Rattle.low_ir.specs.Run.{LowShown}
@@ -30,17 +28,8 @@ use Rattle.reg_assign.specs.Images.{HasRegionOf, IsImageOfWords}
 use Rattle.compile_driver.specs.Space.{IsStored, KeepsStorage, told_by}
 use Rattle.compile_driver.proofs.Matching.{Fit, fit_match, starts, statics_fit, words_hold}
 use Rattle.compile_driver.proofs.Starting.{are_placed, layout, setting, start}
+use Rattle.compile_driver.proofs.StaticKinds.{type_is, types_and_coercions}
 use Rattle.compile_driver.proofs.Storing.{storage_is_so}
-
-type_is : (row : TypeRow) → is_type (type_kind row) ≡ true
-type_is IntRow = refl
-type_is BoolRow = refl
-type_is UnitRow = refl
-type_is DynRow = refl
-type_is (FunRow parameters answer) = refl
-type_is (TupleRow parts) = refl
-type_is (RefRow content) = refl
-type_is (VectRow content) = refl
 
 -- words that stand one after another are told so, where each is told
 tells_all : (T : Telling) (m : ℕ → ℕ) (end at : ℕ) (words : List ℕ)
@@ -126,7 +115,11 @@ module _ {image : List ℕ} {procs : List Proc} {entry : ℕ} {statics : Statics
                 begin.layout.code
                 (subst (IsRow (told_by s) InStatics first_address sh)
                 (let e : first_address + 8 * length statics.words ≡ begin.layout.code = omega (arith, size) in e)
-                (placed.whole (told_by s) tells)));
+                (placed.whole (told_by s) tells)) (types_and_coercions types nodes));
+            inside =
+                let alloc = shares.alloc in
+                let in_region = shares.inside in
+                let top = shares.top in omega (arith, alloc, in_region, top);
             stack = shares.stack;
             top = shares.top;
           }

@@ -3,7 +3,7 @@
 use Rattle.std.proofs.Common.{◌≡◌, ◌⊎◌, inl, inr, ℕ, suc, ◌+◌, ◌*◌, ◌%◌, ◌<◌, ◌≤◌, Bool, true, false, cond, nat_eq}
 use Rattle.std.proofs.Common.{max, List, [], ◌∷◌, ◌++◌, length, replicate, Some, None, refl, sym, ap, ap₂, ◌∙◌, subst}
 use Rattle.std.proofs.Common.{append_assoc, append-nil, eqb-true, arith}
-use Rattle.std.specs.Prelude.{◌==◌, ◌&&◌, nat_le, if◌then◌else◌, option_and_then}
+use Rattle.std.specs.Prelude.{◌==◌, ◌&&◌, nat_le, if◌then◌else◌, All, option_and_then}
 use Rattle.rv_machine.specs.Memory.{Memory, first_address, load_bytes}
 use Rattle.low_ir.specs.Run.{Setting}
 use Rattle.object_layout.specs.declared.headers.Header.{Header}
@@ -37,7 +37,7 @@ use Rattle.rt_cast.specs.WholeObjects.{CoercionWord, IdWord, ObjectWord, Highest
 use Rattle.rt_cast.specs.WholeObjects.{WholeFail, WholeMiddle, WholeInject, WholeProject, WholeProxy, WholeDyn}
 use Rattle.rt_cast.specs.WholeObjects.{WholeOther}
 use Rattle.rt_cast.proofs.Public.{none_some, same_some}
-use Rattle.compile_driver.specs.Space.{Stored, Begins, BeginsType, Leads, LeadFrom, IsStored}
+use Rattle.compile_driver.specs.Space.{Stored, Begins, BeginsType, IsTypeOrCoercion, Leads, LeadFrom, IsStored}
 use Rattle.compile_driver.proofs.Matching.{Match, found, starts}
 
 -- ---- kinds
@@ -709,10 +709,11 @@ module _ (setting : Setting) (l : Layout) (objects : List Object) (heap : Heap) 
     proxy_low at h p true e = p.here.lower (proxy_there at h p e)
     proxy_low at h p false e = omega arith
 
-    pub storage_is_so : (statics_end : ℕ) → IsRow T Statics first_address sh statics_end
+    pub storage_is_so : (statics_end : ℕ) → IsRow T Statics first_address sh statics_end → All IsTypeOrCoercion sh
         → IsStored stored T l.tallest statics_end heap.alloc
-    storage_is_so statics_end static_row = record {
+    storage_is_so statics_end static_row static_kinds = record {
       statics_row = static_row;
+      statics_are = static_kinds;
       row =
           fills_same U T Region heap.alloc l.region hs heap.alloc
           (λ place at h n w. whole_moves at h (at_place place at h n) w) row;

@@ -1,6 +1,6 @@
--- Storage at each instruction of an image's run: whole objects fill the region without gaps, their words lead to
--- objects, no proxy stands on a proxy, and no proxy's coercion is higher than the tallest.
-use Rattle.std.specs.Prelude.{◌≡◌, ◌⊎◌, ℕ, ◌+◌, ◌≤◌, true, false, List, [], ◌∷◌, Some}
+-- Storage at each instruction of an image's run: whole objects fill the region without gaps up to a place in it, their
+-- words lead to objects, no proxy stands on a proxy, and no proxy's coercion is higher than the tallest.
+use Rattle.std.specs.Prelude.{◌≡◌, ◌⊎◌, ℕ, ◌+◌, ◌≤◌, true, false, List, [], ◌∷◌, All, Some}
 use Rattle.grift_base.specs.Words.{word_within}
 use Rattle.rv_machine.specs.Mach.{mach}
 use Rattle.rv_machine.specs.Memory.{first_address, load_bytes}
@@ -12,7 +12,7 @@ use Rattle.object_layout.specs.declared.kinds.Kind.TheVariants.{Dyn}
 use Rattle.object_layout.specs.declared.kinds.Wanted.{Wanted}
 use Rattle.object_layout.specs.declared.kinds.Wanted.TheVariants.{Anything, Target, Middle, Coercion, TypeAddress}
 use Rattle.object_layout.specs.declared.wholes.Area.TheVariants.{Region, Statics}
-use Rattle.object_layout.specs.Kinds.{kind_of, is_type, wanted_words}
+use Rattle.object_layout.specs.Kinds.{kind_of, is_type, is_coercion, wanted_words}
 use Rattle.object_layout.specs.Reports.{header_behind, is_proxy, is_some_proxy, proxy_height}
 use Rattle.object_layout.specs.Wholes.{Telling, IsNth, IsRow, StartsAt}
 
@@ -26,6 +26,12 @@ pub record Stored : Type 0 where
   pub statics : List Header
   pub region : ℕ
   pub objects : List Header
+
+-- the header of a type or of a coercion
+pub record IsTypeOrCoercion (h : Header) : Type 0 where
+  pub kind : Kind
+  pub kind_is : kind_of h.kind ≡ Some kind
+  pub either : (is_type kind ≡ true) ⊎ (is_coercion kind ≡ true)
 
 module _ (stored : Stored) where
   -- an object of the region or of the statics begins there
@@ -57,11 +63,12 @@ module _ (stored : Stored) where
     LeadFrom at (wanted ∷ rest) =
         ((word : ℕ) → memory at ≡ Some word → Leads wanted word) × LeadFrom (at + 8) rest
 
-    -- Told where statics and region end: both are rows of whole objects. Of an object of the region the words lead to
-    -- objects. A value in Dyn keeps a type of the statics. No proxy has a proxy as its target, nor a coercion that is
-    -- higher than the tallest.
+    -- Told where statics and region end: both are rows of whole objects, and those of the statics are types and
+    -- coercions. Of an object of the region the words lead to objects. A value in Dyn keeps a type of the statics. No
+    -- proxy has a proxy as its target, nor a coercion that is higher than the tallest.
     pub record IsStored (tallest statics_end region_end : ℕ) : Type 0 where
       pub statics_row : IsRow memory Statics first_address stored.statics statics_end
+      pub statics_are : All IsTypeOrCoercion stored.statics
       pub row : IsRow memory Region stored.region stored.objects region_end
       pub lead : (place at : ℕ) (h : Header) (kind : Kind) → IsNth stored.region stored.objects place at h
           → kind_of h.kind ≡ Some kind → LeadFrom (at + 8) (wanted_words kind h.count)
@@ -72,12 +79,13 @@ module _ (stored : Stored) where
       pub low : (place at : ℕ) (h : Header) → IsNth stored.region stored.objects place at h
           → proxy_height memory at h ≤ tallest
 
--- so a state has it that comes from a start: the region is filled from its start to x26, and x25 and x27 are as at the
--- start
+-- so a state has it that comes from a start: the region is filled from its start to x26, which isn't past its end, x27,
+-- and x25 and x27 are as at the start
 pub record KeepsStorage (tallest : ℕ) (start s : State) : Type 0 where
   pub stored : Stored
   pub begins : stored.region ≡ start.layout.region
   pub is_stored : IsStored stored (told_by s) tallest start.layout.code (s.regs 26)
+  pub inside : s.regs 26 ≤ s.regs 27
   pub stack : s.regs 25 ≡ start.regs 25
   pub top : s.regs 27 ≡ start.regs 27
 
