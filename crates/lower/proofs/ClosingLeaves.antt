@@ -23,9 +23,12 @@ use Rattle.flat_ir.specs.declared.code.Operation.{Operation}
 use Rattle.flat_ir.specs.declared.code.Operation.TheVariants.{Move, Prim, Cast, Tuple, Proj, ProjDyn}
 use Rattle.flat_ir.specs.Bodies.{Body, Give, Call, Choose, LetBody, LetGroup}
 use Rattle.lower.specs.declared.numbering.Shape.{Shape}
+use Rattle.lower.specs.declared.served.CastWay.{CastWay}
+use Rattle.lower.specs.declared.served.CastWay.TheVariants.{Called, IntoDyn, OutOfDyn}
 use Rattle.lower.specs.declared.served.Served.{Served}
+use Rattle.lower.specs.CastWays.{way_at}
 use Rattle.lower.specs.Numbering.{own_word, operand_word, test_word, local_word, function_offset, captured_offset}
-use Rattle.lower.specs.Emit.{header, cast_word, load_far, store_far, leader_code, leader, fetch, found, fetch_all}
+use Rattle.lower.specs.Emit.{header, make_cast, load_far, store_far, leader_code, leader, fetch, found, fetch_all}
 use Rattle.lower.specs.Emit.{found_all, of_kind, source_at, operator, part, perform, store_captured, store_others}
 use Rattle.lower.specs.Emit.{name_others, group_words, group_code, Then, ToCaller, Into, call, give, choose}
 use Rattle.lower.specs.Emit.{apply_words, emit}
@@ -157,6 +160,12 @@ module _ (run : Served) where
           (CallOf d run.project (x ∷ Number i ∷ Number 1 ∷ Number 0 ∷ []) Done) k h
       by false = h
 
+  cast_leaves : (s : Shape) (d : ℕ) (x : LowSource) (number : ℕ) (way : CastWay) (k : Code) → leaves k ≡ true
+      → leaves (make_cast run s d x number way k) ≡ true
+  cast_leaves s d x number Called k h = h
+  cast_leaves s d x number (IntoDyn tag) k h = h
+  cast_leaves s d x number (OutOfDyn tag) k h = h
+
   perform_leaves : (s : Shape) (d : ℕ) (op : Operation) (k : Code) → leaves k ≡ true
       → leaves (perform run s d op k) ≡ true
   perform_leaves s d (Move o) k h =
@@ -167,8 +176,8 @@ module _ (run : Served) where
       fetch_all_leaves s 0 os rest ∙ operator_leaves s d op (source_at ss 0) (source_at ss 1) (source_at ss 2) k h
   perform_leaves s d (Cast o number) k h =
       let x = found s (operand_word s 0) o in
-      fetch_leaves s (operand_word s 0) o
-      (CallOf d run.cast (x ∷ Number (cast_word (slice_get run.cast_at number)) ∷ []) k) ∙ h
+      let way = way_at (slice_get run.ways number) in
+      fetch_leaves s (operand_word s 0) o (make_cast run s d x number way k) ∙ cast_leaves s d x number way k h
   perform_leaves s d (Tuple os) k h =
       fetch_all_leaves s 0 os (Build d (Number (header 4 (length os)) ∷ found_all s 0 os) k) ∙ h
   perform_leaves s d (Proj o i) k h =

@@ -11,7 +11,8 @@ use Rattle.grift_base.specs.declared.operators.PrimOp.TheVariants.{Gt, Not, Prin
 use Rattle.grift_base.specs.declared.operators.PrimOp.TheVariants.{Unbox, BoxSet, MakeVector, VectorRef, VectorSet}
 use Rattle.grift_base.specs.declared.operators.PrimOp.TheVariants.{VectorLength}
 use Rattle.rv_isa.specs.declared.inst.Cond.TheVariants.{Eq, Ne}
-use Rattle.low_ir.specs.declared.code.WordOp.TheVariants.{Add as Plus, Sub as Minus, And, Xor, Slt, Sltu}
+use Rattle.low_ir.specs.declared.code.WordOp.TheVariants.{Add as Plus, Sub as Minus, And, Xor, Sll, Sra, Slt, Sltu}
+use Rattle.low_ir.specs.declared.code.WordOp.{WordOp}
 use Rattle.low_ir.specs.declared.code.LowSource.{LowSource}
 use Rattle.low_ir.specs.declared.code.LowSource.TheVariants.{Word, Number}
 use Rattle.low_ir.specs.Procedures.{Code, Done, Set, Compute, Load, Store, Build, Environment, Call as CallOf, If, Proc}
@@ -21,10 +22,13 @@ use Rattle.flat_ir.specs.declared.code.Operation.{Operation}
 use Rattle.flat_ir.specs.declared.code.Operation.TheVariants.{Move, Prim, Cast, Tuple, Proj, ProjDyn}
 use Rattle.flat_ir.specs.Closed.{operands_bound, operation_bound}
 use Rattle.lower.specs.declared.numbering.Shape.{Shape}
+use Rattle.lower.specs.declared.served.CastWay.{CastWay}
+use Rattle.lower.specs.declared.served.CastWay.TheVariants.{Called, IntoDyn, OutOfDyn}
 use Rattle.lower.specs.declared.served.Served.{Served}
+use Rattle.lower.specs.CastWays.{tag_number, way_at}
 use Rattle.lower.specs.Numbering.{operand_word, test_word}
 use Rattle.lower.specs.Emit.{header, cast_word, found, found_all, of_kind, turned, source_at, operator}
-use Rattle.lower.specs.Emit.{part, perform, read_number}
+use Rattle.lower.specs.Emit.{part, perform, read_number, call_cast, make_cast}
 use Rattle.lower.specs.Serving.{takes, Serve, operands_have_words}
 use Rattle.lower.proofs.ClosingKnowledge.{Known, More, more_then, more_both, Reads, AllRead, read_more}
 use Rattle.lower.proofs.ClosingKnowledge.{read_word, read_then, read_two, Ends, Onward}
@@ -214,6 +218,49 @@ module _ (procs : List Proc) (n : ℕ) where
             (λ c m' h. ends_done procs n c (Sets a d) (more_then a b c m m', h)))
             (sets_both a d k Q go)
 
+    -- a cast by the procedure
+    cast_called : (d : ℕ) (x : LowSource) (number : ℕ) (a : Known) (k : Code) (Q : Known → Type 0) → d < n
+        → Reads procs n a x → Onward procs n a d k Q → Ends procs n a (call_cast run d x number k) Q
+    cast_called d x number a k Q l r go =
+        let word = Number (cast_word (slice_get run.cast_at number)) in
+        serves a d run.cast 2 (x ∷ word ∷ []) k Q l (read_two procs n a x word r refl) refl serve.cast go
+
+    -- where there is a test first, in either way
+    cast_tested : (d : ℕ) (x y z u v : LowSource) (op : WordOp) (number : ℕ) (a : Known) (k : Code)
+        (Q : Known → Type 0) → d < n → Reads procs n a x → Reads procs n a y → Reads procs n a z → Reads procs n a u
+        → Reads procs n a v → Onward procs n a d k Q
+        → Ends procs n a (If Eq y z (Compute op d u v Done) (call_cast run d x number Done) k) Q
+    cast_tested d x y z u v op number a k Q l rx ry rz ru rv go =
+        if_ends procs n a Eq y z (Compute op d u v Done) (call_cast run d x number Done) k (Sets a d) Q ry rz
+        (compute_ends procs n a op d u v Done (Sets a d) l ru rv (λ b m h. ends_done procs n b (Sets a d) (m, h)))
+        (cast_called d x number a Done (Sets a d) l rx (λ b m h. ends_done procs n b (Sets a d) (m, h)))
+        (sets_both a d k Q go)
+
+    cast_ends : (s : Shape) (d : ℕ) (x : LowSource) (number : ℕ) (way : CastWay) (a : Known) (k : Code)
+        (Q : Known → Type 0) → d < n → test_word s < n → Reads procs n a x → Onward procs n a d k Q
+        → Ends procs n a (make_cast run s d x number way k) Q
+    cast_ends s d x number Called a k Q l t r go = cast_called d x number a k Q l r go
+    cast_ends s d x number (IntoDyn tag) a k Q l t r go =
+        let w = test_word s in
+        let o = operand_word s 1 in
+        let small : operand_word s 1 < n = omega (arith, t) in
+        let test = If Eq (Word o) x (Compute Plus d (Word w) (Number (tag_number tag)) Done)
+        (call_cast run d x number Done) k in
+        compute_ends procs n a Sll w x (Number 3) (Compute Sra o (Word w) (Number 3) test) Q t r refl
+        (λ b m h. compute_ends procs n b Sra o (Word w) (Number 3) test Q small (read_word procs n b w t h) refl
+        (λ c m' h'. let more = more_then a b c m m' in
+        let rx = read_more procs n a c x more r in
+        cast_tested d x (Word o) x (Word w) (Number (tag_number tag)) Plus number c k Q l rx
+        (read_word procs n c o small h') rx (read_word procs n c w t (m' w h)) refl
+        (λ e m'' h''. go e (more_then a c e more m'') h'')))
+    cast_ends s d x number (OutOfDyn tag) a k Q l t r go =
+        let w = test_word s in
+        compute_ends procs n a And w x (Number 7) (If Eq (Word w) (Number (tag_number tag))
+        (Compute Sra d x (Number 3) Done) (call_cast run d x number Done) k) Q t r refl
+        (λ b m h. let rx = read_more procs n a b x m r in
+        cast_tested d x (Word w) (Number (tag_number tag)) x (Number 3) Sra number b k Q l rx
+        (read_word procs n b w t h) refl rx refl (λ c m' h'. go c (more_then a b c m m') h'))
+
     pub perform_ends : (s : Shape) (captured group depth d : ℕ) (op : Operation) (a : Known) (k : Code)
         (Q : Known → Type 0) → d < n → Ready procs n s depth a → operation_bound captured group depth op ≡ true
         → operands_have_words op ≡ true → Onward procs n a d k Q → Ends procs n a (perform run s d op k) Q
@@ -234,11 +281,11 @@ module _ (procs : List Proc) (n : ℕ) where
     perform_ends s captured group depth d (Cast o number) a k Q l r bound few go =
         let w = operand_word s 0 in
         let room = r.room in
-        let cast = Number (cast_word (slice_get run.cast_at number)) in
-        fetch_ends procs n s captured group depth w o a (CallOf d run.cast (found s w o ∷ cast ∷ []) k) Q (omega arith)
+        let way = way_at (slice_get run.ways number) in
+        fetch_ends procs n s captured group depth w o a (make_cast run s d (found s w o) number way k) Q (omega arith)
         r bound
-        (λ b m q. serves b d run.cast 2 (found s w o ∷ cast ∷ []) k Q l (read_two procs n b (found s w o) cast q refl)
-        refl serve.cast (λ c m' h. go c (more_then a b c m m') h))
+        (λ b m q. cast_ends s d (found s w o) number way b k Q l (omega arith) q
+        (λ c m' h. go c (more_then a b c m m') h))
     perform_ends s captured group depth d (Tuple os) a k Q l r bound few go =
         let ss = found_all s 0 os in
         let parts = and_parts (operands_bound captured group depth os) (nat_le 1 (length os) && nat_le (length os) 8)

@@ -10,6 +10,7 @@ use Rattle.flat_ir.specs.Bodies.{Proc as FlatProc}
 use Rattle.flat_ir.specs.Closed.{is_closed as flat_is_closed}
 use Rattle.rt_cast.specs.Procs.{cast_procs}
 use Rattle.rt_refs.specs.RefProcs.{proxy_procs}
+use Rattle.lower.specs.declared.served.CastWay.{CastWay}
 use Rattle.lower.specs.declared.served.Served.{Served}
 use Rattle.lower.specs.Lowered.{low_proc, entry_proc, lowered}
 use Rattle.lower.specs.Serving.{all_have_words}
@@ -23,22 +24,22 @@ joined run flat entry answer set = append_assoc (map (low_proc run) flat) (entry
 
 -- the program of a scheme, told how it is come by
 module _ (numbers_from : ℕ → Served) (procs_from : ℕ → List Proc) (run given : Served) (words : List ℕ)
-    (flat : List FlatProc) (entry : ℕ) (told : TypeRow) (front more whole : List Proc) (first : ℕ)
-    (numbers : given ≡ numbers_from first) (procs : more ≡ procs_from first) (runs : run ≡ with_casts given words)
+    (ways : List CastWay) (flat : List FlatProc) (entry : ℕ) (told : TypeRow) (front more whole : List Proc) (first : ℕ)
+    (numbers : given ≡ numbers_from first) (procs : more ≡ procs_from first) (runs : run ≡ with_casts given words ways)
     (before : front ≡ lowered run flat entry told []) (all : whole ≡ front ++ more) where
-  comes_to : whole ≡ lowered (with_casts (numbers_from first) words) flat entry told (procs_from first)
+  comes_to : whole ≡ lowered (with_casts (numbers_from first) words ways) flat entry told (procs_from first)
   comes_to =
       all ∙ (ap (λ ps. ps ++ more) before ∙ (ap (λ ps. lowered run flat entry told [] ++ ps) procs
       ∙ (joined run flat entry told (procs_from first)
-      ∙ ap (λ r. lowered r flat entry told (procs_from first)) (runs ∙ ap (λ m. with_casts m words) numbers))))
+      ∙ ap (λ r. lowered r flat entry told (procs_from first)) (runs ∙ ap (λ m. with_casts m words ways) numbers))))
 
   pub program_is_lowered : (answer : TypeRow) (row : Option TypeRow) (count : ℕ) → row ≡ Some told
       → row ≡ Some answer → first ≡ suc count
-      → whole ≡ lowered (with_casts (numbers_from (suc count)) words) flat entry answer (procs_from (suc count))
+      → whole ≡ lowered (with_casts (numbers_from (suc count)) words ways) flat entry answer (procs_from (suc count))
   program_is_lowered answer row count h k at =
       let same : told ≡ answer = cc in
-      comes_to ∙ (ap (λ a. lowered (with_casts (numbers_from first) words) flat entry a (procs_from first)) same
-      ∙ ap (λ f. lowered (with_casts (numbers_from f) words) flat entry answer (procs_from f)) at)
+      comes_to ∙ (ap (λ a. lowered (with_casts (numbers_from first) words ways) flat entry a (procs_from first)) same
+      ∙ ap (λ f. lowered (with_casts (numbers_from f) words ways) flat entry answer (procs_from f)) at)
 
   pub program_is_closed : (count : ℕ) → ServesAnywhere (procs_from first) first (numbers_from first)
       → first ≡ suc (length flat) → count ≡ length flat → flat_is_closed flat entry ≡ true
@@ -46,7 +47,7 @@ module _ (numbers_from : ℕ → Served) (procs_from : ℕ → List Proc) (run g
   program_is_closed count serves at many h few =
       let anywhere = subst (λ f. ServesAnywhere (procs_from first) f (numbers_from first)) at serves in
       ap (λ c. is_closed whole c) many ∙ (ap (λ ps. is_closed ps (length flat)) comes_to
-      ∙ programs_with_sets_are_closed (procs_from first) (numbers_from first) words flat entry told anywhere h few)
+      ∙ programs_with_sets_are_closed (procs_from first) (numbers_from first) words ways flat entry told anywhere h few)
 
 pub merged_list : (first : ℕ) (start more others whole : List LowProc) → procs_of start ≡ cast_procs first
     → more ≡ others → procs_of others ≡ proxy_procs (27 + first) (2 + first)

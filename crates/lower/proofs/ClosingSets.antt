@@ -11,6 +11,7 @@ use Rattle.rt_cast.specs.Procs.{cast_proc, cast_procs}
 use Rattle.rt_cast.proofs.Public.{procedures_are_closed-closed as casts_are_closed}
 use Rattle.rt_refs.specs.RefProcs.{proxy_procs}
 use Rattle.rt_refs.proofs.Public.{procedures_are_closed-closed as proxies_are_closed}
+use Rattle.lower.specs.declared.served.CastWay.{CastWay}
 use Rattle.lower.specs.declared.served.Served.{Served}
 use Rattle.lower.specs.Lowered.{low_proc, entry_proc, lowered}
 use Rattle.lower.specs.Serving.{takes, Serve, all_have_words}
@@ -53,9 +54,9 @@ stand_behind run flat entry answer set k p e = go flat ∙ e
         let same : k + suc (suc (length ps)) ≡ suc (k + suc (length ps)) = omega arith in
         ap (slice_get (low_proc run q ∷ (map (low_proc run) ps ++ entry_proc entry answer ∷ set))) same ∙ go ps
 
-serve_with : (numbers : Served) (words : List ℕ) (procs : List Proc) → Serve numbers procs
-    → Serve (with_casts numbers words) procs
-serve_with numbers words procs s = record {
+serve_with : (numbers : Served) (words : List ℕ) (ways : List CastWay) (procs : List Proc) → Serve numbers procs
+    → Serve (with_casts numbers words ways) procs
+serve_with numbers words ways procs s = record {
   cast = s.cast;
   project = s.project;
   apply = s.apply;
@@ -66,16 +67,16 @@ serve_with numbers words procs s = record {
   divide = s.divide;
 }
 
-pub programs_with_sets_are_closed : (set : List Proc) (numbers : Served) (words : List ℕ) (flat : List FlatProc)
-    (entry : ℕ) (answer : TypeRow) → ServesAnywhere set (suc (length flat)) numbers
+pub programs_with_sets_are_closed : (set : List Proc) (numbers : Served) (words : List ℕ) (ways : List CastWay)
+    (flat : List FlatProc) (entry : ℕ) (answer : TypeRow) → ServesAnywhere set (suc (length flat)) numbers
     → flat_is_closed flat entry ≡ true → all_have_words flat ≡ true
-    → is_closed (lowered (with_casts numbers words) flat entry answer set) (length flat) ≡ true
-programs_with_sets_are_closed set numbers words flat entry answer serves h few =
-    let run = with_casts numbers words in
+    → is_closed (lowered (with_casts numbers words ways) flat entry answer set) (length flat) ≡ true
+programs_with_sets_are_closed set numbers words ways flat entry answer serves h few =
+    let run = with_casts numbers words ways in
     let procs = lowered run flat entry answer set in
     let stand = stand_behind run flat entry answer set in
     lowered_programs_are_closed run flat entry answer set h few
-    (serve_with numbers words procs (serves.serve procs stand)) (serves.closed procs stand)
+    (serve_with numbers words ways procs (serves.serve procs stand)) (serves.closed procs stand)
 
 -- ---- the merged scheme
 

@@ -49,6 +49,7 @@ served first = record {
   multiply = 6 + first;
   divide = 7 + first;
   cast_at = [];
+  ways = [];
 }
 
 -- they take as many words as they are handed, and none of these programs calls one

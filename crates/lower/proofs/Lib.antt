@@ -35,6 +35,7 @@ mod SimulationCalls
 mod SimulationServed
 mod SimulationOperators
 mod SimulationServices
+mod SimulationTags
 mod SimulationCasts
 mod SimulationServing
 mod SimulationParts
@@ -53,6 +54,7 @@ mod MergedStates
 mod MergedTurns
 mod MergedChains
 mod MergedCasts
+mod MergedTags
 mod MergedParts
 mod MergedFill
 mod MergedReads

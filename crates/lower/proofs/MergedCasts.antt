@@ -107,7 +107,7 @@ module _ (setting : Setting) (l : Layout) (procs : List Proc) (casts : List Type
   )
 
 -- the row of a number
-row_of : (types : Rattle.grift_base.specs.Types.TypeRows) (o : Option TypeCast) (c : Coercion)
+pub row_of : (types : Rattle.grift_base.specs.Types.TypeRows) (o : Option TypeCast) (c : Coercion)
     → option_map (λ cast. cast_of types cast.from cast.to cast.label) o ≡ Some c
     → (cast : TypeCast) × (o ≡ Some cast) × (c ≡ cast_of types cast.from cast.to cast.label)
 row_of types None c e = none_some e

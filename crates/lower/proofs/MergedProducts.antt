@@ -12,10 +12,11 @@ use Rattle.rt_refs.proofs.Public.{products_are_answered, quotients_are_answered,
 use Rattle.rt_refs.proofs.Public.{zero_divisors_trap}
 use Rattle.lower.specs.Serving.{all_narrow}
 use Rattle.lower.specs.Sets.{StandFrom, merged_numbers, merged_procs, with_casts}
+use Rattle.lower.specs.declared.served.CastWay.{CastWay}
 use Rattle.lower.specs.SimulationClaims.{AreNarrow}
 use Rattle.lower.specs.SimulationServices.{AnswerProducts}
 
-module _ (setting : Setting) (first : ℕ) (words : List ℕ)
+module _ (setting : Setting) (first : ℕ) (words : List ℕ) (ways : List CastWay)
     (stand : StandFrom setting.procs first (merged_procs first)) where
   product_there : slice_get setting.procs (32 + first) ≡ Some (product_loop (32 + first))
   product_there = stand 32 (product_loop (5 + (27 + first))) refl ∙ ap (λ n. Some (product_loop n)) (omega arith)
@@ -24,7 +25,7 @@ module _ (setting : Setting) (first : ℕ) (words : List ℕ)
   quotient_there =
       stand 33 (quotient_loop (suc (5 + (27 + first)))) refl ∙ ap (λ n. Some (quotient_loop n)) (omega arith)
 
-  pub merged_products : AnswerProducts setting (with_casts (merged_numbers first) words)
+  pub merged_products : AnswerProducts setting (with_casts (merged_numbers first) words ways)
   merged_products = record {
     multiply = multiply (32 + first);
     multiply_stands = record {

@@ -16,6 +16,7 @@ use Rattle.flat_ir.specs.Closed.{is_closed}
 use Rattle.flat_ir.specs.Counts.{flat_run_in}
 use Rattle.flat_ir.specs.Machine.{first_world}
 use Rattle.rt_cast.proofs.Public.{objects_fill_the_region}
+use Rattle.lower.specs.CastWays.{cast_ways}
 use Rattle.lower.specs.CoveredPrograms.{all_covered}
 use Rattle.lower.specs.Following.{ServesEverywhere}
 use Rattle.lower.specs.Lowered.{entry_proc}
@@ -26,6 +27,7 @@ use Rattle.lower.proofs.ClosingSets.{cast_stand, proxy_stand}
 use Rattle.lower.proofs.MergedCalls.{merged_calls_made}
 use Rattle.lower.proofs.MergedCells.{merged_cells_served}
 use Rattle.lower.proofs.MergedCasts.{merged_casts_made, merged_casts_have_words}
+use Rattle.lower.proofs.MergedTags.{merged_casts_in_place}
 use Rattle.lower.proofs.MergedLaws.{merged_laws}
 use Rattle.lower.proofs.MergedParts.{merged_parts_given}
 use Rattle.lower.proofs.MergedProducts.{merged_products}
@@ -33,13 +35,14 @@ use Rattle.lower.proofs.SimulationProgram.{words_follow_by}
 
 pub merged_procedures_serve : ServesEverywhere merged_meaning merged_procs merged_numbers
 merged_procedures_serve = λ setting l procs casts first words placed begins small types held stand.
-    let run_by = with_casts (merged_numbers first) words in
+    let run_by = with_casts (merged_numbers first) words (cast_ways l.types casts) in
     let ready = cast_stand setting.procs first stand in
     let proxies = proxy_stand setting.procs first stand in
     record {
-      products = merged_products setting first words stand;
+      products = merged_products setting first words (cast_ways l.types casts) stand;
       casting = merged_casts_made setting l procs casts words first run_by placed types held ready refl refl;
       words = merged_casts_have_words setting l procs casts words run_by held refl;
+      tagging = merged_casts_in_place setting l procs casts words run_by placed held refl;
       parts = merged_parts_given setting l procs casts first run_by placed types held.tallest ready refl;
       cells = merged_cells_served setting l procs casts words first run_by placed types held ready proxies begins small
           refl refl refl;
@@ -50,8 +53,8 @@ merged_procedures_serve = λ setting l procs casts first words placed begins sma
 
 module _ (setting : Setting) (l : Layout) (words : List ℕ) (procs : List Proc) (entry : ℕ) (answer : TypeRow)
     (memory : Memory) (told : Told) (casts : List TypeCast) (input : List ℕ)
-    (is : IsLowered setting l (with_casts (merged_numbers (suc (length procs))) words) procs entry answer
-    (merged_procs (suc (length procs))) memory) (small : setting.top < 2 ^ 34)
+    (is : IsLowered setting l (with_casts (merged_numbers (suc (length procs))) words (cast_ways l.types casts)) procs
+    entry answer (merged_procs (suc (length procs))) memory) (small : setting.top < 2 ^ 34)
     (labels : setting.labels ≡ told.labels) (row : row_at told.types told.answer ≡ Some answer)
     (types : told.types ≡ l.types) (typed : TypesStand l) (held : MergedCasts l casts words)
     (closed : is_closed procs entry ≡ true) (covered : all_covered procs ≡ true) (narrow : AreNarrow procs)

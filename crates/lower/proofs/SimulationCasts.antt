@@ -1,11 +1,17 @@
--- The turns of casts, which a procedure of the scheme makes.
-use Rattle.std.proofs.Common.{◌≡◌, inl, ℕ, ◌+◌, ◌^◌, ◌%◌, ◌<◌, ◌≤◌, List, [], ◌∷◌, Option, Some}
-use Rattle.std.proofs.Common.{refl, ap, arith, mod-eq_of_lt}
-use Rattle.std.specs.Prelude.{slice_get}
-use Rattle.low_ir.specs.declared.code.LowSource.TheVariants.{Number}
-use Rattle.low_ir.specs.Procedures.{Code, Call}
-use Rattle.low_ir.specs.Steps.{Locals}
-use Rattle.low_ir.specs.Run.{Waiting as LowWaiting, word_of, words_of}
+-- The turns of casts, which a procedure of the scheme makes, or code in place.
+use Rattle.std.proofs.Common.{◌≡◌, inl, inr, ℕ, ◌+◌, ◌^◌, ◌%◌, ◌<◌, ◌≤◌, Bool, true, false, List, [], ◌∷◌, Option, Some}
+use Rattle.std.proofs.Common.{None, refl, ap, ◌∙◌, arith, mod-eq_of_lt}
+use Rattle.std.specs.Prelude.{◌==◌, if◌then◌else◌, slice_get}
+use Rattle.rv_isa.specs.declared.inst.Cond.TheVariants.{Eq}
+use Rattle.object_layout.specs.DynWords.{is_narrow, tagged}
+use Rattle.low_ir.specs.Operations.{compute}
+use Rattle.low_ir.specs.declared.code.WordOp.{WordOp}
+use Rattle.low_ir.specs.declared.code.WordOp.TheVariants.{Add as Plus, And, Sll, Sra}
+use Rattle.low_ir.specs.declared.code.LowSource.{LowSource}
+use Rattle.low_ir.specs.declared.code.LowSource.TheVariants.{Word, Number}
+use Rattle.low_ir.specs.Procedures.{Code, Compute, Done, If}
+use Rattle.low_ir.specs.Steps.{Locals, set_local}
+use Rattle.low_ir.specs.Run.{Waiting as LowWaiting, LowState, word_of, words_of}
 use Rattle.coercion_norm.specs.ValueSteps.{on_some, decision_wraps}
 use Rattle.coercion_norm.specs.Held.{TypesStand}
 use Rattle.coercion_norm.specs.Objects.{Object}
@@ -13,25 +19,35 @@ use Rattle.flat_ir.specs.declared.code.Operand.{Operand}
 use Rattle.flat_ir.specs.declared.code.Operation.TheVariants.{Cast}
 use Rattle.flat_ir.specs.Bodies.{Give}
 use Rattle.flat_ir.specs.Counts.{decision_at}
-use Rattle.flat_ir.specs.Machine.{FlatAfter, FlatState, Group, value, flat_cast}
+use Rattle.flat_ir.specs.Machine.{FlatValue, FlatAfter, FlatState, Group, value, flat_cast}
 use Rattle.flat_ir.specs.Machine.{Locals as FlatLocals}
 use Rattle.lower.specs.declared.numbering.Shape.{Shape}
+use Rattle.lower.specs.declared.served.Tag.{Tag}
+use Rattle.lower.specs.declared.served.CastWay.{CastWay}
+use Rattle.lower.specs.declared.served.CastWay.TheVariants.{Called, IntoDyn, OutOfDyn}
 use Rattle.rt_cast.specs.States.{Heap, entered}
 use Rattle.lower.specs.Storage.{Filled}
-use Rattle.lower.specs.Numbering.{operand_word}
-use Rattle.lower.specs.Emit.{Then, perform, found, cast_word}
+use Rattle.lower.specs.Numbering.{operand_word, test_word}
+use Rattle.lower.specs.CastWays.{tag_number, way_at, in_place}
+use Rattle.lower.specs.Emit.{Then, perform, found, cast_word, call_cast, make_cast}
 use Rattle.lower.specs.CarriedValues.{CellsHeld}
-use Rattle.lower.specs.RelatedStates.{Fits}
+use Rattle.lower.specs.RelatedStates.{Fits, Falls}
+use Rattle.lower.proofs.CarriedLater.{carried_small}
+use Rattle.lower.proofs.RelationKept.{word_here, word_other}
+use Rattle.lower.proofs.WordArithmetic.{tag_small, tag_few, tag_added, tag_test, narrow_test}
 use Rattle.lower.proofs.WordScene.{Scene}
-use Rattle.lower.proofs.WordSteps.{at, Comes, Moves, here, moves_later}
-use Rattle.lower.proofs.WordOperands.{fetch_reads, value_carried, Changes, both_words}
-use Rattle.lower.proofs.WordOperations.{Touches, not_computed}
+use Rattle.lower.proofs.WordSteps.{at, Comes, Moves, Calm, here, moves_later, comes_on, computes, computes_first}
+use Rattle.lower.proofs.WordSteps.{if_true, if_false}
+use Rattle.lower.proofs.WordOperands.{fetch_reads, value_carried, Changes, ChangesFrom, both_words, found_same}
+use Rattle.lower.proofs.WordOperands.{same_besides}
+use Rattle.lower.proofs.WordOperations.{Touches, beside, not_computed}
 use Rattle.lower.proofs.SimulationWay.{Program, mode_of, next_state}
 use Rattle.lower.proofs.SimulationGives.{RestHere, word_for, code_for}
 use Rattle.lower.proofs.SimulationOperations.{room, word_less}
 use Rattle.lower.proofs.SimulationServed.{OnServed, silent_after}
 use Rattle.lower.specs.SchemeLaws.{Goes, Returns}
 use Rattle.lower.proofs.SimulationServices.{Landed, Served, called, caller}
+use Rattle.lower.proofs.SimulationTags.{put_in_place}
 use Rattle.lower.proofs.WordScene.{Carries}
 
 -- what lemmas on code are told, where a procedure serves for a turn that came to x
@@ -66,6 +82,21 @@ module _ (program : Program) (typed : TypesStand program.l)
     (fits : Fits program.setting program.l program.run program.procs program.answer program.meaning places objects s
     count size group depth locals words (Give (Cast o number)))
     (rest : RestHere program places objects waiting s count size group depth f.frames next rests words) where
+  abbrev d : ℕ
+  d = word_for program places objects s next
+
+  abbrev k : Code
+  k = code_for program places objects s next
+
+  abbrev a : LowSource
+  a = found s (operand_word s 0) o
+
+  abbrev v : FlatValue program.meaning.Cast
+  v = value locals group o
+
+  abbrev way : CastWay
+  way = way_at (slice_get program.run.ways number)
+
   abbrev code : Code
   code = perform program.run s (word_for program places objects s next) (Cast o number)
       (code_for program places objects s next)
@@ -82,90 +113,193 @@ module _ (program : Program) (typed : TypesStand program.l)
   less = word_less program typed f places objects h filled cells waiting size rests words s count depth group locals
       (Cast o number) next fits rest
 
-  -- where there is such a row, the procedure makes its cast
-  pub cast_served : (c : program.meaning.Cast) → (mode_of program).row number ≡ Some c
-      → Served program typed f (casts_to (Some c))
-      (decision_wraps (decision_at program.procs (mode_of program) (Some c) (value locals group o)))
-      (at f.world h waiting size rests words (perform program.run s (word_for program places objects s next)
-      (Cast o number) (code_for program places objects s next)))
-  cast_served c e = (silent, moves)
-    where
-      wc : ℕ
-      wc = cast_word (slice_get program.run.cast_at number)
+  -- where there is such a row, its cast is made
+  module _ (c : program.meaning.Cast) (e : (mode_of program).row number ≡ Some c) where
+    abbrev x : FlatAfter program.meaning.Cast
+    x = casts_to (Some c)
 
-      w : ℕ
-      w = decision_wraps (decision_at program.procs (mode_of program) (Some c) (value locals group o))
+    abbrev w : ℕ
+    w = decision_wraps (decision_at program.procs (mode_of program) (Some c) (value locals group o))
 
-      d : ℕ
-      d = word_for program places objects s next
+    abbrev scene : Scene
+    scene = serving_scene program typed f places (casts_to (Some c)) w
 
-      second : Some (wc % 2 ^ 64) ≡ Some wc
-      second = ap Some (mod-eq_of_lt (program.words number c e))
+    abbrev P : LowState → Type 0
+    P = OnServed program f.world.output program.number (program.number + w)
 
-      touched : (new : Locals) → Changes (operand_word s 0) words new
-          → Touches s (word_for program places objects s next) words new
-      touched new changed j ne side =
-          changed j (not_computed s (operand_word s 0) j (omega arith) (omega arith) side)
+    abbrev Q : LowState → Type 0
+    Q = Landed program typed f (next_state program f (casts_to (Some c))) (program.number + w)
 
-      one : (v : ℕ) (new : Locals) → word_of new (found s (operand_word s 0) o) ≡ Some v
-          → words_of new (found s (operand_word s 0) o ∷ Number wc ∷ []) ≡ Some (v ∷ wc ∷ [])
-      one v new is =
-          both_words (word_of new (found s (operand_word s 0) o)) (words_of new (Number wc ∷ [])) v (wc ∷ []) is
-          (both_words (Some (wc % 2 ^ 64)) (Some []) wc [] second refl)
+    calm : Calm program.setting P Q f.world h
+    calm active waiting = record { same = refl; filling = inl (objects, filled) }
 
-      goes_by : (v : ℕ) (new : Locals)
-          → (carried : (Carries
-          (serving_scene program typed f places (casts_to (Some c)) w) objects (value locals group o) v))
-          → word_of new (found s (operand_word s 0) o) ≡ Some v → Changes (operand_word s 0) words new
-          → Served program typed f (casts_to (Some c)) w
-          (at f.world h waiting size rests new (Call (word_for program places objects s next) program.run.cast
-          (found s (operand_word s 0) o ∷ Number (cast_word (slice_get program.run.cast_at number)) ∷ [])
-          (code_for program places objects s next)))
-      goes_by v new carried is changed =
-          let here_now = caller program typed f places objects h filled cells
-          waiting size rests words s count depth group next rest less 0 (code_for program places objects s next) rests
-          (refl, refl) new (touched new changed) in
+    -- by the procedure
+    module _ (falls : ℕ) (behind : Code) (rr : List Code) (fall : Falls falls behind rr k rests) (y : ℕ) (new : Locals)
+        (carried : Carries scene objects v y) (is : word_of new a ≡ Some y)
+        (touched : Touches s (word_for program places objects s next) words new) where
+      calls : Moves program.setting P Q (at f.world h waiting size rr new (call_cast program.run d a number behind))
+      calls =
+          let wc = cast_word (slice_get program.run.cast_at number) in
+          let second : Some (wc % 2 ^ 64) ≡ Some wc = ap Some (mod-eq_of_lt (program.words number c e)) in
+          let handed = both_words (word_of new a) (words_of new (Number wc ∷ [])) y (wc ∷ []) is
+          (both_words (Some (wc % 2 ^ 64)) (Some []) wc [] second refl) in
+          let here_now = caller program typed f places objects h filled cells waiting size rests words s count depth
+          group next rest less falls behind rr fall new touched in
           let z = program.casting.makes here_now program.number places objects f.store
-          (record { filled = filled; cells = cells }) f.frames number c e (value locals group o) v carried in
-          called program typed f places objects h filled cells waiting size rests words s count depth group next rest
-          less 0 (code_for program places objects s next) rests (refl, refl) new (touched new changed)
-          (casts_to (Some c)) w program.run.cast
-          (found s (operand_word s 0) o ∷ Number (cast_word (slice_get program.run.cast_at number)) ∷ [])
-          (v ∷ wc ∷ []) program.casting.proc 2 (one v new is) program.casting.stands refl z.0 z.1.0 z.1.1
+          (record { filled = filled; cells = cells }) f.frames number c e v y carried in
+          (called program typed f places objects h filled cells waiting size rests words s count depth group next rest
+          less falls behind rr fall new touched (casts_to (Some c)) w program.run.cast (a ∷ Number wc ∷ [])
+          (y ∷ wc ∷ []) program.casting.proc 2 handed program.casting.stands refl z.0 z.1.0 z.1.1).1
 
-      come : Comes program.setting (OnServed program f.world.output program.number (program.number + w))
-          (Moves program.setting (OnServed program f.world.output program.number (program.number + w))
-          (Landed program typed f (next_state program f (casts_to (Some c))) (program.number + w)))
-          (at f.world h waiting size rests words code)
-      come = fetch_reads (serving_scene program typed f places (casts_to (Some c)) w) f.world refl h objects filled
-          waiting size rests s count group depth locals o (operand_word s 0) fits.bound (omega (arith, wide)) words
-          fits.knows
-          (Call d program.run.cast
-          (found s (operand_word s 0) o ∷ Number (cast_word (slice_get program.run.cast_at number)) ∷ [])
-          (code_for program places objects s next))
-          (λ v new carried is changed.
-          here program.setting (OnServed program f.world.output program.number (program.number + w))
-          (Moves program.setting (OnServed program f.world.output program.number (program.number + w))
-          (Landed program typed f (next_state program f (casts_to (Some c))) (program.number + w)))
-          (at f.world h waiting size rests new (Call d program.run.cast
-          (found s (operand_word s 0) o ∷ Number (cast_word (slice_get program.run.cast_at number)) ∷ [])
-          (code_for program places objects s next))) (goes_by v new carried is changed).1)
+    -- the word of the operand is there
+    module _ (y : ℕ) (new : Locals) (carried : Carries scene objects v y) (is : word_of new a ≡ Some y)
+        (changed : Changes (operand_word s 0) words new) where
+      touched : Touches s (word_for program places objects s next) words new
+      touched j ne side = changed j (not_computed s (operand_word s 0) j (omega arith) (omega arith) side)
 
-      moves : Moves program.setting (OnServed program f.world.output program.number (program.number + w))
-          (Landed program typed f (next_state program f (casts_to (Some c))) (program.number + w))
-          (at f.world h waiting size rests words code)
-      moves = moves_later program.setting (OnServed program f.world.output program.number (program.number + w))
-          (Landed program typed f (next_state program f (casts_to (Some c))) (program.number + w)) come.steps
-          (at f.world h waiting size rests words code) come.reach
+      small : y < 2 ^ 64
+      small = carried_small program.l program.setting.address program.procs program.meaning program.laws places objects
+          program.setting program.placed h filled v y carried
 
-      silent : (next_state program f (casts_to (Some c))).world.output ≡ f.world.output
-      silent =
-          let t = at f.world h waiting size rests words code in
-          let v = value_carried (serving_scene program typed f places (casts_to (Some c)) w) f.world refl h objects
-          filled waiting size rests s count group depth locals o fits.bound words fits.knows in
-          let z = program.casting.makes t program.number places objects f.store
-          (record { filled = filled; cells = cells }) f.frames number c e (value locals group o) v.0 v.1 in
-          silent_after program t z.0 (Goes program.meaning program.setting program.l program.procs program.casts t z.0
-          (Returns program.meaning program.setting program.l program.procs program.casts t places objects f.frames)
-          z.1.0) f refl (casts_to (Some c)) program.number w
-          (entered t program.casting.proc (v.0 ∷ cast_word (slice_get program.run.cast_at number) ∷ [])) z.1.1
+      -- words to compute in behind it may change
+      module _ (last : Locals) (more : ChangesFrom (operand_word s 1) 8 new last) where
+        stays : word_of last a ≡ Some y
+        stays =
+            found_same scene f.world refl h objects filled waiting size rests s count group depth locals o
+            (operand_word s 0) fits.bound new last
+            (same_besides s depth (operand_word s 1) 8 new last (omega arith) (omega arith) more)
+            (more (operand_word s 0) (inl (omega arith))) ∙ is
+
+        touches : Touches s (word_for program places objects s next) words last
+        touches j ne side =
+            more j (beside s (operand_word s 1) 8 j (omega arith) (omega arith) side) ∙ touched j ne side
+
+        other : Comes program.setting P Q
+            (at f.world h waiting size (k ∷ rests) last (call_cast program.run d a number Done))
+        other =
+            comes_on program.setting P Q
+            (calls 1 Done (k ∷ rests) (refl, (refl, refl)) y last carried stays touches)
+
+        -- in place
+        one : (op : WordOp) (b b' : LowSource) (m n word : ℕ) → word_of last b ≡ Some m → word_of last b' ≡ Some n
+            → compute op m n ≡ word → in_place way y ≡ Some word
+            → Comes program.setting P Q (at f.world h waiting size (k ∷ rests) last (Compute op d b b' Done))
+        one op b b' m n word first second made law =
+            let z = program.tagging (at f.world h waiting size (k ∷ rests) last (Compute op d b b' Done))
+            program.number places objects f.store (record { filled = filled; cells = cells }) f.frames number c e v y
+            carried word law in
+            put_in_place program typed f places objects h filled waiting size rests words s count depth group next rest
+            less op b b' last touches m n word first second made (casts_to (Some c)) w z.0 z.1
+
+      into_dyn : (tag : Tag) → way ≡ IntoDyn tag
+          → Moves program.setting P Q
+          (at f.world h waiting size rests new (make_cast program.run s d a number (IntoDyn tag) k))
+      into_dyn tag is_so =
+          computes_first program.setting P Q calm y 3 up is refl refl (omega (arith, wide))
+          (computes program.setting P Q calm up 3 back (word_here t up new) refl refl (omega (arith, wide))
+          (by_width (is_narrow y) refl))
+        where
+          t : ℕ
+          t = test_word s
+
+          u : ℕ
+          u = operand_word s 1
+
+          up : ℕ
+          up = compute Sll y 3
+
+          back : ℕ
+          back = compute Sra (compute Sll y 3) 3
+
+          first : Locals
+          first = set_local (test_word s) (compute Sll y 3) new
+
+          second : Locals
+          second = set_local (operand_word s 1) (compute Sra (compute Sll y 3) 3) first
+
+          more : ChangesFrom (operand_word s 1) 8 new second
+          more j (inl p) =
+              word_other (operand_word s 1) back first j (λ z. omega (arith, z, p))
+              ∙ word_other (test_word s) up new j (λ z. omega (arith, z, p))
+          more j (inr p) =
+              word_other (operand_word s 1) back first j (λ z. omega (arith, z, p))
+              ∙ word_other (test_word s) up new j (λ z. omega (arith, z, p))
+
+          shifted : second (test_word s) ≡ Some (compute Sll y 3)
+          shifted = word_other (operand_word s 1) back first (test_word s) (λ z. omega (arith, z)) ∙ word_here t up new
+
+          by_width : (b : Bool) → is_narrow y ≡ b → Comes program.setting P Q (at f.world h waiting size rests second
+              (If Eq (Word (operand_word s 1)) a (Compute Plus d (Word (test_word s)) (Number (tag_number tag)) Done)
+              (call_cast program.run d a number Done) k))
+          by_width true q =
+              if_true program.setting P Q calm back y (word_here u back first) (stays second more)
+              (narrow_test y small ∙ q)
+              (one second more Plus (Word t) (Number (tag_number tag)) up (tag_number tag) (tagged (tag_number tag) y)
+              shifted (ap Some (tag_small tag)) (tag_added y (tag_number tag) (tag_few tag))
+              (ap (λ z. in_place z y) is_so ∙ ap (λ b. if b then Some (tagged (tag_number tag) y) else None) q))
+          by_width false q =
+              if_false program.setting P Q calm back y (word_here u back first) (stays second more)
+              (narrow_test y small ∙ q) (other second more)
+
+      out_of_dyn : (tag : Tag) → way ≡ OutOfDyn tag
+          → Moves program.setting P Q
+          (at f.world h waiting size rests new (make_cast program.run s d a number (OutOfDyn tag) k))
+      out_of_dyn tag is_so =
+          computes_first program.setting P Q calm y 7 bits is refl refl (omega (arith, wide))
+          (by_tag (y % 8 == tag_number tag) refl)
+        where
+          bits : ℕ
+          bits = compute And y 7
+
+          last : Locals
+          last = set_local (test_word s) (compute And y 7) new
+
+          more : ChangesFrom (operand_word s 1) 8 new last
+          more j (inl p) = word_other (test_word s) bits new j (λ z. omega (arith, z, p))
+          more j (inr p) = word_other (test_word s) bits new j (λ z. omega (arith, z, p))
+
+          by_tag : (b : Bool) → (y % 8 == tag_number tag) ≡ b → Comes program.setting P Q
+              (at f.world h waiting size rests last (If Eq (Word (test_word s)) (Number (tag_number tag))
+              (Compute Sra d a (Number 3) Done) (call_cast program.run d a number Done) k))
+          by_tag true q =
+              if_true program.setting P Q calm bits (tag_number tag % 2 ^ 64) (word_here (test_word s) bits new) refl
+              (tag_test y tag ∙ q)
+              (one last more Sra a (Number 3) y 3 (compute Sra y 3) (stays last more) refl refl
+              (ap (λ z. in_place z y) is_so ∙ ap (λ b. if b then Some (compute Sra y 3) else None) q))
+          by_tag false q =
+              if_false program.setting P Q calm bits (tag_number tag % 2 ^ 64) (word_here (test_word s) bits new) refl
+              (tag_test y tag ∙ q) (other last more)
+
+      by_way : (z : CastWay) → way ≡ z
+          → Moves program.setting P Q (at f.world h waiting size rests new (make_cast program.run s d a number z k))
+      by_way Called q = calls 0 k rests (refl, refl) y new carried is touched
+      by_way (IntoDyn tag) q = into_dyn tag q
+      by_way (OutOfDyn tag) q = out_of_dyn tag q
+
+    moves : Moves program.setting P Q (at f.world h waiting size rests words code)
+    moves =
+        let come = fetch_reads scene f.world refl h objects filled waiting size rests s count group depth locals o
+        (operand_word s 0) fits.bound (omega (arith, wide)) words fits.knows (make_cast program.run s d a number way k)
+        (λ y new carried is changed.
+        here program.setting P (Moves program.setting P Q)
+        (at f.world h waiting size rests new (make_cast program.run s d a number way k))
+        (by_way y new carried is changed way refl)) in
+        moves_later program.setting P Q come.steps (at f.world h waiting size rests words code) come.reach
+
+    silent : (next_state program f (casts_to (Some c))).world.output ≡ f.world.output
+    silent =
+        let t = at f.world h waiting size rests words code in
+        let y = value_carried scene f.world refl h objects filled waiting size rests s count group depth locals o
+        fits.bound words fits.knows in
+        let z = program.casting.makes t program.number places objects f.store
+        (record { filled = filled; cells = cells }) f.frames number c e v y.0 y.1 in
+        silent_after program t z.0 (Goes program.meaning program.setting program.l program.procs program.casts t z.0
+        (Returns program.meaning program.setting program.l program.procs program.casts t places objects f.frames)
+        z.1.0) f refl (casts_to (Some c)) program.number w
+        (entered t program.casting.proc (y.0 ∷ cast_word (slice_get program.run.cast_at number) ∷ [])) z.1.1
+
+    pub cast_served : Served program typed f (casts_to (Some c))
+        (decision_wraps (decision_at program.procs (mode_of program) (Some c) (value locals group o)))
+        (at f.world h waiting size rests words (perform program.run s (word_for program places objects s next)
+        (Cast o number) (code_for program places objects s next)))
+    cast_served = (silent, moves)

@@ -17,6 +17,7 @@ use Rattle.flat_ir.specs.Machine.{first_world}
 use Rattle.coercion_norm.specs.Held.{Layout, TypesStand}
 use Rattle.lower.specs.declared.served.Served.{Served}
 use Rattle.lower.specs.Lowered.{low_proc, entry_proc}
+use Rattle.lower.specs.CastWays.{cast_ways}
 use Rattle.lower.specs.CoveredPrograms.{all_covered}
 use Rattle.lower.specs.Meanings.{Meaning, MeaningLaws}
 use Rattle.lower.specs.Storage.{Passes}
@@ -72,6 +73,7 @@ module _ (meaning : Meaning) (laws : MeaningLaws meaning) (setting : Setting) (l
     products = does.products;
     casting = does.casting;
     words = does.words;
+    tagging = does.tagging;
     parts = does.parts;
     cells = does.cells;
     calling = does.calling;
@@ -92,7 +94,7 @@ pub words_follow_by : (meaning : Meaning) → MeaningLaws meaning → (procs_fro
 words_follow_by meaning laws procs_from numbers_from serves = λ setting l words procs entry answer memory told casts
     input is small labels row types typed held closed covered narrow never.
     let first = suc (length procs) in
-    let run_by = with_casts (numbers_from first) words in
+    let run_by = with_casts (numbers_from first) words (cast_ways l.types casts) in
     let stand : StandFrom setting.procs first (procs_from first) =
     subst (λ ps. StandFrom ps first (procs_from first)) (sym is.procs_are)
     (stand_behind run_by procs entry answer (procs_from first)) in

@@ -48,6 +48,31 @@ module _ (program : Program) (typed : TypesStand program.l) (f : FlatState progr
       × Moves program.setting (OnServed program f.world.output program.number (program.number + w))
       (Landed (next_state program f x) (program.number + w)) t
 
+  landed : (f' : FlatState program.meaning.Cast) (n i : ℕ) (t : LowState) → Waits program 0 i f' n t → Landed f' n t
+  landed f' n zero t w = inl w
+  landed f' n (suc i) t w = inr (0, i, w)
+
+  -- so much is left of the turns
+  abbrev pub Left : FlatAfter program.meaning.Cast → ℕ → ℕ → LowState → Type 0
+  Left x w i t =
+      Next program (Waits program 0 i) 0 (i ≡ 0) f.world.output (next_state program f x) program.number
+      (program.number + w) t
+
+  pub landing : (x : FlatAfter program.meaning.Cast) (w i : ℕ) (t : LowState) → Left x w i t
+      → Comes program.setting (OnServed program f.world.output program.number (program.number + w))
+      (Landed (next_state program f x) (program.number + w)) t
+  landing x w i t (inl o) =
+      here program.setting (OnServed program f.world.output program.number (program.number + w))
+      (Landed (next_state program f x) (program.number + w)) t (inl (inr o))
+  landing x w i t (inr r) = record {
+    steps = r.0;
+    reach = reaches_weaken (N program) (OnServed program f.world.output program.number (program.number + w))
+        (Waits program 0 i (next_state program f x) (program.number + w))
+        (OnServed program f.world.output program.number (program.number + w))
+        (Landed (next_state program f x) (program.number + w)) (λ u z. z)
+        (λ u z. landed (next_state program f x) (program.number + w) i u z) r.0 t r.2;
+  }
+
   module _ (places : List ℕ) (objects : List Object) (h : Heap)
       (filled : Filled program.meaning program.setting program.l program.number objects h)
       (cells : CellsHeld program.l program.setting.address program.procs program.meaning places objects h.memory places
@@ -151,10 +176,6 @@ module _ (program : Program) (typed : TypesStand program.l) (f : FlatState progr
       lands (Own place) frames store n t q = absurd q
       lands (Entering g done todo) frames store n t q = absurd q
 
-      landed : (f' : FlatState program.meaning.Cast) (n i : ℕ) (t : LowState) → Waits program 0 i f' n t → Landed f' n t
-      landed f' n zero t w = inl w
-      landed f' n (suc i) t w = inr (0, i, w)
-
       pub called : (x : FlatAfter program.meaning.Cast) (w number : ℕ) (args : List LowSource) (ws : List ℕ)
           (proc : LowProc) (params : ℕ) → words_of new args ≡ Some ws → StandsAs program.setting number proc params
           → length ws ≡ params → (most : Spent) (i : ℕ)
@@ -164,7 +185,7 @@ module _ (program : Program) (typed : TypesStand program.l) (f : FlatState progr
           i) x program.number w (entered caller proc ws)
           → Served x w (at f.world h waiting size rr new (Call d number args kk))
       called x w number args ws proc params are stands long most i a =
-          (q.0, by_next q.1)
+          (q.0, moved program.setting P Q t te step on (landing x w i te q.1))
         where
           t : LowState
           t = at f.world h waiting size rr new (Call d number args kk)
@@ -188,9 +209,7 @@ module _ (program : Program) (typed : TypesStand program.l) (f : FlatState progr
             asked = omega arith;
           }
 
-          q : ((next_state program f x).world.output ≡ f.world.output)
-              × Next program (Waits program 0 i) 0 (i ≡ 0) f.world.output (next_state program f x) program.number
-              (program.number + w) (entered caller proc ws)
+          q : ((next_state program f x).world.output ≡ f.world.output) × Left x w i (entered caller proc ws)
           q = served_on program caller most 0
               (Returns program.meaning program.setting program.l program.procs program.casts caller places objects
               f.frames) (λ focus frames store n u q. lands_by program f.world.output n 0
@@ -206,18 +225,3 @@ module _ (program : Program) (typed : TypesStand program.l) (f : FlatState progr
 
           on : P (at f.world h waiting size rr new (Call d number args kk))
           on = record { same = refl; filling = inl (objects, filled) }
-
-          by_next : Next program (Waits program 0 i) 0 (i ≡ 0) f.world.output (next_state program f x) program.number
-              (program.number + w) (entered caller proc ws)
-              → Moves program.setting (OnServed program f.world.output program.number (program.number + w))
-              (Landed (next_state program f x) (program.number + w))
-              (at f.world h waiting size rr new (Call d number args kk))
-          by_next (inl o) =
-              moved program.setting P Q t te step on (here program.setting P Q te (inl (inr o)))
-          by_next (inr r) =
-              moved program.setting P Q t te step on (record {
-                steps = r.0;
-                reach = reaches_weaken (N program) P (Waits program 0 i (next_state program f x) (program.number + w)) P
-                    Q
-                    (λ u z. z) (λ u z. landed (next_state program f x) (program.number + w) i u z) r.0 te r.2;
-              })

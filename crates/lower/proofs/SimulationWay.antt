@@ -25,7 +25,8 @@ use Rattle.lower.specs.Lowered.{low_proc}
 use Rattle.lower.specs.CoveredPrograms.{all_covered}
 use Rattle.lower.specs.RelatedStates.{Related}
 use Rattle.lower.specs.SimulationServices.{AnswerProducts}
-use Rattle.lower.specs.SchemeLaws.{CastsMade, CastsHaveWords, PartsGiven, CellsServed, CallsMade}
+use Rattle.lower.specs.SchemeLaws.{CastsMade, CastsHaveWords, CastsInPlace, PartsGiven}
+use Rattle.lower.specs.SchemeLaws.{CellsServed, CallsMade}
 use Rattle.lower.specs.SimulationClaims.{AreNarrow, AreCodeAddresses}
 use Rattle.lower.proofs.WordSteps.{Comes}
 use Rattle.lower.proofs.WordScene.{Scene}
@@ -87,6 +88,7 @@ pub record Program : Type 1 where
   pub products : AnswerProducts setting run
   pub casting : CastsMade meaning setting l procs casts run
   pub words : CastsHaveWords meaning setting l procs casts run
+  pub tagging : CastsInPlace meaning setting l procs casts run
   pub parts : PartsGiven meaning setting l procs casts run
   pub cells : CellsServed meaning setting l procs casts run
   pub calling : CallsMade meaning setting l procs casts run

@@ -8,7 +8,7 @@ use Rattle.grift_base.specs.declared.operators.PrimOp.TheVariants.{Gt, Not, Prin
 use Rattle.grift_base.specs.declared.operators.PrimOp.TheVariants.{Unbox, BoxSet, MakeVector, VectorRef, VectorSet}
 use Rattle.grift_base.specs.declared.operators.PrimOp.TheVariants.{VectorLength}
 use Rattle.rv_isa.specs.declared.inst.Cond.TheVariants.{Eq, Ne}
-use Rattle.low_ir.specs.declared.code.WordOp.TheVariants.{Add as Plus, Sub as Minus, And, Xor, Slt, Sltu}
+use Rattle.low_ir.specs.declared.code.WordOp.TheVariants.{Add as Plus, Sub as Minus, And, Xor, Sll, Sra, Slt, Sltu}
 use Rattle.low_ir.specs.declared.code.LowSource.{LowSource}
 use Rattle.low_ir.specs.declared.code.LowSource.TheVariants.{Word, Number}
 use Rattle.low_ir.specs.Procedures.{Code, Done, Set, Compute, Load, Store, CodeOf, Build, Request, Take, Environment}
@@ -20,7 +20,10 @@ use Rattle.flat_ir.specs.declared.code.Operation.{Operation}
 use Rattle.flat_ir.specs.declared.code.Operation.TheVariants.{Move, Prim, Cast, Tuple, Proj, ProjDyn}
 use Rattle.flat_ir.specs.Bodies.{Body, Give, Call, Choose, LetBody, LetGroup}
 use Rattle.lower.specs.declared.numbering.Shape.{Shape}
+use Rattle.lower.specs.declared.served.CastWay.{CastWay}
+use Rattle.lower.specs.declared.served.CastWay.TheVariants.{Called, IntoDyn, OutOfDyn}
 use Rattle.lower.specs.declared.served.Served.{Served}
+use Rattle.lower.specs.CastWays.{tag_number, way_at}
 use Rattle.lower.specs.Numbering.{own_word, operand_word, test_word, local_word, function_offset}
 use Rattle.lower.specs.Numbering.{captured_offset}
 
@@ -151,6 +154,26 @@ module _ (run : Served) where
   part s d a (negsuc i) k =
       CallOf d run.project (a ∷ Number (cast_unsigned w64 (negsuc i)) ∷ Number 1 ∷ Number 0 ∷ []) k
 
+  -- a cast of what a source is, by the procedure
+  abbrev pub call_cast : ℕ → LowSource → ℕ → Code → Code
+  call_cast d a number k = CallOf d run.cast (a ∷ Number (cast_word (slice_get run.cast_at number)) ∷ []) k
+
+  -- in place: a word goes behind a tag where its three upper bits tell no more than its sign, and is taken from behind
+  -- a tag where it has this one; each other word is handed to the procedure
+  abbrev pub make_cast : Shape → ℕ → LowSource → ℕ → CastWay → Code → Code
+  make_cast s d a number Called k = call_cast d a number k
+  make_cast s d a number (IntoDyn tag) k =
+      Compute Sll (test_word s) a (Number 3) (
+      Compute Sra (operand_word s 1) (Word (test_word s)) (Number 3) (
+      If Eq (Word (operand_word s 1)) a
+      (Compute Plus d (Word (test_word s)) (Number (tag_number tag)) Done)
+      (call_cast d a number Done) k))
+  make_cast s d a number (OutOfDyn tag) k =
+      Compute And (test_word s) a (Number 7) (
+      If Eq (Word (test_word s)) (Number (tag_number tag))
+      (Compute Sra d a (Number 3) Done)
+      (call_cast d a number Done) k)
+
   -- the value of an operation is put into a word
   abbrev pub perform : Shape → ℕ → Operation → Code → Code
   perform s d (Move o) k = fetch s (operand_word s 0) o (Set d (found s (operand_word s 0) o) k)
@@ -159,8 +182,7 @@ module _ (run : Served) where
       fetch_all s 0 os (operator s d op (source_at found 0) (source_at found 1) (source_at found 2) k)
   perform s d (Cast o number) k =
       fetch s (operand_word s 0) o (
-      CallOf d run.cast
-      (found s (operand_word s 0) o ∷ Number (cast_word (slice_get run.cast_at number)) ∷ []) k)
+      make_cast s d (found s (operand_word s 0) o) number (way_at (slice_get run.ways number)) k)
   perform s d (Tuple os) k = fetch_all s 0 os (Build d (Number (header 4 (length os)) ∷ found_all s 0 os) k)
   perform s d (Proj o i) k = fetch s (operand_word s 0) o (part s d (found s (operand_word s 0) o) i k)
   perform s d (ProjDyn o i label) k =

@@ -16,11 +16,13 @@ use Rattle.flat_ir.specs.Counts.{flat_run_in}
 use Rattle.flat_ir.specs.Machine.{first_world}
 use Rattle.rt_cast.specs.States.{Placed}
 use Rattle.lower.specs.declared.served.Served.{Served}
+use Rattle.lower.specs.CastWays.{cast_ways}
 use Rattle.lower.specs.CoveredPrograms.{all_covered}
 use Rattle.lower.specs.Lowered.{entry_proc}
 use Rattle.lower.specs.Meanings.{Meaning}
 use Rattle.lower.specs.Storage.{Passes}
-use Rattle.lower.specs.SchemeLaws.{CastsMade, CastsHaveWords, PartsGiven, CellsServed, CallsMade}
+use Rattle.lower.specs.SchemeLaws.{CastsMade, CastsHaveWords, CastsInPlace, PartsGiven}
+use Rattle.lower.specs.SchemeLaws.{CellsServed, CallsMade}
 use Rattle.lower.specs.Sets.{StandFrom, with_casts}
 use Rattle.lower.specs.SimulationClaims.{AreNarrow, IsLowered}
 use Rattle.lower.specs.SimulationServices.{AnswerProducts}
@@ -31,6 +33,7 @@ pub record Serving (meaning : Meaning) (setting : Setting) (l : Layout) (procs :
   pub products : AnswerProducts setting run_by
   pub casting : CastsMade meaning setting l procs casts run_by
   pub words : CastsHaveWords meaning setting l procs casts run_by
+  pub tagging : CastsInPlace meaning setting l procs casts run_by
   pub parts : PartsGiven meaning setting l procs casts run_by
   pub cells : CellsServed meaning setting l procs casts run_by
   pub calling : CallsMade meaning setting l procs casts run_by
@@ -42,7 +45,7 @@ ServesEverywhere meaning procs_from numbers_from =
     (setting : Setting) (l : Layout) (procs : List Proc) (casts : List TypeCast) (first : ℕ) (words : List ℕ)
     → Placed setting l → l.region ≡ setting.region → setting.top < 2 ^ 34 → TypesStand l
     → meaning.CastWords l casts words → StandFrom setting.procs first (procs_from first)
-    → Serving meaning setting l procs casts (with_casts (numbers_from first) words)
+    → Serving meaning setting l procs casts (with_casts (numbers_from first) words (cast_ways l.types casts))
 
 -- The run over words of a lowered program, with the procedures of a scheme behind it, follows the run of its procedures
 -- in the mode of the scheme, for every input, where that never goes wrong; and at each moment the scheme's test holds
@@ -51,8 +54,9 @@ abbrev pub WordsFollow : Meaning → (ℕ → List LowProc) → (ℕ → Served)
 WordsFollow meaning procs_from numbers_from =
     (setting : Setting) (l : Layout) (words : List ℕ) (procs : List Proc) (entry : ℕ) (answer : TypeRow)
     (memory : Memory) (told : Told) (casts : List TypeCast) (input : List ℕ) → let first : ℕ = suc (length procs) in
-    IsLowered setting l (with_casts (numbers_from first) words) procs entry answer (procs_from first) memory
-    → setting.top < 2 ^ 34 → setting.labels ≡ told.labels → row_at told.types told.answer ≡ Some answer
+    IsLowered setting l (with_casts (numbers_from first) words (cast_ways l.types casts)) procs entry answer
+    (procs_from first) memory → setting.top < 2 ^ 34 → setting.labels ≡ told.labels
+    → row_at told.types told.answer ≡ Some answer
     → told.types ≡ l.types → TypesStand l → meaning.CastWords l casts words → is_closed procs entry ≡ true
     → all_covered procs ≡ true → AreNarrow procs
     → NeverWrong (flat_run_in procs entry (meaning.mode told.types casts) told input)

@@ -29,6 +29,7 @@ use Rattle.flat_ir.specs.Machine.{locals_of}
 use Rattle.flat_ir.specs.Machine.{flat_turn, flat_cast, flat_proj, flat_operate, flat_arity, flat_entered}
 use Rattle.rt_cast.specs.States.{entered}
 use Rattle.lower.specs.declared.served.Served.{Served}
+use Rattle.lower.specs.CastWays.{way_at, in_place}
 use Rattle.lower.specs.Emit.{cast_word}
 use Rattle.lower.specs.Meanings.{Meaning}
 use Rattle.rt_cast.specs.States.{Heap, heap_of}
@@ -40,6 +41,10 @@ use Rattle.lower.specs.SimulationServices.{StandsAs}
 pub record Spent : Type 0 where
   pub frames : ℕ
   pub words : ℕ
+
+-- none of both
+abbrev pub nothing : Spent
+nothing = record { frames = 0; words = 0 }
 
 -- the word at a place, 0 where there is none
 abbrev pub at_or_zero : List ℕ → ℕ → ℕ
@@ -136,6 +141,12 @@ module _ (meaning : Meaning) (setting : Setting) (l : Layout) (procs : List Proc
       (frames ≡ base) × ReturnsAt s places objects u store number t
   Returns s places objects base _ frames store number t = ⊥
 
+  -- no step is made: a value comes back that this word carries, where the same objects stand
+  abbrev pub Holds : LowState → List ℕ → List Object → List (FlatFrame meaning.Cast) → ℕ → Aim
+  Holds s places objects base word (Return u) frames store number t =
+      (t ≡ s) × (frames ≡ base) × Here places objects store number (heap_of s) × CarriedAt places objects u word
+  Holds s places objects base word _ frames store number t = ⊥
+
   -- a function without wrappers is about to be entered with these values, and one more procedure waits, which makes
   -- these casts of what it gives
   pub record CallsAt (s : LowState) (places : List ℕ) (objects : List Object) (code : FlatCode)
@@ -199,6 +210,16 @@ module _ (meaning : Meaning) (setting : Setting) (l : Layout) (procs : List Proc
     abbrev pub CastsHaveWords : Type 0
     CastsHaveWords =
         (row : ℕ) (cast : meaning.Cast) → mode_here.row row ≡ Some cast → cast_word (slice_get run.cast_at row) < 2 ^ 64
+
+    -- what code makes of a word in place carries what the cast makes of the word's value
+    abbrev pub CastsInPlace : Type 0
+    CastsInPlace =
+        (s : LowState) (number : ℕ) (places : List ℕ) (objects : List Object) (store : FlatStore meaning.Cast)
+        → Here places objects store number (heap_of s) → (base : List (FlatFrame meaning.Cast)) (row : ℕ)
+        (cast : meaning.Cast) → mode_here.row row ≡ Some cast → (v : FlatValue meaning.Cast) (w : ℕ)
+        → CarriedAt places objects v w → (word : ℕ) → in_place (way_at (slice_get run.ways row)) w ≡ Some word
+        → Serves s nothing (Holds s places objects base word) (flat_cast procs mode_here store s.world v cast base)
+        number (decision_wraps (decision_at procs mode_here (Some cast) v)) s
 
     -- parts of tuples, in wrappers or not, and of values in Dyn
     pub record PartsGiven : Type 0 where

@@ -4,6 +4,7 @@ use Rattle.low_ir.specs.Procedures.{Proc}
 use Rattle.low_ir.specs.Closed.{each_closed}
 use Rattle.rt_cast.specs.Procs.{cast_procs}
 use Rattle.rt_refs.specs.RefProcs.{proxy_procs}
+use Rattle.lower.specs.declared.served.CastWay.{CastWay}
 use Rattle.lower.specs.declared.served.ProcSet.{ProcSet}
 use Rattle.lower.specs.declared.served.Served.{Served}
 use Rattle.lower.specs.Serving.{Serve}
@@ -30,11 +31,12 @@ numbers_of set = record {
   multiply = set.multiply;
   divide = set.divide;
   cast_at = [];
+  ways = [];
 }
 
--- the same numbers, with the words of casts
-abbrev pub with_casts : Served → List ℕ → Served
-with_casts numbers words = record numbers { cast_at = words }
+-- the same numbers, with the words of casts and how these are made
+abbrev pub with_casts : Served → List ℕ → List CastWay → Served
+with_casts numbers words ways = record numbers { cast_at = words; ways = ways }
 
 -- ---- the merged scheme
 
@@ -55,4 +57,5 @@ merged_numbers first = record {
   multiply = 34 + first;
   divide = 35 + first;
   cast_at = [];
+  ways = [];
 }

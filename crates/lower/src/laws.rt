@@ -6,6 +6,7 @@ ghost use Rattle.flat_ir.specs.Bodies.{Proc as FlatProc};
 ghost use Rattle.flat_ir.specs.Closed.{is_closed as is_closed_flat};
 ghost use Rattle.low_ir.specs.Closed.{each_closed, is_closed};
 ghost use Rattle.low_ir.specs.Procedures.{Proc};
+ghost use Rattle.lower.specs.declared.served.CastWay.{CastWay};
 ghost use Rattle.lower.specs.declared.served.Served.{Served};
 ghost use Rattle.lower.specs.Lowered.{lowered};
 ghost use Rattle.lower.specs.Serving.{Serve, all_have_words};
@@ -22,10 +23,11 @@ pub fn lowered_programs_are_closed()
         → is_closed (lowered run flat entry answer serving) (length flat) ≡ true }
 {}
 
-/// So they are with the procedures of the merged scheme behind them, whatever the words of casts are.
+/// So they are with the procedures of the merged scheme behind them, whatever the words of casts are and however these
+/// are made.
 pub fn merged_programs_are_closed()
-    ensures { (words : List ℕ) (flat : List FlatProc) (entry : ℕ) (answer : TypeRow)
+    ensures { (words : List ℕ) (ways : List CastWay) (flat : List FlatProc) (entry : ℕ) (answer : TypeRow)
         → is_closed_flat flat entry ≡ true → all_have_words flat ≡ true → let first : ℕ = suc (length flat) in
-        is_closed (lowered (with_casts (merged_numbers first) words) flat entry answer (merged_procs first))
+        is_closed (lowered (with_casts (merged_numbers first) words ways) flat entry answer (merged_procs first))
         (length flat) ≡ true }
 {}

@@ -3,6 +3,7 @@
 
 mod answers;
 mod bodies;
+mod casts;
 mod copies;
 mod groups;
 pub mod laws;

@@ -4,11 +4,13 @@ ghost use Rattle.std.specs.Prelude.{◌≡◌, ◌<◌, ◌^◌, ℕ, suc, true,
 ghost use Rattle.grift_base.specs.Types.{TypeRow, row_at};
 ghost use Rattle.rv_machine.specs.declared.TheConstants.{FIRST_ADDRESS};
 ghost use Rattle.coercion_norm.specs.CoercionTables.{FitsTypes};
+ghost use Rattle.coercion_norm.specs.Modes.{row_casts};
 ghost use Rattle.coercion_norm.specs.Statics.{AreStatics};
 ghost use Rattle.flat_ir.specs.Closed.{is_closed as is_closed_flat};
 ghost use Rattle.flat_ir.specs.Views.{procs_of as flat_procs_of};
 ghost use Rattle.low_ir.specs.Closed.{is_closed};
 ghost use Rattle.low_ir.specs.Views.{procs_of};
+ghost use Rattle.lower.specs.CastWays.{cast_ways};
 ghost use Rattle.lower.specs.Lowered.{lowered};
 ghost use Rattle.lower.specs.Serving.{all_have_words, all_narrow};
 ghost use Rattle.lower.specs.Sets.{merged_numbers, merged_procs, with_casts};
@@ -114,8 +116,8 @@ pub fn lower(
     requires casts { All (λ cast. cast.coercion.0 < length coercions.now.nodes) casts.now }
     ensures procs { IfOk result (λ low. (answer : TypeRow) → row_at types.now flat.now.answer.0 ≡ Some answer
         → let first : ℕ = suc (length flat.now.procs) in procs_of low.procs
-        ≡ lowered (with_casts (merged_numbers first) low.statics.cast_at) (flat_procs_of flat.now.procs)
-        flat.now.entry answer (merged_procs first)) }
+        ≡ lowered (with_casts (merged_numbers first) low.statics.cast_at (cast_ways types.now (row_casts casts.now)))
+        (flat_procs_of flat.now.procs) flat.now.entry answer (merged_procs first)) }
     ensures entry { IfOk result (λ low. low.entry ≡ length flat.now.procs) }
     ensures statics { IfOk result (λ low.
         AreStatics types.now coercions.now.nodes casts.now FIRST_ADDRESS low.statics) }
@@ -127,5 +129,5 @@ pub fn lower(
         return Err(OutOfMemory);
     }
     let statics = place_rows(alloc, types, coercions, casts, FIRST_ADDRESS)?;
-    lower_over(alloc, flat, types, statics, &Merged)
+    lower_over(alloc, flat, types, casts, statics, &Merged)
 }

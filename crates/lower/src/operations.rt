@@ -1,12 +1,12 @@
 // Operations: what gives a value and calls no procedure of the program.
 
-ghost use Rattle.std.specs.Prelude.{◌≡◌, ◌<◌, ◌∷◌, [], length, slice_get, IfOk, OnOk};
+ghost use Rattle.std.specs.Prelude.{◌≡◌, ◌<◌, ◌∷◌, [], length, IfOk, OnOk};
 ghost use Rattle.low_ir.specs.declared.code.LowSource.TheVariants.{Word, Number};
 ghost use Rattle.low_ir.specs.declared.code.WordOp.TheVariants.{Xor, Slt, Sltu};
 ghost use Rattle.flat_ir.specs.declared.code.Operation.TheVariants.{ProjDyn};
 ghost use Rattle.low_ir.specs.Procedures.{Done, Set, Compute, Load, Store, Build, Environment, Call};
 ghost use Rattle.low_ir.specs.Views.{code_of};
-ghost use Rattle.lower.specs.Emit.{cast_word, fetch, fetch_all, found, found_all, header, of_kind, operator, part};
+ghost use Rattle.lower.specs.Emit.{fetch, fetch_all, found, found_all, header, of_kind, operator, part};
 ghost use Rattle.lower.specs.Emit.{perform, read_number};
 ghost use Rattle.lower.specs.Emit.{source_at, turned};
 ghost use Rattle.lower.specs.Numbering.{operand_word, test_word};
@@ -92,8 +92,8 @@ impl Emitter<'_> {
         steps.push(Step::If(Cond::Eq, Word(test), Number(kind), one, other))
     }
 
-    // A procedure is called, and its answer put into a word.
-    fn call(
+    /// A procedure is called, and its answer put into a word.
+    pub fn call(
         &self,
         steps: &mut Steps,
         d: u32,
@@ -289,16 +289,6 @@ impl Emitter<'_> {
         Ok(())
     }
 
-    // The word that is handed on for a cast.
-    fn cast_word(&self, number: u32) -> u64
-        ensures { result ≡ cast_word (slice_get self.now.run.now.cast_at number) }
-    {
-        match self.run.cast_at.get(number as u64) {
-            Some(word) => *word,
-            None => 0,
-        }
-    }
-
     /// The value of an operation is put into a word.
     pub fn perform(
         &self,
@@ -326,12 +316,7 @@ impl Emitter<'_> {
             }
             Operation::Cast(operand, number) => {
                 let source = fetch(steps, shape, 0, *operand)?;
-                self.call(
-                    steps,
-                    d,
-                    self.run.cast,
-                    &[source, Number(self.cast_word(*number))],
-                )
+                self.make_cast(steps, d, source, *number)
             }
             Operation::Tuple(parts) => self.tuple(steps, d, parts),
             Operation::Proj(operand, i) => self.proj(steps, d, *operand, i),

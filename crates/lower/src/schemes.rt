@@ -4,21 +4,24 @@ ghost use Rattle.std.specs.Prelude.{ℕ, suc, true, List, Some, All, IfOk, lengt
 ghost use Rattle.std.specs.Prelude.{◌≡◌, ◌<◌, ◌≤◌, ◌%◌, ◌^◌};
 ghost use Rattle.grift_base.specs.Types.{TypeRow, row_at};
 ghost use Rattle.coercion_norm.specs.CoercionTables.{FitsTypes};
+ghost use Rattle.coercion_norm.specs.Modes.{row_casts};
 ghost use Rattle.flat_ir.specs.Closed.{is_closed as is_closed_flat};
 ghost use Rattle.flat_ir.specs.Views.{procs_of as flat_procs_of};
 ghost use Rattle.low_ir.specs.Closed.{is_closed};
 ghost use Rattle.low_ir.specs.Procedures.{Proc};
 ghost use Rattle.low_ir.specs.Views.{procs_of};
 ghost use Rattle.lower.specs.declared.served.Served.{Served};
+ghost use Rattle.lower.specs.CastWays.{cast_ways};
 ghost use Rattle.lower.specs.Following.{ServesEverywhere};
 ghost use Rattle.lower.specs.Lowered.{lowered};
 ghost use Rattle.lower.specs.Meanings.{Meaning, MeaningLaws};
 ghost use Rattle.lower.specs.Serving.{all_have_words};
 ghost use Rattle.lower.specs.Sets.{ServesAnywhere, numbers_of, with_casts};
 
+use crate::casts::cast_ways;
 use crate::copies::push_copies;
 use crate::lowering::lowered;
-use crate::served::{ProcSet, Served};
+use crate::served::{CastWays, ProcSet, Served};
 use coercion_norm::cast_rows::CastRows;
 use coercion_norm::tables::CoercionTable;
 use flat_ir::programs::FlatProgram;
@@ -75,9 +78,14 @@ pub trait Scheme {
         ensures everywhere { ServesEverywhere (meaning self.now) (procs_from self.now) (numbers_from self.now) };
 }
 
-// The numbers of the procedures of a set, and the words of casts.
-fn served_by(alloc: Global, set: &ProcSet, statics: &Statics) -> Result<Served, OutOfMemory>
-    ensures { IfOk result (λ run. run ≡ with_casts (numbers_of set.now) statics.now.cast_at) }
+// The numbers of the procedures of a set, the words of casts, and how these are made.
+fn served_by(
+    alloc: Global,
+    set: &ProcSet,
+    statics: &Statics,
+    ways: CastWays,
+) -> Result<Served, OutOfMemory>
+    ensures { IfOk result (λ run. run ≡ with_casts (numbers_of set.now) statics.now.cast_at ways) }
 {
     Ok(Served {
         cast: set.cast,
@@ -89,6 +97,7 @@ fn served_by(alloc: Global, set: &ProcSet, statics: &Statics) -> Result<Served, 
         multiply: set.multiply,
         divide: set.divide,
         cast_at: WordList::from_slice(alloc, statics.cast_at.as_slice())?,
+        ways,
     })
 }
 
@@ -98,13 +107,15 @@ pub fn lower_over<S: Scheme>(
     alloc: Global,
     flat: &FlatProgram,
     types: &TypeTable,
+    casts: &CastRows,
     statics: Statics,
     scheme: &S,
 ) -> Result<LowProgram, OutOfMemory>
     requires answer { flat.now.answer.0 < length types.now }
     ensures procs { IfOk result (λ low. (answer : TypeRow) → row_at types.now flat.now.answer.0 ≡ Some answer
         → let first : ℕ = suc (length flat.now.procs) in procs_of low.procs
-        ≡ lowered (with_casts (S.numbers_from scheme.now first) low.statics.cast_at) (flat_procs_of flat.now.procs)
+        ≡ lowered (with_casts (S.numbers_from scheme.now first) low.statics.cast_at
+        (cast_ways types.now (row_casts casts.now))) (flat_procs_of flat.now.procs)
         flat.now.entry answer (S.procs_from scheme.now first)) }
     ensures entry { IfOk result (λ low. low.entry ≡ length flat.now.procs) }
     ensures statics { IfOk result (λ low. low.statics ≡ statics) }
@@ -117,7 +128,8 @@ pub fn lower_over<S: Scheme>(
     }
     let entry = entry as u32;
     let set = scheme.procs(alloc, entry + 1)?;
-    let run = served_by(alloc, &set, &statics)?;
+    let ways = cast_ways(alloc, types, casts)?;
+    let run = served_by(alloc, &set, &statics, ways)?;
     let mut procs = lowered(alloc, &run, flat, types.row(flat.answer))?;
     push_copies(alloc, &mut procs, set.procs.as_slice())?;
     Ok(LowProgram {
@@ -143,7 +155,8 @@ pub fn lower_with<S: Scheme>(
     requires casts { All (λ cast. cast.coercion.0 < length coercions.now.nodes) casts.now }
     ensures procs { IfOk result (λ low. (answer : TypeRow) → row_at types.now flat.now.answer.0 ≡ Some answer
         → let first : ℕ = suc (length flat.now.procs) in procs_of low.procs
-        ≡ lowered (with_casts (S.numbers_from scheme.now first) low.statics.cast_at) (flat_procs_of flat.now.procs)
+        ≡ lowered (with_casts (S.numbers_from scheme.now first) low.statics.cast_at
+        (cast_ways types.now (row_casts casts.now))) (flat_procs_of flat.now.procs)
         flat.now.entry answer (S.procs_from scheme.now first)) }
     ensures entry { IfOk result (λ low. low.entry ≡ length flat.now.procs) }
     ensures casts { IfOk result (λ low. length low.statics.cast_at ≡ length casts.now) }
@@ -151,5 +164,5 @@ pub fn lower_with<S: Scheme>(
         → all_have_words (flat_procs_of flat.now.procs) ≡ true → is_closed (procs_of low.procs) low.entry ≡ true) }
 {
     let statics = scheme.statics(alloc, types, coercions, casts, FIRST_ADDRESS)?;
-    lower_over(alloc, flat, types, statics, scheme)
+    lower_over(alloc, flat, types, casts, statics, scheme)
 }

@@ -16,6 +16,7 @@ ghost use Rattle.flat_ir.specs.Bodies.{Proc};
 ghost use Rattle.flat_ir.specs.Closed.{is_closed};
 ghost use Rattle.flat_ir.specs.Counts.{flat_run_in};
 ghost use Rattle.flat_ir.specs.Machine.{first_world};
+ghost use Rattle.lower.specs.CastWays.{cast_ways};
 ghost use Rattle.lower.specs.CoveredPrograms.{all_covered};
 ghost use Rattle.lower.specs.Following.{WordsFollow};
 ghost use Rattle.lower.specs.Lowered.{entry_proc};
@@ -42,7 +43,8 @@ pub fn words_follow_procedures()
     ensures storage { (setting : Setting) (l : Layout) (words : List ℕ) (procs : List Proc) (entry : ℕ)
         (answer : TypeRow) (memory : Memory) (told : Told) (casts : List TypeCast) (input : List ℕ)
         → let first : ℕ = suc (length procs) in
-        IsLowered setting l (with_casts (merged_numbers first) words) procs entry answer (merged_procs first) memory
+        IsLowered setting l (with_casts (merged_numbers first) words (cast_ways l.types casts)) procs entry answer
+        (merged_procs first) memory
         → setting.top < 2 ^ 34 → setting.labels ≡ told.labels → row_at told.types told.answer ≡ Some answer
         → told.types ≡ l.types → TypesStand l → MergedCasts l casts words → is_closed procs entry ≡ true
         → all_covered procs ≡ true → AreNarrow procs
@@ -53,7 +55,8 @@ pub fn words_follow_procedures()
     ensures rows { (setting : Setting) (l : Layout) (words : List ℕ) (procs : List Proc) (entry : ℕ)
         (answer : TypeRow) (memory : Memory) (told : Told) (casts : List TypeCast) (input : List ℕ)
         → let first : ℕ = suc (length procs) in
-        IsLowered setting l (with_casts (merged_numbers first) words) procs entry answer (merged_procs first) memory
+        IsLowered setting l (with_casts (merged_numbers first) words (cast_ways l.types casts)) procs entry answer
+        (merged_procs first) memory
         → setting.top < 2 ^ 34 → setting.labels ≡ told.labels → row_at told.types told.answer ≡ Some answer
         → told.types ≡ l.types → TypesStand l → MergedCasts l casts words → is_closed procs entry ≡ true
         → all_covered procs ≡ true → AreNarrow procs

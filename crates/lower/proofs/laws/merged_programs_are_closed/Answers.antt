@@ -4,7 +4,7 @@ use Rattle.lower.proofs.ClosingSets.{merged_serves_anywhere, programs_with_sets_
 use Rattle.lower.proofs.laws.merged_programs_are_closed.Goals as goal
 
 pub returns : goal.returns
-returns c = λ words flat entry answer h few.
+returns c = λ words ways flat entry answer h few.
     let first = suc (length flat) in
-    programs_with_sets_are_closed (merged_procs first) (merged_numbers first) words flat entry answer
+    programs_with_sets_are_closed (merged_procs first) (merged_numbers first) words ways flat entry answer
     (merged_serves_anywhere first) h few
