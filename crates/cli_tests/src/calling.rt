@@ -23,7 +23,7 @@ pub(crate) enum Content {
 
 // A call: its words, what the files `a` and `b` hold, and the numbers of the calls at which the shelf and the sinks
 // fail. And what it comes to: the status, how many names the shelf is asked for, whether an image is put, and what is
-// put on `out` and `err`. Where `err_end` tells something, what is put on `err` begins with `err` and ends with that.
+// put on `out` and `err`.
 #[derive(Clone, Copy)]
 pub(crate) struct Row {
     pub(crate) words: &'static str,
@@ -38,7 +38,6 @@ pub(crate) struct Row {
     pub(crate) img: bool,
     pub(crate) out: Content,
     pub(crate) err: &'static str,
-    pub(crate) err_end: &'static str,
 }
 
 // What a call left.
@@ -157,25 +156,6 @@ pub(crate) fn call_by(
     Ok(left)
 }
 
-// Whether a text begins with this.
-pub(crate) fn begins_with(text: &[u8], first: &str) -> bool {
-    first.len() <= text.len() && &text[..first.len()] == first.as_bytes()
-}
-
-// Whether it ends with this.
-pub(crate) fn ends_with(text: &[u8], last: &str) -> bool {
-    last.len() <= text.len() && &text[text.len() - last.len()..] == last.as_bytes()
-}
-
-// Whether a row tells what was put on `err`.
-fn is_told(row: &Row, text: &[u8]) -> bool {
-    if row.err_end.is_empty() {
-        text == row.err.as_bytes()
-    } else {
-        begins_with(text, row.err) && ends_with(text, row.err_end)
-    }
-}
-
 // Whether the call of a row, where the file `a` holds this, comes to what the row tells.
 pub(crate) fn comes_to(alloc: Global, row: &Row, file: &[u8]) -> Result<bool, NoMemory> {
     let out = bytes_of(alloc, row.out)?;
@@ -185,6 +165,6 @@ pub(crate) fn comes_to(alloc: Global, row: &Row, file: &[u8]) -> Result<bool, No
             && left.shelf.asked().len() == row.asked
             && left.img.bytes().is_empty() != row.img
             && left.out.bytes() == out.as_slice()
-            && is_told(row, left.err.bytes()),
+            && left.err.bytes() == row.err.as_bytes(),
     )
 }

@@ -19,7 +19,6 @@ pub(crate) const RUN: Row = Row {
     img: true,
     out: Text(""),
     err: "",
-    err_end: "",
 };
 
 const BLAMED: Row = Row { status: 3, ..RUN };

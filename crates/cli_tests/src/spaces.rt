@@ -1,6 +1,6 @@
 // What runs with `--space` tell of their storage: a row for each.
 
-use crate::calling::{Content, Row, begins_with, call_by, ends_with};
+use crate::calling::{Content, Row, call_by};
 use crate::calls::{RUN, UNREAD, wrong_row};
 use crate::words::NoMemory;
 use Content::Text;
@@ -109,14 +109,21 @@ const LINES: &[Row] = &[
     },
 ];
 
-// However often a function is cast, it stands in one wrapper, whose coercion is as high as that of one cast.
+// However often a function is cast, it stands in one wrapper, whose coercion is as high as that of one cast. A turn leaves
+// seven objects, two of them wrappers, in 192 bytes; the first leaves five in 136, beside two functions in 32.
 const LOOPS: &[Row] = &[
+    Row {
+        file: Text(
+            "(letrec ([loop (lambda ([n : Int] [f : (Dyn -> Dyn)]) : (Dyn -> Dyn)\n(if (= n 0) f (loop (- n 1) (: (: f (Int -> Int)) (Dyn -> Dyn)))))])\n((loop 3 (lambda (x) x)) 7))",
+        ),
+        err: "answer 7\nspace bytes 552\nspace objects 21\nspace proxies 6\nspace stacked 0\nspace highest 1\nspace tallest 1\n",
+        ..SPACE
+    },
     Row {
         file: Text(
             "(letrec ([loop (lambda ([n : Int] [f : (Dyn -> Dyn)]) : (Dyn -> Dyn)\n(if (= n 0) f (loop (- n 1) (: (: f (Int -> Int)) (Dyn -> Dyn)))))])\n((loop 1000 (lambda (x) x)) 7))",
         ),
-        err: "answer 7\nspace bytes ",
-        err_end: "space stacked 0\nspace highest 1\nspace tallest 1\n",
+        err: "answer 7\nspace bytes 191976\nspace objects 7000\nspace proxies 2000\nspace stacked 0\nspace highest 1\nspace tallest 1\n",
         ..SPACE
     },
     Row {
@@ -124,8 +131,7 @@ const LOOPS: &[Row] = &[
             "(letrec ([loop (lambda ([n : Int] [f : (Dyn -> Dyn)]) : (Dyn -> Dyn)\n(if (= n 0) f (loop (- n 1) (: (: f (Int -> Int)) (Dyn -> Dyn)))))])\n((loop 1000 (lambda (x) x)) #t))",
         ),
         status: 3,
-        err: "blame 2:29\nspace bytes ",
-        err_end: "space stacked 0\nspace highest 1\nspace tallest 1\n",
+        err: "blame 2:29\nspace bytes 191976\nspace objects 7000\nspace proxies 2000\nspace stacked 0\nspace highest 1\nspace tallest 1\n",
         ..SPACE
     },
     Row {
@@ -133,8 +139,7 @@ const LOOPS: &[Row] = &[
         file: Text(
             "(letrec ([loop (lambda ([n : Int] [f : (Dyn -> Dyn)]) : (Dyn -> Dyn)\n(if (= n 0) f (loop (- n 1) (: (: f (Int -> Int)) (Dyn -> Dyn)))))])\n((loop 100000 (lambda (x) x)) 7))",
         ),
-        err: "answer 7\nspace bytes ",
-        err_end: "space stacked 0\nspace highest 1\nspace tallest 1\n",
+        err: "answer 7\nspace bytes 19199976\nspace objects 700000\nspace proxies 200000\nspace stacked 0\nspace highest 1\nspace tallest 1\n",
         ..SPACE
     },
 ];
@@ -164,8 +169,8 @@ enum End {
 
 // Whether the lines end so that no proxy stands on a proxy, and none is higher than one cast.
 fn is_lean(text: &[u8]) -> bool {
-    ends_with(text, "space stacked 0\nspace highest 0\nspace tallest 1\n")
-        || ends_with(text, "space stacked 0\nspace highest 1\nspace tallest 1\n")
+    text.ends_with(b"space stacked 0\nspace highest 0\nspace tallest 1\n")
+        || text.ends_with(b"space stacked 0\nspace highest 1\nspace tallest 1\n")
 }
 
 // How the run of a program that casts a box ends in a region of so many bytes.
@@ -178,10 +183,10 @@ fn end_in(alloc: Global, region: u64) -> Result<End, NoMemory> {
     if !is_lean(text) {
         return Ok(End::Otherwise);
     }
-    if status == 0 && begins_with(text, "answer 7\n") {
+    if status == 0 && text.starts_with(b"answer 7\n") {
         return Ok(End::Answers);
     }
-    if status == 5 && begins_with(text, "exhausted region\n") {
+    if status == 5 && text.starts_with(b"exhausted region\n") {
         return Ok(End::Exhausted);
     }
     Ok(End::Otherwise)
