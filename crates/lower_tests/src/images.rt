@@ -11,7 +11,7 @@ use grift_base::worlds::World;
 use low_ir::code::{LowCode, LowSource};
 use low_ir::programs::{LowProc, LowProgram};
 use lower::lowering::lowered;
-use lower::served::Served;
+use lower::served::{CastWay, CastWays, Served, Tag};
 use rv_emulator::flat::FlatRam;
 use rv_emulator::machine::Machine;
 use rv_emulator::stops::Stop;
@@ -25,9 +25,16 @@ const FIRST: u32 = 3;
 // The words that each procedure that serves takes.
 const TAKEN: [u32; 8] = [2, 4, 8, 3, 4, 2, 2, 3];
 
-// The procedures that serve, none of which is called by these programs.
-fn served(alloc: Global) -> Served {
-    Served {
+// The ways of casts 0 to 2.
+const WAYS: [CastWay; 3] = [
+    CastWay::IntoDyn(Tag::Int),
+    CastWay::OutOfDyn(Tag::Int),
+    CastWay::OutOfDyn(Tag::Bool),
+];
+
+// The procedures that serve, of which these programs call that of casts alone.
+fn served(alloc: Global) -> Result<Served, OutOfMemory> {
+    Ok(Served {
         cast: FIRST,
         project: FIRST + 1,
         apply: FIRST + 2,
@@ -37,12 +44,13 @@ fn served(alloc: Global) -> Served {
         multiply: FIRST + 6,
         divide: FIRST + 7,
         cast_at: WordList::new(alloc),
-    }
+        ways: CastWays::from_slice(alloc, &WAYS)?,
+    })
 }
 
-// The program over words of a program of two procedures, with procedures that serve behind it.
+// The program over words of a program of two procedures, with procedures that serve behind it, which answer 0.
 fn low_program(alloc: Global, flat: &FlatProgram, answer: &Row) -> Result<LowProgram, OutOfMemory> {
-    let mut procs = lowered(alloc, &served(alloc), flat, answer)?;
+    let mut procs = lowered(alloc, &served(alloc)?, flat, answer)?;
     for params in TAKEN {
         procs.push(LowProc {
             params,

@@ -181,6 +181,29 @@ fn boxed(alloc: Global) -> Result<FlatProgram, OutOfMemory> {
     plain(alloc, named(alloc, 0, made, body)?)
 }
 
+// A number is cast into Dyn, and that by another cast.
+fn cast_twice(alloc: Global, n: i64, then: u32) -> Result<FlatProgram, OutOfMemory> {
+    let into = FlatBody::Give(Operation::Cast(Operand::Int(n), 0));
+    let next = FlatBody::Give(Operation::Cast(Operand::Local(0), then));
+    plain(alloc, named(alloc, 0, into, next)?)
+}
+
+// The procedure of casts answers 0, so another answer was made in place.
+#[test]
+fn numbers_of_61_bits_are_cast_in_place(rt: HostRuntime) -> Result<(), Fail> {
+    let alloc = rt.alloc();
+    let most = 1_152_921_504_606_846_975;
+    for n in [5, -5, most, -most - 1] {
+        let kept = cast_twice(alloc, n, 1)?;
+        assert!(rt; comes_to(alloc, &kept, &Row::Int, 0, 1024)? == answer(AnswerKind::Int, n));
+    }
+    let wide = cast_twice(alloc, most + 1, 1)?;
+    assert!(rt; comes_to(alloc, &wide, &Row::Int, 0, 1024)? == answer(AnswerKind::Int, 0));
+    let other = cast_twice(alloc, 5, 2)?;
+    assert!(rt; comes_to(alloc, &other, &Row::Bool, 0, 1024)? == answer(AnswerKind::Bool, 0));
+    Ok(())
+}
+
 // Without input, as the machine is here, a number that is read is a trap.
 #[test]
 fn reading_without_input_traps(rt: HostRuntime) -> Result<(), Fail> {
