@@ -40,7 +40,9 @@ use Rattle.closure_convert.proofs.Public.{procedures_of_program_terms_are_closed
 use Rattle.low_ir.specs.Procedures.{Proc}
 use Rattle.low_ir.specs.Run.{LowShown, Setting, low_machine, low_start}
 use Rattle.coercion_norm.specs.Held.{Layout}
+use Rattle.lower.specs.declared.served.CastWay.{CastWay}
 use Rattle.lower.specs.declared.served.Served.{Served}
+use Rattle.lower.specs.CastWays.{cast_ways}
 use Rattle.lower.specs.CoveredPrograms.{all_covered}
 use Rattle.lower.specs.Lowered.{low_proc, entry_proc, lowered}
 use Rattle.lower.specs.SimulationClaims.{AreNarrow, StorageIsWhole}
@@ -120,14 +122,15 @@ entry_there (x ∷ xs) p rest (suc n) e = entry_there xs p rest n (omega (arith,
 abbrev pub serving : List FlatProc → List Proc
 serving procs = merged_procs (suc (length procs))
 
-abbrev pub run_by : List FlatProc → Statics → Served
-run_by procs statics = with_casts (merged_numbers (suc (length procs))) statics.cast_at
+abbrev pub run_by : List FlatProc → Statics → List CastWay → Served
+run_by procs statics ways = with_casts (merged_numbers (suc (length procs))) statics.cast_at ways
 
 -- the image is that of the procedures of a program, lowered, behind the statics of its types and coercions
 pub record IsMade (program : Program) (nodes : List Node) (rows : List CastRow) (procs : List FlatProc) (entry : ℕ)
     (row : TypeRow) (statics : Statics) (image : List ℕ) : Type 0 where
-  pub image_is : IsImageOfWords image (lowered (run_by procs statics) procs entry row (serving procs)) (length procs)
-      statics.words program.labels
+  pub image_is : IsImageOfWords image
+      (lowered (run_by procs statics (cast_ways program.types (row_casts rows))) procs entry row (serving procs))
+      (length procs) statics.words program.labels
   pub statics_are : AreStatics program.types nodes rows first_address statics
   pub coercions : HaveCoercions program.types nodes rows
   pub words : All (λ w. w < 2 ^ 64) statics.words
@@ -206,8 +209,9 @@ module _ {program : Program} {rows : List CastRow} {term : RowTerm} {answer : �
         let world = fresh_world input in
         let procs = converted term in
         let first = entry_proc (made term) row in
-        let there = entry_there (map (low_proc (run_by procs statics)) procs) first (serving procs) (length procs)
-        (length-map procs (low_proc (run_by procs statics))) in
+        let served = run_by procs statics (cast_ways program.types (row_casts rows)) in
+        let there = entry_there (map (low_proc served) procs) first (serving procs) (length procs)
+        (length-map procs (low_proc served)) in
         let words = is.runs ending_of refl first (told is at made_so.words region stack r s world) region stack world
         (runs_in is at made_so.words region stack r s world first there)
         (follower_never_goes_wrong (follows_of words_follow)) in
@@ -242,8 +246,8 @@ pub record Passes (program : Program) (nodes : List Node) (rows : List CastRow) 
   pub procs_are : procs ≡ converted term
   pub entry_is : entry ≡ made term
   pub counted : count ≡ length procs
-  pub low_is : low ≡ lowered (with_casts (merged_numbers (suc count)) statics.cast_at) procs entry row
-      (merged_procs (suc count))
+  pub low_is : low ≡ lowered (with_casts (merged_numbers (suc count)) statics.cast_at
+      (cast_ways program.types (row_casts rows))) procs entry row (merged_procs (suc count))
   pub begins : low_entry ≡ count
   pub image_is : IsImageOfWords image low low_entry statics.words program.labels
   pub statics_are : AreStatics program.types nodes rows first_address statics
@@ -261,18 +265,23 @@ module _ {program : Program} {nodes : List Node} {rows : List CastRow} {term : R
   counted_so : count ≡ length (converted term)
   counted_so = p.counted ∙ ap length p.procs_are
 
-  low_so : low ≡ lowered (run_by (converted term) statics) (converted term) (made term) row (serving (converted term))
+  abbrev ways : List CastWay
+  ways = cast_ways program.types (row_casts rows)
+
+  abbrev served : Served
+  served = run_by (converted term) statics ways
+
+  low_so : low ≡ lowered served (converted term) (made term) row (serving (converted term))
   low_so =
-      p.low_is ∙ (ap (λ n. lowered (with_casts (merged_numbers (suc n)) statics.cast_at) procs entry row
+      p.low_is ∙ (ap (λ n. lowered (with_casts (merged_numbers (suc n)) statics.cast_at ways) procs entry row
       (merged_procs (suc n))) counted_so
-      ∙ (ap (λ ps. lowered (run_by (converted term) statics) ps entry row (serving (converted term))) p.procs_are
-      ∙ ap (λ e. lowered (run_by (converted term) statics) (converted term) e row (serving (converted term)))
-      p.entry_is))
+      ∙ (ap (λ ps. lowered served ps entry row (serving (converted term))) p.procs_are
+      ∙ ap (λ e. lowered served (converted term) e row (serving (converted term))) p.entry_is))
 
   pub are_made : IsMade program nodes rows (converted term) (made term) row statics image
   are_made = record {
-    image_is = subst (λ n. IsImageOfWords image (lowered (run_by (converted term) statics) (converted term)
-        (made term) row (serving (converted term))) n statics.words program.labels) (p.begins ∙ counted_so)
+    image_is = subst (λ n. IsImageOfWords image (lowered served (converted term) (made term) row
+        (serving (converted term))) n statics.words program.labels) (p.begins ∙ counted_so)
         (subst (λ ps. IsImageOfWords image ps low_entry statics.words program.labels) low_so p.image_is);
     statics_are = p.statics_are;
     coercions = p.coercions;
