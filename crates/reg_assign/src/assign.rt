@@ -171,13 +171,7 @@ fn wished_at(places: &[Place], items: &[VirtualItem], place: usize, v: u32) -> O
 }
 
 // A real register that is left and to or from which an item at one of these places moves the word of a virtual one.
-fn wished(
-    places: &[Place],
-    items: &[VirtualItem],
-    at: &[usize],
-    v: u32,
-    taken: u32,
-) -> Option<Reg>
+fn wished(places: &[Place], items: &[VirtualItem], at: &[usize], v: u32, taken: u32) -> Option<Reg>
     ensures { IfSome result (λ r. (may_hold r ≡ true) × (bit_at taken r ≡ 0)) }
 {
     for place in at {
@@ -191,13 +185,7 @@ fn wished(
 }
 
 // A real register that is left for a virtual one, so that a move of its word becomes nothing if there is such a one.
-fn choose(
-    places: &[Place],
-    items: &[VirtualItem],
-    flow: &Flow,
-    v: u32,
-    taken: u32,
-) -> Option<Reg>
+fn choose(places: &[Place], items: &[VirtualItem], flow: &Flow, v: u32, taken: u32) -> Option<Reg>
     ensures some { IfSome result (λ r. (may_hold r ≡ true) × (bit_at taken r ≡ 0)) }
     ensures none { result ≡ None → (r : ℕ) → may_hold r ≡ true → bit_at taken r ≡ 1 }
 {
