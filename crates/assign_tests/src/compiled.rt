@@ -37,7 +37,7 @@ fn words_of(alloc: Global, text: &[u8]) -> Result<LowProgram, Fail>
     };
     let coer = to_coercions(alloc, &done.elab.core, &done.types)?;
     let flat = convert(alloc, &coer)?;
-    if flat.answer.0 as u64 >= done.types.len() {
+    if flat.answer.0 >= done.types.len() {
         return Err(Fail::from("the answer has no type"));
     }
     let low = lower(alloc, &flat, &done.types, &coer.casts, &coer.coercions)?;
