@@ -3,6 +3,4 @@
 #![tactic(auto)]
 
 #[cfg(test)]
-mod compiled;
-#[cfg(test)]
 mod places;
