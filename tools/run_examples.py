@@ -4,7 +4,7 @@ their statuses with it. Each program has to stand in the table.
 
 Usage: tools/run_examples.py PROGRAM, where PROGRAM is the built program, as crates/grift/out/grift.
 A row of the table has three cells: the words of a command, with files of examples/; what is printed, with \\n for each
-line feed; and the line on standard error, which a `check` that goes well has not.
+line feed; and the line on standard error, which a `check` that goes well has not, with those that stand behind it.
 """
 import pathlib
 import subprocess
@@ -20,7 +20,7 @@ def rows():
     for line in (EXAMPLES / "EXPECTED").read_text().splitlines():
         if not line.startswith("#"):
             words, output, last = (cell.strip() for cell in line.split("|"))
-            yield words, output.replace("\\n", "\n"), last
+            yield words, output.replace("\\n", "\n"), last.replace("\\n", "\n")
 
 
 def status_of(line):
