@@ -109,8 +109,8 @@ const LINES: &[Row] = &[
     },
 ];
 
-// However often a function is cast, it stands in one wrapper, whose coercion is as high as that of one cast. A turn leaves
-// seven objects, two of them wrappers, in 192 bytes; the first leaves five in 136, beside two functions in 32.
+// However often a function is cast, it stands in one wrapper, whose coercion is as high as that of one cast. A turn
+// leaves seven objects, two of them wrappers, in 192 bytes; the first leaves five in 136, beside two functions in 32.
 const LOOPS: &[Row] = &[
     Row {
         file: Text(
