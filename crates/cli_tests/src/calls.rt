@@ -477,6 +477,78 @@ const PROGRAMS: &[Row] = &[
     },
 ];
 
+// Calls through proxies of one to six arguments, and two arguments that are wrong, of which the first is blamed.
+const PROXIED: &[Row] = &[
+    Row {
+        file: Text("((: (lambda ([a : Int]) : Int a)\n(Dyn -> Dyn)) 1)"),
+        err: "answer 1\n",
+        ..RUN
+    },
+    Row {
+        file: Text(
+            "((: (lambda ([a : Int] [b : Int]) : Int (+ a (* 10 b)))\n(Dyn Int -> Dyn)) 1 2)",
+        ),
+        err: "answer 21\n",
+        ..RUN
+    },
+    Row {
+        file: Text(
+            "((: (lambda ([a : Int] [b : Int] [c : Int]) : Int (+ a (* 10 (+ b (* 10 c)))))\n(Dyn Int Dyn -> Dyn)) 1 2 3)",
+        ),
+        err: "answer 321\n",
+        ..RUN
+    },
+    Row {
+        file: Text(
+            "((: (lambda ([a : Int] [b : Int] [c : Int] [d : Int]) : Int (+ a (* 10 (+ b (* 10 (+ c (* 10 d)))))))\n(Dyn Int Dyn Int -> Dyn)) 1 2 3 4)",
+        ),
+        err: "answer 4321\n",
+        ..RUN
+    },
+    Row {
+        file: Text(
+            "((: (lambda ([a : Int] [b : Int] [c : Int] [d : Int] [e : Int]) : Int (+ a (* 10 (+ b (* 10 (+ c (* 10 (+ d (* 10 e)))))))))\n(Dyn Int Dyn Int Dyn -> Dyn)) 1 2 3 4 5)",
+        ),
+        err: "answer 54321\n",
+        ..RUN
+    },
+    Row {
+        file: Text(
+            "((: (lambda ([a : Int] [b : Int] [c : Int] [d : Int] [e : Int] [g : Int]) : Int (+ a (* 10 (+ b (* 10 (+ c (* 10 (+ d (* 10 (+ e (* 10 g)))))))))))\n(Dyn Int Dyn Int Dyn Int -> Dyn)) 1 2 3 4 5 6)",
+        ),
+        err: "answer 654321\n",
+        ..RUN
+    },
+    Row {
+        file: Text(
+            "(let ([f (lambda ([a : Int] [b : Int] [c : Int] [d : Int] [e : Int] [g : Int]) : Int a)])\n(let ([g (: f (Int Int Int Int Int Dyn -> Int))])\n(let ([h (: g (Int Int Int Int Dyn Dyn -> Int))])\n(h 1 2 3 4 5 6))))",
+        ),
+        err: "answer 1\n",
+        ..RUN
+    },
+    Row {
+        file: Text(
+            "(let ([f (lambda ([a : Int] [b : Int] [c : Int] [d : Int] [e : Int] [g : Int]) : Int a)])\n(let ([g (: f (Int Int Int Int Int Dyn -> Int))])\n(let ([h (: g (Int Int Int Int Dyn Dyn -> Int))])\n(h 1 2 3 4 5 #f))))",
+        ),
+        err: "blame 2:10\n",
+        ..BLAMED
+    },
+    Row {
+        file: Text(
+            "(let ([f (lambda ([a : Int] [b : Int] [c : Int] [d : Int] [e : Int] [g : Int]) : Int a)])\n(let ([g (: f (Int Int Int Int Int Dyn -> Int))])\n(let ([h (: g (Int Int Int Int Dyn Dyn -> Int))])\n(h 1 2 3 4 #t 6))))",
+        ),
+        err: "blame 3:10\n",
+        ..BLAMED
+    },
+    Row {
+        file: Text(
+            "(let ([f (lambda ([a : Int] [b : Int] [c : Int] [d : Int] [e : Int] [g : Int]) : Int a)])\n(let ([g (: f (Int Int Int Int Int Dyn -> Int))])\n(let ([h (: g (Int Int Int Int Dyn Dyn -> Int))])\n(h 1 2 3 4 #t #f))))",
+        ),
+        err: "blame 3:10\n",
+        ..BLAMED
+    },
+];
+
 // Region, stack and steps; and programs as long, as wide and as deep as they may be.
 const LIMITS: &[Row] = &[
     Row {
@@ -529,6 +601,39 @@ const LIMITS: &[Row] = &[
         words: "run a --region 24",
         file: Text("(let ([d : Dyn 1152921504606846976]) d)"),
         err: "answer 1152921504606846976\n",
+        ..RUN
+    },
+    // six casts in place, each of which would take more than twenty instructions by the procedure for casts
+    Row {
+        words: "run a --steps 60",
+        file: Text("(begin (: (: 5 Dyn) Int) (: (: #t Dyn) Bool) (: (: () Dyn) Unit))"),
+        err: "answer ()\n",
+        ..RUN
+    },
+    Row {
+        words: "run a --region 8000008",
+        file: Text("(vector-ref (make-vector 1000000 7) 999999)"),
+        err: "answer 7\n",
+        ..RUN
+    },
+    Row {
+        words: "run a --region 8000000",
+        file: Text("(vector-ref (make-vector 1000000 7) 999999)"),
+        status: 5,
+        err: "exhausted region\n",
+        ..RUN
+    },
+    Row {
+        words: "run a --region 8",
+        file: Text("(vector-length (make-vector 0 7))"),
+        err: "answer 0\n",
+        ..RUN
+    },
+    Row {
+        words: "run a --region 0",
+        file: Text("(vector-length (make-vector 0 7))"),
+        status: 5,
+        err: "exhausted region\n",
         ..RUN
     },
     Row {
@@ -1688,6 +1793,13 @@ pub(crate) fn wrong_row(alloc: Global, rows: &'static [Row]) -> Result<&'static 
 #[test]
 fn programs(rt: HostRuntime) -> Result<(), NoMemory> {
     let wrong = wrong_row(rt.alloc(), PROGRAMS)?;
+    assert!(rt; wrong.is_empty(), "{wrong}");
+    Ok(())
+}
+
+#[test]
+fn calls_through_proxies(rt: HostRuntime) -> Result<(), NoMemory> {
+    let wrong = wrong_row(rt.alloc(), PROXIED)?;
     assert!(rt; wrong.is_empty(), "{wrong}");
     Ok(())
 }

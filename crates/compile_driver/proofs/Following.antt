@@ -223,7 +223,7 @@ module _ {program : Program} {rows : List CastRow} {term : RowTerm} {answer : �
         (follows_is_transitive (follows_of words_follow) (flat_follows passed input))
 
     -- so whole objects fill the machine's region at each moment
-    pub keeps : (m : ℕ) → KeepsStorage tallest begin (mach image region stack input m).shown
+    pub keeps : (m : ℕ) → KeepsStorage program.types tallest begin (mach image region stack input m).shown
     keeps m =
         let machine = machine_follows.back m in
         let words = words_follow.back machine.0 in
@@ -234,7 +234,7 @@ module _ {program : Program} {rows : List CastRow} {term : RowTerm} {answer : �
   pub follows_program : FollowsProgram image program
   follows_program region stack input r s = follows region stack input r s
 
-  pub keeps_space : KeepsSpace image tallest
+  pub keeps_space : KeepsSpace image program.types tallest
   keeps_space region stack input m r s = keeps region stack input r s m
 
 -- ---- what the passes answer

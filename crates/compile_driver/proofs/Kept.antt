@@ -2,7 +2,8 @@
 use Rattle.std.proofs.Common.{◌≡◌, ℕ, ◌+◌, ◌*◌, ◌%◌, ◌<◌, ◌≤◌, ◌^◌, true, List, [], ◌∷◌, ◌++◌, length, Some, None, refl}
 use Rattle.std.proofs.Common.{sym, ap, ◌∙◌, subst, append-nil, arith}
 use Rattle.std.specs.Prelude.{All, ◌==◌, ◌&&◌, nat_le, if◌then◌else◌, slice_index}
-use Rattle.grift_base.specs.Types.{TypeRows}
+use Rattle.grift_base.specs.Types.{TypeRow, TypeRows, IntRow, BoolRow, UnitRow, DynRow, FunRow, TupleRow, RefRow}
+use Rattle.grift_base.specs.Types.{VectRow}
 use Rattle.grift_base.specs.declared.places.Pos.{Pos}
 use Rattle.grift_base.specs.declared.words.Statics.{Statics}
 use Rattle.rv_machine.specs.Memory.{first_address, load_bytes}
@@ -10,6 +11,7 @@ use Rattle.rv_machine.specs.Start.{IsRegionSize, IsStackSize, fresh_world}
 use Rattle.rv_machine.specs.State.{State}
 use Rattle.rv_machine.proofs.Public.{load_same}
 use Rattle.object_layout.specs.declared.wholes.Area.TheVariants.{Statics as InStatics}
+use Rattle.object_layout.specs.Kinds.{is_type}
 use Rattle.object_layout.specs.Wholes.{Telling, IsRow}
 use Rattle.low_ir.specs.Procedures.{Proc}
 use Rattle.low_ir.specs.Run.{LowShown}
@@ -28,8 +30,17 @@ use Rattle.reg_assign.specs.Images.{HasRegionOf, IsImageOfWords}
 use Rattle.compile_driver.specs.Space.{IsStored, KeepsStorage, told_by}
 use Rattle.compile_driver.proofs.Matching.{Fit, fit_match, starts, statics_fit, words_hold}
 use Rattle.compile_driver.proofs.Starting.{are_placed, layout, setting, start}
-use Rattle.compile_driver.proofs.StaticKinds.{type_is, types_and_coercions}
 use Rattle.compile_driver.proofs.Storing.{storage_is_so}
+
+type_is : (row : TypeRow) → is_type (type_kind row) ≡ true
+type_is IntRow = refl
+type_is BoolRow = refl
+type_is UnitRow = refl
+type_is DynRow = refl
+type_is (FunRow parameters answer) = refl
+type_is (TupleRow parts) = refl
+type_is (RefRow content) = refl
+type_is (VectRow content) = refl
 
 -- words that stand one after another are told so, where each is told
 tells_all : (T : Telling) (m : ℕ → ℕ) (end at : ℕ) (words : List ℕ)
@@ -73,7 +84,7 @@ module _ {image : List ℕ} {procs : List Proc} {entry : ℕ} {statics : Statics
       pub kept : (objects : List Object)
           → Filled (setting is placed words region stack region_size stack_size (fresh_world input)) l objects
           (record { memory = shown.memory; alloc = shown.alloc; words = shown.words })
-          → KeepsStorage tallest begin s
+          → KeepsStorage types tallest begin s
       kept objects filled =
           let set = setting is placed words region stack region_size stack_size (fresh_world input) in
           let at = are_placed is placed words region stack region_size stack_size (fresh_world input) tallest in
@@ -99,8 +110,8 @@ module _ {image : List ℕ} {procs : List Proc} {entry : ℕ} {statics : Statics
             stored = record { statics = sh; region = l.region; objects = row.0 };
             begins = refl;
             is_stored =
-                subst (λ n. IsStored (record { statics = sh; region = l.region; objects = row.0 }) (told_by s) tallest
-                begin.layout.code n) (sym shares.alloc)
+                subst (λ n. IsStored (record { statics = sh; region = l.region; objects = row.0 }) (told_by s) types
+                tallest begin.layout.code n) (sym shares.alloc)
                 (storage_is_so set l objects heap at stand low filled (told_by s) says row.0 sh row.1
                 (λ w o e. starts os sh first_address w o (fit_match os sh fit)
                 (subst (λ xs. object_at xs first_address w ≡ Some o) same e))
@@ -112,10 +123,10 @@ module _ {image : List ℕ} {procs : List Proc} {entry : ℕ} {statics : Statics
                   kind_is = number_of_kind (type_kind (rows_of types type));
                   type = type_is (rows_of types type);
                 })
-                begin.layout.code
+                types begin.layout.code
                 (subst (IsRow (told_by s) InStatics first_address sh)
                 (let e : first_address + 8 * length statics.words ≡ begin.layout.code = omega (arith, size) in e)
-                (placed.whole (told_by s) tells)) (types_and_coercions types nodes));
+                (placed.whole (told_by s) tells)) (record { nodes = nodes; are = refl }));
             inside =
                 let alloc = shares.alloc in
                 let in_region = shares.inside in

@@ -5,7 +5,6 @@ pub mod HeldCasts
 pub mod Starting
 pub mod Layouts
 pub mod Matching
-pub mod StaticKinds
 pub mod Storing
 pub mod Kept
 pub mod Following

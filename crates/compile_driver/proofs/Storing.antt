@@ -3,7 +3,8 @@
 use Rattle.std.proofs.Common.{◌≡◌, ◌⊎◌, inl, inr, ℕ, suc, ◌+◌, ◌*◌, ◌%◌, ◌<◌, ◌≤◌, Bool, true, false, cond, nat_eq}
 use Rattle.std.proofs.Common.{max, List, [], ◌∷◌, ◌++◌, length, replicate, Some, None, refl, sym, ap, ap₂, ◌∙◌, subst}
 use Rattle.std.proofs.Common.{append_assoc, append-nil, eqb-true, arith}
-use Rattle.std.specs.Prelude.{◌==◌, ◌&&◌, nat_le, if◌then◌else◌, All, option_and_then}
+use Rattle.std.specs.Prelude.{◌==◌, ◌&&◌, nat_le, if◌then◌else◌, option_and_then}
+use Rattle.grift_base.specs.Types.{TypeRows}
 use Rattle.rv_machine.specs.Memory.{Memory, first_address, load_bytes}
 use Rattle.low_ir.specs.Run.{Setting}
 use Rattle.object_layout.specs.declared.headers.Header.{Header}
@@ -37,7 +38,7 @@ use Rattle.rt_cast.specs.WholeObjects.{CoercionWord, IdWord, ObjectWord, Highest
 use Rattle.rt_cast.specs.WholeObjects.{WholeFail, WholeMiddle, WholeInject, WholeProject, WholeProxy, WholeDyn}
 use Rattle.rt_cast.specs.WholeObjects.{WholeOther}
 use Rattle.rt_cast.proofs.Public.{none_some, same_some}
-use Rattle.compile_driver.specs.Space.{Stored, Begins, BeginsType, IsTypeOrCoercion, Leads, LeadFrom, IsStored}
+use Rattle.compile_driver.specs.Space.{Stored, Begins, BeginsType, AreStatic, Leads, LeadFrom, IsStored}
 use Rattle.compile_driver.proofs.Matching.{Match, found, starts}
 
 -- ---- kinds
@@ -180,7 +181,7 @@ shape_of l before o types (WholeProxy wa wc kind y ws e solid there lower) = rec
   long = ap bytes_of e;
   small = omega arith;
 }
-shape_of l before o types (WholeDyn wt wx type e held) = record {
+shape_of l before o types (WholeDyn wt wx type e held lower) = record {
   kind = Dyn;
   height = 0;
   count = 2;
@@ -520,7 +521,7 @@ module _ (setting : Setting) (l : Layout) (objects : List Object) (heap : Heap) 
                 subst (λ n. n ≤ l.tallest)
                 (sym (ap (λ x. height_of (option_and_then (header_at T) x)) two.over ∙ ap height_of high.over)) lower;
           }
-      here (WholeDyn wt wx type e held) =
+      here (WholeDyn wt wx type e held lower) =
           let w = words_here (header 3 0 2) (wt ∷ wx ∷ []) e in
           let le = w.1 in
           let one = both (begin + 8) wt (omega (arith, even)) (omega (arith, above)) (omega (arith, le)) w.0.1.0 in
@@ -709,11 +710,11 @@ module _ (setting : Setting) (l : Layout) (objects : List Object) (heap : Heap) 
     proxy_low at h p true e = p.here.lower (proxy_there at h p e)
     proxy_low at h p false e = omega arith
 
-    pub storage_is_so : (statics_end : ℕ) → IsRow T Statics first_address sh statics_end → All IsTypeOrCoercion sh
-        → IsStored stored T l.tallest statics_end heap.alloc
-    storage_is_so statics_end static_row static_kinds = record {
+    pub storage_is_so : (rows : TypeRows) (statics_end : ℕ) → IsRow T Statics first_address sh statics_end
+        → AreStatic rows sh → IsStored stored T rows l.tallest statics_end heap.alloc
+    storage_is_so rows statics_end static_row static_are = record {
       statics_row = static_row;
-      statics_are = static_kinds;
+      statics_are = static_are;
       row =
           fills_same U T Region heap.alloc l.region hs heap.alloc
           (λ place at h n w. whole_moves at h (at_place place at h n) w) row;

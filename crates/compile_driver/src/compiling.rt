@@ -87,7 +87,7 @@ fn made_of(alloc: Global, types: &TypeTable, elab: &Elab) -> Result<Made, OutOfM
     ensures whole { IfOk result (λ made. IsImage made.image) }
     ensures tallest { IfOk result (λ made. made.tallest ≡ tallest_in (program_over types.now elab.now)) }
     ensures follows { IfOk result (λ made. FollowsProgram made.image (program_over types.now elab.now)) }
-    ensures space { IfOk result (λ made. KeepsSpace made.image made.tallest) }
+    ensures space { IfOk result (λ made. KeepsSpace made.image types.now made.tallest) }
 {
     types.len();
     are_narrow(elab.casts.as_slice());
@@ -117,7 +117,7 @@ pub fn compile(alloc: Global, text: &[u8]) -> Result<Compiled, FrontFault>
     ensures told { IfOk result (λ compiled. IsTold text.now compiled) }
     ensures whole { IfOk result (λ compiled. IsImage compiled.image) }
     ensures follows { IfOk result (λ compiled. FollowsProgram compiled.image (program_of compiled)) }
-    ensures space { IfOk result (λ compiled. KeepsSpace compiled.image compiled.tallest) }
+    ensures space { IfOk result (λ compiled. KeepsSpace compiled.image compiled.types compiled.tallest) }
     ensures refused { IfErr result (IsFault text.now) }
 {
     let done = elaborate_text(alloc, text)?;

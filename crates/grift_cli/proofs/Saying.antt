@@ -165,7 +165,8 @@ abbrev pub is_compiled : (call : CallSeen) (file : List ℕ) (limits : Limits) (
     (space : Bool) (name : Option (List ℕ)) (text input : List ℕ) (compiled : Compiled)
     → HasLoaded call (Run file limits input_name space name) text input → HasProgram text (program_of compiled)
     → IsTold text compiled → IsImage compiled.image → FollowsProgram compiled.image (program_of compiled)
-    → KeepsSpace compiled.image compiled.tallest → IsCompiled call limits space compiled.image input
+    → KeepsSpace compiled.image compiled.types compiled.tallest
+    → IsCompiled call limits space compiled.image input
 is_compiled call file limits input_name space name text input compiled l source told whole follows keeps = record {
   file = file;
   input_name = input_name;
@@ -176,7 +177,7 @@ is_compiled call file limits input_name space name text input compiled l source 
   source = source;
   whole = whole;
   follows = follows;
-  keeps = subst (KeepsSpace compiled.image) told.tallest keeps;
+  keeps = subst (KeepsSpace compiled.image compiled.types) told.tallest keeps;
 }
 
 -- the image of the source is run

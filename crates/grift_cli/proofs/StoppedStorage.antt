@@ -3,6 +3,7 @@ use Rattle.std.proofs.Common.{ℕ, zero, suc, ◌+◌, ◌*◌, ◌<◌, ◌≤�
 use Rattle.std.proofs.Common.{Some, None, refl, sym, ap, ◌∙◌, subst, arith}
 use Rattle.std.specs.Prelude.{◌&&◌, if◌then◌else◌, pos}
 use Rattle.grift_base.specs.Sink.{SinkSeen}
+use Rattle.grift_base.specs.Types.{TypeRows}
 use Rattle.rv_machine.specs.Mach.{mach, moment_of}
 use Rattle.rv_machine.specs.Start.{IsRegionSize, IsStackSize, fresh_world, layout_of, start_of}
 use Rattle.rv_machine.specs.State.{State, Halt, reg}
@@ -93,16 +94,16 @@ shown_by : (s : State) (o : Option Halt) → (moment_of (s, o)).shown ≡ s
 shown_by s None = refl
 shown_by s (Some halt) = refl
 
-module _ (limits : Limits) (image input : List ℕ) (tallest : ℕ) (r : IsRegionSize limits.region)
-    (k : IsStackSize limits.stack) (keeps : KeepsSpace image tallest) where
+module _ (limits : Limits) (image input : List ℕ) {types : TypeRows} (tallest : ℕ) (r : IsRegionSize limits.region)
+    (k : IsStackSize limits.stack) (keeps : KeepsSpace image types tallest) where
   abbrev begin : State
   begin = start_of image limits.region limits.stack (fresh_world input)
 
   -- its storage is as it has to be
-  kept : KeepsStorage tallest begin (run_within limits image input).0
+  kept : KeepsStorage types tallest begin (run_within limits image input).0
   kept =
       let here = run_is_its_turns-states limits.steps begin in
-      subst (KeepsStorage tallest begin)
+      subst (KeepsStorage types tallest begin)
       (ap (λ m. m.shown) here ∙ shown_by (run_within limits image input).0 (run_within limits image input).1)
       (keeps limits.region limits.stack input limits.steps r k)
 

@@ -72,7 +72,7 @@ pub record IsCompiled (call : CallSeen) (limits : Limits) (space : Bool) (image 
   pub source : HasProgram text program
   pub whole : IsImage image
   pub follows : FollowsProgram image program
-  pub keeps : KeepsSpace image (tallest_in program)
+  pub keeps : KeepsSpace image program.types (tallest_in program)
 
 -- the image was put whole, the verdict of its run on the input is this one, which is what the program comes to on it,
 -- and what it prints was put whole

@@ -13,6 +13,7 @@ use crate::commands::Limits;
 use crate::reports::{Report, Space};
 use crate::runner::{put_all, report_of, run_machine};
 use assembler::image::Image;
+use compile_driver::compiling::Compiled;
 use grift_base::lists::Bytes;
 use grift_base::sinks::Sink;
 use object_layout::walks::{SpaceReport, walk};
@@ -23,12 +24,11 @@ use rv_isa::number::Reg;
 use rv_machine::FIRST_ADDRESS;
 use std::alloc::Global;
 
-/// Puts an image that never goes wrong and keeps its storage whole, runs it within the limits on this input, puts what
-/// it prints, and tells beside the verdict how its region is filled as the machine stops.
+/// Puts the image of a source, which never goes wrong and keeps its storage whole, runs it within the limits on this
+/// input, puts what it prints, and tells beside the verdict how its region is filled as the machine stops.
 pub fn run_in_space<O: Sink, I: Sink>(
     alloc: Global,
-    image: &Image,
-    tallest: u32,
+    compiled: &Compiled,
     limits: Limits,
     input: Bytes,
     out: &mut O,
@@ -36,13 +36,14 @@ pub fn run_in_space<O: Sink, I: Sink>(
 ) -> Report
     requires region { IsRegionSize limits.region }
     requires stack { IsStackSize limits.stack }
-    requires well { RunsWell limits image.now input }
-    requires keeps { KeepsSpace image.now tallest }
-    ensures { RunsInSpace limits image.now input tallest
+    requires well { RunsWell limits compiled.now.image input }
+    requires keeps { KeepsSpace compiled.now.image compiled.now.types compiled.now.tallest }
+    ensures { RunsInSpace limits compiled.now.image input compiled.now.tallest
         (sink_seen O.written O.fault_count out.old out.new)
         (sink_seen I.written I.fault_count img.old img.new)
         result }
 {
+    let image = &compiled.image;
     if let Err(fault) = put_all(img, image.bytes()) {
         return report_of(fault);
     }
@@ -51,7 +52,7 @@ pub fn run_in_space<O: Sink, I: Sink>(
     };
     let space = Space {
         report: walked(&machine, region_start(image, limits)),
-        tallest,
+        tallest: compiled.tallest,
     };
     match put_all(out, machine.world().output.as_slice()) {
         Ok(()) => in_space(report, space),

@@ -139,11 +139,10 @@ fn report_of_run<S: Shelf, O: Sink, I: Sink>(
     match compile(alloc, bytes.as_slice()) {
         Err(fault) => report_of_source(fault),
         Ok(compiled) => {
-            let image = &compiled.image;
             if space {
-                run_in_space(alloc, image, compiled.tallest, limits, input, out, img)
+                run_in_space(alloc, &compiled, limits, input, out, img)
             } else {
-                run_image(alloc, image, limits, input, out, img)
+                run_image(alloc, &compiled.image, limits, input, out, img)
             }
         }
     }

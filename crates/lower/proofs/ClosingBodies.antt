@@ -1,5 +1,6 @@
 -- The code of a body.
 use Rattle.std.proofs.Common.{true, ℕ, suc, ◌+◌, ◌<◌, ◌≤◌, ◌≡◌, ◌⊎◌, inl, inr, List, [], ◌∷◌, length}
+use Rattle.std.proofs.Common.{Bool, false}
 use Rattle.std.proofs.Common.{refl, sym, subst, arith, ◌&&◌, ◌==◌, nat_le, slice_get}
 use Rattle.std.proofs.lemmas.Bool.{and_from, and_parts, eqb-true, leb-true, cases_eq, cases_lt}
 use Rattle.rv_isa.specs.declared.inst.Cond.TheVariants.{Ne}
@@ -16,7 +17,7 @@ use Rattle.lower.specs.declared.numbering.Shape.{Shape}
 use Rattle.lower.specs.declared.served.Served.{Served}
 use Rattle.lower.specs.Numbering.{operand_word, test_word, local_word}
 use Rattle.lower.specs.Emit.{found, found_all, source_at, perform, Then, ToCaller, Into}
-use Rattle.lower.specs.Emit.{apply_words, call, give, choose, group_code, emit}
+use Rattle.lower.specs.Emit.{apply_words, call, call_bare, call_by, is_sibling, give, choose, group_code, emit}
 use Rattle.lower.specs.Lowered.{levels}
 use Rattle.lower.specs.Serving.{Serve, operands_have_words, operators_have_words}
 use Rattle.lower.proofs.ClosingKnowledge.{Known, More, more_same, more_then, more_both, Reads, AllRead, read_more}
@@ -136,6 +137,28 @@ module _ (flat : List FlatProc) (procs : List Proc) (n : ℕ) where
         (λ c m' h. ends_done procs n c (Sets procs n a d) (more_then a b c m m', h)))
         (sets_both procs n a d k Q fine.1)
 
+    bare_call_ends : (s : Shape) (f : LowSource) (os : List LowSource) (next : Then) (a : Known) (Q : Known → Type 0)
+        → test_word s < n → Reads procs n a f → AllRead procs n a os → length os ≤ 6 → Fine a next Q
+        → Ends procs n a (call_bare s f os next) Q
+    bare_call_ends s f os ToCaller a Q l r qs few fine =
+        let t = test_word s in
+        load_ends procs n a t f 8 (TailCallAt (Word t) (f ∷ os)) Q l r refl
+        (λ b m h. tail_call_at_ends procs n b (Word t) (f ∷ os) Q (read_word procs n b t l h)
+        (read_then procs n b f os (read_more procs n a b f m r) (all_read_more procs n a b os m qs)) (omega arith)
+        (fine b m))
+    bare_call_ends s f os (Into d k) a Q l r qs few fine =
+        let t = test_word s in
+        load_ends procs n a t f 8 (CallAt d (Word t) (f ∷ os) k) Q l r refl
+        (λ b m h. call_at_ends procs n b d (Word t) (f ∷ os) k Q fine.0 (read_word procs n b t l h)
+        (read_then procs n b f os (read_more procs n a b f m r) (all_read_more procs n a b os m qs)) (omega arith)
+        (λ c m' h'. fine.1 c (more_then a b c m m') h'))
+
+    call_by_ends : (bare : Bool) (s : Shape) (f : LowSource) (os : List LowSource) (next : Then) (a : Known)
+        (Q : Known → Type 0) → test_word s < n → Reads procs n a f → AllRead procs n a os → length os ≤ 6
+        → Fine a next Q → Ends procs n a (call_by run bare s f os next) Q
+    call_by_ends true s f os next a Q l r qs few fine = bare_call_ends s f os next a Q l r qs few fine
+    call_by_ends false s f os next a Q l r qs few fine = call_ends_in s f os next a Q l r qs few fine
+
     -- the value of an operation, put into the word for the answer, is given to the caller
     returned : (s : Shape) (captured group depth : ℕ) (op : Operation) (a : Known) (Q : Known → Type 0)
         → Ready procs n s depth a → operation_bound captured group depth op ≡ true → operands_have_words op ≡ true
@@ -215,10 +238,11 @@ module _ (flat : List FlatProc) (procs : List Proc) (n : ℕ) where
         let ss = found_all s 1 os in
         let same = found_length procs n s 1 os in
         let inside = r.room in
-        fetch_all_ends procs n s captured group depth (f ∷ os) 0 a (call run s (found s w f) ss next) Q (omega arith) r
+        fetch_all_ends procs n s captured group depth (f ∷ os) 0 a
+        (call_by run (is_sibling f) s (found s w f) ss next) Q (omega arith) r
         (and_from (operand_bound captured group depth f) (operands_bound captured group depth os) p.0 q.0)
         (λ b m h. let reads = and_parts (is_read all_words n b (found s w f)) (are_read all_words n b ss) h in
-        call_ends_in s (found s w f) ss next b Q (omega arith) reads.0 reads.1 (omega arith)
+        call_by_ends (is_sibling f) s (found s w f) ss next b Q (omega arith) reads.0 reads.1 (omega arith)
         (fine_more a b next Q m fine))
     emit_ends stand s captured group depth (Choose o x y) next a Q room r bound few fine =
         let p = and_parts (operand_bound captured group depth o) (body_bound flat captured group depth x

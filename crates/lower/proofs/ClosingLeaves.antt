@@ -30,8 +30,8 @@ use Rattle.lower.specs.CastWays.{way_at}
 use Rattle.lower.specs.Numbering.{own_word, operand_word, test_word, local_word, function_offset, captured_offset}
 use Rattle.lower.specs.Emit.{header, make_cast, load_far, store_far, leader_code, leader, fetch, found, fetch_all}
 use Rattle.lower.specs.Emit.{found_all, of_kind, source_at, operator, part, perform, store_captured, store_others}
-use Rattle.lower.specs.Emit.{name_others, group_words, group_code, Then, ToCaller, Into, call, give, choose}
-use Rattle.lower.specs.Emit.{apply_words, emit}
+use Rattle.lower.specs.Emit.{name_others, group_words, group_code, Then, ToCaller, Into, call, call_by, give, choose}
+use Rattle.lower.specs.Emit.{apply_words, is_sibling, emit}
 
 -- ---- what stands in front of a code leaves just where that does
 
@@ -204,6 +204,12 @@ module _ (run : Served) where
       of_kind_leaves s f 1 (Load (test_word s) f 8 (CallAt d (Word (test_word s)) (f ∷ os) Done))
       (CallOf d run.apply (apply_words f os) Done) k h
 
+  call_by_leaves : (b : Bool) (s : Shape) (f : LowSource) (os : List LowSource) (next : Then) → Leaves next
+      → leaves (call_by run b s f os next) ≡ true
+  call_by_leaves true s f os ToCaller h = refl
+  call_by_leaves true s f os (Into d k) h = h
+  call_by_leaves false s f os next h = call_leaves s f os next h
+
   give_leaves : (s : Shape) (op : Operation) (next : Then) → Leaves next → leaves (give run s op next) ≡ true
   give_leaves s (Move o) ToCaller h = fetch_leaves s (operand_word s 0) o (Return (found s (operand_word s 0) o))
   give_leaves s (Prim op os) ToCaller h = perform_leaves s (test_word s) (Prim op os) (Return (Word (test_word s))) refl
@@ -232,7 +238,8 @@ module _ (run : Served) where
   emit_leaves s (Call f os) next h =
       let x = found s (operand_word s 0) f in
       let ss = found_all s 1 os in
-      fetch_all_leaves s 0 (f ∷ os) (call run s x ss next) ∙ call_leaves s x ss next h
+      fetch_all_leaves s 0 (f ∷ os) (call_by run (is_sibling f) s x ss next)
+      ∙ call_by_leaves (is_sibling f) s x ss next h
   emit_leaves s (Choose o a b) next h =
       let x = found s (operand_word s 0) o in
       fetch_leaves s (operand_word s 0) o (choose run x (emit run s a) (emit run s b) next)

@@ -9,7 +9,7 @@ use Rattle.flat_ir.specs.Bodies.{Proc as FlatProc}
 use Rattle.flat_ir.specs.Closed.{is_closed as flat_is_closed}
 use Rattle.rt_cast.specs.Procs.{cast_proc, cast_procs}
 use Rattle.rt_cast.proofs.Public.{procedures_are_closed-closed as casts_are_closed}
-use Rattle.rt_refs.specs.RefProcs.{proxy_procs}
+use Rattle.rt_refs.specs.RefProcs.{ref_procs}
 use Rattle.rt_refs.proofs.Public.{procedures_are_closed-closed as proxies_are_closed}
 use Rattle.lower.specs.declared.served.CastWay.{CastWay}
 use Rattle.lower.specs.declared.served.Served.{Served}
@@ -82,12 +82,12 @@ programs_with_sets_are_closed set numbers words ways flat entry answer serves h 
 
 module _ (procs : List Proc) (first : ℕ) (s : StandFrom procs first (merged_procs first)) where
   pub cast_stand : StandFrom procs first (cast_procs first)
-  cast_stand k p e = s k p (get_front (cast_procs first) (proxy_procs (27 + first) (2 + first)) k p e)
+  cast_stand k p e = s k p (get_front (cast_procs first) (ref_procs (27 + first) (2 + first)) k p e)
 
-  pub proxy_stand : StandFrom procs (27 + first) (proxy_procs (27 + first) (2 + first))
+  pub proxy_stand : StandFrom procs (27 + first) (ref_procs (27 + first) (2 + first))
   proxy_stand k p e =
       let at : slice_get (merged_procs first) (27 + k) ≡ Some p =
-      get_behind (cast_procs first) (proxy_procs (27 + first) (2 + first)) k ∙ e in
+      get_behind (cast_procs first) (ref_procs (27 + first) (2 + first)) k ∙ e in
       ap (slice_get procs) (omega arith) ∙ s (27 + k) p at
 
   pub merged_serves : Serve (merged_numbers first) procs
@@ -104,7 +104,7 @@ module _ (procs : List Proc) (first : ℕ) (s : StandFrom procs first (merged_pr
 
   merged_closed : each_closed procs (merged_procs first) ≡ true
   merged_closed =
-      each_append procs (cast_procs first) (proxy_procs (27 + first) (2 + first))
+      each_append procs (cast_procs first) (ref_procs (27 + first) (2 + first))
       (casts_are_closed procs first cast_stand)
       (proxies_are_closed procs (27 + first) (2 + first) proxy_stand (cast_proc first) (s 2 _ refl) refl)
 

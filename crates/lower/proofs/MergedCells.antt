@@ -10,7 +10,7 @@ use Rattle.rt_cast.specs.Procs.{Stand}
 use Rattle.rt_cast.specs.States.{Placed}
 use Rattle.rt_refs.specs.CellCodes.{read_proc, write_proc}
 use Rattle.rt_refs.specs.FillCodes.{fill_proc}
-use Rattle.rt_refs.specs.RefProcs.{Stand as RefsStand, proxy_procs}
+use Rattle.rt_refs.specs.RefProcs.{Stand as RefsStand, ref_procs}
 use Rattle.lower.specs.declared.served.Served.{Served}
 use Rattle.lower.specs.MergedMeaning.{merged_meaning, MergedCasts}
 use Rattle.lower.specs.SchemeLaws.{CellsServed}
@@ -24,7 +24,7 @@ module _ (setting : Setting) (l : Layout) (procs : List Proc) (casts : List Type
     (ready : Stand setting.procs first) (refs : RefsStand setting.procs (27 + first) (cast first))
     (region : l.region ≡ setting.region) (narrow : setting.top < 2 ^ 34) (read_is : run.read ≡ 28 + first)
     (write_is : run.write ≡ 29 + first) (fill_is : run.fill ≡ 30 + first) where
-  stands_at : (k n : ℕ) (p : LowProc) → slice_get (proxy_procs (27 + first) (cast first)) k ≡ Some p → k + (27 +
+  stands_at : (k n : ℕ) (p : LowProc) → slice_get (ref_procs (27 + first) (cast first)) k ≡ Some p → k + (27 +
       first) ≡ n
       → slice_get setting.procs n ≡ Some p
   stands_at k n p there e = ap (λ m. slice_get setting.procs m) (sym e) ∙ refs k p there

@@ -42,7 +42,7 @@ merged_procedures_serve = λ setting l procs casts first words placed begins sma
       products = merged_products setting first words (cast_ways l.types casts) stand;
       casting = merged_casts_made setting l procs casts words first run_by placed types held ready refl refl;
       words = merged_casts_have_words setting l procs casts words run_by held refl;
-      tagging = merged_casts_in_place setting l procs casts words run_by placed held refl;
+      made_in_place = merged_casts_in_place setting l procs casts words run_by placed held refl;
       parts = merged_parts_given setting l procs casts first run_by placed types held.tallest ready refl;
       cells = merged_cells_served setting l procs casts words first run_by placed types held ready proxies begins small
           refl refl refl;

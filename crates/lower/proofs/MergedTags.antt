@@ -39,7 +39,7 @@ use Rattle.lower.specs.CastWays.{in_place}
 use Rattle.lower.specs.CarriedValues.{CarriedIn}
 use Rattle.lower.specs.Emit.{cast_word}
 use Rattle.lower.specs.MergedMeaning.{merged_meaning, MergedCasts}
-use Rattle.lower.specs.SchemeLaws.{Here, OnWay, After, Serves, Holds, CastsInPlace, nothing}
+use Rattle.lower.specs.SchemeLaws.{Here, OnWay, After, Serves, GivesInPlace, CastsInPlace, nothing}
 use Rattle.lower.proofs.HeapObjects.{none_some, same_some, found_within}
 use Rattle.lower.proofs.MergedCasts.{row_of}
 use Rattle.lower.proofs.WordArithmetic.{tag_some}
@@ -166,7 +166,7 @@ module _ (setting : Setting) (l : Layout) (procs : List Proc) (casts : List Type
   abbrev Made : FlatValue Coercion → Coercion → ℕ → Type 0
   Made v c word =
       Serves merged_meaning setting l procs casts s nothing
-      (Holds merged_meaning setting l procs casts s places objects base word)
+      (GivesInPlace merged_meaning setting l procs casts s places objects base word)
       (flat_cast procs (merging l.types casts) store s.world v c base) number
       (decision_wraps (decision_at procs (merging l.types casts) (Some c) v)) s
 
@@ -211,7 +211,7 @@ module _ (setting : Setting) (l : Layout) (procs : List Proc) (casts : List Type
       dyn = subst (λ o. IsDynBy l objects o from w (tagged (tag_number tag) w)) (sym small) (refl, known)
 
       by : (b : Bool) → Serves merged_meaning setting l procs casts s nothing
-          (Holds merged_meaning setting l procs casts s places objects base (tagged (tag_number tag) w))
+          (GivesInPlace merged_meaning setting l procs casts s places objects base (tagged (tag_number tag) w))
           (make (merging l.types casts) (flat_arity procs) (flat_entered procs) store s.world
           (if b then Injecting from else NoCast) v base) number
           (decision_wraps {C = Coercion} (if b then Injecting from else NoCast)) s
@@ -261,7 +261,7 @@ module _ (setting : Setting) (l : Layout) (procs : List Proc) (casts : List Type
       After_by : Coercion → Type 0
       After_by inner =
           After merged_meaning setting l procs casts s nothing
-          (Holds merged_meaning setting l procs casts s places objects base (compute Sra w 3))
+          (GivesInPlace merged_meaning setting l procs casts s places objects base (compute Sra w 3))
           (flat_turn procs (merging l.types casts) store s.world (Return u) (CastFrame inner ∷ base)) (number + 0)
           (flat_turn_wraps procs (merging l.types casts) (Return u) (CastFrame inner ∷ base)) s
 
@@ -324,7 +324,7 @@ merged_casts_in_place setting l procs casts words run_by placed held ways_are =
     ap (λ ws. way_at (slice_get ws row)) ways_are ∙ (ap way_at (slice_get-map (cast_way l.types) casts row)
     ∙ ap (λ o. way_at (option_map (cast_way l.types) o)) r.1) in
     subst (λ c. Serves merged_meaning setting l procs casts s nothing
-    (Holds merged_meaning setting l procs casts s places objects base word)
+    (GivesInPlace merged_meaning setting l procs casts s places objects base word)
     (flat_cast procs (merging l.types casts) store s.world v c base) number
     (decision_wraps (decision_at procs (merging l.types casts) (Some c) v)) s) (sym r.2)
     (cast_made setting l procs casts placed s number places objects store here base v w carried cast.from cast.to

@@ -1,6 +1,6 @@
 -- Calls of functions in wrappers.
 use Rattle.std.proofs.Common.{◌≡◌, inl, inr, ℕ, zero, suc, ◌+◌, ◌^◌, ◌%◌, ◌≤◌, List, [], ◌∷◌, length, Some, None}
-use Rattle.std.proofs.Common.{◌≢◌, true, Option, refl, ap, ap₂, ◌∙◌, subst, arith}
+use Rattle.std.proofs.Common.{◌≢◌, true, false, Option, refl, sym, ap, ap₂, ◌∙◌, subst, arith}
 use Rattle.std.specs.Prelude.{◌&&◌, nat_le}
 use Rattle.run_laws.specs.Machines.{Go}
 use Rattle.run_laws.proofs.Public.{reaches_weaken}
@@ -14,6 +14,8 @@ use Rattle.coercion_norm.specs.ValueSteps.{Entering, onto, pendings_onto}
 use Rattle.coercion_norm.specs.Held.{TypesStand}
 use Rattle.coercion_norm.specs.Objects.{Object}
 use Rattle.flat_ir.specs.declared.code.Operand.{Operand}
+use Rattle.flat_ir.specs.declared.code.Operand.TheVariants.{Local, Captured, Sibling, Int, Bool as BoolCase}
+use Rattle.flat_ir.specs.declared.code.Operand.TheVariants.{Unit as UnitCase}
 use Rattle.flat_ir.specs.Bodies.{Call}
 use Rattle.flat_ir.specs.Closed.{operand_bound, operands_bound}
 use Rattle.flat_ir.specs.Machine.{FlatCode, FlatValue, FlatAfter, FlatState, FlatFrame, FlatFocus, FlatStore, Group}
@@ -23,7 +25,8 @@ use Rattle.lower.specs.declared.numbering.Shape.{Shape}
 use Rattle.rt_cast.specs.States.{Heap, entered}
 use Rattle.lower.specs.Storage.{Filled}
 use Rattle.lower.specs.Numbering.{operand_word, test_word}
-use Rattle.lower.specs.Emit.{Then, ToCaller, Into, emit, call, found, found_all, apply_words, source_at}
+use Rattle.lower.specs.Emit.{Then, ToCaller, Into, emit, call, call_by, is_sibling, found, found_all, apply_words}
+use Rattle.lower.specs.Emit.{source_at}
 use Rattle.lower.specs.CarriedValues.{AreCarried, CellsHeld}
 use Rattle.lower.specs.RelatedStates.{Fits, NoCasts, pending_values}
 use Rattle.lower.specs.SchemeLaws.{Spent, Aim, OnWay, After, Goes, Calls, Serves, at_or_zero}
@@ -317,6 +320,27 @@ module _ (program : Program) (typed : TypesStand program.l)
       in rw (e, there, fine) refl)
       (on waiting size (k ∷ rests) last (CallOf d program.run.apply (apply_words a (found_all s 1 os)) Done))))
 
+  -- the function is none of the group, since those have no wrappers
+  no_sibling : is_sibling fo ≡ false
+  no_sibling = by fo function
+    where
+      by : (o : Operand) → value locals group o ≡ RunWrap u cast → is_sibling o ≡ false
+      by (Local level) e = refl
+      by (Captured i) e = refl
+      by (Sibling i) e = let z : ⊥ = cc in absurd z
+      by (Int n) e = refl
+      by (BoolCase b) e = refl
+      by UnitCase e = refl
+
+  by_kind : (w : ℕ) (ws : List ℕ) (now : Locals) → CarriedHere program places objects (RunWrap u cast) w
+      → AreCarried program.l program.setting.address program.procs program.meaning places objects
+      (in_row (values locals group os)) ws → words_of now (a ∷ found_all s 1 os) ≡ Some (w ∷ ws)
+      → SameNamed s depth words now
+      → M (at f.world h waiting size rests now (call_by program.run (is_sibling fo) s a (found_all s 1 os) next))
+  by_kind w ws now carried all are same =
+      subst (λ bare. M (at f.world h waiting size rests now (call_by program.run bare s a (found_all s 1 os) next)))
+      (sym no_sibling) (by_next next rest w ws now carried all are same)
+
   carried_all : (ws : List ℕ)
       × AreCarried program.l program.setting.address program.procs program.meaning places objects
       (in_row (values locals group os)) ws
@@ -338,7 +362,7 @@ module _ (program : Program) (typed : TypesStand program.l)
   call_served = (
     silent,
     after_fetching program typed f places objects h filled waiting size rests s count depth group locals wide entering 0
-        (fo ∷ os) words (call program.run s a (found_all s 1 os) next) all_bound (omega (arith, few)) fits.knows
+        (fo ∷ os) words (call_by program.run (is_sibling fo) s a (found_all s 1 os) next) all_bound (omega (arith, few)) fits.knows
         (λ ws now carried are changed. fetched ws now carried are changed),
   )
     where
@@ -359,9 +383,9 @@ module _ (program : Program) (typed : TypesStand program.l)
           (in_row (values locals group (fo ∷ os))) all
           → words_of now (found_all s 0 (fo ∷ os)) ≡ Some all
           → ChangesFrom (operand_word s 0) (length (fo ∷ os)) words now
-          → M (at f.world h waiting size rests now (call program.run s a (found_all s 1 os) next))
+          → M (at f.world h waiting size rests now (call_by program.run (is_sibling fo) s a (found_all s 1 os) next))
       fetched [] now carried are changed = absurd carried
       fetched (w ∷ ws) now carried are changed =
-          by_next next rest w ws now (subst (λ v. CarriedHere program places objects v w) function carried.0) carried.1
+          by_kind w ws now (subst (λ v. CarriedHere program places objects v w) function carried.0) carried.1
           are (same_besides s depth (operand_word s 0) (length (fo ∷ os)) words now (omega arith) (omega (arith, few))
           changed)

@@ -1,6 +1,6 @@
 -- The turns of calls.
 use Rattle.std.proofs.Common.{◌≡◌, ◌≢◌, inl, inr, ℕ, zero, suc, ◌+◌, ◌*◌, ◌<◌, ◌≤◌, List, [], ◌∷◌}
-use Rattle.std.proofs.Common.{Some, None, true, length, refl, sym, ap, ◌∙◌, subst, arith, Option}
+use Rattle.std.proofs.Common.{Bool, Some, None, true, false, length, refl, sym, ap, ◌∙◌, subst, arith, Option}
 use Rattle.std.proofs.Common.{ne_eqb, eq-eqb}
 use Rattle.std.specs.Prelude.{slice_get, ◌==◌, ◌&&◌, nat_le, if◌then◌else◌}
 use Rattle.low_ir.specs.declared.code.LowSource.TheVariants.{Word}
@@ -22,7 +22,8 @@ use Rattle.rt_cast.specs.States.{Heap}
 use Rattle.lower.specs.Storage.{Filled}
 use Rattle.lower.specs.declared.numbering.Shape.{Shape}
 use Rattle.lower.specs.Numbering.{test_word, operand_word, local_word, function_offset}
-use Rattle.lower.specs.Emit.{Then, ToCaller, Into, emit, found, found_all, call, of_kind, apply_words}
+use Rattle.lower.specs.Emit.{Then, ToCaller, Into, emit, found, found_all, call, call_bare, call_by, is_sibling, of_kind}
+use Rattle.lower.specs.Emit.{apply_words}
 use Rattle.lower.specs.Lowered.{levels, low_proc, shape_of}
 use Rattle.coercion_norm.specs.Held.{There}
 use Rattle.std.proofs.Common.{le_refl}
@@ -33,7 +34,8 @@ use Rattle.lower.proofs.HeapFilled.{WordThere, word_there, header_there}
 use Rattle.lower.proofs.CarriedLater.{as_many, carried_at, function_there}
 use Rattle.lower.proofs.RelationKept.{rest_same, rest_branch, word_here, word_other, local_low, SameNamed}
 use Rattle.lower.proofs.RelationKept.{Named, OwnName, LowName, HighName}
-use Rattle.lower.proofs.WordSteps.{at, Comes, Moves, here, moves_later, loads, tail_calls_at, calls_at, waiting_for}
+use Rattle.lower.proofs.WordSteps.{at, Comes, Moves, here, moves_later, loads, loads_first, tail_calls_at, calls_at}
+use Rattle.lower.proofs.WordSteps.{waiting_for}
 use Rattle.lower.proofs.WordSteps.{Calm}
 use Rattle.lower.proofs.WordScene.{Scene}
 use Rattle.lower.proofs.WordOperands.{fetch_all_reads, and_true, Changes, ChangesFrom, found_all_same}
@@ -365,6 +367,47 @@ module _ (program : Program) where
                 loads program.setting (Way program f f') (R program f') calm w code_address (found_is last changed)
                 code_there.may code_there.is (let z = code_there.end in omega arith) (omega (arith, room)) c
 
+            first_loaded : (k : Code)
+                → Follows program f after (at f.world h waiting size rests (set_local (test_word s) code_address now) k)
+                → Going (at f.world h waiting size rests now (Load (test_word s) (found s (operand_word s 0) fo) 8 k))
+            first_loaded k c =
+                loads_first program.setting (Way program f f') (R program f') calm w code_address
+                (found_is now (λ j ne. refl)) code_there.may code_there.is (let z = code_there.end in omega arith)
+                (omega (arith, room)) c
+
+            test_apart : (j : ℕ) → Named s depth j → j ≢ test_word s
+            test_apart j (OwnName e) = λ z. omega (arith, z, e)
+            test_apart j (LowName p q) = λ z. omega (arith, z, q)
+            test_apart j (HighName p q) = λ z. omega (arith, z, p)
+
+            -- what is no proxy is not asked for its kind
+            goes_bare : (next : Then)
+                → RestHere program places objects waiting s count size group depth f.frames next rests words
+                → Going (at f.world h waiting size rests now
+                (call_bare s (found s (operand_word s 0) fo) (found_all s 1 os) next))
+            goes_bare ToCaller r =
+                first_loaded (TailCallAt (Word (test_word s)) (found s (operand_word s 0) fo ∷ found_all s 1 os))
+                (tail_calls_at program.setting (Way program f f') (R program f') calm code_address (w ∷ ws) low
+                (word_here (test_word s) code_address now)
+                (still (set_local (test_word s) code_address now) (again now (λ j ne. refl))) at_code takes
+                (inside waiting r))
+            goes_bare (Into d k) r =
+                let words' = set_local (test_word s) code_address now in
+                let changed = again now (λ j ne. refl) in
+                let named : SameNamed s depth words words' = λ j n. changed j (test_apart j n) ∙ same j n in
+                first_loaded (CallAt d (Word (test_word s)) (found s (operand_word s 0) fo ∷ found_all s 1 os) k)
+                (calls_at program.setting (Way program f f') (R program f') calm code_address (w ∷ ws) low
+                (word_here (test_word s) code_address now) (still words' changed) at_code takes
+                (inside (waiting_for d size rests words' k ∷ waiting) (inr (inl (
+                  s,
+                  count,
+                  group,
+                  depth,
+                  rest_same program.setting program.l program.run program.procs program.answer program.meaning
+                      program.laws places objects (CallersHere program places objects waiting) s count size group depth
+                      f.frames (Into d k) rests words words' named r,
+                )))))
+
             goes_on : (next : Then)
                 → RestHere program places objects waiting s count size group depth f.frames next rests words
                 → Going (at f.world h waiting size rests now
@@ -405,17 +448,19 @@ module _ (program : Program) where
                       (CallersHere program places objects waiting) s count size group depth f.frames (Into d k) rests
                       words words' named r),
                 ))))))
-              where
-                test_apart : (j : ℕ) → Named s depth j → j ≢ test_word s
-                test_apart j (OwnName e) = λ z. omega (arith, z, e)
-                test_apart j (LowName p q) = λ z. omega (arith, z, q)
-                test_apart j (HighName p q) = λ z. omega (arith, z, p)
+
+            goes_by : (bare : Bool) (next : Then)
+                → RestHere program places objects waiting s count size group depth f.frames next rests words
+                → Going (at f.world h waiting size rests now
+                (call_by program.run bare s (found s (operand_word s 0) fo) (found_all s 1 os) next))
+            goes_by true next r = goes_bare next r
+            goes_by false next r = goes_on next r
 
           pub call_goes : Going (at f.world h waiting size rests words (emit program.run s (Call fo os) next))
           call_goes =
               let m = fetch_all_reads (scene_for program f f' Going places) f.world (inl refl) h objects filled waiting
               size rests s count group depth locals (fo ∷ os) 0 bound_all (omega (arith, few)) room words fits.knows
-              (call program.run s (found s (operand_word s 0) fo) (found_all s 1 os) next)
+              (call_by program.run (is_sibling fo) s (found s (operand_word s 0) fo) (found_all s 1 os) next)
               (λ all now carried are changed. fetched all now carried are changed) in
               moves_later program.setting (Way program f f') (R program f') m.steps
               (at f.world h waiting size rests words (emit program.run s (Call fo os) next)) m.reach
@@ -429,12 +474,12 @@ module _ (program : Program) where
                   → words_of now (found_all s 0 (fo ∷ os)) ≡ Some all
                   → ChangesFrom (operand_word s 0) (length (fo ∷ os)) words now
                   → Comes program.setting (Way program f f') Going (at f.world h waiting size rests now
-                  (call program.run s (found s (operand_word s 0) fo) (found_all s 1 os) next))
+                  (call_by program.run (is_sibling fo) s (found s (operand_word s 0) fo) (found_all s 1 os) next))
               fetched [] now carried are changed = absurd carried
               fetched (w ∷ ws) now carried are changed =
                   here program.setting (Way program f f') Going (at f.world h waiting size rests now
-                  (call program.run s (found s (operand_word s 0) fo) (found_all s 1 os) next))
-                  (goes_on w ws now
+                  (call_by program.run (is_sibling fo) s (found s (operand_word s 0) fo) (found_all s 1 os) next))
+                  (goes_by w ws now
                   (subst (λ v. CarriedHere program places objects v w) function carried.0) carried.1
                   (same_besides s depth (operand_word s 0) (length (fo ∷ os)) words now (omega arith)
-                  (omega (arith, few)) changed) are next rest)
+                  (omega (arith, few)) changed) are (is_sibling fo) next rest)

@@ -185,7 +185,7 @@ module _ (program : Program) (typed : TypesStand program.l)
             → compute op m n ≡ word → in_place way y ≡ Some word
             → Comes program.setting P Q (at f.world h waiting size (k ∷ rests) last (Compute op d b b' Done))
         one op b b' m n word first second made law =
-            let z = program.tagging (at f.world h waiting size (k ∷ rests) last (Compute op d b b' Done))
+            let z = program.made_in_place (at f.world h waiting size (k ∷ rests) last (Compute op d b b' Done))
             program.number places objects f.store (record { filled = filled; cells = cells }) f.frames number c e v y
             carried word law in
             put_in_place program typed f places objects h filled waiting size rests words s count depth group next rest

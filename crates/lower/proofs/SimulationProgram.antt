@@ -73,7 +73,7 @@ module _ (meaning : Meaning) (laws : MeaningLaws meaning) (setting : Setting) (l
     products = does.products;
     casting = does.casting;
     words = does.words;
-    tagging = does.tagging;
+    made_in_place = does.made_in_place;
     parts = does.parts;
     cells = does.cells;
     calling = does.calling;

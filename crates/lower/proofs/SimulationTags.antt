@@ -16,7 +16,7 @@ use Rattle.lower.specs.declared.numbering.Shape.{Shape}
 use Rattle.rt_cast.specs.States.{Heap, heap_of}
 use Rattle.lower.specs.Storage.{Filled}
 use Rattle.lower.specs.Emit.{Then}
-use Rattle.lower.specs.SchemeLaws.{Here, OnWay, After, Goes, Holds, nothing}
+use Rattle.lower.specs.SchemeLaws.{Here, OnWay, After, Goes, GivesInPlace, nothing}
 use Rattle.lower.proofs.RelationKept.{word_here, word_other}
 use Rattle.lower.proofs.WordSteps.{at, Comes, Moves, Calm, here, moved, falls_through, lt_true}
 use Rattle.lower.proofs.WordOperations.{Touches}
@@ -51,7 +51,7 @@ module _ (program : Program) (typed : TypesStand program.l) (f : FlatState progr
 
   abbrev Aimed : FlatFocus program.meaning.Cast → List (FlatFrame program.meaning.Cast)
       → FlatStore program.meaning.Cast → ℕ → LowState → Type 0
-  Aimed = Holds program.meaning program.setting program.l program.procs program.casts maker places objects f.frames word
+  Aimed = GivesInPlace program.meaning program.setting program.l program.procs program.casts maker places objects f.frames word
 
   lands_at : (u : FlatValue program.meaning.Cast) (store : FlatStore program.meaning.Cast) (n : ℕ)
       → Here program.meaning program.setting program.l program.procs program.casts places objects store n
@@ -113,7 +113,7 @@ module _ (program : Program) (typed : TypesStand program.l) (f : FlatState progr
   pub put_in_place : (x : FlatAfter program.meaning.Cast) (w i : ℕ)
       → After program.meaning program.setting program.l program.procs program.casts maker nothing
       (Goes program.meaning program.setting program.l program.procs program.casts maker nothing
-      (Holds program.meaning program.setting program.l program.procs program.casts maker places objects f.frames word)
+      (GivesInPlace program.meaning program.setting program.l program.procs program.casts maker places objects f.frames word)
       i) x program.number w maker
       → Comes program.setting (OnServed program f.world.output program.number (program.number + w))
       (Landed program typed f (next_state program f x) (program.number + w)) maker

@@ -88,7 +88,7 @@ pub record Program : Type 1 where
   pub products : AnswerProducts setting run
   pub casting : CastsMade meaning setting l procs casts run
   pub words : CastsHaveWords meaning setting l procs casts run
-  pub tagging : CastsInPlace meaning setting l procs casts run
+  pub made_in_place : CastsInPlace meaning setting l procs casts run
   pub parts : PartsGiven meaning setting l procs casts run
   pub cells : CellsServed meaning setting l procs casts run
   pub calling : CallsMade meaning setting l procs casts run

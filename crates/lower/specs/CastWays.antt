@@ -1,5 +1,5 @@
--- How casts are made: in place where Dyn is joined with a type whose words stand behind a tag in Dyn, and else by the
--- procedure for casts.
+-- How casts are made: in place where Dyn is joined with a type whose words stand behind a tag in Dyn and the word that
+-- is cast allows it, and else by the procedure for casts.
 use Rattle.std.specs.Prelude.{ℕ, ◌%◌, ◌==◌, if◌then◌else◌, List, map, Option, Some, None}
 use Rattle.grift_base.specs.Types.{TypeRow, TypeRows, IntRow, BoolRow, UnitRow, DynRow, FunRow, TupleRow, RefRow}
 use Rattle.grift_base.specs.Types.{VectRow, is_dyn}
@@ -31,10 +31,12 @@ tag_of (VectRow content) = None
 
 -- ---- which way a cast goes
 
+-- into Dyn from a type with this tag, or with none
 abbrev pub into_dyn : Option Tag → CastWay
 into_dyn (Some tag) = IntoDyn tag
 into_dyn None = Called
 
+-- out of Dyn to such a type
 abbrev pub out_of_dyn : Option Tag → CastWay
 out_of_dyn (Some tag) = OutOfDyn tag
 out_of_dyn None = Called
@@ -44,6 +46,7 @@ abbrev pub way_between : TypeRow → TypeRow → CastWay
 way_between row other =
     if is_dyn row then out_of_dyn (tag_of other) else if is_dyn other then into_dyn (tag_of row) else Called
 
+-- by the types of the cast alone
 abbrev pub cast_way : TypeRows → TypeCast → CastWay
 cast_way types cast = way_between (rows_of types cast.from) (rows_of types cast.to)
 
@@ -56,7 +59,7 @@ abbrev pub way_at : Option CastWay → CastWay
 way_at (Some way) = way
 way_at None = Called
 
--- ---- what code makes of a word in place, where it does
+-- ---- what code makes of a word in place; none where it calls the procedure
 
 abbrev pub in_place : CastWay → ℕ → Option ℕ
 in_place Called word = None

@@ -1,5 +1,6 @@
 -- The code of a body.
 use Rattle.std.specs.Prelude.{ℕ, zero, suc, ◌+◌, ◌*◌, ◌==◌, nat_lt, ℤ, pos, negsuc, if◌then◌else◌}
+use Rattle.std.specs.Prelude.{Bool, true, false}
 use Rattle.std.specs.Prelude.{List, [], ◌∷◌, length, Option, Some, None, slice_get}
 use Rattle.std.specs.Int.{w64, cast_unsigned}
 use Rattle.grift_base.specs.declared.operators.PrimOp.{PrimOp}
@@ -158,8 +159,8 @@ module _ (run : Served) where
   abbrev pub call_cast : ℕ → LowSource → ℕ → Code → Code
   call_cast d a number k = CallOf d run.cast (a ∷ Number (cast_word (slice_get run.cast_at number)) ∷ []) k
 
-  -- in place: a word goes behind a tag where its three upper bits tell no more than its sign, and is taken from behind
-  -- a tag where it has this one; each other word is handed to the procedure
+  -- in place: a word goes behind a tag where its four upper bits are alike, so that a shift by the tag's three loses
+  -- nothing, and is taken from behind a tag where it has this one; each other word is handed to the procedure
   abbrev pub make_cast : Shape → ℕ → LowSource → ℕ → CastWay → Code → Code
   make_cast s d a number Called k = call_cast d a number k
   make_cast s d a number (IntoDyn tag) k =
@@ -252,8 +253,22 @@ apply_words f os =
     f ∷ source_at os 0 ∷ source_at os 1 ∷ source_at os 2 ∷ source_at os 3 ∷ source_at os 4 ∷ source_at os 5
     ∷ Number (length os) ∷ []
 
+-- a call of a function that is no proxy, by the code address in its object
+abbrev pub call_bare : Shape → LowSource → List LowSource → Then → Code
+call_bare s f os ToCaller = Load (test_word s) f 8 (TailCallAt (Word (test_word s)) (f ∷ os))
+call_bare s f os (Into d k) = Load (test_word s) f 8 (CallAt d (Word (test_word s)) (f ∷ os) k)
+
+-- whether an operand is a function of the group of the procedure that runs, which is never a proxy
+abbrev pub is_sibling : Operand → Bool
+is_sibling (Local level) = false
+is_sibling (Captured i) = false
+is_sibling (Sibling i) = true
+is_sibling (Int n) = false
+is_sibling (BoolCase b) = false
+is_sibling UnitCase = false
+
 module _ (run : Served) where
-  -- a call, by the code address in the function's object where that is no proxy
+  -- a call of any function, by the code address in its object where that is no proxy
   abbrev pub call : Shape → LowSource → List LowSource → Then → Code
   call s f os ToCaller =
       of_kind s f 1 (Load (test_word s) f 8 (TailCallAt (Word (test_word s)) (f ∷ os))) Done (
@@ -261,6 +276,11 @@ module _ (run : Served) where
   call s f os (Into d k) =
       of_kind s f 1 (Load (test_word s) f 8 (CallAt d (Word (test_word s)) (f ∷ os) Done))
       (CallOf d run.apply (apply_words f os) Done) k
+
+  -- a call of a function that is known to be no proxy, or of any
+  abbrev pub call_by : Bool → Shape → LowSource → List LowSource → Then → Code
+  call_by true s f os next = call_bare s f os next
+  call_by false s f os next = call s f os next
 
   -- the value of an operation goes where it is to go
   abbrev pub give : Shape → Operation → Then → Code
@@ -276,7 +296,7 @@ module _ (run : Served) where
   abbrev pub emit : Shape → Body → Then → Code
   emit s (Give op) next = give s op next
   emit s (Call f os) next =
-      fetch_all s 0 (f ∷ os) (call s (found s (operand_word s 0) f) (found_all s 1 os) next)
+      fetch_all s 0 (f ∷ os) (call_by (is_sibling f) s (found s (operand_word s 0) f) (found_all s 1 os) next)
   emit s (Choose o a b) next =
       fetch s (operand_word s 0) o (choose (found s (operand_word s 0) o) (emit s a) (emit s b) next)
   emit s (LetBody slot inner rest) next = emit s inner (Into (local_word s slot) (emit s rest next))

@@ -1,4 +1,4 @@
--- What a scheme's procedures do for a program, and what is shown of the run over words.
+-- What a scheme does for a program, by its procedures and in place, and what is shown of the run over words.
 use Rattle.std.specs.Prelude.{◌≡◌, ◌^◌, ◌<◌, ℕ, suc, true, List, length, Some}
 use Rattle.grift_base.specs.Types.{TypeRow, row_at}
 use Rattle.run_laws.specs.Runs.{Any, FollowsBy, NeverWrong}
@@ -27,13 +27,13 @@ use Rattle.lower.specs.Sets.{StandFrom, with_casts}
 use Rattle.lower.specs.SimulationClaims.{AreNarrow, IsLowered}
 use Rattle.lower.specs.SimulationServices.{AnswerProducts}
 
--- all that the procedures of a scheme are asked for
+-- all that a scheme is asked for: of its procedures, and of casts that are made in place
 pub record Serving (meaning : Meaning) (setting : Setting) (l : Layout) (procs : List Proc) (casts : List TypeCast)
     (run_by : Served) : Type 0 where
   pub products : AnswerProducts setting run_by
   pub casting : CastsMade meaning setting l procs casts run_by
   pub words : CastsHaveWords meaning setting l procs casts run_by
-  pub tagging : CastsInPlace meaning setting l procs casts run_by
+  pub made_in_place : CastsInPlace meaning setting l procs casts run_by
   pub parts : PartsGiven meaning setting l procs casts run_by
   pub cells : CellsServed meaning setting l procs casts run_by
   pub calling : CallsMade meaning setting l procs casts run_by

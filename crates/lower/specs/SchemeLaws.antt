@@ -1,5 +1,5 @@
--- What the procedures of a scheme do: each makes some turns of the numbered procedures, in the scheme's mode, in the
--- words that carry their values.
+-- What is asked of a scheme: each of its procedures makes some turns of the numbered procedures, in the scheme's mode,
+-- in the words that carry their values, and so does what code makes of a word in place, where no procedure is entered.
 use Rattle.std.specs.Prelude.{◌≡◌, ◌⊎◌, ℕ, zero, suc, ◌+◌, ◌%◌, ◌^◌, ◌<◌, ◌≤◌, ℤ, List, [], ◌∷◌, ◌++◌, length}
 use Rattle.std.specs.Prelude.{Some, slice_get}
 use Rattle.std.specs.Int.{w64, cast_unsigned, int_wrap}
@@ -141,11 +141,11 @@ module _ (meaning : Meaning) (setting : Setting) (l : Layout) (procs : List Proc
       (frames ≡ base) × ReturnsAt s places objects u store number t
   Returns s places objects base _ frames store number t = ⊥
 
-  -- no step is made: a value comes back that this word carries, where the same objects stand
-  abbrev pub Holds : LowState → List ℕ → List Object → List (FlatFrame meaning.Cast) → ℕ → Aim
-  Holds s places objects base word (Return u) frames store number t =
+  -- the state is as it was: a value comes back that this word carries, where the same objects stand
+  abbrev pub GivesInPlace : LowState → List ℕ → List Object → List (FlatFrame meaning.Cast) → ℕ → Aim
+  GivesInPlace s places objects base word (Return u) frames store number t =
       (t ≡ s) × (frames ≡ base) × Here places objects store number (heap_of s) × CarriedAt places objects u word
-  Holds s places objects base word _ frames store number t = ⊥
+  GivesInPlace s places objects base word _ frames store number t = ⊥
 
   -- a function without wrappers is about to be entered with these values, and one more procedure waits, which makes
   -- these casts of what it gives
@@ -206,19 +206,20 @@ module _ (meaning : Meaning) (setting : Setting) (l : Layout) (procs : List Proc
           number (decision_wraps (decision_at procs mode_here (Some cast) v))
           (entered s proc (w ∷ cast_word (slice_get run.cast_at row) ∷ []))
 
-    -- the word of each cast is one
+    -- what is handed on for each cast is below 2^64
     abbrev pub CastsHaveWords : Type 0
     CastsHaveWords =
         (row : ℕ) (cast : meaning.Cast) → mode_here.row row ≡ Some cast → cast_word (slice_get run.cast_at row) < 2 ^ 64
 
-    -- what code makes of a word in place carries what the cast makes of the word's value
+    -- what code makes of a word in place carries what the cast makes of the word's value; no procedure is entered, and
+    -- in a mode that takes several turns for a cast all of them pass
     abbrev pub CastsInPlace : Type 0
     CastsInPlace =
         (s : LowState) (number : ℕ) (places : List ℕ) (objects : List Object) (store : FlatStore meaning.Cast)
         → Here places objects store number (heap_of s) → (base : List (FlatFrame meaning.Cast)) (row : ℕ)
         (cast : meaning.Cast) → mode_here.row row ≡ Some cast → (v : FlatValue meaning.Cast) (w : ℕ)
         → CarriedAt places objects v w → (word : ℕ) → in_place (way_at (slice_get run.ways row)) w ≡ Some word
-        → Serves s nothing (Holds s places objects base word) (flat_cast procs mode_here store s.world v cast base)
+        → Serves s nothing (GivesInPlace s places objects base word) (flat_cast procs mode_here store s.world v cast base)
         number (decision_wraps (decision_at procs mode_here (Some cast) v)) s
 
     -- parts of tuples, in wrappers or not, and of values in Dyn

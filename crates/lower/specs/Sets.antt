@@ -3,7 +3,7 @@ use Rattle.std.specs.Prelude.{ℕ, ◌+◌, ◌≡◌, true, List, [], ◌++◌,
 use Rattle.low_ir.specs.Procedures.{Proc}
 use Rattle.low_ir.specs.Closed.{each_closed}
 use Rattle.rt_cast.specs.Procs.{cast_procs}
-use Rattle.rt_refs.specs.RefProcs.{proxy_procs}
+use Rattle.rt_refs.specs.RefProcs.{ref_procs}
 use Rattle.lower.specs.declared.served.CastWay.{CastWay}
 use Rattle.lower.specs.declared.served.ProcSet.{ProcSet}
 use Rattle.lower.specs.declared.served.Served.{Served}
@@ -43,7 +43,7 @@ with_casts numbers words ways = record numbers { cast_at = words; ways = ways }
 -- Casts and what they call; apply, read, write, fill and its loop; products and quotients. They are numbered from the
 -- first on.
 abbrev pub merged_procs : ℕ → List Proc
-merged_procs first = cast_procs first ++ proxy_procs (27 + first) (2 + first)
+merged_procs first = cast_procs first ++ ref_procs (27 + first) (2 + first)
 
 -- the numbers of those that code calls
 abbrev pub merged_numbers : ℕ → Served

@@ -4,7 +4,7 @@ ghost use Rattle.std.specs.Prelude.{◌≡◌, ◌∷◌, IfOk, OnOk};
 ghost use Rattle.flat_ir.specs.Views.{body_of};
 ghost use Rattle.low_ir.specs.Views.{code_of};
 ghost use Rattle.low_ir.specs.Procedures.{Done};
-ghost use Rattle.lower.specs.Emit.{Into, ToCaller, apply_words, call, emit, give, group_code};
+ghost use Rattle.lower.specs.Emit.{Into, ToCaller, apply_words, call_bare, call_by, emit, give, group_code, is_sibling};
 ghost use Rattle.lower.specs.Steps.{ahead, Adds};
 
 use crate::groups::Group;
@@ -20,6 +20,13 @@ use rv_isa::inst::Cond;
 
 /// The kind of functions that are no proxies.
 const FUNCTION: u64 = 1;
+
+// Whether an operand is a function of the group of the procedure that runs, which is never a proxy.
+fn is_sibling(operand: Operand) -> bool
+    ensures { result ≡ is_sibling operand }
+{
+    matches!(operand, Operand::Sibling(_))
+}
 
 impl Emitter<'_> {
     // A function and its arguments.
@@ -56,8 +63,8 @@ impl Emitter<'_> {
         LowSources::from_slice(self.alloc, &words)
     }
 
-    // A call whose answer is put into a word.
-    fn call_into(
+    // A call of a function that is no proxy, whose answer is put into a word.
+    fn call_bare_into(
         &self,
         steps: &mut Steps,
         function: LowSource,
@@ -65,8 +72,28 @@ impl Emitter<'_> {
         d: u32,
     ) -> Result<(), OutOfMemory>
         ensures { OnOk result (Adds steps.old.steps.items steps.new.steps.items
-            (λ k. call self.now.run.now self.now.shape function arguments.now (Into d k))) }
+            (λ k. call_bare self.now.shape function arguments.now (Into d k))) }
     {
+        let test = self.shape.operand_word(TEST_PLACE)?;
+        steps.push(Step::Load(test, function, 8))?;
+        steps.push(Step::CallAt(d, Word(test), self.with_function(function, arguments)?))
+    }
+
+    // A call whose answer is put into a word, of a function that is known to be no proxy, or of any.
+    fn call_into(
+        &self,
+        steps: &mut Steps,
+        bare: bool,
+        function: LowSource,
+        arguments: &LowSources,
+        d: u32,
+    ) -> Result<(), OutOfMemory>
+        ensures { OnOk result (Adds steps.old.steps.items steps.new.steps.items
+            (λ k. call_by self.now.run.now bare self.now.shape function arguments.now (Into d k))) }
+    {
+        if bare {
+            return self.call_bare_into(steps, function, arguments, d);
+        }
         let test = self.shape.operand_word(TEST_PLACE)?;
         let mut plain = Steps::new(self.alloc);
         plain.push(Step::Load(test, function, 8))?;
@@ -77,16 +104,36 @@ impl Emitter<'_> {
         self.of_kind(steps, function, FUNCTION, (plain, applied))
     }
 
-    // A call whose answer goes to the caller.
-    fn call_last(
+    // A call of a function that is no proxy, whose answer goes to the caller.
+    fn call_bare_last(
         &self,
         mut steps: Steps,
         function: LowSource,
         arguments: &LowSources,
     ) -> Result<LowCode, OutOfMemory>
         ensures { IfOk result (λ code. code_of code ≡ ahead steps.steps.items
-            (call self.now.run.now self.now.shape function arguments.now ToCaller)) }
+            (call_bare self.now.shape function arguments.now ToCaller)) }
     {
+        let test = self.shape.operand_word(TEST_PLACE)?;
+        steps.push(Step::Load(test, function, 8))?;
+        let words = self.with_function(function, arguments)?;
+        steps.before(LowCode::TailCallAt(Word(test), words))
+    }
+
+    // A call whose answer goes to the caller, of a function that is known to be no proxy, or of any.
+    fn call_last(
+        &self,
+        mut steps: Steps,
+        bare: bool,
+        function: LowSource,
+        arguments: &LowSources,
+    ) -> Result<LowCode, OutOfMemory>
+        ensures { IfOk result (λ code. code_of code ≡ ahead steps.steps.items
+            (call_by self.now.run.now bare self.now.shape function arguments.now ToCaller)) }
+    {
+        if bare {
+            return self.call_bare_last(steps, function, arguments);
+        }
         let test = self.shape.operand_word(TEST_PLACE)?;
         let mut plain = Steps::new(self.alloc);
         plain.push(Step::Load(test, function, 8))?;
@@ -130,10 +177,10 @@ impl Emitter<'_> {
         loop {
             match left {
                 FlatBody::Give(operation) => return self.perform(steps, d, operation),
-                FlatBody::Call(function, arguments) => {
-                    let function = fetch(steps, self.shape, 0, *function)?;
+                FlatBody::Call(called, arguments) => {
+                    let function = fetch(steps, self.shape, 0, *called)?;
                     let arguments = fetch_all(self.alloc, steps, self.shape, 1, arguments)?;
-                    return self.call_into(steps, function, &arguments, d);
+                    return self.call_into(steps, is_sibling(*called), function, &arguments, d);
                 }
                 FlatBody::Choose(operand, on_true, on_false) => {
                     let source = fetch(steps, self.shape, 0, *operand)?;
@@ -175,10 +222,10 @@ impl Emitter<'_> {
         loop {
             match left {
                 FlatBody::Give(operation) => return self.give_last(steps, operation),
-                FlatBody::Call(function, arguments) => {
-                    let function = fetch(&mut steps, self.shape, 0, *function)?;
+                FlatBody::Call(called, arguments) => {
+                    let function = fetch(&mut steps, self.shape, 0, *called)?;
                     let arguments = fetch_all(self.alloc, &mut steps, self.shape, 1, arguments)?;
-                    return self.call_last(steps, function, &arguments);
+                    return self.call_last(steps, is_sibling(*called), function, &arguments);
                 }
                 FlatBody::Choose(operand, on_true, on_false) => {
                     let source = fetch(&mut steps, self.shape, 0, *operand)?;

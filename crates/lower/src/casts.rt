@@ -158,7 +158,7 @@ impl Emitter<'_> {
         }
     }
 
-    // A word goes behind a tag, where its three upper bits tell no more than its sign.
+    // A word goes behind a tag, where its four upper bits are alike, so that the shift loses nothing.
     fn put_into_dyn(
         &self,
         steps: &mut Steps,

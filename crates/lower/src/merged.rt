@@ -26,7 +26,7 @@ use grift_base::lists::OutOfMemory;
 use grift_base::words::Statics;
 use low_ir::programs::{LowProcs, LowProgram};
 use rt_cast::procs::cast_procs;
-use rt_refs::procs::proxy_procs;
+use rt_refs::procs::ref_procs;
 use rv_machine::FIRST_ADDRESS;
 use std::alloc::Global;
 use type_graph::tables::TypeTable;
@@ -41,7 +41,7 @@ fn merged_procs(alloc: Global, first: u32) -> Result<LowProcs, OutOfMemory>
     ensures { IfOk result (λ procs. procs_of procs ≡ merged_procs first) }
 {
     let mut procs = cast_procs(alloc, first)?;
-    let others = proxy_procs(alloc, 27 + first, 2 + first)?;
+    let others = ref_procs(alloc, 27 + first, 2 + first)?;
     push_copies(alloc, &mut procs, others.as_slice())?;
     Ok(procs)
 }

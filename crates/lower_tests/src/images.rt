@@ -25,11 +25,13 @@ const FIRST: u32 = 3;
 // The words that each procedure that serves takes.
 const TAKEN: [u32; 8] = [2, 4, 8, 3, 4, 2, 2, 3];
 
-// The ways of casts 0 to 2.
-const WAYS: [CastWay; 3] = [
+// The ways of casts 0 to 4.
+const WAYS: [CastWay; 5] = [
     CastWay::IntoDyn(Tag::Int),
     CastWay::OutOfDyn(Tag::Int),
+    CastWay::IntoDyn(Tag::Bool),
     CastWay::OutOfDyn(Tag::Bool),
+    CastWay::IntoDyn(Tag::Unit),
 ];
 
 // The procedures that serve, of which these programs call that of casts alone.

@@ -181,26 +181,40 @@ fn boxed(alloc: Global) -> Result<FlatProgram, OutOfMemory> {
     plain(alloc, named(alloc, 0, made, body)?)
 }
 
-// A number is cast into Dyn, and that by another cast.
-fn cast_twice(alloc: Global, n: i64, then: u32) -> Result<FlatProgram, OutOfMemory> {
-    let into = FlatBody::Give(Operation::Cast(Operand::Int(n), 0));
-    let next = FlatBody::Give(Operation::Cast(Operand::Local(0), then));
-    plain(alloc, named(alloc, 0, into, next)?)
+// A value is cast by one cast, and what it becomes by another.
+fn cast_twice(
+    alloc: Global,
+    value: Operand,
+    first: u32,
+    second: u32,
+) -> Result<FlatProgram, OutOfMemory> {
+    let first = FlatBody::Give(Operation::Cast(value, first));
+    let second = FlatBody::Give(Operation::Cast(Operand::Local(0), second));
+    plain(alloc, named(alloc, 0, first, second)?)
 }
 
-// The procedure of casts answers 0, so another answer was made in place.
+// The procedure of casts answers 0, so each other answer was made in place.
 #[test]
-fn numbers_of_61_bits_are_cast_in_place(rt: HostRuntime) -> Result<(), Fail> {
+fn small_values_are_cast_in_place(rt: HostRuntime) -> Result<(), Fail> {
     let alloc = rt.alloc();
     let most = 1_152_921_504_606_846_975;
-    for n in [5, -5, most, -most - 1] {
-        let kept = cast_twice(alloc, n, 1)?;
-        assert!(rt; comes_to(alloc, &kept, &Row::Int, 0, 1024)? == answer(AnswerKind::Int, n));
+    let rows = [
+        (Operand::Int(5), 0, 1, 5),
+        (Operand::Int(-5), 0, 1, -5),
+        (Operand::Int(most), 0, 1, most),
+        (Operand::Int(-most - 1), 0, 1, -most - 1),
+        (Operand::Int(most + 1), 0, 1, 0),
+        (Operand::Int(-most - 2), 0, 1, 0),
+        (Operand::Int(5), 0, 3, 0),
+        (Operand::Bool(true), 2, 3, 1),
+        (Operand::Bool(true), 2, 1, 0),
+    ];
+    for (value, first, second, word) in rows {
+        let twice = cast_twice(alloc, value, first, second)?;
+        assert!(rt; comes_to(alloc, &twice, &Row::Int, 0, 1024)? == answer(AnswerKind::Int, word));
     }
-    let wide = cast_twice(alloc, most + 1, 1)?;
-    assert!(rt; comes_to(alloc, &wide, &Row::Int, 0, 1024)? == answer(AnswerKind::Int, 0));
-    let other = cast_twice(alloc, 5, 2)?;
-    assert!(rt; comes_to(alloc, &other, &Row::Bool, 0, 1024)? == answer(AnswerKind::Bool, 0));
+    let unit = plain(alloc, FlatBody::Give(Operation::Cast(Operand::Unit, 4)))?;
+    assert!(rt; comes_to(alloc, &unit, &Row::Dyn, 0, 1024)? == answer(AnswerKind::Unit, 0));
     Ok(())
 }
 

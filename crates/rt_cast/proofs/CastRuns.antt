@@ -406,7 +406,7 @@ module _ {V : Type 0} (walk : Walk V) (low : walk.l.tallest ≤ 65534) (A : Type
       (kind_there walk new h' fine' waiting 10 _ _ into_dyn kept hc.1 (type_still walk objects new hc.1 kept hc.4) refl
       refl
       (λ head. put_into_dyn walk new h' fine' waiting 10 kept hc.1 w (type_still walk objects new hc.1 kept hc.4)
-      (carried_small new h' fine' y w held) refl refl refl
+      (type_tall_low kept lc.1) (carried_small new h' fine' y w held) refl refl refl
       (λ new2 h2 w2 locals rests2 grows2 fine2 d l7. go' new2 h2 w2 10 locals rests2 (Word 7)
       (grows_on objects new new2 grows grows2) fine2
       (w, d, type_tall_low kept lc.1, nc.2, carried_still new new2 grows2 y w held) l7)

@@ -1,5 +1,5 @@
 -- What the code does that puts a value into Dyn; and words in Dyn as objects are added.
-use Rattle.std.proofs.Common.{◌≡◌, ℕ, ◌+◌, ◌%◌, ◌^◌, ◌<◌, Bool, true, false, List, [], ◌∷◌, ◌++◌, Option, Some, None}
+use Rattle.std.proofs.Common.{◌≡◌, ℕ, ◌+◌, ◌%◌, ◌^◌, ◌<◌, ◌≤◌, Bool, true, false, List, [], ◌∷◌, ◌++◌, Option, Some, None}
 use Rattle.std.proofs.Common.{inl, inr, refl, sym, ap, ap₂, ◌∙◌, subst, map, length, arith}
 use Rattle.std.specs.Prelude.{nat_lt, if◌then◌else◌}
 use Rattle.grift_base.specs.Types.{TypeRow, parts_of}
@@ -80,6 +80,7 @@ module _ {V : Type 0} (walk : Walk V) where
   -- the value in word 9 goes into Dyn, with the type in word 8
   module _ {B : Budget} (objects : List Object) (h : Heap) (fine : Fine walk.setting walk.l walk.around objects h)
       (waiting : List Waiting) (count : ℕ) (kept wt x : ℕ) (held : HoldsType walk.l objects wt kept)
+      (lower : height_in walk.l kept ≤ walk.l.tallest)
       (fits : x < 2 ^ 64) (lt7 : nat_lt 7 count ≡ true) (lt6 : nat_lt 6 count ≡ true) (lt5 : nat_lt 5 count ≡ true)
       (go : (new : List Object) (h' : Heap) (w : ℕ) (locals : Locals) (rests : List Code) → Grows objects new
       → Fine walk.setting walk.l walk.around new h' → IsDyn walk.l new kept x w → locals 7 ≡ Some w
@@ -93,7 +94,7 @@ module _ {V : Type 0} (walk : Walk V) where
         (builds walk objects fine 8589934595 (wt ∷ x ∷ [])
         (ap₂ (λ a b. and_more (Some 8589934595) (and_more a (and_more b (Some [])))) l8 l9) (omega arith)
         (omega arith) (omega arith, (type_small walk objects h fine wt kept held, (fits, tt)))
-        (WholeDyn wt x kept refl held) lt7
+        (WholeDyn wt x kept refl held lower) lt7
         (λ h' fine'. go (objects ++ o ∷ []) h' h.alloc _ _ grown fine'
         (subst (λ s. IsDynBy walk.l (objects ++ o ∷ []) s kept x h.alloc) (sym none)
         (wt, added walk objects h fine o, type_still walk objects (objects ++ o ∷ []) wt kept held)) refl))

@@ -411,7 +411,7 @@ module _ {V : Type 0} (walk : Walk V) (low : walk.l.tallest ≤ 65534) (A : Type
           at_most walk
           (kind_there walk objects h fine waiting count locals rests unless_dyn part at held lt6 l8
           (λ read. if_false walk objects fine (type_kind (R part)) 19 refl refl (kind_of_dyn (R part) ∙ f)
-          (put_into_dyn walk objects h fine waiting count part at w held
+          (put_into_dyn walk objects h fine waiting count part at w held lower
           (carried_small walk low A IsHeld still is_solid objects h fine y w hy) lt7 lt6 lt5
           (λ new h' w' locals' rests' grows fine' d l7. subst (Goes B objects waiting) (sym g) go new h' w' count locals'
           rests' (Word 7) grows fine'

@@ -398,7 +398,7 @@ module _ (setting : Setting) (l : Layout) (m : Memory) (objects : List Object) (
               tt,
             ),
           ) tt refl)
-      whole_here o h le (WholeDyn wt wx type e held) =
+      whole_here o h le (WholeDyn wt wx type e held lower) =
           let other = Fixed (header 3 0 2) (wt ∷ wx ∷ []) in
           as_told o other e h le (λ h2 le2.
           here other Dyn 0 2 h2 le2 refl (omega arith) refl refl tt tt refl)

@@ -12,7 +12,7 @@ use Rattle.rt_cast.specs.ComposeCodes.{coerce, compose, cast, project}
 abbrev pub dyn_object : Code
 dyn_object = Build 7 (Number 8589934595 ∷ Word 8 ∷ Word 9 ∷ []) (Return (Word 7))
 
--- an integer, a truth value or unit stands behind its tag, where the three upper bits tell no more than the sign
+-- an integer, a truth value or unit stands behind its tag, where its four upper bits are alike
 abbrev pub dyn_base : Code
 dyn_base =
     Compute Sll 7 (Word 9) (Number 3) (

@@ -8,6 +8,7 @@ pub mod Procs
 pub mod States
 pub mod ToldRows
 pub mod Costs
+pub mod Frames
 pub mod MergedValues
 pub mod PartValues
 pub mod DynWords

@@ -1,5 +1,5 @@
 -- Lists of whole objects: each says of objects before it what its kind asks for, no proxy stands on a proxy, and no
--- proxy's coercion is higher than the tallest.
+-- proxy's coercion, and no type that a value in Dyn keeps, is higher than the tallest.
 use Rattle.std.specs.Prelude.{max, ◌≡◌, ℕ, suc, ◌+◌, ◌*◌, ◌<◌, ◌≤◌, true, List, [], ◌∷◌, ◌++◌, length}
 use Rattle.coercion_norm.specs.declared.middles.MiddleKind.{MiddleKind as Kind}
 use Rattle.object_layout.specs.declared.kinds.Kind.{Kind as ObjectKind}
@@ -45,7 +45,9 @@ module _ (l : Layout) (objects : List Object) where
     WholeProxy : (wa wc : ℕ) (kind : Kind) (y : ℕ) (ws : List ℕ) → o ≡ Fixed (header 2 0 2) (wa ∷ wc ∷ [])
         → IsSolid wa → There l objects wc (Fixed (header (kind_number kind) y (length ws)) ws) → y ≤ l.tallest
         → IsWhole o
-    WholeDyn : (wt wx type : ℕ) → o ≡ Fixed (header 3 0 2) (wt ∷ wx ∷ []) → HoldsType l objects wt type → IsWhole o
+    -- a value in Dyn, with the type that it keeps, no higher than the tallest
+    WholeDyn : (wt wx type : ℕ) → o ≡ Fixed (header 3 0 2) (wt ∷ wx ∷ []) → HoldsType l objects wt type
+        → height_in l type ≤ l.tallest → IsWhole o
     -- closures, tuples, boxes and vectors
     WholeOther : (kind : ObjectKind) (count : ℕ) → header_of o ≡ header (number_of kind) 0 count
         → bytes_of o ≡ 8 + 8 * count → is_free kind ≡ true → allows_count kind count ≡ true → IsWhole o

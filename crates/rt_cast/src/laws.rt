@@ -15,6 +15,7 @@ ghost use Rattle.coercion_norm.specs.Heights.{coercion_height};
 ghost use Rattle.coercion_norm.specs.Held.{Layout, Held, HoldsType, TypesStand, height_in};
 ghost use Rattle.coercion_norm.specs.Objects.{Object, words_of_all};
 ghost use Rattle.rt_cast.specs.Costs.{coerce_cost, compose_cost, cast_cost, tuple_cost, project_cost};
+ghost use Rattle.rt_cast.specs.Frames.{largest_frame};
 ghost use Rattle.rt_cast.specs.Objects.{Holds, HoldsWords};
 ghost use Rattle.rt_cast.specs.Procs.{Stand, coerce_proc, compose_proc, cast_proc, project_proc};
 ghost use Rattle.rt_cast.specs.Procs.{cast_procs};
@@ -103,9 +104,10 @@ pub fn objects_stand_where_their_words_do()
 {}
 
 /// The procedures are closed wherever they stand in a program, so each calls only procedures of the set, and hands on
-/// eight words at most.
+/// eight words at most. The largest of their frames has 200 bytes, whatever the program and its casts are.
 pub fn procedures_are_closed()
     ensures closed { (procs : List Proc) (first : ℕ) → Stand procs first
         → each_closed procs (cast_procs first) ≡ true }
     ensures many { (first : ℕ) → length (cast_procs first) ≡ 27 }
+    ensures frames { (first : ℕ) → largest_frame (cast_procs first) ≡ 200 }
 {}

@@ -6,8 +6,8 @@ use Rattle.low_ir.specs.Closed.{proc_closed, each_closed}
 use Rattle.rt_refs.specs.CallCodes.{apply_proc}
 use Rattle.rt_refs.specs.CellCodes.{read_proc, write_proc}
 use Rattle.rt_refs.specs.FillCodes.{fill_proc, fill_loop}
-use Rattle.rt_refs.specs.Quotients.{ref_procs, quotient_loop}
-use Rattle.rt_refs.specs.RefProcs.{proxy_procs, Stand}
+use Rattle.rt_refs.specs.Quotients.{arithmetic_procs, quotient_loop}
+use Rattle.rt_refs.specs.RefProcs.{ref_procs, Stand}
 
 and_so : (a b : Bool) → a ≡ true → b ≡ true → (a && b) ≡ true
 and_so a b h k = ap₂ (λ x y. x && y) h k
@@ -30,7 +30,7 @@ module _ (procs : List Proc) (first cast : ℕ) (s : Stand procs first cast) (c 
   loop_closed : proc_closed procs (fill_loop (4 + first)) ≡ true
   loop_closed = rw (s 4 _ refl) refl
 
-  pub procedures_are_closed-closed : each_closed procs (proxy_procs first cast) ≡ true
+  pub procedures_are_closed-closed : each_closed procs (ref_procs first cast) ≡ true
   procedures_are_closed-closed =
       and_so _ _ apply_closed (and_so _ _ read_closed (and_so _ _ write_closed (and_so _ _ fill_closed
       (and_so _ _ loop_closed products))))
@@ -40,5 +40,5 @@ module _ (procs : List Proc) (first cast : ℕ) (s : Stand procs first cast) (c 
           let z : 6 + first ≡ suc (5 + first) = omega arith in
           subst (λ k. slice_get procs k ≡ Some (quotient_loop (suc (5 + first)))) z (s 6 _ refl)
 
-      products : each_closed procs (ref_procs (5 + first)) ≡ true
+      products : each_closed procs (arithmetic_procs (5 + first)) ≡ true
       products = rw (s 5 _ refl, quotients) refl

@@ -17,7 +17,7 @@ use Rattle.low_ir.specs.Procedures.{Code, Load, Call, Return, Build, CodeOf, Com
 use Rattle.low_ir.specs.Steps.{no_locals, store_words}
 use Rattle.low_ir.specs.Run.{Setting, LowState, low_machine}
 use Rattle.rt_cast.specs.Procs.{cast_procs}
-use Rattle.rt_refs.specs.RefProcs.{proxy_procs}
+use Rattle.rt_refs.specs.RefProcs.{ref_procs}
 
 stops : Halt → Ending Halt
 stops h = Verdict h
@@ -46,7 +46,7 @@ other_label = record { line = 2; col = 2 }
 setting : Setting
 unfolding next_proc
 setting = record {
-  procs = cast_procs 0 ++ (proxy_procs 27 2 ++ next_proc ∷ []);
+  procs = cast_procs 0 ++ (ref_procs 27 2 ++ next_proc ∷ []);
   address = λ k. 100000 + 8 * k;
   labels = label ∷ other_label ∷ [];
   region = 65672;

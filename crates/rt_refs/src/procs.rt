@@ -5,8 +5,8 @@ ghost use Rattle.low_ir.specs.Views.{code_of, proc_of, procs_of};
 ghost use Rattle.rt_refs.specs.Products.{sum_code, product_loop, multiply};
 ghost use Rattle.rt_refs.specs.Quotients.{signed_answer, subtract_code, next_bit, quotient_loop, magnitude_code};
 ghost use Rattle.rt_refs.specs.Quotients.{divide};
-ghost use Rattle.rt_refs.specs.Quotients.{sign_code, ref_procs};
-ghost use Rattle.rt_refs.specs.RefProcs.{proxy_procs};
+ghost use Rattle.rt_refs.specs.Quotients.{sign_code, arithmetic_procs};
+ghost use Rattle.rt_refs.specs.RefProcs.{ref_procs};
 
 use crate::calls::apply_proc;
 use crate::cells::{read_proc, write_proc};
@@ -19,8 +19,8 @@ use low_ir::programs::{LowProc, LowProcs};
 use rv_isa::inst::Cond;
 use std::alloc::Global;
 
-/// How many procedures `ref_procs` gives.
-pub const REF_PROCS: u32 = 4;
+/// How many procedures `arithmetic_procs` gives.
+pub const ARITHMETIC_PROCS: u32 = 4;
 
 // Where the lowest bit of word 1 is set, word 2 gains word 0.
 fn sum_code(alloc: Global, rest: LowCode) -> Result<LowCode, OutOfMemory>
@@ -199,12 +199,12 @@ fn divide(alloc: Global, loop_number: u32) -> Result<LowProc, OutOfMemory>
     })
 }
 
-/// The procedures that compiled programs call, numbered from `first` on: two loops, then that of the product, which
-/// takes two words, and that of quotient and remainder, which takes dividend, divisor, and 0 for the quotient or 1 for
-/// the remainder. `_cast` is the number of the procedure that casts; none of these casts yet.
-pub fn ref_procs(alloc: Global, first: u32, _cast: u32) -> Result<LowProcs, OutOfMemory>
+/// The procedures of products and quotients, numbered from `first` on: two loops, then that of the product, which takes
+/// two words, and that of quotient and remainder, which takes dividend, divisor, and 0 for the quotient or 1 for the
+/// remainder.
+pub fn arithmetic_procs(alloc: Global, first: u32) -> Result<LowProcs, OutOfMemory>
     requires { first + 4 ≤ 2 ^ 32 }
-    ensures { IfOk result (λ procs. procs_of procs ≡ ref_procs first) }
+    ensures { IfOk result (λ procs. procs_of procs ≡ arithmetic_procs first) }
 {
     let mut procs = LowProcs::new(alloc);
     procs.push(product_loop(alloc, first)?)?;
@@ -218,10 +218,10 @@ pub fn ref_procs(alloc: Global, first: u32, _cast: u32) -> Result<LowProcs, OutO
 /// a function with a proxy, six words that begin with its arguments, and how many these are. Read takes what is read
 /// (0 the content of a box, 1 an element of a vector, 2 a vector's length), an address and an index, which is 0 for a
 /// box. Write takes what is written to (0 a box, 1 a vector), an address, an index and a word. Fill takes a length and
-/// a word, and answers a vector; its loop follows. The last four are those of `ref_procs`.
-pub fn proxy_procs(alloc: Global, first: u32, cast: u32) -> Result<LowProcs, OutOfMemory>
+/// a word, and answers a vector; its loop follows. The last four are those of `arithmetic_procs`.
+pub fn ref_procs(alloc: Global, first: u32, cast: u32) -> Result<LowProcs, OutOfMemory>
     requires { first + 9 ≤ 2 ^ 32 }
-    ensures { IfOk result (λ procs. procs_of procs ≡ proxy_procs first cast) }
+    ensures { IfOk result (λ procs. procs_of procs ≡ ref_procs first cast) }
 {
     let mut procs = LowProcs::new(alloc);
     procs.push(apply_proc(alloc, cast)?)?;

@@ -6,7 +6,7 @@ use grift_base::verdicts::Trap;
 use grift_base::words::{Statics, WordList};
 use low_ir::code::{LowCode, WordOp};
 use low_ir::programs::{LowProc, LowProcs, LowProgram};
-use rt_refs::procs::ref_procs;
+use rt_refs::procs::arithmetic_procs;
 use rv_emulator::stops::Stop;
 use rv_isa::inst::Cond;
 use std::alloc::Global;
@@ -146,7 +146,7 @@ fn looks(alloc: Global) -> Result<LowProc, OutOfMemory> {
 // A program that looks at these rows, which are its statics.
 fn looks_at(alloc: Global, rows: WordList) -> Result<LowProgram, OutOfMemory> {
     let end = rows.len().wrapping_mul(8).wrapping_add(65_536);
-    let mut procs = ref_procs(alloc, 0, 0)?;
+    let mut procs = arithmetic_procs(alloc, 0)?;
     let words = sources(alloc, &[number(65_536), number(end)])?;
     procs.push(procedure(0, 0, LowCode::TailCall(5, words)))?;
     procs.push(looks(alloc)?)?;
@@ -190,7 +190,7 @@ fn a_wrong_row_is_found(rt: HostRuntime) -> Result<(), Fail> {
 
 // The quotient of 5 and 0.
 fn divides_by_zero(alloc: Global) -> Result<LowProgram, OutOfMemory> {
-    let mut procs: LowProcs = ref_procs(alloc, 0, 0)?;
+    let mut procs: LowProcs = arithmetic_procs(alloc, 0)?;
     let words = sources(alloc, &[number(5), number(0), number(0)])?;
     procs.push(procedure(0, 0, LowCode::TailCall(3, words)))?;
     Ok(LowProgram {

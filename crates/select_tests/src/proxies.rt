@@ -17,7 +17,7 @@ use rt_cast::procs::cast_procs;
 use rt_refs::calls::apply_proc;
 use rt_refs::cells::{read_proc, write_proc};
 use rt_refs::fills::{fill_loop, fill_proc};
-use rt_refs::procs::proxy_procs;
+use rt_refs::procs::ref_procs;
 use rv_emulator::stops::Stop;
 use rv_slots::images::image_of;
 use std::alloc::Global;
@@ -460,6 +460,6 @@ fn lengths_that_no_vector_has(rt: HostRuntime) -> Result<(), Fail> {
 
 #[test]
 fn there_are_nine_procedures(rt: HostRuntime) -> Result<(), Fail> {
-    assert!(rt; proxy_procs(rt.alloc(), 27, CAST)?.len() == 9);
+    assert!(rt; ref_procs(rt.alloc(), 27, CAST)?.len() == 9);
     Ok(())
 }

@@ -148,5 +148,5 @@ returns-clause-follows c =
 pub returns-clause-space : goal.returns-clause-space
 returns-clause-space c =
     let a = answers c in
-    subst (λ n. KeepsSpace c.in_ok-image.image n) (sym c.in_ok-coer.ensures.tallest)
+    subst (λ n. KeepsSpace c.in_ok-image.image c.args.types.now n) (sym c.in_ok-coer.ensures.tallest)
     (keeps_space {program = program_over c.args.types.now c.args.elab.now} a.passed a.row_is a.made_so)
