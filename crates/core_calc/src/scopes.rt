@@ -39,9 +39,17 @@ impl<T: Drop> From<AllocFailed<T>> for Untyped {
 }
 
 /// Names that were met, each once, in order.
-#[derive(Drop)]
 pub struct Names {
     names: IndexSet<u32>,
+}
+
+// By hand, so that what is proved of an exit at which a set of names is alive has one call, and not all that a map is
+// made of.
+impl Drop for Names {
+    fn drop(self) {
+        let Names { names } = self;
+        drop(names);
+    }
 }
 
 impl Model for Names {
@@ -89,9 +97,16 @@ impl Names {
 }
 
 /// The names in scope with their types, each once, in the order in which they were bound.
-#[derive(Drop)]
 pub struct Scope {
     names: IndexMap<u32, TypeId>,
+}
+
+// By hand, so that what is proved of an exit at which a scope is alive has one call, and not all that a map is made of.
+impl Drop for Scope {
+    fn drop(self) {
+        let Scope { names } = self;
+        drop(names);
+    }
 }
 
 impl Model for Scope {

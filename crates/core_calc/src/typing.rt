@@ -5,8 +5,10 @@ ghost use Rattle.std.specs.Prelude.{◌≡◌, ◌≤◌, ◌++◌, ◌∷◌, [
 ghost use Rattle.type_graph.specs.Rows.{places_of};
 ghost use Rattle.core_calc.specs.Views.{term_of, terms_of, members_of, bindings_of, names_of};
 ghost use Rattle.core_calc.specs.Substitution.{bind};
+ghost use Rattle.core_calc.specs.Terms.{Prim, Proj, Seq, Tuple};
 ghost use Rattle.core_calc.specs.Typing.{ProgramTermHasType, member_types};
-ghost use Rattle.core_calc.specs.TypeOf.{Finds, Makes, context_of, function_type, labels_end, members_fit};
+ghost use Rattle.core_calc.specs.TypeOf.{Finds, Makes, and_then, cast_type, context_of, dyn_part_type};
+ghost use Rattle.core_calc.specs.TypeOf.{function_type, labels_end, members_fit};
 ghost use Rattle.core_calc.specs.TypeOf.{program_type, type_of, types_of, types_of_bindings, within};
 
 use crate::binders::add_binders;
@@ -18,6 +20,7 @@ use crate::operations::operator_type;
 use crate::scopes::{Names, Scope, Untyped};
 use crate::terms::{Core, CoreBindings, CoreList, GroupMembers, VarId, VarIds};
 use grift_base::lists::OutOfMemory;
+use grift_base::operators::PrimOp;
 use grift_base::places::TypeId;
 use std::alloc::Global;
 use type_graph::rows::Row;
@@ -72,15 +75,55 @@ fn type_of(
         Core::Lambda(params, body, written) => {
             lambda(alloc, types, scope, params, body, *written)
         }
-        Core::Group(members, body) => {
-            let outside = scope.len();
-            let bound = heads(alloc, members)?;
-            scope.bind_all(bound.as_slice())?;
-            members_fit(alloc, types, scope, members)?;
-            let ty = type_of(alloc, types, scope, body)?;
-            scope.leave(outside);
-            Ok(ty)
-        }
+        Core::Group(..) => group(alloc, types, scope, term),
+        Core::Let(..) | Core::Call(..) | Core::If(..) => joined(alloc, types, scope, term),
+        Core::Seq(terms) => sequence(alloc, types, scope, terms),
+        Core::Cast(term, from, to, _) => cast(alloc, types, scope, term, *from, *to),
+        Core::Proj(term, k) => part(alloc, types, scope, term, *k),
+        Core::ProjDyn(term, _, _) => dyn_part(alloc, types, scope, term),
+        Core::Tuple(parts) => tuple(alloc, types, scope, parts),
+        Core::Prim(operator, operands) => operation(alloc, types, scope, *operator, operands),
+        Core::Enter(..) | Core::Value(_) => Err(Untyped::NoType),
+    }
+}
+
+// Forms with parts have functions of their own: what a proof costs goes by the calls of a function times its exits.
+
+// The type of a group; no other form comes here.
+#[cycle(typing)]
+fn group(
+    alloc: Global,
+    types: &TypeTable,
+    scope: &mut Scope,
+    term: &Core,
+) -> Result<TypeId, Untyped>
+    ensures found { Finds result (λ t. t.0) (type_of types.now scope.old (term_of term.now)) }
+    ensures kept { OnOk result (scope.new ≡ scope.old) }
+{
+    let Core::Group(members, body) = term else {
+        return Err(Untyped::OutOfMemory);
+    };
+    let outside = scope.len();
+    let bound = heads(alloc, members)?;
+    scope.bind_all(bound.as_slice())?;
+    members_fit(alloc, types, scope, members)?;
+    let ty = type_of(alloc, types, scope, body)?;
+    scope.leave(outside);
+    Ok(ty)
+}
+
+// The type of a form that joins several terms and is no group; no other form comes here.
+#[cycle(typing)]
+fn joined(
+    alloc: Global,
+    types: &TypeTable,
+    scope: &mut Scope,
+    term: &Core,
+) -> Result<TypeId, Untyped>
+    ensures found { Finds result (λ t. t.0) (type_of types.now scope.old (term_of term.now)) }
+    ensures kept { OnOk result (scope.new ≡ scope.old) }
+{
+    match term {
         Core::Let(bindings, body) => {
             let bound = types_of_bindings(alloc, types, scope, bindings)?;
             within(alloc, types, scope, bound.as_slice(), body)
@@ -96,32 +139,104 @@ fn type_of(
             let other = type_of(alloc, types, scope, on_false)?;
             found(if_type(types, truth, ty, other))
         }
-        Core::Seq(terms) => {
-            let given = types_of(alloc, types, scope, terms)?;
-            found(last_of(given.as_slice()))
-        }
-        Core::Cast(term, from, to, _) => {
-            let given = type_of(alloc, types, scope, term)?;
-            found(cast_type(types, given, *from, *to))
-        }
-        Core::Proj(term, k) => {
-            let whole = type_of(alloc, types, scope, term)?;
-            found(part_type(types, whole, *k))
-        }
-        Core::ProjDyn(term, _, _) => {
-            let ty = type_of(alloc, types, scope, term)?;
-            found(dyn_part_type(types, ty))
-        }
-        Core::Tuple(parts) => {
-            let given = types_of(alloc, types, scope, parts)?;
-            tuple_type(alloc, types, given.as_slice())
-        }
-        Core::Prim(operator, operands) => {
-            let given = types_of(alloc, types, scope, operands)?;
-            found(operator_type(types, *operator, given.as_slice()))
-        }
-        Core::Enter(..) | Core::Value(_) => Err(Untyped::NoType),
+        _ => Err(Untyped::OutOfMemory),
     }
+}
+
+// The type of the last of these terms.
+#[cycle(typing)]
+fn sequence(
+    alloc: Global,
+    types: &TypeTable,
+    scope: &mut Scope,
+    terms: &CoreList,
+) -> Result<TypeId, Untyped>
+    ensures found { Finds result (λ t. t.0) (type_of types.now scope.old (Seq (terms_of terms.now))) }
+    ensures kept { OnOk result (scope.new ≡ scope.old) }
+{
+    let given = types_of(alloc, types, scope, terms)?;
+    found(last_of(given.as_slice()))
+}
+
+// The type that a cast gives.
+#[cycle(typing)]
+fn cast(
+    alloc: Global,
+    types: &TypeTable,
+    scope: &mut Scope,
+    term: &Core,
+    from: TypeId,
+    to: TypeId,
+) -> Result<TypeId, Untyped>
+    ensures found { Finds result (λ t. t.0) (and_then (type_of types.now scope.old (term_of term.now))
+        (λ given. cast_type types.now given from.0 to.0)) }
+    ensures kept { OnOk result (scope.new ≡ scope.old) }
+{
+    let given = type_of(alloc, types, scope, term)?;
+    found(cast_type(types, given, from, to))
+}
+
+// The type of a tuple's part.
+#[cycle(typing)]
+fn part(
+    alloc: Global,
+    types: &TypeTable,
+    scope: &mut Scope,
+    term: &Core,
+    k: i64,
+) -> Result<TypeId, Untyped>
+    ensures found { Finds result (λ t. t.0) (type_of types.now scope.old (Proj (term_of term.now) k)) }
+    ensures kept { OnOk result (scope.new ≡ scope.old) }
+{
+    let whole = type_of(alloc, types, scope, term)?;
+    found(part_type(types, whole, k))
+}
+
+// The type of a part of the tuple that Dyn holds.
+#[cycle(typing)]
+fn dyn_part(
+    alloc: Global,
+    types: &TypeTable,
+    scope: &mut Scope,
+    term: &Core,
+) -> Result<TypeId, Untyped>
+    ensures found { Finds result (λ t. t.0) (and_then (type_of types.now scope.old (term_of term.now))
+        (λ given. dyn_part_type types.now given)) }
+    ensures kept { OnOk result (scope.new ≡ scope.old) }
+{
+    let ty = type_of(alloc, types, scope, term)?;
+    found(dyn_part_type(types, ty))
+}
+
+// The type of a tuple of these parts.
+#[cycle(typing)]
+fn tuple(
+    alloc: Global,
+    types: &TypeTable,
+    scope: &mut Scope,
+    parts: &CoreList,
+) -> Result<TypeId, Untyped>
+    ensures found { Finds result (λ t. t.0) (type_of types.now scope.old (Tuple (terms_of parts.now))) }
+    ensures kept { OnOk result (scope.new ≡ scope.old) }
+{
+    let given = types_of(alloc, types, scope, parts)?;
+    tuple_type(alloc, types, given.as_slice())
+}
+
+// The type of an operator's answer.
+#[cycle(typing)]
+fn operation(
+    alloc: Global,
+    types: &TypeTable,
+    scope: &mut Scope,
+    operator: PrimOp,
+    operands: &CoreList,
+) -> Result<TypeId, Untyped>
+    ensures found { Finds result (λ t. t.0) (type_of types.now scope.old (Prim operator (terms_of operands.now))) }
+    ensures kept { OnOk result (scope.new ≡ scope.old) }
+{
+    let given = types_of(alloc, types, scope, operands)?;
+    found(operator_type(types, operator, given.as_slice()))
 }
 
 // The type of a function that is written with a type.

@@ -5,7 +5,10 @@ mod Simulation
 mod IndexedSimulation
 mod Reducing
 mod Metering
+mod Within
 mod Turns
+mod ShowingLockstep
 mod Lockstep
 mod Rounds
+mod RoundsWithin
 mod Examples

@@ -2,3 +2,4 @@ pub mod Runs
 pub mod Machines
 pub mod Reductions
 pub mod Meters
+pub mod Accounts

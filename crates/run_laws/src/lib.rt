@@ -14,6 +14,7 @@ ghost use Rattle.run_laws.specs.Machines.{Machine, and_then, steps, run, OnlyAdd
 ghost use Rattle.run_laws.specs.Reductions.{Reduction, state_after, reduction_run, ReductionOnlyAddsOutput, machine_of};
 ghost use Rattle.run_laws.specs.Meters.{Metered, unspent, metered, metered_reduction, SameButMeter, each_one, Spends};
 ghost use Rattle.run_laws.specs.Meters.{EndsInTime, ComesInTime};
+ghost use Rattle.run_laws.specs.Accounts.{FollowsWithin, KeepsBudget, ComesWithin};
 
 /// Each run that never goes wrong follows itself, and shows the same.
 pub fn each_run_follows_itself<A, V>()
@@ -97,4 +98,13 @@ pub fn bounded_spending_bounds_turns<T, A, B, V>()
     ensures comes { (m : Machine T B V) (t : T) (c : ℕ) (y : Run (Metered A) V) → OnlyAddsOutput m
         → FollowsBy Any (Spends c) (run (metered each_one m) (unspent t)) y
         → ComesInTime c (run m t) y }
+{}
+
+/// A machine that follows a run within an account of that run's moments, which bounds what the machine
+/// spends at one for each step, comes in as many turns to whatever the run comes to, or runs out of a
+/// resource. No step takes output back.
+pub fn an_account_bounds_turns<T, A, B, V>()
+    ensures { (m : Machine T B V) (t : T) (budget : A → ℕ) (y : Run A V) → OnlyAddsOutput m
+        → FollowsWithin Any (KeepsBudget budget) (run (metered each_one m) (unspent t)) y
+        → ComesWithin budget (run m t) y }
 {}
