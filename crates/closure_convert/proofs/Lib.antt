@@ -29,4 +29,5 @@ mod Answering
 mod Leaving
 mod GroupsClosed
 mod FewOperands
+mod FewLevels
 pub mod Public

@@ -6,6 +6,7 @@ ghost use Rattle.run_laws.specs.Runs.{Any, FollowsBy, NeverWrong};
 ghost use Rattle.type_graph.specs.TypeTables.{HaveWidths};
 ghost use Rattle.grift_base.specs.Tables.{HasNoRepeats};
 ghost use Rattle.grift_base.specs.Types.{TypeRows};
+ghost use Rattle.core_calc.specs.Account.{extent};
 ghost use Rattle.core_calc.specs.Substitution.{is_among};
 ghost use Rattle.core_calc.specs.Typing.{ProgramTermHasType};
 ghost use Rattle.coercion_norm.specs.AnswerTypes.{Told};
@@ -15,6 +16,7 @@ ghost use Rattle.coer_core.specs.Counts.{each_once, free_names, free_names_of_me
 ghost use Rattle.coer_core.specs.Terms.{RowMembers, RowTerm, core_of};
 ghost use Rattle.flat_ir.specs.Closed.{is_closed};
 ghost use Rattle.flat_ir.specs.Counts.{flat_run_in};
+ghost use Rattle.flat_ir.specs.Levels.{HaveLevels};
 ghost use Rattle.closure_convert.specs.Bounds.{CountsKept};
 ghost use Rattle.closure_convert.specs.Conversion.{captures, converted, made};
 ghost use Rattle.closure_convert.specs.Free.{is_free, is_free_in_a_member};
@@ -48,6 +50,14 @@ pub fn procedures_follow_their_term()
         → FollowsBy CountsKept Any
         (flat_run_in (converted term) (made term) (merging told.types casts) told input)
         (run_in (merging told.types casts) told term input) }
+{}
+
+/// At each place of a procedure of a program term at most as many local names are bound, its parameters among them, as
+/// the term has nodes and binders.
+pub fn procedures_have_few_levels()
+    ensures { (casts : List TypeCast) (types : TypeRows) (labels : ℕ) (term : RowTerm) (type : ℕ)
+        → ProgramTermHasType types labels (core_of casts term) type
+        → HaveLevels (extent (core_of casts term)) (converted term) }
 {}
 
 /// A group captures the names that are bound outside it and free in one of its members, each once. They stand in order

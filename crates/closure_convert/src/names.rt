@@ -22,11 +22,24 @@ struct Meaning {
 
 /// What the names of a function have become that are bound in it, what each of these meant before, and the names that
 /// it captures in order of first appearance.
-#[derive(Drop)]
 pub struct Names {
     bound: IndexMap<u32, Operand>,
     before: Vec<Meaning>,
     captured: Captured,
+}
+
+// By hand, so that each exit at which names are alive has one call in its proof, and not all that is in it.
+impl Drop for Names {
+    fn drop(self) {
+        let Names {
+            bound,
+            before,
+            captured,
+        } = self;
+        drop(bound);
+        drop(before);
+        drop(captured);
+    }
 }
 
 impl Names {

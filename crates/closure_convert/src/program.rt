@@ -4,6 +4,7 @@ ghost use Rattle.std.specs.Prelude.{◌≡◌, ℕ, List, false, true, IfOk};
 ghost use Rattle.run_laws.specs.Runs.{Any, FollowsBy, NeverWrong};
 ghost use Rattle.type_graph.specs.TypeTables.{HaveWidths};
 ghost use Rattle.grift_base.specs.Types.{TypeRows};
+ghost use Rattle.core_calc.specs.Account.{extent};
 ghost use Rattle.core_calc.specs.Typing.{ProgramTermHasType};
 ghost use Rattle.coercion_norm.specs.AnswerTypes.{Told};
 ghost use Rattle.coercion_norm.specs.MergedMode.{merging};
@@ -13,6 +14,7 @@ ghost use Rattle.coer_core.specs.Terms.{core_of};
 ghost use Rattle.coer_core.specs.Views.{row_term_of};
 ghost use Rattle.flat_ir.specs.Closed.{is_closed};
 ghost use Rattle.flat_ir.specs.Counts.{flat_run_in};
+ghost use Rattle.flat_ir.specs.Levels.{HaveLevels};
 ghost use Rattle.flat_ir.specs.Views.{procs_of};
 ghost use Rattle.closure_convert.specs.Bounds.{CountsKept};
 ghost use Rattle.closure_convert.specs.Conversion.{converted, made};
@@ -28,7 +30,8 @@ use std::alloc::Global;
 /// is free in the program's term, they are those that the definition gives, and their run follows the run of the term
 /// with environments, for all casts and every input, in both modes, where that never goes wrong: both have made as
 /// many wrap steps at moments that correspond, and words asked for, active frames and turns are bounded by those of
-/// the given run. Where the term reads back to a program term, and no type is too wide, the procedures are closed.
+/// the given run. Where the term reads back to a program term, each procedure has at most as many local names at a time
+/// as that has nodes and binders, and where no type is too wide, the procedures are closed.
 pub fn convert(alloc: Global, program: &CoerProgram) -> Result<FlatProgram, OutOfMemory>
     ensures procs { IfOk result (λ flat. HasNoFreeNames (row_term_of program.now.body)
         → procs_of flat.procs ≡ converted (row_term_of program.now.body)) }
@@ -37,6 +40,9 @@ pub fn convert(alloc: Global, program: &CoerProgram) -> Result<FlatProgram, OutO
     ensures closed { IfOk result (λ flat. (casts : List TypeCast) (types : TypeRows) (labels : ℕ) (type : ℕ)
         → HaveWidths types → ProgramTermHasType types labels (core_of casts (row_term_of program.now.body)) type
         → is_closed (procs_of flat.procs) flat.entry ≡ true) }
+    ensures levels { IfOk result (λ flat. (casts : List TypeCast) (types : TypeRows) (labels : ℕ) (type : ℕ)
+        → let core = core_of casts (row_term_of program.now.body) in
+        ProgramTermHasType types labels core type → HaveLevels (extent core) (procs_of flat.procs)) }
     ensures piled { IfOk result (λ flat. HasNoFreeNames (row_term_of program.now.body)
         → (casts : List TypeCast) (told : Told) (input : List ℕ)
         → NeverWrong (run_in (piling told.types casts) told (row_term_of program.now.body) input)

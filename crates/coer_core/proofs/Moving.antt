@@ -1,4 +1,4 @@
--- Each turn of the run with environments is a step of the calculus, or none and its size falls.
+-- Each turn of the run with environments is a step of the calculus of the same kind, or none and its size falls.
 use Rattle.std.proofs.Common.{◌≡◌, ◌⊎◌, inl, inr, ℕ, suc, ◌+◌, ◌<◌, ◌≤◌, Bool, true, false, List, [], ◌∷◌, ◌++◌, map}
 use Rattle.std.proofs.Common.{Option, Some, None, refl, sym, ap, ◌∙◌, subst, arith, slice_get}
 use Rattle.std.specs.Prelude.{option_map, cond, if◌then◌else◌, not, ◌&&◌}
@@ -17,12 +17,23 @@ use Rattle.coercion_norm.specs.Modes.{and_some, or_none, TypeCast, opening, fits
 use Rattle.coercion_norm.specs.RunValues.{RunBool, RunFun, RunWrap, plain, all_plain, shape_of}
 use Rattle.coercion_norm.specs.ValueSteps.{CastFrame, ProjFrame, PrimFrame, EnterFrame, OwnFrame, Own, Return, Entering}
 use Rattle.coercion_norm.specs.ValueSteps.{On, on_some, onto, pendings_onto, casts_onto, next_argument, enter_plain}
-use Rattle.coercion_norm.specs.ValueSteps.{enter, decision_wraps}
+use Rattle.coercion_norm.specs.ValueSteps.{enter}
+use Rattle.grift_base.specs.declared.operators.PrimOp.{PrimOp}
+use Rattle.grift_base.specs.declared.operators.PrimOp.TheVariants.{Add, Sub, Mul, Quot, Rem, Lt, Le, Eq, Ge, Gt, Not}
+use Rattle.grift_base.specs.declared.operators.PrimOp.TheVariants.{PrintInt, Newline, ReadInt, MakeBox, Unbox, BoxSet}
+use Rattle.grift_base.specs.declared.operators.PrimOp.TheVariants.{VectorRef, VectorSet, VectorLength, MakeVector}
+use Rattle.core_calc.specs.Account.{prim_kind, vector_kind}
+use Rattle.coer_core.specs.Tally.{made_vector}
+use Rattle.coercion_norm.specs.RunValues.{RunInt, RunUnit, RunTuple, RunLoc, RunInject}
+use Rattle.std.proofs.Common.{pos, negsuc}
 use Rattle.coer_core.specs.Terms.{RowTerm, RowInt, RowBool, RowUnit, RowVar, RowLambda, RowGroup, RowLet, RowCall}
 use Rattle.coer_core.specs.Terms.{RowIf, RowSeq, RowCast, RowProj, RowProjDyn, RowTuple, RowPrim, RowTerms, NoRowTerms}
 use Rattle.coer_core.specs.Terms.{RowTermThen, RowBindings, NoRowBindings, RowBindingThen, cast_by, core_of}
 use Rattle.coer_core.specs.Terms.{core_members, core_bindings}
-use Rattle.coer_core.specs.Counts.{turn_wraps, rows_count, wraps_at}
+use Rattle.core_calc.specs.Account.{StepKind, Wraps, Casts, Acts, cast_kind, operator_kind, kind_at}
+use Rattle.coer_core.specs.Tally.{operating_kind, job_kind, gather_kind, bind_kind, eval_kind, decision_kind}
+use Rattle.coer_core.specs.Tally.{plain_kind}
+use Rattle.coer_core.specs.Tally.{enter_kind, back_kind}
 use Rattle.coer_core.specs.Machine.{LambdaCode, MemberCode, code_arity, closure, Eval, Calling, Tupling, Operating}
 use Rattle.coer_core.specs.Machine.{IfFrame, SeqFrame, FunFrame, ProjDynFrame, GatherFrame, LetFrame, entered, finish}
 use Rattle.coer_core.specs.Machine.{gather, bind_next, choose, eval, back}
@@ -43,18 +54,23 @@ module _ (types : TypeRows) (rows : List TypeCast) (store : PiledStore) (world :
   stepped term = step types (store_of rows store) world term
 
   -- the calculus makes no step
-  abbrev pub Silently : ℕ → ℕ → List PiledFrame → Term → PiledAfter → Type 0
+  abbrev pub Silently : Option StepKind → ℕ → List PiledFrame → Term → PiledAfter → Type 0
   Silently w size k h (On focus frames store1 world1) =
-      (w ≡ 0) × (store1 ≡ store) × (world1 ≡ world) × (size_of focus frames < size) × ((whole : Term)
+      (w ≡ None) × (store1 ≡ store) × (world1 ≡ world) × (size_of focus frames < size) × ((whole : Term)
       → Plugged rows k h whole → TermOf rows focus frames whole)
   Silently w size k h _ = ⊥
 
-  -- it makes a step
-  abbrev pub Stepping : ℕ → List PiledFrame → Term → PiledAfter → Type 0
-  Stepping w k h after =
-      (as_value h ≡ None) × (wraps_at types (redex h) ≡ w) × Matched types rows store world k after (stepped h)
+  -- a step of the calculus is of this kind; where neither run has a next state, of none that counts
+  abbrev pub IsOfKind : Option StepKind → StepKind → Type 0
+  IsOfKind (Some kind) other = other ≡ kind
+  IsOfKind None other = other ≡ Acts
 
-  abbrev pub Moves : ℕ → ℕ → List PiledFrame → Term → PiledAfter → Type 0
+  -- it makes a step
+  abbrev pub Stepping : Option StepKind → List PiledFrame → Term → PiledAfter → Type 0
+  Stepping w k h after =
+      (as_value h ≡ None) × IsOfKind w (kind_at types (redex h)) × Matched types rows store world k after (stepped h)
+
+  abbrev pub Moves : Option StepKind → ℕ → List PiledFrame → Term → PiledAfter → Type 0
   Moves w size k h after = Silently w size k h after ⊎ Stepping w k h after
 
   -- ---- gathering values
@@ -70,18 +86,56 @@ module _ (types : TypeRows) (rows : List TypeCast) (store : PiledStore) (world :
   Ready Tupling function = Unit {0}
   Ready (Operating operator) function = Unit {0}
 
+  same_vector : (values : List PiledValue) → vector_kind (map (value_of rows) values) ≡ made_vector values
+  same_vector [] = refl
+  same_vector (RunInt (pos k) ∷ rest) = refl
+  same_vector (RunInt (negsuc k) ∷ rest) = refl
+  same_vector (RunFun (LambdaCode parameters body type names) captured ∷ rest) = refl
+  same_vector (RunFun (MemberCode group place names) captured ∷ rest) = refl
+  same_vector (RunBool b ∷ rest) = refl
+  same_vector (RunUnit ∷ rest) = refl
+  same_vector (RunTuple values ∷ rest) = refl
+  same_vector (RunLoc cell is_vector ∷ rest) = refl
+  same_vector (RunWrap v cast ∷ rest) = refl
+  same_vector (RunInject v kept ∷ rest) = refl
+
+  same_operator : (operator : PrimOp) (values : List PiledValue)
+      → operator_kind operator (map (value_of rows) values) ≡ operating_kind operator values
+  same_operator MakeVector values = same_vector values
+  same_operator Add values = refl
+  same_operator Sub values = refl
+  same_operator Mul values = refl
+  same_operator Quot values = refl
+  same_operator Rem values = refl
+  same_operator Lt values = refl
+  same_operator Le values = refl
+  same_operator Eq values = refl
+  same_operator Ge values = refl
+  same_operator Gt values = refl
+  same_operator Not values = refl
+  same_operator PrintInt values = refl
+  same_operator Newline values = refl
+  same_operator ReadInt values = refl
+  same_operator MakeBox values = refl
+  same_operator Unbox values = refl
+  same_operator BoxSet values = refl
+  same_operator VectorRef values = refl
+  same_operator VectorSet values = refl
+  same_operator VectorLength values = refl
+
   finish_moves : (job : PiledJob) (function : Term) (values : List PiledValue) (terms : Terms) (k : List PiledFrame)
       → Ready job function → all_values terms ≡ Some (map (value_of rows) values) → Pended rows (all_plain values) terms
-      → Stepping 0 k (JobTerm job function terms) (finish (piling types rows) store world job values k)
+      → Stepping (Some (job_kind job values)) k (JobTerm job function terms) (finish (piling types rows) store world job
+      values k)
   finish_moves (Calling f) function values terms k r e p = (
     refl,
-    ap (wraps_at types) (some_chosen (as_value function) _ _ _ r ∙ some_chosen (all_values terms) _ _ _ e),
+    ap (kind_at types) (some_chosen (as_value function) _ _ _ r ∙ some_chosen (all_values terms) _ _ _ e),
     rw
         (r, e) (refl, refl, λ whole q. (Enter function terms, (function, r, (NoTerms, tt, (terms, p, refl))), q)),
   )
   finish_moves Tupling function values terms k r e p = (
     refl,
-    ap (wraps_at types) (some_chosen (all_values terms) _ _ _ e),
+    ap (kind_at types) (some_chosen (all_values terms) _ _ _ e),
     rw e (
       refl,
       refl,
@@ -95,7 +149,8 @@ module _ (types : TypeRows) (rows : List TypeCast) (store : PiledStore) (world :
   )
   finish_moves (Operating operator) function values terms k r e p = (
     refl,
-    ap (wraps_at types) (some_chosen (all_values terms) _ _ _ e),
+    ap (kind_at types) (some_chosen (all_values terms) _ _ _ e) ∙ ap (prim_kind operator) e
+        ∙ same_operator operator values,
     rw e
         (m_operator types rows store world k operator values),
   )
@@ -120,7 +175,7 @@ module _ (types : TypeRows) (rows : List TypeCast) (store : PiledStore) (world :
   pub gather_moves : (n : ℕ) (job : PiledJob) (function : Term) (done : List PiledValue) (terms : Terms)
       (rest : RowTerms) (env : PiledEnv) (k : List PiledFrame) → Ready job function → Spelled rows done terms
       → terms_weight rest + frames_size k ≤ n
-      → Moves 0 n k (JobTerm job function (terms_onto terms (sub_terms rows rest env)))
+      → Moves (gather_kind job done rest) n k (JobTerm job function (terms_onto terms (sub_terms rows rest env)))
       (gather (piling types rows) store world job done rest env k)
   gather_moves n job function done terms NoRowTerms env k r s le =
       inr (finish_moves job function (onto done []) (terms_onto terms NoTerms) k r
@@ -146,12 +201,12 @@ module _ (types : TypeRows) (rows : List TypeCast) (store : PiledStore) (world :
   let_values _ body bound b = rw (b.1, b.2) refl
 
   let_wraps : (bindings : Bindings) (body : Term) (bound : PiledEnv) → AllBound rows bindings bound
-      → wraps_at types (redex (Let bindings body)) ≡ 0
-  let_wraps bindings body bound b = ap (wraps_at types) (some_chosen (bound_values bindings) _ _ _ b.1)
+      → kind_at types (redex (Let bindings body)) ≡ Acts
+  let_wraps bindings body bound b = ap (kind_at types) (some_chosen (bound_values bindings) _ _ _ b.1)
 
   bind_moves : (n : ℕ) (bound : PiledEnv) (bindings : Bindings) (rest : RowBindings) (body : RowTerm) (env : PiledEnv)
       (k : List PiledFrame) → SpelledBindings rows bound bindings → binding_weight rest + frames_size k ≤ n
-      → Moves 0 n k (let_term rows bindings (names_onto bound (binding_names (core_bindings rows rest)))
+      → Moves (bind_kind rest) n k (let_term rows bindings (names_onto bound (binding_names (core_bindings rows rest)))
       (sub_bindings rows rest env) body env) (bind_next (piling types rows) store world bound rest body env k)
   bind_moves n bound bindings NoRowBindings body env k s le =
       let pairs : PiledEnv = onto bound [] in
@@ -182,7 +237,7 @@ module _ (types : TypeRows) (rows : List TypeCast) (store : PiledStore) (world :
   -- ---- terms
 
   var_moves : (n : ℕ) (name : ℕ) (env : PiledEnv) (k : List PiledFrame) (o : Option PiledValue) → entry_of name env ≡ o
-      → frames_size k < n → Moves 0 n k (value_or_name (option_map (value_of rows) o) name)
+      → frames_size k < n → Moves None n k (value_or_name (option_map (value_of rows) o) name)
       (on_some o (λ v. On (Return v) k store world))
   var_moves n name env k (Some v) e lt =
       inl (refl, refl, refl, omega (arith, lt), λ whole p. (ValueTerm (value_of rows v), refl, p))
@@ -190,14 +245,15 @@ module _ (types : TypeRows) (rows : List TypeCast) (store : PiledStore) (world :
 
   cast_moves : (n : ℕ) (term : RowTerm) (env : PiledEnv) (k : List PiledFrame) (o : Option TypeCast)
       → size_of (Own (Eval term env)) k < n
-      → Moves 0 n k (substitute (cast_by o (core_of rows term)) (entries_of rows env))
+      → Moves None n k (substitute (cast_by o (core_of rows term)) (entries_of rows env))
       (on_some o (λ cast. On (Own (Eval term env)) (CastFrame cast ∷ k) store world))
   cast_moves n term env k (Some cast) lt =
       inl (refl, refl, refl, omega (arith, lt), λ whole p. (sub rows term env, refl, p))
   cast_moves n term env k None lt = inr (refl, refl, tt)
 
   pub eval_moves : (term : RowTerm) (env : PiledEnv) (k : List PiledFrame)
-      → Moves 0 (size_of (Own (Eval term env)) k) k (sub rows term env) (eval (piling types rows) store world term env
+      → Moves (eval_kind TypeCast term) (size_of (Own (Eval term env)) k) k (sub rows term env) (eval (piling types
+      rows) store world term env
       k)
   eval_moves (RowInt n) env k = inl (refl, refl, refl, omega arith, λ whole p. (sub rows (RowInt n) env, refl, p))
   eval_moves (RowBool b) env k = inl (refl, refl, refl, omega arith, λ whole p. (sub rows (RowBool b) env, refl, p))
@@ -253,34 +309,34 @@ module _ (types : TypeRows) (rows : List TypeCast) (store : PiledStore) (world :
 
   -- ---- a value goes to what waits for it
 
-  by_bool : (b : Bool) (x y : ℕ) (d e : Decision TypeCast) → x ≡ decision_wraps d → y ≡ decision_wraps e
-      → cond b x y ≡ decision_wraps (if b then d else e)
+  by_bool : (b : Bool) (x y : StepKind) (d e : Decision TypeCast) → x ≡ decision_kind d → y ≡ decision_kind e
+      → cond b x y ≡ decision_kind (if b then d else e)
   by_bool true x y d e p q = p
   by_bool false x y d e p q = q
 
-  opening_free : (shape : Shape TypeCast) (cast : TypeCast) → 0 ≡ decision_wraps (opening shape cast)
+  opening_free : (shape : Shape TypeCast) (cast : TypeCast) → Casts ≡ decision_kind (opening shape cast)
   opening_free (Bare head) cast = refl
   opening_free (Wrapped c) cast = refl
   opening_free (Injected kept) cast = refl
 
   count_same : (o p : Option TypeRow) (cast : TypeCast) (shape : Shape TypeCast)
       → ((row : TypeRow) → o ≡ Some row → fits row cast shape ≡ true)
-      → rows_count o p ≡ decision_wraps
+      → cast_kind o p ≡ decision_kind
       (or_none (and_some o (λ row. and_some p (λ other. Some (decide_fitting row other cast shape)))))
   count_same (Some row) (Some other) cast shape fit =
-      rw (fit row refl) (by_bool (is_dyn row && is_dyn other) 0 _ Keeping _ refl
-      (by_bool (is_dyn other) 0 _ (Injecting cast.from) _ refl (by_bool (is_dyn row) 0 _ (opening shape cast) _
-      (opening_free shape cast) (by_bool (not (same_head row other)) 0 _ (Blaming cast.label) _ refl
-      (by_bool (is_base row) 0 1 Keeping (Wrapping cast) refl refl)))))
+      rw (fit row refl) (by_bool (is_dyn row && is_dyn other) Casts _ Keeping _ refl
+      (by_bool (is_dyn other) Casts _ (Injecting cast.from) _ refl (by_bool (is_dyn row) Casts _ (opening shape cast) _
+      (opening_free shape cast) (by_bool (not (same_head row other)) Casts _ (Blaming cast.label) _ refl
+      (by_bool (is_base row) Casts Wraps Keeping (Wrapping cast) refl refl)))))
   count_same (Some row) None cast shape fit = refl
   count_same None p cast shape fit = refl
 
   cast_wraps : (h : Term) (v : PiledValue) (cast : TypeCast) → Fit types rows store world v cast → Is rows h v
-      → wraps_at types (redex (cast_term h cast))
-      ≡ decision_wraps ((piling types rows).cast cast (shape_of code_arity v))
+      → kind_at types (redex (cast_term h cast))
+      ≡ decision_kind ((piling types rows).cast cast (shape_of code_arity v))
   cast_wraps h v cast fit e =
-      ap (wraps_at types) (some_chosen (as_value h) _ _ _ e)
-      ∙ rw e (count_same (row_at types cast.from) (row_at types cast.to) cast (shape_of code_arity v) fit)
+      ap (kind_at types) (some_chosen (as_value h) _ _ _ e)
+      ∙ count_same (row_at types cast.from) (row_at types cast.to) cast (shape_of code_arity v) fit
 
   choose_matched : (v : PiledValue) (on_true on_false : RowTerm) (env : PiledEnv) (k : List PiledFrame)
       → Matched types rows store world k (choose (piling types rows) store world v on_true on_false env k)
@@ -294,7 +350,7 @@ module _ (types : TypeRows) (rows : List TypeCast) (store : PiledStore) (world :
   -- the frame's term round the value
   abbrev pub BackMoves : PiledValue → PiledFrame → List PiledFrame → Term → Type 0
   BackMoves v frame k whole =
-      (h : Term) × Plugged rows k h whole × Moves (turn_wraps (piling types rows) (Return v) (frame ∷ k))
+      (h : Term) × Plugged rows k h whole × Moves (back_kind (piling types rows) v frame)
       (size_of (Return v) (frame ∷ k)) k h (back (piling types rows) store world v frame k)
 
   -- a cast's frame has a value that it fits
@@ -308,14 +364,14 @@ module _ (types : TypeRows) (rows : List TypeCast) (store : PiledStore) (world :
     If h (sub rows on_true env) (sub rows on_false env),
     p,
     inr
-        (refl, ap (wraps_at types) (some_chosen (as_value h) _ _ _ e), rw e (choose_matched v on_true on_false env k)),
+        (refl, ap (kind_at types) (some_chosen (as_value h) _ _ _ e), rw e (choose_matched v on_true on_false env k)),
   )
   back_moves v (OwnFrame (SeqFrame term rest env)) k h whole fit e p = (
     Seq (TermThen h (TermThen (sub rows term env) (sub_terms rows rest env))),
     p,
     inr (
       refl,
-      ap (wraps_at types) (some_chosen (as_value h) _ _ _ e),
+      ap (kind_at types) (some_chosen (as_value h) _ _ _ e),
       rw e
           (refl, refl, λ other q. (Seq (TermThen (sub rows term env) (sub_terms rows rest env)), refl, q)),
     ),
@@ -333,7 +389,7 @@ module _ (types : TypeRows) (rows : List TypeCast) (store : PiledStore) (world :
     p,
     inr (
       refl,
-      ap (wraps_at types) (some_chosen (as_value h) _ _ _ e),
+      ap (kind_at types) (some_chosen (as_value h) _ _ _ e),
       rw e
           (m_proj types rows store world k v i),
     ),
@@ -343,7 +399,7 @@ module _ (types : TypeRows) (rows : List TypeCast) (store : PiledStore) (world :
     p,
     inr (
       refl,
-      ap (wraps_at types) (some_chosen (as_value h) _ _ _ e),
+      ap (kind_at types) (some_chosen (as_value h) _ _ _ e),
       rw e
           (m_proj_dyn types rows store world k v i label),
     ),
@@ -409,7 +465,7 @@ module _ (types : TypeRows) (rows : List TypeCast) (store : PiledStore) (world :
   next_moves : (f : PiledValue) (done : List PiledValue) (v : PiledValue) (casts : List TypeCast)
       (todo : List PiledPending) (k : List PiledFrame) (function : Term) (terms : Terms) (t : Term) (rest : Terms)
       → IsPlain f → Is rows function f → Spelled rows done terms → Is rows t v → Pended rows todo rest
-      → Moves 0 (suc (suc (pending_size todo)) + frames_size k) k
+      → Moves None (suc (suc (pending_size todo)) + frames_size k) k
       (Enter function (terms_onto terms (TermThen (casts_term t casts) rest)))
       (next_argument (piling types rows) code_arity entered store world f done v casts todo k)
   next_moves f done v [] todo k function terms t rest plain i s it p =
@@ -441,25 +497,26 @@ module _ (types : TypeRows) (rows : List TypeCast) (store : PiledStore) (world :
 
   -- neither entering a function nor a wrapper is a wrap step
   enter_wraps : (f : PiledValue) (function : Term) (terms : Terms) (values : List Value) → IsPlain f
-      → Is rows function f → all_values terms ≡ Some values → wraps_at types (redex (Enter function terms)) ≡ 0
+      → Is rows function f → all_values terms ≡ Some values → kind_at types (redex (Enter function terms)) ≡ Acts
   enter_wraps f function terms values plain i e =
       let whole : Focus Term = here (Enter function terms) in
       let inner : Focus Term = below (Enter function) (focus_terms terms) in
-      ap (wraps_at types) (ap (λ o. (enter_focus o whole (where_some (all_values terms) whole inner)).redex) i
+      ap (kind_at types) (ap (λ o. (enter_focus o whole (where_some (all_values terms) whole inner)).redex) i
       ∙ plain_redex rows types (store_of rows store) world f whole (where_some (all_values terms) whole inner) plain
       ∙ some_chosen (all_values terms) values whole inner e)
 
   wrapper_wraps : (function : Term) (terms : Terms) (v : Value) (cast : TypeCast)
       → as_value function ≡ Some (WrapValue v cast.from cast.label cast.to)
-      → wraps_at types (redex (Enter function terms)) ≡ 0
+      → kind_at types (redex (Enter function terms)) ≡ Acts
   wrapper_wraps function terms v cast i =
       let whole : Focus Term = here (Enter function terms) in
       let inner : Focus Term = below (Enter function) (focus_terms terms) in
-      ap (λ o. wraps_at types (enter_focus o whole (where_some (all_values terms) whole inner)).redex) i
+      ap (λ o. kind_at types (enter_focus o whole (where_some (all_values terms) whole inner)).redex) i
 
   plain_moves : (f : PiledValue) (done : List PiledValue) (todo : List PiledPending) (k : List PiledFrame)
       (function : Term) (terms rest : Terms) → IsPlain f → Is rows function f → Spelled rows done terms
-      → Pended rows todo rest → Moves 0 (size_of (Entering f done todo) k) k (Enter function (terms_onto terms rest))
+      → Pended rows todo rest → Moves (plain_kind todo) (size_of (Entering f done todo) k) k
+      (Enter function (terms_onto terms rest))
       (enter_plain (piling types rows) code_arity entered store world f done todo k)
   plain_moves f done [] k function terms NoTerms plain i s p =
       inr (
@@ -477,14 +534,14 @@ module _ (types : TypeRows) (rows : List TypeCast) (store : PiledStore) (world :
   plain_moves f done [] k function terms (TermThen term rest) plain i s p = absurd p
   plain_moves f done (pending ∷ todo) k function terms NoTerms plain i s p = absurd p
   plain_moves f done (pending ∷ todo) k function terms (TermThen term rest) plain i s p =
-      subst (λ x. Moves 0 (suc (suc (pending_size todo)) + frames_size k) k
+      subst (λ x. Moves None (suc (suc (pending_size todo)) + frames_size k) k
       (Enter function (terms_onto terms (TermThen x rest))) (next_argument (piling types rows) code_arity entered store
       world f done pending.value pending.casts todo k)) (sym p.0.2) (next_moves f done pending.value pending.casts todo
       k function terms p.0.0 rest plain i s p.0.1 p.1)
 
   pub enter_moves : (f : PiledValue) (done : List PiledValue) (todo : List PiledPending) (k : List PiledFrame)
       (function : Term) (terms rest : Terms) → Is rows function f → Spelled rows done terms → Pended rows todo rest
-      → Moves 0 (size_of (Entering f done todo) k) k (Enter function (terms_onto terms rest))
+      → Moves (enter_kind f todo) (size_of (Entering f done todo) k) k (Enter function (terms_onto terms rest))
       (enter (piling types rows) code_arity entered store world f done todo k)
   enter_moves (RunWrap f cast) done todo k function terms rest i s p =
       inr (

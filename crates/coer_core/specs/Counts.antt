@@ -1,14 +1,12 @@
 -- What runs are counted by: words asked for, turns, pending frames and wrap steps.
-use Rattle.std.specs.Prelude.{◌≡◌, ℕ, suc, ◌+◌, ◌*◌, cond, not, ◌&&◌, List, [], ◌∷◌, ◌++◌, length, Option}
-use Rattle.std.specs.Prelude.{Some}
+use Rattle.std.specs.Prelude.{◌≡◌, ℕ, suc, ◌+◌, ◌*◌, cond, List, [], ◌∷◌, ◌++◌, length}
 use Rattle.run_laws.specs.Runs.{Run}
 use Rattle.run_laws.specs.Reductions.{Reduction, reduction_run}
 use Rattle.run_laws.specs.Meters.{Metered, metered_reduction, unspent}
-use Rattle.grift_base.specs.Types.{TypeRow, TypeRows, row_at, is_dyn, is_base, same_head}
+use Rattle.grift_base.specs.Types.{TypeRows}
 use Rattle.grift_base.specs.declared.verdicts.Verdict.{Verdict}
-use Rattle.core_calc.specs.Terms.{Term, Cast, as_value}
 use Rattle.core_calc.specs.Substitution.{is_among}
-use Rattle.core_calc.specs.Redex.{redex, where_some}
+use Rattle.core_calc.specs.Account.{StepKind, Wraps, kind_of_step}
 use Rattle.core_calc.specs.Calculus.{CalcState, Program, calculus, start}
 use Rattle.coercion_norm.specs.Modes.{Mode}
 use Rattle.coercion_norm.specs.RunValues.{shape_of}
@@ -127,26 +125,14 @@ module _ {C : Type 0} (mode : Mode C) where
   abbrev pub wraps_of_turn : RunState C → ℕ
   wraps_of_turn state = turn_wraps state.focus state.frames
 
--- 1 for a step of the calculus that wraps a value: a cast between two types of one head that have parts
-abbrev pub wrap_count : TypeRow → TypeRow → ℕ
-wrap_count row other =
-    cond (is_dyn row && is_dyn other) 0
-    (cond (is_dyn other) 0 (cond (is_dyn row) 0 (cond (not (same_head row other)) 0 (cond (is_base row) 0 1))))
-
--- where the table has both types
-abbrev pub rows_count : Option TypeRow → Option TypeRow → ℕ
-rows_count (Some row) (Some other) = wrap_count row other
-rows_count _ _ = 0
-
--- of a redex
-abbrev pub wraps_at : TypeRows → Term → ℕ
-wraps_at types (Cast term from to label) =
-    where_some (as_value term) (rows_count (row_at types from) (row_at types to)) 0
-wraps_at types _ = 0
+-- 1 for a step of the calculus that wraps a value
+abbrev pub kind_wraps : StepKind → ℕ
+kind_wraps Wraps = 1
+kind_wraps _ = 0
 
 -- of the next step from a state
 abbrev pub wraps_of_step : TypeRows → CalcState → ℕ
-wraps_of_step types state = wraps_at types (redex state.term)
+wraps_of_step types state = kind_wraps (kind_of_step types state)
 
 -- ---- counted runs
 

@@ -3,12 +3,16 @@ use Rattle.run_laws.specs.Runs.{Any, FollowsBy}
 use Rattle.coercion_norm.specs.Modes.{piling}
 use Rattle.coercion_norm.specs.MergedMode.{merging}
 use Rattle.coer_core.specs.Counts.{run_in}
+use Rattle.core_calc.specs.Account.{extent}
+use Rattle.coer_core.specs.Terms.{core_of}
 use Rattle.coer_core.specs.Views.{row_term_of}
 use Rattle.flat_ir.specs.Closed.{is_closed}
 use Rattle.flat_ir.specs.Counts.{flat_run_in}
+use Rattle.flat_ir.specs.Levels.{HaveLevels}
 use Rattle.closure_convert.specs.Bounds.{CountsKept}
 use Rattle.closure_convert.specs.Conversion.{converted, made}
 use Rattle.closure_convert.proofs.Closing.{converted_closed}
+use Rattle.closure_convert.proofs.FewLevels.{procedures_have_few_levels}
 use Rattle.closure_convert.proofs.Standing.{converted_follows}
 use Rattle.closure_convert.proofs.Typed.{typed_closed, typed_fine}
 use Rattle.closure_convert.proofs.program.convert.Goals as goal
@@ -20,6 +24,13 @@ returns-clause-closed c = λ casts types labels type widths h.
     (sym (c.in_ok-procs.ensures.procs (typed_closed casts types labels term type h.3)))
     (subst (λ entry. is_closed (converted term) entry ≡ true) (sym c.in_ok-procs.ensures.entry)
     (converted_closed term (typed_fine casts types labels term type widths h.3)))
+
+pub returns-clause-levels : goal.returns-clause-levels
+returns-clause-levels c = λ casts types labels type h.
+    let term = row_term_of c.args.program.now.body in
+    subst (λ procs. HaveLevels (extent (core_of casts term)) procs)
+    (sym (c.in_ok-procs.ensures.procs (typed_closed casts types labels term type h.3)))
+    (procedures_have_few_levels casts types labels term type h)
 
 pub returns-clause-piled : goal.returns-clause-piled
 returns-clause-piled c = λ closed casts told input never.
