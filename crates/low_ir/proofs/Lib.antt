@@ -3,3 +3,4 @@ mod OneByOne
 mod WindowLemmas
 mod ClosedInWindows
 pub mod CountedWords
+mod Priced

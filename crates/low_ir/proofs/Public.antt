@@ -1,2 +1,4 @@
 -- What other crates may cite. What a law says has the law's name.
 pub use Rattle.low_ir.proofs.CountedWords.{words_are_counted_where_they_are_taken, active_procedures_hold_their_words}
+-- What is left to pay of a procedure, step by step; and prices of several steps, one by one.
+pub use Rattle.low_ir.proofs.Priced.{step_pays as steps_are_paid, costs_on, costs_last}

@@ -4,5 +4,6 @@ pub mod Views
 pub mod Steps
 pub mod Run
 pub mod Counting
+pub mod Prices
 pub mod Closed
 pub mod Windows
