@@ -13,12 +13,12 @@ use Rattle.flat_ir.specs.declared.code.Operation.{Operation}
 use Rattle.flat_ir.specs.declared.code.Operation.TheVariants.{Move, Prim, Cast, Tuple, Proj, ProjDyn}
 use Rattle.flat_ir.specs.Bodies.{Body, Give, Call, Choose, LetBody, LetGroup, Proc as FlatProc}
 use Rattle.flat_ir.specs.Closed.{operand_bound, operands_bound, operation_bound, begins_group, body_bound}
+use Rattle.flat_ir.specs.Levels.{levels}
 use Rattle.lower.specs.declared.numbering.Shape.{Shape}
 use Rattle.lower.specs.declared.served.Served.{Served}
 use Rattle.lower.specs.Numbering.{operand_word, test_word, local_word}
 use Rattle.lower.specs.Emit.{found, found_all, source_at, perform, Then, ToCaller, Into}
 use Rattle.lower.specs.Emit.{apply_words, call, call_bare, call_by, is_sibling, give, choose, group_code, emit}
-use Rattle.lower.specs.Lowered.{levels}
 use Rattle.lower.specs.Serving.{Serve, operands_have_words, operators_have_words}
 use Rattle.lower.proofs.ClosingKnowledge.{Known, More, more_same, more_then, more_both, Reads, AllRead, read_more}
 use Rattle.lower.proofs.ClosingKnowledge.{all_read_more, read_word, read_then, read_two, Ends, ends_done, load_ends}

@@ -13,10 +13,11 @@ use Rattle.low_ir.specs.Closed.{takes_words}
 use Rattle.flat_ir.specs.Bodies.{Proc as FlatProc}
 use Rattle.flat_ir.specs.Closed.{begins_group, is_next, body_bound, proc_closed as flat_proc_closed}
 use Rattle.flat_ir.specs.Closed.{each_closed as flat_each_closed, takes_nothing, is_closed as flat_is_closed}
+use Rattle.flat_ir.specs.Levels.{levels}
 use Rattle.lower.specs.declared.served.Served.{Served}
 use Rattle.lower.specs.Numbering.{own_word, local_word}
 use Rattle.lower.specs.Emit.{ToCaller, emit}
-use Rattle.lower.specs.Lowered.{levels, shape_of, low_proc, entry_proc, lowered}
+use Rattle.lower.specs.Lowered.{shape_of, low_proc, entry_proc, lowered}
 use Rattle.lower.specs.Serving.{Serve, operators_have_words, all_have_words}
 use Rattle.lower.proofs.ClosingKnowledge.{Known, Reads, read_word}
 use Rattle.lower.proofs.ClosingOperands.{Ready}

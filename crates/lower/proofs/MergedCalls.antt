@@ -30,7 +30,7 @@ use Rattle.flat_ir.specs.Machine.{flat_turn, flat_arity, flat_entered, entered_p
 use Rattle.rt_cast.specs.Carried.{IsVery, Carries, ComesTo}
 use Rattle.rt_cast.specs.Carried.{AreCarried as RtCarried}
 use Rattle.rt_cast.specs.ComposeCodes.{cast as cast_number}
-use Rattle.rt_cast.specs.Costs.{cast_cost}
+use Rattle.rt_cast.specs.LightCasts.{cast_words_of}
 use Rattle.rt_cast.specs.MergedValues.{Merged, Solid, Proxied, Outcome, Stuck, cast_value}
 use Rattle.rt_cast.specs.Procs.{Stand}
 use Rattle.rt_cast.specs.States.{Placed, IsReady, Grows, Fine, Heap, Filled as RtFilled, OnTheWay, around, entered}
@@ -38,7 +38,7 @@ use Rattle.rt_cast.specs.States.{heap_of}
 use Rattle.rt_refs.specs.Arguments.{Arguments, NoArguments, AllGive, OneBlames, then_others, arguments_cast}
 use Rattle.rt_refs.specs.Arguments.{handed}
 use Rattle.rt_refs.specs.CallCodes.{apply_proc}
-use Rattle.rt_refs.specs.CallLaws.{apply_cost, Resumes, CallComes}
+use Rattle.rt_refs.specs.CallLaws.{arguments_words, Resumes, CallComes}
 use Rattle.rt_refs.specs.CallLaws.{CallsAt as RtCallsAt}
 use Rattle.rt_refs.specs.RefProcs.{Stand as RefsStand}
 use Rattle.rt_refs.proofs.Public.{calls_are_made, answers_are_cast}
@@ -404,7 +404,7 @@ module _ (setting : Setting) (l : Layout) (procs : List Proc) (casts : List Type
     total_of = arguments_cast heads_of l.types 0 ds given.0
 
     abbrev wide_of : ℕ
-    wide_of = 9 * apply_cost (cast_cost l.width l.tallest) (length given.0)
+    wide_of = arguments_words l ds given.0
 
     law_of : (total_of ≡ NoArguments → ⊥)
         → (k : ℕ) × Reaches (low_machine ending_of setting) (OnTheWay setting l s (4 * l.tallest + 7) wide_of)
@@ -472,7 +472,7 @@ module _ (setting : Setting) (l : Layout) (procs : List Proc) (casts : List Type
     answer_law : (answer_of ≡ Stuck → ⊥)
         → (k : ℕ)
         × Reaches (low_machine ending_of setting)
-        (OnTheWay setting l s (4 * l.tallest + 6) (9 * (cast_cost l.width l.tallest + 1)))
+        (OnTheWay setting l s (4 * l.tallest + 6) (cast_words_of l c answer.0))
         (ComesTo l setting s (IsVery l) objects answer_of) k resumed
     answer_law some =
         let z = answers_are_cast ending_of setting l waits.0 s refl
@@ -484,14 +484,14 @@ module _ (setting : Setting) (l : Layout) (procs : List Proc) (casts : List Type
         (flat_cast procs (merging l.types casts) store s.world v c base) number
         (decision_wraps (decision_at procs (merging l.types casts) (Some c) v)) resumed
     answer_cast = (
-      record { frames = 4 * l.tallest + 6; words = 9 * (cast_cost l.width l.tallest + 1) },
+      record { frames = 4 * l.tallest + 6; words = cast_words_of l c answer.0 },
       cast_made setting l procs casts placed s places objects store number here base resumed (4 * l.tallest + 6)
-          (9 * (cast_cost l.width l.tallest + 1))
-          (begins_from (4 * l.tallest + 6) (9 * (cast_cost l.width l.tallest + 1)) resumed refl refl refl) answer_head
+          (cast_words_of l c answer.0)
+          (begins_from (4 * l.tallest + 6) (cast_words_of l c answer.0) resumed refl refl refl) answer_head
           answer_of answer_law c waits.2.low.normal base (λ o. o) (λ label. refl)
           (ends_here setting l procs casts placed s places objects store number here base resumed (4 * l.tallest + 6)
-          (9 * (cast_cost l.width l.tallest + 1))
-          (begins_from (4 * l.tallest + 6) (9 * (cast_cost l.width l.tallest + 1)) resumed refl refl refl) answer_head
+          (cast_words_of l c answer.0)
+          (begins_from (4 * l.tallest + 6) (cast_words_of l c answer.0) resumed refl refl refl) answer_head
           answer_of answer_law) v answer.0 answer.1 refl refl number,
     )
 

@@ -17,7 +17,7 @@ use Rattle.flat_ir.specs.Bodies.{Proc}
 use Rattle.flat_ir.specs.Counts.{decision_at}
 use Rattle.flat_ir.specs.Machine.{FlatValue, FlatFrame, FlatStore, flat_cast}
 use Rattle.rt_cast.specs.Carried.{IsLow, IsVery, Carries, ComesTo}
-use Rattle.rt_cast.specs.Costs.{cast_cost}
+use Rattle.rt_cast.specs.Costs.{cast_words}
 use Rattle.rt_cast.specs.MergedValues.{Merged, Stuck, cast_value}
 use Rattle.rt_cast.specs.Procs.{Stand, cast_proc}
 use Rattle.rt_cast.specs.States.{Placed, Filled as RtFilled, OnTheWay, entered, heap_of}
@@ -64,7 +64,7 @@ module _ (setting : Setting) (l : Layout) (procs : List Proc) (casts : List Type
   deep = 4 * l.tallest + 6
 
   abbrev wide : ℕ
-  wide = 9 * cast_cost l.width l.tallest
+  wide = cast_words l.width l.tallest
 
   abbrev most : Spent
   most = record { frames = deep; words = wide }

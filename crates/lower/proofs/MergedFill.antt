@@ -156,11 +156,11 @@ module _ (setting : Setting) (l : Layout) (procs : List Proc) (casts : List Type
     trapped n w ge lt small =
         let z = lengths_below_zero_trap ending_of setting l s refl placed begins (omega (arith, narrow)) own there
         objects rt_filled n w small ge lt in (
-          record { frames = 0; words = 9 },
+          record { frames = 0; words = 0 },
           (
             0,
-            traps setting l procs casts s (record { frames = 0; words = 9 })
-                (Returns merged_meaning setting l procs casts s places objects base) Length 0 9 (omega arith) (omega
+            traps setting l procs casts s (record { frames = 0; words = 0 })
+                (Returns merged_meaning setting l procs casts s places objects base) Length 0 0 (omega arith) (omega
                 arith)
                 (entered s (fill_proc own) (n ∷ w ∷ [])) z.0 z.2 number,
           ),

@@ -35,7 +35,8 @@ module _ (setting : Setting) (first : ℕ) (words : List ℕ) (ways : List CastW
       room = omega arith;
     };
     products = λ s a b small few.
-        (579, products_are_answered ending_of setting s (32 + first) a b product_there small few);
+        let z = products_are_answered ending_of setting s (32 + first) a b product_there small few in
+        (579, (z.0, z.1, z.2));
     divide = divide (33 + first);
     divide_stands = record {
       there = stand 35 (divide (suc (5 + (27 + first)))) refl ∙ ap (λ n. Some (divide n)) (omega arith);
@@ -44,10 +45,14 @@ module _ (setting : Setting) (first : ℕ) (words : List ℕ) (ways : List CastW
       room = omega arith;
     };
     quotients = λ s n d small few some.
-        (851, quotients_are_answered ending_of setting s (33 + first) n d quotient_there small few some);
+        let z = quotients_are_answered ending_of setting s (33 + first) n d quotient_there small few some in
+        (851, (z.0, z.1, z.2));
     remainders = λ s n d small few some.
-        (851, remainders_are_answered ending_of setting s (33 + first) n d quotient_there small few some);
-    zero_divisors = λ s n which. (2, zero_divisors_trap ending_of setting s (33 + first) n which);
+        let z = remainders_are_answered ending_of setting s (33 + first) n d quotient_there small few some in
+        (851, (z.0, z.1, z.2));
+    zero_divisors = λ s n which.
+        let z = zero_divisors_trap ending_of setting s (33 + first) n which in
+        (2, (z.0, z.1, z.2));
   }
 
 -- ---- captured names

@@ -24,7 +24,10 @@ use Rattle.coercion_norm.specs.Held.{Layout, TypesStand}
 use Rattle.flat_ir.specs.Bodies.{Proc}
 use Rattle.flat_ir.specs.Machine.{FlatValue, FlatFrame, FlatStore, FlatAfter, flat_operate, flat_arity, flat_entered}
 use Rattle.rt_cast.specs.ComposeCodes.{cast}
-use Rattle.rt_cast.specs.Costs.{cast_cost}
+use Rattle.rt_cast.specs.Costs.{cast_words}
+use Rattle.rt_cast.specs.LightCasts.{cast_words_of}
+use Rattle.rt_cast.proofs.Public.{words_within}
+use Rattle.lower.proofs.MergedStates.{asks_within}
 use Rattle.rt_cast.specs.Procs.{Stand}
 use Rattle.rt_cast.specs.States.{Placed, IsReady, Filled as RtFilled, OnTheWay, entered, heap_of}
 use Rattle.rt_cast.specs.Carried.{IsVery, Carries, ComesTo}
@@ -75,7 +78,7 @@ module _ (setting : Setting) (l : Layout) (procs : List Proc) (casts : List Type
   deep = 4 * l.tallest + 6
 
   abbrev wide : ℕ
-  wide = 9 * (cast_cost l.width l.tallest + 17)
+  wide = cast_words l.width l.tallest
 
   abbrev most : Spent
   most = record { frames = deep; words = wide }
@@ -148,7 +151,7 @@ module _ (setting : Setting) (l : Layout) (procs : List Proc) (casts : List Type
         cell_words stands_here which i other (omega (arith, p, q)) in (
           0,
           traps setting l procs casts s most (Returns merged_meaning setting l procs casts s places objects base)
-              Index 0 90
+              Index 0 0
               (omega arith) (omega arith) (reads_at which wv i) z.0 z.2 n,
         )
 
@@ -179,8 +182,11 @@ module _ (setting : Setting) (l : Layout) (procs : List Proc) (casts : List Type
       law some =
           let z = elements_are_read ending_of setting l first s refl is_ready tallest objects rt_filled (λ b. H) m wv
           hv a
-          d behind cell_words stands_here which i word.0 other word.1 like.0 like.2 total refl some in
-          (z.0, z.2)
+          d behind cell_words stands_here which i word.0 other word.1 like.0 like.2 total refl some in (
+            z.0,
+            asks_within setting l s deep (cast_words_of l d like.0) wide (words_within l d like.0)
+                (ComesTo l setting s (IsVery l) objects total) z.0 te z.2,
+          )
 
       cast_after : (n : ℕ) → Does te (On (Return v) (CastFrame d ∷ base) store s.world) n
       cast_after n =
@@ -449,11 +455,11 @@ module _ (setting : Setting) (l : Layout) (procs : List Proc) (casts : List Type
             refl,
             (
               z.0,
-              reaches_weaken (low_machine ending_of setting) (OnTheWay setting l s 0 72) (TellsAt setting l s objects k)
+              reaches_weaken (low_machine ending_of setting) (OnTheWay setting l s 0 0) (TellsAt setting l s objects k)
                   (Way n (n + 0))
                   (Returns merged_meaning setting l procs casts s places objects base (Return (RunInt (pos k))) base
                   store (n + 0))
-                  (on_way setting l procs casts s most 0 72 (omega arith) (omega arith) n (n + 0))
+                  (on_way setting l procs casts s most 0 0 (omega arith) (omega arith) n (n + 0))
                   (λ t g. (refl, tells (n + 0) k t (few true cell values e a c m wv hv) g)) z.0 (reads_at 2 wv 0) z.2,
             ),
           ),

@@ -73,6 +73,39 @@ past_element [] i le = refl
 past_element (x ∷ xs) zero le = absurd (let z : ⊥ = omega (arith, le) in z)
 past_element (x ∷ xs) (suc i) le = past_element xs i (omega (arith, le))
 
+-- more words may be asked for
+pub asks_within : (setting : Setting) (l : Layout) (s : LowState) (frames few many : ℕ) → few ≤ many
+    → (Q : LowState → Type 0) (k : ℕ) (t : LowState)
+    → Reaches (low_machine ending_of setting) (OnTheWay setting l s frames few) Q k t
+    → Reaches (low_machine ending_of setting) (OnTheWay setting l s frames many) Q k t
+asks_within setting l s frames few many le Q k t r =
+    reaches_weaken (low_machine ending_of setting) (OnTheWay setting l s frames few) Q
+    (OnTheWay setting l s frames many) Q
+    (λ t o. record {
+      calm = o.calm;
+      active = o.active;
+      asked = let z = o.asked in omega
+          (arith, z, le);
+      turns = o.turns;
+    })
+    (λ t q. q) k t r
+
+pub asks_within_writing : (setting : Setting) (l : Layout) (s : LowState) (frames few many : ℕ) → few ≤ many
+    → (Q : LowState → Type 0) (k : ℕ) (t : LowState)
+    → Reaches (low_machine ending_of setting) (OnTheWayWriting setting l s frames few) Q k t
+    → Reaches (low_machine ending_of setting) (OnTheWayWriting setting l s frames many) Q k t
+asks_within_writing setting l s frames few many le Q k t r =
+    reaches_weaken (low_machine ending_of setting) (OnTheWayWriting setting l s frames few) Q
+    (OnTheWayWriting setting l s frames many) Q
+    (λ t o. record {
+      objects = o.objects;
+      filled = o.filled;
+      same = o.same;
+      active = o.active;
+      asked = let z = o.asked in omega (arith, z, le);
+      turns = o.turns;
+    }) (λ t q. q) k t r
+
 module _ (setting : Setting) (l : Layout) (procs : List Proc) (casts : List TypeCast) where
   -- ---- storage
 

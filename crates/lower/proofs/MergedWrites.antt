@@ -32,7 +32,10 @@ use Rattle.coercion_norm.proofs.Public.{object_kept, found_within}
 use Rattle.flat_ir.specs.Bodies.{Proc}
 use Rattle.flat_ir.specs.Machine.{FlatValue, FlatFrame, FlatStore, FlatAfter, flat_operate, flat_arity, flat_entered}
 use Rattle.rt_cast.specs.ComposeCodes.{cast}
-use Rattle.rt_cast.specs.Costs.{cast_cost}
+use Rattle.rt_cast.specs.Costs.{cast_words}
+use Rattle.rt_cast.specs.LightCasts.{cast_words_of}
+use Rattle.rt_cast.proofs.Public.{words_within}
+use Rattle.lower.proofs.MergedStates.{asks_within_writing}
 use Rattle.rt_cast.specs.Objects.{HasWord, HoldsWords}
 use Rattle.rt_cast.specs.Procs.{Stand}
 use Rattle.rt_cast.specs.States.{Placed, IsReady, Filled as RtFilled, entered, heap_of}
@@ -125,7 +128,7 @@ module _ (setting : Setting) (l : Layout) (procs : List Proc) (casts : List Type
   deep = 4 * l.tallest + 7
 
   abbrev wide : ℕ
-  wide = 9 * (cast_cost l.width l.tallest + 18)
+  wide = cast_words l.width l.tallest
 
   abbrev most : Spent
   most = record { frames = deep; words = wide }
@@ -214,7 +217,7 @@ module _ (setting : Setting) (l : Layout) (procs : List Proc) (casts : List Type
         let z = writes_outside_trap ending_of setting l first s refl is_ready tallest objects rt_filled m wv hv a below
         cell_words stands_here 1 i w refl (omega (arith, p, q)) in (
           0,
-          traps setting l procs casts s most (Goes merged_meaning setting l procs casts s most aim 0) Index 0 90
+          traps setting l procs casts s most (Goes merged_meaning setting l procs casts s most aim 0) Index 0 0
               (omega arith) (omega arith) (writes_at 1 wv i w) z.0 z.2 n,
         )
 
@@ -242,8 +245,12 @@ module _ (setting : Setting) (l : Layout) (procs : List Proc) (casts : List Type
           (WriteComes setting l s (IsVery l) objects a i r) steps te
       law r is some =
           let z = elements_are_written ending_of setting l first s refl is_ready tallest objects rt_filled region
-          (λ b. H) m wv hv a d behind cell_words region_here which i w old_word.0 old_word.1 like.0 like.2 r is some in
-          (z.0, z.2)
+          (λ b. H) m wv hv a d behind cell_words region_here which i w old_word.0 old_word.1 like.0 like.2 r is some
+          in (
+            z.0,
+            asks_within_writing setting l s deep (cast_words_of l d like.0) wide (words_within l d like.0)
+                (WriteComes setting l s (IsVery l) objects a i r) z.0 te z.2,
+          )
 
       blamed : (label : ℕ) → total ≡ Blames label → (n : ℕ) → Turned te 0 (BlameOf label) n 0
       blamed label e n = (
@@ -613,10 +620,12 @@ module _ (setting : Setting) (l : Layout) (procs : List Proc) (casts : List Type
             (region_here true cell stored_vector.0 stored_vector.1 a c (Proxied a wrapper) wv carries) 0 w like_it.0
             like_it.2 label q in (
               z.0,
-              reaches_weaken (low_machine ending_of setting) (OnTheWayWriting setting l s deep wide)
+              reaches_weaken (low_machine ending_of setting)
+                  (OnTheWayWriting setting l s deep (cast_words_of l d like_it.0))
                   (WriteComes setting l s (IsVery l) objects a 0 (Blames label)) (Way n n)
                   (StopsNow merged_meaning setting l procs casts s n (EndsWith (Blame place)))
-                  (on_way_writing setting l procs casts s most deep wide (omega arith) (omega arith) n n)
+                  (on_way_writing setting l procs casts s most deep (cast_words_of l d like_it.0) (omega arith)
+                  (words_within l d like_it.0) n n)
                   (blame_stops setting l procs casts s objects n label place found_it) z.0 box_te z.2,
             ),
       )

@@ -13,6 +13,7 @@ use Rattle.flat_ir.specs.Closed.{operand_bound, operands_bound, body_bound, begi
 use Rattle.flat_ir.specs.Machine.{FlatValue, FlatFrame, FlatState, FlatAfter, Group, Locals as FlatLocals}
 use Rattle.flat_ir.specs.Machine.{Inside, Waiting, flat_state_at, value, values, flat_choose, new_group, set_group}
 use Rattle.flat_ir.specs.Machine.{set_local as set_flat}
+use Rattle.flat_ir.specs.Levels.{levels}
 use Rattle.coercion_norm.specs.Held.{TypesStand}
 use Rattle.coercion_norm.specs.Objects.{Object}
 use Rattle.rt_cast.specs.States.{Heap}
@@ -20,7 +21,7 @@ use Rattle.lower.specs.Storage.{Filled}
 use Rattle.lower.specs.declared.numbering.Shape.{Shape}
 use Rattle.lower.specs.Numbering.{own_word, operand_word, local_word}
 use Rattle.lower.specs.Emit.{Then, ToCaller, Into, emit, found, choose}
-use Rattle.lower.specs.Lowered.{levels, low_proc}
+use Rattle.lower.specs.Lowered.{low_proc}
 use Rattle.lower.specs.CoveredPrograms.{covers}
 use Rattle.lower.specs.CarriedValues.{CellsHeld, IsMember}
 use Rattle.lower.specs.RelatedStates.{Falls, Fits, Knows, Gave}

@@ -17,14 +17,16 @@ use Rattle.flat_ir.specs.Closed.{operand_bound, operands_bound}
 use Rattle.flat_ir.specs.Machine.{FlatValue, FlatValues, FlatFrame, FlatState, FlatAfter, Group}
 use Rattle.flat_ir.specs.Machine.{Locals as FlatLocals, Inside, value, values}
 use Rattle.flat_ir.specs.Machine.{locals_of, or_unit}
+use Rattle.flat_ir.specs.Levels.{levels}
 use Rattle.coercion_norm.specs.Objects.{Object, Fixed}
 use Rattle.rt_cast.specs.States.{Heap}
 use Rattle.lower.specs.Storage.{Filled}
 use Rattle.lower.specs.declared.numbering.Shape.{Shape}
 use Rattle.lower.specs.Numbering.{test_word, operand_word, local_word, function_offset}
-use Rattle.lower.specs.Emit.{Then, ToCaller, Into, emit, found, found_all, call, call_bare, call_by, is_sibling, of_kind}
+use Rattle.lower.specs.Emit.{Then, ToCaller, Into, emit, found, found_all, call, call_bare, call_by, is_sibling}
+use Rattle.lower.specs.Emit.{of_kind}
 use Rattle.lower.specs.Emit.{apply_words}
-use Rattle.lower.specs.Lowered.{levels, low_proc, shape_of}
+use Rattle.lower.specs.Lowered.{low_proc, shape_of}
 use Rattle.coercion_norm.specs.Held.{There}
 use Rattle.std.proofs.Common.{le_refl}
 use Rattle.lower.specs.CarriedValues.{CellsHeld, IsMember, AreCarried, IsGroup}

@@ -15,9 +15,10 @@ use Rattle.flat_ir.specs.Bodies.{Proc}
 use Rattle.flat_ir.specs.Machine.{FlatCode, FlatValue, FlatValues, FlatFrame, FlatFocus, FlatState, FlatStore, Group}
 use Rattle.flat_ir.specs.Machine.{Inside}
 use Rattle.flat_ir.specs.Machine.{locals_of, flat_state_at}
+use Rattle.flat_ir.specs.Levels.{levels}
 use Rattle.lower.specs.Numbering.{function_offset}
 use Rattle.rt_cast.specs.States.{heap_of}
-use Rattle.lower.specs.Lowered.{levels, low_proc, shape_of}
+use Rattle.lower.specs.Lowered.{low_proc, shape_of}
 use Rattle.lower.specs.CarriedValues.{IsMember, IsGroup}
 use Rattle.lower.specs.RelatedStates.{OwnGroup}
 use Rattle.lower.specs.SchemeLaws.{Calls, CallsAt}

@@ -8,11 +8,11 @@ use Rattle.low_ir.specs.Run.{Waiting as LowWaiting}
 use Rattle.coercion_norm.specs.ValueSteps.{CastFrame, ProjFrame, PrimFrame, EnterFrame, OwnFrame, Return}
 use Rattle.flat_ir.specs.Bodies.{Body, Give, Call, Choose, LetBody, LetGroup}
 use Rattle.flat_ir.specs.Machine.{FlatValue, FlatFrame, Group, Waiting}
+use Rattle.flat_ir.specs.Levels.{levels}
 use Rattle.coercion_norm.specs.Objects.{Object}
 use Rattle.lower.specs.declared.numbering.Shape.{Shape}
 use Rattle.lower.specs.Numbering.{test_word}
 use Rattle.lower.specs.Emit.{Then, ToCaller, Into}
-use Rattle.lower.specs.Lowered.{levels}
 use Rattle.lower.specs.RelatedStates.{Carried, Rest, Callers, Gave, Goes}
 use Rattle.lower.proofs.RelationKept.{rest_same, OwnName, LowName, HighName, SameNamed, local_high}
 use Rattle.lower.proofs.WordOperations.{Touches}

@@ -37,12 +37,13 @@ use Rattle.coercion_norm.specs.Objects.{Object}
 use Rattle.rt_cast.specs.Objects.{Holds}
 use Rattle.rt_cast.specs.States.{Heap, heap_of}
 use Rattle.lower.specs.Storage.{Filled}
-use Rattle.lower.specs.Lowered.{levels, low_proc, entry_proc, shape_of}
+use Rattle.lower.specs.Lowered.{low_proc, entry_proc, shape_of}
 use Rattle.lower.specs.RelatedStates.{Goes, Related}
 use Rattle.lower.specs.Storage.{Passes}
 use Rattle.run_laws.proofs.Public.{DoesAt, IndexedSimulation, follows_by_index}
 use Rattle.lower.proofs.SimulationServed.{FillingAt, OnServed, Waits, Next, next_of}
 use Rattle.flat_ir.specs.Counts.{flat_turn_wraps}
+use Rattle.flat_ir.specs.Levels.{levels}
 use Rattle.lower.proofs.WordSteps.{at}
 use Rattle.lower.proofs.WordOperands.{and_true}
 use Rattle.lower.proofs.SimulationWay.{mode_of}

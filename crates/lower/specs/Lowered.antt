@@ -1,23 +1,16 @@
 -- The procedures over words of a flat program.
-use Rattle.std.specs.Prelude.{ℕ, suc, ◌+◌, max, List, [], ◌∷◌, ◌++◌, map}
+use Rattle.std.specs.Prelude.{ℕ, suc, ◌+◌, List, [], ◌∷◌, ◌++◌, map}
 use Rattle.rv_isa.specs.declared.inst.Cond.TheVariants.{Eq}
 use Rattle.low_ir.specs.declared.code.WordOp.TheVariants.{Add, And, Sra}
 use Rattle.low_ir.specs.declared.code.LowSource.{LowSource}
 use Rattle.low_ir.specs.declared.code.LowSource.TheVariants.{Word, Number}
 use Rattle.low_ir.specs.Procedures.{Code, Done, Compute, Load, Environment, Call, If, Return, Proc}
 use Rattle.grift_base.specs.Types.{TypeRow, IntRow, BoolRow, UnitRow, DynRow, FunRow, TupleRow, RefRow, VectRow}
-use Rattle.flat_ir.specs.Bodies.{Body, Give, Call as CallBody, Choose, LetBody, LetGroup, Proc as FlatProc}
+use Rattle.flat_ir.specs.Bodies.{Proc as FlatProc}
+use Rattle.flat_ir.specs.Levels.{levels}
 use Rattle.lower.specs.declared.numbering.Shape.{Shape}
 use Rattle.lower.specs.declared.served.Served.{Served}
 use Rattle.lower.specs.Emit.{ToCaller, emit}
-
--- the first level above all local names of a body in which the levels below this one are bound
-abbrev pub levels : ℕ → Body → ℕ
-levels depth (Give op) = depth
-levels depth (CallBody f os) = depth
-levels depth (Choose o a b) = max (levels depth a) (levels depth b)
-levels depth (LetBody slot inner rest) = max (levels depth inner) (levels (suc depth) rest)
-levels depth (LetGroup slot first count captured rest) = levels (depth + count) rest
 
 abbrev pub shape_of : FlatProc → Shape
 shape_of p = record { params = p.params; captured = p.captured; place = p.place }
@@ -51,8 +44,8 @@ show_kept =
     If Eq (Word 1) (Number 17) (ends 1 (Word 2)) Done (
     If Eq (Word 1) (Number 18) (ends 2 (Number 0)) Done show_compound))
 
--- of a value in Dyn the kind of the type is put into word 1, and the value's word into word 2: of an object, and of what
--- stands behind a tag
+-- of a value in Dyn the kind of the type is put into word 1, and the value's word into word 2: of an object, and of
+-- what stands behind a tag
 abbrev pub open_object : Code
 open_object =
     Load 1 (Word 0) 8 (

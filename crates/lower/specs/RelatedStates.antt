@@ -14,6 +14,7 @@ use Rattle.flat_ir.specs.Bodies.{Body, Call, Proc}
 use Rattle.flat_ir.specs.Closed.{body_bound}
 use Rattle.flat_ir.specs.Machine.{FlatCode, FlatValue, FlatFrame, FlatFocus, FlatState, Group, Locals as FlatLocals}
 use Rattle.flat_ir.specs.Machine.{Inside, Waiting, value, values}
+use Rattle.flat_ir.specs.Levels.{levels}
 use Rattle.coercion_norm.specs.Objects.{Object}
 use Rattle.coercion_norm.specs.Held.{Layout}
 use Rattle.lower.specs.Meanings.{Meaning}
@@ -23,7 +24,7 @@ use Rattle.lower.specs.declared.numbering.Shape.{Shape}
 use Rattle.lower.specs.declared.served.Served.{Served}
 use Rattle.lower.specs.Numbering.{own_word, local_word, function_offset}
 use Rattle.lower.specs.Emit.{Then, ToCaller, Into, emit}
-use Rattle.lower.specs.Lowered.{levels, show_by}
+use Rattle.lower.specs.Lowered.{show_by}
 use Rattle.lower.specs.CarriedValues.{IsGroup, IsCarried, AreCarried, CellsHeld}
 use Rattle.lower.specs.CoveredPrograms.{covers}
 

@@ -4,8 +4,9 @@ ghost use Rattle.std.specs.Prelude.{◌≡◌, ◌<◌, [], length, IfOk};
 ghost use Rattle.grift_base.specs.Types.{row_at};
 ghost use Rattle.type_graph.specs.Rows.{row_of};
 ghost use Rattle.flat_ir.specs.Views.{body_of, proc_of as flat_proc_of, procs_of as flat_procs_of};
+ghost use Rattle.flat_ir.specs.Levels.{levels};
 ghost use Rattle.low_ir.specs.Views.{proc_of, procs_of};
-ghost use Rattle.lower.specs.Lowered.{levels, low_proc, lowered};
+ghost use Rattle.lower.specs.Lowered.{low_proc, lowered};
 
 use crate::answers::entry_proc;
 use crate::numbering::{Shape, narrow};

@@ -1,5 +1,5 @@
 -- What cast comes to, from a state in which whole objects fill the region.
-use Rattle.std.proofs.Common.{◌≡◌, ℕ, ◌+◌, ◌*◌, ◌≤◌, List, [], ◌∷◌, refl, sym, subst}
+use Rattle.std.proofs.Common.{true, ◌≡◌, ℕ, ◌+◌, ◌*◌, ◌≤◌, List, [], ◌∷◌, refl, sym, subst}
 use Rattle.std.proofs.Common.{le_refl, arith}
 use Rattle.grift_base.specs.Types.{TypeHead}
 use Rattle.run_laws.specs.Runs.{Ending, Exhausted}
@@ -10,6 +10,7 @@ use Rattle.coercion_norm.specs.Coercions.{Coercion}
 use Rattle.coercion_norm.specs.Heights.{NoHigher}
 use Rattle.coercion_norm.proofs.Public.{bound_from_height}
 use Rattle.rt_cast.specs.Costs.{cast_cost}
+use Rattle.rt_cast.specs.Costs.{cast_words, cast_price}
 use Rattle.coercion_norm.specs.Objects.{Object}
 use Rattle.coercion_norm.specs.Held.{Layout, Held, rows_in, height_in}
 use Rattle.rt_cast.specs.WholeObjects.{IsSolid}
@@ -22,7 +23,8 @@ use Rattle.rt_cast.proofs.Steps.{End}
 use Rattle.rt_cast.proofs.Small.{there_still}
 use Rattle.rt_cast.proofs.Reaching.{at_first, walk}
 use Rattle.rt_cast.proofs.CastCases.{apply}
-use Rattle.rt_cast.proofs.CastRuns.{GoesOn, by_cast}
+use Rattle.rt_cast.specs.LightCasts.{is_light, light_words, light_price}
+use Rattle.rt_cast.proofs.CastRuns.{by_light, GoesOn, by_cast}
 use Rattle.rt_cast.proofs.CastDecisions.{low_of, by_cast as decided_cast}
 
 module _ {V : Type 0} (reading : Halt → Ending V) (setting : Setting) (l : Layout) (first : ℕ) (s : LowState)
@@ -40,6 +42,7 @@ module _ {V : Type 0} (reading : Halt → Ending V) (setting : Setting) (l : Lay
     ends low objects r some frames words (Gives v) q = λ new h' x count locals rests a grows fine held is. record {
       steps = 0;
       few = le_refl 0;
+      cheap = omega arith;
       reach = λ spare.
           subst (λ y. ComesTo l setting s IsHeld objects y (st (around s) count locals (Return a) rests s.waiting
           h'))
@@ -60,6 +63,7 @@ module _ {V : Type 0} (reading : Halt → Ending V) (setting : Setting) (l : Lay
         λ new h' count locals rests waiting a b d e rest grows fine is other first second. record {
           steps = 0;
           few = le_refl 0;
+          cheap = omega arith;
           reach = λ spare.
               subst (λ y. ComesTo l setting s IsHeld objects y
               (st (around s) count locals (Environment 3 a b d e rest) rests waiting h')) q (record {
@@ -83,15 +87,20 @@ module _ {V : Type 0} (reading : Halt → Ending V) (setting : Setting) (l : Lay
         → IsLow l c → (u : Merged A) (r : Outcome A) → cast_value head l.types c u ≡ r → (r ≡ Stuck → ⊥)
         → (wv wc : ℕ) → CarriedBy l IsHeld objects u wv → Held l objects c wc
         → ComesToOutcome reading setting l s IsHeld objects (cast_proc first) (wv ∷ wc ∷ []) r
-        (cast_cost l.width l.tallest) (4 * l.tallest + 6)
+        (cast_cost l.width l.tallest) (4 * l.tallest + 6) (cast_words l.width l.tallest)
+        (cast_price l.width l.tallest)
     casts low objects filled c lc u r e some wv wc hv hc =
         let z =
         by_cast w low A IsHeld still is_solid c lc.normal below u End objects (heap_of s)
         (at_first reading setting l first s exhausts ready objects filled) s.waiting wv wc hv hc
-        (ends low objects r some (4 * l.tallest + 6) (9 * cast_cost l.width l.tallest) (apply (rows_in l) l.tallest c u)
+        (ends low objects r some (4 * l.tallest + 6) (cast_words l.width l.tallest) (apply (rows_in l) l.tallest c u)
         (decided_cast l ready.types head c lc.normal below u (low_of l ready.types head IsHeld objects u wv hv) r some
-        e)) in
-        (z.steps, (let f = z.few in omega arith), z.reach (record { room = omega arith; left = omega arith }))
+        e)) in (
+          z.steps,
+          (let f = z.few in omega arith),
+          z.reach (record { room = omega arith; left = omega arith }),
+          let c = z.cheap in omega (arith, c),
+        )
       where
         below : NoHigher (rows_in l) c l.tallest
         below = bound_from_height (rows_in l) (height_in l) ready.types.heights c l.tallest lc.low
@@ -100,7 +109,33 @@ module _ {V : Type 0} (reading : Halt → Ending V) (setting : Setting) (l : Lay
         Q = ComesTo l setting s IsHeld objects r
 
         w : Walk V
-        w = walk reading setting l first s exhausts ready Q (4 * l.tallest + 6) (9 * cast_cost l.width l.tallest)
+        w = walk reading setting l first s exhausts ready Q (4 * l.tallest + 6) (cast_words l.width l.tallest)
+
+    -- the same of light casts
+    pub light_casts : l.tallest ≤ 65534 → (objects : List Object) → Filled setting l objects (heap_of s)
+        → (c : Coercion) → IsLow l c → (u : Merged A) (r : Outcome A) → cast_value head l.types c u ≡ r
+        → (r ≡ Stuck → ⊥) → is_light (rows_in l) c u ≡ true
+        → (wv wc : ℕ) → CarriedBy l IsHeld objects u wv → Held l objects c wc
+        → ComesToOutcome reading setting l s IsHeld objects (cast_proc first) (wv ∷ wc ∷ []) r
+        77 1 (light_words c) (light_price c)
+    light_casts low objects filled c lc u r e some light wv wc hv hc =
+        let z =
+        by_light w low A IsHeld still is_solid c lc.normal below u light End objects (heap_of s)
+        (at_first reading setting l first s exhausts ready objects filled) s.waiting wv wc hv hc
+        (ends low objects r some 1 (light_words c) (apply (rows_in l) l.tallest c u)
+        (decided_cast l ready.types head c lc.normal below u (low_of l ready.types head IsHeld objects u wv hv) r some
+        e)) in (
+          z.steps,
+          (let f = z.few in omega arith),
+          z.reach (record { room = omega arith; left = omega arith }),
+          let c = z.cheap in omega (arith, c),
+        )
+      where
+        below : NoHigher (rows_in l) c l.tallest
+        below = bound_from_height (rows_in l) (height_in l) ready.types.heights c l.tallest lc.low
+
+        w : Walk V
+        w = walk reading setting l first s exhausts ready (ComesTo l setting s IsHeld objects r) 1 (light_words c)
 
   pub very_still : (old new : List Object) → Grows old new → (a w : ℕ) → IsVery l old a w → IsVery l new a w
   very_still old new g a w h = record {
@@ -121,8 +156,19 @@ module _ {V : Type 0} (reading : Halt → Ending V) (setting : Setting) (l : Lay
       → cast_value head l.types c u ≡ r → (r ≡ Stuck → ⊥) → (wv wc : ℕ) → Carries l objects u wv
       → Held l objects c wc
       → ComesToOutcome reading setting l s (IsVery l) objects (cast_proc first) (wv ∷ wc ∷ []) r
-      (cast_cost l.width l.tallest) (4 * l.tallest + 6)
+      (cast_cost l.width l.tallest) (4 * l.tallest + 6) (cast_words l.width l.tallest)
+      (cast_price l.width l.tallest)
   casts_are_made low objects filled head c lc u r e some wv wc hv hc =
       casts head (IsVery l) (λ old new g a w h. very_still old new g a w h) (λ os a w h. h.solid) low objects filled c
       lc
       u r e some wv wc hv hc
+
+  pub light_casts_are_cheap : l.tallest ≤ 65534 → (objects : List Object) → Filled setting l objects (heap_of s)
+      → (head : ℕ → TypeHead) (c : Coercion) → IsLow l c → (u : Merged ℕ) (r : Outcome ℕ)
+      → cast_value head l.types c u ≡ r → (r ≡ Stuck → ⊥) → is_light (rows_in l) c u ≡ true → (wv wc : ℕ)
+      → Carries l objects u wv → Held l objects c wc
+      → ComesToOutcome reading setting l s (IsVery l) objects (cast_proc first) (wv ∷ wc ∷ []) r
+      77 1 (light_words c) (light_price c)
+  light_casts_are_cheap low objects filled head c lc u r e some light wv wc hv hc =
+      light_casts head (IsVery l) (λ old new g a w h. very_still old new g a w h) (λ os a w h. h.solid) low objects
+      filled c lc u r e some light wv wc hv hc

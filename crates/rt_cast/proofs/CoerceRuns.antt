@@ -27,7 +27,9 @@ use Rattle.coercion_norm.specs.Composition.{coerce_middle}
 use Rattle.coercion_norm.specs.Heights.{coercion_height, NoHigher, TypeNoHigher}
 use Rattle.coercion_norm.proofs.Public.{coerce_height}
 use Rattle.coercion_norm.proofs.Public.{height_from_bound, slot_lower}
-use Rattle.rt_cast.specs.Costs.{parts_cost, coerce_cost}
+use Rattle.rt_cast.specs.LightCasts.{has_none, has_no_middle}
+use Rattle.std.specs.Prelude.{◌||◌, not}
+use Rattle.rt_cast.specs.Costs.{parts_cost, coerce_cost, middle_words, coerce_words, middle_price, coerce_price}
 use Rattle.coercion_norm.specs.Objects.{Object, Fixed}
 use Rattle.coercion_norm.specs.Held.{HasWidth, There, Held, HoldsType}
 use Rattle.coercion_norm.specs.ObjectsOfRows.{header, kind_number, type_kind}
@@ -42,7 +44,7 @@ use Rattle.rt_cast.specs.CoerceCodes.{coerce_code, coerce_heads, coerce_kinds, c
 use Rattle.rt_cast.proofs.Objects.{chosen_true}
 use Rattle.rt_cast.proofs.HeaderNumbers.{eq_true, eq_false, eq_cases, lt_true, lt_false, kind_read}
 use Rattle.rt_cast.proofs.HeaderNumbers.{count_read, header_made, header_small}
-use Rattle.rt_cast.proofs.Steps.{Budget, One, More, at_most, loads}
+use Rattle.rt_cast.proofs.Steps.{Budget, Pay, One, More, at_most, loads}
 use Rattle.rt_cast.proofs.Steps.{computes, if_true, if_false, builds, calls, tail_calls, comes_back}
 use Rattle.rt_cast.proofs.Small.{grows_not, raised}
 use Rattle.rt_cast.proofs.Small.{numbers, ReachedIn}
@@ -51,7 +53,7 @@ use Rattle.rt_cast.proofs.Middles.{middle_made}
 use Rattle.std.proofs.lemmas.List.Elements.{All-get_or}
 use Rattle.coercion_norm.specs.StandsFor.{is_none_left}
 use Rattle.rt_cast.proofs.ComposeSteps.{type_numbers, in_order, picks, part_runs, type_there, type_tall}
-use Rattle.rt_cast.proofs.ComposeSteps.{type_small, type_still, parts_less, CoerceDoes}
+use Rattle.rt_cast.proofs.ComposeSteps.{type_small, type_still, parts_less, words_less, price_less, CoerceDoes}
 use Rattle.rt_cast.proofs.ComposeRuns.{AllCasts}
 use Rattle.rt_cast.proofs.Walks.{Walk}
 
@@ -220,20 +222,26 @@ module _ {V : Type 0} (walk : Walk V) where
   cast_go x y = TailCall (coerce walk.first) (x ∷ y ∷ Word 5 ∷ [])
 
   -- one part, in its order
-  cast_part : {B : Budget} → (cost above : ℕ) (next : ℕ → ℕ → ℕ → Coercion) (from to label : ℕ) → label < 2 ^ 64
-      → CoerceDoes walk cost above from to label (next from to label) → CoerceDoes walk cost above to from label
-      (next to from label) → (kind : Kind) (n k : ℕ) (b : Bool) → (k == n) ≡ b → (objects : List Object) (h : Heap)
+  cast_part : {B : Budget} → (cost above asks price : ℕ) (next : ℕ → ℕ → ℕ → Coercion) (from to label : ℕ)
+      → label < 2 ^ 64
+      → CoerceDoes walk cost above asks price from to label (next from to label)
+      → CoerceDoes walk cost above asks price to
+      from label (next to from label) → (kind : Kind) (n k : ℕ) (b : Bool) → (k == n) ≡ b
+      → (objects : List Object) (h : Heap)
       (fine : Fine walk.setting walk.l walk.around objects h) (waiting : List Waiting) (x y : ℕ) → HoldsType walk.l
       objects x from → HoldsType walk.l objects y to → Answers walk B objects waiting (coercion_part R next
-      (runs_back kind b) from to label) → Reached (More (cost + 4) above B) (state 6 (bind 0 (kind_number kind ∷ n ∷ k ∷
+      (runs_back kind b) from to label) → Reached (More (cost + 4) above asks (price + 81) B) (state 6 (bind 0
+      (kind_number kind ∷ n ∷ k ∷
       x ∷ y ∷
       label ∷ []) no_locals) (part_code cast_go) [] waiting h)
-  cast_part {B = B} cost above next from to label small there back kind n k b t objects h fine waiting x y hx hy go =
+  cast_part {B = B} cost above asks price next from to label small there back kind n k b t objects h fine waiting x y
+      hx hy go =
       at_most walk (part_runs walk objects h fine waiting cast_go kind n k x y label b t (λ rests. by (runs_back kind b)
-      rests go)) (omega arith, omega arith)
+      rests go)) (omega arith, omega arith, omega arith, omega arith)
     where
       by : (b : Bool) (rests : List Code) → Answers walk B objects waiting (coercion_part R next b from to label)
-          → Reached (One (More cost above B)) (state 6 (bind 0 (kind_number kind ∷ n ∷ k ∷ x ∷ y ∷ label ∷ [])
+          → Reached (Pay 40 (One (More cost above asks price B))) (state 6 (bind 0
+          (kind_number kind ∷ n ∷ k ∷ x ∷ y ∷ label ∷ [])
           no_locals)
           (in_order cast_go b) rests waiting h)
       by true rests go =
@@ -252,7 +260,8 @@ module _ {V : Type 0} (walk : Walk V) where
   type_words type = map walk.l.type_at (parts_of (R type))
 
   -- all parts
-  cast_parts : {B : Budget} → (cost above : ℕ) (next : ℕ → ℕ → ℕ → Coercion) (from to label : ℕ) → label < 2 ^ 64
+  cast_parts : {B : Budget} → (cost above asks price : ℕ) (next : ℕ → ℕ → ℕ → Coercion) (from to label : ℕ)
+      → label < 2 ^ 64
       → (kind : Kind) (offset index : ℕ → ℕ) → ((k : ℕ) → offset k ≡ 8 * index k) → (total : ℕ) → HasWidth walk.l kind
       total → total ≡ slots R from
       → ((k : ℕ) → k < total → slice_get (type_header from ∷ type_words from) (index k) ≡ Some (walk.l.type_at
@@ -260,33 +269,43 @@ module _ {V : Type 0} (walk : Walk V) where
       (walk.l.type_at (slot R k to)))
       → ((k : ℕ) → k < total → slot R k from < (length walk.l.types)) → ((k : ℕ) → k < total → slot R k to <
       (length walk.l.types))
-      → ((k : ℕ) → k < total → CoerceDoes walk cost above (slot R k from) (slot R k to) label (next (slot R k from)
-      (slot R k to) label)) → ((k : ℕ) → k < total → CoerceDoes walk cost above (slot R k to) (slot R k from) label
+      → ((k : ℕ) → k < total → CoerceDoes walk cost above asks price (slot R k from) (slot R k to) label (next
+      (slot R k from)
+      (slot R k to) label)) → ((k : ℕ) → k < total → CoerceDoes walk cost above asks price (slot R k to)
+      (slot R k from) label
       (next (slot R k to) (slot R k from) label))
       → ((k : ℕ) → k < total → coercion_height tall (coercion_part R next (runs_back kind (suc k == total))
       (slot R k from) (slot R k to) label) < 65535)
       → (objects : List Object) (h : Heap) (fine : Fine walk.setting walk.l walk.around objects h) (waiting : List
       Waiting) (wf wt : ℕ) → HoldsType walk.l objects wf from → HoldsType walk.l objects wt to → Answers walk B
       objects waiting (middle kind (coerce_parts R next kind from to label (slots R from) 0))
-      → Reached (More (2 + parts_cost (cost + 4) walk.l.width) (suc above) B)
+      → Reached (More (2 + parts_cost (cost + 4) walk.l.width) (suc above) (middle_words walk.l.width asks)
+      (middle_price walk.l.width (81 + price)) B)
       (state 24 (bind 0 (wf ∷ wt ∷ kind_number kind
       ∷ total ∷ label ∷ []) no_locals) (middle_code (raise walk.first) (coerce_part walk.first) offset total) []
       waiting h)
-  cast_parts {B = B} cost above next from to label small kind offset index offsets total few many has1 has2 known1
+  cast_parts {B = B} cost above asks price next from to label small kind offset index offsets total few many has1 has2
+      known1
       known2 there back low objects h fine waiting wf wt hf ht go =
       at_most walk ((middle_made walk (raise walk.first) (coerce_part walk.first) (proc 6 6 (part_code cast_go))
-      (walk.stands 5 _ refl) (walk.stands 7 _ refl) refl (cost + 4) above offset total (few_parts kind total few.0)
+      (walk.stands 5 _ refl) (walk.stands 7 _ refl) refl refl (cost + 4) above asks (price + 81) offset total
+      (few_parts kind total few.0)
       objects waiting kind few wf wt total label (type_header from) (type_header to) (type_words from)
       (type_words to) (type_there walk objects wf from hf) (type_there walk objects wt to ht)
       (λ k. coercion_part R next (runs_back kind (suc k == total)) (slot R k from) (slot R k to) label)
       (λ k. walk.l.type_at (slot R k from)) (λ k. walk.l.type_at (slot R k to)) index offsets has1 has2 low
-      (λ k lt B now h' waiting' grows fine' answers. cast_part cost above next (slot R k from) (slot R k to) label small
+      (λ k lt B now h' waiting' grows fine' answers. cast_part cost above asks price next (slot R k from)
+      (slot R k to) label small
       (there k lt) (back k lt) kind total (suc k) (suc k == total) refl now h' fine' waiting' (walk.l.type_at
       (slot R k from)) (walk.l.type_at (slot R k to)) (record { known = known1 k lt; is = refl })
       (record { known = known2 k lt; is = refl }) answers)
       h fine (subst (λ q. Answers walk B objects waiting (middle kind q)) (sym (cast_list R next kind from to label
-      total total 0 (omega arith) ∙ ap (λ n. coerce_parts R next kind from to label n 0) many)) go)))
-      ((let z = parts_less (cost + 4) total walk.l.width few.1 in omega arith), omega arith)
+      total total 0 (omega arith) ∙ ap (λ n. coerce_parts R next kind from to label n 0) many)) go))) (
+        (let z = parts_less (cost + 4) total walk.l.width few.1 in omega arith),
+        omega arith,
+        (let z = words_less asks total walk.l.width few.1 in omega (arith, z)),
+        (let z = price_less (81 + price) total walk.l.width few.1 in omega (arith, z)),
+      )
 
   abbrev kinds_read : ℕ → ℕ → ℕ → ℕ → ℕ → Locals
   kinds_read wf wt label from to = set_local 6 (type_kind (R to)) (set_local 5 (type_header to)
@@ -313,6 +332,15 @@ module _ {V : Type 0} (walk : Walk V) where
   abbrev all_cost : ℕ → ℕ
   all_cost n = 2 + parts_cost (below_cost n + 4) walk.l.width
 
+  -- the words of a middle, and its price; at height 0 there is none
+  abbrev all_words : ℕ → ℕ
+  all_words zero = 0
+  all_words (suc m) = middle_words walk.l.width (coerce_words walk.l.width m)
+
+  abbrev all_price : ℕ → ℕ
+  all_price zero = 0
+  all_price (suc m) = middle_price walk.l.width (81 + coerce_price walk.l.width m)
+
   middles_between : {B : Budget} → (n : ℕ) → n ≤ 65534 → BelowC n → (from to label : ℕ) → label < 2 ^ 64 → TypeNoHigher
       R n from → TypeNoHigher R n to → (kind : Kind) → kind_of (R from) ≡ Some kind → (offset index : ℕ → ℕ)
       → ((k : ℕ) → offset k ≡ 8 * index k) → (total : ℕ) → HasWidth walk.l kind total → total ≡ slots R from
@@ -325,8 +353,8 @@ module _ {V : Type 0} (walk : Walk V) where
       → (objects : List Object) (h : Heap) (fine : Fine walk.setting walk.l walk.around objects h) (waiting : List
       Waiting) (wf wt : ℕ) → HoldsType walk.l objects wf from → HoldsType walk.l objects wt to → Answers walk B
       objects waiting (coerce_middle R (coerce_below R n) (Some kind) from to label) → Reached (More (all_cost n)
-      (suc n)
-      B) (state 24 (bind 0 (wf ∷ wt ∷ kind_number kind ∷ total ∷ label ∷ []) no_locals) (middle_code (raise walk.first)
+      (suc n) (all_words n) (all_price n) B) (state 24 (bind 0 (wf ∷ wt ∷ kind_number kind ∷ total ∷ label ∷ [])
+      no_locals) (middle_code (raise walk.first)
       (coerce_part walk.first) offset total) [] waiting h)
   middles_between zero le below from to label small lf lt kind some offset index offsets total few many1 many2 has1 has2
       known1 known2 objects h fine waiting wf wt hf ht go = no_same (sym lf ∙ some)
@@ -336,7 +364,8 @@ module _ {V : Type 0} (walk : Walk V) where
       (omega (arith, a, many1)) lf in
       let down2 : (k : ℕ) → k < total → TypeNoHigher R m (slot R k to) = λ k a. slot_lower R m to k
       (omega (arith, a, many2)) lt in
-      cast_parts (coerce_cost walk.l.width m) (suc m) (coerce_below R (suc m)) from to label small kind offset index
+      cast_parts (coerce_cost walk.l.width m) (suc m) (coerce_words walk.l.width m) (coerce_price walk.l.width m)
+      (coerce_below R (suc m)) from to label small kind offset index
       offsets total few many1 has1 has2 known1 known2
       (λ k a. below (slot R k from) (slot R k to) label (down1 k a) (down2 k a))
       (λ k a. below (slot R k to) (slot R k from) label (down2 k a) (down1 k a))
@@ -383,7 +412,8 @@ module _ {V : Type 0} (walk : Walk V) where
       → (objects : List Object) (h : Heap) (fine : Fine walk.setting walk.l walk.around objects h) (waiting : List
       Waiting) (wf wt : ℕ) → HoldsType walk.l objects wf from → HoldsType walk.l objects wt to → Answers walk B
       objects waiting (coerce_middle R (coerce_below R n) (kind_of (R from)) from to label) → (rests : List Code)
-      → Reached (More (22 + all_cost n) (suc n) B) (state 11 (heads_read wf wt label from to) (coerce_alike walk.first)
+      → Reached (More (22 + all_cost n) (suc n) (all_words n) (193 + all_price n) B) (state 11
+      (heads_read wf wt label from to) (coerce_alike walk.first)
       rests waiting h)
   alike {B = B} n le below from to label small lf lt same long objects h fine waiting wf wt hf ht go rests = by
       (sort (R from)) (sort (R to))
@@ -400,7 +430,7 @@ module _ {V : Type 0} (walk : Walk V) where
       n2 : ℕ
       n2 = length (parts_of (R to))
 
-      by : Sort (R from) → Sort (R to) → Reached (More (22 + all_cost n) (suc n) B)
+      by : Sort (R from) → Sort (R to) → Reached (More (22 + all_cost n) (suc n) (all_words n) (193 + all_price n) B)
           (state 11 L (coerce_alike walk.first) rests
           waiting h)
       by (Plain none less) other =
@@ -408,7 +438,7 @@ module _ {V : Type 0} (walk : Walk V) where
           (if_true walk objects fine t 20 refl refl (lt_true t 20 less)
           (go objects h 0 11 L _ (Number 0) (grows_not objects) fine (subst (λ o. Held walk.l objects (coerce_middle R
           (coerce_below R n) o from to label) 0) (sym none) refl) refl))
-          (omega arith, omega arith)
+          (omega arith, omega arith, omega arith, omega arith)
       by (Wide kind some num less slots1) (Plain none less2) = absurd (omega (
         arith,
         num,
@@ -439,8 +469,8 @@ module _ {V : Type 0} (walk : Walk V) where
           (sym (ap length slots1)) (long ∙ sym (ap length slots2)) (λ k a. slot_got from slots1 k a)
           (λ k a. slot_got to slots2 k (omega (arith, a, long))) (λ k a. slot_known from hf.known slots1 k a)
           (λ k a. slot_known to ht.known slots2 k (omega (arith, a, long))) objects h fine waiting wf wt hf ht
-          go')))))
-          (omega arith, omega arith)
+          go') refl))))
+          (omega arith, omega arith, omega arith, omega arith)
       by (Twice kind some num ge c parts1 slots1) (Twice kind2 some2 num2 ge2 c2 parts2 slots2) =
           let wide : HasWidth walk.l kind 2 = subst (λ xs. HasWidth walk.l kind (length xs)) slots1 (walk.types.narrow
           from hf.known kind some) in
@@ -459,12 +489,12 @@ module _ {V : Type 0} (walk : Walk V) where
           (sym (ap length slots1)) (sym (ap length slots2)) (λ k a. twice_got from c parts1 slots1 k a)
           (λ k a. twice_got to c2 parts2 slots2 k a) (λ k a. twice_known from c hf.known parts1 slots1 k a)
           (λ k a. twice_known to c2 ht.known parts2 slots2 k a) objects h fine waiting wf wt hf ht go')))))
-          (omega arith, omega arith)
+          (omega arith, omega arith, omega arith, omega arith)
 
   -- a Fail is built
   fail_built : {B : Budget} → (label : ℕ) → label < 2 ^ 64 → (objects : List Object) (h : Heap)
       (fine : Fine walk.setting walk.l walk.around objects h) (waiting : List Waiting) (locals : Locals) (rests : List
-      Code) → locals 2 ≡ Some label → Answers walk B objects waiting (Fail label) → Reached (More 1 0 B)
+      Code) → locals 2 ≡ Some label → Answers walk B objects waiting (Fail label) → Reached (More 1 0 2 42 B)
       (state 11 locals
       coerce_fail rests waiting h)
   fail_built label small objects h fine waiting locals rests is go =
@@ -473,7 +503,7 @@ module _ {V : Type 0} (walk : Walk V) where
       (omega arith) (omega arith) (omega arith, (small, tt)) (WholeFail label refl) refl
       (λ h' fine'. go (objects ++ Fixed 4294967304 (label ∷ []) ∷ []) h' h.alloc 11 _ _ (Word 10) (one_more walk objects
       (Fixed 4294967304 (label ∷ []))) fine' (added walk objects h fine (Fixed 4294967304 (label ∷ []))) refl))
-      (omega arith, omega arith)
+      (omega arith, omega arith, omega arith, omega arith)
 
   -- neither type is Dyn
   solid : {B : Budget} → (n : ℕ) → n ≤ 65534 → BelowC n → (from to label : ℕ) → label < 2 ^ 64 → TypeNoHigher R n from
@@ -481,7 +511,8 @@ module _ {V : Type 0} (walk : Walk V) where
       → (objects : List Object) (h : Heap) (fine : Fine walk.setting walk.l walk.around objects h) (waiting : List
       Waiting) (wf wt : ℕ) → HoldsType walk.l objects wf from → HoldsType walk.l objects wt to → Answers walk B
       objects waiting (coerce_solid R (coerce_below R n) from to label) → (rests : List Code)
-      → Reached (More (26 + all_cost n) (suc n) B) (state 11 (kinds_read wf wt label from to) (coerce_heads walk.first)
+      → Reached (More (26 + all_cost n) (suc n) (max 4 (all_words n)) (229 + all_price n) B) (state 11
+      (kinds_read wf wt label from to) (coerce_heads walk.first)
       rests waiting h)
   solid {B = B} n le below from to label small lf lt differ objects h fine waiting wf wt hf ht go rests =
       let low1 = walk.types.low from in
@@ -498,7 +529,7 @@ module _ {V : Type 0} (walk : Walk V) where
       (by (type_kind (R from) == type_kind (R to)) refl (length (parts_of (R from)) == length (parts_of (R to))) refl _
       (subst (λ b. Answers walk B objects waiting (cond b (coerce_middle R (coerce_below R n) (kind_of (R from))
       from to label) (Fail label))) (heads_are (R from) (R to)) go'))))
-      (omega arith, omega arith)
+      (omega arith, omega arith, omega arith, omega arith)
     where
       L : Locals
       L = heads_read wf wt label from to
@@ -506,35 +537,35 @@ module _ {V : Type 0} (walk : Walk V) where
       by : (b : Bool) → (type_kind (R from) == type_kind (R to)) ≡ b → (c : Bool) → (length (parts_of (R from)) ==
           length (parts_of (R to))) ≡ c → (rests : List Code) → Answers walk B objects waiting (cond (b && c)
           (coerce_middle R (coerce_below R n) (kind_of (R from)) from to label) (Fail label))
-          → Reached (More (24 + all_cost n) (suc n) B) (state 11 L (either Eq (Word 4) (Word 6) (either Eq (Word 7)
+          → Reached (More (24 + all_cost n) (suc n) (max 4 (all_words n)) (219 + all_price n) B) (state 11 L (either Eq
+          (Word 4) (Word 6) (either Eq (Word 7)
           (Word 8)
           (coerce_alike walk.first) coerce_fail) coerce_fail) rests waiting h)
       by false e c f rests go =
           at_most walk
           (if_false walk objects fine (type_kind (R from)) (type_kind (R to)) refl refl e
           (fail_built label small objects h fine waiting L _ refl go))
-          (omega arith, omega arith)
+          (omega arith, omega arith, omega arith, omega arith)
       by true e false f rests go =
           at_most walk
           (if_true walk objects fine (type_kind (R from)) (type_kind (R to)) refl refl e
           (if_false walk objects fine (length (parts_of (R from))) (length (parts_of (R to))) refl refl f
           (fail_built label small objects h fine waiting L _ refl go)))
-          (omega arith, omega arith)
+          (omega arith, omega arith, omega arith, omega arith)
       by true e true f rests go =
           at_most walk
           (if_true walk objects fine (type_kind (R from)) (type_kind (R to)) refl refl e
           (if_true walk objects fine (length (parts_of (R from))) (length (parts_of (R to))) refl refl f
           (alike n le below from to label small lf lt (grind (arith, e)) (grind (arith, f)) objects h fine waiting wf wt
           hf ht go _)))
-          (omega arith, omega arith)
+          (omega arith, omega arith, omega arith, omega arith)
 
   -- from Dyn
   projected : {B : Budget} → (to label : ℕ) → label < 2 ^ 64 → (objects : List Object) (h : Heap)
       (fine : Fine walk.setting walk.l walk.around objects h) (waiting : List Waiting) (from wf wt : ℕ) → type_kind
       (R from) ≡ 19 → HoldsType walk.l objects wt to → Answers walk B objects waiting (Project to label Id)
-      → (rests : List Code) → Reached (More 20 1 B) (state 11 (kinds_read wf wt label from to) (coerce_kinds walk.first)
-      rests
-      waiting h)
+      → (rests : List Code) → Reached (More 20 1 4 166 B) (state 11 (kinds_read wf wt label from to)
+      (coerce_kinds walk.first) rests waiting h)
   projected to label small objects h fine waiting from wf wt dyn ht go rests =
       let tk = walk.types.low to in
       let H = max 0 (tall to) in
@@ -566,15 +597,14 @@ module _ {V : Type 0} (walk : Walk V) where
         type_still walk objects (objects ++ o ∷ []) wt to ht,
         refl,
       ) refl))))))))
-      (omega arith, omega arith)
+      (omega arith, omega arith, omega arith, omega arith)
 
   -- to Dyn
   injected : {B : Budget} → (from to label : ℕ) → (objects : List Object) (h : Heap) (fine : Fine walk.setting walk.l
       walk.around objects h) (waiting : List Waiting) (wf wt : ℕ) → (type_kind (R from) == 19) ≡ false → type_kind
       (R to) ≡ 19 → HoldsType walk.l objects wf from → Answers walk B objects waiting (Inject Id from)
-      → (rests : List Code) → Reached (More 20 1 B) (state 11 (kinds_read wf wt label from to) (coerce_kinds walk.first)
-      rests
-      waiting h)
+      → (rests : List Code) → Reached (More 20 1 3 176 B) (state 11 (kinds_read wf wt label from to)
+      (coerce_kinds walk.first) rests waiting h)
   injected from to label objects h fine waiting wf wt other dyn hf go rests =
       let tk = walk.types.low from in
       let H = max 0 (tall from) in
@@ -607,7 +637,7 @@ module _ {V : Type 0} (walk : Walk V) where
         refl,
         type_still walk objects (objects ++ o ∷ []) wf from hf,
       ) refl)))))))))
-      (omega arith, omega arith)
+      (omega arith, omega arith, omega arith, omega arith)
 
   -- the same type
   same_is_id : (n from to label : ℕ) → from ≡ to → coerce_to R n from to label ≡ Id
@@ -631,6 +661,14 @@ module _ {V : Type 0} (walk : Walk V) where
   enough_cost zero = omega arith
   enough_cost (suc m) = omega arith
 
+  enough_words : (n : ℕ) → max 4 (all_words n) ≤ coerce_words walk.l.width n
+  enough_words zero = omega arith
+  enough_words (suc m) = omega arith
+
+  enough_price : (n : ℕ) → 286 + all_price n ≤ coerce_price walk.l.width n
+  enough_price zero = omega arith
+  enough_price (suc m) = omega arith
+
   coerce_at : (n : ℕ) → n ≤ 65534 → BelowC n → AllCasts walk n
   coerce_at n le below from to label lf lt B objects h fine waiting wf wt hf ht small go = by_same (eq_cases from to)
     where
@@ -639,7 +677,8 @@ module _ {V : Type 0} (walk : Walk V) where
 
       by_dyn : (from == to) ≡ false → (b : Bool) → is_dyn (R from) ≡ b → (c : Bool) → is_dyn (R to) ≡ c
           → (rests : List Code) → Answers walk B objects waiting (coerce_by R (coerce_below R n) b c from to label)
-          → Reached (More (28 + all_cost n) (suc n) B) (state 11 (kinds_read wf wt label from to) (coerce_kinds
+          → Reached (More (28 + all_cost n) (suc n) (max 4 (all_words n)) (257 + all_price n) B) (state 11
+          (kinds_read wf wt label from to) (coerce_kinds
           walk.first)
           rests waiting h)
       by_dyn differ true e true f rests go = let z = walk.types.one_dyn from to hf.known ht.known e f in absurd
@@ -648,23 +687,29 @@ module _ {V : Type 0} (walk : Walk V) where
           clash : true ≡ false → ⊥
           clash q = cc
       by_dyn differ true e false f rests go = at_most walk (projected to label small objects h fine waiting from wf wt
-          (grind (arith, (dyn_is (R from) ∙ e))) ht go rests) (omega arith, omega arith)
+          (grind (arith, (dyn_is (R from) ∙ e))) ht go rests) (omega arith, omega arith, omega arith, omega arith)
       by_dyn differ false e true f rests go = at_most walk (injected from to label objects h fine waiting wf wt
-          (dyn_is (R from) ∙ e) (grind (arith, (dyn_is (R to) ∙ f))) hf go rests) (omega arith, omega arith)
+          (dyn_is (R from) ∙ e) (grind (arith, (dyn_is (R to) ∙ f))) hf go rests)
+          (omega arith, omega arith, omega arith, omega arith)
       by_dyn differ false e false f rests go =
           at_most walk
           (if_false walk objects fine (type_kind (R from)) 19 refl refl (dyn_is (R from) ∙ e)
           (if_false walk objects fine (type_kind (R to)) 19 refl refl (dyn_is (R to) ∙ f)
           (solid n le below from to label small lf lt differ objects h fine waiting wf wt hf ht go _)))
-          (omega arith, omega arith)
+          (omega arith, omega arith, omega arith, omega arith)
 
-      by_same : (from ≡ to) ⊎ ((from == to) ≡ false) → Reached (More (coerce_cost walk.l.width n) (suc n) B) entry
+      by_same : (from ≡ to) ⊎ ((from == to) ≡ false) → Reached (More (coerce_cost walk.l.width n) (suc n)
+          (coerce_words walk.l.width n) (coerce_price walk.l.width n) B) entry
       by_same (inl e) =
           at_most walk
           (if_true walk objects fine wf wt refl refl (eq_true wf wt (hf.is ∙ (ap walk.l.type_at e ∙ sym ht.is)))
           (go objects h 0 11 _ _ (Number 0) (grows_not objects) fine (subst (λ c. Held walk.l objects c 0)
-          (sym (same_is_id n from to label e)) refl) refl))
-          ((let z = enough_cost n in omega arith), omega arith)
+          (sym (same_is_id n from to label e)) refl) refl)) (
+            (let z = enough_cost n in omega arith),
+            omega arith,
+            (let z = enough_words n in omega (arith, z)),
+            (let z = enough_price n in omega (arith, z)),
+          )
       by_same (inr differ) =
           let apart : wf ≡ wt → ⊥ = λ q. let z = walk.types.once from to hf.known ht.known (sym hf.is ∙ (q ∙ ht.is)) in
           grind (arith, z, differ) in
@@ -678,9 +723,123 @@ module _ {V : Type 0} (walk : Walk V) where
           wt to ht) refl refl refl
           (computes walk objects fine (type_header to) 255 (type_kind (R to)) refl refl (kind_read (type_kind (R to))
           (tall to) (length (parts_of (R to))) (type_numbers (R to))) refl
-          (by_dyn differ (is_dyn (R from)) refl (is_dyn (R to)) refl _ go))))))
-          ((let z = enough_cost n in omega arith), omega arith)
+          (by_dyn differ (is_dyn (R from)) refl (is_dyn (R to)) refl _ go)))))) (
+            (let z = enough_cost n in omega arith),
+            omega arith,
+            (let z = enough_words n in omega (arith, z)),
+            (let z = enough_price n in omega (arith, z)),
+          )
 
   pub all_cast : (n : ℕ) → n ≤ 65534 → AllCasts walk n
   all_cast zero le = coerce_at zero le tt
   all_cast (suc m) le = coerce_at (suc m) le (all_cast m (omega arith))
+
+  -- ---- between types with no middle
+
+  light_heads : {B : Budget} → (n from to label : ℕ) → label < 2 ^ 64 → nat_eq from to ≡ false
+      → has_no_middle (R from) (R to) ≡ true → (objects : List Object) (h : Heap)
+      (fine : Fine walk.setting walk.l walk.around objects h) (waiting : List Waiting) (wf wt : ℕ)
+      → Answers walk B objects waiting (coerce_solid R (coerce_below R n) from to label) → (rests : List Code)
+      → Reached (More 6 0 2 78 B) (state 11 (kinds_read wf wt label from to) (coerce_heads walk.first) rests waiting h)
+  light_heads {B = B} n from to label small differ apart objects h fine waiting wf wt go rests =
+      let low1 = walk.types.low from in
+      let low2 = walk.types.low to in
+      let go' = subst (λ b. Answers walk B objects waiting (cond b Id (cond (same_head (R from) (R to)) (coerce_middle R
+      (coerce_below R n) (kind_of (R from)) from to label) (Fail label)))) differ go in
+      at_most walk
+      (computes walk objects fine (type_header from) 32 (length (parts_of (R from))) refl refl
+      (count_read (type_kind (R from)) (tall from) (length (parts_of (R from))) (let z = type_numbers (R from) in
+      omega arith) (omega (arith, low1))) refl
+      (computes walk objects fine (type_header to) 32 (length (parts_of (R to))) refl refl
+      (count_read (type_kind (R to)) (tall to) (length (parts_of (R to))) (let z = type_numbers (R to) in omega
+      arith) (omega (arith, low2))) refl
+      (by (type_kind (R from) == type_kind (R to)) refl (length (parts_of (R from)) == length (parts_of (R to))) refl
+      (subst (λ b. (not b || has_none (kind_of (R from))) ≡ true) (heads_are (R from) (R to)) apart) _
+      (subst (λ b. Answers walk B objects waiting (cond b (coerce_middle R (coerce_below R n) (kind_of (R from))
+      from to label) (Fail label))) (heads_are (R from) (R to)) go'))))
+      (omega arith, omega arith, omega arith, omega arith)
+    where
+      L : Locals
+      L = heads_read wf wt label from to
+
+      t : ℕ
+      t = type_kind (R from)
+
+      plain : Sort (R from) → has_none (kind_of (R from)) ≡ true → (rests : List Code)
+          → Answers walk B objects waiting (coerce_middle R (coerce_below R n) (kind_of (R from)) from to label)
+          → Reached (More 2 0 0 21 B) (state 11 L (coerce_alike walk.first) rests waiting h)
+      plain (Plain none less) e rests go =
+          at_most walk
+          (if_true walk objects fine t 20 refl refl (lt_true t 20 less)
+          (go objects h 0 11 L _ (Number 0) (grows_not objects) fine (subst (λ o. Held walk.l objects (coerce_middle R
+          (coerce_below R n) o from to label) 0) (sym none) refl) refl))
+          (omega arith, omega arith, omega arith, omega arith)
+      plain (Wide kind some num less slots1) e rests go =
+          absurd (untrue (sym (ap has_none some) ∙ e))
+        where
+          untrue : false ≡ true → ⊥
+          untrue q = cc
+      plain (Twice kind some num ge c parts1 slots1) e rests go =
+          absurd (untrue (sym (ap has_none some) ∙ e))
+        where
+          untrue : false ≡ true → ⊥
+          untrue q = cc
+
+      by : (b : Bool) → (type_kind (R from) == type_kind (R to)) ≡ b → (c : Bool) → (length (parts_of (R from)) ==
+          length (parts_of (R to))) ≡ c → (not (b && c) || has_none (kind_of (R from))) ≡ true → (rests : List Code)
+          → Answers walk B objects waiting (cond (b && c)
+          (coerce_middle R (coerce_below R n) (kind_of (R from)) from to label) (Fail label))
+          → Reached (More 4 0 2 68 B) (state 11 L (either Eq (Word 4) (Word 6) (either Eq (Word 7) (Word 8)
+          (coerce_alike walk.first) coerce_fail) coerce_fail) rests waiting h)
+      by false e c f q rests go =
+          at_most walk
+          (if_false walk objects fine (type_kind (R from)) (type_kind (R to)) refl refl e
+          (fail_built label small objects h fine waiting L _ refl go))
+          (omega arith, omega arith, omega arith, omega arith)
+      by true e false f q rests go =
+          at_most walk
+          (if_true walk objects fine (type_kind (R from)) (type_kind (R to)) refl refl e
+          (if_false walk objects fine (length (parts_of (R from))) (length (parts_of (R to))) refl refl f
+          (fail_built label small objects h fine waiting L _ refl go)))
+          (omega arith, omega arith, omega arith, omega arith)
+      by true e true f q rests go =
+          at_most walk
+          (if_true walk objects fine (type_kind (R from)) (type_kind (R to)) refl refl e
+          (if_true walk objects fine (length (parts_of (R from))) (length (parts_of (R to))) refl refl f
+          (plain (sort (R from)) q _ go)))
+          (omega arith, omega arith, omega arith, omega arith)
+
+  pub light_cast : (n from to label : ℕ) → is_dyn (R from) ≡ false → is_dyn (R to) ≡ false
+      → has_no_middle (R from) (R to) ≡ true
+      → CoerceDoes walk 13 0 2 135 from to label (coerce_to R n from to label)
+  light_cast n from to label d1 d2 apart B objects h fine waiting wf wt hf ht small go = by_same (eq_cases from to)
+    where
+      solid : coerce_to R n from to label ≡ coerce_solid R (coerce_below R n) from to label
+      solid = ap₂ (λ x y. coerce_by R (coerce_below R n) x y from to label) d1 d2
+
+      by_same : (from ≡ to) ⊎ ((from == to) ≡ false) → Reached (More 13 0 2 135 B)
+          (state 11 (bind 0 (wf ∷ wt ∷ label ∷ []) no_locals) (coerce_code walk.first) [] waiting h)
+      by_same (inl e) =
+          at_most walk
+          (if_true walk objects fine wf wt refl refl (eq_true wf wt (hf.is ∙ (ap walk.l.type_at e ∙ sym ht.is)))
+          (go objects h 0 11 _ _ (Number 0) (grows_not objects) fine (subst (λ c. Held walk.l objects c 0)
+          (sym (same_is_id n from to label e)) refl) refl))
+          (omega arith, omega arith, omega arith, omega arith)
+      by_same (inr differ) =
+          let apart' : wf ≡ wt → ⊥ = λ q. let z = walk.types.once from to hf.known ht.known (sym hf.is ∙ (q ∙ ht.is))
+          in grind (arith, z, differ) in
+          at_most walk
+          (if_false walk objects fine wf wt refl refl (eq_false wf wt apart')
+          (loads walk objects fine wf (type_header from) (type_words from) 0 (type_header from) refl (type_there walk
+          objects wf from hf) refl refl refl
+          (computes walk objects fine (type_header from) 255 (type_kind (R from)) refl refl
+          (kind_read (type_kind (R from)) (tall from) (length (parts_of (R from))) (type_numbers (R from))) refl
+          (loads walk objects fine wt (type_header to) (type_words to) 0 (type_header to) refl (type_there walk objects
+          wt to ht) refl refl refl
+          (computes walk objects fine (type_header to) 255 (type_kind (R to)) refl refl (kind_read (type_kind (R to))
+          (tall to) (length (parts_of (R to))) (type_numbers (R to))) refl
+          (if_false walk objects fine (type_kind (R from)) 19 refl refl (dyn_is (R from) ∙ d1)
+          (if_false walk objects fine (type_kind (R to)) 19 refl refl (dyn_is (R to) ∙ d2)
+          (light_heads n from to label small differ apart objects h fine waiting wf wt
+          (subst (Answers walk B objects waiting) solid go) _))))))))
+          (omega arith, omega arith, omega arith, omega arith)

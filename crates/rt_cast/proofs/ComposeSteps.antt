@@ -22,7 +22,7 @@ use Rattle.coercion_norm.specs.Coercions.{runs_back, same_kind}
 use Rattle.coercion_norm.specs.Composition.{middle, final}
 use Rattle.coercion_norm.specs.Composition.{follow_part, follow_parts}
 use Rattle.coercion_norm.specs.Heights.{coercion_height}
-use Rattle.rt_cast.specs.Costs.{parts_cost, both_cost}
+use Rattle.rt_cast.specs.Costs.{parts_cost, both_cost, middle_words, middle_price, both_price}
 use Rattle.coercion_norm.specs.Objects.{Object, Fixed, object_at}
 use Rattle.coercion_norm.specs.Held.{HasWidth, Layout, There, Held, HoldsType}
 use Rattle.coercion_norm.specs.ObjectsOfRows.{header, kind_number, type_kind}
@@ -36,7 +36,8 @@ use Rattle.rt_cast.specs.ComposeCodes.{middle_of}
 use Rattle.rt_cast.specs.CoerceCodes.{coerce_code}
 use Rattle.rt_cast.proofs.HeaderNumbers.{eq_true, eq_false, eq_cases, lt_true, lt_false, lt_cases, kind_read}
 use Rattle.rt_cast.proofs.HeaderNumbers.{count_read, header_made, header_small}
-use Rattle.rt_cast.proofs.Steps.{Budget, One, More, at_most, word_there}
+use Rattle.low_ir.specs.Prices.{slot_price, source_price, sources_price, leaving}
+use Rattle.rt_cast.proofs.Steps.{Budget, Pay, One, More, at_most, word_there}
 use Rattle.rt_cast.proofs.Steps.{loads, computes, if_true, if_false, builds, calls, tail_calls, comes_back}
 use Rattle.rt_cast.proofs.Small.{grows_not, grows_on, there_still, HasHeight, not_zero, raised, finals}
 use Rattle.rt_cast.proofs.Small.{final_word, numbers, ReachedIn}
@@ -123,6 +124,16 @@ parts_less cost zero (suc n) le = let z = parts_less cost zero n (omega arith) i
 parts_less cost (suc r) zero le = absurd (omega arith)
 parts_less cost (suc r) (suc n) le = let z = parts_less cost r n (omega arith) in omega arith
 
+-- more parts ask for more words, and cost more
+pub words_less : (asks r n : ℕ) → r ≤ n → middle_words r asks ≤ middle_words n asks
+words_less asks r n le = grind (arith, le)
+
+pub price_less : (price r n : ℕ) → r ≤ n → middle_price r price ≤ middle_price n price
+price_less price r n le = grind (arith, le)
+
+part_near : (r : ℕ) → r ≤ 8 → source_price (Number r) ≡ 2
+part_near r le = grind (arith, le)
+
 -- go for either order
 abbrev pub in_order : {A : Type 0} → (LowSource → LowSource → A) → Bool → A
 in_order go true = go (Word 4) (Word 3)
@@ -156,27 +167,29 @@ module _ {V : Type 0} (walk : Walk V) where
       ≡ Some (x ∷ y ∷ k ∷ n ∷ e ∷ [])
       → Reached B (state 24 (bind 0 (x ∷ y ∷ k ∷ n ∷ e ∷ []) no_locals) (middle_code (raise walk.first) whose each_word
       m) []
-      waiting h) → Reached (More (picks_cost r) 0 B) (state size locals (pick w r which args) rests waiting h)
-  picks {B = B} which whose each objects h fine waiting rests w m zero args x y k n e few le is are go =
+      waiting h) → slot_price w ≡ 1 → Reached (More (picks_cost r) 0 0 (14 * r +
+      (sources_price args + 25 + leaving size)) B)
+      (state size locals (pick w r which args) rests waiting h)
+  picks {B = B} which whose each objects h fine waiting rests w m zero args x y k n e few le is are go near =
       let z : m ≡ 0 = omega arith in
       at_most walk
       (tail_calls walk objects fine (x ∷ y ∷ k ∷ n ∷ e ∷ []) (middle_proc walk.first whose 0) are (each 0 (omega arith))
       refl
       (subst (λ q. Reached B (state 24 (bind 0 (x ∷ y ∷ k ∷ n ∷ e ∷ []) no_locals) (middle_code (raise walk.first) whose
       each_word q) [] waiting h)) z go))
-      (omega arith, omega arith)
+      (omega arith, omega arith, omega arith, omega arith)
   picks {B = B} which whose each {size = size} {locals = locals} objects h fine waiting rests w m (suc r) args x y k n e
-      few le is are go = by (λ q. picks which whose each objects h fine waiting (Done ∷ rests) w m r args x y k n e
-      (omega arith) q is are go) (eq_cases m (suc r))
+      few le is are go near = by (λ q. picks which whose each objects h fine waiting (Done ∷ rests) w m r args x y k n e
+      (omega arith) q is are go near) (eq_cases m (suc r))
     where
       num : suc r % 2 ^ 64 ≡ suc r
       num = omega arith
 
-      by : (m ≤ r → Reached (More (picks_cost r) 0 B) (state size locals (pick w r which args) (Done ∷ rests) waiting
-          h))
-          → (m ≡ suc r) ⊎ ((m == suc r) ≡ false) → Reached (More (picks_cost (suc r)) 0 B) (state size locals
-          (pick w (suc r)
-          which args) rests waiting h)
+      by : (m ≤ r → Reached (More (picks_cost r) 0 0 (14 * r + (sources_price args + 25 + leaving size)) B)
+          (state size locals (pick w r which args) (Done ∷ rests) waiting h))
+          → (m ≡ suc r) ⊎ ((m == suc r) ≡ false)
+          → Reached (More (picks_cost (suc r)) 0 0 (14 * suc r + (sources_price args + 25 + leaving size)) B)
+          (state size locals (pick w (suc r) which args) rests waiting h)
       by ih (inl q) =
           at_most walk
           (if_true walk objects fine m (suc r) is (ap Some num) (eq_true m (suc r) q)
@@ -185,19 +198,19 @@ module _ {V : Type 0} (walk : Walk V) where
           (subst (λ q. Reached B (state 24 (bind 0 (x ∷ y ∷ k ∷ n ∷ e ∷ []) no_locals) (middle_code (raise walk.first)
           whose
           each_word q) [] waiting h)) q go)))
-          (omega arith, omega arith)
+          (omega arith, omega arith, omega arith, let s = part_near (suc r) few in omega (arith, s, near))
       by ih (inr q) =
           at_most walk
           (if_false walk objects fine m (suc r) is (ap Some num) q
           (ih (grind (arith, q, le))))
-          (omega arith, omega arith)
+          (omega arith, omega arith, omega arith, let s = part_near (suc r) few in omega (arith, s, near))
 
   -- the two words of a part in their order
   pub part_runs : {B : Budget} → (objects : List Object) (h : Heap) (fine : Fine walk.setting walk.l walk.around objects
       h) (waiting : List Waiting) (go : LowSource → LowSource → Code) (kind : Kind) (n k x y e : ℕ) (b : Bool)
       → (k == n) ≡ b
       → ((rests : List Code) → Reached B (state 6 (bind 0 (kind_number kind ∷ n ∷ k ∷ x ∷ y ∷ e ∷ []) no_locals)
-      (in_order go (runs_back kind b)) rests waiting h)) → Reached (More 3 0 B)
+      (in_order go (runs_back kind b)) rests waiting h)) → Reached (More 3 0 0 41 B)
       (state 6 (bind 0 (kind_number kind ∷ n ∷ k ∷
       x ∷ y ∷ e ∷ []) no_locals) (part_code go) [] waiting h)
   part_runs objects h fine waiting go FunKind n k x y e true t c =
@@ -205,48 +218,50 @@ module _ {V : Type 0} (walk : Walk V) where
       (if_false walk objects fine 9 10 refl refl refl
       (if_true walk objects fine 9 9 refl refl refl
       (if_true walk objects fine n k refl refl (turn k n true t) (c _))))
-      (omega arith, omega arith)
+      (omega arith, omega arith, omega arith, omega arith)
   part_runs objects h fine waiting go FunKind n k x y e false t c =
       at_most walk
       (if_false walk objects fine 9 10 refl refl refl
       (if_true walk objects fine 9 9 refl refl refl
       (if_false walk objects fine n k refl refl (turn k n false t) (c _))))
-      (omega arith, omega arith)
+      (omega arith, omega arith, omega arith, omega arith)
   part_runs objects h fine waiting go TupKind n k x y e b t c =
       at_most walk
       (if_true walk objects fine 10 10 refl refl refl (c _))
-      (omega arith, omega arith)
+      (omega arith, omega arith, omega arith, omega arith)
   part_runs objects h fine waiting go RefKind n k x y e true t c =
       at_most walk
       (if_false walk objects fine 11 10 refl refl refl
       (if_false walk objects fine 11 9 refl refl refl
       (if_true walk objects fine n k refl refl (turn k n true t) (c _))))
-      (omega arith, omega arith)
+      (omega arith, omega arith, omega arith, omega arith)
   part_runs objects h fine waiting go RefKind n k x y e false t c =
       at_most walk
       (if_false walk objects fine 11 10 refl refl refl
       (if_false walk objects fine 11 9 refl refl refl
       (if_false walk objects fine n k refl refl (turn k n false t) (c _))))
-      (omega arith, omega arith)
+      (omega arith, omega arith, omega arith, omega arith)
   part_runs objects h fine waiting go VecKind n k x y e true t c =
       at_most walk
       (if_false walk objects fine 12 10 refl refl refl
       (if_false walk objects fine 12 9 refl refl refl
       (if_true walk objects fine n k refl refl (turn k n true t) (c _))))
-      (omega arith, omega arith)
+      (omega arith, omega arith, omega arith, omega arith)
   part_runs objects h fine waiting go VecKind n k x y e false t c =
       at_most walk
       (if_false walk objects fine 12 10 refl refl refl
       (if_false walk objects fine 12 9 refl refl refl
       (if_false walk objects fine n k refl refl (turn k n false t) (c _))))
-      (omega arith, omega arith)
+      (omega arith, omega arith, omega arith, omega arith)
 
   -- ---- compose
 
-  abbrev pub ComposeDoes : ℕ → ℕ → Coercion → Coercion → Coercion → Type 0
-  ComposeDoes cost above c d e = (B : Budget) (objects : List Object) (h : Heap) → Fine walk.setting walk.l walk.around
+  abbrev pub ComposeDoes : ℕ → ℕ → ℕ → ℕ → Coercion → Coercion → Coercion → Type 0
+  ComposeDoes cost above asks price c d e = (B : Budget) (objects : List Object) (h : Heap)
+      → Fine walk.setting walk.l walk.around
       objects h → (waiting : List Waiting) (wc wd : ℕ) → Held walk.l objects c wc → Held walk.l objects d wd
-      → Answers walk B objects waiting e → Reached (More cost above B) (state 12 (bind 0 (wc ∷ wd ∷ []) no_locals)
+      → Answers walk B objects waiting e → Reached (More cost above asks price B) (state 12 (bind 0
+      (wc ∷ wd ∷ []) no_locals)
       (compose_code
       walk.first) [] waiting h)
 
@@ -259,7 +274,8 @@ module _ {V : Type 0} (walk : Walk V) where
   pub reads_first : {B : Budget} → (objects : List Object) (h : Heap) (fine : Fine walk.setting walk.l walk.around
       objects h) (waiting : List Waiting) (wc wd k y m : ℕ) (ws : List ℕ) → There walk.l objects wc
       (Fixed (header k y m) ws) → k < 256 → ((rests : List Code) → Reached B (state 12 (one_read wc wd (header k y m) k)
-      (compose_first walk.first) rests waiting h)) → Reached (More 3 0 B) (state 12 (bind 0 (wc ∷ wd ∷ []) no_locals)
+      (compose_first walk.first) rests waiting h)) → Reached (More 3 0 0 22 B) (state 12 (bind 0
+      (wc ∷ wd ∷ []) no_locals)
       (compose_code walk.first) [] waiting h)
   reads_first objects h fine waiting wc wd k y m ws there lt go =
       let z = not_zero walk objects h fine wc (header k y m) ws there in
@@ -267,7 +283,7 @@ module _ {V : Type 0} (walk : Walk V) where
       (if_false walk objects fine wc 0 refl refl (eq_false wc 0 (λ e. omega (arith, z.0)))
       (loads walk objects fine wc (header k y m) ws 0 (header k y m) refl there refl refl refl
       (computes walk objects fine (header k y m) 255 k refl refl (kind_read k y m lt) refl (go _))))
-      (omega arith, omega arith)
+      (omega arith, omega arith, omega arith, omega arith)
 
   pub reads_both : {B : Budget} → (objects : List Object) (h : Heap) (fine : Fine walk.setting walk.l walk.around
       objects h) (waiting : List Waiting) (wc wd k y m : ℕ) (ws : List ℕ) → There walk.l objects wc
@@ -275,7 +291,7 @@ module _ {V : Type 0} (walk : Walk V) where
       → There walk.l objects wd (Fixed (header k2 y2 m2) ws2) → k2 < 256 → ((rests : List Code)
       → Reached B (state 12 (both_read wc wd (header k y m) k (header k2 y2 m2) k2) (compose_third walk.first) rests
       waiting h))
-      → Reached (More 8 0 B) (state 12 (bind 0 (wc ∷ wd ∷ []) no_locals) (compose_code walk.first) [] waiting h)
+      → Reached (More 8 0 0 72 B) (state 12 (bind 0 (wc ∷ wd ∷ []) no_locals) (compose_code walk.first) [] waiting h)
   reads_both objects h fine waiting wc wd k y m ws there lt no14 no8 k2 y2 m2 ws2 there2 lt2 go =
       let z = not_zero walk objects h fine wd (header k2 y2 m2) ws2 there2 in
       at_most walk
@@ -285,29 +301,29 @@ module _ {V : Type 0} (walk : Walk V) where
       (if_false walk objects fine wd 0 refl refl (eq_false wd 0 (λ e. omega (arith, z.0)))
       (loads walk objects fine wd (header k2 y2 m2) ws2 0 (header k2 y2 m2) refl there2 refl refl refl
       (computes walk objects fine (header k2 y2 m2) 255 k2 refl refl (kind_read k2 y2 m2 lt2) refl (go _)))))))
-      (omega arith, omega arith)
+      (omega arith, omega arith, omega arith, omega arith)
 
-  pub id_first : (d : Coercion) → ComposeDoes 1 0 Id d d
+  pub id_first : (d : Coercion) → ComposeDoes 1 0 0 20 Id d d
   id_first d B objects h fine waiting wc wd hc hd go =
       at_most walk
       (if_true walk objects fine wc 0 refl refl (eq_true wc 0 hc)
       (go objects h wd 12 _ _ (Word 1) (grows_not objects) fine hd refl))
-      (omega arith, omega arith)
+      (omega arith, omega arith, omega arith, omega arith)
 
-  pub fail_first : (label : ℕ) (d : Coercion) → ComposeDoes 5 0 (Fail label) d (Fail label)
+  pub fail_first : (label : ℕ) (d : Coercion) → ComposeDoes 5 0 0 56 (Fail label) d (Fail label)
   fail_first label d B objects h fine waiting wc wd hc hd go =
       at_most walk
       (reads_first objects h fine waiting wc wd 8 0 1 (label ∷ []) hc (omega arith)
       (λ rests. if_false walk objects fine 8 14 refl refl refl
       (if_true walk objects fine 8 8 refl refl refl
       (go objects h wc 12 _ _ (Word 0) (grows_not objects) fine hc refl))))
-      (omega arith, omega arith)
+      (omega arith, omega arith, omega arith, omega arith)
 
   -- an object that is neither a Fail nor a Project, before Id
   pub id_second : {B : Budget} → (objects : List Object) (h : Heap) (fine : Fine walk.setting walk.l walk.around objects
       h) (waiting : List Waiting) (wc wd k y m : ℕ) (ws : List ℕ) → There walk.l objects wc (Fixed (header k y m) ws)
       → k < 256 → (k == 14) ≡ false → (k == 8) ≡ false → wd ≡ 0 → (c : Coercion) → Held walk.l objects c wc
-      → Answers walk B objects waiting c → Reached (More 6 0 B) (state 12 (bind 0 (wc ∷ wd ∷ []) no_locals)
+      → Answers walk B objects waiting c → Reached (More 6 0 0 70 B) (state 12 (bind 0 (wc ∷ wd ∷ []) no_locals)
       (compose_code
       walk.first) [] waiting h)
   id_second objects h fine waiting wc wd k y m ws there lt no14 no8 z c hc go =
@@ -317,7 +333,7 @@ module _ {V : Type 0} (walk : Walk V) where
       (if_false walk objects fine k 8 refl refl no8
       (if_true walk objects fine wd 0 refl refl (eq_true wd 0 z)
       (go objects h wc 12 _ _ (Word 0) (grows_not objects) fine hc refl)))))
-      (omega arith, omega arith)
+      (omega arith, omega arith, omega arith, omega arith)
 
   abbrev th : ℕ → ℕ
   th = (height_in walk.l)
@@ -351,10 +367,11 @@ module _ {V : Type 0} (walk : Walk V) where
   type_still old new w type t = record { known = t.known; is = t.is }
 
   -- a middle before an Inject
-  pub onto : (cost above : ℕ) (kind : Kind) (cs : Coercions) (g e : Coercion) (kept : ℕ) → coercion_height th e < 65535
-      → ComposeDoes cost above (Middle kind cs) g e → ComposeDoes (cost + 40) (suc above) (Middle kind cs)
-      (Inject g kept) (Inject e kept)
-  onto cost above kind cs g e kept low rec B objects h fine waiting wc wd hc hd go =
+  pub onto : (cost above asks price : ℕ) (kind : Kind) (cs : Coercions) (g e : Coercion) (kept : ℕ)
+      → coercion_height th e < 65535
+      → ComposeDoes cost above asks price (Middle kind cs) g e
+      → ComposeDoes (cost + 40) (suc above) (asks + 3) (price + 393) (Middle kind cs) (Inject g kept) (Inject e kept)
+  onto cost above asks price kind cs g e kept low rec B objects h fine waiting wc wd hc hd go =
       let hk = kind_number kind in
       let words2 = hd.0 ∷ hd.1 ∷ [] in
       let y2 = coercion_height th (Inject g kept) in
@@ -407,7 +424,7 @@ module _ {V : Type 0} (walk : Walk V) where
         type_still objects later hd.1 kept
             hd.4,
       ) refl)))))))))))))))))))
-      (omega arith, omega arith)
+      (omega arith, omega arith, omega arith, omega arith)
 
   -- the words of an object are small
   pub part_small : (objects : List Object) (h : Heap) → Fine walk.setting walk.l walk.around objects h → (at head : ℕ)
@@ -417,10 +434,11 @@ module _ {V : Type 0} (walk : Walk V) where
       refl).small
 
   -- a Project
-  pub projects : (cost above : ℕ) (wanted label : ℕ) (i d e : Coercion) → coercion_height th (final e) < 65535
-      → ComposeDoes cost above i d e → ComposeDoes (cost + 45) (suc above) (Project wanted label i) d (Project wanted
-      label (final e))
-  projects cost above wanted label i d e low rec B objects h fine waiting wc wd hc hd go =
+  pub projects : (cost above asks price : ℕ) (wanted label : ℕ) (i d e : Coercion)
+      → coercion_height th (final e) < 65535
+      → ComposeDoes cost above asks price i d e → ComposeDoes (cost + 45) (suc above) (asks + 4) (price + 396)
+      (Project wanted label i) d (Project wanted label (final e))
+  projects cost above asks price wanted label i d e low rec B objects h fine waiting wc wd hc hd go =
       let y1 = coercion_height th (Project wanted label i) in
       let ws = hc.0 ∷ label ∷ hc.1 ∷ [] in
       let y = coercion_height th (final e) in
@@ -483,20 +501,24 @@ module _ {V : Type 0} (walk : Walk V) where
         held_still walk.l new later (one_more walk new (Fixed (header 14 H 3) (hc.0 ∷ label ∷ final_word e w ∷ [])))
             (final e) (final_word e w) (final_held walk.l new e w held),
       ) refl)))))))))))))))))))))
-      (omega arith, omega arith)
+      (omega arith, omega arith, omega arith, omega arith)
 
   -- coerce
-  abbrev pub CoerceDoes : ℕ → ℕ → ℕ → ℕ → ℕ → Coercion → Type 0
-  CoerceDoes cost above from to label e = (B : Budget) (objects : List Object) (h : Heap) → Fine walk.setting walk.l
+  abbrev pub CoerceDoes : ℕ → ℕ → ℕ → ℕ → ℕ → ℕ → ℕ → Coercion → Type 0
+  CoerceDoes cost above asks price from to label e = (B : Budget) (objects : List Object) (h : Heap)
+      → Fine walk.setting walk.l
       walk.around objects h → (waiting : List Waiting) (wf wt : ℕ) → HoldsType walk.l objects wf from → HoldsType walk.l
-      objects wt to → label < 2 ^ 64 → Answers walk B objects waiting e → Reached (More cost above B)
+      objects wt to → label < 2 ^ 64 → Answers walk B objects waiting e → Reached (More cost above asks price B)
       (state 11 (bind 0 (wf ∷ wt ∷ label ∷ []) no_locals) (coerce_code walk.first) [] waiting h)
 
   -- an Inject before a Project
-  pub meets : (cost0 cost1 cost2 above : ℕ) (g : Coercion) (kept wanted label : ℕ) (i e1 e2 e3 : Coercion) → CoerceDoes
-      cost0 above kept wanted label e1 → ComposeDoes cost1 above e1 i e2 → ComposeDoes cost2 above g e2 e3 → ComposeDoes
-      (cost0 + cost1 + cost2 + 22) (suc above) (Inject g kept) (Project wanted label i) e3
-  meets cost0 cost1 cost2 above g kept wanted label i e1 e2 e3 casts rec1 rec2 B objects h fine waiting wc wd hc hd go =
+  pub meets : (cost0 cost1 cost2 above asks0 asks1 asks2 price0 price1 price2 : ℕ) (g : Coercion)
+      (kept wanted label : ℕ) (i e1 e2 e3 : Coercion) → CoerceDoes cost0 above asks0 price0 kept wanted label e1
+      → ComposeDoes cost1 above asks1 price1 e1 i e2 → ComposeDoes cost2 above asks2 price2 g e2 e3
+      → ComposeDoes (cost0 + cost1 + cost2 + 22) (suc above) (asks0 + asks1 + asks2) (price0 + price1 + price2 + 239)
+      (Inject g kept) (Project wanted label i) e3
+  meets cost0 cost1 cost2 above asks0 asks1 asks2 price0 price1 price2 g kept wanted label i e1 e2 e3 casts rec1 rec2 B
+      objects h fine waiting wc wd hc hd go =
       let y1 = coercion_height th (Inject g kept) in
       let y2 = coercion_height th (Project wanted label i) in
       let ws1 = hc.0 ∷ hc.1 ∷ [] in
@@ -527,24 +549,26 @@ module _ {V : Type 0} (walk : Walk V) where
       (rec2 _ new2 h2 fine2 waiting hc.0 w2 (held_still walk.l objects new2 far2 g hc.0 hc.3) held2
       (λ new3 h3 w3 count3 locals3 rests3 a3 grows3 fine3 held3 is3. go new3 h3 w3 count3 locals3 rests3 a3
       (grows_on objects new2 new3 far2 grows3) fine3 held3 is3))))))))))))))))))
-      (omega arith, omega arith)
+      (omega arith, omega arith, omega arith, omega arith)
 
   -- two middles
   -- one part, in its order
-  part_done : {B : Budget} → (cost above : ℕ) (next : Coercion → Coercion → Coercion) (c d : Coercion) → ComposeDoes
-      cost above c d (next c d) → ComposeDoes cost above d c (next d c) → (kind : Kind) (n k e : ℕ) (b : Bool)
+  part_done : {B : Budget} → (cost above asks price : ℕ) (next : Coercion → Coercion → Coercion) (c d : Coercion)
+      → ComposeDoes cost above asks price c d (next c d) → ComposeDoes cost above asks price d c (next d c)
+      → (kind : Kind) (n k e : ℕ) (b : Bool)
       → (k == n) ≡ b → (objects : List Object) (h : Heap) (fine : Fine walk.setting walk.l walk.around objects h)
       (waiting : List Waiting) (x y : ℕ) → Held walk.l objects c x → Held walk.l objects d y → Answers walk B objects
-      waiting (follow_part next (runs_back kind b) c d) → Reached (More (cost + 4) above B)
+      waiting (follow_part next (runs_back kind b) c d) → Reached (More (cost + 4) above asks (price + 77) B)
       (state 6 (bind 0 (kind_number kind ∷ n ∷ k ∷ x ∷ y ∷ e ∷ []) no_locals) (part_proc walk.first).code [] waiting h)
-  part_done {B = B} cost above next c d there back kind n k e b t objects h fine waiting x y hx hy go =
+  part_done {B = B} cost above asks price next c d there back kind n k e b t objects h fine waiting x y hx hy go =
       at_most walk
       (part_runs objects h fine waiting (λ x y. TailCall (compose walk.first) (x ∷ y ∷ [])) kind n k x y e b t
       (λ rests. by (runs_back kind b) rests go))
-      (omega arith, omega arith)
+      (omega arith, omega arith, omega arith, omega arith)
     where
       by : (b : Bool) (rests : List Code) → Answers walk B objects waiting (follow_part next b c d)
-          → Reached (One (More cost above B)) (state 6 (bind 0 (kind_number kind ∷ n ∷ k ∷ x ∷ y ∷ e ∷ []) no_locals)
+          → Reached (Pay 36 (One (More cost above asks price B))) (state 6 (bind 0
+          (kind_number kind ∷ n ∷ k ∷ x ∷ y ∷ e ∷ []) no_locals)
           (in_order (λ x y. TailCall (compose walk.first) (x ∷ y ∷ [])) b) rests waiting h)
       by true rests go =
           tail_calls walk objects fine (y ∷ x ∷ []) (proc 2 12 (compose_code walk.first)) refl (walk.stands 1 _ refl)
@@ -555,14 +579,16 @@ module _ {V : Type 0} (walk : Walk V) where
           refl
           (there _ objects h fine waiting x y hx hy go)
 
-  pub both : (cost above : ℕ) (next : Coercion → Coercion → Coercion) → (kind other : Kind) (cs ds : Coercions)
+  pub both : (cost above asks price : ℕ) (next : Coercion → Coercion → Coercion)
+      → (kind other : Kind) (cs ds : Coercions)
       → coercion_height th (Middle kind cs) < 65536 → coercion_height th (Middle other ds) < 65536
-      → ((i : ℕ) → ComposeDoes cost above (nth cs i) (nth ds i) (next (nth cs i) (nth ds i)))
-      → ((i : ℕ) → ComposeDoes cost above (nth ds i) (nth cs i) (next (nth ds i) (nth cs i)))
+      → ((i : ℕ) → ComposeDoes cost above asks price (nth cs i) (nth ds i) (next (nth cs i) (nth ds i)))
+      → ((i : ℕ) → ComposeDoes cost above asks price (nth ds i) (nth cs i) (next (nth ds i) (nth cs i)))
       → ((i : ℕ) → coercion_height th (follow_at next kind cs ds i) < 65535) → ComposeDoes (both_cost walk.l.width cost)
-      (suc above) (Middle kind cs) (Middle other ds) (cond (same_kind kind other) (middle kind (follow_parts next kind
+      (suc above) (middle_words walk.l.width asks) (both_price walk.l.width price) (Middle kind cs) (Middle other ds)
+      (cond (same_kind kind other) (middle kind (follow_parts next kind
       cs ds)) Id)
-  both cost above next kind other cs ds low1 low2 there back low B objects h fine waiting wc wd hc hd go =
+  both cost above asks price next kind other cs ds low1 low2 there back low B objects h fine waiting wc wd hc hd go =
       at_most walk
       (reads_both objects h fine waiting wc wd (kind_number kind) (coercion_height th (Middle kind cs)) (length hc.0)
       hc.0 hc.1 (numbers kind) (no_middle kind 14 (inr (omega arith))) (no_middle kind 8 (inl refl))
@@ -571,7 +597,7 @@ module _ {V : Type 0} (walk : Walk V) where
       (if_false walk objects fine (kind_number kind) 13 refl refl (no_middle kind 13 (inr (omega arith)))
       (if_false walk objects fine (kind_number other) 13 refl refl (no_middle other 13 (inr (omega arith)))
       (by_kind (same_kind kind other) refl _)))))
-      (omega arith, omega arith)
+      (omega arith, omega arith, omega arith, omega arith)
     where
       y1 : ℕ
       y1 = coercion_height th (Middle kind cs)
@@ -591,8 +617,8 @@ module _ {V : Type 0} (walk : Walk V) where
 
       made : (r : ℕ) → HasWidth walk.l kind r → r ≤ n1 → r ≤ n2 → r ≡ min n1 n2 → Answers walk B objects waiting
           (middle kind (follow_parts next kind cs ds)) → Reached (More (2 + parts_cost (cost + 4) walk.l.width)
-          (suc above)
-          B) (state 24 (bind 0 (wc ∷ wd ∷ kind_number kind ∷ n1 ∷ 0 ∷ []) no_locals) (middle_code (raise walk.first)
+          (suc above) (middle_words walk.l.width asks) (middle_price walk.l.width (77 + price)) B) (state 24 (bind 0
+          (wc ∷ wd ∷ kind_number kind ∷ n1 ∷ 0 ∷ []) no_locals) (middle_code (raise walk.first)
           (part walk.first) each_word r) [] waiting h)
       made r wide le1 le2 e go =
           let c1 : count cs ≡ n1 = as_many walk.l objects cs hc.0 hc.2 in
@@ -601,20 +627,27 @@ module _ {V : Type 0} (walk : Walk V) where
           (follow_at next kind cs ds) cs ds 0 r (omega (arith, c1, c2)) (λ i lt. let z : 0 + i ≡ i = omega arith in
           ap (follow_at next kind cs ds) z) in
           at_most walk ((middle_made walk (raise walk.first) (part walk.first) (part_proc walk.first) (walk.stands 5 _
-          refl) (walk.stands 4 _ refl) refl (cost + 4) above each_word r (few_parts kind r wide.0) objects waiting
+          refl) (walk.stands 4 _ refl) refl refl (cost + 4) above asks (price + 77) each_word r
+          (few_parts kind r wide.0) objects waiting
           kind wide wc wd n1 0 (header (kind_number kind) y1 n1) (header (kind_number other) y2 n2) hc.0 hd.0 hc.1
           hd.1 (follow_at next kind cs ds) (word_at hc.0) (word_at hd.0) suc (λ k. omega arith) (λ k lt. got hc.0 k
           (omega arith)) (λ k lt. got hd.0 k (omega arith)) (λ k lt. low k)
-          (λ k lt B now h' waiting' grows fine' answers. part_done cost above next (nth cs k) (nth ds k) (there k)
+          (λ k lt B now h' waiting' grows fine' answers. part_done cost above asks price next (nth cs k) (nth ds k)
+          (there k)
           (back k) kind n1 (suc k) 0 (suc k == count cs) (ap (λ n. suc k == n) (sym c1)) now h' fine' waiting'
           (word_at hc.0 k) (word_at hd.0 k) (held_still walk.l objects now grows (nth cs k) (word_at hc.0 k)
           (nth_held walk.l objects cs hc.0 hc.2 k (omega arith))) (held_still walk.l objects now grows (nth ds k)
           (word_at hd.0 k) (nth_held walk.l objects ds hd.0 hd.2 k (omega arith))) answers)
-          h fine (subst (λ q. Answers walk B objects waiting (middle kind q)) (sym m) go)))
-          ((let z = parts_less (cost + 4) r walk.l.width wide.1 in omega arith), omega arith)
+          h fine (subst (λ q. Answers walk B objects waiting (middle kind q)) (sym m) go))) (
+            (let z = parts_less (cost + 4) r walk.l.width wide.1 in omega arith),
+            omega arith,
+            (let z = words_less asks r walk.l.width wide.1 in omega (arith, z)),
+            (let z = price_less (77 + price) r walk.l.width wide.1 in omega (arith, z)),
+          )
 
       by_kind : (b : Bool) → same_kind kind other ≡ b → (rests : List Code)
-          → Reached (More (32 + parts_cost (cost + 4) walk.l.width) (suc above) B) (state 12 L (either Eq (Word 3)
+          → Reached (More (32 + parts_cost (cost + 4) walk.l.width) (suc above) (middle_words walk.l.width asks)
+          (197 + middle_price walk.l.width (77 + price)) B) (state 12 L (either Eq (Word 3)
           (Word 5)
           (compose_both walk.first) (Return (Number 0))) rests waiting h)
       by_kind false e rests =
@@ -622,7 +655,7 @@ module _ {V : Type 0} (walk : Walk V) where
           (if_false walk objects fine (kind_number kind) (kind_number other) refl refl (kinds_same kind other ∙ e)
           (go objects h 0 12 L _ (Number 0) (grows_not objects) fine (subst (λ b. Held walk.l objects
           (cond b (middle kind (follow_parts next kind cs ds)) Id) 0) (sym e) refl) refl))
-          (omega arith, omega arith)
+          (omega arith, omega arith, omega arith, omega arith)
       by_kind true e rests =
           let go' : Answers walk B objects waiting (middle kind (follow_parts next kind cs ds)) = subst (λ b. Answers
           walk B objects waiting (cond b (middle kind (follow_parts next kind cs ds)) Id)) e go in
@@ -636,10 +669,10 @@ module _ {V : Type 0} (walk : Walk V) where
             | inl lt ↦ if_true walk objects fine n1 n2 refl refl (lt_true n1 n2 lt) (picks (middle_of walk.first)
                 (part walk.first) middle_stands objects h fine waiting _ 6 n1 8 _ wc wd (kind_number kind) n1 0
                 (omega arith) (few_parts kind n1 hc.3.0) refl refl (made n1 hc.3 (omega arith) (omega (arith, lt))
-                (omega (arith, lt)) go'))
+                (omega (arith, lt)) go') refl)
             | inr ge ↦ if_false walk objects fine n1 n2 refl refl (lt_false n1 n2 ge) (picks (middle_of walk.first)
                 (part walk.first) middle_stands objects h fine waiting _ 7 n2 8 _ wc wd (kind_number kind) n1 0
                 (omega arith) (few_parts other n2 hd.3.0) refl refl (made n2 (subst (λ k. HasWidth walk.l k n2)
-                (sym (kind_is kind other e)) hd.3) (omega (arith, ge)) (omega arith) (omega (arith, ge)) go'))
+                (sym (kind_is kind other e)) hd.3) (omega (arith, ge)) (omega arith) (omega (arith, ge)) go') refl)
           ]))))
-          (omega arith, omega arith)
+          (omega arith, omega arith, omega arith, omega arith)

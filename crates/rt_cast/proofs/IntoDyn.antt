@@ -1,5 +1,6 @@
 -- What the code does that puts a value into Dyn; and words in Dyn as objects are added.
-use Rattle.std.proofs.Common.{◌≡◌, ℕ, ◌+◌, ◌%◌, ◌^◌, ◌<◌, ◌≤◌, Bool, true, false, List, [], ◌∷◌, ◌++◌, Option, Some, None}
+use Rattle.std.proofs.Common.{◌≡◌, ℕ, ◌+◌, ◌%◌, ◌^◌, ◌<◌, ◌≤◌, Bool, true, false, List, [], ◌∷◌, ◌++◌, Option, Some}
+use Rattle.std.proofs.Common.{None}
 use Rattle.std.proofs.Common.{inl, inr, refl, sym, ap, ap₂, ◌∙◌, subst, map, length, arith}
 use Rattle.std.specs.Prelude.{nat_lt, if◌then◌else◌}
 use Rattle.grift_base.specs.Types.{TypeRow, parts_of}
@@ -21,7 +22,8 @@ use Rattle.rt_cast.specs.WholeObjects.{WholeDyn}
 use Rattle.rt_cast.proofs.DynWords.{narrow_back, wide_differs, TagSight, HasTag, HasNone, tag_sight, small_fits}
 use Rattle.rt_cast.proofs.HeaderNumbers.{eq_true, lt_true, kind_read}
 use Rattle.rt_cast.proofs.Walks.{Walk}
-use Rattle.rt_cast.proofs.Steps.{Budget, More, at_most, loads, computes, if_true, if_false, builds}
+use Rattle.low_ir.specs.Prices.{leaving}
+use Rattle.rt_cast.proofs.Steps.{Budget, Pay, More, return_price, at_most, loads, computes, if_true, if_false, builds}
 use Rattle.rt_cast.proofs.Small.{ReachedIn, grows_not, there_still, not_zero}
 use Rattle.rt_cast.proofs.Middles.{added, one_more}
 use Rattle.rt_cast.proofs.ComposeSteps.{type_there, type_small, type_still, type_numbers}
@@ -65,7 +67,7 @@ module _ {V : Type 0} (walk : Walk V) where
       → locals 8 ≡ Some wt
       → ((head : ℕ) → ReachedIn walk B (state count (set_local 6 (type_kind (R kept)) (set_local 6 head locals)) rest
       rests waiting h))
-      → ReachedIn walk (More 2 0 B) (state count locals (read_kind rest) rests waiting h)
+      → ReachedIn walk (More 2 0 0 8 B) (state count locals (read_kind rest) rests waiting h)
   kind_there objects h fine waiting count locals rests rest kept wt held lt6 l8 go =
       let head =
       header (type_kind (R kept)) (height_in walk.l kept) (length (parts_of (R kept))) in
@@ -75,7 +77,7 @@ module _ {V : Type 0} (walk : Walk V) where
       (computes walk objects fine head 255 (type_kind (R kept)) refl refl
       (kind_read (type_kind (R kept)) (height_in walk.l kept) (length (parts_of (R kept))) (type_numbers (R kept)))
       lt6 (go head)))
-      (omega arith, omega arith)
+      (omega arith, omega arith, omega arith, omega arith)
 
   -- the value in word 9 goes into Dyn, with the type in word 8
   module _ {B : Budget} (objects : List Object) (h : Heap) (fine : Fine walk.setting walk.l walk.around objects h)
@@ -84,61 +86,65 @@ module _ {V : Type 0} (walk : Walk V) where
       (fits : x < 2 ^ 64) (lt7 : nat_lt 7 count ≡ true) (lt6 : nat_lt 6 count ≡ true) (lt5 : nat_lt 5 count ≡ true)
       (go : (new : List Object) (h' : Heap) (w : ℕ) (locals : Locals) (rests : List Code) → Grows objects new
       → Fine walk.setting walk.l walk.around new h' → IsDyn walk.l new kept x w → locals 7 ≡ Some w
-      → ReachedIn walk B (state count locals (Return (Word 7)) rests waiting h')) where
-    as_object : (locals : Locals) (rests : List Code) → locals 8 ≡ Some wt → locals 9 ≡ Some x
-        → small_dyn (R kept) x ≡ None → ReachedIn walk (More 1 0 B) (state count locals dyn_object rests waiting h)
-    as_object locals rests l8 l9 none =
-        let o = Fixed 8589934595 (wt ∷ x ∷ []) in
-        let grown = one_more walk objects o in
-        at_most walk
-        (builds walk objects fine 8589934595 (wt ∷ x ∷ [])
-        (ap₂ (λ a b. and_more (Some 8589934595) (and_more a (and_more b (Some [])))) l8 l9) (omega arith)
-        (omega arith) (omega arith, (type_small walk objects h fine wt kept held, (fits, tt)))
-        (WholeDyn wt x kept refl held lower) lt7
-        (λ h' fine'. go (objects ++ o ∷ []) h' h.alloc _ _ grown fine'
-        (subst (λ s. IsDynBy walk.l (objects ++ o ∷ []) s kept x h.alloc) (sym none)
-        (wt, added walk objects h fine o, type_still walk objects (objects ++ o ∷ []) wt kept held)) refl))
-        (omega arith, omega arith)
+      → ReachedIn walk (Pay (return_price count (Word 7)) B) (state count locals (Return (Word 7)) rests waiting h'))
+    where
+      as_object : (locals : Locals) (rests : List Code) → locals 8 ≡ Some wt → locals 9 ≡ Some x
+          → small_dyn (R kept) x ≡ None → ReachedIn walk (More 1 0 3 (43 + leaving count) B)
+          (state count locals dyn_object rests waiting h)
+      as_object locals rests l8 l9 none =
+          let o = Fixed 8589934595 (wt ∷ x ∷ []) in
+          let grown = one_more walk objects o in
+          at_most walk
+          (builds walk objects fine 8589934595 (wt ∷ x ∷ [])
+          (ap₂ (λ a b. and_more (Some 8589934595) (and_more a (and_more b (Some [])))) l8 l9) (omega arith)
+          (omega arith) (omega arith, (type_small walk objects h fine wt kept held, (fits, tt)))
+          (WholeDyn wt x kept refl held lower) lt7
+          (λ h' fine'. go (objects ++ o ∷ []) h' h.alloc _ _ grown fine'
+          (subst (λ s. IsDynBy walk.l (objects ++ o ∷ []) s kept x h.alloc) (sym none)
+          (wt, added walk objects h fine o, type_still walk objects (objects ++ o ∷ []) wt kept held)) refl))
+          (omega arith, omega arith, omega arith, omega arith)
 
-    -- where the type has a tag, by whether the value is narrow
-    as_base : (tag : ℕ) → tag_of (R kept) ≡ Some tag → 0 < tag → tag < 4 → (b : Bool) → is_narrow x ≡ b
-        → (locals : Locals) (rests : List Code) → locals 6 ≡ Some (tag + 15) → locals 8 ≡ Some wt
-        → locals 9 ≡ Some x → ReachedIn walk (More 6 0 B) (state count locals dyn_base rests waiting h)
-    as_base tag has some few true narrow locals rests l6 l8 l9 =
-        at_most walk
-        (computes walk objects fine x 3 (compute Sll x 3) l9 refl refl lt7
-        (computes walk objects fine (compute Sll x 3) 3 x refl refl (narrow_back x narrow) lt5
-        (if_true walk objects fine x x refl l9 (eq_true x x refl)
-        (computes walk objects fine (tag + 15) 15 tag l6 refl (omega (arith, few)) lt6
-        (computes walk objects fine (compute Sll x 3) tag (tagged tag x) refl refl (omega (arith, few)) lt7
-        (go objects h (tagged tag x) _ _ (grows_not objects) fine
-        (subst (λ s. IsDynBy walk.l objects s kept x (tagged tag x))
-        (sym (ap (λ o. behind_tag o x) has ∙ ap (λ b. if b then Some (tagged tag x) else None) narrow))
-        (refl, held.known)) refl))))))
-        (omega arith, omega arith)
-    as_base tag has some few false wide locals rests l6 l8 l9 =
-        at_most walk
-        (computes walk objects fine x 3 (compute Sll x 3) l9 refl refl lt7
-        (computes walk objects fine (compute Sll x 3) 3 (compute Sra (compute Sll x 3) 3) refl refl refl lt5
-        (if_false walk objects fine (compute Sra (compute Sll x 3) 3) x refl l9 (wide_differs x wide fits)
-        (as_object _ _ l8 l9
-        (ap (λ o. behind_tag o x) has ∙ ap (λ b. if b then Some (tagged tag x) else None) wide)))))
-        (omega arith, omega arith)
+      -- where the type has a tag, by whether the value is narrow
+      as_base : (tag : ℕ) → tag_of (R kept) ≡ Some tag → 0 < tag → tag < 4 → (b : Bool) → is_narrow x ≡ b
+          → (locals : Locals) (rests : List Code) → locals 6 ≡ Some (tag + 15) → locals 8 ≡ Some wt
+          → locals 9 ≡ Some x → ReachedIn walk (More 6 0 3 (66 + leaving count) B)
+          (state count locals dyn_base rests waiting h)
+      as_base tag has some few true narrow locals rests l6 l8 l9 =
+          at_most walk
+          (computes walk objects fine x 3 (compute Sll x 3) l9 refl refl lt7
+          (computes walk objects fine (compute Sll x 3) 3 x refl refl (narrow_back x narrow) lt5
+          (if_true walk objects fine x x refl l9 (eq_true x x refl)
+          (computes walk objects fine (tag + 15) 15 tag l6 refl (omega (arith, few)) lt6
+          (computes walk objects fine (compute Sll x 3) tag (tagged tag x) refl refl (omega (arith, few)) lt7
+          (go objects h (tagged tag x) _ _ (grows_not objects) fine
+          (subst (λ s. IsDynBy walk.l objects s kept x (tagged tag x))
+          (sym (ap (λ o. behind_tag o x) has ∙ ap (λ b. if b then Some (tagged tag x) else None) narrow))
+          (refl, held.known)) refl))))))
+          (omega arith, omega arith, omega arith, omega arith)
+      as_base tag has some few false wide locals rests l6 l8 l9 =
+          at_most walk
+          (computes walk objects fine x 3 (compute Sll x 3) l9 refl refl lt7
+          (computes walk objects fine (compute Sll x 3) 3 (compute Sra (compute Sll x 3) 3) refl refl refl lt5
+          (if_false walk objects fine (compute Sra (compute Sll x 3) 3) x refl l9 (wide_differs x wide fits)
+          (as_object _ _ l8 l9
+          (ap (λ o. behind_tag o x) has ∙ ap (λ b. if b then Some (tagged tag x) else None) wide)))))
+          (omega arith, omega arith, omega arith, omega arith)
 
-    pub put_into_dyn : (locals : Locals) (rests : List Code) → locals 6 ≡ Some (type_kind (R kept))
-        → locals 8 ≡ Some wt → locals 9 ≡ Some x
-        → ReachedIn walk (More 7 0 B) (state count locals into_dyn rests waiting h)
-    put_into_dyn locals rests l6 l8 l9 = by (tag_sight (R kept))
-      where
-        by : TagSight (R kept) → ReachedIn walk (More 7 0 B) (state count locals into_dyn rests waiting h)
-        by (HasTag tag has kind some few) =
-            at_most walk
-            (if_true walk objects fine (type_kind (R kept)) 19 l6 refl
-            (lt_true (type_kind (R kept)) 19 (omega (arith, kind, few)))
-            (as_base tag has some few (is_narrow x) refl locals _ (l6 ∙ ap Some kind) l8 l9))
-            (omega arith, omega arith)
-        by (HasNone none plain) =
-            at_most walk
-            (if_false walk objects fine (type_kind (R kept)) 19 l6 refl plain
-            (as_object locals _ l8 l9 (ap (λ o. behind_tag o x) none)))
-            (omega arith, omega arith)
+      pub put_into_dyn : (locals : Locals) (rests : List Code) → locals 6 ≡ Some (type_kind (R kept))
+          → locals 8 ≡ Some wt → locals 9 ≡ Some x
+          → ReachedIn walk (More 7 0 3 (80 + leaving count) B) (state count locals into_dyn rests waiting h)
+      put_into_dyn locals rests l6 l8 l9 = by (tag_sight (R kept))
+        where
+          by : TagSight (R kept) → ReachedIn walk (More 7 0 3 (80 + leaving count) B)
+              (state count locals into_dyn rests waiting h)
+          by (HasTag tag has kind some few) =
+              at_most walk
+              (if_true walk objects fine (type_kind (R kept)) 19 l6 refl
+              (lt_true (type_kind (R kept)) 19 (omega (arith, kind, few)))
+              (as_base tag has some few (is_narrow x) refl locals _ (l6 ∙ ap Some kind) l8 l9))
+              (omega arith, omega arith, omega arith, omega arith)
+          by (HasNone none plain) =
+              at_most walk
+              (if_false walk objects fine (type_kind (R kept)) 19 l6 refl plain
+              (as_object locals _ l8 l9 (ap (λ o. behind_tag o x) none)))
+              (omega arith, omega arith, omega arith, omega arith)

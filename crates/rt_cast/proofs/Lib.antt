@@ -15,6 +15,7 @@ mod ComposeRuns
 mod CoerceRuns
 mod Reaching
 mod Closing
+mod ClosedForms
 mod PartCodeLemmas
 mod CastCases
 mod CastRuns

@@ -18,7 +18,7 @@ use Rattle.coercion_norm.specs.Coercions.{Coercion, Coercions, Id, Fail, Middle,
 use Rattle.coercion_norm.specs.Coercions.{CoercionThen, is_id, all_id}
 use Rattle.coercion_norm.specs.Composition.{middle}
 use Rattle.coercion_norm.specs.Heights.{coercion_height, highest}
-use Rattle.rt_cast.specs.Costs.{parts_cost}
+use Rattle.rt_cast.specs.Costs.{parts_cost, middle_words, middle_price}
 use Rattle.coercion_norm.specs.Objects.{Object, Fixed, bytes_of_all}
 use Rattle.coercion_norm.specs.Nodes.{KindHasWidth}
 use Rattle.coercion_norm.specs.Held.{HasWidth, Layout, There, Held, AreHeld, height_in}
@@ -33,7 +33,8 @@ use Rattle.coercion_norm.proofs.Public.{object_behind}
 use Rattle.rt_cast.proofs.Objects.{chosen_true, AreSmall}
 use Rattle.rt_cast.proofs.HeaderNumbers.{eq_true, eq_cases, lt_true}
 use Rattle.rt_cast.proofs.HeaderNumbers.{header_small}
-use Rattle.rt_cast.proofs.Steps.{Budget, More, at_most, sets_word, loads}
+use Rattle.low_ir.specs.Prices.{slot_price, source_price, sources_price, entering}
+use Rattle.rt_cast.proofs.Steps.{Budget, Pay, More, return_price, at_most, sets_word, loads}
 use Rattle.rt_cast.proofs.Steps.{computes, if_true, if_false, builds, calls, comes_back}
 use Rattle.rt_cast.proofs.Small.{grows_not, grows_on, there_still, HasHeight, not_zero, raised, numbers}
 use Rattle.rt_cast.proofs.Small.{ReachedIn}
@@ -187,6 +188,23 @@ skip_five : (a b c d : ℕ) (L : Locals) (i : ℕ) → set_local 5 a (set_local 
     (16 + i) ≡ L (16 + i)
 skip_five a b c d L i = grind arith
 
+-- words and numbers of parts are near
+slot_near : (k : ℕ) → k ≤ 8 → slot_price (16 + k) ≡ 1
+slot_near k le = grind (arith, le)
+
+place_price : (k : ℕ) → k ≤ 8 → source_price (Number (suc k)) ≡ 2
+place_price k le = grind (arith, le)
+
+number_price : (n : ℕ) → source_price (Number n) ≤ 12
+number_price n = grind arith
+
+results_price : (j k : ℕ) → k + j ≤ 8 → sources_price (results j k) ≡ 4 * j
+results_price zero k le = refl
+results_price (suc j) k le =
+    let s = slot_near k (omega (arith, le)) in
+    let z = results_price j (suc k) (omega (arith, le)) in
+    omega (arith, s, z)
+
 number_small : (n : ℕ) → n < 2 ^ 64 → n % 2 ^ 64 ≡ n
 number_small n h = omega arith
 
@@ -283,7 +301,8 @@ module _ {V : Type 0} (walk : Walk V) where
   abbrev pub Answers : Budget → List Object → List Waiting → Coercion → Type 0
   Answers B objects waiting c = (new : List Object) (h : Heap) (w : ℕ) (count : ℕ) (locals : Locals) (rests : List Code)
       (a : LowSource) → Grows objects new → Fine walk.setting walk.l walk.around new h → Held walk.l new c w
-      → word_of locals a ≡ Some w → Reached B (state count locals (Return a) rests waiting h)
+      → word_of locals a ≡ Some w → Reached (Pay (return_price count a) B)
+      (state count locals (Return a) rests waiting h)
 
   pub far : (objects : List Object) (h : Heap) → Fine walk.setting walk.l walk.around objects h → (at head : ℕ)
       (ws : List ℕ) → There walk.l objects at (Fixed head ws) → 65536 ≤ at
@@ -310,8 +329,9 @@ module _ {V : Type 0} (walk : Walk V) where
 
   module _ (raise part : ℕ) (p : Proc) (raise_stands : slice_get walk.setting.procs raise ≡ Some (proc 2 3 raise_code))
       (part_stands : slice_get walk.setting.procs part ≡ Some p) (takes : ((6 == p.params) && (nat_le p.params 8 &&
-      nat_le p.params p.words)) ≡ true) where
-    module _ (cost above : ℕ) (offset : ℕ → ℕ) (total : ℕ) (few : total ≤ 8) (objects : List Object) (waiting : List
+      nat_le p.params p.words)) ≡ true) (enters : entering p.words ≡ 15) where
+    module _ (cost above asks price : ℕ) (offset : ℕ → ℕ) (total : ℕ) (few : total ≤ 8) (objects : List Object)
+        (waiting : List
         Waiting) (kind : Kind) (wide : HasWidth walk.l kind total) (x y n extra : ℕ) (hx hy : ℕ) (xs ys : List ℕ)
         (x_there : There walk.l objects x (Fixed hx xs)) (y_there : There walk.l objects y (Fixed hy ys)) (E : ℕ
         → Coercion) (X Y index : ℕ → ℕ) (offsets : (k : ℕ) → offset k ≡ 8 * index k) (x_has : (k : ℕ) → k < total
@@ -319,7 +339,8 @@ module _ {V : Type 0} (walk : Walk V) where
         Some (Y k)) (low : (k : ℕ) → k < total → coercion_height (height_in walk.l) (E k) < 65535) where
       abbrev pub PartDoes : ℕ → Type 0
       PartDoes k = (B : Budget) (now : List Object) (h : Heap) (waiting : List Waiting) → Grows objects now
-          → Fine walk.setting walk.l walk.around now h → Answers B now waiting (E k) → Reached (More cost above B)
+          → Fine walk.setting walk.l walk.around now h → Answers B now waiting (E k)
+          → Reached (More cost above asks price B)
           (state p.words (bind 0 (kind_number kind ∷ n ∷ suc k ∷ X k ∷ Y k ∷ extra ∷ []) no_locals) p.code [] waiting h)
 
       record InPlace (now : List Object) (k : ℕ) (L : Locals) : Type 0 where
@@ -359,7 +380,8 @@ module _ {V : Type 0} (walk : Walk V) where
       -- all parts are there
       finished : {B : Budget} → (now : List Object) (h : Heap) (fine : Fine walk.setting walk.l walk.around now h)
           → Grows objects now → (L : Locals) → InPlace now total L → Answers B objects waiting
-          (middle kind (list_of E total 0)) → (rests : List Code) → Reached (More 7 0 B) (state 24 L (finish_code total)
+          (middle kind (list_of E total 0)) → (rests : List Code) → Reached (More 7 0 (suc total) (70 + 4 * total) B)
+          (state 24 L (finish_code total)
           rests
           waiting h)
       finished {B = B} now h fine grows L at go rests = by_some (eq_cases (some_to E total) 0)
@@ -374,7 +396,8 @@ module _ {V : Type 0} (walk : Walk V) where
               clash q = cc
 
           by_some : (some_to E total ≡ 0) ⊎ ((some_to E total == 0) ≡ false) → ((all_id (list_of E total 0) ≡ true)
-              ⊎ ((all_id (list_of E total 0) ≡ false) × (some_to E total ≡ 0 → ⊥))) → Reached (More 7 0 B)
+              ⊎ ((all_id (list_of E total 0) ≡ false) × (some_to E total ≡ 0 → ⊥)))
+              → Reached (More 7 0 (suc total) (70 + 4 * total) B)
               (state 24 L (finish_code total) rests waiting h)
           by_some (inl z) ids =
               let e : middle kind (list_of E total 0) ≡ Id = ap (λ b. cond b Id (Middle kind (list_of E total 0)))
@@ -382,7 +405,7 @@ module _ {V : Type 0} (walk : Walk V) where
               at_most walk
               (if_true walk now fine (some_to E total) 0 at.some refl (eq_true (some_to E total) 0 z)
               (go now h 0 24 L _ (Number 0) grows fine (subst (λ c. Held walk.l now c 0) (sym e) refl) refl))
-              (omega arith, omega arith)
+              (omega arith, omega arith, omega arith, omega arith)
           by_some (inr z) (inl ids) = absurd (clash (sym (ap (λ m. m == 0) (none_to E total 0 total (omega arith) refl
               ids)) ∙ z))
             where
@@ -432,8 +455,13 @@ module _ {V : Type 0} (walk : Walk V) where
                     (list_of E total 0) ws (all_held now at.W total 0 (λ i lt. at.held i (omega arith))),
                 subst
                     (HasWidth walk.l kind) (sym long) wide,
-              )) refl)))))))
-              (omega arith, omega arith)
+              )) refl))))))) (
+                omega arith,
+                omega arith,
+                omega (arith, long),
+                let r = results_price total 0 (omega (arith, few)) in let n = number_price
+                    (total * 4294967296) in omega (arith, r, n),
+              )
 
       given_words : (k : ℕ) (L : Locals) → suc k % 2 ^ 64 ≡ suc k → L 2 ≡ Some (kind_number kind) → L 3 ≡ Some n
           → L 4 ≡ Some extra → words_of (set_local 9 (Y k) (set_local 8 (X k) L)) (Word 2 ∷ Word 3 ∷ Number (suc k) ∷
@@ -494,14 +522,15 @@ module _ {V : Type 0} (walk : Walk V) where
       parts_go : {B : Budget} → (j k : ℕ) → k + j ≡ total → ((i : ℕ) → i < total → PartDoes i) → (now : List Object)
           (h : Heap) (fine : Fine walk.setting walk.l walk.around now h) → Grows objects now → (L : Locals)
           → InPlace now k L → Answers B objects waiting (middle kind (list_of E total 0)) → (rests : List Code)
-          → Reached (More (parts_cost cost j) (suc above) B) (state 24 L (parts_code raise part offset total j k) rests
+          → Reached (More (parts_cost cost j) (suc above) (suc total + j * asks) (70 + 4 * total + j * (158 + price)) B)
+          (state 24 L (parts_code raise part offset total j k) rests
           waiting
           h)
       parts_go zero k e does now h fine grows L at go rests =
           let q : k ≡ total = omega arith in
           at_most walk
           (finished now h fine grows L (subst (λ m. InPlace now m L) q at) go rests)
-          (omega arith, omega arith)
+          (omega arith, omega arith, omega arith, omega arith)
       parts_go (suc j) k e does now h fine grows L at go rests =
           let lt : k < total = omega arith in
           let L1 = set_local 8 (X k) L in
@@ -531,12 +560,19 @@ module _ {V : Type 0} (walk : Walk V) where
           L ∙ at.some) refl (let z = some_small E k in let b = bit_small (is_id (E k)) in omega (arith, lt, few))
           refl
           (parts_go j (suc k) (omega arith) does new h' fine' (grows_on objects now new grows grows') _ (next_place now
-          new grows' k w L at held) go rests)))))))))))
-          (omega arith, omega arith)
+          new grows' k w L at held) go rests))))))))))) (
+            omega arith,
+            omega arith,
+            omega arith,
+            let s = slot_near k (omega (arith, lt, few)) in let n = place_price k
+                (omega (arith, lt, few)) in omega (arith, s, n, enters),
+          )
 
       pub middle_made : {B : Budget} → ((i : ℕ) → i < total → PartDoes i) → (h : Heap) (fine : Fine walk.setting walk.l
           walk.around objects h) → Answers B objects waiting (middle kind (list_of E total 0))
-          → Reached (More (2 + parts_cost cost total) (suc above) B) (state 24 (bind 0 (x ∷ y ∷ kind_number kind ∷ n ∷
+          → Reached (More (2 + parts_cost cost total) (suc above) (middle_words total asks)
+          (middle_price total price) B)
+          (state 24 (bind 0 (x ∷ y ∷ kind_number kind ∷ n ∷
           extra ∷
           []) no_locals) (middle_code raise part offset total) [] waiting h)
       middle_made does h fine go =
@@ -556,4 +592,4 @@ module _ {V : Type 0} (walk : Walk V) where
                 (omega arith);
             held = λ i lt. absurd (omega arith);
           }) go [])))
-          (omega arith, omega arith)
+          (omega arith, omega arith, omega arith, omega arith)

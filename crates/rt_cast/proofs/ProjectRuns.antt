@@ -10,6 +10,7 @@ use Rattle.low_ir.specs.declared.code.LowSource.TheVariants.{Word, Number}
 use Rattle.low_ir.specs.declared.code.WordOp.TheVariants.{And}
 use Rattle.rv_isa.specs.declared.inst.Cond.TheVariants.{Eq, Ltu}
 use Rattle.low_ir.specs.Procedures.{Code, Return}
+use Rattle.low_ir.specs.Prices.{leaving}
 use Rattle.low_ir.specs.Steps.{Locals, no_locals, set_local}
 use Rattle.low_ir.specs.Run.{Waiting, LowState, bind}
 use Rattle.coercion_norm.specs.declared.middles.MiddleKind.TheVariants.{Fun as FunKind, Tup as TupKind}
@@ -22,7 +23,7 @@ use Rattle.coercion_norm.specs.Heights.{coercion_height, highest, TypeNoHigher}
 use Rattle.coercion_norm.specs.Modes.{part_to_dyn, cast_to_dyn, kept_part}
 use Rattle.coercion_norm.specs.MergedMode.{part_at, tuple_coercion}
 use Rattle.coercion_norm.specs.Normal.{IsNormal, AreNormal}
-use Rattle.rt_cast.specs.Costs.{tuple_cost, project_cost}
+use Rattle.rt_cast.specs.Costs.{tuple_cost, project_cost, cast_words, project_words, tuple_price, project_price}
 use Rattle.coercion_norm.specs.Objects.{Object, Fixed}
 use Rattle.coercion_norm.specs.Held.{There, Held, AreHeld, HoldsType, rows_in, height_in}
 use Rattle.coercion_norm.specs.ObjectsOfRows.{header, type_kind}
@@ -237,9 +238,16 @@ module _ {V : Type 0} (walk : Walk V) (low : walk.l.tallest ≤ 65534) (A : Type
   asked wv k which label = bind 0 (wv ∷ k ∷ which ∷ label ∷ []) no_locals
 
   -- the procedure goes on so
-  abbrev Runs : ℕ → ℕ → Budget → ℕ → ℕ → ℕ → ℕ → List Waiting → Heap → Type 0
-  Runs cost above B wv k which label waiting h =
-      ReachedIn walk (More cost above B) (state 12 (asked wv k which label) (project_code walk.first) [] waiting h)
+  abbrev Runs : ℕ → ℕ → ℕ → ℕ → Budget → ℕ → ℕ → ℕ → ℕ → List Waiting → Heap → Type 0
+  Runs cost above asks price B wv k which label waiting h =
+      ReachedIn walk (More cost above asks price B) (state 12 (asked wv k which label)
+      (project_code walk.first) [] waiting h)
+
+  -- with 1 as its third word
+  abbrev pub TupleRuns : Budget → ℕ → ℕ → ℕ → List Waiting → Heap → Type 0
+  TupleRuns B wv k label waiting h =
+      Runs (tuple_cost walk.l.width n) (whole_above walk low A IsHeld still is_solid) (cast_words walk.l.width n)
+      (tuple_price walk.l.width n) B wv k 1 label waiting h
 
   -- a part of what stands under a proxy, by the part of its coercion
   abbrev on_part : A → ℕ → Option Coercion → Outcome A
@@ -249,14 +257,14 @@ module _ {V : Type 0} (walk : Walk V) (low : walk.l.tallest ≤ 65534) (A : Type
       (fine : Fine walk.setting walk.l walk.around objects h) → HaveParts walk.l IsHeld objects parts
       → (waiting : List Waiting) (u : Merged A) (wv k label : ℕ) → Carried objects u wv → (r : Outcome A)
       → part_value head parts walk.l.types k u ≡ r → (r ≡ Stuck → ⊥) → Goes B objects waiting r
-      → Runs (tuple_cost walk.l.width n) (whole_above walk low A IsHeld still is_solid) B wv k 1 label waiting h
+      → TupleRuns B wv k label waiting h
   tuple_part_done B objects h fine tuples waiting (Base hd x) wv k label hv r e some go = absurd (some (sym e))
   tuple_part_done B objects h fine tuples waiting (InDyn kept x) wv k label hv r e some go = absurd (some (sym e))
   tuple_part_done B objects h fine tuples waiting (Solid a) wv k label hv r e some go = by (slice_get (parts a) k) refl
       e
     where
       by : (o : Option (Merged A)) → slice_get (parts a) k ≡ o → with_some o (λ x. Gives x) ≡ r
-          → Runs (tuple_cost walk.l.width n) (whole_above walk low A IsHeld still is_solid) B wv k 1 label waiting h
+          → TupleRuns B wv k label waiting h
       by None f g = absurd (some (sym g))
       by (Some x) f g =
           let p = part_there objects tuples a wv k x hv f in
@@ -273,12 +281,12 @@ module _ {V : Type 0} (walk : Walk V) (low : walk.l.tallest ≤ 65534) (A : Type
           (loads_at walk objects fine (wv + 8 * k) p.word refl w refl
           (subst (Goes B objects waiting) (sym g) go objects h p.word 12 _ _ (Word 8) (grows_not objects) fine p.carried
           refl))))))))
-          (omega arith, omega arith)
+          (omega arith, omega arith, omega arith, omega arith)
   tuple_part_done B objects h fine tuples waiting (Proxied a c) wv k label hv r e some go = by_coercion c refl
     where
       by_part : (ps : Coercions) → c ≡ Middle TupKind ps → (d : Coercion) → part_at ps k ≡ Some d → (x : Merged A)
           → slice_get (parts a) k ≡ Some x → cast_value head walk.l.types d x ≡ r
-          → Runs (tuple_cost walk.l.width n) (whole_above walk low A IsHeld still is_solid) B wv k 1 label waiting h
+          → TupleRuns B wv k label waiting h
       by_part ps is d at x f g =
           let lc : IsLow walk.l (Middle TupKind ps) = subst (IsLow walk.l) is hv.5 in
           let hc : Held walk.l objects (Middle TupKind ps) hv.1 = subst (λ y. Held walk.l objects y hv.1) is hv.4 in
@@ -313,26 +321,26 @@ module _ {V : Type 0} (walk : Walk V) (low : walk.l.tallest ≤ 65534) (A : Type
           (tail_calls walk objects fine (p.word ∷ q.0 ∷ []) (cast_proc walk.first) refl (walk.stands 2 _ refl) refl
           (by_cast walk low A IsHeld still is_solid d ld.normal (no_higher walk low A IsHeld still is_solid d ld) x B
           objects h fine waiting p.word q.0 p.carried q.2 (subst (Goes B objects waiting) (sym done) go))))))))))))))
-          (omega arith, omega arith)
+          (omega arith, omega arith, omega arith, omega arith)
 
       by_target : (ps : Coercions) → c ≡ Middle TupKind ps → (d : Coercion) → part_at ps k ≡ Some d
           → (o : Option (Merged A)) → slice_get (parts a) k ≡ o
           → with_some o (λ x. cast_value head walk.l.types d x) ≡ r
-          → Runs (tuple_cost walk.l.width n) (whole_above walk low A IsHeld still is_solid) B wv k 1 label waiting h
+          → TupleRuns B wv k label waiting h
       by_target ps is d at None f g = absurd (some (sym g))
       by_target ps is d at (Some x) f g = by_part ps is d at x f g
 
       by_place : (ps : Coercions) → c ≡ Middle TupKind ps → (o : Option Coercion) → part_at ps k ≡ o → on_part a k o ≡ r
-          → Runs (tuple_cost walk.l.width n) (whole_above walk low A IsHeld still is_solid) B wv k 1 label waiting h
+          → TupleRuns B wv k label waiting h
       by_place ps is None at g = absurd (some (sym g))
       by_place ps is (Some d) at g = by_target ps is d at (slice_get (parts a) k) refl g
 
       none : (o : Option Coercion) → tuple_coercion c (pos k) ≡ o → o ≡ None
-          → Runs (tuple_cost walk.l.width n) (whole_above walk low A IsHeld still is_solid) B wv k 1 label waiting h
+          → TupleRuns B wv k label waiting h
       none o f g = absurd (some (sym e ∙ ap (on_part a k) (f ∙ g)))
 
       by_coercion : (d : Coercion) → c ≡ d
-          → Runs (tuple_cost walk.l.width n) (whole_above walk low A IsHeld still is_solid) B wv k 1 label waiting h
+          → TupleRuns B wv k label waiting h
       by_coercion Id is = none _ (ap (λ x. tuple_coercion x (pos k)) is) refl
       by_coercion (Fail lb) is = none _ (ap (λ x. tuple_coercion x (pos k)) is) refl
       by_coercion (Inject g kept) is = none _ (ap (λ x. tuple_coercion x (pos k)) is) refl
@@ -357,12 +365,12 @@ module _ {V : Type 0} (walk : Walk V) (low : walk.l.tallest ≤ 65534) (A : Type
   blamed : {B : Budget} → (objects : List Object) (h : Heap) (fine : Fine walk.setting walk.l walk.around objects h)
       (waiting : List Waiting) (rests : List Code) (wv k label wt wx kept : ℕ)
       → Goes B objects waiting (Blames label)
-      → ReachedIn walk (More 0 0 B) (state 12 (dyn_read wv k label wt wx kept) project_blame rests waiting h)
+      → ReachedIn walk (More 0 0 0 0 B) (state 12 (dyn_read wv k label wt wx kept) project_blame rests waiting h)
   blamed objects h fine waiting rests wv k label wt wx kept go =
       at_most walk
       (go objects h 12 _ rests waiting (Word 3) (Number 0) 4 5 (Return (Number 0)) (grows_not objects) fine refl refl
       (omega arith) (omega arith))
-      (omega arith, omega arith)
+      (omega arith, omega arith, omega arith, omega arith)
 
   -- the part in a Dyn that keeps its type, unless that is Dyn
   in_dyn : (B : Budget) (objects : List Object) (h : Heap) (fine : Fine walk.setting walk.l walk.around objects h)
@@ -372,7 +380,7 @@ module _ {V : Type 0} (walk : Walk V) (low : walk.l.tallest ≤ 65534) (A : Type
       → nat_lt 5 count ≡ true
       → (r : Outcome A) → cast_value head walk.l.types (make part label dyn) y ≡ r → (r ≡ Stuck → ⊥)
       → Goes B objects waiting r
-      → ReachedIn walk (More 12 0 B) (state count locals (after_part) rests waiting h)
+      → ReachedIn walk (More 12 0 3 (102 + leaving count) B) (state count locals (after_part) rests waiting h)
   in_dyn B objects h fine waiting count locals rests part dyn label y w known lower isdyn hy l8 l9 lt7 lt6 lt5 r e some
       go =
       by (is_dyn (R part)) refl
@@ -395,7 +403,8 @@ module _ {V : Type 0} (walk : Walk V) (low : walk.l.tallest ≤ 65534) (A : Type
           label)
           f isdyn
 
-      by : (b : Bool) → is_dyn (R part) ≡ b → ReachedIn walk (More 12 0 B) (state count locals after_part rests waiting
+      by : (b : Bool) → is_dyn (R part) ≡ b → ReachedIn walk (More 12 0 3 (102 + leaving count) B)
+          (state count locals after_part rests waiting
           h)
       by true f =
           let g : Gives y ≡ r = ap (λ c. cast_value head walk.l.types c y) (sym (coercion_is true f)) ∙ e in
@@ -403,7 +412,7 @@ module _ {V : Type 0} (walk : Walk V) (low : walk.l.tallest ≤ 65534) (A : Type
           (kind_there walk objects h fine waiting count locals rests unless_dyn part at held lt6 l8
           (λ read. if_true walk objects fine (type_kind (R part)) 19 refl refl (kind_of_dyn (R part) ∙ f)
           (subst (Goes B objects waiting) (sym g) go objects h w count _ _ (Word 9) (grows_not objects) fine hy l9)))
-          (omega arith, omega arith)
+          (omega arith, omega arith, omega arith, omega arith)
       by false f =
           let g : Gives (InDyn part y) ≡ r =
           by_inject walk.l walk.types head 2 part y r some
@@ -413,17 +422,20 @@ module _ {V : Type 0} (walk : Walk V) (low : walk.l.tallest ≤ 65534) (A : Type
           (λ read. if_false walk objects fine (type_kind (R part)) 19 refl refl (kind_of_dyn (R part) ∙ f)
           (put_into_dyn walk objects h fine waiting count part at w held lower
           (carried_small walk low A IsHeld still is_solid objects h fine y w hy) lt7 lt6 lt5
-          (λ new h' w' locals' rests' grows fine' d l7. subst (Goes B objects waiting) (sym g) go new h' w' count locals'
+          (λ new h' w' locals' rests' grows fine' d l7. subst (Goes B objects waiting) (sym g) go new h' w' count
+          locals'
           rests' (Word 7) grows fine'
           (w, d, lower, f, carried_still walk low A IsHeld still is_solid objects new grows y w hy) l7)
           _ _ refl l8 l9)))
-          (omega arith, omega arith)
+          (omega arith, omega arith, omega arith, omega arith)
 
   pub dyn_part_done : (B : Budget) (objects : List Object) (h : Heap)
       (fine : Fine walk.setting walk.l walk.around objects h) → HaveParts walk.l IsHeld objects parts
       → (waiting : List Waiting) (u : Merged A) (wv k label : ℕ) → Carried objects u wv → (r : Outcome A)
       → dyn_part_value head parts walk.l.types k label u ≡ r → (r ≡ Stuck → ⊥) → Goes B objects waiting r
-      → Runs (project_cost walk.l.width n) (suc (whole_above walk low A IsHeld still is_solid)) B wv k 0 label waiting h
+      → Runs (project_cost walk.l.width n) (suc (whole_above walk low A IsHeld still is_solid))
+      (project_words walk.l.width n)
+      (project_price walk.l.width n) B wv k 0 label waiting h
   dyn_part_done B objects h fine tuples waiting (Base hd x) wv k label hv r e some go = absurd (some (sym e))
   dyn_part_done B objects h fine tuples waiting (Solid a) wv k label hv r e some go = absurd (some (sym e))
   dyn_part_done B objects h fine tuples waiting (Proxied a c) wv k label hv r e some go = absurd (some (sym e))
@@ -431,7 +443,7 @@ module _ {V : Type 0} (walk : Walk V) (low : walk.l.tallest ≤ 65534) (A : Type
       at_most walk
       (if_true walk objects fine 0 0 refl refl refl
       (by_size (small_dyn (R kept) hv.0) refl hv.1 _))
-      (omega arith, omega arith)
+      (omega arith, omega arith, omega arith, omega arith)
     where
       type_head : ℕ
       type_head = header (type_kind (R kept)) (height_in walk.l kept) (length (parts_of (R kept)))
@@ -469,19 +481,20 @@ module _ {V : Type 0} (walk : Walk V) (low : walk.l.tallest ≤ 65534) (A : Type
 
       -- the label is blamed where what is there stands behind a tag
       from_tag : (tag : ℕ) → tag_of (R kept) ≡ Some tag → (locals : Locals) → locals 3 ≡ Some label
-          → (rests : List Code) → ReachedIn walk (More 0 0 B) (state 12 locals project_blame rests waiting h)
+          → (rests : List Code) → ReachedIn walk (More 0 0 0 0 B) (state 12 locals project_blame rests waiting h)
       from_tag tag has locals l3 rests =
           at_most walk
           (no_part (no_tuple (R kept) (pos k) tag has) objects h 12 _ rests waiting (Word 3) (Number 0) 4 5
           (Return (Number 0)) (grows_not objects) fine l3 refl (omega arith) (omega arith))
-          (omega arith, omega arith)
+          (omega arith, omega arith, omega arith, omega arith)
 
       InObject : Type 0
       InObject =
           (wt : ℕ) × There walk.l objects wv (Fixed (header 3 0 2) (wt ∷ hv.0 ∷ [])) × HoldsType walk.l objects wt kept
 
       from_object : (d : InObject) → (rests : List Code)
-          → ReachedIn walk (More (tuple_cost walk.l.width n + 30) (suc (whole_above walk low A IsHeld still is_solid)) B)
+          → ReachedIn walk (More (tuple_cost walk.l.width n + 30) (suc (whole_above walk low A IsHeld still is_solid))
+          (project_words walk.l.width n) (tuple_price walk.l.width n + 207) B)
           (state 12 (set_local 4 0 (asked wv k 0 label)) (project_dyn_object walk.first) rests waiting h)
       from_object d rests =
           at_most walk
@@ -495,17 +508,19 @@ module _ {V : Type 0} (walk : Walk V) (low : walk.l.tallest ≤ 65534) (A : Type
           (count_read (type_kind (R kept)) (height_in walk.l kept) (length (parts_of (R kept))) (omega (arith, tk))
           (omega (arith, tall))) refl
           (by_sight (sight (R kept) k) _))))))
-          (omega arith, omega arith)
+          (omega arith, omega arith, omega arith, omega arith)
         where
           L : Locals
           L = dyn_read wv k label d.0 hv.0 kept
 
           with_dyn : (ps : List ℕ) → R kept ≡ TupleRow ps → (part : ℕ) → slice_get ps k ≡ Some part → (dyn : ℕ)
               → dyn_place walk.l.types ≡ Some dyn
-              → then_outcome (part_value head parts walk.l.types k x) (cast_value head walk.l.types (make part label dyn)) ≡
+              → then_outcome (part_value head parts walk.l.types k x) (cast_value head walk.l.types (make part label
+              dyn)) ≡
               r
               → (rests : List Code) → ReachedIn walk (More (tuple_cost walk.l.width n + 18)
-              (suc (whole_above walk low A IsHeld still is_solid)) B) (state 12 L (project_dyn_part walk.first) rests
+              (suc (whole_above walk low A IsHeld still is_solid)) (project_words walk.l.width n)
+              (tuple_price walk.l.width n + 161) B) (state 12 L (project_dyn_part walk.first) rests
               waiting h)
           with_dyn ps row part got dyn place f rests =
               let known =
@@ -525,62 +540,69 @@ module _ {V : Type 0} (walk : Walk V) (low : walk.l.tallest ≤ 65534) (A : Type
               (loads_at walk objects fine (8 * k + d.0) (walk.l.type_at part) refl w refl
               (calls walk objects fine (hv.0 ∷ k ∷ 1 ∷ label ∷ []) (project_proc walk.first) refl (walk.stands 3 _ refl)
               refl
-              (tuple_part_done _ objects h fine tuples _ x hv.0 k label hv.4 (part_value head parts walk.l.types k x) refl
+              (tuple_part_done _ objects h fine tuples _ x hv.0 k label hv.4 (part_value head parts walk.l.types k x)
+              refl
               (λ q. some (sym f ∙ ap (λ o. then_outcome o (cast_value head walk.l.types (make part label dyn))) q))
-              (after walk low A IsHeld still is_solid B _ objects waiting _ 9 refl (part_value head parts walk.l.types k x)
+              (after walk low A IsHeld still is_solid B _ objects waiting _ 9 refl (part_value head parts walk.l.types k
+              x)
               (cast_value head walk.l.types (make part label dyn)) (subst (Goes B objects waiting) (sym f) go)
               (λ y go' new h' w2 grows fine' held. in_dyn B new h' fine' waiting 12 _ rests part dyn label y w2 known
               (omega (arith, tall_part, below.1)) (dyn_there walk.l.types dyn place) held refl refl refl refl refl
               (cast_value head walk.l.types (make part label dyn) y) refl (λ q. subst (Goes B objects waiting) q go')
               (rebased walk low A IsHeld still is_solid B objects new waiting grows
               (cast_value head walk.l.types (make part label dyn) y) go'))))))))
-              (omega arith, omega arith)
+              (omega arith, omega arith, omega arith, omega arith)
 
           by_dyn : (ps : List ℕ) → R kept ≡ TupleRow ps → (part : ℕ) → slice_get ps k ≡ Some part → (o : Option ℕ)
               → dyn_place walk.l.types ≡ o
               → dyn_part_by head parts walk.l.types (cast_to_dyn make o part label) k label x ≡ r → (rests : List Code)
-              → ReachedIn walk (More (tuple_cost walk.l.width n + 18) (suc (whole_above walk low A IsHeld still is_solid))
-              B)
+              → ReachedIn walk (More (tuple_cost walk.l.width n + 18) (suc (whole_above walk low A IsHeld still
+              is_solid))
+              (project_words walk.l.width n) (tuple_price walk.l.width n + 161) B)
               (state 12 L (project_dyn_part walk.first) rests waiting h)
           by_dyn ps row part got None place f rests = absurd (some (sym f))
           by_dyn ps row part got (Some dyn) place f rests = with_dyn ps row part got dyn place f rests
 
           by_sight : Sight (R kept) k → (rests : List Code)
-              → ReachedIn walk (More (tuple_cost walk.l.width n + 22) (suc (whole_above walk low A IsHeld still is_solid))
-              B)
+              → ReachedIn walk (More (tuple_cost walk.l.width n + 22) (suc (whole_above walk low A IsHeld still
+              is_solid))
+              (project_words walk.l.width n) (tuple_price walk.l.width n + 188) B)
               (state 12 L (either Eq (Word 7) (Number 21) (either Ltu (Word 1) (Word 6) (project_dyn_part walk.first)
               project_blame) project_blame) rests waiting h)
           by_sight (NotTuple other none) rests =
               at_most walk
               (if_false walk objects fine (type_kind (R kept)) 21 refl refl other
               (blamed {B = B} objects h fine waiting _ wv k label d.0 hv.0 kept (no_part none)))
-              (omega arith, omega arith)
+              (omega arith, omega arith, omega arith, omega arith)
           by_sight (Short ps row le) rests =
               let long : length (parts_of (R kept)) ≡ length ps = ap (λ y. length (parts_of y)) row in
               at_most walk
-              (if_true walk objects fine (type_kind (R kept)) 21 refl refl (eq_true (type_kind (R kept)) 21 (ap type_kind
+              (if_true walk objects fine (type_kind (R kept)) 21 refl refl (eq_true (type_kind (R kept)) 21 (ap
+              type_kind
               row))
               (if_false walk objects fine k (length (parts_of (R kept))) refl refl
               (lt_false k (length (parts_of (R kept))) (omega (arith, long, le)))
               (blamed {B = B} objects h fine waiting _ wv k label d.0 hv.0 kept
               (no_part (ap (λ y. tuple_part y (pos k)) row ∙ beyond ps k le)))))
-              (omega arith, omega arith)
+              (omega arith, omega arith, omega arith, omega arith)
           by_sight (HasPart ps part row got) rests =
               let long : length (parts_of (R kept)) ≡ length ps = ap (λ y. length (parts_of y)) row in
               let less = inside ps k part got in
               at_most walk
-              (if_true walk objects fine (type_kind (R kept)) 21 refl refl (eq_true (type_kind (R kept)) 21 (ap type_kind
+              (if_true walk objects fine (type_kind (R kept)) 21 refl refl (eq_true (type_kind (R kept)) 21 (ap
+              type_kind
               row))
               (if_true walk objects fine k (length (parts_of (R kept))) refl refl
               (lt_true k (length (parts_of (R kept))) (omega (arith, long, less)))
               (by_dyn ps row part got (dyn_place walk.l.types) refl
               (ap (λ o. dyn_part_by head parts walk.l.types (part_to_dyn make walk.l.types o label) k label x)
               (sym (ap (λ y. tuple_part y (pos k)) row ∙ got)) ∙ by_row) _)))
-              (omega arith, omega arith)
+              (omega arith, omega arith, omega arith, omega arith)
 
       by_size : (o : Option ℕ) → small_dyn (R kept) hv.0 ≡ o → IsDynBy walk.l objects o kept hv.0 wv
           → (rests : List Code)
-          → ReachedIn walk (More (tuple_cost walk.l.width n + 34) (suc (whole_above walk low A IsHeld still is_solid)) B)
+          → ReachedIn walk (More (tuple_cost walk.l.width n + 34) (suc (whole_above walk low A IsHeld still is_solid))
+          (project_words walk.l.width n) (tuple_price walk.l.width n + 226) B)
           (state 12 (asked wv k 0 label) (project_dyn walk.first) rests waiting h)
       by_size (Some small) e d rests =
           let s = small_is (R kept) hv.0 small e in
@@ -590,10 +612,10 @@ module _ {V : Type 0} (walk : Walk V) (low : walk.l.tallest ≤ 65534) (A : Type
           (computes walk objects fine wv 7 s.tag refl refl tag_is refl
           (if_false walk objects fine s.tag 0 refl refl (eq_false s.tag 0 (λ z. let p = s.some in omega (arith, z, p)))
           (from_tag s.tag s.has _ refl _)))
-          (omega arith, omega arith)
+          (omega arith, omega arith, omega arith, omega arith)
       by_size None e d rests =
           at_most walk
           (computes walk objects fine wv 7 0 refl refl (no_tag wv (untagged_there walk objects h fine wv _ d.1)) refl
           (if_true walk objects fine 0 0 refl refl refl
           (from_object d _)))
-          (omega arith, omega arith)
+          (omega arith, omega arith, omega arith, omega arith)

@@ -13,7 +13,7 @@ pub use Rattle.rt_cast.proofs.Walks.{Walk}
 pub use Rattle.rt_cast.proofs.Small.{ReachedIn, grows_not, grows_on, not_zero}
 pub use Rattle.rt_cast.proofs.Reaching.{at_first, walk}
 -- steps, one lemma an instruction, with what is left of their number:
-pub use Rattle.rt_cast.proofs.Steps.{Budget, One, Out, Spare, End, More, Comes, goes, one_less, at_most}
+pub use Rattle.rt_cast.proofs.Steps.{Budget, One, Out, Pay, Spare, End, More, Comes, goes, one_less, paid_for, at_most}
 pub use Rattle.rt_cast.proofs.Steps.{sets_word, computes, loads, loads_at, if_true, if_false, calls, comes_back}
 pub use Rattle.rt_cast.proofs.Steps.{tail_calls}
 -- words of objects, and numbers that are told apart:
@@ -23,7 +23,8 @@ pub use Rattle.rt_cast.proofs.HeaderNumbers.{lt_true, lt_false, eq_true, eq_fals
 -- the call of cast, whose decisions the merged mode makes, and what is held and carried still behind it:
 pub use Rattle.rt_cast.proofs.Middles.{held_still}
 pub use Rattle.rt_cast.proofs.CastCases.{apply}
-pub use Rattle.rt_cast.proofs.CastRuns.{GoesOn, no_higher, whole_above, carried_still, by_cast}
+pub use Rattle.rt_cast.proofs.CastRuns.{GoesOn, no_higher, whole_above, carried_still, by_cast, by_either}
+pub use Rattle.rt_cast.proofs.CastRuns.{words_within, price_within}
 pub use Rattle.rt_cast.proofs.CastDecisions.{low_of, by_cast as decided_cast}
 pub use Rattle.rt_cast.proofs.CastReaching.{ends, very_still}
 -- words in Dyn, behind a tag or not:

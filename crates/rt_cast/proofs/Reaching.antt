@@ -8,7 +8,7 @@ use Rattle.coercion_norm.specs.Coercions.{Coercion}
 use Rattle.coercion_norm.specs.CoercionTables.{IsSound, cast_of, composition_of}
 use Rattle.coercion_norm.specs.Heights.{coercion_height}
 use Rattle.coercion_norm.proofs.Public.{bound_from_height}
-use Rattle.rt_cast.specs.Costs.{coerce_cost, compose_cost}
+use Rattle.rt_cast.specs.Costs.{coerce_cost, compose_cost, coerce_words, compose_words, coerce_price, compose_price}
 use Rattle.coercion_norm.specs.Objects.{Object}
 use Rattle.coercion_norm.specs.Held.{Layout, Held, HoldsType, rows_in, height_in}
 use Rattle.rt_cast.specs.Procs.{coerce_proc, compose_proc}
@@ -55,11 +55,13 @@ module _ {V : Type 0} (reading : Halt → Ending V) (setting : Setting) (l : Lay
       → ComesToHeld reading setting l s objects (compose_proc first) (wc ∷ wd ∷ []) (composition_of l.types c d)
       (compose_cost l.width (max (coercion_height (height_in l) c) (coercion_height (height_in l) d)))
       (4 * max (coercion_height (height_in l) c) (coercion_height (height_in l) d) + 4)
+      (compose_words l.width (max (coercion_height (height_in l) c) (coercion_height (height_in l) d)))
+      (compose_price l.width (max (coercion_height (height_in l) c) (coercion_height (height_in l) d)))
   compositions_are_held objects filled c d wc wd sc sd hc hd =
       let n = max (coercion_height (height_in l) c) (coercion_height (height_in l) d) in
       let most = compose_cost l.width n in
       let Q = HeldAt setting l (around s) objects s.waiting (composition_of l.types c d) in
-      let w = walk Q (4 * n + 4) (9 * most) in
+      let w = walk Q (4 * n + 4) (compose_words l.width n) in
       let le : n ≤ 65534 = omega (arith, sc.low, sd.low) in
       let z =
       all_composed w (λ m low. all_cast w m low) n le c d sc.normal sd.normal
@@ -69,6 +71,7 @@ module _ {V : Type 0} (reading : Halt → Ending V) (setting : Setting) (l : Lay
       (λ new h w count locals rests a grows fine held is. record {
         steps = 0;
         few = le_refl 0;
+        cheap = omega arith;
         reach = λ spare.
             record {
               new = new;
@@ -83,8 +86,12 @@ module _ {V : Type 0} (reading : Halt → Ending V) (setting : Setting) (l : Lay
               same = refl;
             };
       })
-      in
-      (z.steps, (let f = z.few in omega arith), z.reach (record { room = omega arith; left = omega arith }))
+      in (
+        z.steps,
+        (let f = z.few in omega arith),
+        z.reach (record { room = omega arith; left = omega arith }),
+        let c = z.cheap in omega (arith, c),
+      )
 
   pub coercions_of_casts_are_held : (objects : List Object) → Filled setting l objects (heap_of s)
       → (from to label wf wt : ℕ)
@@ -92,11 +99,13 @@ module _ {V : Type 0} (reading : Halt → Ending V) (setting : Setting) (l : Lay
       → ComesToHeld reading setting l s objects (coerce_proc first) (wf ∷ wt ∷ label ∷ [])
       (cast_of l.types from to label) (coerce_cost l.width (max (height_in l from) (height_in l to)))
       (max (height_in l from) (height_in l to) + 1)
+      (coerce_words l.width (max (height_in l from) (height_in l to)))
+      (coerce_price l.width (max (height_in l from) (height_in l to)))
   coercions_of_casts_are_held objects filled from to label wf wt hf ht small =
       let n = max (height_in l from) (height_in l to) in
       let most = coerce_cost l.width n in
       let Q = HeldAt setting l (around s) objects s.waiting (cast_of l.types from to label) in
-      let w = walk Q (n + 1) (9 * most) in
+      let w = walk Q (n + 1) (coerce_words l.width n) in
       let le : n ≤ 65534 = omega (arith, ready.types.low from, ready.types.low to) in
       let z =
       all_cast w n le from to label ((ready.types.heights from n).1 (omega arith))
@@ -105,6 +114,7 @@ module _ {V : Type 0} (reading : Halt → Ending V) (setting : Setting) (l : Lay
       (λ new h w count locals rests a grows fine held is. record {
         steps = 0;
         few = le_refl 0;
+        cheap = omega arith;
         reach = λ spare.
             record {
               new = new;
@@ -119,5 +129,9 @@ module _ {V : Type 0} (reading : Halt → Ending V) (setting : Setting) (l : Lay
               same = refl;
             };
       })
-      in
-      (z.steps, (let f = z.few in omega arith), z.reach (record { room = omega arith; left = omega arith }))
+      in (
+        z.steps,
+        (let f = z.few in omega arith),
+        z.reach (record { room = omega arith; left = omega arith }),
+        let c = z.cheap in omega (arith, c),
+      )

@@ -12,21 +12,24 @@ use Rattle.low_ir.specs.declared.code.LowSource.TheVariants.{Word, Number}
 use Rattle.low_ir.specs.Procedures.{Code, Load, Call, Return}
 use Rattle.low_ir.specs.Steps.{no_locals, store_words}
 use Rattle.low_ir.specs.Run.{Setting, LowState, low_machine}
+use Rattle.rt_cast.specs.Costs.{coerce_words}
 use Rattle.rt_cast.specs.Procs.{cast_procs}
 
 stops : Halt → Ending Halt
 stops h = Verdict h
 
--- Int, Bool, Dyn, (Ref Int), (Ref Dyn)
+-- Int, Bool, Dyn, (Ref Int), (Ref Dyn), (Tuple Dyn Dyn), (Tuple Int Int)
 statics : List ℕ
-statics = 16 ∷ 17 ∷ 19 ∷ 4295032854 ∷ 65536 ∷ 4295032854 ∷ 65552 ∷ []
+statics =
+    16 ∷ 17 ∷ 19 ∷ 4295032854 ∷ 65536 ∷ 4295032854 ∷ 65552 ∷ 8590000149 ∷ 65552 ∷ 65552 ∷ 8590000149 ∷ 65536 ∷ 65536
+    ∷ []
 
 memory : Memory
 unfolding statics
 memory = store_words statics 65536 (λ i. 0)
 
 setting : Setting
-setting = record { procs = cast_procs 0; address = λ k. 0; labels = []; region = 65600; top = 70000 }
+setting = record { procs = cast_procs 0; address = λ k. 0; labels = []; region = 65656; top = 70000 }
 
 start : WorldState → Code → LowState
 unfolding memory
@@ -34,7 +37,7 @@ start world code = record {
   active = record { count = 10; locals = no_locals; code = code; rests = [] };
   waiting = [];
   memory = memory;
-  alloc = 65600;
+  alloc = 65656;
   world = world;
   words = 0;
 }
@@ -77,3 +80,10 @@ cast_back : (world : WorldState) → Answers world (
     Call 2 2 (Word 2 ∷ Word 1 ∷ []) (Return (Word 2)))))) 800 65560
 unfolding stops setting start load_bytes store_bytes statics
 cast_back world = refl
+
+-- the coercion of a pair of Dyn to a pair of integers takes just the words that its bound has
+pair_taken : (world : WorldState)
+    → (run (low_machine stops setting) (start world (Call 0 0 (Number 65592 ∷ Number 65616 ∷ Number 1 ∷ []) (Return
+    (Word 0)))) 300).shown.words ≡ coerce_words 2 1
+unfolding stops setting start load_bytes store_bytes statics
+pair_taken world = refl

@@ -22,7 +22,7 @@ use Rattle.coercion_norm.specs.Heights.{coercion_height}
 use Rattle.rt_cast.specs.PartCodes.{raise_code, final_code}
 use Rattle.coercion_norm.proofs.Public.{object_kept}
 use Rattle.rt_cast.proofs.HeaderNumbers.{eq_true, eq_false, lt_true, lt_false, lt_cases, kind_read, height_read}
-use Rattle.rt_cast.proofs.Steps.{Budget, More, at_most, word_there, Comes, loads}
+use Rattle.rt_cast.proofs.Steps.{Budget, Pay, More, return_price, at_most, word_there, Comes, loads}
 use Rattle.rt_cast.proofs.Steps.{computes, if_true, if_false}
 use Rattle.rt_cast.proofs.Walks.{Walk}
 
@@ -90,17 +90,17 @@ module _ {V : Type 0} (walk : Walk V) where
   -- a procedure that adds nothing answers this word
   abbrev pub Gives : Budget → Heap → List Waiting → ℕ → Type 0
   Gives B h waiting w = (count : ℕ) (locals : Locals) (rests : List Code) (a : LowSource) → word_of locals a ≡ Some w
-      → ReachedIn B (state_in count locals (Return a) rests waiting h)
+      → ReachedIn (Pay (return_price count a) B) (state_in count locals (Return a) rests waiting h)
 
   pub raised : {B : Budget} → (objects : List Object) (h : Heap) (fine : Fine walk.setting walk.l walk.around objects h)
       (waiting : List Waiting) (x w y : ℕ) → HasHeight walk.l objects w y → Gives B h waiting (max x y) → ReachedIn
-      (More 6 0 B)
+      (More 6 0 0 56 B)
       (state_in 3 (bind 0 (x ∷ w ∷ []) no_locals) raise_code [] waiting h)
   raised objects h fine waiting x w y (inl e) go =
       at_most walk
       (if_true walk objects fine w 0 refl refl (eq_true w 0 e.0)
       (go 3 _ _ (Word 0) (ap Some (omega (arith, e.1)))))
-      (omega arith, omega arith)
+      (omega arith, omega arith, omega arith, omega arith)
   raised objects h fine waiting x w y (inr t) go =
       let n = not_zero objects h fine w (header t.kind y t.count) t.words t.there in
       let head = header t.kind y t.count in
@@ -116,11 +116,11 @@ module _ {V : Type 0} (walk : Walk V) where
         | inr le ↦ if_false walk objects fine x y refl refl (lt_false x y le) (go 3 _ _ (Word 0)
             (ap Some (omega (arith, le))))
       ])))))
-      (omega arith, omega arith)
+      (omega arith, omega arith, omega arith, omega arith)
 
   keeps : {B : Budget} → (objects : List Object) (h : Heap) (fine : Fine walk.setting walk.l walk.around objects h)
       (waiting : List Waiting) (w k y n : ℕ) (ws : List ℕ) → There walk.l objects w (Fixed (header k y n) ws) → k < 256
-      → (k == 14) ≡ false → Gives B h waiting w → ReachedIn (More 5 0 B) (state_in 2 (bind 0 (w ∷ []) no_locals)
+      → (k == 14) ≡ false → Gives B h waiting w → ReachedIn (More 5 0 0 43 B) (state_in 2 (bind 0 (w ∷ []) no_locals)
       final_code [] waiting
       h)
   keeps objects h fine waiting w k y n ws there lt other go =
@@ -130,14 +130,14 @@ module _ {V : Type 0} (walk : Walk V) where
       (loads walk objects fine w (header k y n) ws 0 (header k y n) refl there refl refl refl
       (computes walk objects fine (header k y n) 255 k refl refl (kind_read k y n lt) refl
       (if_false walk objects fine k 14 refl refl other (go 2 _ _ (Word 0) refl)))))
-      (omega arith, omega arith)
+      (omega arith, omega arith, omega arith, omega arith)
 
   -- what follows 0 or an object that is no Project
   pub finals : {B : Budget} → (objects : List Object) (h : Heap) (fine : Fine walk.setting walk.l walk.around objects h)
       (waiting : List Waiting) (c : Coercion) (w : ℕ) → Held walk.l objects c w → Gives B h waiting (final_word c w)
-      → ReachedIn (More 5 0 B) (state_in 2 (bind 0 (w ∷ []) no_locals) final_code [] waiting h)
+      → ReachedIn (More 5 0 0 43 B) (state_in 2 (bind 0 (w ∷ []) no_locals) final_code [] waiting h)
   finals objects h fine waiting Id w held go = at_most walk (if_true walk objects fine w 0 refl refl (eq_true w 0 held)
-      (go 2 _ _ (Word 0) refl)) (omega arith, omega arith)
+      (go 2 _ _ (Word 0) refl)) (omega arith, omega arith, omega arith, omega arith)
   finals objects h fine waiting (Fail label) w held go = keeps objects h fine waiting w 8 0 1 (label ∷ []) held
       (omega arith) refl go
   finals objects h fine waiting (Middle kind parts) w held go = keeps objects h fine waiting w (kind_number kind)
@@ -155,4 +155,4 @@ module _ {V : Type 0} (walk : Walk V) where
       (computes walk objects fine head 255 14 refl refl (kind_read 14 (coercion_height (height_in walk.l)
       (Project wanted label i)) 3 (omega arith)) refl
       (if_true walk objects fine 14 14 refl refl refl (go 2 _ _ (Number 0) refl)))))
-      (omega arith, omega arith)
+      (omega arith, omega arith, omega arith, omega arith)

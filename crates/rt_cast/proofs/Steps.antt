@@ -18,6 +18,9 @@ use Rattle.low_ir.specs.declared.code.LowSource.{LowSource}
 use Rattle.low_ir.specs.Procedures.{Code, Set, Compute, Load, Build, Call, If, Return, TailCall, Proc}
 use Rattle.low_ir.specs.Run.{Active, Waiting, LowState, LowShown, word_of, words_of, bind}
 use Rattle.low_ir.specs.Run.{low_machine, load, sets, and_more, code_turns}
+use Rattle.low_ir.specs.Prices.{source_price, sources_price, slot_price, entering, entering_some, leaving, step_price}
+use Rattle.low_ir.specs.Prices.{low_price, CostsAtMost}
+use Rattle.low_ir.proofs.Public.{costs_on, costs_last}
 use Rattle.coercion_norm.specs.Objects.{Object, Fixed, Cell, header_of, bytes_of}
 use Rattle.rt_cast.specs.Objects.{HasWord}
 use Rattle.rt_cast.specs.Objects.{HoldsWords, HoldsObject, Holds}
@@ -80,14 +83,16 @@ takes_few : (locals : Locals) (args : List LowSource) (ws : List ℕ) (p : Proc)
     → ((length ws == p.params) && (nat_le p.params 8 && nat_le p.params p.words)) ≡ true → 1 + length args ≤ 10
 takes_few locals args ws p e g = let z = as_long locals args ws e in grind (arith, z, g)
 
--- steps in the order in which they are made: single ones, calls, returns, and so many at once with so many procedures
--- active above
+-- steps in the order in which they are made: single ones, calls, returns, what they cost and the words that they ask
+-- for, and so many at once, with so many procedures active above, so many words and this price
 pub data Budget : Type 0 where
   End : Budget
   One : Budget → Budget
   In : Budget → Budget
   Out : Budget → Budget
-  More : ℕ → ℕ → Budget → Budget
+  Pay : ℕ → Budget → Budget
+  Ask : ℕ → Budget → Budget
+  More : ℕ → ℕ → ℕ → ℕ → Budget → Budget
 
 -- how many steps
 abbrev pub total : Budget → ℕ
@@ -95,7 +100,9 @@ total End = 0
 total (One b) = suc (total b)
 total (In b) = suc (total b)
 total (Out b) = suc (total b)
-total (More n d b) = n + total b
+total (Pay p b) = total b
+total (Ask w b) = total b
+total (More n d w p b) = n + total b
 
 -- how many procedures are active above, at most
 abbrev pub deep : Budget → ℕ
@@ -103,11 +110,44 @@ deep End = 0
 deep (One b) = deep b
 deep (In b) = suc (deep b)
 deep (Out b) = deep b - 1
-deep (More n d b) = max d (deep b)
+deep (Pay p b) = deep b
+deep (Ask w b) = deep b
+deep (More n d w p b) = max d (deep b)
 
--- no more steps and no more procedures
+-- how many words are asked for
+abbrev pub asked : Budget → ℕ
+asked End = 0
+asked (One b) = asked b
+asked (In b) = asked b
+asked (Out b) = asked b
+asked (Pay p b) = asked b
+asked (Ask w b) = w + asked b
+asked (More n d w p b) = w + asked b
+
+-- what all of it costs
+abbrev pub priced : Budget → ℕ
+priced End = 0
+priced (One b) = priced b
+priced (In b) = priced b
+priced (Out b) = priced b
+priced (Pay p b) = p + priced b
+priced (Ask w b) = priced b
+priced (More n d w p b) = p + priced b
+
+-- no more steps, procedures and words, and no higher price
 abbrev pub Below : Budget → Budget → Type 0
-Below A B = (total A ≤ total B) × (deep A ≤ deep B)
+Below A B = (total A ≤ total B) × (deep A ≤ deep B) × (asked A ≤ asked B) × (priced A ≤ priced B)
+
+-- the price of a call of a procedure, of going on with it in place of one that has so many words, and of a return from
+-- such a one
+abbrev pub call_price : ℕ → List LowSource → Proc → ℕ
+call_price d args p = sources_price args + 11 + slot_price d + entering p.words
+
+abbrev pub leave_price : ℕ → List LowSource → Proc → ℕ
+leave_price words args p = sources_price args + 10 + leaving words + entering p.words
+
+abbrev pub return_price : ℕ → LowSource → ℕ
+return_price words a = source_price a + 2 + leaving words
 
 module _ {V : Type 0} (walk : Walk V) where
   abbrev pub N : Machine LowState LowShown V
@@ -206,21 +246,23 @@ module _ {V : Type 0} (walk : Walk V) where
   -- a budget is left where so many procedures wait and so many words were asked for
   pub record Spare (B : Budget) (frames words : ℕ) : Type 0 where
     pub room : frames + deep B ≤ walk.frames
-    pub left : words + 9 * total B ≤ walk.most
+    pub left : words + asked B ≤ walk.most
 
   -- the machine comes to where Q holds, or is exhausted
   pub record Comes (B : Budget) (t : LowState) : Type 0 where
     pub steps : ℕ
     pub few : steps ≤ total B
+    pub cheap : CostsAtMost walk.reading walk.setting steps t (priced B)
     pub reach : Spare B (length t.waiting) t.words → Reaches N walk.P walk.Q steps t
 
   pub goes : {B C : Budget} (t t' : LowState) → N.step t ≡ Go t'
       → (Spare C (length t.waiting) t.words → walk.P t)
       → (Spare C (length t.waiting) t.words → Spare B (length t'.waiting) t'.words)
-      → total C ≡ suc (total B) → Comes B t' → Comes C t
-  goes t t' e p spare long c = record {
+      → total C ≡ suc (total B) → low_price walk.setting.procs t + priced B ≤ priced C → Comes B t' → Comes C t
+  goes {B = B} {C = C} t t' e p spare long dear c = record {
     steps = suc c.steps;
     few = let z = c.few in omega (arith, long);
+    cheap = costs_on walk.reading walk.setting c.steps (priced B) (priced C) t t' e c.cheap dear;
     reach = λ s. by_step N walk.P walk.Q c.steps t (Go t') e (p s) (c.reach (spare s));
   }
 
@@ -229,9 +271,10 @@ module _ {V : Type 0} (walk : Walk V) where
   at_most c le = record {
     steps = c.steps;
     few = let z = c.few in omega (arith, le.0);
+    cheap = let z = c.cheap in omega (arith, z, le.3);
     reach = λ s. c.reach (record {
       room = let r = s.room in omega (arith, le.1);
-      left = let r = s.left in omega (arith, le.0);
+      left = let r = s.left in omega (arith, le.2);
     });
   }
 
@@ -244,41 +287,50 @@ module _ {V : Type 0} (walk : Walk V) where
 
   -- one step is gone
   pub one_less : {B : Budget} {frames words : ℕ} → Spare (One B) frames words → Spare B frames words
-  one_less s = record { room = s.room; left = let r = s.left in omega arith }
+  one_less s = record { room = s.room; left = s.left }
 
   one_in : {B : Budget} {frames words : ℕ} → Spare (In B) frames words → Spare B (suc frames) words
-  one_in s = record { room = let r = s.room in omega arith; left = let r = s.left in omega arith }
+  one_in s = record { room = let r = s.room in omega arith; left = s.left }
 
   one_out : {B : Budget} {frames words : ℕ} → Spare (Out B) (suc frames) words → Spare B frames words
-  one_out s = record { room = let r = s.room in omega arith; left = let r = s.left in omega arith }
+  one_out s = record { room = let r = s.room in omega arith; left = s.left }
+
+  -- what it costs is no step, and asks for nothing
+  pub paid_for : {p : ℕ} {B : Budget} {frames words : ℕ} → Spare (Pay p B) frames words → Spare B frames words
+  paid_for s = record { room = s.room; left = s.left }
 
   module _ {B : Budget} {count : ℕ} {locals : Locals} {rests : List Code} {waiting : List Waiting} {h : Heap}
       (objects : List Object) (fine : Fi objects h) where
     -- a step to the same procedure, with other words set and other code
     within : (code : Code) → code_turns code ≤ 10 → (locals' : Locals) (code' : Code) (rests' : List Code)
         → N.step (St count locals code rests waiting h) ≡ Go (St count locals' code' rests' waiting h)
-        → Comes B (St count locals' code' rests' waiting h) → Comes (One B) (St count locals code rests waiting h)
+        → Comes B (St count locals' code' rests' waiting h) → Comes (Pay (step_price walk.setting.procs count code)
+        (One B)) (St count locals code rests waiting h)
     within code few locals' code' rests' e c =
         goes (St count locals code rests waiting h) (St count locals' code' rests' waiting h) e
-        (λ s. here_at count locals rests waiting h objects fine code few s) (λ s. one_less s) refl c
+        (λ s. here_at count locals rests waiting h objects fine code few s) (λ s. one_less (paid_for s)) refl
+        (omega arith) c
 
     pub sets_word : {d : ℕ} {a : LowSource} {rest : Code} (w : ℕ) → word_of locals a ≡ Some w → nat_lt d count ≡ true
         → Comes B (St count (set_local d w locals) rest rests waiting h)
-        → Comes (One B) (St count locals (Set d a rest) rests waiting h)
+        → Comes (Pay (step_price walk.setting.procs count (Set d a rest)) (One B)) (St count locals
+        (Set d a rest) rests waiting h)
     sets_word {d = d} {a = a} {rest = rest} w e lt c =
         within (Set d a rest) (omega arith) (set_local d w locals) rest rests (rw (e, lt) refl) c
 
     pub computes : {op : WordOp} {d : ℕ} {a b : LowSource} {rest : Code} (x y w : ℕ) → word_of locals a ≡ Some x
         → word_of locals b ≡ Some y → compute op x y ≡ w → nat_lt d count ≡ true
         → Comes B (St count (set_local d w locals) rest rests waiting h)
-        → Comes (One B) (St count locals (Compute op d a b rest) rests waiting h)
+        → Comes (Pay (step_price walk.setting.procs count (Compute op d a b rest)) (One B)) (St count locals
+        (Compute op d a b rest) rests waiting h)
     computes {op = op} {d = d} {a = a} {b = b} {rest = rest} x y w e f g lt c =
         within (Compute op d a b rest) (omega arith) (set_local d w locals) rest rests (rw (e, f, g, lt) refl) c
 
     pub loads_at : {d offset : ℕ} {a : LowSource} {rest : Code} (at w : ℕ) → word_of locals a ≡ Some at
         → WordThere h (at + offset) w → nat_lt d count ≡ true
         → Comes B (St count (set_local d w locals) rest rests waiting h)
-        → Comes (One B) (St count locals (Load d a offset rest) rests waiting h)
+        → Comes (Pay (step_price walk.setting.procs count (Load d a offset rest)) (One B)) (St count locals
+        (Load d a offset rest) rests waiting h)
     loads_at {d = d} {offset = offset} {a = a} {rest = rest} at w e z lt c =
         let p = plus_is at offset (omega (arith, z.end)) in
         let m = z.may in
@@ -296,20 +348,23 @@ module _ {V : Type 0} (walk : Walk V) where
     pub loads : {d offset : ℕ} {a : LowSource} {rest : Code} (at header : ℕ) (ws : List ℕ) (i w : ℕ)
         → word_of locals a ≡ Some at → There walk.l objects at (Fixed header ws) → slice_get (header ∷ ws) i ≡ Some w
         → offset ≡ 8 * i → nat_lt d count ≡ true → Comes B (St count (set_local d w locals) rest rests waiting h)
-        → Comes (One B) (St count locals (Load d a offset rest) rests waiting h)
+        → Comes (Pay (step_price walk.setting.procs count (Load d a offset rest)) (One B)) (St count locals
+        (Load d a offset rest) rests waiting h)
     loads {d = d} {offset = offset} {a = a} {rest = rest} at header ws i w e there g o lt c =
         loads_at at w e (word_there objects h fine at header ws there i w (at + offset) g (omega arith)) lt c
 
     pub if_true : {cond : Cond} {a b : LowSource} {one other rest : Code} (x y : ℕ) → word_of locals a ≡ Some x
         → word_of locals b ≡ Some y → holds cond x y ≡ true → Comes B (St count locals one (rest ∷ rests) waiting h)
-        → Comes (One B) (St count locals (If cond a b one other rest) rests waiting h)
+        → Comes (Pay (step_price walk.setting.procs count (If cond a b one other rest)) (One B))
+        (St count locals (If cond a b one other rest) rests waiting h)
     if_true {cond = cond} {a = a} {b = b} {one = one} {other = other} {rest = rest} x y e f g c =
         within (If cond a b one other rest) (omega arith) locals one (rest ∷ rests) (rw (e, f, g) refl) c
 
     pub if_false : {cond : Cond} {a b : LowSource} {one other rest : Code} (x y : ℕ) → word_of locals a ≡ Some x
         → word_of locals b ≡ Some y → holds cond x y ≡ false
         → Comes B (St count locals other (rest ∷ rests) waiting h)
-        → Comes (One B) (St count locals (If cond a b one other rest) rests waiting h)
+        → Comes (Pay (step_price walk.setting.procs count (If cond a b one other rest)) (One B))
+        (St count locals (If cond a b one other rest) rests waiting h)
     if_false {cond = cond} {a = a} {b = b} {one = one} {other = other} {rest = rest} x y e f g c =
         within (If cond a b one other rest) (omega arith) locals other (rest ∷ rests) (rw (e, f, g) refl) c
 
@@ -319,7 +374,8 @@ module _ {V : Type 0} (walk : Walk V) where
         → IsWhole walk.l objects (Fixed header ws) → nat_lt d count ≡ true
         → ((h' : Heap) → Fi (objects ++ Fixed header ws ∷ []) h'
         → Comes B (St count (set_local d h.alloc locals) rest rests waiting h'))
-        → Comes (One B) (St count locals (Build d args rest) rests waiting h)
+        → Comes (Pay (step_price walk.setting.procs count (Build d args rest)) (Ask (suc (length ws)) (One B)))
+        (St count locals (Build d args rest) rests waiting h)
     builds {d = d} {args = args} {rest = rest} header ws e few turns small whole lt go =
         by_room (le_cases (nat_le (h.alloc + 8 * suc (length ws)) walk.setting.top))
       where
@@ -371,11 +427,12 @@ module _ {V : Type 0} (walk : Walk V) where
             )
 
         by_room : (nat_le (h.alloc + 8 * suc (length ws)) walk.setting.top ≡ true)
-            ⊎ (nat_le (h.alloc + 8 * suc (length ws)) walk.setting.top ≡ false) → Comes (One B) s0
+            ⊎ (nat_le (h.alloc + 8 * suc (length ws)) walk.setting.top ≡ false)
+            → Comes (Pay (step_price walk.setting.procs count (Build d args rest)) (Ask (suc (length ws)) (One B))) s0
         by_room (inl r) =
             goes s0 (St count (set_local d h.alloc locals) rest rests waiting h1) (rw (e, short, r, lt) refl)
             (λ s. here_at count locals rests waiting h objects fine (Build d args rest) turns_here s)
-            (λ s. record { room = s.room; left = let z = s.left in omega (arith, few) }) refl (go h1 (record {
+            (λ s. record { room = s.room; left = let z = s.left in omega arith }) refl (omega arith) (go h1 (record {
               filled = record {
                 objects_stand = more_stand;
                 statics_stand =
@@ -392,12 +449,16 @@ module _ {V : Type 0} (walk : Walk V) where
         by_room (inr r) = record {
           steps = 1;
           few = omega arith;
+          cheap =
+              costs_last walk.reading walk.setting (priced (Pay (step_price walk.setting.procs count
+              (Build d args rest)) B)) s0 refused
+              (walk.reading (Lacks Region)) (rw (e, short, r) refl) (omega arith);
           reach = λ s.
               by_step N walk.P walk.Q 0 s0 (Stop (walk.reading (Lacks Region)) refused) (rw (e, short, r) refl)
               (here_at count locals rests waiting h objects fine (Build d args rest) turns_here s)
               (subst (λ x. Onward (Stop x refused) walk.P walk.Q) (sym walk.exhausts)
               (walk.calm (record { count = count; locals = locals; code = rest; rests = rests }) waiting h2 objects
-              still turns (let z = s.room in omega arith) (let z = s.left in omega (arith, few))));
+              still turns (let z = s.room in omega arith) (let z = s.left in omega arith)));
         }
 
     -- a procedure is called, or goes on for this one
@@ -407,7 +468,8 @@ module _ {V : Type 0} (walk : Walk V) where
         → Comes B (St p.words (bind 0 ws no_locals) p.code [] (record {
           rest = record { count = count; locals = locals; code = rest; rests = rests };
           answer = d;
-        } ∷ waiting) h) → Comes (In B) (St count locals (Call d k args rest) rests waiting h)
+        } ∷ waiting) h) → Comes (Pay (call_price d args p) (In B))
+        (St count locals (Call d k args rest) rests waiting h)
     calls {d = d} {k = k} {args = args} {rest = rest} ws p e f g c =
         goes (St count locals (Call d k args rest) rests waiting h) (St p.words (bind 0 ws no_locals) p.code []
         (record {
@@ -415,28 +477,29 @@ module _ {V : Type 0} (walk : Walk V) where
           answer = d;
         } ∷ waiting) h) (rw (e, f, g) refl)
         (λ s. here_at count locals rests waiting h objects fine (Call d k args rest) (takes_few locals args ws p e g) s)
-        (λ s. one_in s) refl c
+        (λ s. one_in (paid_for s)) refl (let y = ap entering_some f in omega (arith, y)) c
 
     pub tail_calls : {k : ℕ} {args : List LowSource} (ws : List ℕ) (p : Proc) → words_of locals args ≡ Some ws
         → slice_get walk.setting.procs k ≡ Some p
         → ((length ws == p.params) && (nat_le p.params 8 && nat_le p.params p.words)) ≡ true
         → Comes B (St p.words (bind 0 ws no_locals) p.code [] waiting h)
-        → Comes (One B) (St count locals (TailCall k args) rests waiting h)
+        → Comes (Pay (leave_price count args p) (One B)) (St count locals (TailCall k args) rests waiting h)
     tail_calls {k = k} {args = args} ws p e f g c =
         goes (St count locals (TailCall k args) rests waiting h) (St p.words (bind 0 ws no_locals) p.code [] waiting h)
         (rw (e, f, g) refl)
         (λ s. here_at count locals rests waiting h objects fine (TailCall k args) (takes_few locals args ws p e g) s)
-        (λ s. one_less s) refl c
+        (λ s. one_less (paid_for s)) refl (let y = ap entering_some f in omega (arith, y)) c
 
   -- a call comes back
   pub comes_back : {B : Budget} {count : ℕ} {locals : Locals} {rests : List Code} {a : LowSource} {d : ℕ}
       {rest : Active} {waiting : List Waiting} {h : Heap} (objects : List Object) (fine : Fi objects h) (w : ℕ)
       → word_of locals a ≡ Some w → nat_lt d rest.count ≡ true
       → Comes B (St rest.count (set_local d w rest.locals) rest.code rest.rests waiting h)
-      → Comes (Out B) (St count locals (Return a) rests (record { rest = rest; answer = d } ∷ waiting) h)
+      → Comes (Pay (return_price count a) (Out B))
+      (St count locals (Return a) rests (record { rest = rest; answer = d } ∷ waiting) h)
   comes_back {count = count} {locals = locals} {rests = rests} {a = a} {d = d} {rest = rest} {waiting = waiting}
       {h = h} objects fine w e lt c =
       goes (St count locals (Return a) rests (record { rest = rest; answer = d } ∷ waiting) h)
       (St rest.count (set_local d w rest.locals) rest.code rest.rests waiting h) (rw (e, lt) refl)
       (λ s. here_at count locals rests (record { rest = rest; answer = d } ∷ waiting) h objects fine (Return a)
-      (omega arith) s) (λ s. one_out s) refl c
+      (omega arith) s) (λ s. one_out (paid_for s)) refl (omega arith) c

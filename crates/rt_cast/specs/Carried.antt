@@ -1,12 +1,13 @@
 -- Which word carries which value of the merged mode, over what holds what stands under proxies; and what it is for a
 -- cast to come to its outcome.
-use Rattle.std.specs.Prelude.{◌≡◌, ◌⊎◌, ℕ, ◌*◌, ◌^◌, ◌<◌, ◌≤◌, false, List, [], ◌∷◌, length, Some}
+use Rattle.std.specs.Prelude.{◌≡◌, ◌⊎◌, ℕ, ◌^◌, ◌<◌, ◌≤◌, false, List, [], ◌∷◌, length, Some}
 use Rattle.grift_base.specs.Types.{is_dyn}
 use Rattle.run_laws.specs.Runs.{Ending}
 use Rattle.run_laws.specs.Machines.{Reaches}
 use Rattle.rv_machine.specs.State.{Halt}
 use Rattle.low_ir.specs.declared.code.LowSource.{LowSource}
 use Rattle.low_ir.specs.Procedures.{Code, Proc, Return, Environment}
+use Rattle.low_ir.specs.Prices.{CostsAtMost}
 use Rattle.low_ir.specs.Run.{Setting, LowState, word_of, low_machine}
 use Rattle.coercion_norm.specs.Coercions.{Coercion}
 use Rattle.coercion_norm.specs.Heights.{coercion_height}
@@ -98,11 +99,12 @@ module _ (l : Layout) where
     ComesTo (Gives u) t = GivesAt u t
     ComesTo (Blames label) t = BlamesAt label t
 
--- Entered with these words the procedure comes to the outcome, within so many steps and with so many procedures active
--- above it, or the region is exhausted before.
+-- Entered with these words the procedure comes to the outcome, within so many steps, with so many procedures active
+-- above it, for so many words and at this price, or the region is exhausted before.
 abbrev pub ComesToOutcome : {V A : Type 0} → (Halt → Ending V) → Setting → (l : Layout) → LowState
-    → (List Object → A → ℕ → Type 0) → List Object → Proc → List ℕ → Outcome A → ℕ → ℕ → Type 0
-ComesToOutcome reading setting l s IsHeld objects p words outcome most frames =
+    → (List Object → A → ℕ → Type 0) → List Object → Proc → List ℕ → Outcome A → ℕ → ℕ → ℕ → ℕ → Type 0
+ComesToOutcome reading setting l s IsHeld objects p given outcome most frames words price =
     (k : ℕ) × (k ≤ most)
-    × Reaches (low_machine reading setting) (OnTheWay setting l s frames (9 * most))
-    (ComesTo l setting s IsHeld objects outcome) k (entered s p words)
+    × Reaches (low_machine reading setting) (OnTheWay setting l s frames words)
+    (ComesTo l setting s IsHeld objects outcome) k (entered s p given)
+    × CostsAtMost reading setting k (entered s p given) price

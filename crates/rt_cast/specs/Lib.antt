@@ -13,3 +13,4 @@ pub mod MergedValues
 pub mod PartValues
 pub mod DynWords
 pub mod Carried
+pub mod LightCasts

@@ -1,5 +1,5 @@
 -- States of a run over words in which whole objects fill the region.
-use Rattle.std.specs.Prelude.{◌≡◌, ℕ, ◌+◌, ◌*◌, ◌%◌, ◌^◌, ◌<◌, ◌≤◌, List, [], ◌++◌, length, Some}
+use Rattle.std.specs.Prelude.{◌≡◌, ℕ, ◌+◌, ◌%◌, ◌^◌, ◌<◌, ◌≤◌, List, [], ◌++◌, length, Some}
 use Rattle.grift_base.specs.World.{WorldState}
 use Rattle.run_laws.specs.Runs.{Ending}
 use Rattle.run_laws.specs.Machines.{Reaches}
@@ -8,6 +8,7 @@ use Rattle.rv_machine.specs.State.{Halt}
 use Rattle.low_ir.specs.declared.code.LowSource.{LowSource}
 use Rattle.low_ir.specs.Procedures.{Code, Proc, Return}
 use Rattle.low_ir.specs.Steps.{Locals, no_locals}
+use Rattle.low_ir.specs.Prices.{CostsAtMost}
 use Rattle.low_ir.specs.Run.{Setting, Waiting, LowState, bind, word_of, low_machine, low_turns}
 use Rattle.coercion_norm.specs.Coercions.{Coercion}
 use Rattle.coercion_norm.specs.Objects.{Object, bytes_of_all}
@@ -113,11 +114,12 @@ pub record OnTheWay (setting : Setting) (l : Layout) (s : LowState) (frames word
   pub asked : t.words ≤ s.words + words
   pub turns : low_turns t ≤ 10
 
--- Entered with these words the procedure comes to a return of a word that holds the coercion, within so many steps and
--- with so many procedures active above it, or the region is exhausted before.
+-- Entered with these words the procedure comes to a return of a word that holds the coercion, within so many steps,
+-- with so many procedures active above it, for so many words and at this price, or the region is exhausted before.
 abbrev pub ComesToHeld : {V : Type 0} → (Halt → Ending V) → Setting → Layout → LowState → List Object → Proc → List ℕ
-    → Coercion → ℕ → ℕ → Type 0
-ComesToHeld reading setting l s objects p words c most frames =
+    → Coercion → ℕ → ℕ → ℕ → ℕ → Type 0
+ComesToHeld reading setting l s objects p given c most frames words price =
     (k : ℕ) × (k ≤ most)
-    × Reaches (low_machine reading setting) (OnTheWay setting l s frames (9 * most))
-    (HeldAt setting l (around s) objects s.waiting c) k (entered s p words)
+    × Reaches (low_machine reading setting) (OnTheWay setting l s frames words)
+    (HeldAt setting l (around s) objects s.waiting c) k (entered s p given)
+    × CostsAtMost reading setting k (entered s p given) price

@@ -6,6 +6,7 @@ use Rattle.grift_base.specs.Types.{TypeHead, TypeRows}
 use Rattle.run_laws.specs.Runs.{Ending, Exhausted}
 use Rattle.rv_machine.specs.State.{Halt, Lacks, Region}
 use Rattle.low_ir.specs.declared.code.LowSource.TheVariants.{Word}
+use Rattle.low_ir.specs.Prices.{slot_price, leaving}
 use Rattle.low_ir.specs.Procedures.{CallAt, TailCall, Environment}
 use Rattle.low_ir.specs.Steps.{Locals, no_locals, set_local}
 use Rattle.low_ir.specs.Run.{Setting, Waiting, LowState, words_of, and_more, bind}
@@ -19,19 +20,27 @@ use Rattle.coercion_norm.specs.Held.{Layout, There, rows_in, height_in}
 use Rattle.coercion_norm.specs.ObjectsOfRows.{header}
 use Rattle.rt_cast.specs.WholeObjects.{IsSolid}
 use Rattle.rt_cast.specs.Costs.{cast_cost}
+use Rattle.rt_cast.specs.LightCasts.{cast_words_of, cast_price_of}
 use Rattle.rt_cast.specs.ComposeCodes.{cast}
 use Rattle.rt_cast.specs.States.{Grows, Fine, Filled, IsReady, around, heap_of, st}
 use Rattle.rt_cast.specs.MergedValues.{Merged, Proxied, Outcome, Stuck, Gives, Blames, cast_value}
 use Rattle.rt_cast.specs.Carried.{CarriedBy, AreCarried, IsLow, ComesTo}
 use Rattle.rt_cast.proofs.Public.{Walk, none_some, End, More, at_most, loads, tail_calls, ReachedIn, held_still}
-use Rattle.rt_cast.proofs.Public.{at_first, walk, apply, ends, no_higher, by_cast, low_of, decided_cast}
+use Rattle.rt_cast.proofs.Public.{at_first, walk, apply, ends, no_higher, by_either, low_of, decided_cast}
 use Rattle.rt_cast.specs.Procs.{cast_proc}
 use Rattle.rt_refs.specs.Arguments.{Arguments, NoArguments, AllGive, OneBlames, in_front, then_others, arguments_cast}
 use Rattle.rt_refs.specs.Arguments.{handed}
 use Rattle.rt_refs.specs.CallCodes.{argument_words, unwrap_code, call_function, apply_proc}
-use Rattle.rt_refs.specs.CallLaws.{apply_cost, Resumes, CallComes, ComesToCall, GoesOnTo}
+use Rattle.rt_refs.specs.CallLaws.{apply_cost, arguments_words, apply_price, Resumes, CallComes, ComesToCall, GoesOnTo}
 use Rattle.rt_refs.proofs.Calling.{Goes, Has, has_words, word_here, word_other, has_below, Casts, casts_of}
 use Rattle.rt_refs.proofs.Calling.{part_held, part_low, Ready, arguments_done}
+
+-- no word is farther, and no procedure is left for more
+slot_low : (i : ℕ) → slot_price i ≤ 13
+slot_low i = grind arith
+
+leaving_low : (words : ℕ) → leaving words ≤ 13
+leaving_low words = grind arith
 
 pub found_in : (wv wa wc address : ℕ) (ws : List ℕ) → length ws ≤ 6
     → Has (set_local 10 address (set_local 9 wc (set_local 8 wa (bind 0 (handed wv ws) no_locals)))) 0 ws
@@ -95,22 +104,32 @@ module _ {V : Type 0} (reading : Halt → Ending V) (setting : Setting) (l : Lay
   abbrev many : ℕ → ℕ
   many n = apply_cost (cast_cost l.width l.tallest) n
 
+  abbrev wide : List Coercion → List (Merged A) → ℕ
+  wide ds us = arguments_words l ds us
+
+  abbrev dear : List Coercion → List (Merged A) → ℕ
+  dear ds us = apply_price l ds us
+
   function_called : l.tallest ≤ 65534 → (objects : List Object) → Filled setting l objects (heap_of s) → (f : A)
       (parts : Coercions) (ds : List Coercion) (e : Coercion) → split_parts parts ≡ Some (ds, e)
       → (us : List (Merged A)) (wv : ℕ) (ws : List ℕ) → CarriedBy l IsHeld objects (Proxied f (Middle FunKind parts)) wv
       → AreCarried l IsHeld objects us ws → length us ≤ 6 → (address : ℕ) → HasAddress objects f address
       → (r : Arguments A) → arguments_cast heads l.types 0 ds us ≡ r → (r ≡ NoArguments → ⊥)
       → ComesToCall reading setting l first s IsHeld objects (apply_proc (cast first)) (handed wv ws) f address e r
-      (many (length us)) (4 * l.tallest + 7)
+      (many (length us)) (4 * l.tallest + 7) (wide ds us) (dear ds us)
   function_called low objects filled f parts ds e split us wv ws hv hu few address closure r is some =
-      let z = begun in
-      (z.steps, (let g = z.few in omega arith), z.reach (record { room = omega arith; left = omega arith }))
+      let z = begun in (
+        z.steps,
+        (let g = z.few in omega arith),
+        z.reach (record { room = omega arith; left = omega arith }),
+        let c = z.cheap in omega (arith, c),
+      )
     where
       Q : LowState → Type 0
       Q = CallComes l setting first s IsHeld objects f address e r
 
       w : Walk V
-      w = walk reading setting l first s exhausts ready Q (4 * l.tallest + 7) (9 * many (length us))
+      w = walk reading setting l first s exhausts ready Q (4 * l.tallest + 7) (wide ds us)
 
       fine : Fine setting l (around s) objects (heap_of s)
       fine = at_first reading setting l first s exhausts ready objects filled
@@ -126,6 +145,7 @@ module _ {V : Type 0} (reading : Halt → Ending V) (setting : Setting) (l : Lay
       blames label q = λ new h' count locals rests waiting a b d e' rest grows fine' ea eb ld le. record {
         steps = 0;
         few = le_refl 0;
+        cheap = omega arith;
         reach = λ spare.
             subst (λ y. CallComes l setting first s IsHeld objects f address e y
             (st (around s) count locals (Environment 3 a b d e' rest) rests waiting h')) (sym q ∙ is) (record {
@@ -147,7 +167,7 @@ module _ {V : Type 0} (reading : Halt → Ending V) (setting : Setting) (l : Lay
 
       values : (vs : List (Merged A)) → arguments_cast heads l.types 0 ds us ≡ AllGive vs
           → Ready w low A IsHeld still is_solid heads (call_function (cast first)) parts hv.5 e (length ws) hv.0 hv.1
-          address (omega (arith, few, long)) s.waiting (More 1 0 End) objects vs
+          address (omega (arith, few, long)) s.waiting (More 1 0 0 3 End) objects vs
       values vs q = λ new h' words locals rests grows fine' found has hvs many2.
           let hc = held_still l objects new grows (Middle FunKind parts) hv.1 hv.4 in
           let casts = casts_of parts ds e split in
@@ -163,6 +183,7 @@ module _ {V : Type 0} (reading : Halt → Ending V) (setting : Setting) (l : Lay
           record {
             steps = 0;
             few = le_refl 0;
+            cheap = omega arith;
             reach = λ spare.
                 subst (λ y. CallComes l setting first s IsHeld objects f address e y
                 (st (around s) 13 (set_local 11 p.0 locals) (CallAt 12 (Word 10)
@@ -202,9 +223,9 @@ module _ {V : Type 0} (reading : Halt → Ending V) (setting : Setting) (l : Lay
           } in
           at_most w
           (loads w new fine' hv.1 head9 hc.0 (suc (length ws)) p.0 found.coercion_is hc.1 p.1 (omega arith) refl last)
-          (omega arith, omega arith)
+          (omega arith, omega arith, omega arith, omega arith)
 
-      begun : ReachedIn w (More (many (length us)) (4 * l.tallest + 7) End)
+      begun : ReachedIn w (More (many (length us)) (4 * l.tallest + 7) (wide ds us) (dear ds us) End)
           (st (around s) 13 start (unwrap_code (cast first) (call_function (cast first))) [] s.waiting (heap_of s))
       begun =
           let c = closure hv.0 hv.3 in
@@ -214,12 +235,12 @@ module _ {V : Type 0} (reading : Halt → Ending V) (setting : Setting) (l : Lay
           (loads w objects fine hv.0 c.0 (address ∷ c.1) 1 address refl c.2 refl refl refl
           (arguments_done w low A IsHeld still is_solid heads (call_function (cast first)) parts hv.5 e (length ws) hv.0
           hv.1 address (omega (arith, few, long)) s.waiting 6 0 refl ds us ws (omega (arith, long))
-          (casts_of parts ds e split) [] [] refl (More 1 0 End) objects (heap_of s) fine
+          (casts_of parts ds e split) [] [] refl (More 1 0 0 3 End) objects (heap_of s) fine
           (set_local 10 address (set_local 9 hv.1 (set_local 8 hv.0 start))) []
           (record { number_is = refl; function_is = refl; coercion_is = refl; address_is = refl }) tt
           (found_in wv hv.0 hv.1 address ws (omega (arith, few, long))) tt hu hv.4
           (λ q. some (sym is ∙ q)) values blames))))
-          (omega arith, omega arith)
+          (omega arith, omega arith, omega arith, omega arith)
 
   -- a function with a proxy: it is about to be entered, with its arguments cast, or a label is blamed
   pub calls_through_proxies : l.tallest ≤ 65534 → (objects : List Object) → Filled setting l objects (heap_of s)
@@ -229,7 +250,7 @@ module _ {V : Type 0} (reading : Halt → Ending V) (setting : Setting) (l : Lay
       → AreCarried l IsHeld objects us ws → length us ≤ 6 → (address : ℕ) → HasAddress objects f address
       → (r : Arguments A) → arguments_cast heads l.types 0 ds us ≡ r → (r ≡ NoArguments → ⊥)
       → ComesToCall reading setting l first s IsHeld objects (apply_proc (cast first)) (handed wv ws) f address e r
-      (many (length us)) (4 * l.tallest + 7)
+      (many (length us)) (4 * l.tallest + 7) (wide ds us) (dear ds us)
   calls_through_proxies low objects filled f Id ds e split = none_some split
   calls_through_proxies low objects filled f (Fail label) ds e split = none_some split
   calls_through_proxies low objects filled f (Inject g kept) ds e split = none_some split
@@ -246,16 +267,21 @@ module _ {V : Type 0} (reading : Halt → Ending V) (setting : Setting) (l : Lay
       → (head : A → TypeHead) (w : Waiting) (c : Coercion) → Resumes l first objects w c → (u : Merged A) (wv : ℕ)
       → CarriedBy l IsHeld objects u wv → (r : Outcome A) → cast_value head l.types c u ≡ r → (r ≡ Stuck → ⊥)
       → GoesOnTo reading setting l s IsHeld objects w wv r (cast_cost l.width l.tallest + 1) (4 * l.tallest + 6)
+      (cast_words_of l c u) (cast_price_of l c u + 70)
   answers_cast low objects filled head w c resumes u wv hv r e some =
-      let z = begun in
-      (z.steps, (let g = z.few in omega arith), z.reach (record { room = omega arith; left = omega arith }))
+      let z = begun in (
+        z.steps,
+        (let g = z.few in omega arith),
+        z.reach (record { room = omega arith; left = omega arith }),
+        let c = z.cheap in omega (arith, c),
+      )
     where
       most : ℕ
       most = cast_cost l.width l.tallest + 1
 
       v : Walk V
       v = walk reading setting l first s exhausts ready (ComesTo l setting s IsHeld objects r) (4 * l.tallest + 6)
-          (9 * (cast_cost l.width l.tallest + 1))
+          (cast_words_of l c u)
 
       fine : Fine setting l (around s) objects (heap_of s)
       fine = at_first reading setting l first s exhausts ready objects filled
@@ -266,7 +292,8 @@ module _ {V : Type 0} (reading : Halt → Ending V) (setting : Setting) (l : Lay
       lc : IsLow l c
       lc = resumes.low
 
-      begun : ReachedIn v (More (cast_cost l.width l.tallest + 1) (4 * l.tallest + 6) End)
+      begun : ReachedIn v (More (cast_cost l.width l.tallest + 1) (4 * l.tallest + 6)
+          (cast_words_of l c u) (cast_price_of l c u + 70) End)
           (st (around s) w.rest.count (set_local w.answer wv w.rest.locals) w.rest.code w.rest.rests s.waiting
           (heap_of s))
       begun =
@@ -274,15 +301,21 @@ module _ {V : Type 0} (reading : Halt → Ending V) (setting : Setting) (l : Lay
           let is = decided_cast l ready.types head c lc.normal below u (low_of l ready.types head IsHeld
           objects u wv hv)
           r some e in
-          subst (λ code. ReachedIn v (More (cast_cost l.width l.tallest + 1) (4 * l.tallest + 6) End)
+          subst (λ code. ReachedIn v (More (cast_cost l.width l.tallest + 1) (4 * l.tallest + 6)
+          (cast_words_of l c u) (cast_price_of l c u + 70) End)
           (st (around s) w.rest.count (set_local w.answer wv w.rest.locals) code w.rest.rests s.waiting (heap_of s)))
           (sym resumes.code)
           (at_most v
           (tail_calls v objects fine (wv ∷ resumes.word ∷ []) (cast_proc first)
           (ap₂ and_more (word_here w.answer wv w.rest.locals) (ap (λ o. and_more o (Some []))
           (word_other w.answer wv w.rest.locals resumes.place resumes.other ∙ resumes.is))) (v.stands 2 _ refl) refl
-          (by_cast v low A IsHeld still is_solid c lc.normal below u End objects (heap_of s) fine s.waiting wv
+          (by_either v low A IsHeld still is_solid c lc.normal below u End objects (heap_of s) fine s.waiting wv
           resumes.word hv resumes.held
           (ends reading setting l first s exhausts ready head IsHeld still is_solid low objects r some
-          (4 * l.tallest + 6) (9 * (cast_cost l.width l.tallest + 1)) (apply (rows_in l) l.tallest c u) is)))
-          (omega arith, omega arith))
+          (4 * l.tallest + 6) (cast_words_of l c u) (apply (rows_in l) l.tallest c u) is))) (
+            omega arith,
+            omega arith,
+            omega arith,
+            let x = slot_low w.answer in let y = slot_low resumes.place in let z =
+                leaving_low w.rest.count in omega (arith, x, y, z),
+          ))

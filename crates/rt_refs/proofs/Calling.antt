@@ -4,6 +4,8 @@ use Rattle.std.proofs.Common.{List, [], ◌∷◌, ◌++◌, length, Option, Som
 use Rattle.std.proofs.Common.{append_assoc, append-nil, le_refl}
 use Rattle.std.specs.Prelude.{◌==◌, nat_lt, slice_get, option_map}
 use Rattle.grift_base.specs.Types.{TypeHead, TypeRow}
+use Rattle.low_ir.specs.Prices.{slot_price, source_price}
+use Rattle.low_ir.specs.declared.code.LowSource.TheVariants.{Number}
 use Rattle.low_ir.specs.Procedures.{Code, Done}
 use Rattle.low_ir.specs.Steps.{Locals, no_locals, set_local}
 use Rattle.low_ir.specs.Run.{Active, Waiting, LowState, words_of, and_more, bind}
@@ -19,6 +21,7 @@ use Rattle.coercion_norm.specs.Held.{Layout, Held, AreHeld, rows_in, height_in}
 use Rattle.coercion_norm.specs.ObjectsOfRows.{header}
 use Rattle.rt_cast.specs.WholeObjects.{IsSolid}
 use Rattle.rt_cast.specs.Costs.{cast_cost}
+use Rattle.rt_cast.specs.LightCasts.{cast_words_of, cast_price_of}
 use Rattle.rt_cast.specs.ComposeCodes.{cast}
 use Rattle.rt_cast.specs.CastCodes.{cast_code}
 use Rattle.rt_cast.specs.Procs.{cast_proc}
@@ -27,11 +30,11 @@ use Rattle.rt_cast.specs.MergedValues.{Merged, Outcome, Stuck, Gives, Blames, ca
 use Rattle.rt_cast.specs.Carried.{CarriedBy, AreCarried, IsLow}
 use Rattle.rt_cast.proofs.Public.{Walk, none_some, same_some, eq_true, eq_false, lt_true, Budget, End, Out, More}
 use Rattle.rt_cast.proofs.Public.{at_most, loads, if_true, if_false, calls, comes_back, ReachedIn, grows_not}
-use Rattle.rt_cast.proofs.Public.{grows_on, held_still, GoesOn, whole_above, no_higher, carried_still, by_cast}
+use Rattle.rt_cast.proofs.Public.{grows_on, held_still, GoesOn, whole_above, no_higher, carried_still, by_either}
 use Rattle.rt_cast.proofs.Public.{low_of, decided_cast}
 use Rattle.rt_refs.specs.Arguments.{NoArguments, AllGive, OneBlames, in_front, then_others, arguments_cast}
 use Rattle.rt_refs.specs.CallCodes.{argument_words, cast_arguments}
-use Rattle.rt_refs.specs.CallLaws.{arguments_cost}
+use Rattle.rt_refs.specs.CallLaws.{arguments_cost, arguments_words, arguments_price}
 
 -- ---- words that are set
 
@@ -122,6 +125,13 @@ part_normal rows NoCoercions k d h e = none_some e
 part_normal rows (CoercionThen c cs) zero d h e = subst (IsNormal rows) (same_some c d e) h.0
 part_normal rows (CoercionThen c cs) (suc k) d h e = part_normal rows cs k d h.1 e
 
+-- small numbers, and words of small numbers, are near
+number_near : (k : ℕ) → k ≤ 6 → source_price (Number k) ≡ 2
+number_near k le = grind (arith, le)
+
+word_near : (k : ℕ) → k ≤ 6 → slot_price k ≡ 1
+word_near k le = grind (arith, le)
+
 small_number : (k : ℕ) → k ≤ 6 → k % 2 ^ 64 ≡ k
 small_number k le = omega (arith, le)
 
@@ -181,12 +191,14 @@ module _ {V : Type 0} (walk : Walk V) (low : walk.l.tallest ≤ 65534) (A : Type
       → Carried new v w
       → ReachedIn walk D (state rest.count (set_local d w rest.locals) rest.code rest.rests waiting h'))
       → ((label : ℕ) → r ≡ Blames label → Goes End objects waiting (Blames label))
-      → ReachedIn walk (More cost above (Out D)) (state 10 (bind 0 (wv ∷ wc ∷ []) no_locals) (cast_code walk.first) []
+      → ReachedIn walk (More cost above (cast_words_of walk.l c u) (cast_price_of walk.l c u) (Out D)) (state 10
+      (bind 0 (wv ∷ wc ∷ []) no_locals)
+      (cast_code walk.first) []
       (record { rest = rest; answer = d } ∷ waiting) h)
   cast_behind head B D objects h fine waiting rest d lt c lc u wv wc hv hc r e some values blames =
       let is = decided_cast walk.l walk.types head c lc.normal (no_higher walk low A IsHeld still is_solid c lc) u
       (low_of walk.l walk.types head IsHeld objects u wv hv) r some e in
-      by_cast walk low A IsHeld still is_solid c lc.normal (no_higher walk low A IsHeld still is_solid c lc) u (Out D)
+      by_either walk low A IsHeld still is_solid c lc.normal (no_higher walk low A IsHeld still is_solid c lc) u (Out D)
       objects h fine (record { rest = rest; answer = d } ∷ waiting) wv wc hv hc
       (subst (Goes (Out D) objects (record { rest = rest; answer = d } ∷ waiting)) (sym is) (goes r values blames some))
     where
@@ -247,7 +259,8 @@ module _ {V : Type 0} (walk : Walk V) (low : walk.l.tallest ≤ 65534) (A : Type
         → ((vs : List (Merged A)) → arguments_cast head walk.l.types k ds us ≡ AllGive vs → Ready B objects (pre ++ vs))
         → ((label : ℕ) → arguments_cast head walk.l.types k ds us ≡ OneBlames label
         → Goes End objects waiting (Blames label))
-        → ReachedIn walk (More (arguments_cost cost (length us)) (suc above) B)
+        → ReachedIn walk (More (arguments_cost cost (length us)) (suc above) (arguments_words walk.l ds us)
+        (arguments_price walk.l ds us) B)
         (state 13 locals (cast_arguments (cast walk.first) last j k) rests waiting h)
     arguments_done zero k sum (d ∷ ds) [] ws many casts pre done long B objects h fine locals rests found has next hp hu
         hc some values blames = absurd (some refl)
@@ -266,7 +279,7 @@ module _ {V : Type 0} (walk : Walk V) (low : walk.l.tallest ≤ 65534) (A : Type
         (subst (λ m. ReachedIn walk B (state 13 locals (last m) rests waiting h)) same
         (values [] refl objects h done locals rests (grows_not objects) fine found has
         (subst (λ vs. AreCarried walk.l IsHeld objects vs done) (sym (append-nil pre)) hp) (long ∙ sym same)))
-        (omega arith, omega arith)
+        (omega arith, omega arith, omega arith, omega arith)
     arguments_done (suc j) k sum [] [] ws many casts pre done long B objects h fine locals rests found has next hp hu
         hc some values blames =
         let same : number ≡ k = omega (arith, many) in
@@ -276,7 +289,7 @@ module _ {V : Type 0} (walk : Walk V) (low : walk.l.tallest ≤ 65534) (A : Type
         (subst (λ m. ReachedIn walk B (state 13 locals (last m) (Done ∷ rests) waiting h)) same
         (values [] refl objects h done locals (Done ∷ rests) (grows_not objects) fine found has
         (subst (λ vs. AreCarried walk.l IsHeld objects vs done) (sym (append-nil pre)) hp) (long ∙ sym same))))
-        (omega arith, omega arith)
+        (omega arith, omega arith, omega arith, let n = number_near k (omega (arith, sum)) in omega (arith, n))
     arguments_done (suc j) k sum (d ∷ ds) (u ∷ us) [] many casts pre done long B objects h fine locals rests found has
         next hp hu hc some values blames = absurd hu
     arguments_done (suc j) k sum (d ∷ ds) (u ∷ us) (w ∷ ws) many casts pre done long B objects h fine locals rests found
@@ -293,7 +306,8 @@ module _ {V : Type 0} (walk : Walk V) (low : walk.l.tallest ≤ 65534) (A : Type
         (calls walk objects fine (w ∷ p.0 ∷ []) (cast_proc walk.first)
         (ap₂ and_more (word_other 11 p.0 locals (suc k) (eq_false (suc k) 11 (λ e. omega (arith, e, small))) ∙ next.0)
         (ap (λ o. and_more o (Some [])) (word_here 11 p.0 locals))) (walk.stands 2 _ refl) refl
-        (cast_behind (head k) End (More (arguments_cost cost (length us)) (suc above) B) objects h fine waiting
+        (cast_behind (head k) End (More (arguments_cost cost (length us)) (suc above) (arguments_words walk.l ds us)
+        (arguments_price walk.l ds us) B) objects h fine waiting
         (record {
           count = 13;
           locals = l11;
@@ -330,8 +344,13 @@ module _ {V : Type 0} (walk : Walk V) (low : walk.l.tallest ≤ 65534) (A : Type
         blames label (ap (λ o. then_others o (arguments_cast head walk.l.types (suc k) ds us)) e ∙ ap (in_front v) q)
         new2 h2
         size locals2 rests2 waiting2 a b dd ee rest (grows_on objects new new2 grows grows2) fine2))
-        (λ label e. blames label (ap (λ o. then_others o (arguments_cast head walk.l.types (suc k) ds us)) e))))))
-        (omega arith, omega arith)
+        (λ label e. blames label (ap (λ o. then_others o (arguments_cast head walk.l.types (suc k) ds us)) e)))))) (
+          omega arith,
+          omega arith,
+          omega arith,
+          let n = number_near k (omega (arith, small)) in let w = word_near (suc k)
+              (omega (arith, small)) in omega (arith, n, w),
+        )
       where
         as_many : (us : List (Merged A)) (ws : List ℕ) → AreCarried walk.l IsHeld objects us ws
             → length ws ≡ length us

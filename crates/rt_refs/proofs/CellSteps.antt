@@ -16,7 +16,9 @@ use Rattle.coercion_norm.specs.Held.{There}
 use Rattle.coercion_norm.proofs.Public.{found_within}
 use Rattle.rt_cast.specs.Objects.{HasWord, HoldsWords, HoldsObject, Holds}
 use Rattle.rt_cast.specs.States.{Heap, Fine, st}
-use Rattle.rt_cast.proofs.Public.{Walk, none_some, same_some, word_found, Budget, One, Spare, Comes, goes, WordThere}
+use Rattle.low_ir.specs.Prices.{source_price}
+use Rattle.rt_cast.proofs.Public.{Pay, paid_for, Walk, none_some, same_some, word_found, Budget, One, Spare, Comes}
+use Rattle.rt_cast.proofs.Public.{goes, WordThere}
 use Rattle.rt_cast.proofs.Public.{one_less}
 
 plus_is : (x n : ℕ) → x + n < 2 ^ 64 → plus x (pos n) ≡ x + n
@@ -155,11 +157,12 @@ module _ {V : Type 0} (walk : Walk V) where
       (objects : List Object) (fine : Fi objects h) where
     -- a branch ends
     pub ends_branch : {rest : Code} → Comes walk B (St count locals rest rests waiting h)
-        → Comes walk (One B) (St count locals Done (rest ∷ rests) waiting h)
+        → Comes walk (Pay 10 (One B)) (St count locals Done (rest ∷ rests) waiting h)
     ends_branch {rest = rest} c =
         goes walk (St count locals Done (rest ∷ rests) waiting h) (St count locals rest rests waiting h) refl
-        (λ s. here_at count locals (rest ∷ rests) waiting h objects fine Done (omega arith) s) (λ s. one_less walk s)
-        refl c
+        (λ s. here_at count locals (rest ∷ rests) waiting h objects fine Done (omega arith) s) (λ s. one_less walk
+        (paid_for walk s))
+        refl (omega arith) c
 
     pub stores : {b a : LowSource} {offset : ℕ} {rest : Code} (x y : ℕ) → word_of locals b ≡ Some y
         → word_of locals a ≡ Some x → may_store walk.setting.region walk.setting.top (x + offset) ≡ true
@@ -169,7 +172,8 @@ module _ {V : Type 0} (walk : Walk V) where
           alloc = h.alloc;
           words = h.words;
         }))
-        → Comes walk (One B) (St count locals (Store b a offset rest) rests waiting h)
+        → Comes walk (Pay (source_price b + source_price a + 1) (One B))
+        (St count locals (Store b a offset rest) rests waiting h)
     stores {b = b} {a = a} {offset = offset} {rest = rest} x y f e m small c =
         let p = plus_is x offset small in
         let next = St count locals rest rests waiting h in
@@ -187,4 +191,4 @@ module _ {V : Type 0} (walk : Walk V) where
         ∙ (ap (λ n. store walk.reading walk.setting n y next) p
         ∙ ap (λ b. only_if next b (Go t')) m))
         ) (λ s. here_at count locals rests waiting h objects fine (Store b a offset rest) (omega arith) s)
-        (λ s. one_less walk s) refl c
+        (λ s. one_less walk (paid_for walk s)) refl (omega arith) c

@@ -22,6 +22,8 @@ use Rattle.low_ir.specs.declared.code.WordOp.TheVariants.{Add, Sll}
 use Rattle.low_ir.specs.Operations.{compute}
 use Rattle.low_ir.specs.Procedures.{Code, Done, Compute, Store, Request, Take, Call, If, Return, TailCall}
 use Rattle.low_ir.specs.Steps.{Locals, no_locals, set_local, given, only_if, may_store}
+use Rattle.low_ir.specs.Prices.{step_price, low_price, entering_some, CostsAtMost}
+use Rattle.low_ir.proofs.Public.{costs_on, costs_last}
 use Rattle.low_ir.specs.Run.{Setting, Waiting, LowState, LowShown, word_of, bind, low_machine, store}
 use Rattle.low_ir.specs.Run.{code_turns}
 use Rattle.object_layout.specs.declared.kinds.Kind.TheVariants.{Vector}
@@ -89,21 +91,29 @@ module _ {V : Type 0} (reading : Halt → Ending V) (setting : Setting) (l : Lay
   abbrev a : ℕ
   a = s.alloc
 
-  -- within so many steps
-  record Within (b : ℕ) (t : LowState) : Type 0 where
+  -- within so many steps, and at this price
+  record Within (b price : ℕ) (t : LowState) : Type 0 where
     pub steps : ℕ
     pub few : steps ≤ b
+    pub cheap : CostsAtMost reading setting steps t price
     pub reach : Reaches N P Q steps t
 
-  step : {b : ℕ} (t t' : LowState) → N.step t ≡ Go t' → P t → Within b t' → Within (suc b) t
-  step t t' e p c = record {
+  step : {b price dearer : ℕ} (t t' : LowState) → N.step t ≡ Go t' → P t → low_price setting.procs t + price ≤ dearer
+      → Within b price t' → Within (suc b) dearer t
+  step {price = price} {dearer = dearer} t t' e p dear c = record {
     steps = suc c.steps;
     few = let z = c.few in omega arith;
+    cheap = costs_on reading setting c.steps price dearer t t' e c.cheap dear;
     reach = by_step N P Q c.steps t (Go t') e p c.reach;
   }
 
-  more : {b c : ℕ} {t : LowState} → Within b t → b ≤ c → Within c t
-  more d le = record { steps = d.steps; few = let z = d.few in omega (arith, le); reach = d.reach }
+  more : {b c price dearer : ℕ} {t : LowState} → Within b price t → b ≤ c → price ≤ dearer → Within c dearer t
+  more d le dear = record {
+    steps = d.steps;
+    few = let z = d.few in omega (arith, le);
+    cheap = let z = d.cheap in omega (arith, z, dear);
+    reach = d.reach;
+  }
 
   -- the storage, with another memory
   abbrev heap : Memory → Heap
@@ -145,41 +155,46 @@ module _ {V : Type 0} (reading : Halt → Ending V) (setting : Setting) (l : Lay
     turns = turns;
   }
 
-  module _ {b : ℕ} {count : ℕ} {locals : Locals} {rests : List Code} {waiting : List Waiting} (m : Memory)
+  module _ {b price : ℕ} {count : ℕ} {locals : Locals} {rests : List Code} {waiting : List Waiting} (m : Memory)
       (same : Below m) (active : length waiting ≤ length s.waiting + 1) where
     computes : {op : WordOp} {d : ℕ} {x y : LowSource} {rest : Code} (u v z : ℕ) → word_of locals x ≡ Some u
         → word_of locals y ≡ Some v → compute op u v ≡ z → nat_lt d count ≡ true
-        → Within b (St count (set_local d z locals) rest rests waiting (heap m))
-        → Within (suc b) (St count locals (Compute op d x y rest) rests waiting (heap m))
+        → Within b price (St count (set_local d z locals) rest rests waiting (heap m))
+        → Within (suc b) (step_price setting.procs count (Compute op d x y rest) + price)
+        (St count locals (Compute op d x y rest) rests waiting (heap m))
     computes {op = op} {d = d} {x = x} {y = y} {rest = rest} u v z e f g lt c =
         step (St count locals (Compute op d x y rest) rests waiting (heap m))
         (St count (set_local d z locals) rest rests waiting (heap m)) (rw (e, f, g, lt) refl)
-        (way count locals (Compute op d x y rest) rests waiting m s.words same (omega arith) active (omega arith)) c
+        (way count locals (Compute op d x y rest) rests waiting m s.words same (omega arith) active (omega arith))
+        (omega arith) c
 
     if_true : {cond : Cond} {x y : LowSource} {one other rest : Code} (u v : ℕ) → word_of locals x ≡ Some u
         → word_of locals y ≡ Some v → holds cond u v ≡ true
-        → Within b (St count locals one (rest ∷ rests) waiting (heap m))
-        → Within (suc b) (St count locals (If cond x y one other rest) rests waiting (heap m))
+        → Within b price (St count locals one (rest ∷ rests) waiting (heap m))
+        → Within (suc b) (step_price setting.procs count (If cond x y one other rest) + price)
+        (St count locals (If cond x y one other rest) rests waiting (heap m))
     if_true {cond = cond} {x = x} {y = y} {one = one} {other = other} {rest = rest} u v e f g c =
         step (St count locals (If cond x y one other rest) rests waiting (heap m))
         (St count locals one (rest ∷ rests) waiting (heap m)) (rw (e, f, g) refl)
         (way count locals (If cond x y one other rest) rests waiting m s.words same (omega arith) active (omega arith))
-        c
+        (omega arith) c
 
     if_false : {cond : Cond} {x y : LowSource} {one other rest : Code} (u v : ℕ) → word_of locals x ≡ Some u
         → word_of locals y ≡ Some v → holds cond u v ≡ false
-        → Within b (St count locals other (rest ∷ rests) waiting (heap m))
-        → Within (suc b) (St count locals (If cond x y one other rest) rests waiting (heap m))
+        → Within b price (St count locals other (rest ∷ rests) waiting (heap m))
+        → Within (suc b) (step_price setting.procs count (If cond x y one other rest) + price)
+        (St count locals (If cond x y one other rest) rests waiting (heap m))
     if_false {cond = cond} {x = x} {y = y} {one = one} {other = other} {rest = rest} u v e f g c =
         step (St count locals (If cond x y one other rest) rests waiting (heap m))
         (St count locals other (rest ∷ rests) waiting (heap m)) (rw (e, f, g) refl)
         (way count locals (If cond x y one other rest) rests waiting m s.words same (omega arith) active (omega arith))
-        c
+        (omega arith) c
 
     stores : {x y : LowSource} {rest : Code} (u v : ℕ) → word_of locals x ≡ Some v → word_of locals y ≡ Some u
         → may_store setting.region setting.top u ≡ true → u < 2 ^ 64
-        → Within b (St count locals rest rests waiting (heap (store_bytes 8 m u v)))
-        → Within (suc b) (St count locals (Store x y 0 rest) rests waiting (heap m))
+        → Within b price (St count locals rest rests waiting (heap (store_bytes 8 m u v)))
+        → Within (suc b) (step_price setting.procs count (Store x y 0 rest) + price)
+        (St count locals (Store x y 0 rest) rests waiting (heap m))
     stores {x = x} {y = y} {rest = rest} u v e f may lt c =
         let none : u + 0 ≡ u = omega arith in
         let p : plus u (pos 0) ≡ u = plus_is u 0 (omega (arith, lt)) ∙ none in
@@ -191,7 +206,8 @@ module _ {V : Type 0} (reading : Halt → Ending V) (setting : Setting) (l : Lay
         ∙ (ap (λ z. given t z (λ y. store reading setting (plus u (pos 0)) y next)) e
         ∙ (ap (λ q. store reading setting q v next) p
         ∙ ap (λ o. only_if next o (Go t')) may)))
-        (way count locals (Store x y 0 rest) rests waiting m s.words same (omega arith) active (omega arith)) c
+        (way count locals (Store x y 0 rest) rests waiting m s.words same (omega arith) active (omega arith))
+        (omega arith) c
 
   -- so many elements are stored
   record Wrote (i : ℕ) (m : Memory) : Type 0 where
@@ -235,16 +251,16 @@ module _ {V : Type 0} (reading : Halt → Ending V) (setting : Setting) (l : Lay
     loop_code = (fill_loop own).code
 
     -- the loop, called by a procedure that goes on
-    looped : {b : ℕ} (count : ℕ) (locals : Locals) (rest : Code) (rests : List Code) → nat_lt 4 count ≡ true
-        → ((m : Memory) → Wrote n m → Within b (St count (set_local 4 0 locals) rest rests s.waiting (heap m)))
+    looped : {b price : ℕ} (count : ℕ) (locals : Locals) (rest : Code) (rests : List Code) → nat_lt 4 count ≡ true
+        → ((m : Memory) → Wrote n m → Within b price (St count (set_local 4 0 locals) rest rests s.waiting (heap m)))
         → (k i : ℕ) → i + k ≡ n → (m : Memory) → Wrote i m
-        → Within (4 * k + 2 + b)
+        → Within (4 * k + 2 + b) (61 * k + 20 + price)
         (St 3 (bind 0 ((s.alloc + 8 + 8 * i) ∷ (s.alloc + 8 + 8 * n) ∷ w ∷ []) no_locals) loop_code []
         (record {
           rest = record { count = count; locals = locals; code = rest; rests = rests };
           answer = 4;
         } ∷ s.waiting) (heap m))
-    looped {b = b} count locals rest rests lt go zero i sum m h =
+    looped {b = b} {price = price} count locals rest rests lt go zero i sum m h =
         let same : s.alloc + 8 + 8 * i ≡ s.alloc + 8 + 8 * n = omega (arith, sum) in
         let is : i ≡ n = omega (arith, sum) in
         let waiting : List Waiting = record {
@@ -258,8 +274,8 @@ module _ {V : Type 0} (reading : Halt → Ending V) (setting : Setting) (l : Lay
         (step (St 3 asks (Return (Number 0)) (Done ∷ []) waiting (heap m))
         (St count (set_local 4 0 locals) rest rests s.waiting (heap m)) (rw (lt) refl)
         (way 3 asks (Return (Number 0)) (Done ∷ []) waiting m s.words h.below (omega arith) (omega arith) (omega arith))
-        (go m (subst (λ k. Wrote k m) is h)))) (omega arith)
-    looped {b = b} count locals rest rests lt go (suc k) i sum m h =
+        (le_refl (7 + price)) (go m (subst (λ k. Wrote k m) is h)))) (omega arith) (omega arith)
+    looped {b = b} {price = price} count locals rest rests lt go (suc k) i sum m h =
         let inside : i < n = omega (arith, sum) in
         let waiting : List Waiting = record {
           rest = record { count = count; locals = locals; code = rest; rests = rests };
@@ -279,15 +295,18 @@ module _ {V : Type 0} (reading : Halt → Ending V) (setting : Setting) (l : Lay
         (stores m h.below (omega arith) (s.alloc + 8 + 8 * i) w refl refl
         (may_be_stored setting.region setting.top (s.alloc + 8 + 8 * i) (omega (arith, even))
         (omega (arith, filled.ends, begins)) (omega (arith, room, inside))) (omega (arith, end_small, inside))
-        (computes m' h'.below (omega arith) (s.alloc + 8 + 8 * i) 8 (s.alloc + 8 + 8 * suc i) refl refl next refl
+        (computes {price = 40 + (61 * k + 20 + price)} m' h'.below (omega arith) (s.alloc + 8 + 8 * i) 8
+        (s.alloc + 8 + 8 * suc i) refl refl next refl
         (step (St 3 asks' (TailCall own (Word 0 ∷ Word 1 ∷ Word 2 ∷ [])) (Done ∷ []) waiting (heap m'))
         (St 3 (bind 0 ((s.alloc + 8 + 8 * suc i) ∷ (s.alloc + 8 + 8 * n) ∷ w ∷ []) no_locals) loop_code [] waiting
         (heap m'))
         (rw (there) refl)
         (way 3 asks' (TailCall own (Word 0 ∷ Word 1 ∷ Word 2 ∷ [])) (Done ∷ []) waiting m' s.words h'.below
-        (omega arith)
-        (omega arith) (omega arith))
-        (looped {b = b} count locals rest rests lt go k (suc i) (omega (arith, sum)) m' h'))))) (omega arith)
+        (omega arith) (omega arith) (omega arith))
+        (let y : 40 + (61 * k + 20 + price) ≤ 40 + (61 * k + 20 + price) = le_refl _ in
+        let z = ap entering_some there in omega (arith, y, z))
+        (looped {b = b} {price = price} count locals rest rests lt go k (suc i) (omega (arith, sum)) m' h')))))
+        (omega arith) (omega arith)
 
     -- the header is stored, and nothing else yet
     begins_with : n < 2 ^ 32 → Wrote 0 (store_bytes 8 s.memory s.alloc (header 6 0 n))
@@ -301,13 +320,13 @@ module _ {V : Type 0} (reading : Halt → Ending V) (setting : Setting) (l : Lay
 
     -- the vector is there
     made : (m : Memory) → Wrote n m → (locals : Locals) → locals 3 ≡ Some s.alloc → locals 2 ≡ Some (n + 1)
-        → (rests : List Code) → Within 1 (St 6 locals (Take (Word 2) (Return (Word 3))) rests s.waiting (heap m))
+        → (rests : List Code) → Within 1 3 (St 6 locals (Take (Word 2) (Return (Word 3))) rests s.waiting (heap m))
     made m h locals e3 e2 rests =
         step (St 6 locals (Take (Word 2) (Return (Word 3))) rests s.waiting (heap m)) t' (
         let r = le_true (s.alloc + 8 * (n + 1)) setting.top room in rw (e2, r) refl)
         (way 6 locals (Take (Word 2) (Return (Word 3))) rests s.waiting m s.words h.below (omega arith) (omega arith)
-        (omega arith))
-        (record { steps = 0; few = le_refl 0; reach = reached })
+        (omega arith)) (le_refl 3)
+        (record { steps = 0; few = le_refl 0; cheap = le_refl 0; reach = reached })
       where
         after : Heap
         after = record { memory = m; alloc = s.alloc + 8 * (n + 1); words = s.words + (n + 1) }
@@ -351,7 +370,8 @@ module _ {V : Type 0} (reading : Halt → Ending V) (setting : Setting) (l : Lay
         }
 
     filled_in : (rests : List Code)
-        → Within (4 * n + 10) (St 6 (set_local 3 s.alloc (set_local 2 (n + 1) (bind 0 (n ∷ w ∷ []) no_locals))) (
+        → Within (4 * n + 10) (61 * n + 89) (St 6 (set_local 3 s.alloc (set_local 2 (n + 1) (bind 0
+        (n ∷ w ∷ []) no_locals))) (
         Compute Sll 4 (Word 0) (Number 32) (
         Compute Add 4 (Word 4) (Number 6) (
         Store (Word 4) (Word 3) 0 (
@@ -384,7 +404,8 @@ module _ {V : Type 0} (reading : Halt → Ending V) (setting : Setting) (l : Lay
         (computes m1 h1.below (omega arith) s.alloc 8 (s.alloc + 8) refl refl
         (add_is s.alloc 8 (omega (arith, end_small))) refl
         (computes m1 h1.below (omega arith) n 3 (8 * n) refl refl (eight_times n (omega (arith, end_small))) refl
-        (computes m1 h1.below (omega arith) (s.alloc + 8) (8 * n) (s.alloc + 8 + 8 * n) refl refl
+        (computes {price = 39 + (61 * n + 20 + 3)} m1 h1.below (omega arith) (s.alloc + 8) (8 * n)
+        (s.alloc + 8 + 8 * n) refl refl
         (add_is (s.alloc + 8) (8 * n) end_small) refl
         (step (St 6 last (Call 4 own (Word 4 ∷ Word 5 ∷ Word 1 ∷ []) (Take (Word 2) (Return (Word 3)))) rests s.waiting
         (heap m1))
@@ -392,18 +413,22 @@ module _ {V : Type 0} (reading : Halt → Ending V) (setting : Setting) (l : Lay
         (rw (there) refl)
         (way 6 last (Call 4 own (Word 4 ∷ Word 5 ∷ Word 1 ∷ []) (Take (Word 2) (Return (Word 3)))) rests s.waiting m1
         s.words h1.below (omega arith) (omega arith) (omega arith))
-        (subst (λ p. Within (4 * n + 2 + 1) (St 3 (bind 0 (p ∷ (s.alloc + 8 + 8 * n) ∷ w ∷ []) no_locals) loop_code []
+        (let y : 39 + (61 * n + 20 + 3) ≤ 39 + (61 * n + 20 + 3) = le_refl _ in
+        let z = ap entering_some there in omega (arith, y, z))
+        (subst (λ p. Within (4 * n + 2 + 1) (61 * n + 20 + 3) (St 3 (bind 0 (p ∷
+        (s.alloc + 8 + 8 * n) ∷ w ∷ []) no_locals) loop_code []
         waiting (heap m1))) none
         (looped 6 last (Take (Word 2) (Return (Word 3))) rests refl
         (λ m h. made m h (set_local 4 0 last) refl refl rests) n 0 (omega arith) m1 h1)))))))))
-        (omega arith)
+        (omega arith) (omega arith)
 
   asked : Locals
   asked = bind 0 (n ∷ w ∷ []) no_locals
 
   -- a vector of so many elements, or the region is exhausted
   pub vectors_are_made : n < 2 ^ 63 → ComesToVector reading setting l s objects (fill_proc own) n w (4 * n + 13)
-  vectors_are_made positive = let z = begun in (z.steps, z.few, z.reach)
+      (61 * n + 124)
+  vectors_are_made positive = let z = begun in (z.steps, z.few, z.reach, z.cheap)
     where
       untouched : Below s.memory
       untouched j lt = refl
@@ -424,7 +449,8 @@ module _ {V : Type 0} (reading : Halt → Ending V) (setting : Setting) (l : Lay
           Take (Word 2) (Return (Word 3)))))))))
 
       requested : (rests : List Code)
-          → Within (4 * n + 11) (St 6 (set_local 2 (n + 1) (bind 0 (n ∷ w ∷ []) no_locals)) (Request 3 (Word 2) (
+          → Within (4 * n + 11) (61 * n + 105) (St 6 (set_local 2 (n + 1) (bind 0 (n ∷ w ∷ []) no_locals)) (Request 3
+          (Word 2) (
           Compute Sll 4 (Word 0) (Number 32) (
           Compute Add 4 (Word 4) (Number 6) (
           Store (Word 4) (Word 3) 0 (
@@ -462,14 +488,18 @@ module _ {V : Type 0} (reading : Halt → Ending V) (setting : Setting) (l : Lay
               (omega arith) (omega arith)
 
           by_room : (nat_le (s.alloc + 8 * (n + 1)) setting.top ≡ true)
-              ⊎ (nat_le (s.alloc + 8 * (n + 1)) setting.top ≡ false) → Within (4 * n + 11) t0
+              ⊎ (nat_le (s.alloc + 8 * (n + 1)) setting.top ≡ false)
+              → Within (4 * n + 11) (61 * n + 105) t0
           by_room (inl r) =
               more
               (step t0 (St 6 (set_local 3 s.alloc locals) code rests s.waiting (heap s.memory)) (rw (r) refl) first_way
-              (filled_in (grind (arith, r)) rests)) (omega arith)
+              (le_refl (16 + (61 * n + 89))) (filled_in (grind (arith, r)) rests)) (omega arith) (omega arith)
           by_room (inr r) = record {
             steps = 1;
             few = omega arith;
+            cheap =
+                costs_last reading setting (61 * n + 105) t0 refused (reading (Lacks Region)) (rw (r) refl)
+                (omega arith);
             reach =
                 by_step N P Q 0 t0 (Stop (reading (Lacks Region)) refused) (rw (r) refl) first_way
                 (subst (λ x. Onward (Stop x refused) P Q) (sym exhausts)
@@ -477,18 +507,19 @@ module _ {V : Type 0} (reading : Halt → Ending V) (setting : Setting) (l : Lay
                 (le_refl (s.words + (n + 1)))));
           }
 
-      begun : Within (4 * n + 13) (St 6 (bind 0 (n ∷ w ∷ []) no_locals) (fill_code own) [] s.waiting (heap s.memory))
+      begun : Within (4 * n + 13) (61 * n + 124) (St 6 (bind 0 (n ∷ w ∷ []) no_locals) (fill_code own) [] s.waiting
+          (heap s.memory))
       begun =
           more
           (if_false s.memory untouched (omega arith) n 0 refl refl (not_below (signed n (omega (arith, positive))))
           (computes s.memory untouched (omega arith) n 1 (n + 1) refl refl (add_is n 1 (omega (arith, positive))) refl
           (requested _)))
-          (omega arith)
+          (omega arith) (omega arith)
 
   -- a length below 0 traps
   pub lengths_below_zero_trap : 2 ^ 63 ≤ n → n < 2 ^ 64
       → ComesWhere reading setting l s (fill_proc own) (n ∷ w ∷ [])
-      (TrapsAt reading setting l s Length) 1 0
+      (TrapsAt reading setting l s Length) 1 0 0 14
   unfolding environment_call
   lengths_below_zero_trap ge fits = (
     1,
@@ -502,10 +533,11 @@ module _ {V : Type 0} (reading : Halt → Ending V) (setting : Setting) (l : Lay
       same = refl;
       same_after = refl;
     }),
+    costs_on reading setting 0 0 14 t0 t1 (let e = below (signed n fits) in rw (e) refl) (le_refl 0) (le_refl 14),
   )
     where
       P' : LowState → Type 0
-      P' = OnTheWay setting l s 0 9
+      P' = OnTheWay setting l s 0 0
 
       Q' : LowState → Type 0
       Q' = TrapsAt reading setting l s Length

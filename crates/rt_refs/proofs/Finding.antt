@@ -94,7 +94,7 @@ module _ {V : Type 0} (walk : Walk V) (low : walk.l.tallest ≤ 65534) (A : Type
     IsCell a = (wa : ℕ) → IsHeld objects a wa → CellStands walk.l objects h.memory wa ws
 
     abbrev Runs : Type 0
-    Runs = ReachedIn walk (More 8 0 B) (state 6 locals (find_cell rest) rests waiting h)
+    Runs = ReachedIn walk (More 8 0 0 46 B) (state 6 locals (find_cell rest) rests waiting h)
 
     cell_header : (wa : ℕ) (cell : CellStands walk.l objects h.memory wa ws)
         → WordThere walk h (wa + 0) (header cell.kind 0 (length ws))
@@ -116,7 +116,7 @@ module _ {V : Type 0} (walk : Walk V) (low : walk.l.tallest ≤ 65534) (A : Type
         (computes walk objects fine head0 32 (length ws) refl refl
         (count_read cell.kind 0 (length ws) (omega (arith, z.0)) (omega arith)) refl
         (go wv 0 _ rests held cell refl wv_is refl refl refl refl)))))))
-        (omega arith, omega arith)
+        (omega arith, omega arith, omega arith, omega arith)
 
     proxied : (a : A) (c : Coercion) → Carried objects (Proxied a c) wv → IsCell a → FoundGo (Proxied a c) a → Runs
     proxied a c hv is_cell go =
@@ -135,7 +135,7 @@ module _ {V : Type 0} (walk : Walk V) (low : walk.l.tallest ≤ 65534) (A : Type
         (computes walk objects fine head0 32 (length ws) refl refl
         (count_read cell.kind 0 (length ws) (omega (arith, y.0)) (omega arith)) refl
         (go hv.0 hv.1 _ rests hv.3 cell (hv.4, hv.5) refl refl refl refl refl)))))))))
-        (omega arith, omega arith)
+        (omega arith, omega arith, omega arith, omega arith)
 
     pub found : (u : Merged A) (a : A) → under u ≡ Some a → Carried objects u wv → IsCell a → FoundGo u a → Runs
     found (Base hd x) a e hv is_cell go = none_some e
@@ -156,7 +156,7 @@ module _ {V : Type 0} (walk : Walk V) (low : walk.l.tallest ≤ 65534) (A : Type
         → ReachedIn walk B (state 6 found rest rests' waiting h)
 
     abbrev Takes : Type 0
-    Takes = ReachedIn walk (More 3 0 B) (state 6 locals (take_part offset rest) rests waiting h)
+    Takes = ReachedIn walk (More 3 0 0 27 B) (state 6 locals (take_part offset rest) rests waiting h)
 
     no_part : wc ≡ 0 → PartGo Id → Takes
     no_part e go =
@@ -164,7 +164,7 @@ module _ {V : Type 0} (walk : Walk V) (low : walk.l.tallest ≤ 65534) (A : Type
         (if_true walk objects fine wc 0 wc_is refl (eq_true wc 0 e)
         (ends_branch walk objects fine
         (go wc locals rests e (record { normal = tt; low = omega arith }) refl refl refl wc_is)))
-        (omega arith, omega arith)
+        (omega arith, omega arith, omega arith, omega arith)
 
     one_part : (c d : Coercion) → Held walk.l objects c wc → IsLow walk.l c → cell_coercion k c ≡ Some d → PartGo d
         → Takes
@@ -182,7 +182,7 @@ module _ {V : Type 0} (walk : Walk V) (low : walk.l.tallest ≤ 65534) (A : Type
         (if_false walk objects fine wc 0 wc_is refl (eq_false wc 0 (λ f. omega (arith, f, n.0)))
         (loads walk objects fine wc headc hc.0 (suc k) p.0 wc_is hc.1 p.1 (omega (arith, place)) refl
         (ends_branch walk objects fine (go p.0 _ rests p.2 ld refl refl refl refl))))
-        (omega arith, omega arith)
+        (omega arith, omega arith, omega arith, omega arith)
 
     pub part_taken : (u : Merged A) (a : A) (d : Coercion) → cell_behind k u ≡ Some (a, d)
         → KeepsCoercion objects u wc → PartGo d → Takes

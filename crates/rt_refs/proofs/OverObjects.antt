@@ -12,6 +12,7 @@ use Rattle.coercion_norm.specs.MergedMode.{function_parts}
 use Rattle.coercion_norm.specs.Objects.{Object, Fixed}
 use Rattle.coercion_norm.specs.Held.{Layout, There}
 use Rattle.rt_cast.specs.Costs.{cast_cost}
+use Rattle.rt_cast.specs.LightCasts.{cast_words_of, cast_price_of}
 use Rattle.rt_cast.specs.ComposeCodes.{cast}
 use Rattle.rt_cast.specs.MergedValues.{Merged, Proxied, Outcome, Stuck, Blames, cast_value}
 use Rattle.rt_cast.specs.Carried.{IsVery, Carries, AreCarried, ComesTo}
@@ -20,7 +21,7 @@ use Rattle.rt_cast.proofs.Public.{very_still}
 use Rattle.rt_refs.specs.CallCodes.{apply_proc}
 use Rattle.rt_refs.specs.CellCodes.{read_proc, write_proc}
 use Rattle.rt_refs.specs.Arguments.{Arguments, NoArguments, arguments_cast, handed}
-use Rattle.rt_refs.specs.CallLaws.{apply_cost, Resumes, ComesToCall, GoesOnTo}
+use Rattle.rt_refs.specs.CallLaws.{apply_cost, arguments_words, apply_price, Resumes, ComesToCall, GoesOnTo}
 use Rattle.rt_refs.specs.CellLaws.{cell_behind, under, CellStands, CellInRegion, TrapsAt, TellsAt, WriteComes}
 use Rattle.rt_refs.specs.CellLaws.{ComesWhere, ComesWriting}
 use Rattle.rt_refs.proofs.Applying.{calls_through_proxies, answers_cast}
@@ -38,6 +39,7 @@ module _ {V : Type 0} where
       → arguments_cast heads l.types 0 ds us ≡ r → (r ≡ NoArguments → ⊥)
       → ComesToCall reading setting l first s (IsVery l) objects (apply_proc (cast first)) (handed wv ws) f address e
       r (apply_cost (cast_cost l.width l.tallest) (length us)) (4 * l.tallest + 7)
+      (arguments_words l ds us) (apply_price l ds us)
   calls_are_made reading setting l first s exhausts ready low objects filled heads f c ds e split us wv ws hv hu few
       head address rest there r is some =
       calls_through_proxies reading setting l first s exhausts ready heads (IsVery l)
@@ -51,7 +53,7 @@ module _ {V : Type 0} where
       (c : Coercion) → Resumes l first objects w c → (u : Merged ℕ) (wv : ℕ) → Carries l objects u wv
       → (r : Outcome ℕ) → cast_value head l.types c u ≡ r → (r ≡ Stuck → ⊥)
       → GoesOnTo reading setting l s (IsVery l) objects w wv r (cast_cost l.width l.tallest + 1)
-      (4 * l.tallest + 6)
+      (4 * l.tallest + 6) (cast_words_of l c u) (cast_price_of l c u + 70)
   answers_are_cast reading setting l first s exhausts ready low objects filled head w c resumes u wv hv r e some =
       answers_cast reading setting l first s exhausts ready (λ i a. head a) (IsVery l)
       (λ old new g a w h. very_still reading setting l first s exhausts ready old new g a w h) (λ os a w h. h.solid)
@@ -67,6 +69,7 @@ module _ {V : Type 0} where
       → (r ≡ Stuck → ⊥)
       → ComesWhere reading setting l s (read_proc (cast first)) (which ∷ wv ∷ i ∷ [])
       (ComesTo l setting s (IsVery l) objects r) (cast_cost l.width l.tallest + 17) (4 * l.tallest + 6)
+      (cast_words_of l d x) (cast_price_of l d x + 148)
   elements_are_read reading setting l first s exhausts ready low objects filled head u wv hv a d behind ws cell which i
       word other got x hx r e some =
       reads reading setting l first s exhausts ready head (IsVery l) (λ old new g a w h. very_still reading setting l
@@ -81,7 +84,7 @@ module _ {V : Type 0} where
       → Carries l objects u wv → (a : ℕ) → under u ≡ Some a → (ws : List ℕ) → CellStands l objects s.memory a ws
       → (which i : ℕ) → (which == 2) ≡ false → length ws ≤ i
       → ComesWhere reading setting l s (read_proc (cast first)) (which ∷ wv ∷ i ∷ [])
-      (TrapsAt reading setting l s Index) 10 0
+      (TrapsAt reading setting l s Index) 10 0 0 73
   indices_outside_trap reading setting l first s exhausts ready low objects filled u wv hv a stands ws cell which i
       other outside =
       outside_reads reading setting l first s exhausts ready (λ b. IntHead) (IsVery l)
@@ -94,7 +97,7 @@ module _ {V : Type 0} where
       → Filled setting l objects (heap_of s) → (u : Merged ℕ) (wv : ℕ) → Carries l objects u wv → (a : ℕ)
       → under u ≡ Some a → (ws : List ℕ) → CellStands l objects s.memory a ws → (i : ℕ)
       → ComesWhere reading setting l s (read_proc (cast first)) (2 ∷ wv ∷ i ∷ [])
-      (TellsAt setting l s objects (length ws)) 8 0
+      (TellsAt setting l s objects (length ws)) 8 0 0 57
   lengths_are_told reading setting l first s exhausts ready objects filled u wv hv a stands ws cell i =
       lengths reading setting l first s exhausts ready (IsVery l) objects filled ws u wv hv a stands
       (λ wa h. subst (λ n. CellStands l objects s.memory n ws) (sym h.is) cell) i
@@ -108,6 +111,7 @@ module _ {V : Type 0} where
       → (r : Outcome ℕ) → cast_value head l.types d x ≡ r → (r ≡ Stuck → ⊥)
       → ComesWriting reading setting l s (write_proc (cast first)) (which ∷ wv ∷ i ∷ word ∷ [])
       (WriteComes setting l s (IsVery l) objects a i r) (cast_cost l.width l.tallest + 18) (4 * l.tallest + 7)
+      (cast_words_of l d x) (cast_price_of l d x + 147)
   elements_are_written reading setting l first s exhausts ready low objects filled begins head u wv hv a d behind ws
       cell which i word old got x hx r e some =
       writes reading setting l first s exhausts ready head (IsVery l) (λ old new g a w h. very_still reading setting l
@@ -124,7 +128,7 @@ module _ {V : Type 0} where
       (x : Merged ℕ) → Carries l objects x word → (label : ℕ) → cast_value head l.types d x ≡ Blames label
       → ComesWriting reading setting l s (write_proc (cast first)) (0 ∷ wv ∷ i ∷ word ∷ [])
       (WriteComes setting l s (IsVery l) objects a i (Blames label)) (cast_cost l.width l.tallest + 18)
-      (4 * l.tallest + 7)
+      (4 * l.tallest + 7) (cast_words_of l d x) (cast_price_of l d x + 147)
   box_writes_are_blamed reading setting l first s exhausts ready low objects filled begins head u wv hv a d behind ws
       cell i word x hx label e =
       writes_blamed reading setting l first s exhausts ready head (IsVery l) (λ old new g a w h. very_still reading
@@ -138,7 +142,7 @@ module _ {V : Type 0} where
       (wv : ℕ) → Carries l objects u wv → (a : ℕ) → under u ≡ Some a → (ws : List ℕ)
       → CellStands l objects s.memory a ws → (which i word : ℕ) → (which == 0) ≡ false → length ws ≤ i
       → ComesWhere reading setting l s (write_proc (cast first)) (which ∷ wv ∷ i ∷ word ∷ [])
-      (TrapsAt reading setting l s Index) 10 0
+      (TrapsAt reading setting l s Index) 10 0 0 73
   writes_outside_trap reading setting l first s exhausts ready low objects filled u wv hv a stands ws cell which
       i word other outside =
       outside_writes reading setting l first s exhausts ready (IsVery l)

@@ -17,6 +17,7 @@ use Rattle.coercion_norm.specs.ObjectsOfRows.{header}
 use Rattle.coercion_norm.specs.Held.{Layout}
 use Rattle.rt_cast.specs.WholeObjects.{IsSolid}
 use Rattle.rt_cast.specs.Costs.{cast_cost}
+use Rattle.rt_cast.specs.LightCasts.{cast_words_of, cast_price_of}
 use Rattle.rt_cast.specs.ComposeCodes.{cast}
 use Rattle.rt_cast.specs.Procs.{cast_proc}
 use Rattle.rt_cast.specs.States.{Grows, Heap, Fine, Filled, IsReady, around, heap_of, st}
@@ -61,16 +62,16 @@ module _ {V : Type 0} (reading : Halt → Ending V) (setting : Setting) (l : Lay
       let c = cell wa h in record { kind = c.kind; one = c.one; there = inr c.is; held = c.held }
 
   -- the walk of a procedure that may change what was there
-  abbrev writing : (LowState → Type 0) → Walk V
-  writing Q = record {
+  abbrev writing : ℕ → (LowState → Type 0) → Walk V
+  writing asks Q = record {
     reading = reading;
     setting = setting;
     l = l;
     around = around s;
-    P = OnTheWayWriting setting l s (4 * l.tallest + 7) (9 * (cast_cost l.width l.tallest + 18));
+    P = OnTheWayWriting setting l s (4 * l.tallest + 7) asks;
     Q = Q;
     frames = length s.waiting + (4 * l.tallest + 7);
-    most = s.words + 9 * (cast_cost l.width l.tallest + 18);
+    most = s.words + asks;
     calm = λ active waiting h objects fine turns few asked. record {
       objects = objects;
       filled = fine.filled;
@@ -86,12 +87,12 @@ module _ {V : Type 0} (reading : Halt → Ending V) (setting : Setting) (l : Lay
     types = ready.types;
   }
 
-  module _ (i : ℕ) (inside : i < length ws) (r : Outcome A) (y : Merged A) (q : r ≡ Gives y) (new : List Object)
+  module _ (asks i : ℕ) (inside : i < length ws) (r : Outcome A) (y : Merged A) (q : r ≡ Gives y) (new : List Object)
       (h' : Heap) (word' : ℕ) (grows : Grows objects new)
       (fine' : Fine setting l (around s) new h') (hy : CarriedBy l IsHeld new y word') (wa : ℕ)
       (ha : IsHeld objects a wa) where
     abbrev w : Walk V
-    w = writing (WriteComes setting l s IsHeld objects a i r)
+    w = writing asks (WriteComes setting l s IsHeld objects a i r)
 
     abbrev after : Heap
     after = record {
@@ -126,6 +127,7 @@ module _ {V : Type 0} (reading : Halt → Ending V) (setting : Setting) (l : Lay
     written locals rests = record {
       steps = 0;
       few = le_refl 0;
+      cheap = omega arith;
       reach = λ spare.
           subst (λ z. WriteComes setting l s IsHeld objects a i z
           (st (around s) 6 locals (Return (Number 0)) rests s.waiting after)) (sym q) (record {
@@ -148,7 +150,7 @@ module _ {V : Type 0} (reading : Halt → Ending V) (setting : Setting) (l : Lay
     }
 
     stored : (locals : Locals) (rests : List Code) → locals 1 ≡ Some wa → locals 2 ≡ Some i → locals 3 ≡ Some word'
-        → ReachedIn w (More 3 0 End) (st (around s) 6 locals store_code rests s.waiting h')
+        → ReachedIn w (More 3 0 0 12 End) (st (around s) 6 locals store_code rests s.waiting h')
     stored locals rests e1 e2 e3 =
         let z = found_within new l.region wa _ place in
         let even = z.even ready.placed.even_region in
@@ -162,34 +164,41 @@ module _ {V : Type 0} (reading : Halt → Ending V) (setting : Setting) (l : Lay
         (omega (arith, z.low, begins))
         (omega (arith, z.high, inside, fine'.filled.ends, fine'.filled.fits))) p
         (written _ rests))))
-        (omega arith, omega arith)
+        (omega arith, omega arith, omega arith, omega arith)
 
   -- what is written is stored, as the proxy casts it, or a label is blamed
   module _ (d : Coercion) (behind : cell_behind 1 u ≡ Some (a, d)) (which i word : ℕ) (x : Merged A)
       (hx : CarriedBy l IsHeld objects x word) (r : Outcome A) (e : cast_value head l.types d x ≡ r)
       (some : r ≡ Stuck → ⊥) where
     abbrev v : Walk V
-    v = writing (WriteComes setting l s IsHeld objects a i r)
+    v = writing (cast_words_of l d x) (WriteComes setting l s IsHeld objects a i r)
 
     abbrev Writes : Type 0
     Writes =
         ComesWriting reading setting l s (write_proc (cast first)) (which ∷ wv ∷ i ∷ word ∷ [])
         (WriteComes setting l s IsHeld objects a i r) (cast_cost l.width l.tallest + 18) (4 * l.tallest + 7)
+        (cast_words_of l d x) (cast_price_of l d x + 147)
 
     abbrev begun : Type 0
     begun =
-        ReachedIn v (More (cast_cost l.width l.tallest + 18) (4 * l.tallest + 7) End)
+        ReachedIn v (More (cast_cost l.width l.tallest + 18) (4 * l.tallest + 7)
+        (cast_words_of l d x) (cast_price_of l d x + 147) End)
         (st (around s) 6 (start which i word) (write_code (cast first)) [] s.waiting (heap_of s))
 
     done : begun → Writes
-    done z =
-        (z.steps, (let g = z.few in omega arith), z.reach (record { room = omega arith; left = omega arith }))
+    done z = (
+      z.steps,
+      (let g = z.few in omega arith),
+      z.reach (record { room = omega arith; left = omega arith }),
+      let c = z.cheap in omega (arith, c),
+    )
 
     blames : (label : ℕ) → r ≡ Blames label
         → Goes v low A IsHeld still is_solid End objects s.waiting (Blames label)
     blames label q = λ new h' count locals rests waiting aa b dd e' rest grows fine' ea eb ld le. record {
       steps = 0;
       few = le_refl 0;
+      cheap = omega arith;
       reach = λ spare.
           subst (λ y. WriteComes setting l s IsHeld objects a i y
           (st (around s) count locals (Environment 3 aa b dd e' rest) rests waiting h')) (sym q) (record {
@@ -214,48 +223,53 @@ module _ {V : Type 0} (reading : Halt → Ending V) (setting : Setting) (l : Lay
       parted : (wa wc : ℕ) (found : Locals) (rests : List Code) → IsHeld objects a wa
           → KeepsCoercion v low A IsHeld still is_solid objects u wc → found 1 ≡ Some wa → found 2 ≡ Some i
           → found 3 ≡ Some word → found 5 ≡ Some wc
-          → ReachedIn v (More (cast_cost l.width l.tallest + 8) (4 * l.tallest + 7) End)
+          → ReachedIn v (More (cast_cost l.width l.tallest + 8) (4 * l.tallest + 7)
+          (cast_words_of l d x) (cast_price_of l d x + 74) End)
           (st (around s) 6 found (part_code first) rests s.waiting (heap_of s))
       parted wa wc found rests ha keeps e1 e2 e3 e5 =
           at_most v
-          (part_taken v low A IsHeld still is_solid (More (cast_cost l.width l.tallest + 5) (4 * l.tallest + 7) End) 1
+          (part_taken v low A IsHeld still is_solid (More (cast_cost l.width l.tallest + 5) (4 * l.tallest + 7)
+          (cast_words_of l d x) (cast_price_of l d x + 47) End) 1
           16 refl objects (heap_of s) fine s.waiting rests found (Call 3 (cast first) (Word 3 ∷ Word 5 ∷ []) store_code)
           wc e5 u a d behind keeps
           (λ wd taken rests' hd ld f1 f2 f3 f5.
           at_most v
           (calls v objects fine (word ∷ wd ∷ []) (cast_proc first)
           (ap₂ and_more (f3 ∙ e3) (ap (λ o. and_more o (Some [])) f5)) (v.stands 2 _ refl) refl
-          (cast_behind v low A IsHeld still is_solid head End (More 3 0 End) objects (heap_of s) fine s.waiting
+          (cast_behind v low A IsHeld still is_solid head End (More 3 0 0 12 End) objects (heap_of s) fine s.waiting
           (record { count = 6; locals = taken; code = store_code; rests = rests' }) 3 refl d ld x word wd hx hd r e some
           (λ y q new h' word' grows fine' hy.
-          stored i (inside y q) r y q new h' word' grows fine' hy wa ha _ _ (f1 ∙ e1) (f2 ∙ e2) refl)
+          stored (cast_words_of l d x) i (inside y q) r y q new h' word' grows fine' hy wa ha _ _ (f1 ∙ e1)
+          (f2 ∙ e2) refl)
           blames))
-          (omega arith, omega arith)))
-          (omega arith, omega arith)
+          (omega arith, omega arith, omega arith, omega arith)))
+          (omega arith, omega arith, omega arith, omega arith)
 
       to_box : (which == 0) ≡ true → begun
       to_box is_box =
           at_most v
           (if_true v objects fine which 0 refl refl is_box
-          (found v low A IsHeld still is_solid (More (cast_cost l.width l.tallest + 8) (4 * l.tallest + 7) End) objects
+          (found v low A IsHeld still is_solid (More (cast_cost l.width l.tallest + 8) (4 * l.tallest + 7)
+          (cast_words_of l d x) (cast_price_of l d x + 74) End) objects
           (heap_of s) fine s.waiting _ (start which i word) (part_code first) wv refl ws u a
           (behind_under v low A IsHeld still is_solid 1 u a d behind) hv cell_stands
           (λ wa wc found rests ha cell_is keeps e1 e2 e3 e4 e5. parted wa wc found rests ha keeps e1 e2 e3 e5)))
-          (omega arith, omega arith)
+          (omega arith, omega arith, omega arith, omega arith)
 
       to_vector : (which == 0) ≡ false → i < length ws → begun
       to_vector other less =
           at_most v
           (if_false v objects fine which 0 refl refl other
-          (found v low A IsHeld still is_solid (More (cast_cost l.width l.tallest + 9) (4 * l.tallest + 7) End) objects
+          (found v low A IsHeld still is_solid (More (cast_cost l.width l.tallest + 9) (4 * l.tallest + 7)
+          (cast_words_of l d x) (cast_price_of l d x + 87) End) objects
           (heap_of s) fine s.waiting _ (start which i word) (test_index (part_code first)) wv refl ws u a
           (behind_under v low A IsHeld still is_solid 1 u a d behind) hv cell_stands
           (λ wa wc found rests ha cell_is keeps e1 e2 e3 e4 e5.
           at_most v
           (if_true v objects fine i (length ws) e2 e4 (lt_true i (length ws) less)
           (parted wa wc found _ ha keeps e1 e2 e3 e5))
-          (omega arith, omega arith))))
-          (omega arith, omega arith)
+          (omega arith, omega arith, omega arith, omega arith))))
+          (omega arith, omega arith, omega arith, omega arith)
 
     writes_element : (old : ℕ) → slice_get ws i ≡ Some old → Writes
     writes_element old got = done (by_test (which == 0) refl)
@@ -278,6 +292,7 @@ module _ {V : Type 0} (reading : Halt → Ending V) (setting : Setting) (l : Lay
       → (r ≡ Stuck → ⊥)
       → ComesWriting reading setting l s (write_proc (cast first)) (which ∷ wv ∷ i ∷ word ∷ [])
       (WriteComes setting l s IsHeld objects a i r) (cast_cost l.width l.tallest + 18) (4 * l.tallest + 7)
+      (cast_words_of l d x) (cast_price_of l d x + 147)
   writes d behind which i word old got x hx r e some = writes_element d behind which i word x hx r e some old got
 
   -- a box has one word, but the blame comes first, whatever words the cell has
@@ -286,7 +301,7 @@ module _ {V : Type 0} (reading : Halt → Ending V) (setting : Setting) (l : Lay
       → cast_value head l.types d x ≡ Blames label
       → ComesWriting reading setting l s (write_proc (cast first)) (which ∷ wv ∷ i ∷ word ∷ [])
       (WriteComes setting l s IsHeld objects a i (Blames label)) (cast_cost l.width l.tallest + 18)
-      (4 * l.tallest + 7)
+      (4 * l.tallest + 7) (cast_words_of l d x) (cast_price_of l d x + 147)
   writes_blamed d behind which i word is_box x hx label e =
       blames_first d behind which i word x hx (Blames label) e
       (λ z. let impossible : ⊥ = cc in impossible) is_box label refl
@@ -305,28 +320,33 @@ module _ {V : Type 0} (reading : Halt → Ending V) (setting : Setting) (l : Lay
   -- an index outside a vector traps, whatever the proxy's coercion is, and before anything is cast
   pub outside_writes : under u ≡ Some a → (which i word : ℕ) → (which == 0) ≡ false → length ws ≤ i
       → ComesWhere reading setting l s (write_proc (cast first)) (which ∷ wv ∷ i ∷ word ∷ [])
-      (TrapsAt reading setting l s Index) 10 0
+      (TrapsAt reading setting l s Index) 10 0 0 73
   unfolding environment_call
   outside_writes stands which i word other outside =
-      let z = begun in
-      (z.steps, (let g = z.few in omega arith), z.reach (record { room = omega arith; left = omega arith }))
+      let z = begun in (
+        z.steps,
+        (let g = z.few in omega arith),
+        z.reach (record { room = omega arith; left = omega arith }),
+        let c = z.cheap in omega (arith, c),
+      )
     where
       v : Walk V
-      v = walk reading setting l first s exhausts ready (TrapsAt reading setting l s Index) 0 (9 * 10)
+      v = walk reading setting l first s exhausts ready (TrapsAt reading setting l s Index) 0 0
 
-      begun : ReachedIn v (More 10 0 End)
+      begun : ReachedIn v (More 10 0 0 73 End)
           (st (around s) 6 (bind 0 (which ∷ wv ∷ i ∷ word ∷ []) no_locals) (write_code (cast first)) [] s.waiting
           (heap_of s))
       begun =
           at_most v
           (if_false v objects fine_here which 0 refl refl other
-          (found v low A IsHeld still is_solid (More 1 0 End) objects (heap_of s) fine_here s.waiting _
+          (found v low A IsHeld still is_solid (More 1 0 0 13 End) objects (heap_of s) fine_here s.waiting _
           (bind 0 (which ∷ wv ∷ i ∷ word ∷ []) no_locals) (test_index (part_code first)) wv refl ws u a stands hv cell
           (λ wa wc found rests ha cell_is keeps e1 e2 e3 e4 e5.
           let last : (rests' : List Code)
           → ReachedIn v End (st (around s) 6 found trap_index rests' s.waiting (heap_of s)) = λ rests'. record {
             steps = 0;
             few = le_refl 0;
+            cheap = omega arith;
             reach = λ spare. record {
               objects = objects;
               fine = fine_here;
@@ -339,5 +359,5 @@ module _ {V : Type 0} (reading : Halt → Ending V) (setting : Setting) (l : Lay
           } in
           at_most v
           (if_false v objects fine_here i (length ws) e2 e4 (lt_false i (length ws) outside) (last _))
-          (omega arith, omega arith))))
-          (omega arith, omega arith)
+          (omega arith, omega arith, omega arith, omega arith))))
+          (omega arith, omega arith, omega arith, omega arith)

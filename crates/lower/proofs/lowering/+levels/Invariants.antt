@@ -1,7 +1,7 @@
 use Rattle.std.proofs.Common.{◌≡◌, ◌≤◌, max}
 use Rattle.flat_ir.specs.declared.code.FlatBody.{size-FlatBody}
 use Rattle.flat_ir.specs.Views.{body_of}
-use Rattle.lower.specs.Lowered.{levels}
+use Rattle.flat_ir.specs.Levels.{levels}
 use Rattle.lower.proofs.lowering.+levels.Given as goal
 
 -- the levels so far and those of what is left come to those of the whole
