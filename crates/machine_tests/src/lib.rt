@@ -5,6 +5,8 @@
 #[cfg(test)]
 mod assembled;
 #[cfg(test)]
+mod blocks;
+#[cfg(test)]
 mod code;
 #[cfg(test)]
 mod images;

@@ -23,7 +23,11 @@ fn extend_by(bytes: &mut Bytes, word: u64) -> Result<(), OutOfMemory> {
 }
 
 // An image of this code, with a word 0 where it needs one, and these labels.
-fn image_of(alloc: Global, code: &[u32], labels: &[Pos]) -> Result<Option<Image>, OutOfMemory> {
+pub(crate) fn image_of(
+    alloc: Global,
+    code: &[u32],
+    labels: &[Pos],
+) -> Result<Option<Image>, OutOfMemory> {
     let code_len = (code.len() as u64 % 4096).div_ceil(2) * 8;
     let count = labels.len() as u64 % 4096;
     let mut bytes = Bytes::from_slice(alloc, b"GRIFTRV1")?;
@@ -368,7 +372,7 @@ fn call_7_reads(rt: HostRuntime) -> Result<(), Fail> {
             machine.reg(Reg::new(17)),
         );
         assert!(rt; words == (number, none, 7));
-        assert!(rt; machine.world().place == place);
+        assert!(rt; machine.world().input.place == place);
     }
     Ok(())
 }

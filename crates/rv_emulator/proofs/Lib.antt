@@ -1,6 +1,9 @@
 mod Based
 mod Calls
+mod Prefixes
 mod Sound
 mod Runs
+mod Blocking
 mod Start
 mod Written
+mod Paging

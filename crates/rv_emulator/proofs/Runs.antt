@@ -20,8 +20,8 @@ weaker_lack P Q turn old None new f m = m
 weaker_lack P Q turn old (Some stop) new f m = weaker_by P Q turn old (outcome_of stop) new f m
 
 -- a turn that stops ends the run
-pub run_ends : (whole : Bool) (n m : ℕ) (s t u : State) (outcome : Outcome) → run_of n s ≡ (t, None) → n < m →
-    StopsBy (LacksNext whole t) (turn_of t) t outcome u → RunsTo whole m s outcome u
-run_ends whole n m s t u (Halts halt) e l h = rw h.1 (run_stops n m s t _ e l h.0)
-run_ends whole n m s t u Spent e l h = absurd h
-run_ends whole n m s t u NoMemory e l h = (n, l, rw h.1 e, rw h.1 h.0)
+pub run_ends : (whole : Bool) (reserved n m : ℕ) (s t u : State) (outcome : Outcome) → run_of n s ≡ (t, None) → n < m →
+    StopsBy (LacksNext whole reserved t) (turn_of t) t outcome u → RunsTo whole reserved m s outcome u
+run_ends whole reserved n m s t u (Halts halt) e l h = rw h.1 (run_stops n m s t _ e l h.0)
+run_ends whole reserved n m s t u Spent e l h = absurd h
+run_ends whole reserved n m s t u NoMemory e l h = (n, l, rw h.1 e, rw h.1 h.0)

@@ -1,11 +1,11 @@
 -- What an action of the program is as a turn.
-use Rattle.std.specs.Prelude.{◌≡◌, Bool, false}
-use Rattle.grift_base.specs.EnvironmentCall.{Prints}
-use Rattle.rv_machine.specs.State.{State, Turn, Next, reg}
+use Rattle.std.specs.Prelude.{ℕ, ◌≡◌, Bool, false}
+use Rattle.rv_machine.specs.State.{State, Turn, Next}
 use Rattle.rv_machine.specs.Turn.{put, load_into, store_from, branch_if, jump_and_link, next_pc, call_environment}
 use Rattle.rv_machine.specs.Turn.{is_undefined}
 use Rattle.rv_emulator.specs.declared.processor.Action.{Action}
 use Rattle.rv_emulator.specs.declared.processor.Action.TheVariants.{Put, Load, Store, Branch, Jump, Skip, Call, Refuse}
+use Rattle.rv_emulator.specs.Consoles.{LacksRoom}
 use Rattle.rv_emulator.specs.Widths.{width_of}
 
 -- goes on at the next instruction, with nothing else changed
@@ -23,12 +23,12 @@ performed Call s = call_environment s
 performed Refuse s = is_undefined s
 
 -- the action may need memory of the process
-abbrev pub LacksBy : Bool → Action → State → Type 0
-LacksBy whole (Put rd word) s = ⊥
-LacksBy whole (Load rd at width signed) s = ⊥
-LacksBy whole (Store word at width) s = whole ≡ false
-LacksBy whole (Branch taken offset) s = ⊥
-LacksBy whole (Jump rd target) s = ⊥
-LacksBy whole Skip s = ⊥
-LacksBy whole Call s = Prints (reg s 17)
-LacksBy whole Refuse s = ⊥
+abbrev pub LacksBy : Bool → ℕ → Action → State → Type 0
+LacksBy whole reserved (Put rd word) s = ⊥
+LacksBy whole reserved (Load rd at width signed) s = ⊥
+LacksBy whole reserved (Store word at width) s = whole ≡ false
+LacksBy whole reserved (Branch taken offset) s = ⊥
+LacksBy whole reserved (Jump rd target) s = ⊥
+LacksBy whole reserved Skip s = ⊥
+LacksBy whole reserved Call s = LacksRoom reserved s
+LacksBy whole reserved Refuse s = ⊥

@@ -5,6 +5,7 @@ use Rattle.rv_machine.specs.State.{State}
 use Rattle.rv_emulator.specs.declared.processor.Processor.{Processor}
 use Rattle.rv_emulator.specs.declared.processor.Places.{Places}
 use Rattle.rv_emulator.specs.Registers.{regs_of}
+use Rattle.rv_emulator.specs.Consoles.{world_of}
 
 -- told what bytes the memory has
 abbrev pub state_of : {R : Type 0} → (R → Memory) → Processor R → State
@@ -13,7 +14,7 @@ state_of memory p = record {
   pc = p.pc;
   regs = regs_of p.regs;
   memory = from_base (memory p.ram);
-  world = p.world;
+  world = world_of p.console;
 }
 
 -- the parts of memory lie in order and fill it, and the pc is that of an instruction

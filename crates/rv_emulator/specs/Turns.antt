@@ -1,6 +1,5 @@
 -- What a turn and a run of the emulator come to, against the machine's.
 use Rattle.std.specs.Prelude.{ℕ, ◌<◌, ◌≤◌, ◌≡◌, Bool, false, Option, Some, None}
-use Rattle.grift_base.specs.EnvironmentCall.{Prints}
 use Rattle.grift_base.specs.declared.verdicts.Verdict.TheVariants.{Answer, Blame, Trap}
 use Rattle.rv_isa.specs.declared.inst.Inst.{Inst}
 use Rattle.rv_isa.specs.declared.inst.Inst.TheVariants.{Sb, Sh, Sw, Sd, Ecall}
@@ -10,12 +9,13 @@ use Rattle.rv_machine.specs.declared.faults.MachineFault.TheVariants.{BadAddress
 use Rattle.rv_machine.specs.declared.faults.MachineFault.TheVariants.{Misaligned as IsMisaligned}
 use Rattle.rv_machine.specs.Memory.{Memory, load_bytes}
 use Rattle.rv_machine.specs.State.{State, Region, Stack, Halt, Ended as HasEnded, Lacks, GoesWrong}
-use Rattle.rv_machine.specs.State.{Turn, Next, Stops, reg}
+use Rattle.rv_machine.specs.State.{Turn, Next, Stops}
 use Rattle.rv_machine.specs.Mach.{run_of}
 use Rattle.rv_emulator.specs.declared.processor.Processor.{Processor}
 use Rattle.rv_emulator.specs.declared.stops.Stop.{Stop}
 use Rattle.rv_emulator.specs.declared.stops.Stop.TheVariants.{Ended, Blamed, Trapped, RegionOut, StackOut, StepsSpent}
 use Rattle.rv_emulator.specs.declared.stops.Stop.TheVariants.{Undefined, BadAddress, Misaligned, OutOfMemory}
+use Rattle.rv_emulator.specs.Consoles.{LacksRoom}
 use Rattle.rv_emulator.specs.Processor.{state_of}
 
 -- what a stop tells: the machine has stopped so, all steps are made, or the process has no memory left
@@ -64,29 +64,30 @@ NeverLacks s = ⊥
 abbrev pub LacksUnless : Bool → State → Type 0
 LacksUnless whole s = whole ≡ false
 
--- the instruction may need memory of the process: it prints, or it stores into a ram that isn't whole
-abbrev pub LacksAt : Bool → Inst → State → Type 0
-LacksAt whole (Sb rs2 rs1 offset) s = whole ≡ false
-LacksAt whole (Sh rs2 rs1 offset) s = whole ≡ false
-LacksAt whole (Sw rs2 rs1 offset) s = whole ≡ false
-LacksAt whole (Sd rs2 rs1 offset) s = whole ≡ false
-LacksAt whole Ecall s = Prints (reg s 17)
-LacksAt whole i s = ⊥
+-- the instruction may need memory of the process: it prints more than there is room for, where the output can have so
+-- many bytes, or it stores into a ram that isn't whole
+abbrev pub LacksAt : Bool → ℕ → Inst → State → Type 0
+LacksAt whole reserved (Sb rs2 rs1 offset) s = whole ≡ false
+LacksAt whole reserved (Sh rs2 rs1 offset) s = whole ≡ false
+LacksAt whole reserved (Sw rs2 rs1 offset) s = whole ≡ false
+LacksAt whole reserved (Sd rs2 rs1 offset) s = whole ≡ false
+LacksAt whole reserved Ecall s = LacksRoom reserved s
+LacksAt whole reserved i s = ⊥
 
 -- the next instruction, which is there, may need memory
-pub record LacksNext (whole : Bool) (s : State) : Type 0 where
+pub record LacksNext (whole : Bool) (reserved : ℕ) (s : State) : Type 0 where
   pub above : s.layout.code ≤ s.pc
   pub below : s.pc < s.layout.region
   pub next : Inst
   pub is_next : decode_of (load_bytes 4 s.memory s.pc) ≡ Some next
-  pub lacks : LacksAt whole next s
+  pub lacks : LacksAt whole reserved next s
 
 -- ---- runs
 
 -- a run comes to what that many turns come to; or, after fewer turns that all went on, there is no memory for the next
--- instruction
-abbrev pub RunsTo : Bool → ℕ → State → Outcome → State → Type 0
-RunsTo whole steps old (Halts halt) new = run_of steps old ≡ (new, Some halt)
-RunsTo whole steps old Spent new = run_of steps old ≡ (new, None)
-RunsTo whole steps old NoMemory new =
-    (turns : ℕ) × (turns < steps) × (run_of turns old ≡ (new, None)) × LacksNext whole new
+-- instruction, where the output can have so many bytes
+abbrev pub RunsTo : Bool → ℕ → ℕ → State → Outcome → State → Type 0
+RunsTo whole reserved steps old (Halts halt) new = run_of steps old ≡ (new, Some halt)
+RunsTo whole reserved steps old Spent new = run_of steps old ≡ (new, None)
+RunsTo whole reserved steps old NoMemory new =
+    (turns : ℕ) × (turns < steps) × (run_of turns old ≡ (new, None)) × LacksNext whole reserved new

@@ -1,6 +1,7 @@
 // The machine, whose parts fit together.
 
-ghost use Rattle.std.specs.Prelude.{◌≡◌, ◌≤◌, ◌<◌, ◌+◌, ◌%◌, ◌*◌, ◌^◌, ℕ, length, true, IfOk, OnOk};
+ghost use Rattle.std.specs.Prelude.{◌≡◌, ◌≤◌, ◌<◌, ◌+◌, ◌%◌, ◌*◌, ◌^◌, ℕ, length, [], true, IfOk, OnOk, OnErr};
+ghost use Rattle.grift_base.specs.Sink.{sink_seen};
 ghost use Rattle.rv_machine.specs.Memory.{memory_of, first_address};
 ghost use Rattle.rv_machine.specs.Image.{IsImage, statics_len, code_len};
 ghost use Rattle.rv_machine.specs.Start.{IsRegionSize, IsStackSize, start_regs, start_of};
@@ -8,13 +9,18 @@ ghost use Rattle.rv_machine.specs.State.{reg};
 ghost use Rattle.rv_emulator.specs.Registers.{regs_of};
 ghost use Rattle.rv_emulator.specs.Processor.{state_of};
 ghost use Rattle.rv_emulator.specs.Turns.{RunsTo, outcome_of};
+ghost use Rattle.rv_emulator.specs.Consoles.{world_of, reserved_by};
+ghost use Rattle.rv_emulator.specs.Blocks.{RunsBlocks, PutsOutput, with_output};
 
+use crate::blocks::BLOCK_ROOM;
+use crate::consoles::Console;
 use crate::processor::{Places, Processor};
 use crate::ram::{Ram, Width};
 use crate::registers::Registers;
-use crate::stops::Stop;
+use crate::stops::{BlockStop, Stop};
 use assembler::image::Image;
 use grift_base::lists::OutOfMemory;
+use grift_base::sinks::{Sink, SinkFault};
 use grift_base::words::Words;
 use grift_base::worlds::World;
 use rv_isa::number::Reg;
@@ -61,6 +67,7 @@ impl<R: Ram + Drop> Machine<R> {
         let mut ram = ram;
         fill(&mut ram, image.loaded())?;
         let labels = image.labels(alloc)?;
+        let console = Console::of_world(alloc, world)?;
         let places = places_of(image, region, stack);
         Ok(Machine {
             processor: Processor {
@@ -69,7 +76,7 @@ impl<R: Ram + Drop> Machine<R> {
                 pc: places.code + image.entry(),
                 regs: start_registers(places.region, region, stack),
                 ram,
-                world,
+                console,
             },
         })
     }
@@ -111,13 +118,53 @@ fn start_registers(start: u64, region: u64, stack: u64) -> Registers
 impl<R: Ram> Machine<R> {
     /// Runs at most this many instructions; one that stops counts. Every stop leaves registers, memory,
     /// world and pc as before the instruction that stopped, and a later run goes on from there. Want of
-    /// memory comes only at an instruction that prints, or at one that stores into a ram that isn't whole.
+    /// memory comes only at an instruction that prints more than there is room for, or at one that stores into a ram
+    /// that isn't whole.
     pub fn run(&mut self, steps: u64) -> Stop
-        ensures ran { RunsTo (R.whole self.new.ram) steps (state_of R.memory self.old) (outcome_of result)
-            (state_of R.memory self.new) }
+        ensures ran { RunsTo (R.whole self.new.ram) (reserved_by self.new.console) steps (state_of R.memory self.old)
+            (outcome_of result) (state_of R.memory self.new) }
+        ensures reserved { reserved_by self.old.console ≤ reserved_by self.new.console }
         ensures stays_whole { R.whole self.old.ram ≡ true → R.whole self.new.ram ≡ true }
     {
         self.processor.run(steps)
+    }
+
+    /// Runs as `run` does, and puts what is printed: all that waits whenever that is at least 4,096 bytes, and the rest
+    /// at the stop. Nothing may wait at the start. Where a put fails no further instruction is made, and the machine
+    /// keeps the output that was to be put, as for want of memory. That comes before the first instruction, from the
+    /// sink, or where the ram isn't whole.
+    pub fn run_blocks<O: Sink>(&mut self, steps: u64, out: &mut O) -> BlockStop
+        requires { (state_of R.memory self.old).world.output ≡ [] }
+        ensures ran { RunsBlocks (R.whole self.new.ram) steps (state_of R.memory self.old) result
+            (sink_seen O.written O.fault_count out.old out.new) (state_of R.memory self.new) }
+        ensures reserved { reserved_by self.old.console ≤ reserved_by self.new.console }
+        ensures stays_whole { R.whole self.old.ram ≡ true → R.whole self.new.ram ≡ true }
+    {
+        self.processor.run_blocks(steps, out)
+    }
+
+    /// Makes room for 4,128 bytes of output more: a block, and what one instruction prints.
+    pub fn reserve_output(&mut self) -> Result<(), OutOfMemory>
+        ensures state { state_of R.memory self.new ≡ state_of R.memory self.old }
+        ensures ram { self.new.ram ≡ self.old.ram }
+        ensures room { OnOk result (
+            length (state_of R.memory self.new).world.output + 4128 ≤ reserved_by self.new.console) }
+        ensures reserved { reserved_by self.old.console ≤ reserved_by self.new.console }
+    {
+        self.processor.console.reserve(BLOCK_ROOM)
+    }
+
+    /// Puts what was printed in one put, if it is anything, and keeps it no longer. It is refused as that put is, and
+    /// then the machine is as before.
+    pub fn put_output<O: Sink>(&mut self, out: &mut O) -> Result<(), SinkFault>
+        ensures put { PutsOutput (state_of R.memory self.old).world.output result
+            (sink_seen O.written O.fault_count out.old out.new) }
+        ensures ok { OnOk result (state_of R.memory self.new ≡ with_output [] (state_of R.memory self.old)) }
+        ensures err { OnErr result (self.new ≡ self.old) }
+        ensures ram { self.new.ram ≡ self.old.ram }
+        ensures reserved { reserved_by self.new.console ≡ reserved_by self.old.console }
+    {
+        self.processor.put_output(out)
     }
 
     /// What a register reads as.
@@ -134,11 +181,12 @@ impl<R: Ram> Machine<R> {
         self.processor.pc
     }
 
-    /// What the program printed, and its input.
-    pub fn world(&self) -> &World
-        ensures { result.now ≡ (state_of R.memory self.now).world }
+    /// What the program printed, with the room that is left for more, and its input.
+    pub fn world(&self) -> &Console
+        ensures world { world_of result.now ≡ (state_of R.memory self.now).world }
+        ensures reserved { reserved_by result.now ≡ reserved_by self.now.console }
     {
-        &self.processor.world
+        &self.processor.console
     }
 
     /// The memory, whose address 0 is the machine's first address.

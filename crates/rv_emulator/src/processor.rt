@@ -1,11 +1,11 @@
 // One turn after another.
 
-ghost use Rattle.std.specs.Prelude.{◌≡◌, ◌<◌, ◌-◌, ◌*◌, ◌%◌, ◌^◌, ℕ, Bool, length, true, false};
+ghost use Rattle.std.specs.Prelude.{◌≡◌, ◌<◌, ◌≤◌, ◌-◌, ◌*◌, ◌%◌, ◌^◌, ◌⊎◌, ℕ, Bool, length, true, false, Some};
 ghost use Rattle.std.specs.Int.{byte_len};
 ghost use Rattle.rv_machine.specs.Turn.{half, word_of, plus, put, load_into, store_from, branch_if, jump_and_link};
 ghost use Rattle.rv_machine.specs.Turn.{call_environment, act, turn_of};
 ghost use Rattle.rv_machine.specs.State.{reg};
-ghost use Rattle.grift_base.specs.EnvironmentCall.{Prints};
+ghost use Rattle.rv_emulator.specs.Consoles.{reserved_by, LacksRoom, PrintsFew, LacksFew};
 ghost use Rattle.rv_emulator.specs.Widths.{width_of};
 ghost use Rattle.rv_emulator.specs.Processor.{state_of, IsSoundBy};
 ghost use Rattle.rv_emulator.specs.Turns.{MakesTurn, NeverLacks, LacksUnless, LacksAt, LacksNext, RunsTo, outcome_of};
@@ -15,12 +15,13 @@ use crate::arithmetic::{
     extend, extend_half, flag_of, half_shifted_left, half_shifted_right, half_shifted_right_signed,
     is_less_signed, lower, shifted_left, shifted_right, shifted_right_signed,
 };
+use crate::consoles::Console;
 use crate::ram::{Ram, Width};
 use crate::registers::Registers;
 use crate::stops::Stop;
 use grift_base::lists::Items;
 use grift_base::places::Pos;
-use grift_base::worlds::{EnvEffect, World};
+use grift_base::worlds::EnvEffect;
 use rv_isa::inst::{Inst, decode};
 use rv_isa::number::{Imm12, Imm13, Reg, Upper};
 use rv_machine::FIRST_ADDRESS;
@@ -62,7 +63,7 @@ pub struct Processor<R> {
     pub pc: u64,
     pub regs: Registers,
     pub ram: R,
-    pub world: World,
+    pub console: Console,
 }
 
 impl<R: Ram> Processor<R> {
@@ -70,6 +71,7 @@ impl<R: Ram> Processor<R> {
     fn put(&mut self, rd: Reg, word: u64) -> Option<Stop>
         ensures made { MakesTurn R.memory NeverLacks (put rd word) self.old result self.new }
         ensures ram { self.new.ram ≡ self.old.ram }
+        ensures console { self.new.console ≡ self.old.console }
     {
         self.regs.set(rd, word);
         self.pc = self.pc.wrapping_add(4);
@@ -82,6 +84,7 @@ impl<R: Ram> Processor<R> {
         ensures made { let turn = load_into signed (width_of width) rd at in
             MakesTurn R.memory NeverLacks turn self.old result self.new }
         ensures ram { self.new.ram ≡ self.old.ram }
+        ensures console { self.new.console ≡ self.old.console }
     {
         let bytes = width.bytes();
         if at % bytes != 0 {
@@ -99,6 +102,7 @@ impl<R: Ram> Processor<R> {
         requires { IsSoundBy R.bytes_len self.old }
         ensures made { let lacks = LacksUnless (R.whole self.new.ram) in
             MakesTurn R.memory lacks (store_from (width_of width) word to) self.old result self.new }
+        ensures console { self.new.console ≡ self.old.console }
         ensures len { R.bytes_len self.new.ram ≡ R.bytes_len self.old.ram }
         ensures stays_whole { R.whole self.old.ram ≡ true → R.whole self.new.ram ≡ true }
     {
@@ -121,6 +125,7 @@ impl<R: Ram> Processor<R> {
     fn branch_if(&mut self, taken: bool, offset: Imm13) -> Option<Stop>
         ensures made { MakesTurn R.memory NeverLacks (branch_if taken offset) self.old result self.new }
         ensures ram { self.new.ram ≡ self.old.ram }
+        ensures console { self.new.console ≡ self.old.console }
     {
         if !taken {
             self.pc = self.pc.wrapping_add(4);
@@ -138,6 +143,7 @@ impl<R: Ram> Processor<R> {
     fn jump_and_link(&mut self, rd: Reg, target: u64) -> Option<Stop>
         ensures made { MakesTurn R.memory NeverLacks (jump_and_link rd target) self.old result self.new }
         ensures ram { self.new.ram ≡ self.old.ram }
+        ensures console { self.new.console ≡ self.old.console }
     {
         if target % 4 != 0 {
             return Some(Stop::Misaligned(self.pc));
@@ -150,14 +156,18 @@ impl<R: Ram> Processor<R> {
     // Makes an environment call.
     fn call_environment(&mut self) -> Option<Stop>
         requires { IsSoundBy R.bytes_len self.old }
-        ensures made { MakesTurn R.memory (λ s. Prints (reg s 17)) call_environment self.old result self.new }
+        ensures made { let lacks = LacksRoom (reserved_by self.new.console) in
+            MakesTurn R.memory lacks call_environment self.old result self.new }
         ensures ram { self.new.ram ≡ self.old.ram }
+        ensures reserved { reserved_by self.old.console ≤ reserved_by self.new.console }
+        ensures few { PrintsFew self.old.console self.new.console }
+        ensures fails { result ≡ Some Stop.OutOfMemory → LacksFew self.new.console }
     {
         let number = self.regs.read(17);
         let first = self.regs.read(10);
         let second = self.regs.read(11);
         match self
-            .world
+            .console
             .env(number, first, second, self.labels.len() as u32)
         {
             EnvEffect::Next(a0, a1) => {
@@ -182,9 +192,10 @@ impl<R: Ram> Processor<R> {
     /// Makes at most these many turns.
     pub fn run(&mut self, steps: u64) -> Stop
         requires { IsSoundBy R.bytes_len self.old }
-        ensures ran { RunsTo (R.whole self.new.ram) steps (state_of R.memory self.old) (outcome_of result)
-            (state_of R.memory self.new) }
+        ensures ran { RunsTo (R.whole self.new.ram) (reserved_by self.new.console) steps (state_of R.memory self.old)
+            (outcome_of result) (state_of R.memory self.new) }
         ensures sound { IsSoundBy R.bytes_len self.new }
+        ensures reserved { reserved_by self.old.console ≤ reserved_by self.new.console }
         ensures stays_whole { R.whole self.old.ram ≡ true → R.whole self.new.ram ≡ true }
     {
         for _ in 0..steps {
@@ -196,10 +207,15 @@ impl<R: Ram> Processor<R> {
     }
 
     // One turn.
-    fn turn(&mut self) -> Option<Stop>
+    pub(crate) fn turn(&mut self) -> Option<Stop>
         requires { IsSoundBy R.bytes_len self.old }
-        ensures made { MakesTurn R.memory (LacksNext (R.whole self.new.ram)) turn_of self.old result self.new }
+        ensures made { let lacks = LacksNext (R.whole self.new.ram) (reserved_by self.new.console) in
+            MakesTurn R.memory lacks turn_of self.old result self.new }
         ensures sound { IsSoundBy R.bytes_len self.new }
+        ensures reserved { reserved_by self.old.console ≤ reserved_by self.new.console }
+        ensures few { PrintsFew self.old.console self.new.console }
+        ensures fails { result ≡ Some Stop.OutOfMemory
+            → (R.whole self.new.ram ≡ false) ⊎ LacksFew self.new.console }
         ensures stays_whole { R.whole self.old.ram ≡ true → R.whole self.new.ram ≡ true }
     {
         if self.pc < self.places.code || self.places.region <= self.pc {
@@ -242,6 +258,7 @@ impl<R: Ram> Processor<R> {
     fn skip(&mut self) -> Option<Stop>
         ensures made { MakesTurn R.memory NeverLacks go_on self.old result self.new }
         ensures ram { self.new.ram ≡ self.old.ram }
+        ensures console { self.new.console ≡ self.old.console }
     {
         self.pc = self.pc.wrapping_add(4);
         None
@@ -251,7 +268,7 @@ impl<R: Ram> Processor<R> {
     fn action(&self, i: Inst) -> Action
         ensures value { performed result (state_of R.memory self.now) ≡ act i (state_of R.memory self.now) }
         ensures lacks { let s = state_of R.memory self.now in
-            (whole : Bool) → LacksBy whole result s → LacksAt whole i s }
+            (whole : Bool) (reserved : ℕ) → LacksBy whole reserved result s → LacksAt whole reserved i s }
     {
         match i {
             Inst::Lui(rd, upper) => Action::Put(rd, upper_word(upper)),
@@ -376,8 +393,12 @@ impl<R: Ram> Processor<R> {
     // Does what the action says.
     fn perform(&mut self, action: Action) -> Option<Stop>
         requires { IsSoundBy R.bytes_len self.old }
-        ensures made { let lacks = LacksBy (R.whole self.new.ram) action in
+        ensures made { let lacks = LacksBy (R.whole self.new.ram) (reserved_by self.new.console) action in
             MakesTurn R.memory lacks (performed action) self.old result self.new }
+        ensures reserved { reserved_by self.old.console ≤ reserved_by self.new.console }
+        ensures few { PrintsFew self.old.console self.new.console }
+        ensures fails { result ≡ Some Stop.OutOfMemory
+            → (R.whole self.new.ram ≡ false) ⊎ LacksFew self.new.console }
         ensures len { R.bytes_len self.new.ram ≡ R.bytes_len self.old.ram }
         ensures stays_whole { R.whole self.old.ram ≡ true → R.whole self.new.ram ≡ true }
     {

@@ -28,3 +28,12 @@ pub enum Stop {
     /// The process had no memory left for what an instruction prints or stores.
     OutOfMemory,
 }
+
+/// Why a run stopped whose output is put in blocks.
+#[derive(Clone, Copy, PartialEq, Eq, Debug)]
+pub enum BlockStop {
+    /// As a run stops. All that was printed is put, except for want of memory, where the machine keeps the rest.
+    Stopped(Stop),
+    /// A put failed. No instruction was made after it, and the machine keeps the output that was to be put.
+    SinkFailed,
+}

@@ -3,6 +3,8 @@ use Rattle.grift_base.specs.declared.places.Pos.{Pos}
 use Rattle.rv_machine.specs.Memory.{from_base, memory_of}
 use Rattle.rv_machine.specs.Image.{statics_len, code_len, label_count}
 use Rattle.rv_machine.proofs.Public.{length-labels_from}
+use Rattle.rv_machine.specs.Start.{start_of}
+use Rattle.rv_emulator.specs.Consoles.{world_of}
 use Rattle.rv_emulator.specs.Registers.{regs_of}
 use Rattle.rv_emulator.proofs.Start.{start_sound, start_is}
 use Rattle.rv_emulator.proofs.machine.Machine.load.Goals as goal
@@ -15,13 +17,16 @@ invariant_of-result g c =
     ∙ length-labels_from (label_count bytes) (64 + statics_len bytes + code_len bytes) bytes in
     start_sound bytes c.args.region c.args.stack (g.R.Ram.bytes_len c.fill.new.ram) c.entry.result _
     c.places_of-places.result c.loaded.ensures.sound c.requires.region c.requires.stack
-    c.places_of-places.ensures.code c.places_of-places.ensures.region c.places_of-places.ensures.end
+    c.places_of-places.ensures.code c.places_of-places.ensures.region
+    c.places_of-places.ensures.end
     (c.fill.ensures.len ∙ c.requires.size) c.entry.ensures labels
 
 pub returns-clause-start : goal.returns-clause-start
 returns-clause-start g c =
     start_is c.args.image.now c.args.region c.args.stack c.entry.result c.places_of-places.result
     c.in_ok-labels.labels (regs_of c.start_registers.result) (from_base (g.R.Ram.memory c.fill.new.ram))
-    c.args.world c.places_of-places.ensures.code c.places_of-places.ensures.region c.places_of-places.ensures.end
+    (world_of c.in_ok-console.console) c.places_of-places.ensures.code c.places_of-places.ensures.region
+    c.places_of-places.ensures.end
     c.entry.ensures c.in_ok-labels.ensures c.start_registers.ensures
     (ap from_base (c.in_ok-fill.ensures.memory ∙ ap memory_of c.loaded.ensures.value))
+    ∙ ap (λ world. start_of c.args.image.now c.args.region c.args.stack world) c.in_ok-console.ensures

@@ -7,12 +7,17 @@ use Rattle.rv_emulator.proofs.processor.Processor.run.Goals as goal
 
 pub loop-init : goal.loop-init
 loop-init g c =
-    record { so_far = run_none (state_of g.R.Ram.memory c.args.self.now); sound = c.requires; stays_whole = λ h. h }
+    record {
+      so_far = run_none (state_of g.R.Ram.memory c.args.self.now);
+      sound = c.requires;
+      reserved = omega arith;
+      stays_whole = λ h. h;
+    }
 
 pub returns-in-Some-clause-ran : goal.returns-in-Some-clause-ran
 returns-in-Some-clause-ran g c =
     let mem = g.R.Ram.memory in
-    run_ends _ c.loop.counter c.args.steps (state_of mem c.args.self.now) (state_of mem c.loop.self)
+    run_ends _ _ c.loop.counter c.args.steps (state_of mem c.args.self.now) (state_of mem c.loop.self)
     (state_of mem c.turn.new.self) (outcome_of c.in-Some.stop) c.loop.invariant.so_far
     (omega arith) c.in-Some.ensures.made
 
@@ -24,5 +29,6 @@ loop-preserved g c =
           run_more c.loop.counter (state_of mem c.args.self.now) (state_of mem c.loop.self)
           (state_of mem c.turn.new.self) c.loop.invariant.so_far c.in_default.ensures.made;
       sound = c.turn.ensures.sound;
+      reserved = omega (arith, c.loop.invariant.reserved, c.turn.ensures.reserved);
       stays_whole = λ h. c.turn.ensures.stays_whole (c.loop.invariant.stays_whole h);
     }

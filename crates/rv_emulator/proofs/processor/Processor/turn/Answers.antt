@@ -2,6 +2,7 @@ use Rattle.std.proofs.Common.{arith, refl, sym, ◌∙◌, ◌≡◌, length, So
 use Rattle.rv_isa.specs.Decoding.{decode_of}
 use Rattle.rv_machine.specs.State.{Layout}
 use Rattle.rv_machine.specs.Turn.{turn_of, act}
+use Rattle.rv_emulator.specs.Consoles.{reserved_by}
 use Rattle.rv_emulator.specs.Processor.{state_of}
 use Rattle.rv_emulator.specs.Actions.{performed}
 use Rattle.rv_emulator.specs.Turns.{LacksNext}
@@ -33,12 +34,13 @@ returns-in-Some-clause-made g c =
     let n = decoded s (mem c.args.self.now.ram) c.load-word.result c.in-Some.i refl
     (omega arith) c.load-word.ensures.value d in
     let whole = g.R.Ram.whole c.perform.new.self.ram in
-    let m = weaker_lack _ _ _ _ _ _ (λ p. let l : LacksNext whole s = record {
+    let reserved = reserved_by c.perform.new.self.console in
+    let m = weaker_lack _ _ _ _ _ _ (λ p. let l : LacksNext whole reserved s = record {
       above = omega arith;
       below = omega arith;
       next = c.in-Some.i;
       is_next = n;
-      lacks = c.action-action.ensures.lacks whole p;
+      lacks = c.action-action.ensures.lacks whole reserved p;
     } in l) c.perform.ensures.made in
     rw e m
 
