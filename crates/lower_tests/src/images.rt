@@ -12,10 +12,10 @@ use low_ir::code::{LowCode, LowSource};
 use low_ir::programs::{LowProc, LowProgram};
 use lower::lowering::lowered;
 use lower::served::{CastWay, CastWays, Served, Tag};
+use reg_assign::images::image_of;
 use rv_emulator::flat::FlatRam;
 use rv_emulator::machine::Machine;
 use rv_emulator::stops::Stop;
-use rv_slots::images::image_of;
 use std::alloc::Global;
 use type_graph::rows::Row;
 

@@ -117,10 +117,10 @@ fn fibonacci(alloc: Global, n: i64) -> Result<FlatProgram, OutOfMemory> {
 fn fibonacci_of_15_is_610(rt: HostRuntime) -> Result<(), Fail> {
     let alloc = rt.alloc();
     let flat = fibonacci(alloc, 15)?;
-    // The one function takes a header and a code address.
+    // The one function takes a header and a code address. Of each of 15 calls the stack has a link and a word at least.
     assert!(rt; comes_to(alloc, &flat, &Row::Int, 16, 8192)? == answer(AnswerKind::Int, 610));
     assert!(rt; comes_to(alloc, &flat, &Row::Int, 8, 8192)? == Some(Stop::RegionOut));
-    assert!(rt; comes_to(alloc, &flat, &Row::Int, 16, 1024)? == Some(Stop::StackOut));
+    assert!(rt; comes_to(alloc, &flat, &Row::Int, 16, 128)? == Some(Stop::StackOut));
     Ok(())
 }
 

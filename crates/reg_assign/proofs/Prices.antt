@@ -20,9 +20,10 @@ use Rattle.rv_select.specs.Holding.{reads, Among, may_hold}
 use Rattle.rv_slots.specs.Slots.{is_half, upper_of, lower_of, chunk_of, chunk_items, word_items, slot_offset}
 use Rattle.rv_select.specs.Stacks.{frame_size}
 use Rattle.rv_slots.specs.Slots.{slot_fetch, slot_save_of, slot_save, fetch_items, save_items, register_for}
-use Rattle.rv_slots.specs.Slots.{constant_items, move_items, leave_items, op_inst, op_with, expand}
+use Rattle.rv_slots.specs.Slots.{constant_items, move_items, raise_items, leave_items, op_inst, op_with, expand}
 use Rattle.reg_assign.specs.Rename.{densely, named, name, rename, index_of, kept_in}
-use Rattle.reg_assign.specs.Prices.{word_price, reach, register_price, constant_price, move_price, price, OwnsNamed}
+use Rattle.reg_assign.specs.Prices.{word_price, reach, register_price, constant_price, move_price, raise_price}
+use Rattle.reg_assign.specs.Prices.{leave_price, price, OwnsNamed}
 use Rattle.reg_assign.proofs.Dense.{near, few}
 use Rattle.reg_assign.proofs.Keeps.{own_first}
 
@@ -120,15 +121,23 @@ then_saved first x rd =
     let e : suc (register_price first rd) ≡ 1 + register_price first rd = omega arith in
     ap suc (saved_length first rd) ∙ e
 
+raise_length : (size : ℕ) → length (raise_items size) ≡ raise_price size
+raise_length size = pick (nat_lt size 2048)
+  where
+    pick : (c : Bool) → length (if c then Op (Addi 2 2 (pos size)) ∷ []
+        else word_items 28 size ++ (Op (AddInst 2 2 28) ∷ []))
+        ≡ (if c then 1 else word_price size + 1)
+    pick true = refl
+    pick false =
+        joined (word_items 28 size) (Op (AddInst 2 2 28) ∷ []) ∙ ap (λ n. n + 1) (word_length 28 size)
+
 leave_length : (count : ℕ) (xs : List RealItem) (n : ℕ) → length xs ≡ n
-    → length (leave_items count ++ xs) ≡ 1 + (word_price (frame_size count) + 1) + n
+    → length (leave_items count ++ xs) ≡ leave_price count + n
 leave_length count xs n e =
-    let w : ℕ = word_price (frame_size count) in
-    let l : length (word_items 28 (frame_size count) ++ (Op (AddInst 2 2 28) ∷ [])) ≡ w + 1 =
-    joined (word_items 28 (frame_size count)) (Op (AddInst 2 2 28) ∷ [])
-    ∙ ap (λ k. k + 1) (word_length 28 (frame_size count)) in
-    let s : suc (w + 1) + n ≡ 1 + (w + 1) + n = omega arith in
-    joined (leave_items count) xs ∙ (ap (λ k. suc k + length xs) l ∙ (ap (λ k. suc (w + 1) + k) e ∙ s))
+    let r : ℕ = raise_price (frame_size count) in
+    let s : suc r + n ≡ 1 + r + n = omega arith in
+    joined (leave_items count) xs
+    ∙ (ap (λ k. suc k + length xs) (raise_length (frame_size count)) ∙ (ap (λ k. suc r + k) e ∙ s))
 
 -- the price is what an item becomes
 pub price_is : (out first count : ℕ) (item : VirtualItem) → length (expand out first count item) ≡ price first count
@@ -172,7 +181,7 @@ price_is out first count (CallAt f n) = behind first 28 f (Op (Jalr 1 (register_
 price_is out first count (TailCall k n) = leave_length count (RealJump 0 k ∷ []) 1 refl
 price_is out first count (TailCallAt f n) =
     behind first 29 f (leave_items count ++ (Op (Jalr 0 (register_for 29 f) (pos 0)) ∷ []))
-    (1 + (word_price (frame_size count) + 1) + 1)
+    (leave_price count + 1)
     (leave_length count (Op (Jalr 0 (register_for 29 f) (pos 0)) ∷ []) 1 refl)
 price_is out first count Return = leave_length count (Op (Jalr 0 1 (pos 0)) ∷ []) 1 refl
 price_is out first count Environment = refl
@@ -223,6 +232,18 @@ reach_some a = pick (nat_lt a 2048)
     pick : (c : Bool) → 1 ≤ (if c then 1 else word_price a + 2)
     pick true = omega arith
     pick false = omega arith
+
+raise_less : (a b : ℕ) → a ≤ b → b < 2 ^ 63 → raise_price a ≤ raise_price b
+raise_less a b h k = pick (nat_lt a 2048) (nat_lt b 2048) refl refl
+  where
+    pick : (c d : Bool) → nat_lt a 2048 ≡ c → nat_lt b 2048 ≡ d
+        → (if c then 1 else word_price a + 1) ≤ (if d then 1 else word_price b + 1)
+    pick true true x y = omega arith
+    pick true false x y = omega arith
+    pick false false x y = let z = word_less a b h k in omega (arith, z)
+    pick false true x y =
+        let p : 2048 ≤ a = grind arith in
+        let q : b < 2048 = grind arith in absurd (let o : ⊥ = omega (arith, p, q, h) in o)
 
 module _ (place : ℕ → Place) (allowed : (v r : ℕ) → place v ≡ InReg r → may_hold r ≡ true) (f : Found)
     (small : f.count < 2 ^ 32) where
@@ -329,10 +350,10 @@ module _ (place : ℕ → Place) (allowed : (v r : ℕ) → place v ≡ InReg r 
   own_if xs (Real r) h m = tt
   own_if xs (Virtual v) h m = h v m
 
-  frame_less : word_price (frame_size (length (kept_in place f.first f.count))) ≤ word_price (frame_size f.count)
+  frame_less : raise_price (frame_size (length (kept_in place f.first f.count))) ≤ raise_price (frame_size f.count)
   frame_less =
       let k = few place f.first f.count in
-      word_less (frame_size (length (kept_in place f.first f.count))) (frame_size f.count) (omega (arith, k))
+      raise_less (frame_size (length (kept_in place f.first f.count))) (frame_size f.count) (omega (arith, k))
       (omega (arith, small))
 
   abbrev kept : ℕ

@@ -34,6 +34,14 @@ move_price first (Real r) (Virtual v) = if r == 26 then reach (slot_offset first
 move_price first (Virtual v) (Real a) = reach (slot_offset first v)
 move_price first (Virtual v) (Virtual u) = reach (slot_offset first u) + reach (slot_offset first v)
 
+-- those that raise x2 by so many bytes
+abbrev pub raise_price : ℕ → ℕ
+raise_price size = if nat_lt size 2048 then 1 else word_price size + 1
+
+-- those that load the link and give up a frame
+abbrev pub leave_price : ℕ → ℕ
+leave_price count = 1 + raise_price (frame_size count)
+
 -- the real items of an item, a mark among them; a jump, a branch or an address is one item here
 abbrev pub price : ℕ → ℕ → VirtualItem → ℕ
 price first count (Constant rd word) = constant_price first rd (word % 2 ^ 64)
@@ -50,9 +58,9 @@ price first count (Jump mark) = 1
 price first count (Branch cond a b mark) = register_price first a + (register_price first b + 1)
 price first count (Call k n) = 1
 price first count (CallAt f n) = register_price first f + 1
-price first count (TailCall k n) = 1 + (word_price (frame_size count) + 1) + 1
-price first count (TailCallAt f n) = register_price first f + (1 + (word_price (frame_size count) + 1) + 1)
-price first count Return = 1 + (word_price (frame_size count) + 1) + 1
+price first count (TailCall k n) = leave_price count + 1
+price first count (TailCallAt f n) = register_price first f + (leave_price count + 1)
+price first count Return = leave_price count + 1
 price first count Environment = 1
 
 -- the virtual registers that an item names are those of a procedure

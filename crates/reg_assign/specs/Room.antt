@@ -69,8 +69,9 @@ IsChosen items place v (InReg r) = (may_hold r ≡ true) × HasHolding items (wi
 IsChosen items place v (Slot i) =
     (i ≡ v) × ((r : ℕ) → may_hold r ≡ true → HasHolding items (with_place place v (InReg r)) → ⊥)
 
--- so many registers have places which fit; and where one has a slot, no holding exists once that one place is made any
--- real register that may hold others
+-- So many registers have places, which fit and are unbettered in one place at a time: where one has a slot, no holding
+-- exists once that one place is made any real register that may hold others, and all others are as they are. Places of
+-- which several differ from these may leave fewer registers in slots.
 pub record IsBest (items : List VirtualItem) (registers : ℕ) (places : List Place) : Type 0 where
   pub each : length places ≡ registers
   pub holds : HasHolding items (place_in places)

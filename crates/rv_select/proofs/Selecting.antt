@@ -68,14 +68,14 @@ unless Wrong p = tt
 
 with_few : (o : WordOp) (n : ℕ) → fits_item o n ≡ true → n < 2 ^ 64
 with_few Add n h = grind arith
-with_few Sub n h = absurd (let z : ⊥ = cc in z)
+with_few Sub n h = grind arith
 with_few And n h = grind arith
 with_few Or n h = grind arith
 with_few Xor n h = grind arith
 with_few Sll n h = grind arith
 with_few Srl n h = grind arith
 with_few Sra n h = grind arith
-with_few Slt n h = absurd (let z : ⊥ = cc in z)
+with_few Slt n h = grind arith
 with_few Sltu n h = grind arith
 
 -- the sums by which words are asked for and taken

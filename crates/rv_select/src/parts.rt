@@ -86,9 +86,8 @@ fn fits_item(op: WordOp, number: u64) -> bool
     ensures { result ≡ fits_item op number }
 {
     match op {
-        WordOp::Sub | WordOp::Slt => false,
         WordOp::Sll | WordOp::Srl | WordOp::Sra => number < 64,
-        WordOp::Add | WordOp::And | WordOp::Or | WordOp::Xor | WordOp::Sltu => number < 2048,
+        _ => number < 2048,
     }
 }
 

@@ -14,6 +14,3 @@ mod SlotConditions
 mod InStack
 mod SlotRuns
 mod SlotClaims
-mod ProcAddresses
-mod ImageBytes
-mod ImageRuns

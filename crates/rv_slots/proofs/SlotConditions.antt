@@ -2,7 +2,8 @@
 -- mark right behind the mark of each procedure.
 use Rattle.std.proofs.Common.{ℕ, zero, suc, ◌+◌, ◌<◌, ◌≡◌, ◌≢◌, ◌⊎◌, inl, inr, Bool, true, false, List, []}
 use Rattle.std.proofs.Common.{append_assoc, ◌∷◌, ◌++◌, Some, drop, refl, sym, ◌∙◌, ap, subst, ⊎_elim, arith}
-use Rattle.std.specs.Prelude.{◌%◌, ◌^◌, ◌==◌, nat_lt, if◌then◌else◌, length, slice_get, pos, All, Any, Contains, slice_index_or}
+use Rattle.std.specs.Prelude.{◌%◌, ◌^◌, ◌==◌, nat_lt, if◌then◌else◌, length, slice_get, pos, All, Any, Contains}
+use Rattle.std.specs.Prelude.{slice_index_or}
 use Rattle.std.proofs.lemmas.List.Elements.{All-nil, All-cons, All-head, All-tail}
 use Rattle.rv_isa.specs.declared.inst.Inst.{Inst}
 use Rattle.rv_isa.specs.declared.inst.Inst.TheVariants.{Ld, Sd, Addi, Lui, Addiw, Add as AddInst}
@@ -29,7 +30,7 @@ use Rattle.rv_select.specs.Holding.{reads, writes}
 use Rattle.rv_slots.specs.Slots.{op_inst, op_with, slot_offset, register_for, fetch_items, save_items}
 use Rattle.rv_select.specs.Stacks.{frame_size}
 use Rattle.rv_slots.specs.Slots.{slot_fetch, slot_save_of, constant_items, move_items, word_items, chunk_items}
-use Rattle.rv_slots.specs.Slots.{chunk_of, slot_save, leave_items}
+use Rattle.rv_slots.specs.Slots.{chunk_of, slot_save, raise_items, leave_items}
 use Rattle.rv_slots.specs.Slots.{long_items, is_half, upper_of, lower_of}
 use Rattle.rv_slots.specs.Slots.{expand, expand_all, final_items, slots_items}
 use Rattle.rv_select.specs.WellFormed.{marks_named, IsReadable, IsWellFormed}
@@ -290,12 +291,19 @@ module _ (ms : List ℕ) where
       joined (slot_fetch 28 (slot_offset first u)) (slot_save (slot_offset first v))
       (slot_fetch_good 28 (slot_offset first u) first_spared) (slot_save_good 28 (slot_offset first v) first_spared)
 
+  raise_good : (size : ℕ) → Goods (raise_items size)
+  raise_good size = pick (nat_lt size 2048)
+    where
+      pick : (c : Bool) → Goods (if c then Op (Addi 2 2 (pos size)) ∷ []
+          else word_items 28 size ++ (Op (AddInst 2 2 28) ∷ []))
+      pick true = ((two_spared 2 2 stack_spared stack_spared, tt, refl), tt)
+      pick false = joined (word_items 28 size) _ (word_good 28 size first_spared)
+          ((three_spared 2 2 28 stack_spared stack_spared first_spared, tt, refl), tt)
+
   leave_good : (count : ℕ) (xs : List RealItem) → Goods xs → Goods (leave_items count ++ xs)
   leave_good count xs h = (
     (two_spared 1 2 link_spared stack_spared, tt, refl),
-    joined (word_items 28 (frame_size count) ++ (Op (AddInst 2 2 28) ∷ [])) xs
-        (joined (word_items 28 (frame_size count)) _ (word_good 28 (frame_size count) first_spared)
-        ((three_spared 2 2 28 stack_spared stack_spared first_spared, tt, refl), tt)) h,
+    joined (raise_items (frame_size count)) xs (raise_good (frame_size count)) h,
   )
 
   for_spared : (scratch : ℕ) (a : VReg) → Spared scratch → SparesVirtual a → Spared (register_for scratch a)

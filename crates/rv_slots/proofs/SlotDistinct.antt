@@ -15,8 +15,10 @@ use Rattle.rv_select.specs.declared.code.VirtualItem.TheVariants.{TailCall, Tail
 use Rattle.rv_select.specs.Marks.{marks, NotIn, Distinct}
 use Rattle.rv_slots.specs.Slots.{slot_offset, fetch_items, save_items, word_items}
 use Rattle.rv_select.specs.Stacks.{frame_size}
-use Rattle.rv_slots.specs.Slots.{slot_save_of, constant_items, move_items, chunk_items, long_items, is_half, upper_of, lower_of}
-use Rattle.rv_slots.specs.Slots.{chunk_of, slot_fetch, slot_save, leave_items, expand, expand_all, final_items}
+use Rattle.rv_slots.specs.Slots.{slot_save_of, constant_items, move_items, chunk_items, long_items, is_half, upper_of}
+use Rattle.rv_slots.specs.Slots.{lower_of}
+use Rattle.rv_slots.specs.Slots.{chunk_of, slot_fetch, slot_save, raise_items, leave_items, expand, expand_all}
+use Rattle.rv_slots.specs.Slots.{final_items}
 use Rattle.rv_slots.specs.Slots.{slots_items}
 use Rattle.rv_slots.specs.Slotted.{above, free_mark}
 
@@ -79,7 +81,8 @@ save_none first (Virtual v) = save_slot_none 28 (slot_offset first v)
 constant_none : (first : ℕ) (rd : VReg) (word : ℕ) → real_marks (constant_items first rd word) ≡ []
 constant_none first (Real r) word = pick (r == 26)
   where
-    pick : (c : Bool) → real_marks (if c then word_items 28 word ++ (Op (Addi r 28 (pos 0)) ∷ []) else word_items r word)
+    pick : (c : Bool) → real_marks (if c then word_items 28 word ++ (Op (Addi r 28 (pos 0)) ∷ []) else word_items r
+        word)
         ≡ []
     pick true = real_after (word_items 28 word) (Op (Addi r 28 (pos 0)) ∷ []) (word_none 28 word)
     pick false = word_none r word
@@ -106,11 +109,16 @@ move_none first (Virtual v) (Virtual u) =
     real_after (slot_fetch 28 (slot_offset first u)) (slot_save (slot_offset first v))
     (fetch_slot_none 28 (slot_offset first u)) ∙ save_slot_none 28 (slot_offset first v)
 
+raise_none : (size : ℕ) → real_marks (raise_items size) ≡ []
+raise_none size = pick (nat_lt size 2048)
+  where
+    pick : (c : Bool) → real_marks (if c then Op (Addi 2 2 (pos size)) ∷ []
+        else word_items 28 size ++ (Op (AddInst 2 2 28) ∷ [])) ≡ []
+    pick true = refl
+    pick false = real_after (word_items 28 size) (Op (AddInst 2 2 28) ∷ []) (word_none 28 size)
+
 leave_none : (count : ℕ) (xs : List RealItem) → real_marks (leave_items count ++ xs) ≡ real_marks xs
-leave_none count xs =
-    let size : ℕ = frame_size count in
-    real_after (word_items 28 size ++ (Op (AddInst 2 2 28) ∷ [])) xs
-    (real_after (word_items 28 size) (Op (AddInst 2 2 28) ∷ []) (word_none 28 size))
+leave_none count xs = real_after (raise_items (frame_size count)) xs (raise_none (frame_size count))
 
 -- ---- the marks of the code
 

@@ -2,7 +2,7 @@
 use Rattle.std.proofs.Common.{append_assoc, ℕ, zero, suc, ◌+◌, ◌-◌, ◌%◌, ◌^◌, ◌<◌, ◌≤◌, ◌≡◌, ◌⊎◌, inl, inr}
 use Rattle.std.proofs.Common.{Bool, true, false, List, [], ◌∷◌, ◌++◌, Option, Some, None, drop, refl, sym, ◌∙◌, ap}
 use Rattle.std.proofs.Common.{subst, arith}
-use Rattle.std.specs.Prelude.{◌==◌, nat_lt, nat_le, if◌then◌else◌, length, slice_get, ℤ, pos, negsuc}
+use Rattle.std.specs.Prelude.{◌==◌, nat_lt, nat_le, if◌then◌else◌, length, slice_get, ℤ, pos, negsuc, int_lt}
 use Rattle.std.specs.Int.{w64, cast_signed, cast_unsigned, int_shr}
 use Rattle.std.proofs.lemmas.Int.{of_z-to_z}
 use Rattle.std.proofs.lemmas.Nat.{and_le_l, or_lt, xor_lt}
@@ -14,7 +14,8 @@ use Rattle.rv_isa.specs.declared.real.RealItem.TheVariants.{Op}
 use Rattle.rv_machine.specs.Memory.{Memory, load_bytes, store_bytes, first_address}
 use Rattle.rv_machine.specs.Registers.{Registers, get_reg, set_reg}
 use Rattle.rv_machine.specs.State.{State, Lacks, Stack, Turn, Next, reg}
-use Rattle.rv_machine.specs.Turn.{add, put, flag, signed_less, shift_left, shift_right, shift_right_signed}
+use Rattle.rv_machine.specs.Turn.{add, plus, subtract, put, flag, signed_less, shift_left, shift_right}
+use Rattle.rv_machine.specs.Turn.{shift_right_signed}
 use Rattle.rv_machine.specs.Turn.{act_with}
 use Rattle.rv_machine.proofs.Public.{load_below, load_same, stored_outside, has_item-append, comes_there}
 use Rattle.rv_machine.proofs.Public.{is_there, comes_on_later, comes_later}
@@ -29,7 +30,7 @@ use Rattle.rv_select.specs.declared.code.VirtualItem.TheVariants.{Constant, Move
 use Rattle.rv_select.specs.declared.code.VirtualItem.TheVariants.{Procedure}
 use Rattle.rv_select.specs.Run.{Found, VirtualState, may_read, may_write, fits_item, is_own, value, puts}
 use Rattle.rv_select.specs.Run.{item_step}
-use Rattle.rv_slots.specs.Slots.{op_inst, op_with, slot_offset, register_for, fetch_items, save_items}
+use Rattle.rv_slots.specs.Slots.{op_inst, op_with, negated, slot_offset, register_for, fetch_items, save_items}
 use Rattle.rv_slots.specs.Slots.{word_items, slot_fetch, slot_save, constant_items, move_items, expand, expand_all}
 use Rattle.rv_slots.specs.Slots.{final_items}
 use Rattle.rv_select.specs.Stacks.{stack_of, if_room}
@@ -83,10 +84,20 @@ compute_fits Sra a b h k =
 compute_fits Slt a b h k = flag_fits (signed_less a b)
 compute_fits Sltu a b h k = flag_fits (nat_lt a b)
 
+-- a difference is a sum with the negative
+less_by : (x n : ℕ) → n < 2048 → plus x (negated n) ≡ subtract x n
+less_by x zero h = omega arith
+less_by x (suc n) h = omega arith
+
+-- a small number is itself where words are taken as signed
+signed_small : (n : ℕ) → n < 2048 → cast_signed w64 n ≡ pos n
+signed_small n h = grind arith
+
 with_does : (o : WordOp) (rd a n : ℕ) (s : State) (ecall ebreak : State → Turn) → fits_item o n ≡ true
     → act_with ecall ebreak (op_with o rd a n) s ≡ put rd (compute o (reg s a) n) s
 with_does Add rd a n s ecall ebreak h = refl
-with_does Sub rd a n s ecall ebreak h = absurd (let z : ⊥ = cc in z)
+with_does Sub rd a n s ecall ebreak h =
+    let few : n < 2048 = grind arith in ap (λ x. put rd x s) (less_by (reg s a) n few)
 with_does And rd a n s ecall ebreak h = refl
 with_does Or rd a n s ecall ebreak h = refl
 with_does Xor rd a n s ecall ebreak h = refl
@@ -96,19 +107,21 @@ with_does Srl rd a n s ecall ebreak h =
     let e : n ≡ n % 64 = grind arith in ap (λ k. put rd (shift_right (reg s a) k) s) e
 with_does Sra rd a n s ecall ebreak h =
     let e : n ≡ n % 64 = grind arith in ap (λ k. put rd (shift_right_signed (reg s a) k) s) e
-with_does Slt rd a n s ecall ebreak h = absurd (let z : ⊥ = cc in z)
+with_does Slt rd a n s ecall ebreak h =
+    let few : n < 2048 = grind arith in
+    ap (λ z. put rd (flag (int_lt (cast_signed w64 (reg s a)) z)) s) (sym (signed_small n few))
 with_does Sltu rd a n s ecall ebreak h = refl
 
 with_small : (o : WordOp) (n : ℕ) → fits_item o n ≡ true → n < 2 ^ 64
 with_small Add n h = grind arith
-with_small Sub n h = absurd (let z : ⊥ = cc in z)
+with_small Sub n h = grind arith
 with_small And n h = grind arith
 with_small Or n h = grind arith
 with_small Xor n h = grind arith
 with_small Sll n h = grind arith
 with_small Srl n h = grind arith
 with_small Sra n h = grind arith
-with_small Slt n h = absurd (let z : ⊥ = cc in z)
+with_small Slt n h = grind arith
 with_small Sltu n h = grind arith
 
 get_fits : (r : ℕ) (regs : Registers) → ((q : ℕ) → regs q < 2 ^ 64) → get_reg regs r < 2 ^ 64
@@ -486,7 +499,8 @@ module _ {V : Type 0} (w : Slotting V) where
               comes_on_later (program w) (Way w t t1) (On w t1) 25 (omega arith) (
               words (program w) (Way w t t1) (On w t1) s r word rest (not_zero_put r permit) small
               (has_rest w f (suc t.pc)) (λ regs pc only.
-              way_first w t t1 (record s { regs = regs; pc = pc }) (seen_still w t s regs pc r (seen_of w t s on.body) only
+              way_first w t t1 (record s { regs = regs; pc = pc }) (seen_still w t s regs pc r (seen_of w t s on.body)
+              only
               (apart_from 2 r permit k (inl refl)) (apart_from 25 r permit k (inr (inl refl)))
               (apart_from 26 r permit k (inr (inr (inl refl)))) (apart_from 27 r permit k (inr (inr (inr refl))))))
               (λ regs n e1 only c2. is_there (program w) (Way w t t1) (On w t1)

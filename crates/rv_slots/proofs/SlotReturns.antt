@@ -1,23 +1,23 @@
 -- Frames that are given up: returns and tail calls.
-use Rattle.std.proofs.Common.{ℕ, suc, ◌+◌, ◌%◌, ◌^◌, ◌<◌, ◌≤◌, ◌≡◌, true, false, List, [], ◌∷◌, ◌++◌}
+use Rattle.std.proofs.Common.{ℕ, suc, ◌+◌, ◌%◌, ◌^◌, ◌<◌, ◌≤◌, ◌≡◌, Bool, true, false, List, [], ◌∷◌, ◌++◌}
 use Rattle.std.proofs.Common.{Some, refl, sym, ◌∙◌, ap, subst, arith}
-use Rattle.std.specs.Prelude.{◌==◌, slice_get, pos, nat_le}
+use Rattle.std.specs.Prelude.{◌==◌, slice_get, pos, nat_le, nat_lt, if◌then◌else◌}
 use Rattle.run_laws.specs.Machines.{Go}
-use Rattle.rv_isa.specs.declared.inst.Inst.TheVariants.{Jalr, Add as AddInst}
+use Rattle.rv_isa.specs.declared.inst.Inst.TheVariants.{Jalr, Addi, Add as AddInst}
 use Rattle.rv_isa.specs.declared.real.RealItem.{RealItem}
 use Rattle.rv_isa.specs.declared.real.RealItem.TheVariants.{Op, Jump as RealJump}
 use Rattle.rv_machine.specs.Memory.{load_bytes}
 use Rattle.rv_machine.specs.Registers.{Registers, get_reg, set_reg}
 use Rattle.rv_machine.specs.State.{State}
 use Rattle.rv_machine.specs.Turn.{put}
-use Rattle.rv_machine.proofs.Public.{load_below, HasItem, has_item-append, comes_there, is_there}
+use Rattle.rv_machine.proofs.Public.{load_below, HasItem, has_item-append, comes_there, comes_later, is_there}
 use Rattle.low_ir.specs.Steps.{no_locals, given}
 use Rattle.rv_select.specs.declared.code.VReg.{VReg}
 use Rattle.rv_select.specs.declared.code.VReg.TheVariants.{Real, Virtual}
 use Rattle.rv_select.specs.declared.code.VirtualItem.TheVariants.{TailCall, TailCallAt, Return}
 use Rattle.rv_select.specs.Run.{Found, Frame, VirtualState, may_read, only_args, only_answer, value, enter, back_to}
 use Rattle.rv_select.specs.Run.{framed, procedure_from, procedure_at, item_step}
-use Rattle.rv_slots.specs.Slots.{register_for, fetch_items, word_items, leave_items}
+use Rattle.rv_slots.specs.Slots.{register_for, fetch_items, word_items, raise_items, leave_items}
 use Rattle.rv_select.specs.Stacks.{frame_size, stack_of}
 use Rattle.rv_slots.proofs.PutWords.{OnlyIn}
 use Rattle.rv_slots.proofs.Items.{Then, ThenOn, regrouped, stands_small, stands_aligned, does, jumps, lands, words}
@@ -58,23 +58,9 @@ module _ {V : Type 0} (w : Slotting V) where
       → ((s1 : State) → Left t f fs s s1 → Stand w s1.pc xs → ThenOn (program w) (Way w t t1) Q most s1)
       → ThenOn (program w) (Way w t t1) Q (suc (11 + suc most)) s
   leaves {most} t t1 Q s f fs xs b frames h c go =
-      does (program w) P Q s regs1 s.memory c
-      (has_item-append (word_items 28 need ++ (Op (AddInst 2 2 28) ∷ [])) xs h)
+      does (program w) P Q s regs1 s.memory c (has_item-append (raise_items need) xs h)
       (λ ecall ebreak pc. loads w s 1 2 sp 0 pc ecall ebreak b.layout whole k.0.aligned low below)
-      (way_first w t t1 s (seen_of w t s b)) (λ n1 c1.
-      let s1 : State = record s { regs = regs1; pc = n1 } in
-      comes_there (program w) P Q (words (program w) P Q s1 28 need (Op (AddInst 2 2 28) ∷ xs) refl need_small tt
-      (λ regs pc only. way_first w t t1 (record s { regs = regs; pc = pc }) (seen28 n1 regs pc only))
-      (λ regs n2 e2 only c2.
-      let s2 : State = record s { regs = regs; pc = n2 } in
-      let seen : Seen w t s2 = seen28 n1 regs n2 only in
-      comes_there (program w) P Q (does (program w) P Q s2 (set_reg 2 (sp + need) regs) s.memory c2 h
-      (λ ecall ebreak pc. ap (λ x. put 2 ((get_reg regs 2 + x) % 2 ^ 64) (record s2 { pc = pc })) e2
-      ∙ (ap (λ x. put 2 ((x + need) % 2 ^ 64) (record s2 { pc = pc })) (only 2 refl)
-      ∙ ap (λ x. put 2 x (record s2 { pc = pc })) top_word)) (way_first w t t1 s2 seen) (λ n3 c3.
-      comes_there (program w) P Q (go (record s { regs = set_reg 2 (sp + need) regs; pc = n3 })
-      (left regs n1 n2 n3 e2 only seen) c3))))
-      (regrouped (program w) (word_items 28 need) (Op (AddInst 2 2 28) ∷ []) xs c1)))
+      (way_first w t t1 s (seen_of w t s b)) (λ n1 c1. raised n1 (nat_lt need 2048) refl c1)
     where
       P : State → Type 0
       P = Way w t t1
@@ -119,10 +105,13 @@ module _ {V : Type 0} (w : Slotting V) where
           seen_still w t s1 regs pc 28 (seen_still w t s regs1 n1 1 (seen_of w t s b) (λ q m. rw m refl) refl refl refl
           refl) only refl refl refl refl
 
-      left : (regs : Registers) (n1 n2 n3 : ℕ) → get_reg regs 28 ≡ need → OnlyIn 28 regs regs1
+      fits1 : (q : ℕ) → regs1 q < 2 ^ 64
+      fits1 = set_fits 1 link s.regs (load_below 8 s.memory sp b.bytes) b.fits
+
+      left : (regs : Registers) (n2 n3 : ℕ) → ((q : ℕ) → regs q < 2 ^ 64) → OnlyIn 28 regs regs1
           → Seen w t (record s { regs = regs; pc = n2 })
           → Left t f fs s (record s { regs = set_reg 2 (sp + need) regs; pc = n3 })
-      left regs n1 n2 n3 e2 only seen =
+      left regs n2 n3 small only seen =
           let regs3 : Registers = set_reg 2 (sp + need) regs in
           let kept_all : (q : ℕ) → may_read q ≡ true → get_reg regs3 q ≡ get_reg s.regs q = (λ q m.
           other_get 2 q (sp + need) regs (not_stack q m)
@@ -136,8 +125,7 @@ module _ {V : Type 0} (w : Slotting V) where
               memory = b.memory;
               world = b.world;
               layout = b.layout;
-              fits = set_fits 2 (sp + need) regs high (fits_only 28 need regs regs1 only e2 (omega arith) need_small
-                  (set_fits 1 link s.regs (load_below 8 s.memory sp b.bytes) b.fits));
+              fits = set_fits 2 (sp + need) regs high small;
               bytes = b.bytes;
               above = omega arith;
               stack = k.1;
@@ -157,6 +145,34 @@ module _ {V : Type 0} (w : Slotting V) where
             same = kept_all;
             target = only 29 refl;
           }
+
+      -- x2 is raised by one instruction, or by a word that was put into x28
+      raised : (n1 : ℕ) (short : Bool) → nat_lt need 2048 ≡ short
+          → Stand w n1 ((if short then Op (Addi 2 2 (pos need)) ∷ []
+          else word_items 28 need ++ (Op (AddInst 2 2 28) ∷ [])) ++ xs)
+          → Then (program w) P Q (11 + suc most) (record s { regs = regs1; pc = n1 })
+      raised n1 true e c1 =
+          let s1 : State = record s { regs = regs1; pc = n1 } in
+          let seen : Seen w t s1 = seen28 n1 regs1 n1 (λ q m. refl) in
+          comes_later (program w) P Q (11 + suc most) (omega arith) (comes_there (program w) P Q (
+          does (program w) P Q s1 (set_reg 2 (sp + need) regs1) s.memory c1 h
+          (λ ecall ebreak pc. ap (λ x. put 2 x (record s1 { pc = pc })) top_word) (way_first w t t1 s1 seen) (λ n3 c3.
+          comes_there (program w) P Q (go (record s { regs = set_reg 2 (sp + need) regs1; pc = n3 })
+          (left regs1 n1 n3 fits1 (λ q m. refl) seen) c3))))
+      raised n1 false e c1 =
+          let s1 : State = record s { regs = regs1; pc = n1 } in
+          comes_there (program w) P Q (words (program w) P Q s1 28 need (Op (AddInst 2 2 28) ∷ xs) refl need_small tt
+          (λ regs pc only. way_first w t t1 (record s { regs = regs; pc = pc }) (seen28 n1 regs pc only))
+          (λ regs n2 e2 only c2.
+          let s2 : State = record s { regs = regs; pc = n2 } in
+          let seen : Seen w t s2 = seen28 n1 regs n2 only in
+          comes_there (program w) P Q (does (program w) P Q s2 (set_reg 2 (sp + need) regs) s.memory c2 h
+          (λ ecall ebreak pc. ap (λ x. put 2 ((get_reg regs 2 + x) % 2 ^ 64) (record s2 { pc = pc })) e2
+          ∙ (ap (λ x. put 2 ((x + need) % 2 ^ 64) (record s2 { pc = pc })) (only 2 refl)
+          ∙ ap (λ x. put 2 x (record s2 { pc = pc })) top_word)) (way_first w t t1 s2 seen) (λ n3 c3.
+          comes_there (program w) P Q (go (record s { regs = set_reg 2 (sp + need) regs; pc = n3 })
+          (left regs n2 n3 (fits_only 28 need regs regs1 only e2 (omega arith) need_small fits1) only seen) c3))))
+          (regrouped (program w) (word_items 28 need) (Op (AddInst 2 2 28) ∷ []) xs c1))
 
   -- the frames that are left fit where all did
   left_room : (t : VirtualState) (s : State) (f : Frame) (fs : List Frame) → Body w t s → t.frames ≡ f ∷ fs

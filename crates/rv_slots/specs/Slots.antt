@@ -1,6 +1,7 @@
 -- The real code of a virtual one, with each virtual register in a slot of its procedure's frame: at x2 stands the link,
 -- and above it the slots.
-use Rattle.std.specs.Prelude.{ℕ, zero, suc, ◌+◌, ◌-◌, ◌*◌, ◌/◌, ◌%◌, ◌^◌, pos, negsuc, ℤ, nat_lt, nat_le, ◌||◌, ◌==◌, Bool}
+use Rattle.std.specs.Prelude.{ℕ, zero, suc, ◌+◌, ◌-◌, ◌*◌, ◌/◌, ◌%◌, ◌^◌, pos, negsuc, ℤ, nat_lt, nat_le, ◌||◌, ◌==◌}
+use Rattle.std.specs.Prelude.{Bool}
 use Rattle.std.specs.Prelude.{if◌then◌else◌, List, [], ◌∷◌}
 use Rattle.std.specs.Prelude.{◌++◌}
 use Rattle.rv_isa.specs.declared.inst.Inst.{Inst}
@@ -36,10 +37,15 @@ op_inst Sra rd a b = SraInst rd a b
 op_inst Slt rd a b = SltInst rd a b
 op_inst Sltu rd a b = SltuInst rd a b
 
--- that with a small number; a difference and a signed comparison are never asked for with one
+-- the negative of a number
+abbrev pub negated : ℕ → ℤ
+negated zero = pos 0
+negated (suc n) = negsuc n
+
+-- that with a small number; a difference with one is a sum with its negative
 abbrev pub op_with : WordOp → ℕ → ℕ → ℕ → Inst
 op_with Add rd a n = Addi rd a (pos n)
-op_with Sub rd a n = Addi rd a (pos n)
+op_with Sub rd a n = Addi rd a (negated n)
 op_with And rd a n = Andi rd a (pos n)
 op_with Or rd a n = Ori rd a (pos n)
 op_with Xor rd a n = Xori rd a (pos n)
@@ -136,9 +142,15 @@ enter_items out count =
     word_items 28 (frame_size count)
     ++ (Op (SubInst 29 2 25) ∷ RealBranch Ltu 29 28 out ∷ Op (SubInst 2 2 28) ∷ Op (Sd 1 2 (pos 0)) ∷ [])
 
+-- x2 is raised by so many bytes
+abbrev pub raise_items : ℕ → List RealItem
+raise_items size =
+    if nat_lt size 2048 then Op (Addi 2 2 (pos size)) ∷ []
+    else word_items 28 size ++ (Op (AddInst 2 2 28) ∷ [])
+
 -- the link is loaded, and the frame is given up
 abbrev pub leave_items : ℕ → List RealItem
-leave_items count = Op (Ld 1 2 (pos 0)) ∷ (word_items 28 (frame_size count) ++ (Op (AddInst 2 2 28) ∷ []))
+leave_items count = Op (Ld 1 2 (pos 0)) ∷ raise_items (frame_size count)
 
 -- what an item becomes, told the mark behind which the stack has no room, and the first register of the procedure and
 -- how many it has

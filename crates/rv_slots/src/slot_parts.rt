@@ -8,7 +8,8 @@ ghost use Rattle.std.specs.Prelude.{◌==◌, if◌then◌else◌};
 ghost use Rattle.rv_slots.specs.Slots.{chunk_of, chunk_items, is_half, upper_of, lower_of, long_items, word_items};
 ghost use Rattle.rv_slots.specs.Slots.{slot_offset, register_for, slot_fetch, slot_save_of, slot_save};
 ghost use Rattle.rv_select.specs.Stacks.{frame_size};
-ghost use Rattle.rv_slots.specs.Slots.{fetch_items, save_items, constant_items, move_items, leave_items, enter_items};
+ghost use Rattle.rv_slots.specs.Slots.{fetch_items, save_items, constant_items, move_items, raise_items};
+ghost use Rattle.rv_slots.specs.Slots.{leave_items, enter_items, negated};
 ghost use Rattle.rv_slots.specs.Slots.{final_items};
 
 use grift_base::lists::OutOfMemory;
@@ -51,6 +52,14 @@ pub(crate) fn small(number: u64) -> Imm12
     ensures { result ≡ pos number }
 {
     Imm12::new(number as i64)
+}
+
+// The negative of one.
+pub(crate) fn negated(number: u32) -> Imm12
+    requires { number < 2048 }
+    ensures { result ≡ negated number }
+{
+    Imm12::new(-i64::from(number))
 }
 
 // Adds an item.
@@ -361,15 +370,25 @@ pub(crate) fn put_enter(items: &mut RealItems, out: u32, count: u32) -> Result<(
     put(items, Inst::Sd(register(LINK), stack, small(0)))
 }
 
+// Adds what raises x2 by so many bytes.
+fn put_raise(items: &mut RealItems, bytes: u64) -> Result<(), OutOfMemory>
+    ensures { OnOk result (items.new ≡ items.old ++ raise_items bytes) }
+{
+    let size = register(FIRST);
+    let stack = register(STACK);
+    if bytes < 2048 {
+        return put(items, Inst::Addi(stack, stack, small(bytes)));
+    }
+    put_word(items, size, bytes)?;
+    put(items, Inst::Add(stack, stack, size))
+}
+
 // Adds what loads the link and gives up a frame with so many slots.
 pub(crate) fn put_leave(items: &mut RealItems, count: u32) -> Result<(), OutOfMemory>
     ensures { OnOk result (items.new ≡ items.old ++ leave_items count) }
 {
-    let size = register(FIRST);
-    let stack = register(STACK);
-    put(items, Inst::Ld(register(LINK), stack, small(0)))?;
-    put_word(items, size, frame_size(count))?;
-    put(items, Inst::Add(stack, stack, size))
+    put(items, Inst::Ld(register(LINK), register(STACK), small(0)))?;
+    put_raise(items, frame_size(count))
 }
 
 // Adds what stops the machine where the stack lacks room.

@@ -9,8 +9,8 @@ ghost use Rattle.rv_slots.specs.Slotted.{above, free_mark, HasFew, EachHasFew, I
 ghost use Rattle.rv_isa.specs.declared.real.RealItem.TheVariants.{Op};
 
 use crate::slot_parts::{
-    FIRST, LINK, SECOND, put, put_constant, put_enter, put_fetch, put_final, put_leave, put_move,
-    put_real, put_save, register, register_for, small,
+    FIRST, LINK, SECOND, negated, put, put_constant, put_enter, put_fetch, put_final, put_leave,
+    put_move, put_real, put_save, register, register_for, small,
 };
 use grift_base::lists::OutOfMemory;
 use low_ir::code::WordOp;
@@ -38,14 +38,14 @@ fn op_inst(op: WordOp, rd: Reg, a: Reg, b: Reg) -> Inst
     }
 }
 
-// That with a small number. A difference and a signed comparison have none.
+// That with a small number. A difference with one is a sum with its negative.
 fn op_with(op: WordOp, rd: Reg, a: Reg, number: u32) -> Inst
     requires { fits_item op number ≡ true }
     ensures { result ≡ op_with op rd a number }
 {
     match op {
         WordOp::Add => Inst::Addi(rd, a, small(u64::from(number))),
-        WordOp::Sub => Inst::Addi(rd, a, small(u64::from(number))),
+        WordOp::Sub => Inst::Addi(rd, a, negated(number)),
         WordOp::And => Inst::Andi(rd, a, small(u64::from(number))),
         WordOp::Or => Inst::Ori(rd, a, small(u64::from(number))),
         WordOp::Xor => Inst::Xori(rd, a, small(u64::from(number))),

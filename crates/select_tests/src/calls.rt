@@ -56,14 +56,14 @@ fn a_million_tail_calls_take_no_stack(rt: HostRuntime) -> Result<(), Fail> {
     procs.push(counts_down(alloc, 2, 1)?)?;
     procs.push(counts_down(alloc, 1, 0)?)?;
     let low = program(alloc, procs);
-    assert!(rt; comes_to(alloc, &low, 0, 16)? == answer(1));
-    assert!(rt; comes_to(alloc, &low, 0, 8)? == Some(Stop::StackOut));
+    assert!(rt; comes_to(alloc, &low, 0, 8)? == answer(1));
+    assert!(rt; comes_to(alloc, &low, 0, 0)? == Some(Stop::StackOut));
     Ok(())
 }
 
-// Its word, by as many calls.
-fn counts_up(alloc: Global) -> Result<LowProc, OutOfMemory> {
-    let code = change(alloc, WordOp::Add, 1, number(1), LowCode::Return(word(1)))?;
+// The sum of the numbers to its word, by as many calls.
+fn sums_below(alloc: Global) -> Result<LowProc, OutOfMemory> {
+    let code = change(alloc, WordOp::Add, 1, word(0), LowCode::Return(word(1)))?;
     let code = call(alloc, 1, 1, &[word(1)], code)?;
     let code = change(alloc, WordOp::Sub, 1, number(1), code)?;
     let code = set(alloc, 1, word(0), code)?;
@@ -75,18 +75,18 @@ fn counts_up(alloc: Global) -> Result<LowProc, OutOfMemory> {
 fn deep(alloc: Global, calls: u64) -> Result<LowProgram, OutOfMemory> {
     let mut procs = LowProcs::new(alloc);
     procs.push(begins_with(alloc, &[calls])?)?;
-    procs.push(counts_up(alloc)?)?;
+    procs.push(sums_below(alloc)?)?;
     Ok(program(alloc, procs))
 }
 
-// A frame has 24 bytes, and 170 of them fit into the stack.
+// A frame has 16 bytes, for the link and the one word that is needed behind the call, and 256 of them fill the stack.
 #[test]
 fn a_recursion_overflows_the_stack_where_its_frames_do_not_fit(
     rt: HostRuntime,
 ) -> Result<(), Fail> {
     let alloc = rt.alloc();
-    assert!(rt; comes_to(alloc, &deep(alloc, 169)?, 0, 4096)? == answer(169));
-    assert!(rt; comes_to(alloc, &deep(alloc, 170)?, 0, 4096)? == Some(Stop::StackOut));
+    assert!(rt; comes_to(alloc, &deep(alloc, 255)?, 0, 4096)? == answer(32_640));
+    assert!(rt; comes_to(alloc, &deep(alloc, 256)?, 0, 4096)? == Some(Stop::StackOut));
     Ok(())
 }
 
@@ -138,23 +138,33 @@ fn procedures_are_called_by_their_addresses(rt: HostRuntime) -> Result<(), Fail>
     Ok(())
 }
 
-// A program whose slots lie far from the stack's register.
-fn wide(alloc: Global) -> Result<LowProgram, OutOfMemory> {
-    let code = change(
-        alloc,
-        WordOp::Add,
-        5000,
-        word(9999),
-        LowCode::Return(word(5000)),
-    )?;
-    let code = set(alloc, 5000, number(1), code)?;
-    alone(alloc, 10000, set(alloc, 9999, number(7), code)?)
+// The sum of 300 words and of what a call answers. All of them are kept in the frame, since they are needed behind the
+// call, the last of them too far from the stack's register for the offset of one instruction.
+fn sums_behind_a_call(alloc: Global) -> Result<LowProc, OutOfMemory> {
+    let mut code = LowCode::Return(word(300));
+    for i in 0..300u32 {
+        code = change(alloc, WordOp::Add, 300, word(i), code)?;
+    }
+    code = call(alloc, 300, 1, &[], code)?;
+    for i in 0..300u32 {
+        code = set(alloc, i, number(u64::from(i)), code)?;
+    }
+    Ok(procedure(0, 301, code))
 }
 
+// Such a program, whose call answers 7.
+fn wide(alloc: Global) -> Result<LowProgram, OutOfMemory> {
+    let mut procs = LowProcs::new(alloc);
+    procs.push(sums_behind_a_call(alloc)?)?;
+    procs.push(procedure(0, 0, LowCode::Return(number(7))))?;
+    Ok(program(alloc, procs))
+}
+
+// It has 2,408 bytes with its link, and the frame of the procedure that is called 8.
 #[test]
-fn a_frame_of_ten_thousand_words(rt: HostRuntime) -> Result<(), Fail> {
+fn a_frame_of_three_hundred_words(rt: HostRuntime) -> Result<(), Fail> {
     let low = wide(rt.alloc())?;
-    assert!(rt; comes_to(rt.alloc(), &low, 0, 80008)? == answer(8));
-    assert!(rt; comes_to(rt.alloc(), &low, 0, 80000)? == Some(Stop::StackOut));
+    assert!(rt; comes_to(rt.alloc(), &low, 0, 2416)? == answer(44_857));
+    assert!(rt; comes_to(rt.alloc(), &low, 0, 2408)? == Some(Stop::StackOut));
     Ok(())
 }

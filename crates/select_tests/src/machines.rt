@@ -11,11 +11,11 @@ use grift_base::words::Statics;
 use grift_base::worlds::World;
 use low_ir::code::{LowCode, LowSource, LowSources, WordOp};
 use low_ir::programs::{LowProc, LowProcs, LowProgram};
+use reg_assign::images::image_of;
 use rv_emulator::flat::FlatRam;
 use rv_emulator::machine::Machine;
 use rv_emulator::stops::Stop;
 use rv_isa::inst::Cond;
-use rv_slots::images::image_of;
 use std::alloc::Global;
 
 // The one label of the programs.

@@ -13,13 +13,13 @@ use grift_base::verdicts::Trap;
 use grift_base::words::{Statics, WordList};
 use low_ir::code::{LowCode, LowSource, WordOp};
 use low_ir::programs::{LowProcs, LowProgram};
+use reg_assign::images::image_of;
 use rt_cast::procs::cast_procs;
 use rt_refs::calls::apply_proc;
 use rt_refs::cells::{read_proc, write_proc};
 use rt_refs::fills::{fill_loop, fill_proc};
 use rt_refs::procs::ref_procs;
 use rv_emulator::stops::Stop;
-use rv_slots::images::image_of;
 use std::alloc::Global;
 use std::test::Fail;
 

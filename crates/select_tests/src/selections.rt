@@ -146,7 +146,7 @@ fn words_are_handed_on_from_x10_on(rt: HostRuntime) -> Result<(), Fail> {
     let code = selected(rt.alloc(), &two(rt.alloc())?)?;
     assert!(rt; code.registers == 4);
     let items = code.items.as_slice();
-    assert!(rt; items.len() == 33);
+    assert!(rt; items.len() == 32);
     assert!(rt;
         &items[6..13]
             == [
@@ -161,13 +161,12 @@ fn words_are_handed_on_from_x10_on(rt: HostRuntime) -> Result<(), Fail> {
             .as_slice()
     );
     assert!(rt;
-        &items[19..27]
+        &items[19..26]
             == [
                 VirtualItem::Procedure(1, 1, 3),
                 VirtualItem::Move(VReg::Virtual(1), x(10)),
                 VirtualItem::Move(VReg::Virtual(2), x(11)),
-                VirtualItem::Constant(x(6), 1),
-                VirtualItem::Compute(WordOp::Sub, VReg::Virtual(3), VReg::Virtual(1), x(6)),
+                VirtualItem::ComputeWith(WordOp::Sub, VReg::Virtual(3), VReg::Virtual(1), 1),
                 VirtualItem::Move(x(10), VReg::Virtual(3)),
                 VirtualItem::Move(x(11), VReg::Virtual(2)),
                 VirtualItem::TailCall(1, 2),

@@ -46,12 +46,12 @@ fn bytes_of(alloc: Global, count: u64) -> Result<Option<u64>, OutOfMemory> {
     }
 }
 
-// Two loads, a sum and a store for each operation.
+// One sum of two real registers for each operation.
 #[test]
 fn code_is_linear(rt: HostRuntime) -> Result<(), Fail> {
     let few = bytes_of(rt.alloc(), 1000)?;
     assert!(rt;
-        bytes_of(rt.alloc(), 100_000)? == few.map(|bytes| bytes.saturating_add(16 * 99_000))
+        bytes_of(rt.alloc(), 100_000)? == few.map(|bytes| bytes.saturating_add(4 * 99_000))
     );
     Ok(())
 }
