@@ -1,19 +1,29 @@
 // Tables of labels.
 
+use grift_base::lists::OutOfMemory;
 use grift_base::places::{LabelId, LabelTable, Pos};
 use std::test::Fail;
 
+const FIRST: Pos = Pos { line: 3, col: 14 };
+
+const SECOND: Pos = Pos { line: 3, col: 1 };
+
+// Whether labels get their places in order, and keep them.
+fn labels_have_places(labels: &mut LabelTable) -> Result<bool, OutOfMemory> {
+    let mut all = labels.is_empty();
+    for (pos, place) in [(FIRST, 0), (SECOND, 1), (FIRST, 0)] {
+        let label = labels.intern(pos)?;
+        all = all && label == LabelId(place);
+    }
+    Ok(all)
+}
+
 #[test]
 fn labels_stand_once_in_order_of_first_use(rt: HostRuntime) -> Result<(), Fail> {
-    let first = Pos { line: 3, col: 14 };
-    let second = Pos { line: 3, col: 1 };
     let mut labels = LabelTable::new(rt.alloc());
-    assert!(rt; labels.is_empty());
-    for (pos, place) in [(first, 0), (second, 1), (first, 0)] {
-        assert!(rt; labels.intern(pos)? == LabelId(place));
-    }
-    assert!(rt; (labels.len(), labels.get(1), labels.get(2)) == (2, Some(&second), None));
-    assert!(rt; labels.as_slice() == [first, second].as_slice());
+    assert!(rt; labels_have_places(&mut labels)?);
+    let there = (labels.len(), labels.get(1), labels.get(2)) == (2, Some(&SECOND), None);
+    assert!(rt; there && labels.as_slice() == [FIRST, SECOND].as_slice());
     Ok(())
 }
 

@@ -3,6 +3,7 @@
 use grift_base::lists::{CallList, Name};
 use grift_base::words::Statics;
 use indexmap::IndexSet;
+use std::alloc::Global;
 use std::test::Fail;
 
 #[test]
@@ -11,18 +12,24 @@ fn lists_grow_at_the_end(rt: HostRuntime) -> Result<(), Fail> {
     assert!(rt; calls.is_empty());
     calls.push(7)?;
     calls.extend(&[9, 7])?;
-    assert!(rt; (calls.len(), calls.get(1), calls.get(3)) == (3, Some(&9), None));
-    assert!(rt; calls.as_slice() == [7, 9, 7].as_slice());
+    let places = (calls.len(), calls.get(1), calls.get(3));
+    assert!(rt; places == (3, Some(&9), None) && calls.as_slice() == [7, 9, 7].as_slice());
     Ok(())
+}
+
+// How many different names these are.
+fn count_of(alloc: Global, texts: &[&str]) -> Result<usize, Fail> {
+    let mut names = IndexSet::new(alloc);
+    for text in texts {
+        let name = Name::from_slice(alloc, text.as_bytes())?;
+        names.insert(name)?;
+    }
+    Ok(names.len())
 }
 
 #[test]
 fn names_compare_and_hash(rt: HostRuntime) -> Result<(), Fail> {
-    let mut names = IndexSet::new(rt.alloc());
-    names.insert(Name::from_slice(rt.alloc(), b"even")?)?;
-    names.insert(Name::from_slice(rt.alloc(), b"odd")?)?;
-    names.insert(Name::from_slice(rt.alloc(), b"even")?)?;
-    assert!(rt; names.len() == 2);
+    assert!(rt; count_of(rt.alloc(), &["even", "odd", "even"])? == 2);
     Ok(())
 }
 

@@ -42,37 +42,56 @@ fn length_of<S: Shelf>(
     Ok(loaded.len() as u64)
 }
 
+// Loads of the files of `small_shelf`, one after another: the name, the most bytes, the length that is told, and how
+// many loads have failed then.
+const LOADS: &[(&str, usize, Result<u64, LoadFault>, u64)] = &[
+    ("a", 3, Ok(3), 0),
+    ("a", 3, Err(LoadFault::Failed), 1),
+    ("a", 2, Err(LoadFault::TooLong), 1),
+    ("b", 3, Err(LoadFault::Failed), 2),
+    ("a", 4, Ok(3), 2),
+];
+
+// Whether each load is as it is told.
+fn loads_are_told(alloc: Global) -> Result<bool, OutOfMemory> {
+    let mut shelf = small_shelf(alloc)?;
+    let mut all = true;
+    for (name, max, wanted, faults) in LOADS {
+        let answer = length_of(alloc, &mut shelf, name, *max);
+        all = all && (answer, shelf.faults()) == (*wanted, *faults);
+    }
+    Ok(all)
+}
+
+// Whether the first load gives the bytes of the file.
+fn bytes_are_loaded(alloc: Global) -> Result<bool, Fail> {
+    let mut shelf = small_shelf(alloc)?;
+    let loaded = shelf.load(alloc, "a", 3)?;
+    Ok(loaded.as_slice() == b"xyz".as_slice())
+}
+
 #[test]
 fn loads(rt: HostRuntime) -> Result<(), Fail> {
-    let mut shelf = small_shelf(rt.alloc())?;
-    for (name, max, wanted, faults) in [
-        ("a", 3, Ok(3), 0),
-        ("a", 3, Err(LoadFault::Failed), 1),
-        ("a", 2, Err(LoadFault::TooLong), 1),
-        ("b", 3, Err(LoadFault::Failed), 2),
-        ("a", 4, Ok(3), 2),
-    ] {
-        let answer = length_of(rt.alloc(), &mut shelf, name, max);
-        assert!(rt;
-            (answer, shelf.faults()) == (wanted, faults),
-            "{name} up to {max}"
-        );
-    }
-    let loaded = shelf.load(rt.alloc(), "a", 3)?;
-    assert!(rt; loaded.as_slice() == b"xyz".as_slice());
+    assert!(rt; loads_are_told(rt.alloc())? && bytes_are_loaded(rt.alloc())?);
     Ok(())
+}
+
+// Whether a shelf keeps the names that it was asked for, in order.
+fn names_are_kept(alloc: Global) -> Result<bool, OutOfMemory> {
+    let mut shelf = small_shelf(alloc)?;
+    let names = ["a", "a", "b"];
+    for name in names {
+        let _answer = shelf.load(alloc, name, 3);
+    }
+    let mut all = shelf.asked().len() == 3;
+    for (name, asked) in names.iter().zip(shelf.asked().as_slice()) {
+        all = all && asked.as_slice() == name.as_bytes();
+    }
+    Ok(all)
 }
 
 #[test]
 fn keeps_the_names(rt: HostRuntime) -> Result<(), Fail> {
-    let mut shelf = small_shelf(rt.alloc())?;
-    for name in ["a", "a", "b"] {
-        let _answer = shelf.load(rt.alloc(), name, 3);
-    }
-    assert!(rt; shelf.asked().len() == 3);
-    for (place, name) in [(0, "a"), (1, "a"), (2, "b")] {
-        let asked = shelf.asked().get(place).ok_or("no such name")?;
-        assert!(rt; asked.as_slice() == name.as_bytes());
-    }
+    assert!(rt; names_are_kept(rt.alloc())?);
     Ok(())
 }

@@ -63,67 +63,77 @@ fn shown(alloc: Global, text: &[u8]) -> Result<String, Fail> {
     Ok(out)
 }
 
+// A text, and what is shown of it.
+const READ: &[(&str, &str)] = &[
+    ("42", "42@1:1 "),
+    ("(+ 1 -5)", "(+@1:2 1@1:4 -5@1:6 )@1:1 "),
+    ("[a (b)] ()", "(a@1:2 (b@1:5 )@1:4 )@1:1 ()@1:9 "),
+    ("#t #f", "#t@1:1 #f@1:4 "),
+    ("+7 + - ... a->b", "7@1:1 +@1:4 -@1:6 ...@1:8 a->b@1:12 "),
+    (
+        "-.5 +.5 +-5 -a .a",
+        "-.5@1:1 +.5@1:5 +-5@1:9 -a@1:13 .a@1:16 ",
+    ),
+    ("\ta\r\n\tb", "a@1:2 b@2:2 "),
+    ("; note\na;b", "a@2:1 "),
+    ("9223372036854775807", "9223372036854775807@1:1 "),
+    ("-9223372036854775808", "-9223372036854775808@1:1 "),
+    ("007 -0", "7@1:1 0@1:5 "),
+    ("a(b)c#t", "a@1:1 (b@1:3 )@1:2 c@1:5 #t@1:6 "),
+];
+
 #[test]
 fn texts_read(rt: HostRuntime) -> Result<(), Fail> {
-    let table: [(&[u8], &str); 12] = [
-        (b"42", "42@1:1 "),
-        (b"(+ 1 -5)", "(+@1:2 1@1:4 -5@1:6 )@1:1 "),
-        (b"[a (b)] ()", "(a@1:2 (b@1:5 )@1:4 )@1:1 ()@1:9 "),
-        (b"#t #f", "#t@1:1 #f@1:4 "),
-        (b"+7 + - ... a->b", "7@1:1 +@1:4 -@1:6 ...@1:8 a->b@1:12 "),
-        (
-            b"-.5 +.5 +-5 -a .a",
-            "-.5@1:1 +.5@1:5 +-5@1:9 -a@1:13 .a@1:16 ",
-        ),
-        (b"\ta\r\n\tb", "a@1:2 b@2:2 "),
-        (b"; note\na;b", "a@2:1 "),
-        (b"9223372036854775807", "9223372036854775807@1:1 "),
-        (b"-9223372036854775808", "-9223372036854775808@1:1 "),
-        (b"007 -0", "7@1:1 0@1:5 "),
-        (b"a(b)c#t", "a@1:1 (b@1:3 )@1:2 c@1:5 #t@1:6 "),
-    ];
-    for (text, expected) in table {
-        let out = shown(rt.alloc(), text)?;
-        assert!(rt; out.as_str() == expected);
+    for (text, expected) in READ {
+        let out = shown(rt.alloc(), text.as_bytes())?;
+        assert!(rt; out.as_str() == *expected);
     }
     Ok(())
 }
 
+// A text, the kind of its refusal, and the line and the column of that.
+const REFUSED: &[(&str, RefusalKind, u32, u32)] = &[
+    ("", RefusalKind::Empty, 1, 1),
+    ("; note", RefusalKind::Empty, 1, 1),
+    (" \n ; note\n", RefusalKind::Empty, 1, 1),
+    ("{", RefusalKind::BadByte, 1, 1),
+    ("a \x0c", RefusalKind::BadByte, 1, 3),
+    ("a\n  'b", RefusalKind::BadByte, 2, 3),
+    ("(+ 1 2", RefusalKind::Unclosed, 1, 1),
+    ("(a\n [b", RefusalKind::Unclosed, 2, 2),
+    ("(+ 1 2]", RefusalKind::Unopened, 1, 7),
+    ("a)", RefusalKind::Unopened, 1, 2),
+    ("9223372036854775808", RefusalKind::NumberRange, 1, 1),
+    ("-9223372036854775809", RefusalKind::NumberRange, 1, 1),
+    ("1.5", RefusalKind::NotInProfile, 1, 1),
+    ("a 1+", RefusalKind::NotInProfile, 1, 3),
+    ("-5x", RefusalKind::NotInProfile, 1, 1),
+    ("+7.", RefusalKind::NotInProfile, 1, 1),
+    (".5", RefusalKind::NotInProfile, 1, 1),
+    ("#true", RefusalKind::NotInProfile, 1, 1),
+    ("(\"a", RefusalKind::NotInProfile, 1, 2),
+    ("# ]", RefusalKind::NotInProfile, 1, 1),
+    // two faults in one text
+    (") {", RefusalKind::Unopened, 1, 1),
+    ("{ )", RefusalKind::BadByte, 1, 1),
+    ("(1.5", RefusalKind::NotInProfile, 1, 2),
+    ("(\n[)]", RefusalKind::Unopened, 2, 2),
+    ("[(] 99999999999999999999", RefusalKind::Unopened, 1, 3),
+    ("(a) (b [c] (d", RefusalKind::Unclosed, 1, 12),
+    ("((a) [b", RefusalKind::Unclosed, 1, 6),
+];
+
 #[test]
 fn texts_are_refused_where_they_first_fail(rt: HostRuntime) -> Result<(), Fail> {
-    let table: [(&[u8], RefusalKind, u32, u32); 27] = [
-        (b"", RefusalKind::Empty, 1, 1),
-        (b"; note", RefusalKind::Empty, 1, 1),
-        (b" \n ; note\n", RefusalKind::Empty, 1, 1),
-        (b"{", RefusalKind::BadByte, 1, 1),
-        (b"a \x0c", RefusalKind::BadByte, 1, 3),
-        (b"a\n  'b", RefusalKind::BadByte, 2, 3),
-        (b"(+ 1 2", RefusalKind::Unclosed, 1, 1),
-        (b"(a\n [b", RefusalKind::Unclosed, 2, 2),
-        (b"(+ 1 2]", RefusalKind::Unopened, 1, 7),
-        (b"a)", RefusalKind::Unopened, 1, 2),
-        (b"9223372036854775808", RefusalKind::NumberRange, 1, 1),
-        (b"-9223372036854775809", RefusalKind::NumberRange, 1, 1),
-        (b"1.5", RefusalKind::NotInProfile, 1, 1),
-        (b"a 1+", RefusalKind::NotInProfile, 1, 3),
-        (b"-5x", RefusalKind::NotInProfile, 1, 1),
-        (b"+7.", RefusalKind::NotInProfile, 1, 1),
-        (b".5", RefusalKind::NotInProfile, 1, 1),
-        (b"#true", RefusalKind::NotInProfile, 1, 1),
-        (b"(\"a", RefusalKind::NotInProfile, 1, 2),
-        (b"# ]", RefusalKind::NotInProfile, 1, 1),
-        // two faults in one text
-        (b") {", RefusalKind::Unopened, 1, 1),
-        (b"{ )", RefusalKind::BadByte, 1, 1),
-        (b"(1.5", RefusalKind::NotInProfile, 1, 2),
-        (b"(\n[)]", RefusalKind::Unopened, 2, 2),
-        (b"[(] 99999999999999999999", RefusalKind::Unopened, 1, 3),
-        (b"(a) (b [c] (d", RefusalKind::Unclosed, 1, 12),
-        (b"((a) [b", RefusalKind::Unclosed, 1, 6),
-    ];
-    for (text, kind, line, col) in table {
-        let pos = Pos { line, col };
-        assert!(rt; refusal(rt.alloc(), text)? == Some(Refusal { kind, pos }));
+    for (text, kind, line, col) in REFUSED {
+        let refused = Refusal {
+            kind: *kind,
+            pos: Pos {
+                line: *line,
+                col: *col,
+            },
+        };
+        assert!(rt; refusal(rt.alloc(), text.as_bytes())? == Some(refused));
     }
     Ok(())
 }

@@ -1,7 +1,9 @@
 // Verdicts and the lines that tell them.
 
+use grift_base::lists::OutOfMemory;
 use grift_base::places::Pos;
 use grift_base::verdicts::{Answer, AnswerKind, Trap, Verdict, verdict_line};
+use std::alloc::Global;
 use std::test::Fail;
 
 #[test]
@@ -33,37 +35,91 @@ fn answer_kinds_have_numbers(rt: HostRuntime) {
     }
 }
 
-fn answer(kind: AnswerKind, word: i64) -> Verdict {
-    Verdict::Answer(Answer { kind, word })
+// What a run ended with, and the line that tells it.
+const LINES: &[(Verdict, &str)] = &[
+    (
+        Verdict::Answer(Answer {
+            kind: AnswerKind::Int,
+            word: 42,
+        }),
+        "answer 42\n",
+    ),
+    (
+        Verdict::Answer(Answer {
+            kind: AnswerKind::Int,
+            word: i64::MIN,
+        }),
+        "answer -9223372036854775808\n",
+    ),
+    (
+        Verdict::Answer(Answer {
+            kind: AnswerKind::Bool,
+            word: 0,
+        }),
+        "answer #f\n",
+    ),
+    (
+        Verdict::Answer(Answer {
+            kind: AnswerKind::Bool,
+            word: 1,
+        }),
+        "answer #t\n",
+    ),
+    (
+        Verdict::Answer(Answer {
+            kind: AnswerKind::Unit,
+            word: 0,
+        }),
+        "answer ()\n",
+    ),
+    (
+        Verdict::Answer(Answer {
+            kind: AnswerKind::Function,
+            word: 0,
+        }),
+        "answer #<function>\n",
+    ),
+    (
+        Verdict::Answer(Answer {
+            kind: AnswerKind::Tuple,
+            word: 0,
+        }),
+        "answer #<tuple>\n",
+    ),
+    (
+        Verdict::Answer(Answer {
+            kind: AnswerKind::Boxed,
+            word: 0,
+        }),
+        "answer #<box>\n",
+    ),
+    (
+        Verdict::Answer(Answer {
+            kind: AnswerKind::Vector,
+            word: 0,
+        }),
+        "answer #<vector>\n",
+    ),
+    (Verdict::Blame(Pos { line: 3, col: 14 }), "blame 3:14\n"),
+    (Verdict::Trap(Trap::ZeroDivisor), "trap zero-divisor\n"),
+    (Verdict::Trap(Trap::Index), "trap index\n"),
+    (Verdict::Trap(Trap::Length), "trap length\n"),
+    (Verdict::Trap(Trap::Input), "trap input\n"),
+    (Verdict::RegionOut, "exhausted region\n"),
+    (Verdict::StackOut, "exhausted stack\n"),
+    (Verdict::StepsSpent, "spent steps\n"),
+];
+
+// Whether this is a verdict's line.
+fn is_line(alloc: Global, verdict: &Verdict, text: &str) -> Result<bool, OutOfMemory> {
+    let line = verdict_line(alloc, verdict)?;
+    Ok(line.as_slice() == text.as_bytes())
 }
 
 #[test]
 fn verdicts_have_lines(rt: HostRuntime) -> Result<(), Fail> {
-    let table = [
-        (answer(AnswerKind::Int, 42), "answer 42\n"),
-        (
-            answer(AnswerKind::Int, i64::MIN),
-            "answer -9223372036854775808\n",
-        ),
-        (answer(AnswerKind::Bool, 0), "answer #f\n"),
-        (answer(AnswerKind::Bool, 1), "answer #t\n"),
-        (answer(AnswerKind::Unit, 0), "answer ()\n"),
-        (answer(AnswerKind::Function, 0), "answer #<function>\n"),
-        (answer(AnswerKind::Tuple, 0), "answer #<tuple>\n"),
-        (answer(AnswerKind::Boxed, 0), "answer #<box>\n"),
-        (answer(AnswerKind::Vector, 0), "answer #<vector>\n"),
-        (Verdict::Blame(Pos { line: 3, col: 14 }), "blame 3:14\n"),
-        (Verdict::Trap(Trap::ZeroDivisor), "trap zero-divisor\n"),
-        (Verdict::Trap(Trap::Index), "trap index\n"),
-        (Verdict::Trap(Trap::Length), "trap length\n"),
-        (Verdict::Trap(Trap::Input), "trap input\n"),
-        (Verdict::RegionOut, "exhausted region\n"),
-        (Verdict::StackOut, "exhausted stack\n"),
-        (Verdict::StepsSpent, "spent steps\n"),
-    ];
-    for (verdict, text) in table {
-        let line = verdict_line(rt.alloc(), &verdict)?;
-        assert!(rt; line.as_slice() == text.as_bytes());
+    for (verdict, text) in LINES {
+        assert!(rt; is_line(rt.alloc(), verdict, text)?, "{text}");
     }
     Ok(())
 }

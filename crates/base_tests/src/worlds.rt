@@ -1,6 +1,6 @@
 // What a program does to the outside, and what it learns of it.
 
-use grift_base::lists::Bytes;
+use grift_base::lists::{Bytes, OutOfMemory};
 use grift_base::verdicts::{Answer, AnswerKind, Trap};
 use grift_base::worlds::{EnvEffect, World};
 use std::alloc::Global;
@@ -48,80 +48,96 @@ fn ends_with_each_kind(rt: HostRuntime) {
     assert!(rt; world.output.is_empty());
 }
 
-// In a program with two labels.
+// The number of a call, its argument, what it comes to in a program with two labels, and what it prints.
+const CALLS: &[(u64, u64, EnvEffect, &str)] = &[
+    (1, 0, EnvEffect::Next(0, 9), "0"),
+    (
+        1,
+        0x7FFF_FFFF_FFFF_FFFF,
+        EnvEffect::Next(0x7FFF_FFFF_FFFF_FFFF, 9),
+        "9223372036854775807",
+    ),
+    (
+        1,
+        0x8000_0000_0000_0000,
+        EnvEffect::Next(0x8000_0000_0000_0000, 9),
+        "-9223372036854775808",
+    ),
+    (2, 256 + 65, EnvEffect::Next(256 + 65, 9), "A"),
+    (3, 1, EnvEffect::Blamed(1), ""),
+    (3, 2, EnvEffect::Refused, ""),
+    (4, 0, EnvEffect::Refused, ""),
+    (4, 1, EnvEffect::Trapped(Trap::ZeroDivisor), ""),
+    (4, 2, EnvEffect::Trapped(Trap::Index), ""),
+    (4, 3, EnvEffect::Trapped(Trap::Length), ""),
+    (4, 4, EnvEffect::Trapped(Trap::Input), ""),
+    (4, 5, EnvEffect::Refused, ""),
+    (5, 1, EnvEffect::RegionOut, ""),
+    (6, 1, EnvEffect::StackOut, ""),
+    (7, 0, EnvEffect::Next(0, 1), ""),
+    (8, 0, EnvEffect::Refused, ""),
+    (0xFFFF_FFFF_FFFF_FFFF, 0, EnvEffect::Refused, ""),
+];
+
+// Whether a call comes to this, and prints this.
+fn comes_to(alloc: Global, number: u64, a0: u64, effect: EnvEffect, text: &str) -> bool {
+    let mut world = quiet_world(alloc);
+    world.env(number, a0, 9, 2) == effect && world.output.as_slice() == text.as_bytes()
+}
+
 #[test]
 fn makes_each_other_call(rt: HostRuntime) {
-    for (number, a0, effect, text) in [
-        (1, 0, EnvEffect::Next(0, 9), "0"),
-        (
-            1,
-            0x7FFF_FFFF_FFFF_FFFF,
-            EnvEffect::Next(0x7FFF_FFFF_FFFF_FFFF, 9),
-            "9223372036854775807",
-        ),
-        (
-            1,
-            0x8000_0000_0000_0000,
-            EnvEffect::Next(0x8000_0000_0000_0000, 9),
-            "-9223372036854775808",
-        ),
-        (2, 256 + 65, EnvEffect::Next(256 + 65, 9), "A"),
-        (3, 1, EnvEffect::Blamed(1), ""),
-        (3, 2, EnvEffect::Refused, ""),
-        (4, 0, EnvEffect::Refused, ""),
-        (4, 1, EnvEffect::Trapped(Trap::ZeroDivisor), ""),
-        (4, 2, EnvEffect::Trapped(Trap::Index), ""),
-        (4, 3, EnvEffect::Trapped(Trap::Length), ""),
-        (4, 4, EnvEffect::Trapped(Trap::Input), ""),
-        (4, 5, EnvEffect::Refused, ""),
-        (5, 1, EnvEffect::RegionOut, ""),
-        (6, 1, EnvEffect::StackOut, ""),
-        (7, 0, EnvEffect::Next(0, 1), ""),
-        (8, 0, EnvEffect::Refused, ""),
-        (0xFFFF_FFFF_FFFF_FFFF, 0, EnvEffect::Refused, ""),
-    ] {
-        let mut world = quiet_world(rt.alloc());
+    for (number, a0, effect, text) in CALLS {
         assert!(rt;
-            world.env(number, a0, 9, 2) == effect,
-            "call {number} of {a0}"
-        );
-        assert!(rt;
-            world.output.as_slice() == text.as_bytes(),
+            comes_to(rt.alloc(), *number, *a0, *effect, text),
             "call {number} of {a0}"
         );
     }
 }
 
-// Each number that is read, and the place behind it; the last answer of each input is none.
+// An input, each number that is read, and the place behind it; the last answer of each input is none.
+const INPUTS: &[(&str, [(Option<i64>, u64); 3])] = &[
+    ("+3\n4", [(Some(3), 2), (Some(4), 4), (None, 4)]),
+    (
+        " \t\r\n-17 008\n",
+        [(Some(-17), 7), (Some(8), 11), (None, 12)],
+    ),
+    (
+        "9223372036854775807 -9223372036854775808",
+        [
+            (Some(9223372036854775807), 19),
+            (Some(-9223372036854775808), 40),
+            (None, 40),
+        ],
+    ),
+    (
+        "1 9223372036854775808",
+        [(Some(1), 1), (None, 2), (None, 2)],
+    ),
+    ("2 - 3", [(Some(2), 1), (None, 2), (None, 2)]),
+    ("5 6x 7", [(Some(5), 1), (None, 2), (None, 2)]),
+    (" \x0c8", [(None, 1), (None, 1), (None, 1)]),
+];
+
+// Whether these numbers are read, and then these places stand.
+fn is_read(
+    alloc: Global,
+    input: &str,
+    answers: &[(Option<i64>, u64); 3],
+) -> Result<bool, OutOfMemory> {
+    let mut world = World::new(alloc, Bytes::from_slice(alloc, input.as_bytes())?);
+    let mut all = true;
+    for answer in answers {
+        let number = world.read_int();
+        all = all && (number, world.place) == *answer;
+    }
+    Ok(all)
+}
+
 #[test]
 fn reads_numbers(rt: HostRuntime) -> Result<(), Fail> {
-    for (input, answers) in [
-        ("+3\n4", [(Some(3), 2), (Some(4), 4), (None, 4)]),
-        (
-            " \t\r\n-17 008\n",
-            [(Some(-17), 7), (Some(8), 11), (None, 12)],
-        ),
-        (
-            "9223372036854775807 -9223372036854775808",
-            [
-                (Some(9223372036854775807), 19),
-                (Some(-9223372036854775808), 40),
-                (None, 40),
-            ],
-        ),
-        (
-            "1 9223372036854775808",
-            [(Some(1), 1), (None, 2), (None, 2)],
-        ),
-        ("2 - 3", [(Some(2), 1), (None, 2), (None, 2)]),
-        ("5 6x 7", [(Some(5), 1), (None, 2), (None, 2)]),
-        (" \x0c8", [(None, 1), (None, 1), (None, 1)]),
-    ] {
-        let mut world = World::new(rt.alloc(), Bytes::from_slice(rt.alloc(), input.as_bytes())?);
-        for (answer, place) in answers {
-            let number = world.read_int();
-            assert!(rt; (number, world.place) == (answer, place), "in {input}");
-        }
+    for (input, answers) in INPUTS {
+        assert!(rt; is_read(rt.alloc(), input, answers)?, "in {input}");
     }
     Ok(())
 }

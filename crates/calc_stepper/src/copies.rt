@@ -35,6 +35,77 @@ pub fn copy_names(alloc: Global, names: &VarIds) -> Result<VarIds, OutOfMemory>
     Ok(VarIds::from_slice(alloc, names.as_slice())?)
 }
 
+// Boxes are made, and forms of several parts copied, in functions of their own: what a proof costs goes by the calls of
+// a function times its exits.
+
+// A copy of a term, in a box.
+#[cycle(copies)]
+fn copy_in_box(alloc: Global, core: &Core) -> Result<Box<Core>, OutOfMemory>
+    ensures { IfOk result (λ copy. term_of copy.value ≡ term_of core.now) }
+{
+    let copy = copy_term(alloc, core)?;
+    boxed(alloc, copy)
+}
+
+// A copy of a value, in a box.
+#[cycle(copies)]
+fn copy_value_in_box(alloc: Global, v: &Value) -> Result<Box<Value>, OutOfMemory>
+    ensures { IfOk result (λ copy. value_of copy.value ≡ value_of v.now) }
+{
+    let copy = copy_value(alloc, v)?;
+    boxed_value(alloc, copy)
+}
+
+// The parameters and the body of a function again.
+#[cycle(copies)]
+fn copy_function(
+    alloc: Global,
+    params: &VarIds,
+    body: &Core,
+) -> Result<(VarIds, Box<Core>), OutOfMemory>
+    ensures { IfOk result (λ copy. (copy.0 ≡ params.now) × (term_of copy.1.value ≡ term_of body.now)) }
+{
+    let params = copy_names(alloc, params)?;
+    let body = copy_in_box(alloc, body)?;
+    Ok((params, body))
+}
+
+// The same term again, of a form that joins several parts; no other form comes here.
+#[cycle(copies)]
+fn copy_joined(alloc: Global, core: &Core) -> Result<Core, OutOfMemory>
+    ensures { IfOk result (λ copy. term_of copy ≡ term_of core.now) }
+{
+    match core {
+        Core::Group(members, body) => {
+            let members = copy_members(alloc, members)?;
+            let body = copy_in_box(alloc, body)?;
+            Ok(Core::Group(members, body))
+        }
+        Core::Let(bindings, body) => {
+            let bindings = copy_bindings(alloc, bindings)?;
+            let body = copy_in_box(alloc, body)?;
+            Ok(Core::Let(bindings, body))
+        }
+        Core::Call(function, arguments) => {
+            let function = copy_in_box(alloc, function)?;
+            let arguments = copy_terms(alloc, arguments)?;
+            Ok(Core::Call(function, arguments))
+        }
+        Core::Enter(function, arguments) => {
+            let function = copy_in_box(alloc, function)?;
+            let arguments = copy_terms(alloc, arguments)?;
+            Ok(Core::Enter(function, arguments))
+        }
+        Core::If(condition, on_true, on_false) => {
+            let condition = copy_in_box(alloc, condition)?;
+            let on_true = copy_in_box(alloc, on_true)?;
+            let on_false = copy_in_box(alloc, on_false)?;
+            Ok(Core::If(condition, on_true, on_false))
+        }
+        _ => Err(OutOfMemory),
+    }
+}
+
 /// The same value again.
 #[cycle(copies)]
 pub fn copy_value(alloc: Global, v: &Value) -> Result<Value, OutOfMemory>
@@ -45,8 +116,7 @@ pub fn copy_value(alloc: Global, v: &Value) -> Result<Value, OutOfMemory>
         Value::Bool(b) => Ok(Value::Bool(*b)),
         Value::Unit => Ok(Value::Unit),
         Value::Fun(params, body, ty) => {
-            let params = copy_names(alloc, params)?;
-            let body = boxed(alloc, copy_term(alloc, body)?)?;
+            let (params, body) = copy_function(alloc, params, body)?;
             Ok(Value::Fun(params, body, *ty))
         }
         Value::GroupMember(members, place) => {
@@ -59,11 +129,11 @@ pub fn copy_value(alloc: Global, v: &Value) -> Result<Value, OutOfMemory>
         }
         Value::Loc(cell, is_vector) => Ok(Value::Loc(*cell, *is_vector)),
         Value::Wrap(v, from, label, to) => {
-            let v = boxed_value(alloc, copy_value(alloc, v)?)?;
+            let v = copy_value_in_box(alloc, v)?;
             Ok(Value::Wrap(v, *from, *label, *to))
         }
         Value::Inject(v, kept) => {
-            let v = boxed_value(alloc, copy_value(alloc, v)?)?;
+            let v = copy_value_in_box(alloc, v)?;
             Ok(Value::Inject(v, *kept))
         }
     }
@@ -80,64 +150,28 @@ pub fn copy_term(alloc: Global, core: &Core) -> Result<Core, OutOfMemory>
         Core::Unit => Ok(Core::Unit),
         Core::Var(name) => Ok(Core::Var(*name)),
         Core::Lambda(params, body, ty) => {
-            let params = copy_names(alloc, params)?;
-            let body = boxed(alloc, copy_term(alloc, body)?)?;
+            let (params, body) = copy_function(alloc, params, body)?;
             Ok(Core::Lambda(params, body, *ty))
         }
-        Core::Group(members, body) => {
-            let members = copy_members(alloc, members)?;
-            let body = boxed(alloc, copy_term(alloc, body)?)?;
-            Ok(Core::Group(members, body))
+        Core::Group(..) | Core::Let(..) | Core::Call(..) | Core::Enter(..) | Core::If(..) => {
+            copy_joined(alloc, core)
         }
-        Core::Let(bindings, body) => {
-            let bindings = copy_bindings(alloc, bindings)?;
-            let body = boxed(alloc, copy_term(alloc, body)?)?;
-            Ok(Core::Let(bindings, body))
-        }
-        Core::Call(function, arguments) => {
-            let function = boxed(alloc, copy_term(alloc, function)?)?;
-            let arguments = copy_terms(alloc, arguments)?;
-            Ok(Core::Call(function, arguments))
-        }
-        Core::Enter(function, arguments) => {
-            let function = boxed(alloc, copy_term(alloc, function)?)?;
-            let arguments = copy_terms(alloc, arguments)?;
-            Ok(Core::Enter(function, arguments))
-        }
-        Core::If(condition, on_true, on_false) => {
-            let condition = boxed(alloc, copy_term(alloc, condition)?)?;
-            let on_true = boxed(alloc, copy_term(alloc, on_true)?)?;
-            let on_false = boxed(alloc, copy_term(alloc, on_false)?)?;
-            Ok(Core::If(condition, on_true, on_false))
-        }
-        Core::Seq(terms) => {
-            let terms = copy_terms(alloc, terms)?;
-            Ok(Core::Seq(terms))
-        }
+        Core::Seq(terms) => Ok(Core::Seq(copy_terms(alloc, terms)?)),
         Core::Cast(term, from, to, label) => {
-            let term = boxed(alloc, copy_term(alloc, term)?)?;
+            let term = copy_in_box(alloc, term)?;
             Ok(Core::Cast(term, *from, *to, *label))
         }
-        Core::Proj(term, k) => {
-            let term = boxed(alloc, copy_term(alloc, term)?)?;
-            Ok(Core::Proj(term, *k))
-        }
+        Core::Proj(term, k) => Ok(Core::Proj(copy_in_box(alloc, term)?, *k)),
         Core::ProjDyn(term, k, label) => {
-            let term = boxed(alloc, copy_term(alloc, term)?)?;
+            let term = copy_in_box(alloc, term)?;
             Ok(Core::ProjDyn(term, *k, *label))
         }
-        Core::Tuple(parts) => {
-            let parts = copy_terms(alloc, parts)?;
-            Ok(Core::Tuple(parts))
-        }
+        Core::Tuple(parts) => Ok(Core::Tuple(copy_terms(alloc, parts)?)),
         Core::Prim(operator, operands) => {
             let operands = copy_terms(alloc, operands)?;
             Ok(Core::Prim(*operator, operands))
         }
-        Core::Value(v) => {
-            let v = copy_value(alloc, v)?;
-            Ok(Core::Value(v))
-        }
+        Core::Value(v) => Ok(Core::Value(copy_value(alloc, v)?)),
     }
 }
 

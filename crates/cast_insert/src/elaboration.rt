@@ -3,11 +3,13 @@
 
 ghost use Rattle.std.specs.Prelude.{◌≡◌, ◌≤◌, ◌==◌, ◌∷◌, ◌++◌, [], None, IfOk, OnOk, length, map};
 ghost use Rattle.grift_base.specs.Types.{row_at};
+ghost use Rattle.grift_base.specs.declared.places.Pos.{Pos};
 ghost use Rattle.type_graph.specs.Rows.{places_of};
 ghost use Rattle.type_graph.specs.TypeTables.{MayBePart};
 ghost use Rattle.core_calc.specs.Terms.{NoBindings, NoMembers, binding_list, member_list};
 ghost use Rattle.core_calc.specs.Views.{bindings_of, members_of, terms_of};
-ghost use Rattle.surface_syntax.specs.Views.{expr_of, exprs_of, lambda_of, lets_of, letrecs_of, node_of};
+ghost use Rattle.surface_syntax.specs.Trees.{AscribeNode, BeginNode, PrimNode, TupleNode};
+ghost use Rattle.surface_syntax.specs.Views.{expr_of, exprs_of, lambda_of, lets_of, letrecs_of, node_of, type_of};
 ghost use Rattle.cast_insert.specs.Sources.{how_many, last_place};
 ghost use Rattle.cast_insert.specs.Making.{Makes};
 ghost use Rattle.cast_insert.specs.Environments.{with_names};
@@ -40,11 +42,13 @@ use core_calc::terms::{
     Core, CoreBinding, CoreBindings, CoreList, GroupMember, GroupMembers, VarId, VarIds,
 };
 use grift_base::lists::OutOfMemory;
+use grift_base::operators::PrimOp;
 use grift_base::places::{Pos, TypeId};
 use grift_base::refusals::{FrontFault, RefusalKind};
 use std::alloc::Global;
 use surface_syntax::exprs::{Bindings, Expr, ExprList, ExprNode, LambdaExpr, Members};
 use surface_syntax::names::Ident;
+use surface_syntax::types::TypeExpr;
 use type_graph::rows::{Row, TypeIds};
 
 /// Terms in order, and the type of the last.
@@ -222,42 +226,147 @@ fn node(
             let f = elaborate(alloc, progress, scopes, function)?;
             call(alloc, progress, scopes, pos, function.pos, f, arguments)
         }
-        ExprNode::Let(list, inner) => {
-            let bound = bindings(alloc, progress, scopes, list)?;
-            let done = body(alloc, progress, scopes, bound.names.as_slice(), inner)?;
-            let inner = boxed(alloc, Core::Seq(done.terms))?;
-            Ok(plain(alloc, Core::Let(bound.bindings, inner), done.ty)?)
-        }
-        ExprNode::Letrec(list, inner) => {
-            let heads = heads(alloc, progress, scopes, list)?;
-            let group = members(alloc, progress, scopes, list, heads.as_slice())?;
-            let done = in_order(alloc, progress, scopes, inner)?;
-            scopes.leave(heads.len())?;
-            let inner = boxed(alloc, Core::Seq(done.terms))?;
-            Ok(plain(alloc, Core::Group(group, inner), done.ty)?)
-        }
+        ExprNode::Let(..) => let_form(alloc, progress, scopes, node),
+        ExprNode::Letrec(..) => letrec_form(alloc, progress, scopes, node),
         ExprNode::If(..) => if_form(alloc, progress, scopes, pos, node),
-        ExprNode::Begin(inner) => Ok(in_order(alloc, progress, scopes, inner)?.typed(alloc)?),
-        ExprNode::Ascribe(e, t) => {
-            let e = elaborate(alloc, progress, scopes, e)?;
-            let ty = progress.written(alloc, t)?;
-            progress.cast_to(alloc, pos, ty, e)
-        }
-        ExprNode::Tuple(parts) => {
-            let given = all(alloc, progress, scopes, parts)?;
-            Ok(tuple(alloc, progress, given)?)
-        }
+        ExprNode::Begin(inner) => begin_form(alloc, progress, scopes, inner),
+        ExprNode::Ascribe(e, t) => ascribed(alloc, progress, scopes, pos, e, t),
+        ExprNode::Tuple(parts) => tuple_form(alloc, progress, scopes, parts),
         ExprNode::Proj(whole, part, part_pos) => {
             let e = elaborate(alloc, progress, scopes, whole)?;
             projected(alloc, progress, whole.pos, *part_pos, e, *part)
         }
-        ExprNode::Prim(operator, list) => {
-            let wanted = operands_of(*operator);
-            let given = operands(alloc, progress, scopes, list, wanted, None)?;
-            let ty = answer_type(progress, *operator, given.content)?;
-            Ok(plain(alloc, Core::Prim(*operator, given.terms), ty)?)
-        }
+        ExprNode::Prim(operator, list) => operation(alloc, progress, scopes, *operator, list),
     }
+}
+
+// Forms of several steps have functions of their own: what a proof costs goes by the calls of a function times its
+// exits.
+
+// A `let`; no other form comes here.
+#[cycle(elaborate)]
+fn let_form(
+    alloc: Global,
+    progress: &mut Progress,
+    scopes: &mut Scopes,
+    node: &ExprNode,
+) -> Result<Typed, FrontFault>
+    requires { IsSourceNode (node_of node.now) }
+    ensures answer { (place : Pos) → Answers result typed_of (work_of progress.new)
+        (elaborate_node (node_of node.now) place scopes.old (work_of progress.old)) }
+    ensures scopes { OnOk result (scopes.new ≡ scopes.old) }
+    ensures grows { OnOk result (Grows progress.old.types progress.new.types) }
+{
+    let ExprNode::Let(list, inner) = node else {
+        return Err(FrontFault::OutOfMemory);
+    };
+    let bound = bindings(alloc, progress, scopes, list)?;
+    let done = body(alloc, progress, scopes, bound.names.as_slice(), inner)?;
+    let inner = boxed(alloc, Core::Seq(done.terms))?;
+    Ok(plain(alloc, Core::Let(bound.bindings, inner), done.ty)?)
+}
+
+// A `letrec`; no other form comes here.
+#[cycle(elaborate)]
+fn letrec_form(
+    alloc: Global,
+    progress: &mut Progress,
+    scopes: &mut Scopes,
+    node: &ExprNode,
+) -> Result<Typed, FrontFault>
+    requires { IsSourceNode (node_of node.now) }
+    ensures answer { (place : Pos) → Answers result typed_of (work_of progress.new)
+        (elaborate_node (node_of node.now) place scopes.old (work_of progress.old)) }
+    ensures scopes { OnOk result (scopes.new ≡ scopes.old) }
+    ensures grows { OnOk result (Grows progress.old.types progress.new.types) }
+{
+    let ExprNode::Letrec(list, inner) = node else {
+        return Err(FrontFault::OutOfMemory);
+    };
+    let heads = heads(alloc, progress, scopes, list)?;
+    let group = members(alloc, progress, scopes, list, heads.as_slice())?;
+    let done = in_order(alloc, progress, scopes, inner)?;
+    scopes.leave(heads.len())?;
+    let inner = boxed(alloc, Core::Seq(done.terms))?;
+    Ok(plain(alloc, Core::Group(group, inner), done.ty)?)
+}
+
+// An expression at a written type.
+#[cycle(elaborate)]
+fn ascribed(
+    alloc: Global,
+    progress: &mut Progress,
+    scopes: &mut Scopes,
+    pos: Pos,
+    e: &Expr,
+    written: &TypeExpr,
+) -> Result<Typed, FrontFault>
+    requires { IsSourceNode (AscribeNode (expr_of e.now) (type_of written.now)) }
+    ensures answer { Answers result typed_of (work_of progress.new)
+        (elaborate_node (AscribeNode (expr_of e.now) (type_of written.now)) pos scopes.old (work_of progress.old)) }
+    ensures scopes { OnOk result (scopes.new ≡ scopes.old) }
+    ensures grows { OnOk result (Grows progress.old.types progress.new.types) }
+{
+    let e = elaborate(alloc, progress, scopes, e)?;
+    let ty = progress.written(alloc, written)?;
+    progress.cast_to(alloc, pos, ty, e)
+}
+
+// A `begin`.
+#[cycle(elaborate)]
+fn begin_form(
+    alloc: Global,
+    progress: &mut Progress,
+    scopes: &mut Scopes,
+    inner: &ExprList,
+) -> Result<Typed, FrontFault>
+    requires { IsSourceNode (BeginNode (exprs_of inner.now)) }
+    ensures answer { (place : Pos) → Answers result typed_of (work_of progress.new)
+        (elaborate_node (BeginNode (exprs_of inner.now)) place scopes.old (work_of progress.old)) }
+    ensures scopes { OnOk result (scopes.new ≡ scopes.old) }
+    ensures grows { OnOk result (Grows progress.old.types progress.new.types) }
+{
+    let done = in_order(alloc, progress, scopes, inner)?;
+    Ok(done.typed(alloc)?)
+}
+
+// A tuple of these parts.
+#[cycle(elaborate)]
+fn tuple_form(
+    alloc: Global,
+    progress: &mut Progress,
+    scopes: &mut Scopes,
+    parts: &ExprList,
+) -> Result<Typed, FrontFault>
+    requires { IsSourceNode (TupleNode (exprs_of parts.now)) }
+    ensures answer { (place : Pos) → Answers result typed_of (work_of progress.new)
+        (elaborate_node (TupleNode (exprs_of parts.now)) place scopes.old (work_of progress.old)) }
+    ensures scopes { OnOk result (scopes.new ≡ scopes.old) }
+    ensures grows { OnOk result (Grows progress.old.types progress.new.types) }
+{
+    let given = all(alloc, progress, scopes, parts)?;
+    Ok(tuple(alloc, progress, given)?)
+}
+
+// An operator and its operands.
+#[cycle(elaborate)]
+fn operation(
+    alloc: Global,
+    progress: &mut Progress,
+    scopes: &mut Scopes,
+    operator: PrimOp,
+    list: &ExprList,
+) -> Result<Typed, FrontFault>
+    requires { IsSourceNode (PrimNode operator (exprs_of list.now)) }
+    ensures answer { (place : Pos) → Answers result typed_of (work_of progress.new)
+        (elaborate_node (PrimNode operator (exprs_of list.now)) place scopes.old (work_of progress.old)) }
+    ensures scopes { OnOk result (scopes.new ≡ scopes.old) }
+    ensures grows { OnOk result (Grows progress.old.types progress.new.types) }
+{
+    let wanted = operands_of(operator);
+    let given = operands(alloc, progress, scopes, list, wanted, None)?;
+    let ty = answer_type(progress, operator, given.content)?;
+    Ok(plain(alloc, Core::Prim(operator, given.terms), ty)?)
 }
 
 // An `if`; no other form comes here.

@@ -22,9 +22,16 @@ use std::marker::Model;
 use type_graph::tables::TypeTable;
 
 /// Distinct coercions, in order of first use, each behind its parts.
-#[derive(Drop)]
 pub struct CoercionTable {
     nodes: IndexMap<CoercionNode, u32>,
+}
+
+// By hand, so that what is proved of an exit at which a table is alive has one call, and not all that a map is made of.
+impl Drop for CoercionTable {
+    fn drop(self) {
+        let CoercionTable { nodes } = self;
+        drop(nodes);
+    }
 }
 
 impl Model for CoercionTable {

@@ -9,6 +9,7 @@ ghost use Rattle.surface_syntax.specs.Walk.{walk_type, walk_only, walk_types, wa
 ghost use Rattle.type_graph.specs.Rows.{row_of};
 ghost use Rattle.surface_syntax.specs.Trees.{TypeAt, BaseType};
 ghost use Rattle.surface_syntax.specs.Views.{type_of, type_node_of, types_of};
+ghost use Rattle.surface_syntax.specs.declared.type_forms.TypeHead.TheVariants.{Other};
 ghost use Rattle.surface_syntax.specs.Parts.{signature_of, head_of_word, type_head, headed_type};
 ghost use Rattle.surface_syntax.specs.Claims.{Answers};
 
@@ -146,23 +147,41 @@ fn headed_type(
             Ok(TypeNode::Tuple(parts))
         }
         TypeHead::Ref => {
-            let content = only_type(alloc, pos, rest)?;
-            Ok(TypeNode::Ref(boxed(alloc, content)?))
+            let content = content(alloc, pos, rest)?;
+            Ok(TypeNode::Ref(content))
         }
         TypeHead::Vect => {
-            let content = only_type(alloc, pos, rest)?;
-            Ok(TypeNode::Vect(boxed(alloc, content)?))
+            let content = content(alloc, pos, rest)?;
+            Ok(TypeNode::Vect(content))
         }
         TypeHead::Rec => bad_form(pos),
-        TypeHead::Other => {
-            if !is_arrow(elements) {
-                return bad_form(pos);
-            }
-            let signature = arrow_type(alloc, MOST_PARAMETERS, elements)?;
-            let result = boxed(alloc, signature.result)?;
-            Ok(TypeNode::Fun(signature.parameters, result))
-        }
+        TypeHead::Other => function(alloc, pos, elements),
     }
+}
+
+// What a list writes as the type of a function: forms of several steps have functions of their own, since what a proof
+// costs goes by the calls of a function times its exits.
+#[cycle(read_type)]
+fn function(alloc: Global, pos: Pos, elements: &SexpList) -> Result<TypeNode, FrontFault>
+    ensures { Answers result (λ node. TypeAt pos (type_node_of node)) (headed_type Other pos (all_marked
+        (datums_of elements.now))) }
+{
+    if !is_arrow(elements) {
+        return bad_form(pos);
+    }
+    let signature = arrow_type(alloc, MOST_PARAMETERS, elements)?;
+    let result = boxed(alloc, signature.result)?;
+    Ok(TypeNode::Fun(signature.parameters, result))
+}
+
+// The one type that these elements are, of what a reference or a vector holds.
+#[cycle(read_type)]
+fn content(alloc: Global, pos: Pos, elements: &SexpList) -> Result<Box<TypeExpr>, FrontFault>
+    ensures { Answers result (λ content. type_of content.value) (walk_only pos (all_marked (datums_of
+        elements.now))) }
+{
+    let content = only_type(alloc, pos, elements)?;
+    Ok(boxed(alloc, content)?)
 }
 
 // The one type that these elements are, in a list at this place.

@@ -196,3 +196,14 @@ if_form-returns-clause-answer t c =
     (rw (c.deref-4.ensures, c.in_ok-first.ensures.scopes, c.in_ok-test.ensures.scopes)
     at c.in_ok-second.ensures.answer)))
     (rw (c.deref-5.ensures, c.deref-6.ensures) at c.joined.ensures.answer))
+
+-- the forms whose place nothing asks for
+
+pub node-returns-in-Begin-clause-answer : goal.node-returns-in-Begin-clause-answer
+node-returns-in-Begin-clause-answer t c = rw c.in-Begin.is (c.begin_form.ensures.answer c.args.pos)
+
+pub node-returns-in-Tuple-clause-answer : goal.node-returns-in-Tuple-clause-answer
+node-returns-in-Tuple-clause-answer t c = rw c.in-Tuple.is (c.tuple_form.ensures.answer c.args.pos)
+
+pub node-returns-in-Prim-clause-answer : goal.node-returns-in-Prim-clause-answer
+node-returns-in-Prim-clause-answer t c = rw c.in-Prim.is (c.operation.ensures.answer c.args.pos)
