@@ -3,4 +3,6 @@
 #![tactic(auto)]
 
 #[cfg(test)]
+mod listings;
+#[cfg(test)]
 mod places;

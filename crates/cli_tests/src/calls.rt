@@ -61,6 +61,12 @@ const DEVICES: Row = Row {
     ..RUN
 };
 
+// A run that prints 5,000 bytes.
+const SEVENS: Row = Row {
+    file: Text("(repeat (i 0 5000) (print-int 7))"),
+    ..RUN
+};
+
 // Words that are no command.
 pub(crate) const UNREAD: Row = Row {
     file: Text("42"),
@@ -1544,6 +1550,26 @@ const OUTSIDE: &[Row] = &[
         status: 9,
         err: "put failed\n",
         ..EXEC
+    },
+    // output of more than a block: one put of 4,096 bytes, and one of the rest
+    Row {
+        out_fails: &[2],
+        out: Copies(&[("7", 5000)]),
+        err: "answer ()\n",
+        ..SEVENS
+    },
+    Row {
+        out_fails: &[0],
+        status: 9,
+        err: "put failed\n",
+        ..SEVENS
+    },
+    Row {
+        out_fails: &[1],
+        status: 9,
+        out: Copies(&[("7", 4096)]),
+        err: "put failed\n",
+        ..SEVENS
     },
     // words that are no command, whatever the file holds; and names that the shelf hasn't
     Row {

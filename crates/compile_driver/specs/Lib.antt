@@ -1,3 +1,4 @@
 pub mod Parts
 pub mod Compiling
 pub mod Space
+pub mod Words

@@ -1,6 +1,6 @@
 // Images from sources.
 
-ghost use Rattle.std.specs.Prelude.{◌≡◌, ◌<◌, ◌^◌, ◌≤◌, All, IfOk, IfErr, length};
+ghost use Rattle.std.specs.Prelude.{◌≡◌, ◌<◌, ◌^◌, ◌≤◌, All, IfOk, IfErr, IsTrue, length};
 ghost use Rattle.grift_base.specs.Sizes.{source_limit};
 ghost use Rattle.rv_machine.specs.Image.{IsImage};
 ghost use Rattle.core_calc.specs.Typing.{ProgramTermHasType};
@@ -12,6 +12,7 @@ ghost use Rattle.compile_driver.specs.Compiling.{FollowsProgram, HasProgram, IsT
 ghost use Rattle.compile_driver.specs.Compiling.{program_over, tallest_in};
 ghost use Rattle.compile_driver.specs.Parts.{HasWords};
 ghost use Rattle.compile_driver.specs.Space.{KeepsSpace};
+ghost use Rattle.compile_driver.specs.Words.{StandsFor, AreWordsOf};
 
 use assembler::image::Image;
 use cast_insert::casts::CastEntry;
@@ -21,6 +22,7 @@ use coer_core::program::to_coercions;
 use front_end::elaborate_text;
 use grift_base::lists::OutOfMemory;
 use grift_base::refusals::FrontFault;
+use low_ir::programs::LowProgram;
 use lower::merged::lower;
 use reg_assign::images::image_of;
 use std::alloc::Global;
@@ -37,7 +39,14 @@ pub struct Compiled {
     pub forms: u32,
 }
 
-// An image, and the greatest height of the coercions of its casts.
+// A program over words, and the greatest height of the coercions of its casts.
+#[derive(Drop)]
+struct Words {
+    low: LowProgram,
+    tallest: u32,
+}
+
+// An image, and that height.
 #[derive(Drop)]
 struct Made {
     image: Image,
@@ -79,6 +88,27 @@ fn are_narrow(casts: &[CastEntry])
 // The most bytes that statics and code may have: with every region they end below 2 ^ 34.
 const MOST_LOADED: usize = 8_589_934_592;
 
+// The program over words of a program with all casts.
+fn words_over(alloc: Global, types: &TypeTable, elab: &Elab) -> Result<Words, OutOfMemory>
+    requires typed { ProgramTermHasType types.now (length elab.now.labels) (term_of elab.now.core) elab.now.ty.0 }
+    requires placed { IsPlaced any_operator (entries_of elab.now.casts) (term_of elab.now.core) }
+    ensures tallest { IfOk result (λ words. words.tallest ≡ tallest_in (program_over types.now elab.now)) }
+    ensures stands { IfOk result (λ words. StandsFor words.low (program_over types.now elab.now)) }
+{
+    types.len();
+    are_narrow(elab.casts.as_slice());
+    let coer = to_coercions(alloc, &elab.core, types)?;
+    let flat = convert(alloc, &coer)?;
+    types.row(coer.answer);
+    let low = lower(alloc, &flat, types, &coer.casts, &coer.coercions)?;
+    are_words(low.statics.words.as_slice());
+    are_words(low.statics.cast_at.as_slice());
+    Ok(Words {
+        low,
+        tallest: coer.tallest,
+    })
+}
+
 // The image of a program with all casts. One whose statics and code are too long for the memory that the procedures
 // over words are proved for is want of memory.
 fn made_of(alloc: Global, types: &TypeTable, elab: &Elab) -> Result<Made, OutOfMemory>
@@ -89,22 +119,28 @@ fn made_of(alloc: Global, types: &TypeTable, elab: &Elab) -> Result<Made, OutOfM
     ensures follows { IfOk result (λ made. FollowsProgram made.image (program_over types.now elab.now)) }
     ensures space { IfOk result (λ made. KeepsSpace made.image types.now made.tallest) }
 {
-    types.len();
-    are_narrow(elab.casts.as_slice());
-    let coer = to_coercions(alloc, &elab.core, types)?;
-    let flat = convert(alloc, &coer)?;
-    types.row(coer.answer);
-    let low = lower(alloc, &flat, types, &coer.casts, &coer.coercions)?;
-    are_words(low.statics.words.as_slice());
-    are_words(low.statics.cast_at.as_slice());
-    let image = image_of(alloc, &low, &elab.labels)?;
+    let words = words_over(alloc, types, elab)?;
+    let image = image_of(alloc, &words.low, &elab.labels)?;
     if image.loaded().len() > MOST_LOADED {
         return Err(OutOfMemory);
     }
     Ok(Made {
         image,
-        tallest: coer.tallest,
+        tallest: words.tallest,
     })
+}
+
+/// The program over words that `compile` makes the image of: it is closed, and each image of it, with the labels of the
+/// source and at most 2^33 bytes of statics and code, follows the source's program. A source is refused exactly as it
+/// is read, parsed or elaborated.
+pub fn words_of(alloc: Global, text: &[u8]) -> Result<LowProgram, FrontFault>
+    requires { length text.now ≤ source_limit }
+    ensures words { IfOk result (AreWordsOf text.now) }
+    ensures refused { IfErr result (IsFault text.now) }
+{
+    let source = elaborate_text(alloc, text)?;
+    let words = words_over(alloc, &source.types, &source.elab)?;
+    Ok(words.low)
 }
 
 /// Compiles a source: it is read, parsed and elaborated, casts become coercions, functions become procedures, and these

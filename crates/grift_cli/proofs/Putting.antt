@@ -16,7 +16,7 @@ use Rattle.grift_cli.specs.Commands.{default_limits}
 use Rattle.grift_cli.specs.Generating.{PutsNumbers}
 use Rattle.grift_cli.specs.Runs.{run_within, printed, fault_of_run}
 use Rattle.grift_cli.specs.Reporting.{PutsLine, Fails, Lacks, fault_status}
-use Rattle.grift_cli.specs.Running.{RunsWell, PutsAll, TellsRun, Executes, Runs, RunsInSpace}
+use Rattle.grift_cli.specs.Running.{RunsWell, PutsAll, TellsRun, StopsShort, Executes, Runs, RunsInSpace}
 use Rattle.grift_cli.specs.Spaces.{ReportsSpace, in_space}
 use Rattle.grift_cli.specs.declared.reports.Space.{Space}
 use Rattle.grift_cli.specs.declared.commands.Limits.{Limits}
@@ -68,7 +68,7 @@ runs_after_put limits image input bytes out img (HasVerdict verdict) well b t x 
 runs_after_put limits image input bytes out img (HasFault fault) well b t x =
     no_fault limits image input fault well x.0
 runs_after_put limits image input bytes out img PutFailed well b t x = inr (subst (λ xs. Takes xs img) b t, x)
-runs_after_put limits image input bytes out img NoMemory well b t x = (inr (subst (λ xs. Takes xs img) b t), x)
+runs_after_put limits image input bytes out img NoMemory well b t x = inr (subst (λ xs. Takes xs img) b t, x)
 runs_after_put limits image input bytes out img report well b t x = absurd x.0
 
 -- an image that never goes wrong was run without input, and then its lines were put
@@ -79,14 +79,37 @@ numbers_put image bytes lines out (HasVerdict verdict) well t b x = (t, subst (�
 numbers_put image bytes lines out (HasFault fault) well t b x = no_fault default_limits image [] fault well t
 numbers_put image bytes lines out report well t b x = absurd t
 
+-- an image is run, and all that it prints was put
+pub executes_told : (limits : Limits) (image input : List ℕ) (out : SinkSeen) (report : Report)
+    → TellsRun (run_within limits image input).1 report → Takes (printed limits image input) out
+    → Executes limits image input out report
+executes_told limits image input out (HasVerdict verdict) t p = (t, p)
+executes_told limits image input out (HasFault fault) t p = (t, p)
+executes_told limits image input out report t p = absurd t
+
+-- not all of it was put
+pub executes_short : (limits : Limits) (image input : List ℕ) (out : SinkSeen) (report : Report)
+    → StopsShort limits image input out report → Executes limits image input out report
+executes_short limits image input out PutFailed s = s
+executes_short limits image input out NoMemory s = s
+executes_short limits image input out report s = absurd s
+
+-- so it is with lines on its storage
+pub short_in_space : (limits : Limits) (image input bytes : List ℕ) (tallest : ℕ) (out img : SinkSeen) (report : Report)
+    → bytes ≡ image → Takes bytes img → StopsShort limits image input out report
+    → RunsInSpace limits image input tallest out img report
+short_in_space limits image input bytes tallest out img PutFailed b t s = inr (subst (λ xs. Takes xs img) b t, s)
+short_in_space limits image input bytes tallest out img NoMemory b t s = inr (subst (λ xs. Takes xs img) b t, s)
+short_in_space limits image input bytes tallest out img report b t s = absurd s
+
 -- an image that never goes wrong was put, then run, and what it prints was put: it is told with its storage
 module _ (limits : Limits) (image input : List ℕ) (tallest : ℕ) (well : RunsWell limits image input)
-    {bytes text : List ℕ} {out img : SinkSeen} (image_is : bytes ≡ image) (taken : Takes bytes img)
-    (text_is : text ≡ printed limits image input) (put : Takes text out) where
+    {bytes : List ℕ} {out img : SinkSeen} (image_is : bytes ≡ image) (taken : Takes bytes img)
+    (put : Takes (printed limits image input) out) where
   pub shows_space : (report : Report) (space : Space) → TellsRun (run_within limits image input).1 report
       → ReportsSpace limits image input tallest space
       → RunsInSpace limits image input tallest out img (in_space report space)
   shows_space (HasVerdict verdict) space t r =
-      ((subst (λ xs. Takes xs img) image_is taken, t, subst (λ xs. Takes xs out) text_is put), r)
+      ((subst (λ xs. Takes xs img) image_is taken, t, put), r)
   shows_space (HasFault fault) space t r = absurd (no_fault limits image input fault well t)
   shows_space report space t r = absurd t

@@ -202,8 +202,7 @@ says_run call limits image input NoMemory r k c x = inr (inr (inl (record {
   image = image;
   input = input;
   compiled = c;
-  image_put = x.0;
-  no_output = x.1;
+  lacks = x;
 })))
 says_run call limits image input report r k c x = absurd x
 
@@ -233,8 +232,7 @@ says_run_in_space call limits image input tallest NoMemory r k c e x = inr (inr 
   image = image;
   input = input;
   compiled = c;
-  image_put = x.0;
-  no_output = x.1;
+  lacks = x;
 })))
 says_run_in_space call limits image input tallest report r k c e x = absurd x
 
@@ -300,7 +298,7 @@ says_exec call limits image input (HasFault fault) i x = record {
 says_exec call limits image input PutFailed i x =
     inr (inl (record { limits = limits; image = image; input = input; image_file = i; fails = x }))
 says_exec call limits image input NoMemory i x =
-    says_no_memory call (Exec i.file limits i.input_name) image input i.loaded (record { out = x; img = i.no_image })
+    inr (inr (inr (inl (record { limits = limits; image = image; input = input; image_file = i; stops = x }))))
 says_exec call limits image input report i x = absurd x.0
 
 -- ---- a source that is elaborated
@@ -422,5 +420,5 @@ says_generated call number report is shelf none x = by report x (record {
     by (HasVerdict verdict) x g = inr (inr (inr g))
     by (Refused refusal) x g = inr g
     by PutFailed x g = inr (inr (inr (inr (inr (inr g)))))
-    by NoMemory x g = inr (inr (inr g))
+    by NoMemory x g = inr (inr (inr (inr g)))
     by report x g = absurd x

@@ -1,13 +1,13 @@
 -- What is told of the storage of a run.
-use Rattle.std.proofs.Common.{ℕ, zero, suc, ◌+◌, ◌*◌, ◌<◌, ◌≤◌, ◌≡◌, Bool, true, false, max, List, [], ◌∷◌, Option}
+use Rattle.std.proofs.Common.{ℕ, suc, ◌+◌, ◌*◌, ◌<◌, ◌≤◌, ◌≡◌, Bool, true, false, List, [], ◌∷◌, Option}
 use Rattle.std.proofs.Common.{Some, None, refl, sym, ap, ◌∙◌, subst, arith}
 use Rattle.std.specs.Prelude.{◌&&◌, if◌then◌else◌, pos}
-use Rattle.grift_base.specs.Sink.{SinkSeen}
 use Rattle.grift_base.specs.Types.{TypeRows}
-use Rattle.rv_machine.specs.Mach.{mach, moment_of}
+use Rattle.rv_machine.specs.Mach.{moment_of}
 use Rattle.rv_machine.specs.Start.{IsRegionSize, IsStackSize, fresh_world, layout_of, start_of}
 use Rattle.rv_machine.specs.State.{State, Halt, reg}
 use Rattle.rv_machine.proofs.Public.{run_is_its_turns-states}
+use Rattle.rv_emulator.specs.Blocks.{with_output}
 use Rattle.object_layout.specs.declared.headers.Header.{Header}
 use Rattle.object_layout.specs.declared.walks.SpaceReport.{SpaceReport}
 use Rattle.object_layout.specs.declared.walks.WalkFault.{WalkFault}
@@ -21,7 +21,6 @@ use Rattle.compile_driver.specs.Space.{KeepsSpace, KeepsStorage, told_by}
 use Rattle.grift_cli.specs.Runs.{run_within}
 use Rattle.grift_cli.specs.Spaces.{IsFilled, ReportsSpace}
 use Rattle.grift_cli.specs.declared.commands.Limits.{Limits}
-use Rattle.grift_cli.specs.declared.reports.Space.{Space}
 
 -- ---- rows
 
@@ -87,6 +86,10 @@ module _ {s : State} {from : ℕ} (filled : IsFilled s from) (number to : ℕ) (
   pub reported_so : (report : SpaceReport) → IsReported (told_by s) from to report
       → IsReported (told_by s) from (s.regs 26) report
   reported_so report r = subst (λ n. IsReported (told_by s) from n report) (at_register s number to e told) r
+
+-- whatever is kept of the output
+pub refill : (s : State) (output : List ℕ) (from : ℕ) → IsFilled (with_output output s) from → IsFilled s from
+refill s output from f = record { headers = f.headers; row = f.row }
 
 -- ---- the state in which a run stops
 

@@ -1,5 +1,5 @@
 -- What a report says of a call of the program.
-use Rattle.std.specs.Prelude.{ℕ, ◌≡◌, ◌≢◌, ◌⊎◌, Bool, true, false, List, [], Option, Some}
+use Rattle.std.specs.Prelude.{ℕ, ◌≤◌, ◌++◌, ◌≡◌, ◌≢◌, ◌⊎◌, Bool, true, false, List, [], Option, Some}
 use Rattle.grift_base.specs.Sink.{SinkSeen, Untouched, Takes, Breaks}
 use Rattle.grift_base.specs.declared.refusals.Refusal.{Refusal}
 use Rattle.grift_base.specs.declared.verdicts.Verdict.{Verdict}
@@ -11,7 +11,7 @@ use Rattle.cast_insert.specs.Outcomes.{IsRefused as IsRefusedText}
 use Rattle.front_end.specs.Texts.{HasOutcome}
 use Rattle.compile_driver.specs.Compiling.{HasProgram, FollowsProgram, tallest_in}
 use Rattle.compile_driver.specs.Space.{KeepsSpace}
-use Rattle.grift_cli.specs.Runs.{run_within, printed, verdict_of_run, fault_of_run, ComesTo}
+use Rattle.grift_cli.specs.Runs.{run_within, printed, printed_after, verdict_of_run, fault_of_run, ComesTo}
 use Rattle.grift_cli.specs.Spaces.{ReportsSpace}
 use Rattle.grift_cli.specs.Commands.{Command, Run, Exec, Gen}
 use Rattle.grift_cli.specs.Calls.{CallSeen, PutsNothing, HasLoaded, HasNoCommand, HasNoFile, HasLongFile, LacksFile}
@@ -36,9 +36,23 @@ use Rattle.grift_cli.specs.declared.reports.Report.TheVariants.{Audited, Shown, 
 abbrev pub ImageFails : List ℕ → SinkSeen → SinkSeen → Type 0
 ImageFails image out img = Breaks image img × Untouched out
 
--- something was to be printed, and the put of that failed
-abbrev pub OutputFails : List ℕ → SinkSeen → Type 0
-OutputFails output out = (output ≢ []) × Breaks output out
+-- the put of what the image has printed failed, after some number of instructions: what was added, by puts before as
+-- well, is a beginning of what it has printed by then
+pub record OutputFails (limits : Limits) (image input : List ℕ) (out : SinkSeen) : Type 0 where
+  pub turns : ℕ
+  pub within : turns ≤ limits.steps
+  pub some : printed_after limits image input turns ≢ []
+  pub fails : Breaks (printed_after limits image input turns) out
+
+-- no memory was left after some number of instructions: what was added is a beginning of what the image has printed by
+-- then, and the rest was kept
+pub record OutputStops (limits : Limits) (image input : List ℕ) (out : SinkSeen) : Type 0 where
+  pub turns : ℕ
+  pub within : turns ≤ limits.steps
+  pub put : List ℕ
+  pub kept : List ℕ
+  pub output_is : printed_after limits image input turns ≡ put ++ kept
+  pub taken : Takes put out
 
 -- ---- a source that is refused
 
@@ -99,18 +113,18 @@ pub record FailsToPut (call : CallSeen) : Type 0 where
   pub input : List ℕ
   pub compiled : IsCompiled call limits space image input
   pub fails : ImageFails image call.out call.img
-      ⊎ (Takes image call.img × OutputFails (printed limits image input) call.out)
+      ⊎ (Takes image call.img × OutputFails limits image input call.out)
 
--- no memory was left when there was an image, for its put, its run or the put of the output: nothing was put on the
--- output, and the image whole or not at all
+-- no memory was left when there was an image: for its put, and then nothing was put; or for its run or a put of its
+-- output, of which a beginning was put
 pub record LacksRun (call : CallSeen) : Type 0 where
   pub limits : Limits
   pub space : Bool
   pub image : List ℕ
   pub input : List ℕ
   pub compiled : IsCompiled call limits space image input
-  pub image_put : Untouched call.img ⊎ Takes image call.img
-  pub no_output : Untouched call.out
+  pub lacks : (Untouched call.img × Untouched call.out)
+      ⊎ (Takes image call.img × OutputStops limits image input call.out)
 
 -- ---- an image from a file that is run
 
@@ -151,15 +165,23 @@ pub record HasGoneWrong (call : CallSeen) (fault : MachineFault) : Type 0 where
   pub fault_is : fault_of_run (run_within limits image input).1 ≡ Some fault
   pub output_put : Takes (printed limits image input) call.out
 
--- the put of what it prints failed
+-- a put of what it prints failed
 pub record FailsToPutOutput (call : CallSeen) : Type 0 where
   pub limits : Limits
   pub image : List ℕ
   pub input : List ℕ
   pub image_file : IsImageFile call limits image input
-  pub fails : OutputFails (printed limits image input) call.out
+  pub fails : OutputFails limits image input call.out
 
--- no memory was left for what is made of the file, or for the run of the image that it holds: nothing was put
+-- no memory was left for its run or a put of its output, of which a beginning was put
+pub record LacksOutput (call : CallSeen) : Type 0 where
+  pub limits : Limits
+  pub image : List ℕ
+  pub input : List ℕ
+  pub image_file : IsImageFile call limits image input
+  pub stops : OutputStops limits image input call.out
+
+-- no memory was left for what is made of the file: nothing was put
 pub record LacksImage (call : CallSeen) : Type 0 where
   pub command : Command
   pub bytes : List ℕ
@@ -189,4 +211,5 @@ Says PutFailed call =
     ⊎ (FailsToPutOutput call
     ⊎ (FailsToPutLines call
     ⊎ (FailsToPutAudit call ⊎ (FailsToPutModel call ⊎ (FailsToShow call ⊎ HasGenerated call PutFailed)))))
-Says NoMemory call = LacksFile call ⊎ (LacksImage call ⊎ (LacksRun call ⊎ HasGenerated call NoMemory))
+Says NoMemory call =
+    LacksFile call ⊎ (LacksImage call ⊎ (LacksRun call ⊎ (LacksOutput call ⊎ HasGenerated call NoMemory)))

@@ -9,7 +9,7 @@ use Rattle.rv_machine.specs.Mach.{mach}
 use Rattle.rv_emulator.specs.Turns.{Outcome, Halts, Spent, NoMemory as WantsMemory}
 use Rattle.grift_cli.specs.Runs.{run_within, printed, verdict_of_run, fault_of_run}
 use Rattle.grift_cli.specs.Spaces.{ReportsSpace}
-use Rattle.grift_cli.specs.Outcome.{ImageFails, OutputFails}
+use Rattle.grift_cli.specs.Outcome.{ImageFails, OutputFails, OutputStops}
 use Rattle.grift_cli.specs.declared.commands.Limits.{Limits}
 use Rattle.grift_cli.specs.declared.reports.Report.{Report}
 use Rattle.grift_cli.specs.declared.reports.Report.TheVariants.{HasVerdict, HasSpace, HasFault, PutFailed, NoMemory}
@@ -47,22 +47,29 @@ sink_report SinkMemory = NoMemory
 
 -- ---- reports
 
--- the image was run, and then what it prints was put
+-- not all that the image prints was put: a put failed, or no memory was left
+abbrev pub StopsShort : Limits → List ℕ → List ℕ → SinkSeen → Report → Type 0
+StopsShort limits image input out PutFailed = OutputFails limits image input out
+StopsShort limits image input out NoMemory = OutputStops limits image input out
+StopsShort limits image input out _ = ⊥
+
+-- the image was run, and what it prints was put as it went
 abbrev pub Executes : Limits → List ℕ → List ℕ → SinkSeen → Report → Type 0
-Executes limits image input out PutFailed = OutputFails (printed limits image input) out
-Executes limits image input out NoMemory = Untouched out
+Executes limits image input out PutFailed = OutputFails limits image input out
+Executes limits image input out NoMemory = OutputStops limits image input out
 Executes limits image input out report =
     TellsRun (run_within limits image input).1 report × Takes (printed limits image input) out
 
--- the image was put, then run, and then what it prints was put; it didn't go wrong
+-- the image was put, then run, and what it prints was put as it went; it didn't go wrong
 abbrev pub Runs : Limits → List ℕ → List ℕ → SinkSeen → SinkSeen → Report → Type 0
 Runs limits image input out img (HasVerdict verdict) =
     Takes image img
     × (verdict_of_run (run_within limits image input).1 ≡ Some verdict)
     × Takes (printed limits image input) out
 Runs limits image input out img PutFailed =
-    ImageFails image out img ⊎ (Takes image img × OutputFails (printed limits image input) out)
-Runs limits image input out img NoMemory = (Untouched img ⊎ Takes image img) × Untouched out
+    ImageFails image out img ⊎ (Takes image img × OutputFails limits image input out)
+Runs limits image input out img NoMemory =
+    (Untouched img × Untouched out) ⊎ (Takes image img × OutputStops limits image input out)
 Runs limits image input out img _ = ⊥
 
 -- so it was with lines on its storage

@@ -18,6 +18,11 @@ run_within limits image input = run_of limits.steps (start_of image limits.regio
 abbrev pub printed : Limits → List ℕ → List ℕ → List ℕ
 printed limits image input = (run_within limits image input).0.world.output
 
+-- what the image has printed after so many instructions
+abbrev pub printed_after : Limits → List ℕ → List ℕ → ℕ → List ℕ
+printed_after limits image input turns =
+    (run_of turns (start_of image limits.region limits.stack (fresh_world input))).0.world.output
+
 -- the verdict of a run: that of its stop, or spent steps where there was none; none where it went wrong
 abbrev pub verdict_of_run : Option Halt → Option Verdict
 verdict_of_run None = Some StepsSpent

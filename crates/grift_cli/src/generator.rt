@@ -59,7 +59,7 @@ fn run_alone(alloc: Global, image: &Image) -> Option<(Report, u64)>
     ensures output { IfSome result (λ run. run.1 ≡ length (printed default_limits image.now [])) }
 {
     let (report, machine) = run_machine(alloc, image, default_limits(), Bytes::new(alloc))?;
-    Some((report, machine.world().output.len()))
+    Some((report, machine.world().output.len() as u64))
 }
 
 // The lines of these numbers.

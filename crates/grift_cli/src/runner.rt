@@ -1,12 +1,14 @@
 // The run of an image.
 
-ghost use Rattle.std.specs.Prelude.{◌≡◌, ℕ, List, Option, IfOk, IfSome};
+ghost use Rattle.std.specs.Prelude.{◌≡◌, ℕ, List, Option, IfOk, IfErr, IfSome};
 ghost use Rattle.rv_machine.specs.Start.{IsRegionSize, IsStackSize, fresh_world, start_of};
 ghost use Rattle.rv_emulator.specs.Processor.{state_of};
 ghost use Rattle.rv_emulator.specs.Turns.{outcome_of};
-ghost use Rattle.grift_base.specs.Sink.{sink_seen};
+ghost use Rattle.rv_emulator.specs.Blocks.{with_output};
+ghost use Rattle.grift_base.specs.Sink.{Takes, sink_seen};
 ghost use Rattle.grift_cli.specs.Runs.{run_within, printed};
-ghost use Rattle.grift_cli.specs.Running.{RunsWell, TellsRun, TellsStop, PutsAll, sink_report, Executes, Runs};
+ghost use Rattle.grift_cli.specs.Running.{RunsWell, TellsRun, TellsStop, PutsAll, sink_report};
+ghost use Rattle.grift_cli.specs.Running.{StopsShort, Executes, Runs};
 
 use crate::commands::Limits;
 use crate::reports::Report;
@@ -15,14 +17,14 @@ use grift_base::lists::{Bytes, OutOfMemory};
 use grift_base::sinks::{Sink, SinkFault};
 use grift_base::verdicts::Verdict;
 use grift_base::worlds::World;
-use rv_emulator::flat::FlatRam;
 use rv_emulator::machine::Machine;
+use rv_emulator::paged::PagedRam;
 use rv_emulator::ram::Ram;
-use rv_emulator::stops::Stop;
+use rv_emulator::stops::{BlockStop, Stop};
 use rv_machine::faults::MachineFault;
 use std::alloc::Global;
 
-/// Puts an image that never goes wrong, runs it within the limits on this input, and puts what it prints.
+/// Puts an image that never goes wrong, runs it within the limits on this input, and puts what it prints as it goes.
 pub fn run_image<O: Sink, I: Sink>(
     alloc: Global,
     image: &Image,
@@ -45,7 +47,8 @@ pub fn run_image<O: Sink, I: Sink>(
     }
 }
 
-/// Runs an image within the limits on this input, and puts what it prints.
+/// Runs an image within the limits on this input, and puts what it prints as it goes.
+#[tactic(auto, using(crate::proofs::Putting::executes_told, crate::proofs::Putting::executes_short))]
 pub fn exec_image<O: Sink>(
     alloc: Global,
     image: &Image,
@@ -57,12 +60,40 @@ pub fn exec_image<O: Sink>(
     requires stack { IsStackSize limits.stack }
     ensures { Executes limits image.now input (sink_seen O.written O.fault_count out.old out.new) result }
 {
-    match run_machine(alloc, image, limits, input) {
-        None => Report::NoMemory,
-        Some((report, machine)) => match put_all(out, machine.world().output.as_slice()) {
-            Ok(()) => report,
-            Err(fault) => report_of(fault),
-        },
+    match run_putting(alloc, image, limits, input, out) {
+        Ok((report, _)) => report,
+        Err(report) => report,
+    }
+}
+
+/// How the run of an image is reported whose output is put as it goes, and the machine as it stopped; or, where not all
+/// of that was put, what is reported in place of it.
+pub fn run_putting<O: Sink>(
+    alloc: Global,
+    image: &Image,
+    limits: Limits,
+    input: Bytes,
+    out: &mut O,
+) -> Result<(Report, Machine<PagedRam>), Report>
+    requires region { IsRegionSize limits.region }
+    requires stack { IsStackSize limits.stack }
+    ensures told { IfOk result (λ run. TellsRun (run_within limits image.now input).1 run.0) }
+    ensures stopped { IfOk result (λ run. (run_within limits image.now input).0
+        ≡ with_output (printed limits image.now input) (state_of ⟦<PagedRam as Ram>⟧.memory run.1)) }
+    ensures put { IfOk result (λ _.
+        Takes (printed limits image.now input) (sink_seen O.written O.fault_count out.old out.new)) }
+    ensures short { IfErr result (λ report.
+        StopsShort limits image.now input (sink_seen O.written O.fault_count out.old out.new) report) }
+{
+    let Ok(mut machine) = machine_of(alloc, image, limits, input) else {
+        return Err(Report::NoMemory);
+    };
+    let BlockStop::Stopped(stop) = machine.run_blocks(limits.steps, out) else {
+        return Err(Report::PutFailed);
+    };
+    match report_of_stop(stop) {
+        Some(report) => Ok((report, machine)),
+        None => Err(Report::NoMemory),
     }
 }
 
@@ -92,14 +123,14 @@ pub fn run_machine(
     image: &Image,
     limits: Limits,
     input: Bytes,
-) -> Option<(Report, Machine<FlatRam>)>
+) -> Option<(Report, Machine<PagedRam>)>
     requires region { IsRegionSize limits.region }
     requires stack { IsStackSize limits.stack }
     ensures told { IfSome result (λ run. TellsRun (run_within limits image.now input).1 run.0) }
     ensures stopped { IfSome result (λ run.
-        state_of ⟦<FlatRam as Ram>⟧.memory run.1 ≡ (run_within limits image.now input).0) }
+        state_of ⟦<PagedRam as Ram>⟧.memory run.1 ≡ (run_within limits image.now input).0) }
     ensures printed { IfSome result (λ run.
-        (state_of ⟦<FlatRam as Ram>⟧.memory run.1).world.output ≡ printed limits image.now input) }
+        (state_of ⟦<PagedRam as Ram>⟧.memory run.1).world.output ≡ printed limits image.now input) }
 {
     let Ok(mut machine) = machine_of(alloc, image, limits, input) else {
         return None;
@@ -115,15 +146,15 @@ fn machine_of(
     image: &Image,
     limits: Limits,
     input: Bytes,
-) -> Result<Machine<FlatRam>, OutOfMemory>
+) -> Result<Machine<PagedRam>, OutOfMemory>
     requires region { IsRegionSize limits.region }
     requires stack { IsStackSize limits.stack }
     ensures { IfOk result (λ machine.
-        state_of ⟦<FlatRam as Ram>⟧.memory machine
+        state_of ⟦<PagedRam as Ram>⟧.memory machine
         ≡ start_of image.now limits.region limits.stack (fresh_world input)) }
 {
     let size = image.loaded().len() as u64 + limits.region + limits.stack;
-    let ram = FlatRam::new(alloc, size)?;
+    let ram = PagedRam::new(alloc, size)?;
     let world = World::new(alloc, input);
     let machine = Machine::load(alloc, image, ram, limits.region, limits.stack, world)?;
     Ok(machine)

@@ -11,21 +11,21 @@ ghost use Rattle.grift_cli.specs.Spaces.{IsFilled, in_space};
 
 use crate::commands::Limits;
 use crate::reports::{Report, Space};
-use crate::runner::{put_all, report_of, run_machine};
+use crate::runner::{put_all, report_of, run_putting};
 use assembler::image::Image;
 use compile_driver::compiling::Compiled;
 use grift_base::lists::Bytes;
 use grift_base::sinks::Sink;
 use object_layout::walks::{SpaceReport, walk};
-use rv_emulator::flat::FlatRam;
 use rv_emulator::machine::Machine;
+use rv_emulator::paged::PagedRam;
 use rv_emulator::ram::Ram;
 use rv_isa::number::Reg;
 use rv_machine::FIRST_ADDRESS;
 use std::alloc::Global;
 
 /// Puts the image of a source, which never goes wrong and keeps its storage whole, runs it within the limits on this
-/// input, puts what it prints, and tells beside the verdict how its region is filled as the machine stops.
+/// input, puts what it prints as it goes, and tells beside the verdict how its region is filled as the machine stops.
 pub fn run_in_space<O: Sink, I: Sink>(
     alloc: Global,
     compiled: &Compiled,
@@ -47,17 +47,15 @@ pub fn run_in_space<O: Sink, I: Sink>(
     if let Err(fault) = put_all(img, image.bytes()) {
         return report_of(fault);
     }
-    let Some((report, machine)) = run_machine(alloc, image, limits, input) else {
-        return Report::NoMemory;
+    let (report, machine) = match run_putting(alloc, image, limits, input, out) {
+        Ok(run) => run,
+        Err(report) => return report,
     };
     let space = Space {
         report: walked(&machine, region_start(image, limits)),
         tallest: compiled.tallest,
     };
-    match put_all(out, machine.world().output.as_slice()) {
-        Ok(()) => in_space(report, space),
-        Err(fault) => report_of(fault),
-    }
+    in_space(report, space)
 }
 
 // The address at which the region of an image begins.
@@ -68,10 +66,10 @@ fn region_start(image: &Image, limits: Limits) -> u64
 }
 
 // The report of a region that whole objects fill from its start to x26.
-fn walked(machine: &Machine<FlatRam>, from: u64) -> SpaceReport
-    requires { IsFilled (state_of ⟦<FlatRam as Ram>⟧.memory machine.now) from }
-    ensures { IsReported (told_by (state_of ⟦<FlatRam as Ram>⟧.memory machine.now)) from
-        ((state_of ⟦<FlatRam as Ram>⟧.memory machine.now).regs 26) result }
+fn walked(machine: &Machine<PagedRam>, from: u64) -> SpaceReport
+    requires { IsFilled (state_of ⟦<PagedRam as Ram>⟧.memory machine.now) from }
+    ensures { IsReported (told_by (state_of ⟦<PagedRam as Ram>⟧.memory machine.now)) from
+        ((state_of ⟦<PagedRam as Ram>⟧.memory machine.now).regs 26) result }
 {
     match walk(machine, from, machine.reg(Reg::new(26))) {
         Ok(report) => report,

@@ -1,152 +1,21 @@
-use Rattle.std.proofs.Common.{◌≡◌, ◌+◌, ◌<◌, ◌≤◌, ◌^◌, true, ap, length, sym, ◌∙◌, subst, rules}
-use Rattle.std.specs.Prelude.{All, [], Some}
-use Rattle.std.proofs.lemmas.List.{length-map}
-use Rattle.grift_base.specs.Types.{row_at}
-use Rattle.grift_base.specs.declared.places.TypeId.{TypeId}
-use Rattle.type_graph.specs.Rows.{row_of}
+use Rattle.std.proofs.Common.{◌≡◌, ◌+◌, ◌≤◌, ◌^◌, sym, subst, rules}
 use Rattle.rv_machine.specs.Image.{statics_len, code_len}
-use Rattle.core_calc.specs.Typing.{ProgramTermHasType}
-use Rattle.core_calc.specs.Views.{term_of}
-use Rattle.cast_insert.specs.Views.{entries_of}
-use Rattle.front_end.specs.Placed.{IsPlaced, any_operator}
-use Rattle.front_end.proofs.Public.{program_type_there}
-use Rattle.lower.specs.Serving.{all_have_words}
-use Rattle.coercion_norm.specs.Modes.{row_cast, row_casts}
-use Rattle.coer_core.specs.Programs.{tallest_of}
-use Rattle.coer_core.specs.Uses.{NumbersBelow}
-use Rattle.coer_core.specs.Views.{row_term_of}
-use Rattle.flat_ir.specs.Views.{proc_of as flat_proc_of}
-use Rattle.closure_convert.specs.Conversion.{converted}
-use Rattle.closure_convert.proofs.Public.{operators_have_few_operands, procedures_use_what_their_term_uses}
-use Rattle.compile_driver.specs.Compiling.{program_over}
-use Rattle.compile_driver.specs.Parts.{HasWords}
 use Rattle.compile_driver.specs.Space.{KeepsSpace}
-use Rattle.compile_driver.proofs.Covered.{covers_all, is_covered, words_for_all}
-use Rattle.compile_driver.proofs.Following.{HasPassed, are_made, casts_within, follows_program, keeps_space}
-use Rattle.compile_driver.proofs.Following.{no_names}
-use Rattle.compile_driver.proofs.LabelsLow.{labels_low}
-use Rattle.compile_driver.proofs.UsesPass.{pass}
 use Rattle.compile_driver.proofs.compiling.made_of.Goals as goal
-use Rattle.compile_driver.proofs.compiling.made_of.Goals.{After-drop-coer-10}
-
-pub to_coercions-requires : goal.to_coercions-requires
-to_coercions-requires c = (length c.args.elab.now.labels, c.args.elab.now.ty.0, c.requires.typed)
-
-pub row-requires : goal.row-requires
-row-requires c =
-    let term = term_of c.args.elab.now.core in
-    let labels = length c.args.elab.now.labels in
-    let low = labels_low c.args.types.now labels [] term [] c.args.elab.now.ty.0 c.requires.typed.3 in
-    program_type_there c.args.types.now labels term c.in_ok-coer.coer.answer.0 (c.in_ok-coer.ensures.answer labels low)
-
-pub lower-requires-clause-answer : goal.lower-requires-clause-answer
-lower-requires-clause-answer c =
-    let term = term_of c.args.elab.now.core in
-    let labels = length c.args.elab.now.labels in
-    let low = labels_low c.args.types.now labels [] term [] c.args.elab.now.ty.0 c.requires.typed.3 in
-    subst (λ answer. answer < length c.args.types.now) (sym (ap (λ (t : TypeId). t.0) c.in_ok-flat.ensures.answer))
-    (program_type_there c.args.types.now labels term c.in_ok-coer.coer.answer.0
-    (c.in_ok-coer.ensures.answer labels low))
-
-pub lower-requires-clause-fits : goal.lower-requires-clause-fits
-lower-requires-clause-fits c = c.in_ok-coer.ensures.fits
-
-pub lower-requires-clause-casts : goal.lower-requires-clause-casts
-lower-requires-clause-casts c = casts_within c.args.types.now c.in_ok-coer.coer.coercions.nodes
-    c.in_ok-coer.coer.casts c.in_ok-coer.ensures.coercions
 
 pub image_of-requires : goal.image_of-requires
-image_of-requires c =
-    let types = c.args.types.now in
-    let elab = c.args.elab.now in
-    let coer = c.in_ok-coer.coer in
-    let flat = c.in_ok-flat.flat in
-    let term = row_term_of coer.body in
-    let labels = length elab.labels in
-    let low = labels_low types labels [] (term_of elab.core) [] elab.ty.0 c.requires.typed.3 in
-    let typed = subst (λ t. ProgramTermHasType types labels t coer.answer.0) (sym c.in_ok-coer.ensures.reads)
-    (c.in_ok-coer.ensures.answer labels low) in
-    let names = no_names (row_casts coer.casts) types labels term coer.answer.0 typed in
-    let widths = c.len.ensures.table.widths in
-    c.in_ok-low.ensures.closed (c.in_ok-flat.ensures.closed (row_casts coer.casts) types labels coer.answer.0 widths
-    typed)
-    (subst (λ ps. all_have_words ps ≡ true) (sym (c.in_ok-flat.ensures.procs names))
-    (words_for_all (converted term)
-    (operators_have_few_operands (row_casts coer.casts) types labels term coer.answer.0 widths typed)))
+image_of-requires c = c.in_ok-words.ensures.stands.closed
 
 pub returns-clause-whole : goal.returns-clause-whole
 returns-clause-whole c = c.in_ok-image.ensures.whole
 
-pub returns-clause-tallest : goal.returns-clause-tallest
-returns-clause-tallest c =
-    c.in_ok-coer.ensures.tallest ∙ ap (tallest_of c.args.types.now) c.in_ok-coer.ensures.order
-
--- what the passes answer is what the laws on images ask for
-answers : (c : After-drop-coer-10) → HasPassed (program_over c.args.types.now c.args.elab.now) c.in_ok-coer.coer.casts
-    c.in_ok-coer.coer.coercions.nodes (row_term_of c.in_ok-coer.coer.body) c.in_ok-coer.coer.answer.0
-    c.in_ok-image.image
-answers c =
-    let types = c.args.types.now in
-    let elab = c.args.elab.now in
-    let coer = c.in_ok-coer.coer in
-    let flat = c.in_ok-flat.flat in
-    let low_program = c.in_ok-low.low in
-    let rows = coer.casts in
-    let term = row_term_of coer.body in
-    let labels = length elab.labels in
-    let low = labels_low types labels [] (term_of elab.core) [] elab.ty.0 c.requires.typed.3 in
-    let answer_typed = c.in_ok-coer.ensures.answer labels low in
-    let typed = subst (λ t. ProgramTermHasType types labels t coer.answer.0) (sym c.in_ok-coer.ensures.reads)
-    answer_typed in
-    let names = no_names (row_casts rows) types labels term coer.answer.0 typed in
-    let procs_are = c.in_ok-flat.ensures.procs names in
-    let row_there = c.row.ensures in
-    let flat_row = subst (λ (t : TypeId). row_at types t.0 ≡ Some (row_of c.row.result.now))
-    (sym c.in_ok-flat.ensures.answer) row_there in
-    let placed = subst (IsPlaced any_operator (entries_of elab.casts)) (sym c.in_ok-coer.ensures.reads)
-    c.requires.placed in
-    let words : All (λ w. w < 2 ^ 64) low_program.statics.words = search rules in
-    let cast_words : All (λ w. w < 2 ^ 64) low_program.statics.cast_at = search rules in
-    let entries_fit : All HasWords (entries_of elab.casts) = search rules in
-    let short : statics_len c.in_ok-image.image + code_len c.in_ok-image.image ≤ 8589934592 = search rules in
-    record {
-      statics = low_program.statics;
-      row = row_of c.row.result.now;
-      passed = record {
-        reads = c.in_ok-coer.ensures.reads;
-        typed = answer_typed;
-        table = c.len.ensures.table;
-      };
-      row_is = row_there;
-      made_so = are_made {term = term} (record {
-        procs_are = procs_are;
-        entry_is = c.in_ok-flat.ensures.entry;
-        counted = sym (length-map flat.procs flat_proc_of);
-        low_is = c.in_ok-low.ensures.procs (row_of c.row.result.now) flat_row;
-        begins = c.in_ok-low.ensures.entry;
-        image_is = c.in_ok-image.ensures;
-        statics_are = c.in_ok-low.ensures.statics;
-        coercions = c.in_ok-coer.ensures.coercions;
-        words = words;
-        cast_words = cast_words;
-        closed = c.in_ok-flat.ensures.closed (row_casts rows) types labels coer.answer.0 c.len.ensures.table.widths typed;
-        covered = covers_all (converted term)
-            (procedures_use_what_their_term_uses term is_covered
-            (pass (entries_of elab.casts) entries_fit (row_casts rows) term
-            (subst (λ n. NumbersBelow n term) (sym (length-map rows row_cast)) c.in_ok-coer.ensures.numbers) placed))
-            (operators_have_few_operands (row_casts rows) types labels term coer.answer.0 c.len.ensures.table.widths typed);
-        narrow = c.in_ok-low.ensures.narrow;
-        short = short;
-      });
-    }
-
 pub returns-clause-follows : goal.returns-clause-follows
 returns-clause-follows c =
-    let a = answers c in
-    follows_program {program = program_over c.args.types.now c.args.elab.now} a.passed a.row_is a.made_so
+    let short : statics_len c.in_ok-image.image + code_len c.in_ok-image.image ≤ 2 ^ 33 = search rules in
+    (c.in_ok-words.ensures.stands.images c.in_ok-image.image c.in_ok-image.ensures short).0
 
 pub returns-clause-space : goal.returns-clause-space
 returns-clause-space c =
-    let a = answers c in
-    subst (λ n. KeepsSpace c.in_ok-image.image c.args.types.now n) (sym c.in_ok-coer.ensures.tallest)
-    (keeps_space {program = program_over c.args.types.now c.args.elab.now} a.passed a.row_is a.made_so)
+    let short : statics_len c.in_ok-image.image + code_len c.in_ok-image.image ≤ 2 ^ 33 = search rules in
+    subst (λ n. KeepsSpace c.in_ok-image.image c.args.types.now n) (sym c.in_ok-words.ensures.tallest)
+    (c.in_ok-words.ensures.stands.images c.in_ok-image.image c.in_ok-image.ensures short).1
