@@ -245,6 +245,16 @@ raise_less a b h k = pick (nat_lt a 2048) (nat_lt b 2048) refl refl
         let p : 2048 ≤ a = grind arith in
         let q : b < 2048 = grind arith in absurd (let o : ⊥ = omega (arith, p, q, h) in o)
 
+-- a procedure with the slots that are left is entered at no more than with one for each register
+pub enter_less : (place : ℕ → Place) (f : Found) (k : ℕ) → f.count < 2 ^ 32
+    → price f.first f.count (Procedure k f.first (length (kept_in place f.first f.count)))
+    ≤ price f.first f.count (Procedure k f.first f.count)
+enter_less place f k small =
+    let n = few place f.first f.count in
+    let w = word_less (frame_size (length (kept_in place f.first f.count))) (frame_size f.count) (omega (arith, n))
+    (omega (arith, small)) in
+    omega (arith, w)
+
 module _ (place : ℕ → Place) (allowed : (v r : ℕ) → place v ≡ InReg r → may_hold r ≡ true) (f : Found)
     (small : f.count < 2 ^ 32) where
   abbrev at : VReg → VReg

@@ -5,6 +5,7 @@ ghost use Rattle.rv_isa.specs.declared.real.RealItem.{RealItem};
 ghost use Rattle.rv_select.specs.declared.code.Place.{Place};
 ghost use Rattle.rv_select.specs.declared.code.Place.TheVariants.{Slot};
 ghost use Rattle.rv_select.specs.declared.code.VirtualItem.{VirtualItem};
+ghost use Rattle.rv_select.specs.declared.code.VirtualItem.TheVariants.{Procedure};
 ghost use Rattle.rv_select.specs.Holding.{Sets, IsHolding};
 ghost use Rattle.rv_slots.specs.Slotted.{EachHasFew};
 ghost use Rattle.reg_assign.specs.Applied.{applied, slots_of, IsApplied};
@@ -56,8 +57,8 @@ pub fn slots_of_their_own_hold()
         → HasHolding items other → HasHolding items place }
 {}
 
-/// An item of a procedure becomes no more real items with places than with a slot for each register, and the price is
-/// how many it becomes.
+/// An item of a procedure becomes no more real items with places than with a slot for each register, and neither does
+/// the entry of one, where its frame is made. The price is how many it becomes.
 pub fn places_cost_no_more()
     ensures exact { (out first count : ℕ) (item : VirtualItem)
         → length (expand out first count item) ≡ price first count item }
@@ -65,6 +66,9 @@ pub fn places_cost_no_more()
         → OwnsNamed f item
         → price f.first ((densely place).slots f.first f.count) (rename (name (densely place) f.first f.count) item)
         ≤ price f.first f.count item }
+    ensures enters { (place : ℕ → Place) (f : Found) (k : ℕ) → f.count < 2 ^ 32
+        → price f.first f.count (Procedure k f.first ((densely place).slots f.first f.count))
+        ≤ price f.first f.count (Procedure k f.first f.count) }
 {}
 
 /// Frames with the slots that are left have no more bytes than frames with all registers: so stack lacks only where
