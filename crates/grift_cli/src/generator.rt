@@ -10,11 +10,11 @@ ghost use Rattle.grift_cli.specs.Runs.{run_within, printed};
 
 use crate::commands::default_limits;
 use crate::reports::{Report, push_number, report_of_source};
-use crate::runner::{report_of, run_machine};
+use crate::runner::{report_of, run_putting};
 use assembler::image::Image;
 use compile_driver::compiling::{Compiled, compile};
-use grift_base::lists::{Bytes, OutOfMemory, Text};
-use grift_base::sinks::Sink;
+use grift_base::lists::{Bytes, CallList, OutOfMemory, Text};
+use grift_base::sinks::{MemSink, Sink};
 use grift_gen::program_of;
 use std::alloc::Global;
 
@@ -53,13 +53,20 @@ fn put_numbers<O: Sink>(alloc: Global, source: u64, compiled: &Compiled, out: &m
     }
 }
 
-// How the run of an image without input is reported, and how many bytes it printed; none for want of memory.
+// How the run of an image without input is reported, and how many bytes it printed, which go to a sink of their own;
+// none for want of memory.
 fn run_alone(alloc: Global, image: &Image) -> Option<(Report, u64)>
     ensures told { IfSome result (λ run. TellsRun (run_within default_limits image.now []).1 run.0) }
     ensures output { IfSome result (λ run. run.1 ≡ length (printed default_limits image.now [])) }
 {
-    let (report, machine) = run_machine(alloc, image, default_limits(), Bytes::new(alloc))?;
-    Some((report, machine.world().output.len() as u64))
+    let Ok(mut sink) = MemSink::new(alloc, CallList::new(alloc)) else {
+        return None;
+    };
+    let input = Bytes::new(alloc);
+    match run_putting(alloc, image, default_limits(), input, &mut sink) {
+        Ok((report, _)) => Some((report, sink.bytes().len() as u64)),
+        Err(_) => None,
+    }
 }
 
 // The lines of these numbers.

@@ -117,29 +117,6 @@ pub fn report_of(fault: SinkFault) -> Report
     }
 }
 
-/// How the run of an image is reported, and the machine as it stopped; none for want of memory.
-pub fn run_machine(
-    alloc: Global,
-    image: &Image,
-    limits: Limits,
-    input: Bytes,
-) -> Option<(Report, Machine<PagedRam>)>
-    requires region { IsRegionSize limits.region }
-    requires stack { IsStackSize limits.stack }
-    ensures told { IfSome result (λ run. TellsRun (run_within limits image.now input).1 run.0) }
-    ensures stopped { IfSome result (λ run.
-        state_of ⟦<PagedRam as Ram>⟧.memory run.1 ≡ (run_within limits image.now input).0) }
-    ensures printed { IfSome result (λ run.
-        (state_of ⟦<PagedRam as Ram>⟧.memory run.1).world.output ≡ printed limits image.now input) }
-{
-    let Ok(mut machine) = machine_of(alloc, image, limits, input) else {
-        return None;
-    };
-    let stop = machine.run(limits.steps);
-    let report = report_of_stop(stop)?;
-    Some((report, machine))
-}
-
 // The machine in its start state, with these limits and this input.
 fn machine_of(
     alloc: Global,
