@@ -1,5 +1,5 @@
 -- Memory as the program keeps it, from 0, and as the machine sees it, from its first address.
-use Rattle.std.proofs.Common.{ℕ, zero, suc, ◌+◌, ◌-◌, ◌%◌, ◌<◌, ◌≤◌, ◌≡◌, Bool, true, false, Option, Some, refl, sym}
+use Rattle.std.proofs.Common.{ℕ, zero, suc, ◌+◌, ◌-◌, ◌%◌, ◌<◌, ◌≤◌, ◌≡◌, Bool, true, false, Option, refl, sym}
 use Rattle.std.proofs.Common.{◌∙◌, ap, arith}
 use Rattle.std.proofs.Math.Path.{fun_ext}
 use Rattle.std.specs.Prelude.{nat_le, nat_lt, ◌&&◌, ◌==◌, if◌then◌else◌}
@@ -62,24 +62,14 @@ store_goes w word at s m n e a b r c f =
 le_lt : (a b c d : ℕ) → a ≤ b → c < d → (nat_le a b && nat_lt c d) ≡ true
 le_lt a b c d h k = grind arith
 
--- a turn whose instruction was fetched
-pub turn_fetched : (s : State) (m : Memory) (word : ℕ) (o : Option Inst) → s.memory ≡ from_base m
-    → first_address ≤ s.pc → s.layout.code ≤ s.pc → s.pc < s.layout.region
-    → word ≡ load_bytes 4 m (s.pc - first_address) → decode_of word ≡ o → turn_of s ≡ act_if o s
+-- a turn of what stands at the pc
+pub turn_inside : (s : State) (o : Option Inst) → s.layout.code ≤ s.pc → s.pc < s.layout.region
+    → decode_of (load_bytes 4 s.memory s.pc) ≡ o → turn_of s ≡ act_if o s
 unfolding turn_of
-turn_fetched s m word o e b h k w d =
-    let f : load_bytes 4 s.memory s.pc ≡ word = rw e (load_from_base 4 m s.pc b ∙ sym w) in
+turn_inside s o h k d =
     let t : turn_of s ≡ act_if (decode_of (load_bytes 4 s.memory s.pc)) s = rw
     (le_lt s.layout.code s.pc s.pc s.layout.region h k) in
-    t ∙ ap (λ n. act_if (decode_of n) s) f ∙ ap (λ x. act_if x s) d
-
--- what the machine sees at its pc
-pub decoded : (s : State) (m : Memory) (word : ℕ) (i : Inst) → s.memory ≡ from_base m → first_address ≤ s.pc
-    → word ≡ load_bytes 4 m (s.pc - first_address) → decode_of word ≡ Some i
-    → decode_of (load_bytes 4 s.memory s.pc) ≡ Some i
-decoded s m word i e b w d =
-    let f : load_bytes 4 s.memory s.pc ≡ word = rw e (load_from_base 4 m s.pc b ∙ sym w) in
-    ap decode_of f ∙ d
+    t ∙ ap (λ x. act_if x s) d
 
 -- a pc outside the code
 pub turn_outside : (s : State) → (nat_le s.layout.code s.pc && nat_lt s.pc s.layout.region) ≡ false

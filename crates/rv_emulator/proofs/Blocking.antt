@@ -9,6 +9,7 @@ use Rattle.grift_base.specs.Outside.{next_count}
 use Rattle.grift_base.specs.World.{WorldState}
 use Rattle.grift_base.specs.declared.sinks.SinkFault.{SinkFault}
 use Rattle.grift_base.specs.declared.sinks.SinkFault.TheVariants.{Failed, OutOfMemory as SinkMemory}
+use Rattle.rv_machine.specs.Memory.{Memory}
 use Rattle.rv_machine.specs.State.{State, Halt, Next}
 use Rattle.rv_machine.specs.Turn.{turn_of}
 use Rattle.rv_machine.specs.Mach.{run_of}
@@ -336,9 +337,9 @@ same_but s w e = rw e
 
 -- ---- an emulator in which only the console changes
 
-pub same_sound : {R : Type 0} (bytes_len : R → ℕ) (p q : Processor R) → q ≡ record p { console = q.console }
-    → IsSoundBy bytes_len p → IsSoundBy bytes_len q
-same_sound bytes_len p q e s = rw e s
+pub same_sound : {R : Type 0} (bytes_len : R → ℕ) (memory : R → Memory) (p q : Processor R)
+    → q ≡ record p { console = q.console } → IsSoundBy bytes_len memory p → IsSoundBy bytes_len memory q
+same_sound bytes_len memory p q e s = rw e s
 
 pub same_whole : {R : Type 0} (whole : R → Bool) (p q : Processor R) → q ≡ record p { console = q.console }
     → whole q.ram ≡ whole p.ram

@@ -1,4 +1,5 @@
 mod Based
+mod Decoded
 mod Calls
 mod Prefixes
 mod Sound

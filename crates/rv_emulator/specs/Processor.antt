@@ -1,6 +1,8 @@
 -- What the emulator keeps, as a state of the machine.
-use Rattle.std.specs.Prelude.{ℕ, length, ◌+◌, ◌%◌, ◌<◌, ◌≤◌, ◌≡◌}
-use Rattle.rv_machine.specs.Memory.{Memory, first_address, from_base}
+use Rattle.std.specs.Prelude.{ℕ, length, ◌+◌, ◌*◌, ◌%◌, ◌<◌, ◌≤◌, ◌≡◌, List, Option, None, slice_index_or}
+use Rattle.rv_isa.specs.declared.inst.Inst.{Inst}
+use Rattle.rv_isa.specs.Decoding.{decode_of}
+use Rattle.rv_machine.specs.Memory.{Memory, first_address, from_base, load_bytes}
 use Rattle.rv_machine.specs.State.{State}
 use Rattle.rv_emulator.specs.declared.processor.Processor.{Processor}
 use Rattle.rv_emulator.specs.declared.processor.Places.{Places}
@@ -28,6 +30,18 @@ pub record IsSound (bytes : ℕ) (places : Places) (label_count pc : ℕ) : Type
   pub labels : label_count < 4294967295
   pub aligned : pc % 4 ≡ 0
 
--- the parts of an emulator are sound, told how many bytes its memory has
-abbrev pub IsSoundBy : {R : Type 0} → (R → ℕ) → Processor R → Type 0
-IsSoundBy bytes_len p = IsSound (bytes_len p.ram) p.places (length p.labels) p.pc
+-- the entries are the instructions of the words of memory from an address on, where they are some
+abbrev pub AreDecoded : List (Option Inst) → Memory → ℕ → Type 0
+AreDecoded table memory from =
+    (i : ℕ) → i < length table → slice_index_or table i None ≡ decode_of (load_bytes 4 memory (from + 4 * i))
+
+-- the table has an entry for each word of code
+pub record IsDecoded (table : List (Option Inst)) (memory : Memory) (places : Places) : Type 0 where
+  pub count : places.code + 4 * length table ≡ places.region
+  pub entries : AreDecoded table memory places.code
+
+-- the parts of an emulator are sound, told how many bytes its memory has and which, and its code is decoded
+abbrev pub IsSoundBy : {R : Type 0} → (R → ℕ) → (R → Memory) → Processor R → Type 0
+IsSoundBy bytes_len memory p =
+    IsSound (bytes_len p.ram) p.places (length p.labels) p.pc
+    × IsDecoded p.code.items (from_base (memory p.ram)) p.places

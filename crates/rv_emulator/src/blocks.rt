@@ -64,11 +64,11 @@ impl<R: Ram> Processor<R> {
 
     /// Makes at most these many turns. The output is put whenever a block is full, and at the stop.
     pub fn run_blocks<O: Sink>(&mut self, steps: u64, out: &mut O) -> BlockStop
-        requires sound { IsSoundBy R.bytes_len self.old }
+        requires sound { IsSoundBy R.bytes_len R.memory self.old }
         requires nothing { self.old.console.output.items ≡ [] }
         ensures ran { RunsBlocks (R.whole self.new.ram) steps (state_of R.memory self.old) result
             (sink_seen O.written O.fault_count out.old out.new) (state_of R.memory self.new) }
-        ensures sound { IsSoundBy R.bytes_len self.new }
+        ensures sound { IsSoundBy R.bytes_len R.memory self.new }
         ensures reserved { reserved_by self.old.console ≤ reserved_by self.new.console }
         ensures stays_whole { R.whole self.old.ram ≡ true → R.whole self.new.ram ≡ true }
     {

@@ -1,13 +1,14 @@
 // The machine, whose parts fit together.
 
-ghost use Rattle.std.specs.Prelude.{◌≡◌, ◌≤◌, ◌<◌, ◌+◌, ◌%◌, ◌*◌, ◌^◌, ℕ, length, [], true, IfOk, OnOk, OnErr};
+ghost use Rattle.std.specs.Prelude.{◌≡◌, ◌≤◌, ◌<◌, ◌+◌, ◌-◌, ◌%◌, ◌*◌, ◌/◌, ◌^◌, ℕ, length, [], true, IfOk};
+ghost use Rattle.std.specs.Prelude.{OnOk, OnErr};
 ghost use Rattle.grift_base.specs.Sink.{sink_seen};
 ghost use Rattle.rv_machine.specs.Memory.{memory_of, first_address};
 ghost use Rattle.rv_machine.specs.Image.{IsImage, statics_len, code_len};
 ghost use Rattle.rv_machine.specs.Start.{IsRegionSize, IsStackSize, start_regs, start_of};
 ghost use Rattle.rv_machine.specs.State.{reg};
 ghost use Rattle.rv_emulator.specs.Registers.{regs_of};
-ghost use Rattle.rv_emulator.specs.Processor.{state_of};
+ghost use Rattle.rv_emulator.specs.Processor.{state_of, AreDecoded};
 ghost use Rattle.rv_emulator.specs.Turns.{RunsTo, outcome_of};
 ghost use Rattle.rv_emulator.specs.Consoles.{world_of, reserved_by};
 ghost use Rattle.rv_emulator.specs.Blocks.{RunsBlocks, PutsOutput, with_output};
@@ -18,11 +19,13 @@ use crate::processor::{Places, Processor};
 use crate::ram::{Ram, Width};
 use crate::registers::Registers;
 use crate::stops::{BlockStop, Stop};
+use assembler::bytes::read_number;
 use assembler::image::Image;
 use grift_base::lists::OutOfMemory;
 use grift_base::sinks::{Sink, SinkFault};
 use grift_base::words::Words;
 use grift_base::worlds::World;
+use rv_isa::inst::{Inst, decode};
 use rv_isa::number::Reg;
 use rv_machine::FIRST_ADDRESS;
 use std::alloc::Global;
@@ -43,7 +46,7 @@ impl<R: Ram> Model for Machine<R> {
 
     ghost view = { λ m. m.processor };
 
-    ghost invariant = { λ m. IsSoundBy R.bytes_len m.processor };
+    ghost invariant = { λ m. IsSoundBy R.bytes_len R.memory m.processor };
 }
 
 impl<R: Ram + Drop> Machine<R> {
@@ -65,14 +68,17 @@ impl<R: Ram + Drop> Machine<R> {
         ensures whole { R.whole ram ≡ true → IfOk result (λ m. R.whole m.ram ≡ true) }
     {
         let mut ram = ram;
-        fill(&mut ram, image.loaded())?;
+        let loaded = image.loaded();
+        fill(&mut ram, loaded)?;
         let labels = image.labels(alloc)?;
         let console = Console::of_world(alloc, world)?;
+        let code = decoded(alloc, loaded, image.statics_len() as usize)?;
         let places = places_of(image, region, stack);
         Ok(Machine {
             processor: Processor {
                 places,
                 labels,
+                code,
                 pc: places.code + image.entry(),
                 regs: start_registers(places.region, region, stack),
                 ram,
@@ -80,6 +86,20 @@ impl<R: Ram + Drop> Machine<R> {
             },
         })
     }
+}
+
+// The instruction of each word from a place on, where it is one.
+fn decoded(alloc: Global, bytes: &[u8], from: usize) -> Result<Vec<Option<Inst>>, OutOfMemory>
+    ensures count { IfOk result (λ code. length code.items ≡ (length bytes.now - from) / 4) }
+    ensures entries { IfOk result (λ code. AreDecoded code.items (memory_of bytes.now) from) }
+{
+    let count = bytes.len().saturating_sub(from) / 4;
+    let mut code = Vec::with_capacity(alloc, count)?;
+    for i in 0..count {
+        let word = read_number::<4>(bytes, from + 4 * i);
+        code.push(decode(word as u32))?;
+    }
+    Ok(code)
 }
 
 // Where the parts of memory lie.

@@ -7,7 +7,7 @@ ghost use Rattle.rv_machine.specs.Turn.{call_environment, act, turn_of};
 ghost use Rattle.rv_machine.specs.State.{reg};
 ghost use Rattle.rv_emulator.specs.Consoles.{reserved_by, LacksRoom, PrintsFew, LacksFew};
 ghost use Rattle.rv_emulator.specs.Widths.{width_of};
-ghost use Rattle.rv_emulator.specs.Processor.{state_of, IsSoundBy};
+ghost use Rattle.rv_emulator.specs.Processor.{state_of, IsSound, IsSoundBy};
 ghost use Rattle.rv_emulator.specs.Turns.{MakesTurn, NeverLacks, LacksUnless, LacksAt, LacksNext, RunsTo, outcome_of};
 ghost use Rattle.rv_emulator.specs.Actions.{performed, go_on, LacksBy};
 
@@ -22,7 +22,7 @@ use crate::stops::Stop;
 use grift_base::lists::Items;
 use grift_base::places::Pos;
 use grift_base::worlds::EnvEffect;
-use rv_isa::inst::{Inst, decode};
+use rv_isa::inst::Inst;
 use rv_isa::number::{Imm12, Imm13, Reg, Upper};
 use rv_machine::FIRST_ADDRESS;
 
@@ -60,6 +60,8 @@ pub enum Action {
 pub struct Processor<R> {
     pub places: Places,
     pub labels: Items<Pos>,
+    /// The instruction of each word of code, in order, where it is one.
+    pub code: Vec<Option<Inst>>,
     pub pc: u64,
     pub regs: Registers,
     pub ram: R,
@@ -72,6 +74,7 @@ impl<R: Ram> Processor<R> {
         ensures made { MakesTurn R.memory NeverLacks (put rd word) self.old result self.new }
         ensures ram { self.new.ram ≡ self.old.ram }
         ensures console { self.new.console ≡ self.old.console }
+        ensures code { self.new.code ≡ self.old.code }
     {
         self.regs.set(rd, word);
         self.pc = self.pc.wrapping_add(4);
@@ -80,11 +83,12 @@ impl<R: Ram> Processor<R> {
 
     // Reads a number into a register.
     fn load_into(&mut self, rd: Reg, at: u64, width: Width, signed: bool) -> Option<Stop>
-        requires { IsSoundBy R.bytes_len self.old }
+        requires { IsSoundBy R.bytes_len R.memory self.old }
         ensures made { let turn = load_into signed (width_of width) rd at in
             MakesTurn R.memory NeverLacks turn self.old result self.new }
         ensures ram { self.new.ram ≡ self.old.ram }
         ensures console { self.new.console ≡ self.old.console }
+        ensures code { self.new.code ≡ self.old.code }
     {
         let bytes = width.bytes();
         if at % bytes != 0 {
@@ -99,10 +103,11 @@ impl<R: Ram> Processor<R> {
 
     // Writes the lowest bytes of a word.
     fn store_from(&mut self, word: u64, to: u64, width: Width) -> Option<Stop>
-        requires { IsSoundBy R.bytes_len self.old }
+        requires { IsSoundBy R.bytes_len R.memory self.old }
         ensures made { let lacks = LacksUnless (R.whole self.new.ram) in
             MakesTurn R.memory lacks (store_from (width_of width) word to) self.old result self.new }
         ensures console { self.new.console ≡ self.old.console }
+        ensures code { self.new.code ≡ self.old.code }
         ensures len { R.bytes_len self.new.ram ≡ R.bytes_len self.old.ram }
         ensures stays_whole { R.whole self.old.ram ≡ true → R.whole self.new.ram ≡ true }
     {
@@ -126,6 +131,7 @@ impl<R: Ram> Processor<R> {
         ensures made { MakesTurn R.memory NeverLacks (branch_if taken offset) self.old result self.new }
         ensures ram { self.new.ram ≡ self.old.ram }
         ensures console { self.new.console ≡ self.old.console }
+        ensures code { self.new.code ≡ self.old.code }
     {
         if !taken {
             self.pc = self.pc.wrapping_add(4);
@@ -144,6 +150,7 @@ impl<R: Ram> Processor<R> {
         ensures made { MakesTurn R.memory NeverLacks (jump_and_link rd target) self.old result self.new }
         ensures ram { self.new.ram ≡ self.old.ram }
         ensures console { self.new.console ≡ self.old.console }
+        ensures code { self.new.code ≡ self.old.code }
     {
         if target % 4 != 0 {
             return Some(Stop::Misaligned(self.pc));
@@ -155,10 +162,11 @@ impl<R: Ram> Processor<R> {
 
     // Makes an environment call.
     fn call_environment(&mut self) -> Option<Stop>
-        requires { IsSoundBy R.bytes_len self.old }
+        requires { IsSoundBy R.bytes_len R.memory self.old }
         ensures made { let lacks = LacksRoom (reserved_by self.new.console) in
             MakesTurn R.memory lacks call_environment self.old result self.new }
         ensures ram { self.new.ram ≡ self.old.ram }
+        ensures code { self.new.code ≡ self.old.code }
         ensures reserved { reserved_by self.old.console ≤ reserved_by self.new.console }
         ensures few { PrintsFew self.old.console self.new.console }
         ensures fails { result ≡ Some Stop.OutOfMemory → LacksFew self.new.console }
@@ -191,10 +199,10 @@ impl<R: Ram> Processor<R> {
 
     /// Makes at most these many turns.
     pub fn run(&mut self, steps: u64) -> Stop
-        requires { IsSoundBy R.bytes_len self.old }
+        requires { IsSoundBy R.bytes_len R.memory self.old }
         ensures ran { RunsTo (R.whole self.new.ram) (reserved_by self.new.console) steps (state_of R.memory self.old)
             (outcome_of result) (state_of R.memory self.new) }
-        ensures sound { IsSoundBy R.bytes_len self.new }
+        ensures sound { IsSoundBy R.bytes_len R.memory self.new }
         ensures reserved { reserved_by self.old.console ≤ reserved_by self.new.console }
         ensures stays_whole { R.whole self.old.ram ≡ true → R.whole self.new.ram ≡ true }
     {
@@ -208,10 +216,10 @@ impl<R: Ram> Processor<R> {
 
     // One turn.
     pub(crate) fn turn(&mut self) -> Option<Stop>
-        requires { IsSoundBy R.bytes_len self.old }
+        requires { IsSoundBy R.bytes_len R.memory self.old }
         ensures made { let lacks = LacksNext (R.whole self.new.ram) (reserved_by self.new.console) in
             MakesTurn R.memory lacks turn_of self.old result self.new }
-        ensures sound { IsSoundBy R.bytes_len self.new }
+        ensures sound { IsSoundBy R.bytes_len R.memory self.new }
         ensures reserved { reserved_by self.old.console ≤ reserved_by self.new.console }
         ensures few { PrintsFew self.old.console self.new.console }
         ensures fails { result ≡ Some Stop.OutOfMemory
@@ -221,8 +229,7 @@ impl<R: Ram> Processor<R> {
         if self.pc < self.places.code || self.places.region <= self.pc {
             return Some(Stop::BadAddress(self.pc));
         }
-        let word = self.ram.load(self.pc - FIRST_ADDRESS, Width::B4);
-        match decode(word as u32) {
+        match self.code[(self.pc - self.places.code) as usize / 4] {
             Some(i) => {
                 let action = self.action(i);
                 self.perform(action)
@@ -259,6 +266,7 @@ impl<R: Ram> Processor<R> {
         ensures made { MakesTurn R.memory NeverLacks go_on self.old result self.new }
         ensures ram { self.new.ram ≡ self.old.ram }
         ensures console { self.new.console ≡ self.old.console }
+        ensures code { self.new.code ≡ self.old.code }
     {
         self.pc = self.pc.wrapping_add(4);
         None
@@ -392,9 +400,10 @@ impl<R: Ram> Processor<R> {
 
     // Does what the action says.
     fn perform(&mut self, action: Action) -> Option<Stop>
-        requires { IsSoundBy R.bytes_len self.old }
+        requires { IsSoundBy R.bytes_len R.memory self.old }
         ensures made { let lacks = LacksBy (R.whole self.new.ram) (reserved_by self.new.console) action in
             MakesTurn R.memory lacks (performed action) self.old result self.new }
+        ensures code { self.new.code ≡ self.old.code }
         ensures reserved { reserved_by self.old.console ≤ reserved_by self.new.console }
         ensures few { PrintsFew self.old.console self.new.console }
         ensures fails { result ≡ Some Stop.OutOfMemory
