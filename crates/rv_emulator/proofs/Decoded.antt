@@ -1,8 +1,9 @@
 -- The table of code, and the memory that it was made of.
-use Rattle.std.proofs.Common.{ℕ, ◌+◌, ◌-◌, ◌*◌, ◌/◌, ◌%◌, ◌<◌, ◌≤◌, ◌≡◌, List, [], ◌∷◌, ◌++◌, length, get_or}
-use Rattle.std.proofs.Common.{inl, inr, Option, None, sym, ◌∙◌, ap, arith}
+use Rattle.std.proofs.Common.{ℕ, ◌+◌, ◌-◌, ◌*◌, ◌/◌, ◌%◌, ◌^◌, ◌<◌, ◌≤◌, ◌≡◌, List, [], ◌∷◌, ◌++◌, length, get_or}
+use Rattle.std.proofs.Common.{inl, inr, true, false, Option, None, sym, ◌∙◌, ap, arith}
 use Rattle.std.proofs.lemmas.Bool.{cases_lt}
 use Rattle.std.proofs.lemmas.List.{get_or_read, get_or_push, get_or_append_left, length_push}
+use Rattle.std.specs.Prelude.{◌&&◌, nat_le, nat_lt}
 use Rattle.rv_isa.specs.declared.inst.Inst.{Inst}
 use Rattle.rv_isa.specs.Decoding.{decode_of}
 use Rattle.rv_machine.specs.Memory.{first_address, Memory, load_bytes, memory_of, from_base}
@@ -12,16 +13,39 @@ use Rattle.rv_emulator.specs.Processor.{AreDecoded, IsDecoded}
 use Rattle.rv_emulator.proofs.Based.{load_from_base}
 use Rattle.rv_emulator.proofs.Sound.{AgreeBelow}
 
--- the entry at a pc is what stands there
-pub entry_is : (table : List (Option Inst)) (m : Memory) (p : Places) (pc : ℕ) (o : Option Inst) → IsDecoded table m p
-    → p.code % 4 ≡ 0 → pc % 4 ≡ 0 → p.code ≤ pc → pc < p.region → o ≡ get_or table ((pc - p.code) / 4) o
-    → decode_of (load_bytes 4 m pc) ≡ o
-entry_is table m p pc o d a b h k e =
+-- the place of a pc in the table; that of one below the code lies past its end
+abbrev pub place_of : Places → ℕ → ℕ
+place_of p pc = (pc + (2 ^ 64 - p.code)) % 2 ^ 64 / 4
+
+-- where there is an entry for a pc, it is in code, and the entry is what stands there
+pub entry_there : (table list : List (Option Inst)) (m : Memory) (p : Places) (pc : ℕ) (o : Option Inst)
+    → list ≡ table → IsDecoded table m p → p.code % 4 ≡ 0 → p.region < 2 ^ 64 → pc % 4 ≡ 0 → pc < 2 ^ 64
+    → true ≡ nat_lt (place_of p pc) (length list) → o ≡ get_or list (place_of p pc) o
+    → (p.code ≤ pc) × (pc < p.region) × (decode_of (load_bytes 4 m pc) ≡ o)
+entry_there table list m p pc o same d a r b s t e =
     let count = d.count in
-    let inside : (pc - p.code) / 4 < length table = omega arith in
-    let place : p.code + 4 * ((pc - p.code) / 4) ≡ pc = omega arith in
-    ap (λ at. decode_of (load_bytes 4 m at)) (sym place) ∙ sym (d.entries _ inside)
-    ∙ sym (get_or_read table _ o inside e None)
+    let len = ap (length {A = Option Inst}) same in
+    let inside : place_of p pc < length table = grind arith in
+    let above : p.code ≤ pc = omega arith in
+    let place : p.code + 4 * place_of p pc ≡ pc = omega arith in (
+      above,
+      omega arith,
+      ap (λ at. decode_of (load_bytes 4 m at)) (sym place) ∙ sym (d.entries _ inside)
+          ∙ sym (get_or_read table _ o inside (e ∙ ap (λ l. get_or l (place_of p pc) o) same) None),
+    )
+
+-- where there is none, it isn't in code
+pub no_entry : (table list : List (Option Inst)) (m : Memory) (p : Places) (pc : ℕ) → list ≡ table
+    → IsDecoded table m p → pc < 2 ^ 64 → false ≡ nat_lt (place_of p pc) (length list)
+    → (nat_le p.code pc && nat_lt pc p.region) ≡ false
+no_entry table list m p pc same d s t =
+    let count = d.count in
+    let len = ap (length {A = Option Inst}) same in
+    let past : length table ≤ place_of p pc = grind arith in
+    elim (cases_lt pc p.code) [
+      | inl below ↦ grind arith
+      | inr from ↦ let end : p.region ≤ pc = omega arith in grind arith
+    ]
 
 -- a table stays that of a memory whose code stays
 pub still_decoded : (table next : List (Option Inst)) (m n : Memory) (p q : Places) → q.code ≡ p.code

@@ -1,6 +1,5 @@
 -- The registers as a function.
-use Rattle.std.specs.Prelude.{ℕ, slice_index}
-use Rattle.rv_emulator.specs.declared.registers.Registers.{Registers}
+use Rattle.std.specs.Prelude.{ℕ, List, slice_index}
 
-abbrev pub regs_of : Registers → ℕ → ℕ
-regs_of regs i = slice_index regs.words i
+abbrev pub regs_of : List ℕ → ℕ → ℕ
+regs_of words i = slice_index words i

@@ -226,15 +226,16 @@ impl<R: Ram> Processor<R> {
             → (R.whole self.new.ram ≡ false) ⊎ LacksFew self.new.console }
         ensures stays_whole { R.whole self.old.ram ≡ true → R.whole self.new.ram ≡ true }
     {
-        if self.pc < self.places.code || self.places.region <= self.pc {
-            return Some(Stop::BadAddress(self.pc));
-        }
-        match self.code[(self.pc - self.places.code) as usize / 4] {
-            Some(i) => {
+        let places = self.places;
+        // an address below the code wraps to one past it
+        let at = self.pc.wrapping_sub(places.code);
+        match self.code.get(at as usize / 4) {
+            Some(Some(i)) => {
                 let action = self.action(i);
                 self.perform(action)
             }
-            None => Some(Stop::Undefined(self.pc)),
+            Some(None) => Some(Stop::Undefined(self.pc)),
+            None => Some(Stop::BadAddress(self.pc)),
         }
     }
 
@@ -273,12 +274,12 @@ impl<R: Ram> Processor<R> {
     }
 
     // What an instruction does, with its operands read.
-    fn action(&self, i: Inst) -> Action
-        ensures value { performed result (state_of R.memory self.now) ≡ act i (state_of R.memory self.now) }
+    fn action(&self, i: &Inst) -> Action
+        ensures value { performed result (state_of R.memory self.now) ≡ act i.now (state_of R.memory self.now) }
         ensures lacks { let s = state_of R.memory self.now in
-            (whole : Bool) (reserved : ℕ) → LacksBy whole reserved result s → LacksAt whole reserved i s }
+            (whole : Bool) (reserved : ℕ) → LacksBy whole reserved result s → LacksAt whole reserved i.now s }
     {
-        match i {
+        match *i {
             Inst::Lui(rd, upper) => Action::Put(rd, upper_word(upper)),
             Inst::Auipc(rd, upper) => Action::Put(rd, self.pc.wrapping_add(upper_word(upper))),
             Inst::Jal(rd, offset) => Action::Jump(rd, self.pc.wrapping_add_signed(offset.get())),

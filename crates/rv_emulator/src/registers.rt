@@ -5,11 +5,24 @@ ghost use Rattle.rv_machine.specs.Registers.{get_reg, set_reg, zero_regs};
 ghost use Rattle.rv_emulator.specs.Registers.{regs_of};
 
 use rv_isa::number::Reg;
+use std::marker::Model;
 
 /// 32 words, of which the first reads as 0.
 #[derive(Clone, Copy, PartialEq, Eq, Debug)]
 pub struct Registers {
     words: [u64; 32],
+}
+
+impl Model for Registers {
+    ghost use Rattle.std.specs.Prelude.{◌≡◌, ℕ, List, slice_index};
+
+    ghost Value = { List ℕ };
+
+    ghost view = { λ regs. regs.words };
+
+    ghost invariant = { λ regs. slice_index regs.words 0 ≡ 0 };
+
+    ghost inverse = { λ words. record { words = words } };
 }
 
 impl Registers {
@@ -39,7 +52,7 @@ impl Registers {
         requires { number < 32 }
         ensures { result ≡ get_reg (regs_of self.now) number }
     {
-        if number == 0 { 0 } else { self.words[number] }
+        self.words[number]
     }
 
     /// Writes the register with this number, unless it is 0.
