@@ -82,6 +82,7 @@ impl<R: Ram> Processor<R> {
     }
 
     // Reads a number into a register.
+    #[inline(always)]
     fn load_into(&mut self, rd: Reg, at: u64, width: Width, signed: bool) -> Option<Stop>
         requires { IsSoundBy R.bytes_len R.memory self.old }
         ensures made { let turn = load_into signed (width_of width) rd at in
@@ -102,6 +103,7 @@ impl<R: Ram> Processor<R> {
     }
 
     // Writes the lowest bytes of a word.
+    #[inline(always)]
     fn store_from(&mut self, word: u64, to: u64, width: Width) -> Option<Stop>
         requires { IsSoundBy R.bytes_len R.memory self.old }
         ensures made { let lacks = LacksUnless (R.whole self.new.ram) in
@@ -414,8 +416,19 @@ impl<R: Ram> Processor<R> {
     {
         match action {
             Action::Put(rd, word) => self.put(rd, word),
-            Action::Load(rd, at, width, signed) => self.load_into(rd, at, width, signed),
-            Action::Store(word, at, width) => self.store_from(word, at, width),
+            // each width has code of its own
+            Action::Load(rd, at, width, signed) => match width {
+                Width::B1 => self.load_into(rd, at, Width::B1, signed),
+                Width::B2 => self.load_into(rd, at, Width::B2, signed),
+                Width::B4 => self.load_into(rd, at, Width::B4, signed),
+                Width::B8 => self.load_into(rd, at, Width::B8, signed),
+            },
+            Action::Store(word, at, width) => match width {
+                Width::B1 => self.store_from(word, at, Width::B1),
+                Width::B2 => self.store_from(word, at, Width::B2),
+                Width::B4 => self.store_from(word, at, Width::B4),
+                Width::B8 => self.store_from(word, at, Width::B8),
+            },
             Action::Branch(taken, offset) => self.branch_if(taken, offset),
             Action::Jump(rd, target) => self.jump_and_link(rd, target),
             Action::Skip => self.skip(),
