@@ -72,6 +72,7 @@ fn store_in(page: &mut [u8; PAGE], at: usize, width: Width, word: u64)
 }
 
 // Writes the lowest bytes of a word at a place of a page, which is made where it is missing.
+#[inline(always)]
 fn store_in_page(
     alloc: Global,
     page: &mut Option<Box<[u8; PAGE]>>,
@@ -115,6 +116,7 @@ impl Ram for PagedRam {
     }
 
     // Want of memory comes only where the page of the address isn't made.
+    #[inline(always)]
     fn store(&mut self, at: u64, width: Width, word: u64) -> Result<(), OutOfMemory>
         requires aligned { at % byte_len (width_of width) ≡ 0 }
         requires inside { at + byte_len (width_of width) ≤ self.old.size }

@@ -217,6 +217,7 @@ impl<R: Ram> Processor<R> {
     }
 
     // One turn.
+    #[inline(always)]
     pub(crate) fn turn(&mut self) -> Option<Stop>
         requires { IsSoundBy R.bytes_len R.memory self.old }
         ensures made { let lacks = LacksNext (R.whole self.new.ram) (reserved_by self.new.console) in
@@ -276,6 +277,7 @@ impl<R: Ram> Processor<R> {
     }
 
     // What an instruction does, with its operands read.
+    #[inline(always)]
     fn action(&self, i: &Inst) -> Action
         ensures value { performed result (state_of R.memory self.now) ≡ act i.now (state_of R.memory self.now) }
         ensures lacks { let s = state_of R.memory self.now in
@@ -402,6 +404,7 @@ impl<R: Ram> Processor<R> {
     }
 
     // Does what the action says.
+    #[inline(always)]
     fn perform(&mut self, action: Action) -> Option<Stop>
         requires { IsSoundBy R.bytes_len R.memory self.old }
         ensures made { let lacks = LacksBy (R.whole self.new.ram) (reserved_by self.new.console) action in
