@@ -1,13 +1,24 @@
-/* The start of a program: its answer is an integer, as environment call 0 takes it. */
+/* The start of a program as an image, and its environment calls. It is compiled with -O2 whatever the program's level
+   is: an integer is printed by three instructions, and a line feed by four. */
 long program(void);
 
+/* the answer of a program is an integer, */
 __attribute__((naked, section(".text.start"))) void start(void) {
     __asm__ volatile(
         "call program\n"
         "mv a1, a0\n"
         "li a0, 0\n"
+        "end:\n"
         "li a7, 0\n"
         "ecall\n");
+}
+
+/* or it ends by this with a truth value */
+__attribute__((naked)) void answer_truth(long b) {
+    __asm__ volatile(
+        "mv a1, a0\n"
+        "li a0, 1\n"
+        "j end\n");
 }
 
 /* prints an integer */
