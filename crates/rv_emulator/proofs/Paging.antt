@@ -164,3 +164,10 @@ page_stored (Ok done) k size at word pages old page h s l p e =
     store_paged k size at word pages page h s l
     (e ∙ ap (λ x. store_bytes k (memory_of (page_bytes x)) (at % 4096) word) p)
 page_stored (Err fault) k size at word pages old page h s l p e = e
+
+-- and it has made that page
+pub page_is_made : {E : Type 0} (r : Result (Unit {0}) E) (pages : List (Option (Box (List ℕ)))) (number : ℕ)
+    (page : Option (Box (List ℕ))) → number < length pages → OnOk r (is_some page ≡ true)
+    → OnOk r (is_some (page_at (set pages number page) number) ≡ true)
+page_is_made (Ok done) pages number page l m = ap is_some (get_or-set_same pages number page None l) ∙ m
+page_is_made (Err fault) pages number page l m = m

@@ -35,6 +35,7 @@ impl Console {
 
     /// Makes the environment call of this number with these two words, in a program with so many labels, as a `World`
     /// does. Want of memory comes only where the call prints more than there is room for.
+    #[inline(never)]
     pub fn env(&mut self, number: u64, a0: u64, a1: u64, labels: u32) -> EnvEffect
         ensures call { let old = world_of self.old in
             MakesCallWithin (reserved_by self.new) (environment_call number a0 a1 labels old) number a0 old result

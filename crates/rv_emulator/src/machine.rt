@@ -88,7 +88,7 @@ impl<R: Ram + Drop> Machine<R> {
     }
 }
 
-// The instruction of each word from a place on, where it is one.
+// The instructions of the words from a place on, none for a word that isn't one.
 fn decoded(alloc: Global, bytes: &[u8], from: usize) -> Result<Vec<Option<Inst>>, OutOfMemory>
     ensures count { IfOk result (λ code. length code.items ≡ (length bytes.now - from) / 4) }
     ensures entries { IfOk result (λ code. AreDecoded code.items (memory_of bytes.now) from) }

@@ -115,7 +115,7 @@ impl Ram for PagedRam {
         }
     }
 
-    // Want of memory comes only where the page of the address isn't made.
+    // Makes the page of the address where it is missing. Want of memory comes only there.
     #[inline(always)]
     fn store(&mut self, at: u64, width: Width, word: u64) -> Result<(), OutOfMemory>
         requires aligned { at % byte_len (width_of width) ≡ 0 }
@@ -129,6 +129,7 @@ impl Ram for PagedRam {
         ensures fails { OnErr result (all_made self.old.pages.items ≡ false) }
         ensures fails_still { OnErr result (all_made self.new.pages.items ≡ false) }
         ensures missing { OnErr result (page_at self.old.pages.items (at / 4096) ≡ None) }
+        ensures made { OnOk result (is_some (page_at self.new.pages.items (at / 4096)) ≡ true) }
     {
         let alloc = self.alloc;
         store_in_page(

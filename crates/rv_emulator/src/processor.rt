@@ -7,7 +7,7 @@ ghost use Rattle.rv_machine.specs.Turn.{call_environment, act, turn_of};
 ghost use Rattle.rv_machine.specs.State.{reg};
 ghost use Rattle.rv_emulator.specs.Consoles.{reserved_by, LacksRoom, PrintsFew, LacksFew};
 ghost use Rattle.rv_emulator.specs.Widths.{width_of};
-ghost use Rattle.rv_emulator.specs.Processor.{state_of, IsSound, IsSoundBy};
+ghost use Rattle.rv_emulator.specs.Processor.{state_of, IsSoundBy};
 ghost use Rattle.rv_emulator.specs.Turns.{MakesTurn, NeverLacks, LacksUnless, LacksAt, LacksNext, RunsTo, outcome_of};
 ghost use Rattle.rv_emulator.specs.Actions.{performed, go_on, LacksBy};
 
@@ -60,7 +60,7 @@ pub enum Action {
 pub struct Processor<R> {
     pub places: Places,
     pub labels: Items<Pos>,
-    /// The instruction of each word of code, in order, where it is one.
+    /// The instructions of the words of code, none for a word that isn't one.
     pub code: Vec<Option<Inst>>,
     pub pc: u64,
     pub regs: Registers,
@@ -163,6 +163,7 @@ impl<R: Ram> Processor<R> {
     }
 
     // Makes an environment call.
+    #[inline(always)]
     fn call_environment(&mut self) -> Option<Stop>
         requires { IsSoundBy R.bytes_len R.memory self.old }
         ensures made { let lacks = LacksRoom (reserved_by self.new.console) in
@@ -216,7 +217,8 @@ impl<R: Ram> Processor<R> {
         Stop::StepsSpent
     }
 
-    // One turn.
+    // One turn. All that it calls is inlined into the loop of a run, but for what an environment call does outside, so
+    // that a run keeps the pc at hand.
     #[inline(always)]
     pub(crate) fn turn(&mut self) -> Option<Stop>
         requires { IsSoundBy R.bytes_len R.memory self.old }
