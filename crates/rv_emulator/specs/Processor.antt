@@ -30,7 +30,7 @@ pub record IsSound (bytes : ℕ) (places : Places) (label_count pc : ℕ) : Type
   pub labels : label_count < 4294967295
   pub aligned : pc % 4 ≡ 0
 
--- the entries are the instructions of the words of memory from an address on, where they are some
+-- the entries are what the words of memory from an address on decode to
 abbrev pub AreDecoded : List (Option Inst) → Memory → ℕ → Type 0
 AreDecoded table memory from =
     (i : ℕ) → i < length table → slice_index_or table i None ≡ decode_of (load_bytes 4 memory (from + 4 * i))
@@ -40,7 +40,7 @@ pub record IsDecoded (table : List (Option Inst)) (memory : Memory) (places : Pl
   pub count : places.code + 4 * length table ≡ places.region
   pub entries : AreDecoded table memory places.code
 
--- the parts of an emulator are sound, told how many bytes its memory has and which, and its code is decoded
+-- the parts of an emulator are sound and its code is decoded, told how many bytes its memory has and which
 abbrev pub IsSoundBy : {R : Type 0} → (R → ℕ) → (R → Memory) → Processor R → Type 0
 IsSoundBy bytes_len memory p =
     IsSound (bytes_len p.ram) p.places (length p.labels) p.pc
