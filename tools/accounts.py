@@ -6,8 +6,8 @@ Usage: tools/accounts.py [--ratios K] PROGRAM COUNT [SEED]
 
 The account is that of core_calc, found by the interpreter in calculus.py, which makes casts one by one. PROGRAM is the
 built program, as crates/grift/out/grift. It runs the random programs of the seeds from SEED, or 0, on, with random
-inputs, every fourth of them one in which loops cast a function, a box and a vector, under the limits that the accounts
-allow, or the greatest that the command takes. A run has to print the same and to end by the same line as the
+inputs, of four of them one small, and one in which loops cast a function, a box and a vector, under the limits that the
+accounts allow, or the greatest that the command takes. A run has to print the same and to end by the same line as the
 interpreter's. Those that differ are shown with their limits and both ends, and the status is 1. Of the first K programs
 the least region, stack and number of instructions are found by halving, the other two limits being as allowed; a table
 has the three programs that need most of what is allowed of each, and the one in the middle.
@@ -286,7 +286,8 @@ def least(name, limits, wanted, words, entered):
 def compared(program, seed, is_measured):
     """How the program of a seed ends, or None where the ends differ; what it is allowed, and what it needs."""
     programs = Programs(seed, READING)
-    text = programs.piles() if seed % 4 == 3 else programs.program()
+    small = lambda: programs.loose(programs.precise(2), [], 2) + "\n"  # noqa: E731
+    text = [programs.program, small, programs.program, programs.piles][seed % 4]()
     numbers = programs.numbers()
     wanted, measures, run = accounted(text, numbers)
     if wanted is None:
