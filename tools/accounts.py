@@ -10,7 +10,7 @@ inputs, of four of them one small, and one in which loops cast a function, a box
 accounts allow, or the greatest that the command takes. A run has to print the same and to end by the same line as the
 interpreter's. Those that differ are shown with their limits and both ends, and the status is 1. Of the first K programs
 the least region, stack and number of instructions are found by halving, the other two limits being as allowed; a table
-has the three programs that need most of what is allowed of each, and the one in the middle.
+has the program that needs most of what is allowed of each, and the one in the middle.
 
 With --check nothing is run: the accounts of a few programs at some moments have to be those of the table below.
 """
@@ -312,12 +312,12 @@ def compared(program, seed, is_measured):
 
 
 def put_ratios(done):
-    """The table of the programs that need most of what is allowed, and of the one in the middle."""
+    """The table of the program that needs most of what is allowed, and of the one in the middle."""
     print("| Limit | Needed | Allowed | Ratio | Seed |\n|---|---|---|---|---|")
     for name in GREATEST:
         rows = [(needed[name], limits[name], seed) for seed, (_, limits, needed) in done if needed]
         rows.sort(key=lambda row: -row[0] / max(row[1], 1))
-        for used, most, seed in rows[:3] + [rows[len(rows) // 2]]:
+        for used, most, seed in (rows[0], rows[len(rows) // 2]):
             print(f"| {name} | {used:,} | {most:,} | {used / max(most, 1):.5f} | {seed} |")
 
 
