@@ -1,28 +1,27 @@
--- A law of casts on values is one of runs: one state of the first run is the moment at which all states of the second on
--- the way are seen, that of the cast that asks for the most.
-use Rattle.std.proofs.Common.{◌≡◌, ◌⊎◌, inl, inr, ℕ, zero, suc, ◌+◌, ◌<◌, ◌≤◌, List, [], ◌∷◌, length, Option, Some, None}
+-- A law of casts on values is one of runs: one state of the first run is the moment at which all states of the second
+-- on the way are seen, that of the cast that asks for the most.
+use Rattle.std.proofs.Common.{◌≡◌, ◌⊎◌, inl, inr, ℕ, suc, ◌+◌, ◌<◌, ◌≤◌, List, [], ◌∷◌, length, Option, Some, None}
 use Rattle.std.proofs.Common.{refl, sym, ap, ◌∙◌, subst, arith}
 use Rattle.std.specs.Prelude.{option_map, max}
 use Rattle.std.proofs.Math.Nat.{le-max_left}
-use Rattle.run_laws.specs.Runs.{Ending}
 use Rattle.run_laws.specs.Reductions.{Reduction, reduction_run, moment_at}
 use Rattle.run_laws.proofs.Public.{Along, run_along}
 use Rattle.grift_base.specs.World.{WorldState}
 use Rattle.grift_base.specs.declared.verdicts.Verdict.{Verdict}
 use Rattle.core_calc.specs.Redex.{where_some}
 use Rattle.core_calc.specs.Account.{Measures}
-use Rattle.core_calc.specs.Calculus.{CalcEnd, Blamed, ending_of}
+use Rattle.core_calc.specs.Calculus.{Blamed, ending_of}
 use Rattle.coercion_norm.specs.Modes.{Decision, Wrapping, Mode}
 use Rattle.coercion_norm.specs.RunValues.{shape_of}
 use Rattle.coercion_norm.specs.ValueSteps.{CastFrame, Return, casts_onto}
 use Rattle.coer_core.specs.Machine.{code_arity, CoerValue, CoerStore, CoerFrame, RunState, state_at, ending_at, running}
 use Rattle.coer_core.specs.Results.{Result, Got, BlamedBy, NoResult, Unfinished, pile, SameResult, IsFine}
 use Rattle.coer_core.specs.Tally.{kind_asks, decision_kind}
-use Rattle.coer_core.specs.Tolls.{Toll, kind_price, pile_toll, Fits}
+use Rattle.coer_core.specs.Tolls.{Toll, kind_price, pile_toll}
 use Rattle.coer_core.proofs.Merging.{Likeness, Carries, Stores, Frames}
 use Rattle.coer_core.proofs.FewerFrames.{no_more_frames}
-use Rattle.coer_core.proofs.Priced.{ByCast, kinds_by_cast, Priced, priced, Prices, NoMore, PaysNoMore, asks_of, budget_of}
-use Rattle.coer_core.proofs.Priced.{path_toll, most_less, OnTheWay, priced_along, peak_along, Goes, Met, Seen}
+use Rattle.coer_core.proofs.Priced.{kinds_by_cast, Priced, priced, Prices, NoMore, PaysNoMore, asks_of}
+use Rattle.coer_core.proofs.Priced.{path_toll, most_less, OnTheWay, priced_along, peak_along, Met, Seen}
 use Rattle.coer_core.proofs.Going.{Setting, price0, M, N, R, GoesFrom, GoesAt, first_along, goes_wrong, where_none}
 use Rattle.coer_core.proofs.CastResults.{Quiet, casting, Ran, ran_as, pile_runs, pile_moves, along_weaken, CastLaw}
 use Rattle.coer_core.proofs.CastResults.{Dropped, DropLaw}

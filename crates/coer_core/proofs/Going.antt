@@ -1,5 +1,5 @@
 -- Related states of two runs with prices, and the rounds by which the second keeps within the first.
-use Rattle.std.proofs.Common.{◌≡◌, ◌⊎◌, inl, inr, ℕ, zero, suc, ◌+◌, ◌≤◌, List, [], ◌∷◌, length, Option, Some, None}
+use Rattle.std.proofs.Common.{◌≡◌, inl, inr, ℕ, zero, suc, ◌+◌, ◌≤◌, List, ◌∷◌, length, Option, Some, None}
 use Rattle.std.proofs.Common.{refl, sym, ap, ◌∙◌, subst, arith}
 use Rattle.std.specs.Prelude.{option_map}
 use Rattle.run_laws.specs.Runs.{Ending, Wrong}
@@ -13,7 +13,7 @@ use Rattle.core_calc.specs.Calculus.{CalcEnd, Blamed, Trapped, ending_of}
 use Rattle.coercion_norm.specs.Modes.{Mode}
 use Rattle.coercion_norm.specs.ValueSteps.{CastFrame, Return, On, BlameOf, TrapOf, NoNext}
 use Rattle.coercion_norm.specs.AnswerTypes.{Told}
-use Rattle.coer_core.specs.Machine.{CoerValue, CoerStore, CoerFocus, CoerFrame, CoerAfter, turn, RunState, ended_at}
+use Rattle.coer_core.specs.Machine.{CoerStore, CoerFocus, CoerFrame, CoerAfter, turn, RunState, ended_at}
 use Rattle.coer_core.specs.Machine.{state_at, after_turn, ending_at, running}
 use Rattle.coer_core.specs.Tally.{turn_kind, kind_asks, kind_budget, function_words, made_words}
 use Rattle.coer_core.specs.Tolls.{Price, kind_price}

@@ -1,17 +1,16 @@
--- What a merged cast asks for and pays: it opens a value in Dyn at most once, composes coercions at most once behind that,
--- and puts the value into Dyn at most once at last.
-use Rattle.std.proofs.Common.{◌≡◌, ◌⊎◌, inl, inr, ℕ, zero, suc, ◌+◌, ◌*◌, ◌≤◌, Bool, true, false, List, [], ◌∷◌}
-use Rattle.std.proofs.Common.{length, refl, sym, ap, ◌∙◌, subst, arith, if◌then◌else◌}
-use Rattle.std.specs.Prelude.{max}
+-- What a merged cast asks for and pays: it opens a value in Dyn at most once, composes coercions at most once behind
+-- that, and puts the value into Dyn at most once at last.
+use Rattle.std.proofs.Common.{◌≡◌, ℕ, zero, suc, ◌+◌, ◌*◌, ◌≤◌, Bool, true, false, List, [], ◌∷◌}
+use Rattle.std.proofs.Common.{length, refl, arith, if◌then◌else◌}
 use Rattle.std.proofs.Math.Nat.{max-le}
-use Rattle.grift_base.specs.Types.{TypeRow, TypeRows, head_of}
+use Rattle.grift_base.specs.Types.{TypeRows, head_of}
 use Rattle.core_calc.specs.Account.{Measures}
 use Rattle.coercion_norm.specs.declared.middles.MiddleKind.{MiddleKind as Kind}
 use Rattle.coercion_norm.specs.Coercions.{Coercion, Coercions, Id, Fail, Middle, Inject, Project, rows_of}
 use Rattle.coercion_norm.specs.CoercionTables.{cast_of, composition_of}
-use Rattle.coercion_norm.specs.Normal.{IsNormal, is_flat, is_project}
+use Rattle.coercion_norm.specs.Normal.{IsNormal, is_project}
 use Rattle.coercion_norm.specs.Modes.{Shape, Bare, Wrapped, Injected, Decision, Keeping, Wrapping, Rewrapping}
-use Rattle.coercion_norm.specs.Modes.{Unwrapping, Injecting, Opening, Making, Blaming, NoCast, Mode, TypeCast}
+use Rattle.coercion_norm.specs.Modes.{Unwrapping, Injecting, Opening, Making, NoCast, Mode, TypeCast}
 use Rattle.coercion_norm.specs.MergedMode.{width, middle_head, shape_has_head, rewrapped, proxied, merging}
 use Rattle.coercion_norm.specs.RunValues.{RunWrap, RunInject, shape_of}
 use Rattle.coer_core.specs.Machine.{code_arity, CoerValue}

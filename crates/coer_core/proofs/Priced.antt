@@ -1,11 +1,11 @@
 -- Runs whose turns have prices: what they asked for so far, and what they paid. A run that counts more is such a run.
-use Rattle.std.proofs.Common.{◌≡◌, ◌⊎◌, inl, inr, ⊎_elim, ℕ, zero, suc, ◌+◌, ◌<◌, ◌≤◌, List, [], ◌∷◌, length, Option}
-use Rattle.std.proofs.Common.{Some, None, refl, sym, ap, ◌∙◌, subst, arith}
+use Rattle.std.proofs.Common.{◌≡◌, ⊎_elim, ℕ, zero, suc, ◌+◌, ◌<◌, ◌≤◌, List, [], ◌∷◌, length, Option}
+use Rattle.std.proofs.Common.{Some, None, refl, ap, ◌∙◌, subst, arith}
 use Rattle.std.specs.Prelude.{max}
 use Rattle.std.proofs.Math.Nat.{max-le, le-max_left, le-max_right}
 use Rattle.std.proofs.lemmas.Bool.{cases_lt}
 use Rattle.run_laws.specs.Runs.{Ending}
-use Rattle.run_laws.specs.Reductions.{Reduction, unless_ended, state_after, reduction_run}
+use Rattle.run_laws.specs.Reductions.{Reduction, unless_ended, state_after}
 use Rattle.run_laws.proofs.Public.{Along, goes_within_after, goes_within_later}
 use Rattle.grift_base.specs.declared.verdicts.Verdict.{Verdict}
 use Rattle.core_calc.specs.Redex.{where_some}
@@ -154,8 +154,10 @@ module _ {C : Type 0} (mode : Mode C) (told : Told) (price : Price C) where
           frames_most = here (length s.frames) rest.frames lf;
         },
         priced_along P words paid most frames i ((running mode told).step s) s' a.2 (w + asks_of s) (p + budget_of s) w'
-            p' (omega (arith, lw)) (omega (arith, lp)) (omega (arith, lm)) inner (omega (arith, ew)) (omega (arith,
-            ep)),
+            p' (omega (arith, lw)) (omega (arith, lp)) (omega (arith, lm)) inner (omega (arith, ew)) (omega (
+              arith,
+              ep,
+            )),
       )
     where
       here : (a b : ℕ) → max a b ≤ frames → a ≤ frames

@@ -1,6 +1,6 @@
 -- What holds of runs with prices holds of those that count more, and of those that count nothing.
-use Rattle.std.proofs.Common.{◌≡◌, ◌⊎◌, inl, inr, ⊎_elim, ℕ, zero, suc, ◌≤◌, Option, Some, None, refl, sym, ap, ◌∙◌, subst}
-use Rattle.run_laws.specs.Runs.{Ending, Run, EndsAs, HasVerdictOf, IsPrefix, NeverWrong, Follows, FollowsBy, Any, Reached}
+use Rattle.std.proofs.Common.{◌≡◌, inl, inr, ℕ, zero, suc, ◌≤◌, Option, Some, None, refl, sym, ap, ◌∙◌, subst}
+use Rattle.run_laws.specs.Runs.{Ending, Run, EndsAs, HasVerdictOf, NeverWrong, Follows, FollowsBy, Any, Reached}
 use Rattle.run_laws.specs.Runs.{Moment}
 use Rattle.run_laws.specs.Accounts.{FollowsWithin}
 use Rattle.run_laws.specs.Reductions.{Reduction, unless_ended, state_after, reduction_run}

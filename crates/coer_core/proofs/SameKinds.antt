@@ -1,16 +1,16 @@
 -- Turns of two modes at related places are of one kind, where they touch no wrapper.
-use Rattle.std.proofs.Common.{◌≡◌, ℕ, pos, negsuc, List, [], ◌∷◌, Some, None, refl, sym, ap, ◌∙◌, subst}
+use Rattle.std.proofs.Common.{◌≡◌, pos, negsuc, List, [], ◌∷◌, Some, refl, sym, ap, ◌∙◌, subst}
 use Rattle.grift_base.specs.World.{WorldState}
 use Rattle.grift_base.specs.declared.operators.PrimOp.{PrimOp}
 use Rattle.grift_base.specs.declared.operators.PrimOp.TheVariants.{Mul, Quot, Rem, MakeBox, MakeVector}
 use Rattle.coercion_norm.specs.Modes.{Mode}
 use Rattle.coercion_norm.specs.RunValues.{RunInt, RunBool, RunUnit, RunFun, RunTuple, RunLoc, RunWrap, RunInject}
-use Rattle.coercion_norm.specs.ValueSteps.{onto, operate}
+use Rattle.coercion_norm.specs.ValueSteps.{operate}
 use Rattle.coer_core.specs.Terms.{RowTerm, RowTerms, RowInt, RowBool, RowUnit, RowVar, RowLambda, RowGroup, RowLet}
 use Rattle.coer_core.specs.Terms.{RowCall, RowIf, RowSeq, RowCast, RowProj, RowProjDyn, RowTuple, RowPrim}
 use Rattle.coer_core.specs.Terms.{NoRowTerms, RowTermThen}
-use Rattle.coer_core.specs.Machine.{code_arity, CoerValue, CoerStore, CoerPending, CoerFrame, Job, Calling, Tupling}
-use Rattle.coer_core.specs.Machine.{Operating, entered}
+use Rattle.coer_core.specs.Machine.{code_arity, CoerValue, CoerStore, CoerPending, CoerFrame, Calling}
+use Rattle.coer_core.specs.Machine.{entered}
 use Rattle.coer_core.specs.Tally.{operating_kind, made_vector, gather_kind, eval_kind, enter_kind, plain_kind}
 use Rattle.coer_core.proofs.Merging.{Both, IsBare, Likeness, Carries, PendingLike}
 use Rattle.coer_core.proofs.Going.{Proceeds}

@@ -22,8 +22,8 @@ use Rattle.coercion_norm.proofs.Public.{row_is, heads_exact}
 use Rattle.coer_core.specs.Machine.{CoerValue}
 use Rattle.coer_core.specs.Results.{pile, IsFine}
 use Rattle.coer_core.specs.Carrying.{steps_of, Joins}
-use Rattle.coer_core.specs.Tally.{kind_asks, kind_budget}
-use Rattle.coer_core.specs.MergedTally.{Effort, Heavy, Opens, opening_of_kind, half_charge, effort_asks, effort_budget}
+use Rattle.coer_core.specs.Tally.{kind_budget}
+use Rattle.coer_core.specs.MergedTally.{Effort, Opens, opening_of_kind, half_charge, effort_asks, effort_budget}
 use Rattle.coer_core.specs.Tolls.{Toll, kind_price, merged_price, pile_toll, Fits}
 use Rattle.coer_core.proofs.TreeLaw.{stop_is, middle_flat, base_no_kind, left_of}
 use Rattle.coer_core.proofs.PiledTolls.{OneMore, Pays, cast_pays, solid_pays, dyn_pays}

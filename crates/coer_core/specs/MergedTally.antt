@@ -1,5 +1,5 @@
--- The account of a run in the merged mode: a cast composes coercions, so it asks for more at a time, and less often. Other
--- turns are as in any mode, but for a part of what is in Dyn and a new box, which ask for no more than they make.
+-- The account of a run in the merged mode: a cast composes coercions, so it asks for more at a time, and less often.
+-- Other turns are as in any mode, but for a part of what is in Dyn and a new box, which ask for no more than they make.
 use Rattle.std.specs.Prelude.{ℕ, ◌+◌, ◌*◌, ◌^◌, ◌≤◌, List, ◌∷◌, length, Option, Some, None}
 use Rattle.run_laws.specs.Runs.{Run}
 use Rattle.run_laws.specs.Reductions.{Reduction, reduction_run}
