@@ -330,7 +330,8 @@ module _ {C D : Type 0} (like : Likeness C D) (m : Mode C) (n : Mode D) (set : S
   drop_go i u k store world t v casts Ok Unfinished o d a next = absurd d
 
   -- what Laws asks of dropped casts
-  pub drop_law : DropLaw like m n → (i : ℕ) (v : CoerValue C) (u : CoerValue D) (casts : List C) (k : List (CoerFrame C))
+  pub drop_law : DropLaw like m n → (i : ℕ) (v : CoerValue C) (u : CoerValue D) (casts : List C)
+      (k : List (CoerFrame C))
       (store : CoerStore C) (world : WorldState) (t : RunState D) → world.output ≡ t.world.output → Carries like v u
       → like.drops casts
       → ((x : CoerValue C) → Carries like x u → GoesFrom like m n set i 0 (state_at (Return x) k store world) t)

@@ -146,7 +146,8 @@ module _ {C D : Type 0} (like : Likeness C D) (m : Mode C) (n : Mode D) (set : S
       inr (inr (inl (record {
         steps = k;
         wrong =
-            ap (λ (x : RunState C). (running m set.told).ending x) (state_priced m set.told price0 k (priced w p s)) ∙ e;
+            ap (λ (x : RunState C). (running m set.told).ending x) (state_priced m set.told price0 k (priced w p s))
+            ∙ e;
       })))
 
   -- ---- a turn of both

@@ -129,7 +129,8 @@ module _ (types : TypeRows) (rows : List TypeCast) (measures : Measures) (under 
       → Within (half + a) (896 + 64 * half + b) (tolls k u (Middle kind parts ∷ ds))
   middle_within a b zero u kind parts ds short w = none_within (half + a) (896 + 64 * half + b)
   middle_within a b (suc k) u kind parts ds short w =
-      stays_within k u ds a b short (λ x. w k x) (Middle kind parts) (n.cast (Middle kind parts) (shape_of code_arity u))
+      stays_within k u ds a b short (λ x. w k x) (Middle kind parts)
+      (n.cast (Middle kind parts) (shape_of code_arity u))
       (middle_stays kind parts (shape_of code_arity u))
 
   end_within : (k : ℕ) (u : CoerValue Coercion) → Within 0 0 (tolls k u [])

@@ -170,7 +170,8 @@ module _ {C : Type 0} (mode : Mode C) (told : Told) (price : Price C) where
       × ((path_toll i s).most ≤ asks_of x)
   peak_along P zero s s' a lt = absurd (omega (arith, lt))
   peak_along P (suc i) s s' a lt =
-      ⊎_elim (λ less. later less (peak_along P i ((running mode told).step s) s' a.2 (omega (arith, less)))) (λ le. (0, s, refl, a.0, a.1, max-le (omega arith) le))
+      ⊎_elim (λ less. later less (peak_along P i ((running mode told).step s) s' a.2 (omega (arith, less))))
+      (λ le. (0, s, refl, a.0, a.1, max-le (omega arith) le))
       (cases_lt (asks_of s) (path_toll i ((running mode told).step s)).most)
     where
       later : asks_of s < (path_toll i ((running mode told).step s)).most

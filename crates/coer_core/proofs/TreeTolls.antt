@@ -164,7 +164,8 @@ module _ (types : TypeRows) (table : IsOrderedTable types) (rows : List TypeCast
         no h = cc
     into_at kind parts kept is w None true f d at =
         much (edge_of kind parts t path s (subst (IsNormal R) is norm).1 f
-        (λ k. subst (λ z. MiddleAgrees R (AgreesTo R k) z t path) (ap (left_of types table rows) (sym (at k).1 ∙ is)) (at k).2)) 896
+        (λ k. subst (λ z. MiddleAgrees R (AgreesTo R k) z t path) (ap (left_of types table rows) (sym (at k).1 ∙ is))
+        (at k).2)) 896
         (inr (refl, f, d))
         (λ k u. wider types rows measures under1 (half + 3) (1792 + 64 * half) (half + 3) (896 + 64 * half + 896)
         (tolls1 k u (e ∷ [])) (omega arith) (omega arith) (w k u))
@@ -199,7 +200,8 @@ module _ (types : TypeRows) (table : IsOrderedTable types) (rows : List TypeCast
           let pays : Pays types rows measures under Wraps extra (tolls (suc i) v (c ∷ cs)) =
           subst (λ z. Pays types rows measures under z extra (tolls (suc i) v (c ∷ cs))) edge.wraps
           (solid_pays types rows measures under (suc i) v c cs s j f edge.label edge.wanted edge.rest edge.is extra
-          (subst (λ z. OneMore extra (first_clash R c.from z) (is_dyn (R (last_type c.to (steps_of cs))))) edge.is more))
+          (subst (λ z. OneMore extra (first_clash R c.from z) (is_dyn (R (last_type c.to (steps_of cs))))) edge.is
+          more))
           in
           let a = pays.most in
           let b = pays.budget in
