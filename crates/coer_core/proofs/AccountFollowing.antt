@@ -28,7 +28,7 @@ use Rattle.coer_core.specs.Machine.{GatherFrame, LetFrame}
 use Rattle.coer_core.specs.Counts.{eval_words}
 use Rattle.coer_core.specs.Tally.{kind_asks, kind_budget, function_words, made_words, kind_acts, Tally}
 use Rattle.coer_core.specs.Tally.{Tallied, untallied, kind_of_turn, asks_of_turn, budget_of_turn, tally_of}
-use Rattle.coer_core.specs.Tally.{tallying, PaidBelow, Below}
+use Rattle.coer_core.specs.Tally.{tallying, SpentBelow, Below}
 use Rattle.coer_core.proofs.Relation.{size_of}
 use Rattle.coer_core.proofs.Unload.{PiledStore, PiledFrame, PiledFocus, PiledAfter, PiledState}
 use Rattle.coer_core.proofs.Unload.{store_of}
@@ -332,21 +332,22 @@ module _ (types : TypeRows) (rows : List TypeCast) (labels : List Pos) (answer :
   size s = size_of s.state.focus s.state.frames
 
   does_within : (c : Accounted) (s : PiledTally) → Within c s → Turns c.state s.state
-      → OnItsOwn MA NA Below PaidBelow Within size c s
-      ⊎ (Together MA NA Below PaidBelow Within size c s ⊎ AtEnd MA NA Below PaidBelow Within size c s)
+      → OnItsOwn MA NA Below SpentBelow Within size c s
+      ⊎ (Together MA NA Below SpentBelow Within size c s ⊎ AtEnd MA NA Below SpentBelow Within size c s)
   does_within c s r (inl q) =
       inl (record { running = q.running; next = quiet_within c s r q; less = q.less })
   does_within c s r (inr (inl a)) =
       inr (inl (record { first = a.first; second = a.second; next = acting_within c s r a }))
   does_within c s r (inr (inr o)) = inr (inr (record { ending = o.ending; first = o.first; second = o.second }))
 
-  lockstep : ShowingLockstep MA NA Below PaidBelow Within size
+  lockstep : ShowingLockstep MA NA Below SpentBelow Within size
   lockstep = record {
     alike = λ c s r. alike types rows labels answer Good keeps c.state s.state r.both;
     shown = λ c s r. below c s r;
-    allowed = λ c s r. r.paid;
+    allowed = λ c s r. record { acts = r.acts; paid = r.paid };
     does = λ c s r. does_within c s r (does types rows labels answer Good keeps c.state s.state r.both);
-    still_allowed = λ b c e a. omega (arith, a);
+    still_allowed = λ b c e a. let acts = a.acts in let paid = a.paid in
+        record { acts = omega (arith, acts); paid = omega (arith, paid) };
   }
 
   -- ---- the run of the calculus is the same with its account
@@ -367,12 +368,12 @@ module _ (types : TypeRows) (rows : List TypeCast) (labels : List Pos) (answer :
 
   pub piled_account : (term : RowTerm) (input : List ℕ) → Good (start (core_of rows term) input)
       → FitsIn m.size term → NeverWrong (reduction_run M (start (core_of rows term) input))
-      → FollowsBy Below PaidBelow (reduction_run NA (untallied (run_start term input)))
+      → FollowsBy Below SpentBelow (reduction_run NA (untallied (run_start term input)))
       (reduction_run MA (first_account types m (start (core_of rows term) input)))
   piled_account term input fine fits nw =
       let world : WorldState = record { output = []; input = input; place = 0 } in
       let c : Accounted = first_account types m (start (core_of rows term) input) in
-      showing_lockstep_follows MA NA Below PaidBelow Within size lockstep c (untallied (run_start term input))
+      showing_lockstep_follows MA NA Below SpentBelow Within size lockstep c (untallied (run_start term input))
       (record {
         both = begin_related types rows labels answer Good keeps term input fine;
         fits = ((fits, tt), tt, tt);

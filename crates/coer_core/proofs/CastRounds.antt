@@ -1,6 +1,6 @@
 -- A law of casts on values is one of runs: one state of the first run is the moment at which all states of the second
 -- on the way are seen, that of the cast that asks for the most.
-use Rattle.std.proofs.Common.{◌≡◌, ◌⊎◌, inl, inr, ℕ, suc, ◌+◌, ◌<◌, ◌≤◌, List, [], ◌∷◌, length, Option, Some, None}
+use Rattle.std.proofs.Common.{◌≡◌, ◌⊎◌, inl, inr, ℕ, suc, ◌+◌, ◌*◌, ◌<◌, ◌≤◌, List, [], ◌∷◌, length, Option, Some, None}
 use Rattle.std.proofs.Common.{refl, sym, ap, ◌∙◌, subst, arith}
 use Rattle.std.specs.Prelude.{option_map, max}
 use Rattle.std.proofs.Math.Nat.{le-max_left}
@@ -26,14 +26,16 @@ use Rattle.coer_core.proofs.Going.{Setting, price0, M, N, R, GoesFrom, GoesAt, f
 use Rattle.coer_core.proofs.CastResults.{Quiet, casting, Ran, ran_as, pile_runs, pile_moves, along_weaken, CastLaw}
 use Rattle.coer_core.proofs.CastResults.{Dropped, DropLaw}
 
--- one turn of these asks for so much, and their budgets are as much
-pub record Enough (most budget : ℕ) (toll : Toll) : Type 0 where
+-- one turn of these asks for so much, as many make a step, and their budgets are as much
+pub record Enough (most acts budget : ℕ) (toll : Toll) : Type 0 where
   pub asked : most ≤ toll.most
+  pub made : acts ≤ toll.acts
   pub paid : budget ≤ toll.budget
 
--- these ask for so much at most, with budgets of so much, and so many frames
-pub record AtMost (most budget long : ℕ) (toll : Toll) : Type 0 where
+-- these ask for so much at most, as many make a step, with budgets of so much, and so many frames
+pub record AtMost (most acts budget long : ℕ) (toll : Toll) : Type 0 where
   pub asked : toll.asks ≤ most
+  pub made : toll.acts ≤ acts
   pub paid : toll.budget ≤ budget
   pub waits : toll.frames ≤ long
 
@@ -91,28 +93,36 @@ module _ {C D : Type 0} (like : Likeness C D) (m : Mode C) (n : Mode D) (set : S
     abbrev N1 : Reduction (Priced D) Prices Verdict
     N1 = N like m n set
 
-    module _ (most budget spare : ℕ) (some : 0 < most) (w p w1 p1 : ℕ) (lw : w1 ≤ w) (lp : p1 + spare ≤ p) where
+    module _ (most acts budget spare : ℕ) (some : 0 < most) (w a p w1 a1 p1 : ℕ) (lw : w1 ≤ w) (la : a1 + spare ≤ a)
+        (lp : p1 + 896 * spare ≤ p) where
       -- the states of the first have come to what the second had at first
       met : (j : ℕ) (s' : RunState C) → Along (running m set.told) Q0 j s s'
-          → Along M0 (Met M0 N1 NoMore PaysNoMore (R like m n set) (priced w1 p1 t)) j (priced w p s)
-          (priced (w + (toll0 j s).asks) (p + (toll0 j s).budget) s')
-      met j s' a =
-          along_weaken M0 (OnTheWay m set.told (price0 like m n set) Q0 w p (w + (toll0 j s).asks) (toll0 j s).frames)
-          (Met M0 N1 NoMore PaysNoMore (R like m n set) (priced w1 p1 t))
+          → Along M0 (Met M0 N1 NoMore PaysNoMore (R like m n set) (priced w1 a1 p1 t)) j (priced w a p s)
+          (priced (w + (toll0 j s).asks) (a + (toll0 j s).acts) (p + (toll0 j s).budget) s')
+      met j s' along =
+          along_weaken M0 (OnTheWay m set.told (price0 like m n set) Q0 w a p (w + (toll0 j s).asks) (toll0 j s).frames)
+          (Met M0 N1 NoMore PaysNoMore (R like m n set) (priced w1 a1 p1 t))
           (λ x on. let grows = on.paid_grows in
-          record { at = 0; output = same1 ∙ sym on.keeps.0; allowed = omega (arith, grows, lp) }) j (priced w p s)
-          (priced (w + (toll0 j s).asks) (p + (toll0 j s).budget) s')
-          (priced_along m set.told (price0 like m n set) Q0 w p (w + (toll0 j s).asks) (toll0 j s).frames j s s' a w p
-          (w + (toll0 j s).asks) (p + (toll0 j s).budget) (omega arith) (omega arith) (omega arith) (omega arith) refl
-          refl)
+          let more = on.acts_grow in
+          record {
+            at = 0;
+            output = same1 ∙ sym on.keeps.0;
+            allowed = record { acts = omega (arith, more, la); paid = omega (arith, grows, lp) };
+          }) j (priced w a p s)
+          (priced (w + (toll0 j s).asks) (a + (toll0 j s).acts) (p + (toll0 j s).budget) s')
+          (priced_along m set.told (price0 like m n set) Q0 w a p (w + (toll0 j s).asks) (toll0 j s).frames j s s' along
+          w a
+          p (w + (toll0 j s).asks) (a + (toll0 j s).acts) (p + (toll0 j s).budget) (omega arith) (omega arith)
+          (omega arith) (omega arith) (omega arith) refl refl refl)
 
       -- the state of the first at which those of the second are seen
       pub record Peak : Type 0 where
         pub at : ℕ
         pub state : RunState C
         pub words : ℕ
+        pub made : ℕ
         pub paid : ℕ
-        pub there : reduction_run M0 (priced w p s) at ≡ moment_at M0 (priced words paid state)
+        pub there : reduction_run M0 (priced w a p s) at ≡ moment_at M0 (priced words made paid state)
         pub quiet : state.world.output ≡ world.output
         pub runs : state.ended ≡ None
         pub more : w ≤ words
@@ -120,22 +130,24 @@ module _ {C D : Type 0} (like : Likeness C D) (m : Mode C) (n : Mode D) (set : S
         pub long : suc (length k) ≤ length state.frames
 
       peak_at : (j : ℕ) (s' : RunState C) → Along (running m set.told) Q0 j s s' → most ≤ (toll0 j s).most → Peak
-      peak_at j s' a le =
-          let b = peak_along m set.told (price0 like m n set) Q0 j s s' a (omega (arith, some, le)) in
+      peak_at j s' along le =
+          let b = peak_along m set.told (price0 like m n set) Q0 j s s' along (omega (arith, some, le)) in
           let asked = b.5 in
           let words = w + (toll0 b.0 s).asks in
+          let made = a + (toll0 b.0 s).acts in
           let paid = p + (toll0 b.0 s).budget in
-          let along = priced_along m set.told (price0 like m n set) Q0 w p words (toll0 b.0 s).frames b.0 s b.1 b.2 w p
-          words paid (omega arith) (omega arith) (omega arith) (omega arith) refl refl in
+          let way = priced_along m set.told (price0 like m n set) Q0 w a p words (toll0 b.0 s).frames b.0 s b.1 b.2 w a
+          p words made paid (omega arith) (omega arith) (omega arith) (omega arith) (omega arith) refl refl refl in
           record {
             at = b.0 + 0;
             state = b.1;
             words = words;
+            made = made;
             paid = paid;
             there =
                 run_along M0
-                (OnTheWay m set.told (price0 like m n set) Q0 w p words (toll0 b.0 s).frames) b.0 (priced w p s)
-                (priced words paid b.1) along 0;
+                (OnTheWay m set.told (price0 like m n set) Q0 w a p words (toll0 b.0 s).frames) b.0 (priced w a p s)
+                (priced words made paid b.1) way 0;
             quiet = b.4.0;
             runs = none_of (λ end. ending_at set.told end b.1.focus) b.1.ended b.3;
             more = omega arith;
@@ -150,23 +162,23 @@ module _ {C D : Type 0} (like : Likeness C D) (m : Mode C) (n : Mode D) (set : S
           long_at x (inr l) asked = l
 
       seen : (j : ℕ) (t' : RunState D) → Along (running n set.told) Q1 j t t' → Peak
-          → AtMost most (budget + spare) (length k' + 2) (toll1 j t)
-          → Along N1 (Seen M0 N1 NoMore PaysNoMore (R like m n set) (priced w p s)) j (priced w1 p1 t)
-          (priced (w1 + (toll1 j t).asks) (p1 + (toll1 j t).budget) t')
-      seen j t' a peak top =
-          along_weaken N1 (OnTheWay n set.told set.price Q1 w1 p1 (w1 + (toll1 j t).asks) (toll1 j t).frames)
-          (Seen M0 N1 NoMore PaysNoMore (R like m n set) (priced w p s)) (λ x on. at_peak x on) j (priced w1 p1 t)
-          (priced (w1 + (toll1 j t).asks) (p1 + (toll1 j t).budget) t')
-          (priced_along n set.told set.price Q1 w1 p1 (w1 + (toll1 j t).asks) (toll1 j t).frames j t t' a w1 p1
-          (w1 + (toll1 j t).asks) (p1 + (toll1 j t).budget) (omega arith) (omega arith) (omega arith) (omega arith) refl
-          refl)
+          → AtMost most (acts + spare) (budget + 896 * spare) (length k' + 2) (toll1 j t)
+          → Along N1 (Seen M0 N1 NoMore PaysNoMore (R like m n set) (priced w a p s)) j (priced w1 a1 p1 t)
+          (priced (w1 + (toll1 j t).asks) (a1 + (toll1 j t).acts) (p1 + (toll1 j t).budget) t')
+      seen j t' along peak top =
+          along_weaken N1 (OnTheWay n set.told set.price Q1 w1 a1 p1 (w1 + (toll1 j t).asks) (toll1 j t).frames)
+          (Seen M0 N1 NoMore PaysNoMore (R like m n set) (priced w a p s)) (λ x on. at_peak x on) j (priced w1 a1 p1 t)
+          (priced (w1 + (toll1 j t).asks) (a1 + (toll1 j t).acts) (p1 + (toll1 j t).budget) t')
+          (priced_along n set.told set.price Q1 w1 a1 p1 (w1 + (toll1 j t).asks) (toll1 j t).frames j t t' along w1
+          a1 p1 (w1 + (toll1 j t).asks) (a1 + (toll1 j t).acts) (p1 + (toll1 j t).budget) (omega arith) (omega arith)
+          (omega arith) (omega arith) (omega arith) refl refl refl)
         where
           at_peak : (y : Priced D)
-              → OnTheWay n set.told set.price Q1 w1 p1 (w1 + (toll1 j t).asks) (toll1 j t).frames y
-              → Seen M0 N1 NoMore PaysNoMore (R like m n set) (priced w p s) y
+              → OnTheWay n set.told set.price Q1 w1 a1 p1 (w1 + (toll1 j t).asks) (toll1 j t).frames y
+              → Seen M0 N1 NoMore PaysNoMore (R like m n set) (priced w a p s) y
           at_peak y on =
-              let a = where_less y.state.ended (asks_of n set.told set.price y.state) in
-              let b = where_none peak.state.ended (asks_of m set.told (price0 like m n set) peak.state) peak.runs in
+              let x = where_less y.state.ended (asks_of n set.told set.price y.state) in
+              let z = where_none peak.state.ended (asks_of m set.told (price0 like m n set) peak.state) peak.runs in
               let grows = on.words_grow in
               let words = on.words_most in
               let frames = on.frames_most in
@@ -182,35 +194,43 @@ module _ {C D : Type 0} (like : Likeness C D) (m : Mode C) (n : Mode D) (set : S
                 shown =
                     subst (λ z. NoMore (N1.shown y) z.shown) (sym peak.there)
                     (record {
-                      reach = omega (arith, a, b, words, asked, lw, more, asks);
-                      asks = omega (arith, a, b, grows, words, asked, asks);
+                      reach = omega (arith, x, z, words, asked, lw, more, asks);
+                      asks = omega (arith, x, z, grows, words, asked, asks);
                       frames = omega (arith, frames, waits, fewer, long);
                     });
               }
 
     -- what the second run comes to is known where the first comes to something; the second may pay what is to spare
-    pub casts_go : (most budget spare : ℕ) → 0 < most → (a : Result C) (b : Result D) → Ran0 1 (Enough most budget) a
-        → (IsFine a → Ran1 1 (AtMost most (budget + spare) (length k' + 2)) b) → SameResult like a b
+    pub casts_go : (most acts budget spare : ℕ) → 0 < most → (a : Result C) (b : Result D)
+        → Ran0 1 (Enough most acts budget) a
+        → (IsFine a → Ran1 1 (AtMost most (acts + spare) (budget + 896 * spare) (length k' + 2)) b) → SameResult like a
+        b
         → GoesFrom like m n set i spare s t
-    casts_go most budget spare some (Got v) (Got u) a second r = λ w p w1 p1 lw lp.
+    casts_go most acts budget spare some (Got v) (Got u) one second r = λ w a p w1 a1 p1 lw la lp.
         let b = second tt in
-        let le = a.1 in
+        let le = one.1 in
         let lt = b.1 in
         let asked = b.3.asked in
         let pays = b.3.paid in
-        let enough = a.3.asked in
-        let paid = a.3.paid in
-        let sums = most_less m set.told (price0 like m n set) a.0 s in
+        let makes = b.3.made in
+        let enough = one.3.asked in
+        let paid = one.3.paid in
+        let made = one.3.made in
+        let sums = most_less m set.told (price0 like m n set) one.0 s in
         inl (record {
           ways = record {
-            first_steps = a.0;
+            first_steps = one.0;
             second_steps = b.0;
-            s' = priced (w + (toll0 a.0 s).asks) (p + (toll0 a.0 s).budget) (state_at (Return v) k store world);
-            t' = priced (w1 + (toll1 b.0 t).asks) (p1 + (toll1 b.0 t).budget) (state_at (Return u) k' store1 world);
-            first = met most budget spare some w p w1 p1 lw lp a.0 (state_at (Return v) k store world) a.2;
+            s' = priced (w + (toll0 one.0 s).asks) (a + (toll0 one.0 s).acts) (p + (toll0 one.0 s).budget)
+                (state_at (Return v) k store world);
+            t' = priced (w1 + (toll1 b.0 t).asks) (a1 + (toll1 b.0 t).acts) (p1 + (toll1 b.0 t).budget)
+                (state_at (Return u) k' store1 world);
+            first = met most acts budget spare some w a p w1 a1 p1 lw la lp one.0 (state_at (Return v) k store world)
+                one.2;
             second =
-                seen most budget spare some w p w1 p1 lw lp b.0 (state_at (Return u) k' store1 world) b.2
-                (peak_at most budget spare some w p w1 p1 lw lp a.0 (state_at (Return v) k store world) a.2 enough)
+                seen most acts budget spare some w a p w1 a1 p1 lw la lp b.0 (state_at (Return u) k' store1 world) b.2
+                (peak_at most acts budget spare some w a p w1 a1 p1 lw la lp one.0 (state_at (Return v) k store world)
+                one.2 enough)
                 b.3;
           };
           left = 0;
@@ -228,55 +248,58 @@ module _ {C D : Type 0} (like : Likeness C D) (m : Mode C) (n : Mode D) (set : S
             all_frames = fr;
             stores = stores;
             words = omega (arith, lw, asked, enough, sums);
+            acts = omega (arith, la, makes, made);
             paid = omega (arith, lp, pays, paid);
           };
           first_moves = inl (omega (arith, le));
           second_moves = inl (omega (arith, lt));
         })
-    casts_go most budget spare some (BlamedBy label) (BlamedBy other) a second r = λ w p w1 p1 lw lp.
+    casts_go most acts budget spare some (BlamedBy label) (BlamedBy other) one second r = λ w a p w1 a1 p1 lw la lp.
         let b = second tt in
         let asked = b.8.asked in
         let pays = b.8.paid in
+        let makes = b.8.made in
         let waits = b.8.waits in
-        let enough = a.8.asked in
-        let paid = a.8.paid in
-        let sums = most_less m set.told (price0 like m n set) a.0 s in
+        let enough = one.8.asked in
+        let paid = one.8.paid in
+        let made = one.8.made in
+        let sums = most_less m set.told (price0 like m n set) one.0 s in
         let none = where_ended b.2.ended (Blamed other) (asks_of n set.told set.price b.2) b.4 in
         let fewer = no_more_frames like k' k fr in
-        let long = a.6 in
+        let long = one.6 in
         let last = b.7 in
         inr (inl (record {
           ways = record {
-            first_steps = a.0;
+            first_steps = one.0;
             second_steps = b.0;
-            s' = priced (w + (toll0 a.0 s).asks) (p + (toll0 a.0 s).budget) a.2;
-            t' = priced (w1 + (toll1 b.0 t).asks) (p1 + (toll1 b.0 t).budget) b.2;
-            first = met most budget spare some w p w1 p1 lw lp a.0 a.2 a.3;
+            s' = priced (w + (toll0 one.0 s).asks) (a + (toll0 one.0 s).acts) (p + (toll0 one.0 s).budget) one.2;
+            t' = priced (w1 + (toll1 b.0 t).asks) (a1 + (toll1 b.0 t).acts) (p1 + (toll1 b.0 t).budget) b.2;
+            first = met most acts budget spare some w a p w1 a1 p1 lw la lp one.0 one.2 one.3;
             second =
-                seen most budget spare some w p w1 p1 lw lp b.0 b.2 b.3
-                (peak_at most budget spare some w p w1 p1 lw lp a.0 a.2 a.3 enough) b.8;
+                seen most acts budget spare some w a p w1 a1 p1 lw la lp b.0 b.2 b.3
+                (peak_at most acts budget spare some w a p w1 a1 p1 lw la lp one.0 one.2 one.3 enough) b.8;
           };
           ending = ending_of set.told.labels (Blamed label);
-          first_ends = ap (option_map (λ end. ending_at set.told end a.2.focus)) a.4;
+          first_ends = ap (option_map (λ end. ending_at set.told end one.2.focus)) one.4;
           second_ends =
               ap (option_map (λ end. ending_at set.told end b.2.focus)) b.4
               ∙ ap (λ l. Some (ending_of set.told.labels (Blamed l))) r;
-          output = b.5 ∙ sym a.5;
+          output = b.5 ∙ sym one.5;
           shown = record {
             reach = omega (arith, none, lw, asked, enough, sums);
             asks = omega (arith, none);
             frames = omega (arith, last, waits, fewer, long);
           };
-          allowed = omega (arith, lp, pays, paid);
+          allowed = record { acts = omega (arith, la, makes, made); paid = omega (arith, lp, pays, paid) };
         }))
-    casts_go most budget spare some NoResult b a second r = goes_wrong like m n set i spare a.0 s t a.1
-    casts_go most budget spare some (Got v) (BlamedBy other) a b r = absurd r
-    casts_go most budget spare some (Got v) NoResult a b r = absurd r
-    casts_go most budget spare some (Got v) Unfinished a b r = absurd r
-    casts_go most budget spare some (BlamedBy label) (Got u) a b r = absurd r
-    casts_go most budget spare some (BlamedBy label) NoResult a b r = absurd r
-    casts_go most budget spare some (BlamedBy label) Unfinished a b r = absurd r
-    casts_go most budget spare some Unfinished b a c r = absurd r
+    casts_go most acts budget spare some NoResult b a second r = goes_wrong like m n set i spare a.0 s t a.1
+    casts_go most acts budget spare some (Got v) (BlamedBy other) a b r = absurd r
+    casts_go most acts budget spare some (Got v) NoResult a b r = absurd r
+    casts_go most acts budget spare some (Got v) Unfinished a b r = absurd r
+    casts_go most acts budget spare some (BlamedBy label) (Got u) a b r = absurd r
+    casts_go most acts budget spare some (BlamedBy label) NoResult a b r = absurd r
+    casts_go most acts budget spare some (BlamedBy label) Unfinished a b r = absurd r
+    casts_go most acts budget spare some Unfinished b a c r = absurd r
 
   -- what Laws asks of piles of casts
   pub casts_law : CastLaw like m n (price0 like m n set) set.price → (i : ℕ) (v : CoerValue C) (u : CoerValue D) (c : C)
@@ -291,20 +314,23 @@ module _ {C D : Type 0} (like : Likeness C D) (m : Mode C) (n : Mode D) (set : S
       let asked = casts_ask m set.measures (length k) l.0 v c cs in
       casts_go i store store1 st world k k' fr
       (casting m set.told (price0 like m n set) (kinds_by_cast m set.measures) store world k v (c ∷ cs))
-      (casting n set.told set.price set.by_cast store1 world k' u (d ∷ [])) refl refl first.most first.budget 0
+      (casting n set.told set.price set.by_cast store1 world k' u (d ∷ [])) refl refl first.most first.acts
+      first.budget 0
       (omega (arith, asked)) (pile m (suc l.0) v (c ∷ cs)) (pile n (suc l.1) u (d ∷ []))
       (ran_as m set.told (price0 like m n set) (kinds_by_cast m set.measures) store world k
       (casting m set.told (price0 like m n set) (kinds_by_cast m set.measures) store world k v (c ∷ cs)) 1
-      (pile m (suc l.0) v (c ∷ cs)) (λ t. t ≡ first) (Enough first.most first.budget)
-      (λ t e. subst (Enough first.most first.budget) (sym e) (record { asked = omega arith; paid = omega arith }))
+      (pile m (suc l.0) v (c ∷ cs)) (λ t. t ≡ first) (Enough first.most first.acts first.budget)
+      (λ t e. subst (Enough first.most first.acts first.budget) (sym e)
+      (record { asked = omega arith; made = omega arith; paid = omega arith }))
       (pile_moves m set.told (price0 like m n set) (kinds_by_cast m set.measures) store world k l.0 v c cs))
       (λ fine. let fits = l.3 (length k) (length k') fine in
       ran_as n set.told set.price set.by_cast store1 world k'
       (casting n set.told set.price set.by_cast store1 world k' u (d ∷ [])) 1 (pile n (suc l.1) u (d ∷ []))
-      (λ t. t ≡ second) (AtMost first.most (first.budget + 0) (length k' + 2))
-      (λ t e. subst (AtMost first.most (first.budget + 0) (length k' + 2)) (sym e)
+      (λ t. t ≡ second) (AtMost first.most (first.acts + 0) (first.budget + 896 * 0) (length k' + 2))
+      (λ t e. subst (AtMost first.most (first.acts + 0) (first.budget + 896 * 0) (length k' + 2)) (sym e)
       (let budget = fits.budget in
-      record { asked = fits.asks; paid = omega (arith, budget); waits = fits.frames }))
+      let acts = fits.acts in
+      record { asked = fits.asks; made = omega (arith, acts); paid = omega (arith, budget); waits = fits.frames }))
       (pile_moves n set.told set.price set.by_cast store1 world k' l.1 u d []))
       l.2
 

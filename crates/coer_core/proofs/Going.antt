@@ -1,5 +1,5 @@
 -- Related states of two runs with prices, and the rounds by which the second keeps within the first.
-use Rattle.std.proofs.Common.{◌≡◌, inl, inr, ℕ, zero, suc, ◌+◌, ◌≤◌, List, ◌∷◌, length, Option, Some, None}
+use Rattle.std.proofs.Common.{◌≡◌, inl, inr, ℕ, zero, suc, ◌+◌, ◌*◌, ◌≤◌, List, ◌∷◌, length, Option, Some, None}
 use Rattle.std.proofs.Common.{refl, sym, ap, ◌∙◌, subst, arith}
 use Rattle.std.specs.Prelude.{option_map}
 use Rattle.run_laws.specs.Runs.{Ending, Wrong}
@@ -15,11 +15,12 @@ use Rattle.coercion_norm.specs.ValueSteps.{CastFrame, Return, On, BlameOf, TrapO
 use Rattle.coercion_norm.specs.AnswerTypes.{Told}
 use Rattle.coer_core.specs.Machine.{CoerStore, CoerFocus, CoerFrame, CoerAfter, turn, RunState, ended_at}
 use Rattle.coer_core.specs.Machine.{state_at, after_turn, ending_at, running}
-use Rattle.coer_core.specs.Tally.{turn_kind, kind_asks, kind_budget, function_words, made_words}
+use Rattle.coer_core.specs.Tally.{turn_kind, kind_asks, kind_acts, kind_budget, function_words, made_words}
 use Rattle.coer_core.specs.Tolls.{Price, kind_price}
 use Rattle.coer_core.proofs.Merging.{Likeness, Stores, Frames, Foci}
 use Rattle.coer_core.proofs.MergeSteps.{Same}
-use Rattle.coer_core.proofs.Priced.{ByCast, Priced, priced, Prices, NoMore, PaysNoMore, asks_of, budget_of, pricing}
+use Rattle.coer_core.proofs.Priced.{ByCast, Priced, priced, Prices, NoMore, PaysNoMore, asks_of, acts_of, budget_of}
+use Rattle.coer_core.proofs.Priced.{pricing}
 use Rattle.coer_core.proofs.Priced.{state_priced, Goes}
 
 -- a turn that doesn't go wrong
@@ -40,6 +41,8 @@ pub record Setting {D : Type 0} (n : Mode D) : Type 0 where
   pub price : Price D
   pub asks_by_kind : (f : CoerFocus D) (k : List (CoerFrame D)) → NoCastNext f k
       → price.asks f k ≤ kind_asks measures (turn_kind n f k) (made_words f k)
+  pub acts_by_kind : (f : CoerFocus D) (k : List (CoerFrame D)) → NoCastNext f k
+      → price.acts f k ≤ kind_acts (turn_kind n f k)
   pub budget_by_kind : (f : CoerFocus D) (k : List (CoerFrame D)) → NoCastNext f k
       → price.budget f k ≤ kind_budget measures (turn_kind n f k) (function_words f)
   pub by_cast : ByCast price
@@ -77,15 +80,17 @@ module _ {C D : Type 0} (like : Likeness C D) (m : Mode C) (n : Mode D) (set : S
     pub all_frames : Frames like frames frames1
     pub stores : Stores like store store1
     pub words : t.words ≤ s.words
+    pub acts : t.acts ≤ s.acts
     pub paid : t.paid ≤ s.paid
 
   abbrev pub R : ℕ → Priced C → Priced D → Type 0
   R i s t = Stand s t
 
-  -- a round from these states, wherever the second has asked for no more, and paid less by this
+  -- a round from these states, wherever the second has asked for no more, and made and paid fewer acts by this
   abbrev pub GoesFrom : ℕ → ℕ → RunState C → RunState D → Type 0
   GoesFrom i spare s t =
-      (w p w1 p1 : ℕ) → w1 ≤ w → p1 + spare ≤ p → Goes M N NoMore PaysNoMore R i (priced w p s) (priced w1 p1 t)
+      (w a p w1 a1 p1 : ℕ) → w1 ≤ w → a1 + spare ≤ a → p1 + 896 * spare ≤ p
+      → Goes M N NoMore PaysNoMore R i (priced w a p s) (priced w1 a1 p1 t)
 
   abbrev pub GoesAt : ℕ → CoerFocus C → List (CoerFrame C) → CoerStore C → WorldState → CoerFocus D → List (CoerFrame D)
       → CoerStore D → Type 0
@@ -95,17 +100,22 @@ module _ {C D : Type 0} (like : Likeness C D) (m : Mode C) (n : Mode D) (set : S
   -- more to spare does no harm
   pub with_more : (i spare more : ℕ) (s : RunState C) (t : RunState D) → spare ≤ more → GoesFrom i spare s t
       → GoesFrom i more s t
-  with_more i spare more s t le go = λ w p w1 p1 lw lp. go w p w1 p1 lw (omega (arith, le, lp))
+  with_more i spare more s t le go = λ w a p w1 a1 p1 lw la lp.
+      go w a p w1 a1 p1 lw (omega (arith, le, la)) (omega (arith, le, lp))
 
-  -- the first makes a turn, and has what it pays to spare
+  -- the first makes a turn, and has the acts that it makes to spare
   pub first_one : (i spare least : ℕ) (s : RunState C) (t : RunState D) → (running m set.told).ending s ≡ None
-      → s.world.output ≡ t.world.output → least ≤ budget_of m set.told price0 s
+      → s.world.output ≡ t.world.output → least ≤ acts_of m set.told price0 s
+      → 896 * least ≤ budget_of m set.told price0 s
       → GoesFrom i (spare + least) ((running m set.told).step s) t → GoesFrom i spare s t
-  first_one i spare least s t e o le go = λ w p w1 p1 lw lp.
-      goes_within_after M N NoMore PaysNoMore R i 1 (priced w p s) (M.step (priced w p s)) (priced w1 p1 t)
-      (e, record { at = 0; output = sym o; allowed = omega (arith, lp) }, refl)
-      (go (w + asks_of m set.told price0 s) (p + budget_of m set.told price0 s) w1 p1 (omega (arith, lw))
-      (omega (arith, lp, le)))
+  first_one i spare least s t e o made le go = λ w a p w1 a1 p1 lw la lp.
+      goes_within_after M N NoMore PaysNoMore R i 1 (priced w a p s) (M.step (priced w a p s)) (priced w1 a1 p1 t) (
+        e,
+        record { at = 0; output = sym o; allowed = record { acts = omega (arith, la); paid = omega (arith, lp) } },
+        refl,
+      )
+      (go (w + asks_of m set.told price0 s) (a + acts_of m set.told price0 s) (p + budget_of m set.told price0 s) w1 a1
+      p1 (omega (arith, lw)) (omega (arith, la, made)) (omega (arith, lp, le)))
 
   pub first_along : (i spare j : ℕ) (s s1 : RunState C) (t : RunState D)
       → Along (running m set.told) (λ x. x.world.output ≡ t.world.output) j s s1 → GoesFrom i spare s1 t
@@ -113,17 +123,18 @@ module _ {C D : Type 0} (like : Likeness C D) (m : Mode C) (n : Mode D) (set : S
   first_along i spare zero s s1 t a go = subst (λ x. GoesFrom i spare x t) (sym a) go
   first_along i spare (suc j) s s1 t a go =
       let next : RunState C = (running m set.told).step s in
-      first_one i spare 0 s t a.0 a.1 (omega arith)
+      first_one i spare 0 s t a.0 a.1 (omega arith) (omega arith)
       (with_more i spare (spare + 0) next t (omega arith) (first_along i spare j next s1 t a.2 go))
 
-  -- the second makes a turn that asks for nothing, and pays what is to spare
+  -- the second makes a turn that asks for nothing, and the acts that are to spare
   pub second_one : (i spare most : ℕ) (s : RunState C) (t : RunState D) → (running n set.told).ending t ≡ None
       → t.world.output ≡ s.world.output → asks_of n set.told set.price t ≤ 0
-      → budget_of n set.told set.price t ≤ most → length t.frames ≤ suc (length s.frames)
-      → GoesFrom i spare s ((running n set.told).step t) → GoesFrom i (spare + most) s t
-  second_one i spare most s t e o none le long go = λ w p w1 p1 lw lp.
+      → acts_of n set.told set.price t ≤ most → budget_of n set.told set.price t ≤ 896 * most
+      → length t.frames ≤ suc (length s.frames) → GoesFrom i spare s ((running n set.told).step t)
+      → GoesFrom i (spare + most) s t
+  second_one i spare most s t e o none made le long go = λ w a p w1 a1 p1 lw la lp.
       let nothing = where_zero t.ended (asks_of n set.told set.price t) (omega (arith, none)) in
-      goes_within_later M N NoMore PaysNoMore R i 1 (priced w p s) (priced w1 p1 t) (N.step (priced w1 p1 t)) (
+      goes_within_later M N NoMore PaysNoMore R i 1 (priced w a p s) (priced w1 a1 p1 t) (N.step (priced w1 a1 p1 t)) (
         e,
         record {
           at = 0;
@@ -137,16 +148,17 @@ module _ {C D : Type 0} (like : Likeness C D) (m : Mode C) (n : Mode D) (set : S
         },
         refl,
       )
-      (go w p (w1 + asks_of n set.told set.price t) (p1 + budget_of n set.told set.price t) (omega (arith, lw, none))
+      (go w a p (w1 + asks_of n set.told set.price t) (a1 + acts_of n set.told set.price t)
+      (p1 + budget_of n set.told set.price t) (omega (arith, lw, none)) (omega (arith, la, made))
       (omega (arith, lp, le)))
 
   pub goes_wrong : (i spare k : ℕ) (s : RunState C) (t : RunState D)
       → (reduction_run (running m set.told) s k).ending ≡ Some Wrong → GoesFrom i spare s t
-  goes_wrong i spare k s t e = λ w p w1 p1 lw lp.
+  goes_wrong i spare k s t e = λ w a p w1 a1 p1 lw la lp.
       inr (inr (inl (record {
         steps = k;
         wrong =
-            ap (λ (x : RunState C). (running m set.told).ending x) (state_priced m set.told price0 k (priced w p s))
+            ap (λ (x : RunState C). (running m set.told).ending x) (state_priced m set.told price0 k (priced w a p s))
             ∙ e;
       })))
 
@@ -180,6 +192,12 @@ module _ {C D : Type 0} (like : Likeness C D) (m : Mode C) (n : Mode D) (set : S
     abbrev asks1 : ℕ
     asks1 = asks_of n set.told set.price t
 
+    abbrev acts0 : ℕ
+    acts0 = acts_of m set.told price0 s
+
+    abbrev acts1 : ℕ
+    acts1 = acts_of n set.told set.price t
+
     abbrev budget0 : ℕ
     budget0 = budget_of m set.told price0 s
 
@@ -192,48 +210,57 @@ module _ {C D : Type 0} (like : Likeness C D) (m : Mode C) (n : Mode D) (set : S
         (subst (λ k. asks1 ≤ kind_asks set.measures k (made_words focus1 frames1)) kind.kinds
         (set.asks_by_kind focus1 frames1 kind.no_cast))
 
+    acts_less : SameKind focus frames focus1 frames1 → acts1 ≤ acts0
+    acts_less kind =
+        subst (λ k. acts1 ≤ kind_acts k) kind.kinds (set.acts_by_kind focus1 frames1 kind.no_cast)
+
     budget_less : SameKind focus frames focus1 frames1 → budget1 ≤ budget0
     budget_less kind =
         subst (λ w. budget1 ≤ kind_budget set.measures (turn_kind m focus frames) w) kind.functions
         (subst (λ k. budget1 ≤ kind_budget set.measures k (function_words focus1)) kind.kinds
         (set.budget_by_kind focus1 frames1 kind.no_cast))
 
-    module _ (w p w1 p1 : ℕ) (lw : w1 ≤ w) (lp : p1 + 0 ≤ p) where
+    module _ (w a p w1 a1 p1 : ℕ) (lw : w1 ≤ w) (la : a1 + 0 ≤ a) (lp : p1 + 896 * 0 ≤ p) where
       -- at first
-      start : SameKind focus frames focus1 frames1 → NoMore (N.shown (priced w1 p1 t)) (M.shown (priced w p s))
+      start : SameKind focus frames focus1 frames1 → NoMore (N.shown (priced w1 a1 p1 t)) (M.shown (priced w a p s))
       start kind =
-          let a = where_none (ended_at focus frames) asks0 first in
-          let b = where_none (ended_at focus1 frames1) asks1 second in
+          let x = where_none (ended_at focus frames) asks0 first in
+          let y = where_none (ended_at focus1 frames1) asks1 second in
           let le = asks_less kind in
           let long = kind.long in
           record {
-            reach = omega (arith, a, b, le, lw);
-            asks = omega (arith, a, b, le);
+            reach = omega (arith, x, y, le, lw);
+            asks = omega (arith, x, y, le);
             frames = omega (arith, long);
           }
 
-      one_turn : (a : CoerAfter C) (b : CoerAfter D) → turn m store world focus frames ≡ a
-          → turn n store1 world focus1 frames1 ≡ b → Same like a b
-          → Goes M N NoMore PaysNoMore R i (priced w p s) (priced w1 p1 t)
+      one_turn : (after : CoerAfter C) (after1 : CoerAfter D) → turn m store world focus frames ≡ after
+          → turn n store1 world focus1 frames1 ≡ after1 → Same like after after1
+          → Goes M N NoMore PaysNoMore R i (priced w a p s) (priced w1 a1 p1 t)
       one_turn (On f k st u) (On g k' st' u') ea eb r =
           let kind = kind_of (subst Proceeds (sym ea) tt) in
           let le = asks_less kind in
           let lb = budget_less kind in
+          let lc = acts_less kind in
           inl (record {
             ways = record {
               first_steps = 1;
               second_steps = 1;
-              s' = priced (w + asks0) (p + budget0) (state_at f k st u);
-              t' = priced (w1 + asks1) (p1 + budget1) (state_at g k' st' u');
+              s' = priced (w + asks0) (a + acts0) (p + budget0) (state_at f k st u);
+              t' = priced (w1 + asks1) (a1 + acts1) (p1 + budget1) (state_at g k' st' u');
               first = (
                 no_end (λ end. ending_at set.told end focus) (ended_at focus frames) first,
-                record { at = 0; output = refl; allowed = omega (arith, lp) },
-                ap (λ x. priced (w + asks0) (p + budget0) (after_turn s x)) ea,
+                record {
+                  at = 0;
+                  output = refl;
+                  allowed = record { acts = omega (arith, la); paid = omega (arith, lp) };
+                },
+                ap (λ x. priced (w + asks0) (a + acts0) (p + budget0) (after_turn s x)) ea,
               );
               second = (
                 no_end (λ end. ending_at set.told end focus1) (ended_at focus1 frames1) second,
                 record { at = 0; output = refl; shown = start kind },
-                ap (λ x. priced (w1 + asks1) (p1 + budget1) (after_turn t x)) eb,
+                ap (λ x. priced (w1 + asks1) (a1 + acts1) (p1 + budget1) (after_turn t x)) eb,
               );
             };
             left = 0;
@@ -251,6 +278,7 @@ module _ {C D : Type 0} (like : Likeness C D) (m : Mode C) (n : Mode D) (set : S
               all_frames = r.1;
               stores = r.2;
               words = omega (arith, lw, le);
+              acts = omega (arith, la, lc);
               paid = omega (arith, lp, lb);
             };
             first_moves = inl (omega arith);
@@ -260,22 +288,27 @@ module _ {C D : Type 0} (like : Likeness C D) (m : Mode C) (n : Mode D) (set : S
           let kind = kind_of (subst Proceeds (sym ea) tt) in
           let le = asks_less kind in
           let lb = budget_less kind in
+          let lc = acts_less kind in
           let long = kind.long in
           inr (inl (record {
             ways = record {
               first_steps = 1;
               second_steps = 1;
-              s' = priced (w + asks0) (p + budget0) (after_turn s (BlameOf label));
-              t' = priced (w1 + asks1) (p1 + budget1) (after_turn t (BlameOf other));
+              s' = priced (w + asks0) (a + acts0) (p + budget0) (after_turn s (BlameOf label));
+              t' = priced (w1 + asks1) (a1 + acts1) (p1 + budget1) (after_turn t (BlameOf other));
               first = (
                 no_end (λ end. ending_at set.told end focus) (ended_at focus frames) first,
-                record { at = 0; output = refl; allowed = omega (arith, lp) },
-                ap (λ x. priced (w + asks0) (p + budget0) (after_turn s x)) ea,
+                record {
+                  at = 0;
+                  output = refl;
+                  allowed = record { acts = omega (arith, la); paid = omega (arith, lp) };
+                },
+                ap (λ x. priced (w + asks0) (a + acts0) (p + budget0) (after_turn s x)) ea,
               );
               second = (
                 no_end (λ end. ending_at set.told end focus1) (ended_at focus1 frames1) second,
                 record { at = 0; output = refl; shown = start kind },
-                ap (λ x. priced (w1 + asks1) (p1 + budget1) (after_turn t x)) eb,
+                ap (λ x. priced (w1 + asks1) (a1 + acts1) (p1 + budget1) (after_turn t x)) eb,
               );
             };
             ending = ending_of set.told.labels (Blamed label);
@@ -283,28 +316,33 @@ module _ {C D : Type 0} (like : Likeness C D) (m : Mode C) (n : Mode D) (set : S
             second_ends = ap (λ l. Some (ending_of set.told.labels (Blamed l))) r;
             output = refl;
             shown = record { reach = omega (arith, lw, le); asks = omega arith; frames = omega (arith, long) };
-            allowed = omega (arith, lp, lb);
+            allowed = record { acts = omega (arith, la, lc); paid = omega (arith, lp, lb) };
           }))
       one_turn (TrapOf trap u) (TrapOf other u') ea eb r =
           let kind = kind_of (subst Proceeds (sym ea) tt) in
           let le = asks_less kind in
           let lb = budget_less kind in
+          let lc = acts_less kind in
           let long = kind.long in
           inr (inl (record {
             ways = record {
               first_steps = 1;
               second_steps = 1;
-              s' = priced (w + asks0) (p + budget0) (after_turn s (TrapOf trap u));
-              t' = priced (w1 + asks1) (p1 + budget1) (after_turn t (TrapOf other u'));
+              s' = priced (w + asks0) (a + acts0) (p + budget0) (after_turn s (TrapOf trap u));
+              t' = priced (w1 + asks1) (a1 + acts1) (p1 + budget1) (after_turn t (TrapOf other u'));
               first = (
                 no_end (λ end. ending_at set.told end focus) (ended_at focus frames) first,
-                record { at = 0; output = refl; allowed = omega (arith, lp) },
-                ap (λ x. priced (w + asks0) (p + budget0) (after_turn s x)) ea,
+                record {
+                  at = 0;
+                  output = refl;
+                  allowed = record { acts = omega (arith, la); paid = omega (arith, lp) };
+                },
+                ap (λ x. priced (w + asks0) (a + acts0) (p + budget0) (after_turn s x)) ea,
               );
               second = (
                 no_end (λ end. ending_at set.told end focus1) (ended_at focus1 frames1) second,
                 record { at = 0; output = refl; shown = start kind },
-                ap (λ x. priced (w1 + asks1) (p1 + budget1) (after_turn t x)) eb,
+                ap (λ x. priced (w1 + asks1) (a1 + acts1) (p1 + budget1) (after_turn t x)) eb,
               );
             };
             ending = ending_of set.told.labels (Trapped trap);
@@ -312,14 +350,15 @@ module _ {C D : Type 0} (like : Likeness C D) (m : Mode C) (n : Mode D) (set : S
             second_ends = ap (λ l. Some (ending_of set.told.labels (Trapped l))) r.0;
             output = ap (λ (x : WorldState). x.output) r.1;
             shown = record { reach = omega (arith, lw, le); asks = omega arith; frames = omega (arith, long) };
-            allowed = omega (arith, lp, lb);
+            allowed = record { acts = omega (arith, la, lc); paid = omega (arith, lp, lb) };
           }))
       one_turn NoNext b ea eb r =
           goes_wrong i 0 1 s t (ap (λ o. (moment_at (running m set.told)
           (unless_ended o (running m set.told).step s)).ending)
           (no_end (λ end. ending_at set.told end focus) (ended_at focus frames) first)
-          ∙ ap (λ x. option_map (λ end. ending_at set.told end (after_turn s x).focus) (after_turn s x).ended) ea) w p
-          w1 p1 lw lp
+          ∙ ap (λ x. option_map (λ end. ending_at set.told end (after_turn s x).focus) (after_turn s x).ended) ea) w a p
+          w1
+          a1 p1 lw la lp
       one_turn (On f k st u) (BlameOf other) ea eb r = absurd r
       one_turn (On f k st u) (TrapOf other u') ea eb r = absurd r
       one_turn (On f k st u) NoNext ea eb r = absurd r
@@ -333,5 +372,6 @@ module _ {C D : Type 0} (like : Likeness C D) (m : Mode C) (n : Mode D) (set : S
     -- both make a turn of one kind, unless the first goes wrong, and what they come to is the same
     pub same_goes : Same like (turn m store world focus frames) (turn n store1 world focus1 frames1)
         → GoesAt i focus frames store world focus1 frames1 store1
-    same_goes r = λ w p w1 p1 lw lp.
-        one_turn w p w1 p1 lw lp (turn m store world focus frames) (turn n store1 world focus1 frames1) refl refl r
+    same_goes r = λ w a p w1 a1 p1 lw la lp.
+        one_turn w a p w1 a1 p1 lw la lp (turn m store world focus frames) (turn n store1 world focus1 frames1) refl
+        refl r

@@ -1,6 +1,6 @@
 -- What piled casts ask for and pay: where the first of their types that is not Dyn has the head of the type before, and
 -- parts, one of them wraps.
-use Rattle.std.proofs.Common.{◌≡◌, ◌⊎◌, inl, inr, ℕ, zero, suc, ◌+◌, ◌≤◌, Bool, true, false, List, [], ◌∷◌, length}
+use Rattle.std.proofs.Common.{◌≡◌, ◌⊎◌, inl, inr, ℕ, zero, suc, ◌+◌, ◌*◌, ◌≤◌, Bool, true, false, List, [], ◌∷◌, length}
 use Rattle.std.proofs.Common.{Option, Some, None, refl, sym, ap, ◌∙◌, subst, arith, if◌then◌else◌}
 use Rattle.std.specs.Prelude.{max, cond, not, ◌&&◌}
 use Rattle.std.proofs.Math.Nat.{le-max_left, le-max_right}
@@ -27,7 +27,7 @@ right_most a b n le = let l = le-max_right a b in omega (arith, l, le)
 
 -- nothing, or one cast more where a path goes on to Dyn without a clash
 abbrev pub OneMore : ℕ → Option ℕ → Bool → Type 0
-OneMore extra clash to_dyn = (extra ≡ 0) ⊎ ((extra ≡ 896) × (clash ≡ None) × (to_dyn ≡ true))
+OneMore extra clash to_dyn = (extra ≡ 0) ⊎ ((extra ≡ 1) × (clash ≡ None) × (to_dyn ≡ true))
 
 module _ (types : TypeRows) (rows : List TypeCast) (measures : Measures) (under : ℕ) where
   abbrev R : ℕ → TypeRow
@@ -39,10 +39,11 @@ module _ (types : TypeRows) (rows : List TypeCast) (measures : Measures) (under 
   abbrev price : Price TypeCast
   price = kind_price m measures
 
-  -- one turn asks for what a step of the kind may ask for, and all pay for that step and for more
+  -- one turn asks for what a step of the kind may ask for, and all pay for that step and for so many others
   pub record Pays (kind : StepKind) (more : ℕ) (toll : Toll) : Type 0 where
     pub most : kind_asks measures (Some kind) 0 ≤ toll.most
-    pub budget : kind_budget measures (Some kind) 0 + more ≤ toll.budget
+    pub acts : suc more ≤ toll.acts
+    pub budget : kind_budget measures (Some kind) 0 + 896 * more ≤ toll.budget
 
   abbrev tolls : ℕ → CoerValue TypeCast → List TypeCast → Toll
   tolls n v cs = pile_toll price under m n v cs
@@ -64,15 +65,18 @@ module _ (types : TypeRows) (rows : List TypeCast) (measures : Measures) (under 
       let b = decision_budget d in
       record {
         most = left_most (kind_asks measures (Some (decision_kind d)) 0) _ 16 a;
+        acts = omega arith;
         budget = omega (arith, b);
       }
 
   -- from a type other than Dyn to Dyn there is a cast
   goes_on : (n : ℕ) (v : CoerValue TypeCast) (cs : List TypeCast) (t : ℕ) → is_dyn (R t) ≡ false
-      → is_dyn (R (last_type t (steps_of cs))) ≡ true → IsFine (pile m n v cs) → 896 ≤ (tolls n v cs).budget
+      → is_dyn (R (last_type t (steps_of cs))) ≡ true → IsFine (pile m n v cs)
+      → (1 ≤ (tolls n v cs).acts) × (896 ≤ (tolls n v cs).budget)
   goes_on n v [] t s e f = no_both (is_dyn (R t)) e s
   goes_on zero v (c ∷ cs) t s e f = absurd f
-  goes_on (suc n) v (c ∷ cs) t s e f = let p = (cast_pays n v c cs).budget in omega (arith, p)
+  goes_on (suc n) v (c ∷ cs) t s e f =
+      let p = (cast_pays n v c cs).budget in (omega arith, omega (arith, p))
 
   -- at a value of a type other than Dyn
   abbrev AtSolid : ℕ → Type 0
@@ -90,12 +94,12 @@ module _ (types : TypeRows) (rows : List TypeCast) (measures : Measures) (under 
       → is_dyn (R kept) ≡ false → Joins c.to cs → IsFine (pile m n (RunInject v kept) (c ∷ cs))
       → (label wanted : ℕ) (rest : Steps) → solid R (steps_of (c ∷ cs)) ≡ Edge label wanted rest → (extra : ℕ)
       → OneMore extra (first_clash R kept (Edge label wanted rest)) (is_dyn (R (last_type c.to (steps_of cs))))
-      → Pays (rows_kind (R kept) (R wanted)) (896 + extra) (tolls n (RunInject v kept) (c ∷ cs))
+      → Pays (rows_kind (R kept) (R wanted)) (suc extra) (tolls n (RunInject v kept) (c ∷ cs))
 
   -- the toll of a cast by what is decided
   abbrev by_decision : ℕ → CoerValue TypeCast → List TypeCast → Decision TypeCast → Toll
   by_decision n v cs d =
-      both_tolls (one_toll (kind_asks measures (Some (decision_kind d)) 0)
+      both_tolls (one_toll (kind_asks measures (Some (decision_kind d)) 0) 1
       (kind_budget measures (Some (decision_kind d)) 0) (suc (length cs + under)))
       (toll_on (λ x l. tolls n x l) d v cs)
 
@@ -107,17 +111,19 @@ module _ (types : TypeRows) (rows : List TypeCast) (measures : Measures) (under 
   no_edge label wanted rest e = cc
 
   -- behind a cast that only turns over what is left
-  behind : (kind : StepKind) (more : ℕ) (toll : Toll) (asks budget frames : ℕ) → Pays kind more toll
-      → Pays kind more (both_tolls (one_toll asks budget frames) toll)
-  behind kind more toll asks budget frames p = record {
+  behind : (kind : StepKind) (more : ℕ) (toll : Toll) (asks acts budget frames : ℕ) → Pays kind more toll
+      → Pays kind more (both_tolls (one_toll asks acts budget frames) toll)
+  behind kind more toll asks acts budget frames p = record {
     most = right_most asks toll.most _ p.most;
+    acts = let a = p.acts in omega (arith, a);
     budget = let b = p.budget in omega (arith, b);
   }
 
   opened : (kind : StepKind) (extra : ℕ) (toll : Toll) (asks frames : ℕ) → Pays kind extra toll
-      → Pays kind (896 + extra) (both_tolls (one_toll asks 896 frames) toll)
+      → Pays kind (suc extra) (both_tolls (one_toll asks 1 896 frames) toll)
   opened kind extra toll asks frames p = record {
     most = right_most asks toll.most _ p.most;
+    acts = let a = p.acts in omega (arith, a);
     budget = let b = p.budget in omega (arith, b);
   }
 
@@ -137,16 +143,19 @@ module _ (types : TypeRows) (rows : List TypeCast) (measures : Measures) (under 
         into_dyn (a ∷ cs) j d ok e f =
             let p = at_dyn v c.from a cs (ap (λ t. is_dyn (R t)) j.0 ∙ d) s j.1 f label wanted rest e extra ok in
             let b = p.budget in
-            record { most = right_most 16 _ _ p.most; budget = omega (arith, b) }
+            let acts = p.acts in
+            record { most = right_most 16 _ _ p.most; acts = omega (arith, acts); budget = omega (arith, b) }
 
         extra_paid : (x : CoerValue TypeCast) → is_dyn (R c.to) ≡ false → IsFine (pile m n x cs)
-            → extra ≤ (tolls n x cs).budget
+            → (extra ≤ (tolls n x cs).acts) × (896 * extra ≤ (tolls n x cs).budget)
         extra_paid x d f = of ok
           where
             of : OneMore extra (first_clash R c.from (Edge label wanted rest))
-                (is_dyn (R (last_type c.to (steps_of cs)))) → extra ≤ (tolls n x cs).budget
-            of (inl z) = omega (arith, z)
-            of (inr q) = let l = goes_on n x cs c.to d q.2 f in omega (arith, q.0, l)
+                (is_dyn (R (last_type c.to (steps_of cs))))
+                → (extra ≤ (tolls n x cs).acts) × (896 * extra ≤ (tolls n x cs).budget)
+            of (inl z) = (omega (arith, z), omega (arith, z))
+            of (inr q) =
+                let l = goes_on n x cs c.to d q.2 f in (omega (arith, q.0, l.0), omega (arith, q.0, l.1))
 
         none_extra : same_head (R c.from) (R c.to) ≡ false → c.to ≡ wanted → extra ≡ 0
         none_extra h w = of ok
@@ -185,7 +194,11 @@ module _ (types : TypeRows) (rows : List TypeCast) (measures : Measures) (under 
             let k : kind ≡ Casts = kind_is d w ∙ ap (λ b. cond b (cond (is_base (R c.from)) Casts Wraps) Casts) h
             ∙ ap (λ b. cond b Casts Wraps) e in
             subst (λ z. Pays z extra (by_decision n v cs Keeping)) (sym k)
-            (record { most = left_most 16 _ 16 (omega arith); budget = omega (arith, l) })
+            (record {
+              most = left_most 16 _ 16 (omega arith);
+              acts = omega (arith, l.0);
+              budget = omega (arith, l.1);
+            })
         to_base false e d w h f =
             let l = extra_paid (RunWrap v c) d f in
             let k : kind ≡ Wraps = kind_is d w ∙ ap (λ b. cond b (cond (is_base (R c.from)) Casts Wraps) Casts) h
@@ -193,7 +206,8 @@ module _ (types : TypeRows) (rows : List TypeCast) (measures : Measures) (under 
             subst (λ z. Pays z extra (by_decision n v cs (Wrapping c))) (sym k)
             (record {
               most = left_most (kind_asks measures (Some Wraps) 0) _ _ (omega arith);
-              budget = omega (arith, l);
+              acts = omega (arith, l.0);
+              budget = omega (arith, l.1);
             })
 
         to_solid : (b : Bool) → same_head (R c.from) (R c.to) ≡ b → is_dyn (R c.to) ≡ false → c.to ≡ wanted
@@ -204,7 +218,7 @@ module _ (types : TypeRows) (rows : List TypeCast) (measures : Measures) (under 
             let z = none_extra h w in
             let k : kind ≡ Casts = kind_is d w ∙ ap (λ b. cond b (cond (is_base (R c.from)) Casts Wraps) Casts) h in
             subst (λ z. Pays z extra (by_decision n v cs (Blaming c.label))) (sym k)
-            (record { most = omega arith; budget = omega (arith, z) })
+            (record { most = omega arith; acts = omega (arith, z); budget = omega (arith, z) })
 
         solid_decided : (b : Bool) → is_dyn (R c.to) ≡ b
             → in_front b c.label c.to (solid R (steps_of cs)) ≡ Edge label wanted rest
@@ -235,7 +249,7 @@ module _ (types : TypeRows) (rows : List TypeCast) (measures : Measures) (under 
     module _ (v : CoerValue TypeCast) (kept : ℕ) (c : TypeCast) (s : is_dyn (R kept) ≡ false) (label wanted : ℕ)
         (rest : Steps) (extra : ℕ) where
       abbrev Goal : List TypeCast → Decision TypeCast → Type 0
-      Goal cs d = PaysBy n (RunInject v kept) cs (rows_kind (R kept) (R wanted)) (896 + extra) d
+      Goal cs d = PaysBy n (RunInject v kept) cs (rows_kind (R kept) (R wanted)) (suc extra) d
 
       abbrev Ok : List TypeCast → Type 0
       Ok cs =
@@ -245,7 +259,7 @@ module _ (types : TypeRows) (rows : List TypeCast) (measures : Measures) (under 
           → solid R (steps_of cs) ≡ Edge label wanted rest → Goal cs Keeping
       stays [] j ok d e f = absurd (no_edge label wanted rest e)
       stays (a ∷ cs) j ok d e f =
-          behind (rows_kind (R kept) (R wanted)) (896 + extra) (tolls n (RunInject v kept) (a ∷ cs)) 16 896
+          behind (rows_kind (R kept) (R wanted)) (suc extra) (tolls n (RunInject v kept) (a ∷ cs)) 16 1 896
           (suc (length (a ∷ cs) + under))
           (at_dyn v kept a cs (ap (λ t. is_dyn (R t)) j.0 ∙ d) s j.1 f label wanted rest e extra ok)
 

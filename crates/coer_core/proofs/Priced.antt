@@ -19,41 +19,50 @@ use Rattle.coer_core.specs.Tolls.{Toll, no_toll, one_toll, both_tolls, Price, ki
 -- a state with what was asked for and paid so far
 pub record Priced (C : Type 0) : Type 0 where
   pub words : ℕ
+  pub acts : ℕ
   pub paid : ℕ
   pub state : RunState C
 
-abbrev pub priced : {C : Type 0} → ℕ → ℕ → RunState C → Priced C
-priced words paid state = record { words = words; paid = paid; state = state }
+abbrev pub priced : {C : Type 0} → ℕ → ℕ → ℕ → RunState C → Priced C
+priced words acts paid state = record { words = words; acts = acts; paid = paid; state = state }
 
 -- what is shown of it
 pub record Prices : Type 0 where
   pub words : ℕ
   pub asks : ℕ
+  pub acts : ℕ
   pub frames : ℕ
   pub paid : ℕ
 
--- the second run needs no more storage than the first, but for a frame, and pays no more
+-- the second run needs no more storage than the first, but for a frame
 pub record NoMore (second first : Prices) : Type 0 where
   pub reach : second.words + second.asks ≤ first.words + first.asks
   pub asks : second.asks ≤ first.asks
   pub frames : second.frames ≤ first.frames + 1
 
-abbrev pub PaysNoMore : Prices → Prices → Type 0
-PaysNoMore second first = second.paid ≤ first.paid
+-- it has made no more steps, and paid no more
+pub record PaysNoMore (second first : Prices) : Type 0 where
+  pub acts : second.acts ≤ first.acts
+  pub paid : second.paid ≤ first.paid
 
 -- of a cast the price goes by the value and the cast
 pub record ByCast {C : Type 0} (price : Price C) : Type 0 where
   pub asks : (v : CoerValue C) (cast : C) (k : List (CoerFrame C))
       → price.asks (Return v) (CastFrame cast ∷ k) ≡ price.asks (Return v) (CastFrame cast ∷ [])
+  pub acts : (v : CoerValue C) (cast : C) (k : List (CoerFrame C))
+      → price.acts (Return v) (CastFrame cast ∷ k) ≡ price.acts (Return v) (CastFrame cast ∷ [])
   pub budget : (v : CoerValue C) (cast : C) (k : List (CoerFrame C))
       → price.budget (Return v) (CastFrame cast ∷ k) ≡ price.budget (Return v) (CastFrame cast ∷ [])
 
 pub kinds_by_cast : {C : Type 0} (mode : Mode C) (m : Measures) → ByCast (kind_price mode m)
-kinds_by_cast mode m = record { asks = λ v cast k. refl; budget = λ v cast k. refl }
+kinds_by_cast mode m = record { asks = λ v cast k. refl; acts = λ v cast k. refl; budget = λ v cast k. refl }
 
 module _ {C : Type 0} (mode : Mode C) (told : Told) (price : Price C) where
   abbrev pub asks_of : RunState C → ℕ
   asks_of s = price.asks s.focus s.frames
+
+  abbrev pub acts_of : RunState C → ℕ
+  acts_of s = price.acts s.focus s.frames
 
   abbrev pub budget_of : RunState C → ℕ
   budget_of s = price.budget s.focus s.frames
@@ -61,13 +70,15 @@ module _ {C : Type 0} (mode : Mode C) (told : Told) (price : Price C) where
   abbrev pub pricing : Reduction (Priced C) Prices Verdict
   pricing = record {
     step =
-        λ s. priced (s.words + asks_of s.state) (s.paid + budget_of s.state) ((running mode told).step s.state);
+        λ s. priced (s.words + asks_of s.state) (s.acts + acts_of s.state) (s.paid + budget_of s.state)
+        ((running mode told).step s.state);
     ending = λ s. (running mode told).ending s.state;
     output = λ s. (running mode told).output s.state;
     shown =
         λ s. record {
           words = s.words;
           asks = where_some s.state.ended 0 (asks_of s.state);
+          acts = s.acts;
           frames = length s.state.frames;
           paid = s.paid;
         };
@@ -78,10 +89,11 @@ module _ {C : Type 0} (mode : Mode C) (told : Told) (price : Price C) where
   abbrev pub path_toll : ℕ → RunState C → Toll
   path_toll zero s = no_toll
   path_toll (suc i) s =
-      both_tolls (one_toll (asks_of s) (budget_of s) (length s.frames)) (path_toll i ((running mode told).step s))
+      both_tolls (one_toll (asks_of s) (acts_of s) (budget_of s) (length s.frames))
+      (path_toll i ((running mode told).step s))
 
   abbrev pub turn_toll : RunState C → Toll
-  turn_toll s = one_toll (asks_of s) (budget_of s) (length s.frames)
+  turn_toll s = one_toll (asks_of s) (acts_of s) (budget_of s) (length s.frames)
 
   -- one turn asks for no more than all
   pub most_less : (i : ℕ) (s : RunState C) → (path_toll i s).most ≤ (path_toll i s).asks
@@ -93,6 +105,7 @@ module _ {C : Type 0} (mode : Mode C) (told : Told) (price : Price C) where
   pub record Joined (i n l : ℕ) (s s1 : RunState C) : Type 0 where
     pub most_first : (path_toll i s).most ≤ (path_toll l s).most
     pub most_second : (path_toll n s1).most ≤ (path_toll l s).most
+    pub acts : (path_toll i s).acts + (path_toll n s1).acts ≤ (path_toll l s).acts
     pub budget : (path_toll i s).budget + (path_toll n s1).budget ≤ (path_toll l s).budget
     pub frames : (path_toll n s1).frames ≤ (path_toll l s).frames
 
@@ -103,6 +116,7 @@ module _ {C : Type 0} (mode : Mode C) (told : Told) (price : Price C) where
       subst (λ x. Joined 0 n l s x) a (subst (λ z. Joined 0 n z s s) f (record {
         most_first = omega arith;
         most_second = omega arith;
+        acts = omega arith;
         budget = omega arith;
         frames = omega arith;
       }))
@@ -111,6 +125,7 @@ module _ {C : Type 0} (mode : Mode C) (told : Told) (price : Price C) where
       let rest = path_then P i n l ((running mode told).step s) s1 a.2 (omega (arith, e)) in
       let first = rest.most_first in
       let second = rest.most_second in
+      let acts = rest.acts in
       let budget = rest.budget in
       let frames = rest.frames in
       let asked = le-max_right (asks_of s) (path_toll l ((running mode told).step s)).most in
@@ -119,45 +134,48 @@ module _ {C : Type 0} (mode : Mode C) (told : Told) (price : Price C) where
       record {
         most_first = max-le own (omega (arith, asked, first));
         most_second = omega (arith, asked, second);
+        acts = omega (arith, acts);
         budget = omega (arith, budget);
         frames = omega (arith, long, frames);
       }
 
   -- a state on the way, from these words and this budget on, with at most so many words asked for and frames
-  pub record OnTheWay (P : RunState C → Type 0) (words paid most frames : ℕ) (x : Priced C) : Type 0 where
+  pub record OnTheWay (P : RunState C → Type 0) (words acts paid most frames : ℕ) (x : Priced C) : Type 0 where
     pub keeps : P x.state
     pub words_grow : words ≤ x.words
+    pub acts_grow : acts ≤ x.acts
     pub paid_grows : paid ≤ x.paid
     pub words_most : x.words + asks_of x.state ≤ most
     pub frames_most : length x.state.frames ≤ frames
 
   -- turns of the run are turns with prices
-  pub priced_along : (P : RunState C → Type 0) (words paid most frames : ℕ) (i : ℕ) (s s' : RunState C)
-      → Along (running mode told) P i s s' → (w p w' p' : ℕ) → words ≤ w → paid ≤ p
+  pub priced_along : (P : RunState C → Type 0) (words acts paid most frames : ℕ) (i : ℕ) (s s' : RunState C)
+      → Along (running mode told) P i s s' → (w a p w' a' p' : ℕ) → words ≤ w → acts ≤ a → paid ≤ p
       → w + (path_toll i s).asks ≤ most → (path_toll i s).frames ≤ frames → w' ≡ w + (path_toll i s).asks
-      → p' ≡ p + (path_toll i s).budget
-      → Along pricing (OnTheWay P words paid most frames) i (priced w p s) (priced w' p' s')
-  priced_along P words paid most frames zero s s' a w p w' p' lw lp lm lf ew ep =
+      → a' ≡ a + (path_toll i s).acts → p' ≡ p + (path_toll i s).budget
+      → Along pricing (OnTheWay P words acts paid most frames) i (priced w a p s) (priced w' a' p' s')
+  priced_along P words acts paid most frames zero s s' along w a p w' a' p' lw la lp lm lf ew ea ep =
       let e : w ≡ w' = omega (arith, ew) in
-      let f : p ≡ p' = omega (arith, ep) in
-      ap (λ z. priced z p s) e ∙ ap (λ z. priced w' z s) f ∙ ap (priced w' p') a
-  priced_along P words paid most frames (suc i) s s' a w p w' p' lw lp lm lf ew ep =
+      let f : a ≡ a' = omega (arith, ea) in
+      let g : p ≡ p' = omega (arith, ep) in
+      ap (λ z. priced z a p s) e ∙ ap (λ z. priced w' z p s) f ∙ ap (λ z. priced w' a' z s) g
+      ∙ ap (priced w' a' p') along
+  priced_along P words acts paid most frames (suc i) s s' along w a p w' a' p' lw la lp lm lf ew ea ep =
       let rest = path_toll i ((running mode told).step s) in
       let inner : rest.frames ≤ frames =
       let r = le-max_right (length s.frames) rest.frames in omega (arith, r, lf) in (
-        a.0,
+        along.0,
         record {
-          keeps = a.1;
+          keeps = along.1;
           words_grow = lw;
+          acts_grow = la;
           paid_grows = lp;
           words_most = omega (arith, lm);
           frames_most = here (length s.frames) rest.frames lf;
         },
-        priced_along P words paid most frames i ((running mode told).step s) s' a.2 (w + asks_of s) (p + budget_of s) w'
-            p' (omega (arith, lw)) (omega (arith, lp)) (omega (arith, lm)) inner (omega (arith, ew)) (omega (
-              arith,
-              ep,
-            )),
+        priced_along P words acts paid most frames i ((running mode told).step s) s' along.2 (w + asks_of s)
+            (a + acts_of s) (p + budget_of s) w' a' p' (omega (arith, lw)) (omega (arith, la)) (omega (arith, lp))
+            (omega (arith, lm)) inner (omega (arith, ew)) (omega (arith, ea)) (omega (arith, ep)),
       )
     where
       here : (a b : ℕ) → max a b ≤ frames → a ≤ frames

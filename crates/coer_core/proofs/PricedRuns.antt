@@ -1,5 +1,5 @@
 -- What holds of runs with prices holds of those that count more, and of those that count nothing.
-use Rattle.std.proofs.Common.{◌≡◌, inl, inr, ℕ, zero, suc, ◌≤◌, Option, Some, None, refl, sym, ap, ◌∙◌, subst}
+use Rattle.std.proofs.Common.{◌≡◌, inl, inr, ℕ, zero, suc, Option, Some, None, refl, sym, ap, ◌∙◌, subst}
 use Rattle.run_laws.specs.Runs.{Ending, Run, EndsAs, HasVerdictOf, NeverWrong, Follows, FollowsBy, Any, Reached}
 use Rattle.run_laws.specs.Runs.{Moment}
 use Rattle.run_laws.specs.Accounts.{FollowsWithin}
@@ -10,7 +10,7 @@ use Rattle.coercion_norm.specs.Modes.{Mode}
 use Rattle.coercion_norm.specs.AnswerTypes.{Told}
 use Rattle.coer_core.specs.Machine.{RunState, running}
 use Rattle.coer_core.specs.Tally.{Tally, Tallied}
-use Rattle.coer_core.specs.MergedTally.{NoMoreStorage, NoMorePaid}
+use Rattle.coer_core.specs.MergedTally.{NoMoreStorage, NoMoreSpent}
 use Rattle.coer_core.specs.Tolls.{Price}
 use Rattle.coer_core.proofs.Counting.{SameMoments, follows_as, followed_as}
 use Rattle.coer_core.proofs.Priced.{Priced, priced, Prices, NoMore, PaysNoMore, pricing, state_priced}
@@ -54,12 +54,18 @@ module _ {C : Type 0} (mode : Mode C) (told : Told) (price : Price C) where
 
   abbrev pub prices_of : Tally → Prices
   prices_of tally =
-      record { words = tally.words; asks = tally.asks; frames = tally.frames; paid = tally.paid }
+      record {
+        words = tally.words;
+        asks = tally.asks;
+        acts = tally.acts;
+        frames = tally.frames;
+        paid = tally.paid;
+      }
 
   abbrev pub less : Tallied C → Priced C
-  less s = priced s.words s.paid s.state
+  less s = priced s.words s.acts s.paid s.state
 
-  -- the reduction makes the same steps, and shows the same of words, frames and budgets
+  -- the reduction makes the same steps, and shows the same of words, acts, frames and budgets
   pub record CountsMore (T : Reduction (Tallied C) Tally Verdict) : Type 0 where
     pub step : (s : Tallied C) → less (T.step s) ≡ (pricing mode told price).step (less s)
     pub ending : (s : Tallied C) → T.ending s ≡ (running mode told).ending s.state
@@ -125,7 +131,10 @@ module _ {C D : Type 0} (m : Mode C) (n : Mode D) (told : Told) (price : Price C
   storage_as : (a b : Tally) → NoMore (prices_of n told price1 a) (prices_of m told price b) → NoMoreStorage a b
   storage_as a b k = record { reach = k.reach; asks = k.asks; frames = k.frames }
 
-  pub tallies_keep : FollowsWithin NoMoreStorage NoMorePaid (reduction_run T t) (reduction_run S s)
+  spent_as : (a b : Tally) → PaysNoMore (prices_of n told price1 a) (prices_of m told price b) → NoMoreSpent a b
+  spent_as a b k = record { acts = k.acts; paid = k.paid }
+
+  pub tallies_keep : FollowsWithin NoMoreStorage NoMoreSpent (reduction_run T t) (reduction_run S s)
   tallies_keep = record {
     back =
         λ i. let b = keeps.back i in
@@ -152,10 +161,11 @@ module _ {C D : Type 0} (m : Mode C) (n : Mode D) (told : Told) (price : Price C
         let x = tally_moments n told price1 T more1 t b.0 in
         let y = tally_moments m told price S more s i in (
           b.0,
-          subst (λ (z : Prices). z.paid ≤ (reduction_run S s i).shown.paid)
+          spent_as (reduction_run T t b.0).shown (reduction_run S s i).shown
+              (subst (λ z. PaysNoMore z (prices_of m told price (reduction_run S s i).shown))
               (sym (tally_shown n told price1 T more1 t b.0))
-              (subst (λ (z : Prices). (reduction_run (pricing n told price1) (less n told price1 t) b.0).shown.paid
-              ≤ z.paid) (sym (tally_shown m told price S more s i)) b.1),
+              (subst (PaysNoMore (reduction_run (pricing n told price1) (less n told price1 t) b.0).shown)
+              (sym (tally_shown m told price S more s i)) b.1)),
           reached_as (reduction_run (pricing n told price1) (less n told price1 t) b.0)
               (reduction_run (pricing m told price) (less m told price s) i) (reduction_run T t b.0)
               (reduction_run S s i) x y b.2,

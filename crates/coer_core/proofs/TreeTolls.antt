@@ -23,7 +23,8 @@ use Rattle.coer_core.specs.Machine.{CoerValue}
 use Rattle.coer_core.specs.Results.{pile, IsFine}
 use Rattle.coer_core.specs.Carrying.{steps_of, Joins}
 use Rattle.coer_core.specs.Tally.{kind_budget}
-use Rattle.coer_core.specs.MergedTally.{Effort, Opens, opening_of_kind, half_charge, effort_asks, effort_budget}
+use Rattle.coer_core.specs.MergedTally.{Effort, Opens, opening_of_kind, half_charge, effort_asks, effort_acts}
+use Rattle.coer_core.specs.MergedTally.{effort_budget}
 use Rattle.coer_core.specs.Tolls.{Toll, kind_price, merged_price, pile_toll, Fits}
 use Rattle.coer_core.proofs.TreeLaw.{stop_is, middle_flat, base_no_kind, left_of}
 use Rattle.coer_core.proofs.PiledTolls.{OneMore, Pays, cast_pays, solid_pays, dyn_pays}
@@ -108,12 +109,13 @@ module _ (types : TypeRows) (table : IsOrderedTable types) (rows : List TypeCast
 
   -- what a coercion asks for that stands for this path: little, or there is such an edge, and a cast more at the end
   pub data Weighs (e : Coercion) (t : ℕ) (steps : Steps) : Type 0 where
-    little : ((k : ℕ) (u : CoerValue Coercion) → Within types rows measures under1 3 896 (tolls1 k u (e ∷ [])))
+    little : ((k : ℕ) (u : CoerValue Coercion) → Within types rows measures under1 3 1 896 (tolls1 k u (e ∷ [])))
         → Weighs e t steps
     much : (edge : WrapEdge t (solid R steps)) (extra : ℕ)
         → OneMore extra (first_clash R t (solid R steps)) (is_dyn (R (last_type t steps)))
         → ((k : ℕ) (u : CoerValue Coercion)
-        → Within types rows measures under1 (half + 3) (896 + 64 * half + extra) (tolls1 k u (e ∷ [])))
+        → Within types rows measures under1 (half + 3) (1 + extra) (896 + 64 * half + 896 * extra)
+        (tolls1 k u (e ∷ [])))
         → Weighs e t steps
 
   module _ (e : Coercion) (t : ℕ) (steps : Steps) (s : is_dyn (R t) ≡ false) (p : is_project e ≡ false)
@@ -130,7 +132,7 @@ module _ (types : TypeRows) (table : IsOrderedTable types) (rows : List TypeCast
 
     composes_at : (kind : Kind) (parts : Coercions) → e ≡ Middle kind parts
         → ((k : ℕ) (u : CoerValue Coercion)
-        → Within types rows measures under1 half (896 + 64 * half) (tolls1 k u (e ∷ [])))
+        → Within types rows measures under1 half 1 (896 + 64 * half) (tolls1 k u (e ∷ [])))
         → (o : Option ℕ) (b : Bool) → first_clash R t path ≡ o → is_dyn (R (last_type t steps)) ≡ b → Final o b
         → Weighs e t steps
     composes_at kind parts is w (Some label) b f d at = absurd (no (sym is ∙ at 0))
@@ -144,12 +146,12 @@ module _ (types : TypeRows) (table : IsOrderedTable types) (rows : List TypeCast
     composes_at kind parts is w None false f d at =
         much (edge_of kind parts t path s (subst (IsNormal R) is norm) f
         (λ k. subst (λ z. MiddleAgrees R (AgreesTo R k) z t path) is (at k))) 0 (inl refl)
-        (λ k u. wider types rows measures under1 half (896 + 64 * half) (half + 3) (896 + 64 * half + 0)
-        (tolls1 k u (e ∷ [])) (omega arith) (omega arith) (w k u))
+        (λ k u. wider types rows measures under1 half 1 (896 + 64 * half) (half + 3) (1 + 0) (896 + 64 * half + 896 * 0)
+        (tolls1 k u (e ∷ [])) (omega arith) (omega arith) (omega arith) (w k u))
 
     into_at : (kind : Kind) (parts : Coercions) (kept : ℕ) → e ≡ Inject (Middle kind parts) kept
         → ((k : ℕ) (u : CoerValue Coercion)
-        → Within types rows measures under1 (half + 3) (1792 + 64 * half) (tolls1 k u (e ∷ [])))
+        → Within types rows measures under1 (half + 3) 2 (1792 + 64 * half) (tolls1 k u (e ∷ [])))
         → (o : Option ℕ) (b : Bool) → first_clash R t path ≡ o → is_dyn (R (last_type t steps)) ≡ b → Final o b
         → Weighs e t steps
     into_at kind parts kept is w (Some label) b f d at = absurd (no (sym is ∙ at 0))
@@ -165,10 +167,9 @@ module _ (types : TypeRows) (table : IsOrderedTable types) (rows : List TypeCast
     into_at kind parts kept is w None true f d at =
         much (edge_of kind parts t path s (subst (IsNormal R) is norm).1 f
         (λ k. subst (λ z. MiddleAgrees R (AgreesTo R k) z t path) (ap (left_of types table rows) (sym (at k).1 ∙ is))
-        (at k).2)) 896
-        (inr (refl, f, d))
-        (λ k u. wider types rows measures under1 (half + 3) (1792 + 64 * half) (half + 3) (896 + 64 * half + 896)
-        (tolls1 k u (e ∷ [])) (omega arith) (omega arith) (w k u))
+        (at k).2)) 1 (inr (refl, f, d))
+        (λ k u. wider types rows measures under1 (half + 3) 2 (1792 + 64 * half) (half + 3) (1 + 1)
+        (896 + 64 * half + 896 * 1) (tolls1 k u (e ∷ [])) (omega arith) (omega arith) (omega arith) (w k u))
 
     by_weight : Weight types rows measures under1 e → Weighs e t steps
     by_weight (light w) = little w
@@ -193,9 +194,16 @@ module _ (types : TypeRows) (table : IsOrderedTable types) (rows : List TypeCast
           let p = cast_pays types rows measures under i v c cs in
           let a = p.most in
           let b = p.budget in
+          let c = p.acts in
           let x = (w k u).asks in
           let y = (w k u).budget in
-          record { asks = omega (arith, a, x); budget = omega (arith, b, y); frames = (w k u).frames }
+          let z = (w k u).acts in
+          record {
+            asks = omega (arith, a, x);
+            acts = omega (arith, c, z);
+            budget = omega (arith, b, y);
+            frames = (w k u).frames;
+          }
       of (much edge extra more w) =
           let pays : Pays types rows measures under Wraps extra (tolls (suc i) v (c ∷ cs)) =
           subst (λ z. Pays types rows measures under z extra (tolls (suc i) v (c ∷ cs))) edge.wraps
@@ -205,10 +213,17 @@ module _ (types : TypeRows) (table : IsOrderedTable types) (rows : List TypeCast
           in
           let a = pays.most in
           let b = pays.budget in
+          let acts = pays.acts in
           let x = (w k u).asks in
           let y = (w k u).budget in
+          let made = (w k u).acts in
           let z = two_halves in
-          record { asks = omega (arith, a, x, z); budget = omega (arith, b, y, z); frames = (w k u).frames }
+          record {
+            asks = omega (arith, a, x, z);
+            acts = omega (arith, acts, made);
+            budget = omega (arith, b, y, z);
+            frames = (w k u).frames;
+          }
 
   -- ---- casts of values in Dyn
 
@@ -219,9 +234,11 @@ module _ (types : TypeRows) (table : IsOrderedTable types) (rows : List TypeCast
       let w = keeps_within types rows measures under1 k u in
       let p = cast_pays types rows measures under i v c cs in
       let b = p.budget in
+      let c = p.acts in
       let x = w.asks in
       let y = w.budget in
-      record { asks = omega (arith, x); budget = omega (arith, b, y); frames = w.frames }
+      let z = w.acts in
+      record { asks = omega (arith, x); acts = omega (arith, c, z); budget = omega (arith, b, y); frames = w.frames }
 
   -- an opening composes where the cast from the kept type to the wanted one wraps
   opens_as : (kept wanted : ℕ) → (opening_of_kind (cast_kind (row_at types kept) (row_at types wanted)) ≡ Opens)
@@ -249,6 +266,10 @@ module _ (types : TypeRows) (table : IsOrderedTable types) (rows : List TypeCast
       × (effort_budget measures (opening_of_kind kind) ≤ 896 + 64 * half)
   effort_large Wraps = (omega arith, omega arith)
   effort_large _ = (omega arith, omega arith)
+
+  opening_acts : (kind : StepKind) → effort_acts (opening_of_kind kind) ≤ 1
+  opening_acts Wraps = omega arith
+  opening_acts _ = omega arith
 
   kind_small : (kind : StepKind) → 896 ≤ kind_budget measures (Some kind) 0
   kind_small Wraps = omega arith
@@ -279,44 +300,59 @@ module _ (types : TypeRows) (table : IsOrderedTable types) (rows : List TypeCast
 
     pays : (extra : ℕ) → OneMore extra (first_clash R kept (Edge label wanted rest))
         (is_dyn (R (last_type c.to (steps_of cs))))
-        → Pays types rows measures under (rows_kind (R kept) (R wanted)) (896 + extra) first
+        → Pays types rows measures under (rows_kind (R kept) (R wanted)) (suc extra) first
     pays extra ok =
         dyn_pays types rows measures under (suc i) v kept c cs dyn s j f label wanted rest path extra ok
 
     -- the opening, and then what is made of what was inside
-    opens_within : (a b a1 b1 : ℕ) → effort_asks measures opened ≤ a1 → effort_budget measures opened ≤ b1
-        → Within types rows measures under1 a b (tolls1 k u (e1 ∷ []))
-        → Within types rows measures under1 (a1 + a) (b1 + b) second
-    opens_within a b a1 b1 la lb w =
-        then_within types rows measures under1 (effort_asks measures opened) (effort_budget measures opened)
-        (suc (0 + under1)) a b a1 b1 (tolls1 k u (e1 ∷ [])) la lb (omega arith) w
+    opens_within : (a c b a1 b1 : ℕ) → effort_asks measures opened ≤ a1 → effort_budget measures opened ≤ b1
+        → Within types rows measures under1 a c b (tolls1 k u (e1 ∷ []))
+        → Within types rows measures under1 (a1 + a) (1 + c) (b1 + b) second
+    opens_within a c b a1 b1 la lb w =
+        then_within types rows measures under1 (effort_asks measures opened) (effort_acts opened)
+        (effort_budget measures opened) (suc (0 + under1)) a c b a1 1 b1 (tolls1 k u (e1 ∷ [])) la
+        (opening_acts (cast_kind (row_at types kept) (row_at types wanted))) lb (omega arith) w
 
     pub opens_fits : is_project e1 ≡ false → IsNormal R e1 → StandsFor R e1 kept (Edge label wanted more)
         → Fits under1 first second
     opens_fits p norm stands = of (weighs e1 kept (Edge label wanted more) s p norm stands)
       where
-        light_at : Within types rows measures under1 3 896 (tolls1 k u (e1 ∷ []))
+        light_at : Within types rows measures under1 3 1 896 (tolls1 k u (e1 ∷ []))
             → (opened ≡ Opens) ⊎ (rows_kind (R kept) (R wanted) ≡ Wraps) → Fits under1 first second
         light_at w (inl o) =
             let small = effort_small opened o in
-            let both = opens_within 3 896 13 896 small.0 small.1 w in
+            let both = opens_within 3 1 896 13 896 small.0 small.1 w in
             let a = (cast_pays types rows measures under i (RunInject v kept) c cs).most in
             let b = (pays 0 (inl refl)).budget in
+            let acts = (pays 0 (inl refl)).acts in
             let l = kind_small (rows_kind (R kept) (R wanted)) in
             let x = both.asks in
             let y = both.budget in
-            record { asks = omega (arith, a, x); budget = omega (arith, b, l, y); frames = both.frames }
+            let made = both.acts in
+            record {
+              asks = omega (arith, a, x);
+              acts = omega (arith, acts, made);
+              budget = omega (arith, b, l, y);
+              frames = both.frames;
+            }
         light_at w (inr wraps) =
             let large = effort_large (cast_kind (row_at types kept) (row_at types wanted)) in
-            let both = opens_within 3 896 (half + 13) (896 + 64 * half) large.0 large.1 w in
-            let pay : Pays types rows measures under Wraps (896 + 0) first =
-            subst (λ z. Pays types rows measures under z (896 + 0) first) wraps (pays 0 (inl refl)) in
+            let both = opens_within 3 1 896 (half + 13) (896 + 64 * half) large.0 large.1 w in
+            let pay : Pays types rows measures under Wraps (suc 0) first =
+            subst (λ z. Pays types rows measures under z (suc 0) first) wraps (pays 0 (inl refl)) in
             let a = pay.most in
             let b = pay.budget in
+            let acts = pay.acts in
             let x = both.asks in
             let y = both.budget in
+            let made = both.acts in
             let z = two_halves in
-            record { asks = omega (arith, a, x, z); budget = omega (arith, b, y, z); frames = both.frames }
+            record {
+              asks = omega (arith, a, x, z);
+              acts = omega (arith, acts, made);
+              budget = omega (arith, b, y, z);
+              frames = both.frames;
+            }
 
         of : Weighs e1 kept (Edge label wanted more) → Fits under1 first second
         of (little w) = light_at (w k u) (opens_as kept wanted)
@@ -336,13 +372,21 @@ module _ (types : TypeRows) (table : IsOrderedTable types) (rows : List TypeCast
             heavy_at : Fits under1 first second
             heavy_at =
                 let large = effort_large (cast_kind (row_at types kept) (row_at types wanted)) in
-                let both = opens_within (half + 3) (896 + 64 * half + extra) (half + 13) (896 + 64 * half) large.0
+                let both = opens_within (half + 3) (1 + extra) (896 + 64 * half + 896 * extra) (half + 13)
+                (896 + 64 * half) large.0
                 large.1 (w k u) in
-                let pay : Pays types rows measures under Wraps (896 + extra) first =
-                subst (λ z. Pays types rows measures under z (896 + extra) first) wraps (pays extra ok) in
+                let pay : Pays types rows measures under Wraps (suc extra) first =
+                subst (λ z. Pays types rows measures under z (suc extra) first) wraps (pays extra ok) in
                 let a = pay.most in
                 let b = pay.budget in
+                let acts = pay.acts in
                 let x = both.asks in
                 let y = both.budget in
+                let made = both.acts in
                 let z = two_halves in
-                record { asks = omega (arith, a, x, z); budget = omega (arith, b, y, z); frames = both.frames }
+                record {
+                  asks = omega (arith, a, x, z);
+                  acts = omega (arith, acts, made);
+                  budget = omega (arith, b, y, z);
+                  frames = both.frames;
+                }

@@ -94,10 +94,14 @@ module _ (types : TypeRows) (mode : Mode Coercion) (m : Measures) where
   effort_at (Return v) (OwnFrame (ProjDynFrame i label) ∷ k) = Some Opens
   effort_at _ k = None
 
-  -- what the next turn may ask for, and its budget in instructions
+  -- what the next turn may ask for, whether it makes a step of the calculus, 1 if it does, and its budget in
+  -- instructions
   abbrev pub merged_asks : CoerFocus Coercion → List (CoerFrame Coercion) → ℕ
   merged_asks focus k =
       by_effort (effort_at focus k) (effort_asks m) (other_asks m (turn_kind mode focus k) (made_words focus k))
+
+  abbrev pub merged_acts : CoerFocus Coercion → List (CoerFrame Coercion) → ℕ
+  merged_acts focus k = by_effort (effort_at focus k) effort_acts (kind_acts (turn_kind mode focus k))
 
   abbrev pub merged_budget : CoerFocus Coercion → List (CoerFrame Coercion) → ℕ
   merged_budget focus k =
@@ -117,9 +121,7 @@ module _ (types : TypeRows) (mode : Mode Coercion) (m : Measures) where
 
   abbrev pub next_merged : Tallied Coercion → RunState Coercion → Tallied Coercion
   next_merged s next = record {
-    acts =
-        s.acts + by_effort (effort_at s.state.focus s.state.frames) effort_acts
-        (kind_acts (turn_kind mode s.state.focus s.state.frames));
+    acts = s.acts + merged_acts s.state.focus s.state.frames;
     words = s.words + merged_asks s.state.focus s.state.frames;
     wraps = s.wraps + by_effort (effort_at s.state.focus s.state.frames) heavy_turns 0;
     elements = s.elements + kind_elements (turn_kind mode s.state.focus s.state.frames);
@@ -148,8 +150,9 @@ pub record NoMoreStorage (merged piled : Tally) : Type 0 where
   pub asks : merged.asks ≤ piled.asks
   pub frames : merged.frames ≤ piled.frames + 1
 
-abbrev pub NoMorePaid : Tally → Tally → Type 0
-NoMorePaid merged piled = merged.paid ≤ piled.paid
+pub record NoMoreSpent (merged piled : Tally) : Type 0 where
+  pub acts : merged.acts ≤ piled.acts
+  pub paid : merged.paid ≤ piled.paid
 
 -- a moment's words and frames are within the calculus's account
 pub record StorageBelow (tally : Tally) (account : Account) : Type 0 where

@@ -230,6 +230,11 @@ module _ {C : Type 0} (mode : Mode C) (m : Measures) where
 abbrev pub PaidBelow : Tally → Account → Type 0
 PaidBelow tally account = tally.paid + 128 * account.steps + 1024 ≤ 64 * account.work
 
+-- the turns that make a step are no more than the calculus's steps, and the instructions are within its work
+pub record SpentBelow (tally : Tally) (account : Account) : Type 0 where
+  pub acts : tally.acts ≤ account.steps
+  pub paid : PaidBelow tally account
+
 -- a moment's account is within the calculus's
 pub record Below (tally : Tally) (account : Account) : Type 0 where
   pub acts : tally.acts ≤ account.steps

@@ -8,42 +8,47 @@ use Rattle.coercion_norm.specs.Modes.{Mode}
 use Rattle.coercion_norm.specs.RunValues.{RunWrap, RunInject, shape_of}
 use Rattle.coercion_norm.specs.ValueSteps.{CastFrame, Return}
 use Rattle.coer_core.specs.Machine.{code_arity, CoerValue, CoerFocus, CoerFrame}
-use Rattle.coer_core.specs.Tally.{turn_kind, kind_asks, kind_budget, function_words, made_words}
-use Rattle.coer_core.specs.MergedTally.{merged_asks, merged_budget}
+use Rattle.coer_core.specs.Tally.{turn_kind, kind_asks, kind_budget, kind_acts, function_words, made_words}
+use Rattle.coer_core.specs.MergedTally.{merged_asks, merged_acts, merged_budget}
 
--- of some turns: the words that they ask for together, the most that one of them asks for, their budgets together, and
--- the most frames that wait at a time
+-- of some turns: the words that they ask for together, the most that one of them asks for, how many make a step of the
+-- calculus, their budgets together, and the most frames that wait at a time
 pub record Toll : Type 0 where
   pub asks : ℕ
   pub most : ℕ
+  pub acts : ℕ
   pub budget : ℕ
   pub frames : ℕ
 
 abbrev pub no_toll : Toll
-no_toll = record { asks = 0; most = 0; budget = 0; frames = 0 }
+no_toll = record { asks = 0; most = 0; acts = 0; budget = 0; frames = 0 }
 
 -- of one turn
-abbrev pub one_toll : ℕ → ℕ → ℕ → Toll
-one_toll asks budget frames = record { asks = asks; most = asks; budget = budget; frames = frames }
+abbrev pub one_toll : ℕ → ℕ → ℕ → ℕ → Toll
+one_toll asks acts budget frames =
+    record { asks = asks; most = asks; acts = acts; budget = budget; frames = frames }
 
 -- of turns and then others
 abbrev pub both_tolls : Toll → Toll → Toll
 both_tolls a b = record {
   asks = a.asks + b.asks;
   most = max a.most b.most;
+  acts = a.acts + b.acts;
   budget = a.budget + b.budget;
   frames = max a.frames b.frames;
 }
 
--- what a turn asks for and its budget, by where the run is
+-- what a turn asks for, whether it makes a step of the calculus, 1 if it does, and its budget, by where the run is
 pub record Price (C : Type 0) : Type 0 where
   pub asks : CoerFocus C → List (CoerFrame C) → ℕ
+  pub acts : CoerFocus C → List (CoerFrame C) → ℕ
   pub budget : CoerFocus C → List (CoerFrame C) → ℕ
 
 -- by the kinds of turns
 abbrev pub kind_price : {C : Type 0} → Mode C → Measures → Price C
 kind_price mode m = record {
   asks = λ focus k. kind_asks m (turn_kind mode focus k) (made_words focus k);
+  acts = λ focus k. kind_acts (turn_kind mode focus k);
   budget = λ focus k. kind_budget m (turn_kind mode focus k) (function_words focus);
 }
 
@@ -51,6 +56,7 @@ kind_price mode m = record {
 abbrev pub merged_price : TypeRows → Mode Coercion → Measures → Price Coercion
 merged_price types mode m = record {
   asks = λ focus k. merged_asks types mode m focus k;
+  acts = λ focus k. merged_acts types mode m focus k;
   budget = λ focus k. merged_budget types mode m focus k;
 }
 
@@ -68,7 +74,8 @@ toll_on go _ v casts = no_toll
 -- of a cast behind which these wait, over so many frames
 abbrev pub cast_toll : {C : Type 0} → Price C → ℕ → CoerValue C → C → List C → Toll
 cast_toll price under v cast casts =
-    one_toll (price.asks (Return v) (CastFrame cast ∷ [])) (price.budget (Return v) (CastFrame cast ∷ []))
+    one_toll (price.asks (Return v) (CastFrame cast ∷ [])) (price.acts (Return v) (CastFrame cast ∷ []))
+    (price.budget (Return v) (CastFrame cast ∷ []))
     (suc (length casts + under))
 
 -- of at most so many casts
@@ -79,9 +86,10 @@ pile_toll price under mode (suc n) v (cast ∷ casts) =
     both_tolls (cast_toll price under v cast casts)
     (toll_on (λ x cs. pile_toll price under mode n x cs) (mode.cast cast (shape_of code_arity v)) v casts)
 
--- what the first turns pay is enough for the others: one of them asks for as much as the others together, their budgets
--- are no less, and of the others two frames wait at most
+-- what the first turns pay is enough for the others: one of them asks for as much as the others together, as many of
+-- them make a step, their budgets are no less, and of the others two frames wait at most
 pub record Fits (under : ℕ) (first second : Toll) : Type 0 where
   pub asks : second.asks ≤ first.most
+  pub acts : second.acts ≤ first.acts
   pub budget : second.budget ≤ first.budget
   pub frames : second.frames ≤ under + 2
