@@ -1,5 +1,5 @@
 -- The account of a run in the merged mode: a cast composes coercions, so it asks for more at a time, and less often.
--- Other turns are as in any mode, but for a part of what is in Dyn and a new box, which ask for no more than they make.
+-- Other turns are as in any mode, but that a part of what is in Dyn asks for 13 words, and a new box for its two.
 use Rattle.std.specs.Prelude.{ℕ, ◌+◌, ◌*◌, ◌^◌, ◌≤◌, List, ◌∷◌, length, Option, Some, None}
 use Rattle.run_laws.specs.Runs.{Run}
 use Rattle.run_laws.specs.Reductions.{Reduction, reduction_run}
@@ -52,7 +52,7 @@ effort types c shape (Injecting kept) = Injects
 effort types c shape (Making d e) = Splits
 effort types c shape _ = Keeps
 
--- half of what a wrap step may ask for
+-- half of Z, of which a wrap step may ask for 16 words more than the whole
 abbrev pub half_charge : Measures → ℕ
 half_charge m = 16 * (m.width + 8) * (2 * m.width) ^ m.height
 
