@@ -27,7 +27,7 @@ use Rattle.closure_convert.specs.Conversion.{gather_let, sequence, own_procs, pr
 use Rattle.closure_convert.specs.Conversion.{entry_proc, converted}
 use Rattle.closure_convert.proofs.ProcPlaces.{HasAt}
 use Rattle.closure_convert.proofs.Relation.{none_some, same_some, Stands, StandsFor, StandsIn, StandsBy}
-use Rattle.closure_convert.proofs.Simulating.{meanings_long, names_long}
+use Rattle.closure_convert.proofs.Moves.{meanings_long, names_long}
 use Rattle.closure_convert.proofs.Standing.{program_stands, entry_stands}
 use Rattle.closure_convert.proofs.Fine.{count, Fine, FineFor, FineIn, FineBy}
 

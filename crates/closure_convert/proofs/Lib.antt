@@ -3,6 +3,7 @@ mod Relation
 mod States
 mod Agreeing
 mod Calling
+mod Moves
 mod Simulating
 mod Standing
 mod Fine

@@ -8,3 +8,4 @@ pub mod Converting
 pub mod Programs
 pub mod Uses
 pub mod Free
+pub mod FlatTally
