@@ -5,10 +5,12 @@ mod Agreeing
 mod Calling
 mod Moves
 mod Simulating
+mod Tallying
 mod Standing
 mod Fine
 mod Closing
 mod Typed
+mod TallyKept
 mod Examples
 mod Meeting
 mod Capturing

@@ -425,7 +425,7 @@ atom_term RowUnit = 1
 atom_term (RowVar name) = 1
 atom_term _ = 0
 
-atom_few : (term : RowTerm) → atom_term term ≤ 1
+pub atom_few : (term : RowTerm) → atom_term term ≤ 1
 atom_few (RowInt n) = omega arith
 atom_few term = omega arith
 

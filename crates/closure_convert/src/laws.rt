@@ -1,24 +1,31 @@
 // Laws of closure conversion. Each function has an empty body: its contract is a law, proved for all terms.
 
-ghost use Rattle.std.specs.Prelude.{◌≡◌, ◌++◌, Bool, cond, false, true, ℕ, List};
+ghost use Rattle.std.specs.Prelude.{◌≡◌, ◌++◌, Bool, cond, false, length, true, ℕ, List};
 ghost use Rattle.std.specs.List.{list_all};
+ghost use Rattle.run_laws.specs.Accounts.{FollowsWithin};
 ghost use Rattle.run_laws.specs.Runs.{Any, FollowsBy, NeverWrong};
-ghost use Rattle.type_graph.specs.TypeTables.{HaveWidths};
+ghost use Rattle.type_graph.specs.TypeTables.{HaveWidths, IsOrderedTable};
 ghost use Rattle.grift_base.specs.Tables.{HasNoRepeats};
 ghost use Rattle.grift_base.specs.Types.{TypeRows};
-ghost use Rattle.core_calc.specs.Account.{extent};
+ghost use Rattle.core_calc.specs.Account.{Measures, account, extent, measures_of};
+ghost use Rattle.core_calc.specs.Calculus.{Program};
 ghost use Rattle.core_calc.specs.Substitution.{is_among};
 ghost use Rattle.core_calc.specs.Typing.{ProgramTermHasType};
 ghost use Rattle.coercion_norm.specs.AnswerTypes.{Told};
 ghost use Rattle.coercion_norm.specs.MergedMode.{merging};
 ghost use Rattle.coercion_norm.specs.Modes.{TypeCast, piling};
 ghost use Rattle.coer_core.specs.Counts.{each_once, free_names, free_names_of_members, names_besides, run_in};
+ghost use Rattle.coer_core.specs.Counts.{told_of};
+ghost use Rattle.coer_core.specs.MergedTally.{merged_tally_in};
+ghost use Rattle.coer_core.specs.Tally.{tally_in};
 ghost use Rattle.coer_core.specs.Terms.{RowMembers, RowTerm, core_of};
 ghost use Rattle.flat_ir.specs.Closed.{is_closed};
 ghost use Rattle.flat_ir.specs.Counts.{flat_run_in};
 ghost use Rattle.flat_ir.specs.Levels.{HaveLevels};
 ghost use Rattle.closure_convert.specs.Bounds.{CountsKept};
 ghost use Rattle.closure_convert.specs.Conversion.{captures, converted, made};
+ghost use Rattle.closure_convert.specs.FlatTally.{FlatBelow, FlatPaidBelow, FlatPaidNear, KeepsTally, PaysTally};
+ghost use Rattle.closure_convert.specs.FlatTally.{flat_tally_in, merged_prices, piled_prices};
 ghost use Rattle.closure_convert.specs.Free.{is_free, is_free_in_a_member};
 ghost use Rattle.closure_convert.specs.Uses.{Use, has_few_operands, procs_uses, term_uses};
 
@@ -50,6 +57,54 @@ pub fn procedures_follow_their_term()
         → FollowsBy CountsKept Any
         (flat_run_in (converted term) (made term) (merging told.types casts) told input)
         (run_in (merging told.types casts) told term input) }
+{}
+
+/// The run of a term's procedures keeps within the account of the term's run, for every term without free names, with
+/// all measures, in both modes, where the given run never goes wrong. At moments that correspond the procedures have made
+/// no more acts, which are turns that make a step, and at most one body that is a name or a constant for each act of the
+/// term, and one; they have asked for no more words, those of the next turn with them, the next turn asks for no more, and
+/// no more frames are active. Where they have come to what the term's run has come to, the budgets of their turns, in
+/// instructions, are no more, with 64 for each act of the term, and for one.
+pub fn procedures_keep_within_their_terms_account()
+    ensures piled { (casts : List TypeCast) (m : Measures) (told : Told) (term : RowTerm) (input : List ℕ)
+        → ((name : ℕ) → is_among name (free_names term) ≡ false)
+        → NeverWrong (run_in (piling told.types casts) told term input)
+        → let mode = piling told.types casts in
+        FollowsWithin KeepsTally PaysTally
+        (flat_tally_in (converted term) (made term) mode (piled_prices mode m) told input)
+        (tally_in mode m told term input) }
+    ensures merged { (casts : List TypeCast) (m : Measures) (told : Told) (term : RowTerm) (input : List ℕ)
+        → ((name : ℕ) → is_among name (free_names term) ≡ false)
+        → NeverWrong (run_in (merging told.types casts) told term input)
+        → let mode = merging told.types casts in
+        FollowsWithin KeepsTally PaysTally
+        (flat_tally_in (converted term) (made term) mode (merged_prices told.types mode m) told input)
+        (merged_tally_in told.types mode m told term input) }
+{}
+
+/// So the procedures of each program term keep within the account of the calculus. Wherever they have come to, the
+/// calculus has come to the same output after n steps for some n, and the words that they have asked for, those of the
+/// next turn with them, are at most the charges of n + 1 steps; the next turn asks for no more than the charge of step
+/// n + 1; and at most `depth(n) + 1` frames are active, or in the merged mode, over types without cycles, `depth(n) + 2`.
+/// Wherever the calculus has come to, they come to it, and then the budgets of their turns, in instructions, are at most
+/// 64 times `work(n)`, with 64 to spare for each step and 960 for the start; in the merged mode 14 times the budgets are
+/// at most 960 times `work(n)`, with 1,920 to spare for each step and 14,464 for the start.
+pub fn procedures_keep_the_account()
+    ensures piled { (casts : List TypeCast) (program : Program) (term : RowTerm) (input : List ℕ) (type : ℕ)
+        → program.term ≡ core_of casts term
+        → ProgramTermHasType program.types (length program.labels) program.term type
+        → let mode = piling program.types casts in
+        FollowsWithin (FlatBelow 1) FlatPaidBelow
+        (flat_tally_in (converted term) (made term) mode (piled_prices mode (measures_of program))
+        (told_of program type) input) (account program input) }
+    ensures merged { (casts : List TypeCast) (program : Program) (term : RowTerm) (input : List ℕ) (type : ℕ)
+        → program.term ≡ core_of casts term
+        → ProgramTermHasType program.types (length program.labels) program.term type
+        → IsOrderedTable program.types
+        → let mode = merging program.types casts in
+        FollowsWithin (FlatBelow 2) FlatPaidNear
+        (flat_tally_in (converted term) (made term) mode (merged_prices program.types mode (measures_of program))
+        (told_of program type) input) (account program input) }
 {}
 
 /// At each place of a procedure of a program term at most as many local names are bound, its parameters among them, as

@@ -1,15 +1,17 @@
 // Programs of procedures.
 
-ghost use Rattle.std.specs.Prelude.{◌≡◌, ℕ, List, false, true, IfOk};
+ghost use Rattle.std.specs.Prelude.{◌≡◌, ℕ, List, false, length, true, IfOk};
+ghost use Rattle.run_laws.specs.Accounts.{FollowsWithin};
 ghost use Rattle.run_laws.specs.Runs.{Any, FollowsBy, NeverWrong};
-ghost use Rattle.type_graph.specs.TypeTables.{HaveWidths};
+ghost use Rattle.type_graph.specs.TypeTables.{HaveWidths, IsOrderedTable};
 ghost use Rattle.grift_base.specs.Types.{TypeRows};
-ghost use Rattle.core_calc.specs.Account.{extent};
+ghost use Rattle.core_calc.specs.Account.{account, extent, measures_of};
+ghost use Rattle.core_calc.specs.Calculus.{Program};
 ghost use Rattle.core_calc.specs.Typing.{ProgramTermHasType};
 ghost use Rattle.coercion_norm.specs.AnswerTypes.{Told};
 ghost use Rattle.coercion_norm.specs.MergedMode.{merging};
 ghost use Rattle.coercion_norm.specs.Modes.{TypeCast, piling};
-ghost use Rattle.coer_core.specs.Counts.{run_in};
+ghost use Rattle.coer_core.specs.Counts.{run_in, told_of};
 ghost use Rattle.coer_core.specs.Terms.{core_of};
 ghost use Rattle.coer_core.specs.Views.{row_term_of};
 ghost use Rattle.flat_ir.specs.Closed.{is_closed};
@@ -18,6 +20,8 @@ ghost use Rattle.flat_ir.specs.Levels.{HaveLevels};
 ghost use Rattle.flat_ir.specs.Views.{procs_of};
 ghost use Rattle.closure_convert.specs.Bounds.{CountsKept};
 ghost use Rattle.closure_convert.specs.Conversion.{converted, made};
+ghost use Rattle.closure_convert.specs.FlatTally.{FlatBelow, FlatPaidBelow, FlatPaidNear, flat_tally_in};
+ghost use Rattle.closure_convert.specs.FlatTally.{merged_prices, piled_prices};
 ghost use Rattle.closure_convert.specs.Programs.{HasNoFreeNames};
 
 use crate::conversion::Converter;
@@ -31,7 +35,9 @@ use std::alloc::Global;
 /// with environments, for all casts and every input, in both modes, where that never goes wrong: both have made as
 /// many wrap steps at moments that correspond, and words asked for, active frames and turns are bounded by those of
 /// the given run. Where the term reads back to a program term, each procedure has at most as many local names at a time
-/// as that has nodes and binders, and where no type is too wide, the procedures are closed.
+/// as that has nodes and binders, and where no type is too wide, the procedures are closed; and their run keeps within the
+/// account of the calculus: for all casts and every input in the piled mode, and in the merged mode over types without
+/// cycles.
 pub fn convert(alloc: Global, program: &CoerProgram) -> Result<FlatProgram, OutOfMemory>
     ensures procs { IfOk result (λ flat. HasNoFreeNames (row_term_of program.now.body)
         → procs_of flat.procs ≡ converted (row_term_of program.now.body)) }
@@ -43,6 +49,21 @@ pub fn convert(alloc: Global, program: &CoerProgram) -> Result<FlatProgram, OutO
     ensures levels { IfOk result (λ flat. (casts : List TypeCast) (types : TypeRows) (labels : ℕ) (type : ℕ)
         → let core = core_of casts (row_term_of program.now.body) in
         ProgramTermHasType types labels core type → HaveLevels (extent core) (procs_of flat.procs)) }
+    ensures account { IfOk result (λ flat. (casts : List TypeCast) (source : Program) (input : List ℕ) (type : ℕ)
+        → source.term ≡ core_of casts (row_term_of program.now.body)
+        → ProgramTermHasType source.types (length source.labels) source.term type
+        → let mode = piling source.types casts in
+        FollowsWithin (FlatBelow 1) FlatPaidBelow
+        (flat_tally_in (procs_of flat.procs) flat.entry mode (piled_prices mode (measures_of source))
+        (told_of source type) input) (account source input)) }
+    ensures merged_account { IfOk result (λ flat. (casts : List TypeCast) (source : Program) (input : List ℕ) (type : ℕ)
+        → source.term ≡ core_of casts (row_term_of program.now.body)
+        → ProgramTermHasType source.types (length source.labels) source.term type
+        → IsOrderedTable source.types
+        → let mode = merging source.types casts in
+        FollowsWithin (FlatBelow 2) FlatPaidNear
+        (flat_tally_in (procs_of flat.procs) flat.entry mode (merged_prices source.types mode (measures_of source))
+        (told_of source type) input) (account source input)) }
     ensures piled { IfOk result (λ flat. HasNoFreeNames (row_term_of program.now.body)
         → (casts : List TypeCast) (told : Told) (input : List ℕ)
         → NeverWrong (run_in (piling told.types casts) told (row_term_of program.now.body) input)
