@@ -20,11 +20,15 @@ use Rattle.core_calc.specs.Calculus.{answer, Program}
 use Rattle.coercion_norm.specs.Modes.{piling}
 use Rattle.coercion_norm.specs.MergedMode.{merging}
 use Rattle.coer_core.specs.Conversion.{converted as rows_of}
+use Rattle.core_calc.specs.Account.{measures_of}
 use Rattle.coer_core.specs.Counts.{told_of}
+use Rattle.coer_core.specs.MergedTally.{merged_tally_in}
+use Rattle.coer_core.specs.Tally.{Tally, tally_in}
 use Rattle.flat_ir.specs.Closed.{is_closed}
 use Rattle.flat_ir.specs.Counts.{flat_run_in}
 use Rattle.coer_core.specs.Terms.{RowVar, RowCall, RowPrim, NoRowTerms, RowTermThen, NoRowMembers, RowMemberThen}
 use Rattle.closure_convert.specs.Conversion.{captures, converted, made}
+use Rattle.closure_convert.specs.FlatTally.{FlatTally, flat_tally_in, piled_prices, merged_prices}
 
 abbrev types : TypeRows
 types =
@@ -285,3 +289,79 @@ captured_in_order : captures (0 ∷ 1 ∷ [])
     (RowMemberThen 1 (3 ∷ []) (RowCall (RowVar 0) (RowTermThen (RowVar 5) (RowTermThen (RowVar 7) NoRowTerms))) 3
     NoRowMembers)) ≡ 7 ∷ 5 ∷ []
 captured_in_order = refl
+
+-- ---- accounts
+
+-- of the procedures: acts, bodies that are a name or a constant, words and instructions
+abbrev Shows : FlatTally → ℕ → ℕ → ℕ → ℕ → Type 0
+Shows flat acts atoms words paid =
+    (flat.acts ≡ acts) × (flat.atoms ≡ atoms) × (flat.words ≡ words) × (flat.paid ≡ paid)
+
+-- and of the term: acts, words and instructions
+abbrev ShowsOwn : Tally → ℕ → ℕ → ℕ → Type 0
+ShowsOwn tally acts words paid = (tally.acts ≡ acts) × (tally.words ≡ words) × (tally.paid ≡ paid)
+
+-- after 150 turns, in the piled mode
+abbrev piled_flat : Term → ℕ → FlatTally
+piled_flat term type =
+    let rows = rows_of [] term in
+    let mode = piling types rows.casts in
+    (flat_tally_in (converted rows.term) (made rows.term) mode (piled_prices mode (measures_of (program term)))
+    (told_of (program term) type) [] 150).shown
+
+abbrev piled_own : Term → ℕ → Tally
+piled_own term type =
+    let rows = rows_of [] term in
+    (tally_in (piling types rows.casts) (measures_of (program term)) (told_of (program term) type) rows.term []
+    150).shown
+
+-- and merged
+abbrev merged_flat : Term → ℕ → FlatTally
+merged_flat term type =
+    let rows = rows_of [] term in
+    let mode = merging types rows.casts in
+    (flat_tally_in (converted rows.term) (made rows.term) mode (merged_prices types mode (measures_of (program term)))
+    (told_of (program term) type) [] 150).shown
+
+abbrev merged_own : Term → ℕ → Tally
+merged_own term type =
+    let rows = rows_of [] term in
+    (merged_tally_in types (merging types rows.casts) (measures_of (program term)) (told_of (program term) type)
+    rows.term [] 150).shown
+
+-- a constant alone is one body, and no act
+one_constant : Shows (piled_flat (int 1) 0) 0 1 0 64
+    × ShowsOwn (piled_own (int 1) 0) 0 0 0
+one_constant = ((refl, refl, refl, refl), (refl, refl, refl))
+
+-- each part is a body of its own, for which the procedures make no act: the term does
+begun_parts : Shows (piled_flat (Tuple (two (Seq (one (int 1))) (Seq (one (int 2))))) 11) 1 2 3 1024
+    × ShowsOwn (piled_own (Tuple (two (Seq (one (int 1))) (Seq (one (int 2))))) 11) 3 3 2688
+begun_parts = ((refl, refl, refl, refl), (refl, refl, refl))
+
+-- a call through a wrapper
+called_piled : Shows (piled_flat (Call wide_identity (one (Cast (int 5) 0 2 1))) 2) 9 2 12754 819328
+    × ShowsOwn (piled_own (Call wide_identity (one (Cast (int 5) 0 2 1))) 2) 9 12754 819200
+called_piled = ((refl, refl, refl, refl), (refl, refl, refl))
+
+called_merged : Shows (merged_flat (Call wide_identity (one (Cast (int 5) 0 2 1))) 2) 9 2 6357 413824
+    × ShowsOwn (merged_own (Call wide_identity (one (Cast (int 5) 0 2 1))) 2) 9 6357 413696
+called_merged = ((refl, refl, refl, refl), (refl, refl, refl))
+
+vector_piled : Shows (piled_flat (Prim VectorLength (one (Prim MakeVector (two (int 3) (int 8))))) 0) 2 0 4 1984
+    × ShowsOwn (piled_own (Prim VectorLength (one (Prim MakeVector (two (int 3) (int 8))))) 0) 2 4 1984
+vector_piled = ((refl, refl, refl, refl), (refl, refl, refl))
+
+-- a part of a tuple in Dyn
+part_piled : Shows (piled_flat (ProjDyn (Cast (Tuple (two (int 4) (BoolLit true))) 11 2 0) (pos 1) 1) 2) 5 0 51 4480
+    × ShowsOwn (piled_own (ProjDyn (Cast (Tuple (two (int 4) (BoolLit true))) 11 2 0) (pos 1) 1) 2) 5 51 4480
+part_piled = ((refl, refl, refl, refl), (refl, refl, refl))
+
+part_merged : Shows (merged_flat (ProjDyn (Cast (Tuple (two (int 4) (BoolLit true))) 11 2 0) (pos 1) 1) 2) 5 0 22 4480
+    × ShowsOwn (merged_own (ProjDyn (Cast (Tuple (two (int 4) (BoolLit true))) 11 2 0) (pos 1) 1) 2) 5 22 4480
+part_merged = ((refl, refl, refl, refl), (refl, refl, refl))
+
+-- a new box asks for two words, and the rest is that of casts
+box_merged : Shows (merged_flat (Prim Unbox (one (Cast (Prim MakeBox (one (int 1))) 7 8 0))) 2) 5 0 6341 409984
+    × ShowsOwn (merged_own (Prim Unbox (one (Cast (Prim MakeBox (one (int 1))) 7 8 0))) 2) 5 6341 409984
+box_merged = ((refl, refl, refl, refl), (refl, refl, refl))
