@@ -3,22 +3,21 @@ use Rattle.std.proofs.Common.{◌≡◌, ◌⊎◌, inl, inr, ℕ, suc, ◌+◌,
 use Rattle.std.proofs.Common.{true}
 use Rattle.std.proofs.Common.{false, cond, List, [], ◌∷◌, ◌++◌, length, Option, Some, None, slice_get}
 use Rattle.std.proofs.Common.{option_map}
-use Rattle.std.proofs.Common.{refl, sym, ap, ap₂, ◌∙◌, subst, arith, append-nil, eq-eqb, le_refl, if◌then◌else◌}
+use Rattle.std.proofs.Common.{refl, sym, ap, ◌∙◌, subst, arith, append-nil, eq-eqb, le_refl}
 use Rattle.std.proofs.lemmas.List.{append_assoc}
-use Rattle.run_laws.specs.Runs.{Ending, Any, Wrong, Exhausted, Verdict as EndsWith}
+use Rattle.run_laws.specs.Runs.{Ending, Wrong, Exhausted, Verdict as EndsWith}
 use Rattle.run_laws.specs.Machines.{UnlessWrong}
 use Rattle.grift_base.specs.World.{WorldState}
 use Rattle.grift_base.specs.declared.places.Pos.{Pos}
-use Rattle.grift_base.specs.declared.verdicts.Verdict.{Verdict}
-use Rattle.grift_base.specs.declared.verdicts.Verdict.TheVariants.{Answer as AnswerVerdict, Trap as TrapVerdict}
+use Rattle.grift_base.specs.declared.verdicts.Verdict.TheVariants.{Trap as TrapVerdict}
 use Rattle.grift_base.specs.declared.operators.PrimOp.{PrimOp}
 use Rattle.grift_base.specs.declared.operators.PrimOp.TheVariants.{MakeBox, MakeVector}
 use Rattle.core_calc.specs.Substitution.{is_among}
-use Rattle.core_calc.specs.Calculus.{CalcEnd, Answered, Blamed, Trapped, NoStep, blame_at}
+use Rattle.core_calc.specs.Calculus.{CalcEnd, Blamed, Trapped, NoStep, blame_at}
 use Rattle.coercion_norm.specs.Modes.{Mode, Decision, Keeping, Wrapping, Rewrapping, Unwrapping, Injecting, Opening}
 use Rattle.coercion_norm.specs.Modes.{Making, Blaming, NoCast, DynPart, PartCast, NoPart, NoType}
 use Rattle.coercion_norm.specs.RunValues.{RunInt, RunBool, RunUnit, RunFun, RunTuple, RunLoc, RunWrap, RunInject}
-use Rattle.coercion_norm.specs.RunValues.{RunValue, Pending, in_row, all_plain, shown, shape_of}
+use Rattle.coercion_norm.specs.RunValues.{RunValue, Pending, in_row, all_plain, shape_of}
 use Rattle.coercion_norm.specs.ValueSteps.{CastFrame, ProjFrame, PrimFrame, EnterFrame, OwnFrame, Own, Return, Entering}
 use Rattle.coercion_norm.specs.ValueSteps.{On, BlameOf, TrapOf, NoNext, on_some, onto, goes, gives, make}
 use Rattle.coercion_norm.specs.ValueSteps.{run_cast, enter, run_proj, run_proj_dyn, operate, decision_words}
@@ -77,7 +76,7 @@ use Rattle.closure_convert.proofs.States.{Gathers, Binds, Taken, FrameOn, Wait, 
 use Rattle.closure_convert.proofs.States.{InCode, Pends}
 use Rattle.closure_convert.proofs.States.{AsOperand, FocusOn, knows_later}
 use Rattle.closure_convert.proofs.States.{carried_later}
-use Rattle.closure_convert.proofs.Agreeing.{int_carried, bool_carried, same_shape, same_shown, same_fits, as_long}
+use Rattle.closure_convert.proofs.Agreeing.{int_carried, bool_carried, same_shape, as_long}
 use Rattle.closure_convert.proofs.Agreeing.{list_parts, onto_carried, Agree, a_gives, a_cast, a_proj}
 use Rattle.closure_convert.proofs.Agreeing.{a_proj_dyn, a_operate}
 use Rattle.closure_convert.proofs.Calling.{pends_all, a_enter}

@@ -16,7 +16,7 @@ use Rattle.core_calc.specs.Calculus.{CalcEnd, Answered, NoStep}
 use Rattle.coercion_norm.specs.Modes.{Mode}
 use Rattle.coercion_norm.specs.RunValues.{shown}
 use Rattle.coercion_norm.specs.ValueSteps.{Own, Return, Entering}
-use Rattle.coercion_norm.specs.ValueSteps.{On, gives, make}
+use Rattle.coercion_norm.specs.ValueSteps.{On}
 use Rattle.coercion_norm.specs.AnswerTypes.{Told}
 use Rattle.coer_core.specs.Machine.{CoerValue, CoerStore}
 use Rattle.coer_core.specs.Machine.{CoerFrame, CoerFocus, CoerAfter}
@@ -32,7 +32,6 @@ use Rattle.flat_ir.specs.Machine.{flat_turn}
 use Rattle.flat_ir.specs.Machine.{FlatState, answer_at, flat_state_at, after_flat}
 use Rattle.flat_ir.specs.Counts.{flat_turn_words, flat_turn_wraps, FlatCounts, FlatCounted}
 use Rattle.flat_ir.specs.Counts.{flat_counting}
-use Rattle.closure_convert.specs.Conversion.{made}
 use Rattle.closure_convert.specs.Bounds.{CountsKept}
 use Rattle.closure_convert.proofs.States.{Cells}
 use Rattle.closure_convert.proofs.States.{FocusOn}

@@ -1,46 +1,43 @@
 -- The procedures of a term keep within the account of its run in both modes, and so within the calculus's.
-use Rattle.std.proofs.Common.{◌≡◌, ◌⊎◌, inl, inr, ℕ, zero, suc, ◌+◌, ◌*◌, ◌≤◌, List, [], ◌∷◌, length, Option, Some, None}
-use Rattle.std.proofs.Common.{slice_get, option_map, refl, sym, ap, ◌∙◌, subst, arith, if◌then◌else◌, Bool, true, false}
-use Rattle.run_laws.specs.Runs.{Run, Moment, Ending, Exhausted, Wrong, Verdict as EndsWith, NeverWrong, Backed, Reached}
-use Rattle.run_laws.specs.Runs.{Agrees, Any, FollowsBy, Through}
+use Rattle.std.proofs.Common.{◌≡◌, inl, ℕ, zero, suc, ◌+◌, List, [], ◌∷◌, length, Option, Some, None}
+use Rattle.std.proofs.Common.{refl, sym, ap, ◌∙◌, subst, arith}
+use Rattle.run_laws.specs.Runs.{Run, Ending, NeverWrong}
+use Rattle.run_laws.specs.Runs.{Through}
 use Rattle.run_laws.specs.Accounts.{FollowsWithin}
 use Rattle.run_laws.specs.Reductions.{Reduction, unless_ended, state_after, reduction_run}
-use Rattle.run_laws.proofs.Public.{within_trans}
+use Rattle.run_laws.proofs.Public.{within_of, within_trans}
 use Rattle.grift_base.specs.Types.{TypeRows}
-use Rattle.grift_base.specs.declared.places.Pos.{Pos}
 use Rattle.grift_base.specs.declared.verdicts.Verdict.{Verdict}
 use Rattle.type_graph.specs.TypeTables.{IsOrderedTable}
 use Rattle.core_calc.specs.Redex.{where_some}
-use Rattle.core_calc.specs.Account.{Measures, StepKind, Wraps, Casts, Makes, MakesVector, Multiplies, Acts, Account}
+use Rattle.core_calc.specs.Account.{Measures, StepKind, Account}
 use Rattle.core_calc.specs.Account.{measures_of, account}
-use Rattle.core_calc.specs.Calculus.{CalcEnd, Answered, Blamed, Trapped, NoStep, Program, blame_at}
+use Rattle.core_calc.specs.Calculus.{Program}
 use Rattle.core_calc.specs.Typing.{ProgramTermHasType}
 use Rattle.coercion_norm.specs.Coercions.{Coercion}
 use Rattle.coercion_norm.specs.MergedMode.{merging}
 use Rattle.coercion_norm.specs.Modes.{Mode, TypeCast, piling}
 use Rattle.coercion_norm.specs.RunValues.{RunUnit}
-use Rattle.coercion_norm.specs.ValueSteps.{CastFrame, OwnFrame, Own, Return, Entering}
-use Rattle.coercion_norm.specs.AnswerTypes.{Told, fits_type}
+use Rattle.coercion_norm.specs.ValueSteps.{CastFrame, OwnFrame, Own, Return}
+use Rattle.coercion_norm.specs.AnswerTypes.{Told}
 use Rattle.coer_core.specs.Counts.{counting, uncounted, run_in, told_of}
-use Rattle.coer_core.specs.Machine.{code_arity, CoerFrame, CoerFocus, ProjDynFrame, RunState, running, run_start}
-use Rattle.coer_core.specs.Machine.{ending_at}
+use Rattle.coer_core.specs.Machine.{CoerFrame, CoerFocus, ProjDynFrame, RunState, running, run_start}
 use Rattle.coer_core.specs.MergedTally.{effort_at, effort_acts, merged_asks, merged_budget, by_effort, merged_tallying}
-use Rattle.coer_core.specs.MergedTally.{merged_tally_in, StorageBelow, Effort, Heavy, Opens, Injects, Splits, Keeps}
-use Rattle.coer_core.specs.MergedTally.{effort_budget}
+use Rattle.coer_core.specs.MergedTally.{merged_tally_in, StorageBelow}
 use Rattle.coer_core.specs.Tally.{Tally, Tallied, turn_kind, kind_acts, made_words, function_words, untallied, tallying}
-use Rattle.coer_core.specs.Tally.{tally_in, Below, PaidBelow, kind_budget}
+use Rattle.coer_core.specs.Tally.{tally_in, Below, SpentBelow}
 use Rattle.coer_core.specs.Terms.{RowTerm, core_of}
 use Rattle.coer_core.proofs.Public.{piled_runs_follow_the_calculus-never_wrong, piled_runs_keep_the_account}
 use Rattle.coer_core.proofs.Public.{merged_runs_follow_the_calculus-never_wrong, merged_runs_keep_the_account}
 use Rattle.flat_ir.specs.Bodies.{Body}
 use Rattle.flat_ir.specs.Machine.{FlatState, Inside, new_group, first_world, flat_state_at, flat_start, entry_body}
 use Rattle.closure_convert.specs.Conversion.{nothing_known, made, converted, code}
-use Rattle.closure_convert.specs.FlatTally.{Cost, Prices, kind_cost, effort_cost, piled_prices, merged_prices, FlatTally, KeepsTally}
-use Rattle.closure_convert.specs.FlatTally.{PaysTally, FlatBelow, FlatPaidBelow, FlatPaidNear, flat_tally_in, flat_untallied}
+use Rattle.closure_convert.specs.FlatTally.{Cost, Prices, kind_cost, piled_prices, merged_prices, FlatTally, KeepsTally}
+use Rattle.closure_convert.specs.FlatTally.{PaysTally, FlatBelow, FlatPaidBelow, flat_tally_in, flat_untallied}
 use Rattle.closure_convert.proofs.Relation.{none_some, false_true}
 use Rattle.closure_convert.proofs.Standing.{IsClosedTerm, program_stands, entry_stands}
 use Rattle.closure_convert.proofs.Moves.{coer_cost, atom_few, size_of}
-use Rattle.closure_convert.proofs.Tallying.{Tallies, PaysWorth, Related, keeps_tally}
+use Rattle.closure_convert.proofs.Tallying.{Tallies, Related, keeps_tally}
 use Rattle.closure_convert.proofs.Typed.{typed_closed}
 
 -- ---- a run that adds up something has the endings of the run itself
@@ -64,33 +61,6 @@ module _ {C S A : Type 0} (mode : Mode C) (told : Told) (M : Reduction S A Verdi
       → (reduction_run M s n).ending ≡ (reduction_run (running mode told) (state s) n).ending
   same_ending n s = ending (state_after M s n) ∙ ap (running mode told).ending (same_state n s)
 
-module _ {C : Type 0} (mode : Mode C) (told : Told) (term : RowTerm) (input : List ℕ) where
-  -- no such run is exhausted
-  no_room : (o : Option Pos) → blame_at o ≡ Exhausted → ⊥
-  no_room None e = cc
-  no_room (Some place) e = cc
-
-  fits_or_not : (b : Bool) (x : Ending Verdict) → (x ≡ Exhausted → ⊥) → (if b then x else Wrong) ≡ Exhausted → ⊥
-  fits_or_not true x h e = h e
-  fits_or_not false x h e = cc
-
-  not_exhausted : (end : CalcEnd) (focus : CoerFocus C) → ending_at told end focus ≡ Exhausted → ⊥
-  not_exhausted (Answered answer) (Return v) e =
-      fits_or_not (fits_type code_arity told.types v told.answer) _ (λ h. cc) e
-  not_exhausted (Answered answer) (Own place) e = cc
-  not_exhausted (Answered answer) (Entering f done todo) e = cc
-  not_exhausted (Blamed label) focus e = no_room (slice_get told.labels label) e
-  not_exhausted (Trapped trap) focus e = cc
-  not_exhausted NoStep focus e = cc
-
-  some_exhausted : (e : Ending Verdict) → Some e ≡ Some Exhausted → e ≡ Exhausted
-  some_exhausted e h = cc
-
-  never_exhausted : (o : Option CalcEnd) (focus : CoerFocus C)
-      → option_map (λ end. ending_at told end focus) o ≡ Some Exhausted → ⊥
-  never_exhausted None focus e = cc
-  never_exhausted (Some end) focus e = not_exhausted end focus (some_exhausted _ e)
-
 -- ---- what turns cost in both modes
 
 piled_cost : {C : Type 0} (mode : Mode C) (m : Measures) (focus : CoerFocus C) (k : List (CoerFrame C))
@@ -103,29 +73,6 @@ piled_cost mode m focus k = refl
 pub piled_act : {C : Type 0} (mode : Mode C) (m : Measures) (kind : StepKind) (a b : ℕ)
     → ((piled_prices mode m).other (Some kind) a b).acts ≡ 1
 piled_act mode m kind a b = refl
-
-kind_worth : (m : Measures) (kind : Option StepKind) (made functions : ℕ)
-    → 896 * (kind_cost m kind made functions).acts ≤ (kind_cost m kind made functions).budget
-kind_worth m None made functions = omega arith
-kind_worth m (Some Wraps) made functions = omega arith
-kind_worth m (Some Casts) made functions = omega arith
-kind_worth m (Some Makes) made functions = omega arith
-kind_worth m (Some (MakesVector k)) made functions = omega arith
-kind_worth m (Some Multiplies) made functions = omega arith
-kind_worth m (Some Acts) made functions = omega arith
-
-pub piled_worth : {C : Type 0} (mode : Mode C) (m : Measures) (focus : CoerFocus C) (k : List (CoerFrame C))
-    → 896 * (coer_cost mode (piled_prices mode m) focus k).acts ≤ (coer_cost mode (piled_prices mode m) focus k).budget
-piled_worth mode m focus k =
-    subst (λ (c : Cost). 896 * c.acts ≤ c.budget) (piled_cost mode m focus k)
-    (kind_worth m (turn_kind mode focus k) (made_words focus k) (function_words focus))
-
-effort_worth : (m : Measures) (e : Effort) → 896 * (effort_cost m e).acts ≤ (effort_cost m e).budget
-effort_worth m Heavy = omega arith
-effort_worth m Opens = omega arith
-effort_worth m Injects = omega arith
-effort_worth m Splits = omega arith
-effort_worth m Keeps = omega arith
 
 pub piled_tallies : {C : Type 0} (mode : Mode C) (m : Measures) (told : Told)
     → Tallies mode told (piled_prices mode m) (tallying mode m told)
@@ -161,17 +108,6 @@ module _ (types : TypeRows) (mode : Mode Coercion) (m : Measures) where
   pub merged_act : (kind : StepKind) (a b : ℕ) → ((merged_prices types mode m).other (Some kind) a b).acts ≡ 1
   merged_act kind a b = refl
 
-  pub merged_worth : (focus : CoerFocus Coercion) (k : List (CoerFrame Coercion))
-      → 896 * (coer_cost mode (merged_prices types mode m) focus k).acts
-      ≤ (coer_cost mode (merged_prices types mode m) focus k).budget
-  merged_worth focus k =
-      subst (λ (c : Cost). 896 * c.acts ≤ c.budget) (merged_cost focus k) (by (effort_at types mode m focus k))
-    where
-      by : (o : Option Effort) → 896 * by_effort o effort_acts (kind_acts (turn_kind mode focus k))
-          ≤ by_effort o (effort_budget m) (kind_budget m (turn_kind mode focus k) (function_words focus))
-      by (Some e) = effort_worth m e
-      by None = kind_worth m (turn_kind mode focus k) 0 (function_words focus)
-
   pub merged_tallies : (told : Told)
       → Tallies mode told (merged_prices types mode m) (merged_tallying types mode m told)
   merged_tallies told = record {
@@ -193,8 +129,6 @@ module _ (types : TypeRows) (mode : Mode Coercion) (m : Measures) where
 
 module _ {C : Type 0} (mode : Mode C) (told : Told) (term : RowTerm) (input : List ℕ) (prices : Prices C)
     (act : (kind : StepKind) (a b : ℕ) → (prices.other (Some kind) a b).acts ≡ 1)
-    (worth : (focus : CoerFocus C) (k : List (CoerFrame C))
-    → 896 * (coer_cost mode prices focus k).acts ≤ (coer_cost mode prices focus k).budget)
     (M : Reduction (Tallied C) Tally Verdict) (tallies : Tallies mode told prices M) where
   start_of : Body → FlatState C
   start_of body =
@@ -202,7 +136,7 @@ module _ {C : Type 0} (mode : Mode C) (told : Told) (term : RowTerm) (input : Li
       (first_world input)
 
   starts : IsClosedTerm term
-      → Related (converted term) mode told prices act worth M tallies
+      → Related (converted term) mode told prices act M tallies
       (size_of (converted term) mode told (run_start {C = C} term input)) (untallied (run_start term input))
       (flat_untallied (flat_start (converted term) told (made term) input))
   unfolding start_of
@@ -238,7 +172,6 @@ module _ {C : Type 0} (mode : Mode C) (told : Told) (term : RowTerm) (input : Li
         acts = omega arith;
         atoms = omega (arith, few);
         paid = omega arith;
-        held = omega arith;
       }
 
   -- the given run never goes wrong with its account either
@@ -251,33 +184,32 @@ module _ {C : Type 0} (mode : Mode C) (told : Told) (term : RowTerm) (input : Li
       ∙ e))
 
   pub converted_keeps : IsClosedTerm term → NeverWrong (run_in mode told term input)
-      → FollowsWithin KeepsTally PaysWorth (flat_tally_in (converted term) (made term) mode prices told input)
+      → FollowsWithin KeepsTally PaysTally (flat_tally_in (converted term) (made term) mode prices told input)
       (reduction_run M (untallied (run_start term input)))
   converted_keeps closed never =
-      keeps_tally (converted term) mode told prices act worth M tallies
+      keeps_tally (converted term) mode told prices act M tallies
       (size_of (converted term) mode told (run_start {C = C} term input)) (untallied (run_start term input))
       (flat_untallied (flat_start (converted term) told (made term) input)) (starts closed) (still_right never)
 
 module _ (casts : List TypeCast) (m : Measures) (told : Told) (term : RowTerm) (input : List ℕ)
     (closed : IsClosedTerm term) where
   pub piled_procedures_keep : NeverWrong (run_in (piling told.types casts) told term input)
-      → FollowsWithin KeepsTally PaysWorth
+      → FollowsWithin KeepsTally PaysTally
       (flat_tally_in (converted term) (made term) (piling told.types casts) (piled_prices (piling told.types casts) m)
       told input) (tally_in (piling told.types casts) m told term input)
   piled_procedures_keep never =
       let mode = piling told.types casts in
-      converted_keeps mode told term input (piled_prices mode m) (piled_act mode m) (piled_worth mode m) (tallying mode m told)
-      (piled_tallies mode m told) closed never
+      converted_keeps mode told term input (piled_prices mode m) (piled_act mode m)
+      (tallying mode m told) (piled_tallies mode m told) closed never
 
   pub merged_procedures_keep : NeverWrong (run_in (merging told.types casts) told term input)
-      → FollowsWithin KeepsTally PaysWorth
+      → FollowsWithin KeepsTally PaysTally
       (flat_tally_in (converted term) (made term) (merging told.types casts)
       (merged_prices told.types (merging told.types casts) m) told input)
       (merged_tally_in told.types (merging told.types casts) m told term input)
   merged_procedures_keep never =
       let mode = merging told.types casts in
       converted_keeps mode told term input (merged_prices told.types mode m) (merged_act told.types mode m)
-      (merged_worth told.types mode m)
       (merged_tallying told.types mode m told) (merged_tallies told.types mode m told) closed never
 
 -- ---- against the calculus
@@ -299,29 +231,10 @@ weaken {X = X} {Y = Y} k l f = record {
   forth = λ n. let a = f.forth n in (a.0, l (X a.0).shown (Y n).shown a.1, a.2);
 }
 
--- only what is paid
-pub pays_only : {X : Run FlatTally Verdict} {Y : Run Tally Verdict} → FollowsWithin KeepsTally PaysWorth X Y
-    → FollowsWithin KeepsTally PaysTally X Y
-pays_only f = weaken (λ a b k. k) (λ a b l. l.0) f
-
--- what is paid, and that no more acts were made than steps
-abbrev PaidAndActs : Tally → Account → Type 0
-PaidAndActs tally account = PaidBelow tally account × (tally.acts ≤ account.steps)
-
-with_acts : {X : Run Tally Verdict} {Y : Run Account Verdict} → ((n : ℕ) → (X n).ending ≡ Some Exhausted → ⊥)
-    → FollowsBy Below PaidBelow X Y → FollowsWithin Below PaidAndActs X Y
-with_acts {X = X} {Y = Y} never f = record {
-  back = f.back;
-  forth = λ n. let a = f.forth n in (a.0, (a.1, acts a.0 n a.2), reached a.0 n a.2);
-}
-  where
-    acts : (m n : ℕ) → Reached Below (X m) (Y n) → (X m).shown.acts ≤ (Y n).shown.steps
-    acts m n (inl e) = absurd (never m e)
-    acts m n (inr a) = a.0.shown.acts
-
-    reached : (m n : ℕ) → Reached Below (X m) (Y n) → Reached Any (X m) (Y n)
-    reached m n (inl e) = inl e
-    reached m n (inr a) = inr (record { output = a.0.output; shown = tt }, a.1)
+-- an atom for each act, and each act is a step of the calculus
+paid_below : (a : FlatTally) (b : Account) → Through PaysTally SpentBelow a b → FlatPaidBelow a b
+paid_below a b k =
+    let pays = k.1 in let acts = k.2.acts in let paid = k.2.paid in omega (arith, pays, acts, paid)
 
 module _ (casts : List TypeCast) (program : Program) (term : RowTerm) (input : List ℕ) (type : ℕ)
     (reads : program.term ≡ core_of casts term)
@@ -341,14 +254,10 @@ module _ (casts : List TypeCast) (program : Program) (term : RowTerm) (input : L
       (flat_tally_in (converted term) (made term) (piling program.types casts)
       (piled_prices (piling program.types casts) m) told input) (account program input)
   piled_procedures_keep_account =
-      let mode = piling program.types casts in
-      let never : (n : ℕ) → (tally_in mode m told term input n).ending ≡ Some Exhausted → ⊥ =
-      λ n e. let s = state_after (tallying mode m told) (untallied (run_start term input)) n in
-      never_exhausted mode told term input s.state.ended s.state.focus e in
-      weaken storage paid (within_trans
+      weaken storage paid_below (within_trans
       (piled_procedures_keep casts m told term input closed
       (piled_runs_follow_the_calculus-never_wrong casts program term input type reads typed))
-      (with_acts never (piled_runs_keep_the_account casts program term input type reads typed)))
+      (within_of (piled_runs_keep_the_account casts program term input type reads typed)))
     where
       storage : (a : FlatTally) (b : Account) → Through KeepsTally Below a b → FlatBelow 1 a b
       storage a b k =
@@ -364,15 +273,11 @@ module _ (casts : List TypeCast) (program : Program) (term : RowTerm) (input : L
             frames = omega (arith, frames, frames_below);
           }
 
-      paid : (a : FlatTally) (b : Account) → Through PaysWorth PaidAndActs a b → FlatPaidBelow a b
-      paid a b k =
-          let pays = k.1.0 in let below = k.2.0 in let acts = k.2.1 in omega (arith, pays, below, acts)
-
-  pub merged_procedures_keep_account : IsOrderedTable program.types → FollowsWithin (FlatBelow 2) FlatPaidNear
+  pub merged_procedures_keep_account : IsOrderedTable program.types → FollowsWithin (FlatBelow 2) FlatPaidBelow
       (flat_tally_in (converted term) (made term) (merging program.types casts)
       (merged_prices program.types (merging program.types casts) m) told input) (account program input)
   merged_procedures_keep_account table =
-      weaken storage paid (within_trans
+      weaken storage paid_below (within_trans
       (merged_procedures_keep casts m told term input closed
       (merged_runs_follow_the_calculus-never_wrong casts program term input type reads typed table))
       (merged_runs_keep_the_account casts program term input type reads typed table))
@@ -390,7 +295,3 @@ module _ (casts : List TypeCast) (program : Program) (term : RowTerm) (input : L
             asks = omega (arith, asks, asks_below);
             frames = omega (arith, frames, frames_below);
           }
-
-      paid : (a : FlatTally) (b : Account) → Through PaysWorth PaidBelow a b → FlatPaidNear a b
-      paid a b k =
-          let pays = k.1.0 in let worth = k.1.1 in let below = k.2 in omega (arith, pays, worth, below)

@@ -1,8 +1,8 @@
 -- The run of the procedures keeps within the account of the term's run, in every mode.
-use Rattle.std.proofs.Common.{◌≡◌, ◌⊎◌, inl, inr, ℕ, suc, ◌+◌, ◌*◌, ◌<◌, ◌≤◌, true, false, List, [], ◌∷◌, length}
+use Rattle.std.proofs.Common.{◌≡◌, ◌⊎◌, inl, inr, ℕ, ◌+◌, ◌*◌, ◌≤◌, false, List, [], ◌∷◌, length}
 use Rattle.std.proofs.Common.{Option, Some, None, option_map, refl, sym, ap, ap₂, ◌∙◌, subst, arith, le_refl}
 use Rattle.std.proofs.Common.{if◌then◌else◌}
-use Rattle.run_laws.specs.Runs.{Ending, Wrong, Verdict as EndsWith, NeverWrong}
+use Rattle.run_laws.specs.Runs.{Wrong, Verdict as EndsWith, NeverWrong}
 use Rattle.run_laws.specs.Accounts.{FollowsWithin}
 use Rattle.run_laws.specs.Reductions.{Reduction, moment_at, unless_ended, reduction_run}
 use Rattle.run_laws.proofs.Public.{goes_within_after, goes_within_later, rounds_follow_within}
@@ -46,10 +46,6 @@ pub record Tallies {C : Type 0} (mode : Mode C) (told : Told) (prices : Prices C
   pub shown_frames : (s : Tallied C) → (M.shown s).frames ≡ length s.state.frames
   pub shown_paid : (s : Tallied C) → (M.shown s).paid ≡ s.paid
 
--- what is paid, and that each act so far had 896 instructions at least
-abbrev pub PaysWorth : FlatTally → Tally → Type 0
-PaysWorth flat tally = PaysTally flat tally × (896 * tally.acts ≤ tally.paid)
-
 where_none : {A : Type 0} (o : Option A) (a : ℕ) → o ≡ None → where_some o 0 a ≡ a
 where_none None a e = refl
 where_none (Some x) a e = absurd (cc e)
@@ -68,8 +64,6 @@ middle_of {B = B} f = B
 
 module _ {C : Type 0} (procs : List Proc) (mode : Mode C) (told : Told) (prices : Prices C)
     (act : (kind : StepKind) (a b : ℕ) → (prices.other (Some kind) a b).acts ≡ 1)
-    (worth : (focus : CoerFocus C) (k : List (CoerFrame C))
-    → 896 * (coer_cost mode prices focus k).acts ≤ (coer_cost mode prices focus k).budget)
     (M : Reduction (Tallied C) Tally Verdict) (tallies : Tallies mode told prices M) where
   abbrev pub N : Reduction (FlatTallied C) FlatTally Verdict
   N = flat_tallying procs mode prices told
@@ -86,16 +80,15 @@ module _ {C : Type 0} (procs : List Proc) (mode : Mode C) (told : Told) (prices 
     pub acts : t.acts ≤ s.acts
     pub atoms : t.atoms + left procs mode told pair ≤ s.acts + 1
     pub paid : t.paid ≤ s.paid + 64 * t.atoms
-    pub held : 896 * s.acts ≤ s.paid
 
   abbrev GoesOn : ℕ → Tallied C → FlatTallied C → Type 0
-  GoesOn n s t = result_of (goes_within_after M N KeepsTally PaysWorth Related n 0 s s t refl)
+  GoesOn n s t = result_of (goes_within_after M N KeepsTally PaysTally Related n 0 s s t refl)
 
   abbrev MetAt : FlatTallied C → Tallied C → Type 0
-  MetAt t x = middle_of (goes_within_after M N KeepsTally PaysWorth Related 0 1 x (M.step x) t)
+  MetAt t x = middle_of (goes_within_after M N KeepsTally PaysTally Related 0 1 x (M.step x) t)
 
   abbrev SeenAt : Tallied C → FlatTallied C → Type 0
-  SeenAt s y = middle_of (goes_within_later M N KeepsTally PaysWorth Related 0 1 s y (N.step y))
+  SeenAt s y = middle_of (goes_within_later M N KeepsTally PaysTally Related 0 1 s y (N.step y))
 
   module _ (store : CoerStore C) (world : WorldState) (cells : FlatStore C) (held : Cells procs mode store cells)
       (focus : CoerFocus C) (k : List (CoerFrame C)) (live : ended_at focus k ≡ None) (s : Tallied C)
@@ -178,13 +171,12 @@ module _ {C : Type 0} (procs : List Proc) (mode : Mode C) (told : Told) (prices 
 
       -- what was added up so far, with so many names or constants to be charged to what was before
       module _ (n p : ℕ) (index : size_of procs mode told S ≡ n) (few : t.words ≤ s.words) (less : t.acts ≤ s.acts)
-          (charged : t.atoms + p ≤ s.acts + 1) (pays : t.paid ≤ s.paid + 64 * t.atoms)
-          (kept : 896 * s.acts ≤ s.paid) where
+          (charged : t.atoms + p ≤ s.acts + 1) (pays : t.paid ≤ s.paid + 64 * t.atoms) where
         met : MetAt t s
         met =
             let a = tallies.shown_acts s in
             let b = tallies.shown_paid s in
-            record { at = 0; output = flat_output ∙ sym same_output; allowed = (omega (arith, a, b, charged, pays), omega (arith, a, b, kept)) }
+            record { at = 0; output = flat_output ∙ sym same_output; allowed = omega (arith, a, b, charged, pays) }
 
         seen : answer_at procs told g others ≡ None → length others ≤ length k → d.asks ≤ c.asks → SeenAt s t
         seen none frames asks =
@@ -236,7 +228,6 @@ module _ {C : Type 0} (procs : List Proc) (mode : Mode C) (told : Told) (prices 
                 acts = omega (arith, a, less);
                 atoms = omega (arith, a, o, charged);
                 paid = omega (arith, b, pays);
-                held = omega (arith, a, b, kept, worth focus k);
               };
               first_moves = inl (omega arith);
               second_moves = inr (omega (arith, le, index));
@@ -274,7 +265,6 @@ module _ {C : Type 0} (procs : List Proc) (mode : Mode C) (told : Told) (prices 
                 acts = omega (arith, a, a1, less, less_acts);
                 atoms = omega (arith, a, h1, o, charged);
                 paid = omega (arith, b, b1, h1, pays, less_paid);
-                held = omega (arith, a, b, kept, worth focus k);
               };
               first_moves = inl (omega arith);
               second_moves = inl (omega arith);
@@ -287,12 +277,11 @@ module _ {C : Type 0} (procs : List Proc) (mode : Mode C) (told : Told) (prices 
 
     module _ (t : FlatTallied C) (g : FlatFocus C) (others : List (FlatFrame C)) (e1 : t.state ≡ T g others)
         (n p : ℕ) (index : size_of procs mode told S ≡ n) (few : t.words ≤ s.words) (less : t.acts ≤ s.acts)
-        (charged : t.atoms + p ≤ s.acts + 1) (pays : t.paid ≤ s.paid + 64 * t.atoms)
-        (kept : 896 * s.acts ≤ s.paid) where
+        (charged : t.atoms + p ≤ s.acts + 1) (pays : t.paid ≤ s.paid + 64 * t.atoms) where
       -- or also two
       moves : Moves procs mode told prices act store world cells held false p focus k g others x → GoesOn n s t
-      moves (inl m) = once t g others e1 n p index few less charged pays kept (inl m)
-      moves (inr (inl m)) = once t g others e1 n p index few less charged pays kept (inr (inl m))
+      moves (inl m) = once t g others e1 n p index few less charged pays (inl m)
+      moves (inr (inl m)) = once t g others e1 n p index few less charged pays (inr (inl m))
       moves (inr (inr (inl m))) =
           let t1 = N.step t in
           let e2 : t1.state ≡ T m.g1 others = flat_next t g others e1 (On m.g1 others cells world) m.turn in
@@ -338,10 +327,10 @@ module _ {C : Type 0} (procs : List Proc) (mode : Mode C) (told : Told) (prices 
               second_steps = 2;
               s' = M.step s;
               t' = N.step t1;
-              first = (runs, met t g others e1 n p index few less charged pays kept, refl);
+              first = (runs, met t g others e1 n p index few less charged pays, refl);
               second = (
                 going t g others e1 m.none,
-                seen t g others e1 n p index few less charged pays kept m.none m.frames m.pays.asks,
+                seen t g others e1 n p index few less charged pays m.none m.frames m.pays.asks,
                 (going t1 m.g1 others e2 m.none1, seen1, refl),
               );
             };
@@ -357,7 +346,6 @@ module _ {C : Type 0} (procs : List Proc) (mode : Mode C) (told : Told) (prices 
               acts = omega (arith, a, a1, a2, none_acts, less, less_acts);
               atoms = omega (arith, a, h1, h2, o, charged);
               paid = omega (arith, b, b1, h1, b2, h2, none_paid, pays, less_paid);
-              held = omega (arith, a, b, kept, worth focus k);
             };
             first_moves = inl (omega arith);
             second_moves = inl (omega arith);
@@ -373,13 +361,13 @@ module _ {C : Type 0} (procs : List Proc) (mode : Mode C) (told : Told) (prices 
           let none_asks = ap (λ (z : Cost). z.asks) m.pays in
           let none_paid = ap (λ (z : Cost). z.budget) m.pays in
           let no_atom = m.atoms in
-          goes_within_later M N KeepsTally PaysWorth Related n 1 s t t1 (
+          goes_within_later M N KeepsTally PaysTally Related n 1 s t t1 (
             going t g others e1 m.none,
-            seen t g others e1 n p index few less charged pays kept m.none m.frames (omega (arith, none_asks)),
+            seen t g others e1 n p index few less charged pays m.none m.frames (omega (arith, none_asks)),
             refl,
           )
           (once t1 m.g1 m.others1 e2 n p index (omega (arith, w1, none_asks, few)) (omega (arith, a1, none_acts, less))
-          (omega (arith, h1, no_atom, charged)) (omega (arith, b1, h1, none_paid, no_atom, pays)) kept m.next)
+          (omega (arith, h1, no_atom, charged)) (omega (arith, b1, h1, none_paid, no_atom, pays)) m.next)
 
       goes_live : (on : FocusOn procs mode focus k g others) → left_on procs mode told focus k g others on ≡ p
           → GoesOn n s t
@@ -429,7 +417,7 @@ module _ {C : Type 0} (procs : List Proc) (mode : Mode C) (told : Told) (prices 
             asks = omega (arith, q1);
             frames = omega (arith, f, f1, frames);
           };
-          allowed = (omega (arith, a, b, charged, pays), omega (arith, a, b, r.held));
+          allowed = omega (arith, a, b, charged, pays);
         }))
 
     -- the first has gone wrong
@@ -480,7 +468,7 @@ module _ {C : Type 0} (procs : List Proc) (mode : Mode C) (told : Told) (prices 
           (ap₂ (λ a b. ended_at a b) e e1 ∙ live) s is_state t r.flat.focus r.flat.frames is_flat n
           (left procs mode told (inl h))
           (ap (λ o. measure o r.state.focus r.state.frames) (sym h.ended) ∙ r.index) r.words r.acts
-          (omega (arith, le, charged)) r.paid r.held h.on refl
+          (omega (arith, le, charged)) r.paid h.on refl
 
       live_at : (focus : CoerFocus C) (k : List (CoerFrame C)) → r.state.focus ≡ focus → r.state.frames ≡ k
           → GoesOn n s t
@@ -508,5 +496,5 @@ module _ {C : Type 0} (procs : List Proc) (mode : Mode C) (told : Told) (prices 
 
   -- from such states the procedures keep within the account of the term's run
   pub keeps_tally : (n : ℕ) (s : Tallied C) (t : FlatTallied C) → Related n s t → NeverWrong (reduction_run M s)
-      → FollowsWithin KeepsTally PaysWorth (reduction_run N t) (reduction_run M s)
-  keeps_tally n s t r never = rounds_follow_within M N KeepsTally PaysWorth Related goes n s t r never
+      → FollowsWithin KeepsTally PaysTally (reduction_run N t) (reduction_run M s)
+  keeps_tally n s t r never = rounds_follow_within M N KeepsTally PaysTally Related goes n s t r never

@@ -227,8 +227,3 @@ pub record FlatBelow (more : ℕ) (flat : FlatTally) (account : Account) : Type 
 -- the instructions are within the calculus's work, with 64 to spare for each step
 abbrev pub FlatPaidBelow : FlatTally → Account → Type 0
 FlatPaidBelow flat account = flat.paid + 64 * account.steps + 960 ≤ 64 * account.work
-
--- fourteen times the instructions are within fifteen times the calculus's work, as if each act had 960 instructions in
--- place of 896
-abbrev pub FlatPaidNear : FlatTally → Account → Type 0
-FlatPaidNear flat account = 14 * flat.paid + 1920 * account.steps + 14464 ≤ 960 * account.work

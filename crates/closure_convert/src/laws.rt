@@ -24,7 +24,7 @@ ghost use Rattle.flat_ir.specs.Counts.{flat_run_in};
 ghost use Rattle.flat_ir.specs.Levels.{HaveLevels};
 ghost use Rattle.closure_convert.specs.Bounds.{CountsKept};
 ghost use Rattle.closure_convert.specs.Conversion.{captures, converted, made};
-ghost use Rattle.closure_convert.specs.FlatTally.{FlatBelow, FlatPaidBelow, FlatPaidNear, KeepsTally, PaysTally};
+ghost use Rattle.closure_convert.specs.FlatTally.{FlatBelow, FlatPaidBelow, KeepsTally, PaysTally};
 ghost use Rattle.closure_convert.specs.FlatTally.{flat_tally_in, merged_prices, piled_prices};
 ghost use Rattle.closure_convert.specs.Free.{is_free, is_free_in_a_member};
 ghost use Rattle.closure_convert.specs.Uses.{Use, has_few_operands, procs_uses, term_uses};
@@ -87,8 +87,7 @@ pub fn procedures_keep_within_their_terms_account()
 /// next turn with them, are at most the charges of n + 1 steps; the next turn asks for no more than the charge of step
 /// n + 1; and at most `depth(n) + 1` frames are active, or in the merged mode, over types without cycles, `depth(n) + 2`.
 /// Wherever the calculus has come to, they come to it, and then the budgets of their turns, in instructions, are at most
-/// 64 times `work(n)`, with 64 to spare for each step and 960 for the start; in the merged mode 14 times the budgets are
-/// at most 960 times `work(n)`, with 1,920 to spare for each step and 14,464 for the start.
+/// 64 times `work(n)`, with 64 to spare for each step and 960 for the start.
 pub fn procedures_keep_the_account()
     ensures piled { (casts : List TypeCast) (program : Program) (term : RowTerm) (input : List ℕ) (type : ℕ)
         → program.term ≡ core_of casts term
@@ -102,7 +101,7 @@ pub fn procedures_keep_the_account()
         → ProgramTermHasType program.types (length program.labels) program.term type
         → IsOrderedTable program.types
         → let mode = merging program.types casts in
-        FollowsWithin (FlatBelow 2) FlatPaidNear
+        FollowsWithin (FlatBelow 2) FlatPaidBelow
         (flat_tally_in (converted term) (made term) mode (merged_prices program.types mode (measures_of program))
         (told_of program type) input) (account program input) }
 {}

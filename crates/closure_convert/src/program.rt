@@ -20,7 +20,7 @@ ghost use Rattle.flat_ir.specs.Levels.{HaveLevels};
 ghost use Rattle.flat_ir.specs.Views.{procs_of};
 ghost use Rattle.closure_convert.specs.Bounds.{CountsKept};
 ghost use Rattle.closure_convert.specs.Conversion.{converted, made};
-ghost use Rattle.closure_convert.specs.FlatTally.{FlatBelow, FlatPaidBelow, FlatPaidNear, flat_tally_in};
+ghost use Rattle.closure_convert.specs.FlatTally.{FlatBelow, FlatPaidBelow, flat_tally_in};
 ghost use Rattle.closure_convert.specs.FlatTally.{merged_prices, piled_prices};
 ghost use Rattle.closure_convert.specs.Programs.{HasNoFreeNames};
 
@@ -61,7 +61,7 @@ pub fn convert(alloc: Global, program: &CoerProgram) -> Result<FlatProgram, OutO
         → ProgramTermHasType source.types (length source.labels) source.term type
         → IsOrderedTable source.types
         → let mode = merging source.types casts in
-        FollowsWithin (FlatBelow 2) FlatPaidNear
+        FollowsWithin (FlatBelow 2) FlatPaidBelow
         (flat_tally_in (procs_of flat.procs) flat.entry mode (merged_prices source.types mode (measures_of source))
         (told_of source type) input) (account source input)) }
     ensures piled { IfOk result (λ flat. HasNoFreeNames (row_term_of program.now.body)

@@ -12,8 +12,8 @@ use Rattle.flat_ir.specs.Closed.{is_closed}
 use Rattle.flat_ir.specs.Counts.{flat_run_in}
 use Rattle.flat_ir.specs.Levels.{HaveLevels}
 use Rattle.closure_convert.specs.Bounds.{CountsKept}
-use Rattle.closure_convert.specs.Conversion.{converted, made}
-use Rattle.closure_convert.specs.FlatTally.{FlatBelow, FlatPaidBelow, FlatPaidNear, flat_tally_in, merged_prices}
+use Rattle.closure_convert.specs.Conversion.{converted}
+use Rattle.closure_convert.specs.FlatTally.{FlatBelow, FlatPaidBelow, flat_tally_in, merged_prices}
 use Rattle.closure_convert.specs.FlatTally.{piled_prices}
 use Rattle.closure_convert.proofs.Closing.{converted_closed}
 use Rattle.closure_convert.proofs.FewLevels.{procedures_have_few_levels}
@@ -59,11 +59,11 @@ returns-clause-merged_account c = λ casts source input type reads typed table.
     let prices = merged_prices source.types mode (measures_of source) in
     let told = told_of source type in
     let typed1 = subst (λ x. ProgramTermHasType source.types (length source.labels) x type) reads typed in
-    subst (λ procs. FollowsWithin (FlatBelow 2) FlatPaidNear
+    subst (λ procs. FollowsWithin (FlatBelow 2) FlatPaidBelow
     (flat_tally_in procs c.in_ok-procs.entry mode prices told input) (account source input))
     (sym (c.in_ok-procs.ensures.procs
     (typed_closed casts source.types (length source.labels) term type typed1.3)))
-    (subst (λ entry. FollowsWithin (FlatBelow 2) FlatPaidNear
+    (subst (λ entry. FollowsWithin (FlatBelow 2) FlatPaidBelow
     (flat_tally_in (converted term) entry mode prices told input) (account source input))
     (sym c.in_ok-procs.ensures.entry) (merged_procedures_keep_account casts source term input type reads typed table))
 
