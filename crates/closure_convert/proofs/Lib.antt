@@ -11,6 +11,7 @@ mod Fine
 mod Closing
 mod Typed
 mod TallyKept
+mod AskedFor
 mod Examples
 mod Meeting
 mod Capturing

@@ -1,6 +1,6 @@
 // Laws of closure conversion. Each function has an empty body: its contract is a law, proved for all terms.
 
-ghost use Rattle.std.specs.Prelude.{◌≡◌, ◌++◌, Bool, cond, false, length, true, ℕ, List};
+ghost use Rattle.std.specs.Prelude.{◌≡◌, ◌≤◌, ◌++◌, Bool, cond, false, length, true, ℕ, List};
 ghost use Rattle.std.specs.List.{list_all};
 ghost use Rattle.run_laws.specs.Accounts.{FollowsWithin};
 ghost use Rattle.run_laws.specs.Runs.{Any, FollowsBy, NeverWrong};
@@ -12,6 +12,7 @@ ghost use Rattle.core_calc.specs.Calculus.{Program};
 ghost use Rattle.core_calc.specs.Substitution.{is_among};
 ghost use Rattle.core_calc.specs.Typing.{ProgramTermHasType};
 ghost use Rattle.coercion_norm.specs.AnswerTypes.{Told};
+ghost use Rattle.coercion_norm.specs.Coercions.{Coercion};
 ghost use Rattle.coercion_norm.specs.MergedMode.{merging};
 ghost use Rattle.coercion_norm.specs.Modes.{TypeCast, piling};
 ghost use Rattle.coer_core.specs.Counts.{each_once, free_names, free_names_of_members, names_besides, run_in};
@@ -19,13 +20,15 @@ ghost use Rattle.coer_core.specs.Counts.{told_of};
 ghost use Rattle.coer_core.specs.MergedTally.{merged_tally_in};
 ghost use Rattle.coer_core.specs.Tally.{tally_in};
 ghost use Rattle.coer_core.specs.Terms.{RowMembers, RowTerm, core_of};
+ghost use Rattle.flat_ir.specs.Bodies.{Proc};
 ghost use Rattle.flat_ir.specs.Closed.{is_closed};
-ghost use Rattle.flat_ir.specs.Counts.{flat_run_in};
+ghost use Rattle.flat_ir.specs.Counts.{flat_run_in, flat_turn_words};
 ghost use Rattle.flat_ir.specs.Levels.{HaveLevels};
+ghost use Rattle.flat_ir.specs.Machine.{FlatState};
 ghost use Rattle.closure_convert.specs.Bounds.{CountsKept};
 ghost use Rattle.closure_convert.specs.Conversion.{captures, converted, made};
 ghost use Rattle.closure_convert.specs.FlatTally.{FlatBelow, FlatPaidBelow, KeepsTally, PaysTally};
-ghost use Rattle.closure_convert.specs.FlatTally.{flat_tally_in, merged_prices, piled_prices};
+ghost use Rattle.closure_convert.specs.FlatTally.{cost_of_turn, flat_tally_in, merged_prices, piled_prices};
 ghost use Rattle.closure_convert.specs.Free.{is_free, is_free_in_a_member};
 ghost use Rattle.closure_convert.specs.Uses.{Use, has_few_operands, procs_uses, term_uses};
 
@@ -80,6 +83,19 @@ pub fn procedures_keep_within_their_terms_account()
         FollowsWithin KeepsTally PaysTally
         (flat_tally_in (converted term) (made term) mode (merged_prices told.types mode m) told input)
         (merged_tally_in told.types mode m told term input) }
+{}
+
+/// No turn of procedures makes objects of more words than it asks for: in each state, in the piled mode with all measures,
+/// and in the merged mode with measures of a width of 1 or more.
+pub fn procedures_ask_for_what_they_make()
+    ensures piled { (types : TypeRows) (casts : List TypeCast) (m : Measures) (procs : List Proc)
+        (state : FlatState TypeCast) → let mode = piling types casts in
+        flat_turn_words procs mode state.focus state.frames
+        ≤ (cost_of_turn procs mode (piled_prices mode m) state).asks }
+    ensures merged { (types : TypeRows) (casts : List TypeCast) (m : Measures) (procs : List Proc)
+        (state : FlatState Coercion) → 1 ≤ m.width → let mode = merging types casts in
+        flat_turn_words procs mode state.focus state.frames
+        ≤ (cost_of_turn procs mode (merged_prices types mode m) state).asks }
 {}
 
 /// So the procedures of each program term keep within the account of the calculus. Wherever they have come to, the
