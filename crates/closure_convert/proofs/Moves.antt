@@ -1,4 +1,5 @@
--- What the procedures do for a turn of the term with environments, in every mode: states that go together, and the cases.
+-- What the procedures do for a turn of the term with environments, in every mode: which states go together, and the
+-- cases.
 use Rattle.std.proofs.Common.{◌≡◌, ◌⊎◌, inl, inr, ℕ, suc, ◌+◌, ◌*◌, ◌<◌, ◌≤◌, ℤ, pos, negsuc, Bool}
 use Rattle.std.proofs.Common.{true}
 use Rattle.std.proofs.Common.{false, cond, List, [], ◌∷◌, ◌++◌, length, Option, Some, None, slice_get}
@@ -828,7 +829,8 @@ module _ {C : Type 0} (procs : List Proc) (mode : Mode C) (told : Told) (prices 
             }));
             atoms = few;
           }))
-      concludes focus k g others (TrapOf trap world1) (TrapOf other world2) live none e fr asked wraps costs a pays few =
+      concludes focus k g others (TrapOf trap world1) (TrapOf other world2) live none e fr asked wraps costs a pays
+          few =
           inr (inl (record {
             y = TrapOf other world2;
             none = none;
@@ -967,7 +969,8 @@ module _ {C : Type 0} (procs : List Proc) (mode : Mode C) (told : Told) (prices 
           (terms : RowTerms) (env : Env C) (k : List (CoerFrame C)) (g : FlatFocus C) (others : List (FlatFrame C))
           → ended_at focus k0 ≡ None → turn_wraps mode focus k0 ≡ 0 → length others ≤ length k0
           → weight_for terms + frames_weight k ≤ room focus k0 → AtEnd terms (job_words job done)
-          (turn_words mode focus k0) → PaysAtEnd terms (job_cost prices job done) (cost focus k0) → (h : Gathers procs mode terms (values_of job done) (finish_of job) env g)
+          (turn_words mode focus k0) → PaysAtEnd terms (job_cost prices job done) (cost focus k0)
+          → (h : Gathers procs mode terms (values_of job done) (finish_of job) env g)
           → Wait procs mode k others → Sim focus k0 (Own (Inside (gather terms h.scope h.depth h.next h.os (finish_code
           (finish_of job))) h.l h.own)) others (run_gather mode store world job done terms env k)
       gathers_on focus k0 job done NoRowTerms env k g others live calm fr le asked pays h waits =
@@ -998,7 +1001,8 @@ module _ {C : Type 0} (procs : List Proc) (mode : Mode C) (told : Told) (prices 
           (terms : RowTerms) (env : Env C) (k : List (CoerFrame C)) (g : FlatFocus C) (others : List (FlatFrame C))
           → ended_at focus k0 ≡ None → turn_wraps mode focus k0 ≡ 0 → length others ≤ length k0
           → weight_for terms + frames_weight k ≤ room focus k0 → AtEnd terms (job_words job done)
-          (turn_words mode focus k0) → PaysAtEnd terms (job_cost prices job done) (cost focus k0) → Gathers procs mode terms (values_of job done) (finish_of job) env g
+          (turn_words mode focus k0) → PaysAtEnd terms (job_cost prices job done) (cost focus k0)
+          → Gathers procs mode terms (values_of job done) (finish_of job) env g
           → Wait procs mode k others → Sim focus k0 g others (run_gather mode store world job done terms env k)
       gathers_does focus k0 job done terms env k g others live calm fr le asked pays h waits =
           subst (λ x. Sim focus k0 x others (run_gather mode store world job done terms env k)) (sym h.runs)
@@ -1575,20 +1579,26 @@ module _ {C : Type 0} (procs : List Proc) (mode : Mode C) (told : Told) (prices 
           → Covers (free_names term) scope → Stands procs term next → Wait procs mode k others → atom_term term ≤ p
           → SimF (Own (Eval term env)) k (Own (Inside (code term scope depth next) l own)) others
           (eval mode store world term env k)
-      eval_code (RowInt n) env k scope depth next l own others knows covers st waits enough = returns false p (Own (Eval
-          (RowInt n) env)) k (RunInt n) k (IntConst n) l own others refl refl (fr0 procs mode k others waits) refl waits
+      eval_code (RowInt n) env k scope depth next l own others knows covers st waits enough =
+          returns false p (Own (Eval (RowInt n) env)) k (RunInt n) k (IntConst n) l own others refl refl (fr0 procs
+          mode k others waits) refl waits
           enough
-      eval_code (RowBool b) env k scope depth next l own others knows covers st waits enough = returns false p (Own (Eval
-          (RowBool b) env)) k (RunBool b) k (BoolConst b) l own others refl refl (fr0 procs mode k others waits) refl
+      eval_code (RowBool b) env k scope depth next l own others knows covers st waits enough =
+          returns false p (Own (Eval (RowBool b) env)) k (RunBool b) k (BoolConst b) l own others refl refl (fr0 procs
+          mode k others waits) refl
           waits enough
-      eval_code RowUnit env k scope depth next l own others knows covers st waits enough = returns false p (Own
-          (Eval RowUnit env)) k RunUnit k UnitConst l own others refl refl (fr0 procs mode k others waits) tt waits enough
-      eval_code (RowVar name) env k scope depth next l own others knows covers st waits enough = var_code name env k scope
+      eval_code RowUnit env k scope depth next l own others knows covers st waits enough =
+          returns false p (Own (Eval RowUnit env)) k RunUnit k UnitConst l own others refl refl (fr0 procs mode k
+          others waits) tt waits enough
+      eval_code (RowVar name) env k scope depth next l own others knows covers st waits enough =
+          var_code name env k scope
           depth l own others knows covers waits enough
-      eval_code (RowLambda parameters body type) env k scope depth next l own others knows covers st waits enough = lambda_code
-          parameters body type env k scope depth next l own others knows (covers_alone parameters body type scope
+      eval_code (RowLambda parameters body type) env k scope depth next l own others knows covers st waits enough =
+          lambda_code parameters body type env k scope depth next l own others knows (covers_alone parameters body
+          type scope
           covers) st waits
-      eval_code (RowGroup members body) env k scope depth next l own others knows covers st waits enough = group_code members
+      eval_code (RowGroup members body) env k scope depth next l own others knows covers st waits enough =
+          group_code members
           body env k scope depth next l own others knows covers st waits
       eval_code (RowLet bindings body) env k scope depth next l own others knows covers st waits enough =
           binds_does false p (Own (Eval (RowLet bindings body) env)) k [] bindings body env k (Own (Inside (code
@@ -1651,9 +1661,11 @@ module _ {C : Type 0} (procs : List Proc) (mode : Mode C) (told : Told) (prices 
             stands_a = st.1;
             stands_b = st.2;
           }) (atom c scope) refl
-      eval_code (RowSeq terms) env k scope depth next l own others knows covers st waits enough = seq_code terms env k scope
+      eval_code (RowSeq terms) env k scope depth next l own others knows covers st waits enough =
+          seq_code terms env k scope
           depth next l own others knows covers st waits
-      eval_code (RowCast term n) env k scope depth next l own others knows covers st waits enough = coerce_code term n env k
+      eval_code (RowCast term n) env k scope depth next l own others knows covers st waits enough =
+          coerce_code term n env k
           scope depth next l own others knows covers st waits (mode.row n) refl
       eval_code (RowProj term i) env k scope depth next l own others knows covers st waits enough =
           operand_next false p (Own (Eval (RowProj term i) env)) k term env (ProjFrame i) k scope depth next l own
@@ -1756,7 +1768,8 @@ module _ {C : Type 0} (procs : List Proc) (mode : Mode C) (told : Told) (prices 
           subst (λ x. SimF (Own (Eval term env)) k x others (eval mode store world term env k)) (sym i.runs)
           (eval_code term env k i.scope i.depth i.next i.l i.own others i.knows i.covers i.stands h.1 enough)
       each_turn (Own (Eval term env)) [] g others live (inr h) enough = absurd h
-      each_turn (Own (Eval term env)) (frame ∷ k) g others live (inr h) enough = eval_operand term env frame k g others h.0 h.1
+      each_turn (Own (Eval term env)) (frame ∷ k) g others live (inr h) enough =
+          eval_operand term env frame k g others h.0 h.1
       each_turn (Return v) [] g others live h enough = none_some (sym live)
       each_turn (Return v) (frame ∷ k) g [] live (inl h) enough = absurd h.1
       each_turn (Return v) (frame ∷ k) g (other ∷ others) live (inl h) enough =

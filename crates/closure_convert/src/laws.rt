@@ -63,11 +63,11 @@ pub fn procedures_follow_their_term()
 {}
 
 /// The run of a term's procedures keeps within the account of the term's run, for every term without free names, with
-/// all measures, in both modes, where the given run never goes wrong. At moments that correspond the procedures have made
-/// no more acts, which are turns that make a step, and at most one body that is a name or a constant for each act of the
-/// term, and one; they have asked for no more words, those of the next turn with them, the next turn asks for no more, and
-/// no more frames are active. Where they have come to what the term's run has come to, the budgets of their turns, in
-/// instructions, are no more, with 64 for each act of the term, and for one.
+/// all measures, in both modes, where the given run never goes wrong. At moments that correspond the procedures have
+/// made no more acts, which are turns that make a step, and at most one body that is a name or a constant for each act
+/// of the term, and one; they have asked for no more words, those of the next turn with them, the next turn asks for no
+/// more, and no more frames are active. Where they have come to what the term's run has come to, the budgets of their
+/// turns, in instructions, are no more, with 64 for each act of the term, and for one.
 pub fn procedures_keep_within_their_terms_account()
     ensures piled { (casts : List TypeCast) (m : Measures) (told : Told) (term : RowTerm) (input : List ℕ)
         → ((name : ℕ) → is_among name (free_names term) ≡ false)
@@ -85,8 +85,8 @@ pub fn procedures_keep_within_their_terms_account()
         (merged_tally_in told.types mode m told term input) }
 {}
 
-/// No turn of procedures makes objects of more words than it asks for: in each state, in the piled mode with all measures,
-/// and in the merged mode with measures of a width of 1 or more.
+/// No turn of procedures makes objects of more words than it asks for: in each state, in the piled mode with all
+/// measures, and in the merged mode with measures of a width of 1 or more.
 pub fn procedures_ask_for_what_they_make()
     ensures piled { (types : TypeRows) (casts : List TypeCast) (m : Measures) (procs : List Proc)
         (state : FlatState TypeCast) → let mode = piling types casts in
@@ -101,9 +101,9 @@ pub fn procedures_ask_for_what_they_make()
 /// So the procedures of each program term keep within the account of the calculus. Wherever they have come to, the
 /// calculus has come to the same output after n steps for some n, and the words that they have asked for, those of the
 /// next turn with them, are at most the charges of n + 1 steps; the next turn asks for no more than the charge of step
-/// n + 1; and at most `depth(n) + 1` frames are active, or in the merged mode, over types without cycles, `depth(n) + 2`.
-/// Wherever the calculus has come to, they come to it, and then the budgets of their turns, in instructions, are at most
-/// 64 times `work(n)`, with 64 to spare for each step and 960 for the start.
+/// n + 1; and at most `depth(n) + 1` frames are active, or in the merged mode, over types without cycles, `depth(n) +
+/// 2`. Wherever the calculus has come to, they come to it, and then the budgets of their turns, in instructions, are at
+/// most 64 times `work(n)`, with 64 to spare for each step and 960 for the start.
 pub fn procedures_keep_the_account()
     ensures piled { (casts : List TypeCast) (program : Program) (term : RowTerm) (input : List ℕ) (type : ℕ)
         → program.term ≡ core_of casts term

@@ -32,10 +32,10 @@ use std::alloc::Global;
 
 /// The procedures of a program, of which the last is the one to begin with, and the type of its answer. Where no name
 /// is free in the program's term, they are those that the definition gives, and their run follows the run of the term
-/// with environments, for all casts and every input, in both modes, where that never goes wrong: both have made as
-/// many wrap steps at moments that correspond, and words asked for, active frames and turns are bounded by those of
-/// the given run. Where the term reads back to a program term, each procedure has at most as many local names at a time
-/// as that has nodes and binders, and where no type is too wide, the procedures are closed; and their run keeps within the
+/// with environments, for all casts and every input, in both modes, where that never goes wrong: both have made as many
+/// wrap steps at moments that correspond, and words asked for, active frames and turns are bounded by those of the
+/// given run. Where the term reads back to a program term, each procedure has at most as many local names at a time as
+/// that has nodes and binders, and where no type is too wide, the procedures are closed; and their run keeps within the
 /// account of the calculus: for all casts and every input in the piled mode, and in the merged mode over types without
 /// cycles.
 pub fn convert(alloc: Global, program: &CoerProgram) -> Result<FlatProgram, OutOfMemory>

@@ -130,8 +130,8 @@ fn made_of(alloc: Global, types: &TypeTable, elab: &Elab) -> Result<Made, OutOfM
     })
 }
 
-/// A program over words of a source, made as `compile` makes that of its image: it is closed, and each image of it, with
-/// the labels of the source and at most 2^33 bytes of statics and code, follows the source's program. A source is
+/// A program over words of a source, made as `compile` makes that of its image: it is closed, and each image of it,
+/// with the labels of the source and at most 2^33 bytes of statics and code, follows the source's program. A source is
 /// refused exactly as it is read, parsed or elaborated.
 pub fn words_of(alloc: Global, text: &[u8]) -> Result<LowProgram, FrontFault>
     requires { length text.now ≤ source_limit }
