@@ -137,9 +137,9 @@ const LOOPS: &[Row] = &[
     Row {
         words: "run a --region 1073741824 --steps 9223372036854775807 --space",
         file: Text(
-            "(letrec ([loop (lambda ([n : Int] [f : (Dyn -> Dyn)]) : (Dyn -> Dyn)\n(if (= n 0) f (loop (- n 1) (: (: f (Int -> Int)) (Dyn -> Dyn)))))])\n((loop 100000 (lambda (x) x)) 7))",
+            "(letrec ([loop (lambda ([n : Int] [f : (Dyn -> Dyn)]) : (Dyn -> Dyn)\n(if (= n 0) f (loop (- n 1) (: (: f (Int -> Int)) (Dyn -> Dyn)))))])\n((loop 1000000 (lambda (x) x)) 7))",
         ),
-        err: "answer 7\nspace bytes 19199976\nspace objects 700000\nspace proxies 200000\nspace stacked 0\nspace highest 1\nspace tallest 1\n",
+        err: "answer 7\nspace bytes 191999976\nspace objects 7000000\nspace proxies 2000000\nspace stacked 0\nspace highest 1\nspace tallest 1\n",
         ..SPACE
     },
 ];
