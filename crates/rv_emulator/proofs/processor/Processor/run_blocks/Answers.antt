@@ -72,7 +72,9 @@ loop-preserved g c =
                 c.args.out.now c.loop.out w.put_output.new.out (state_of mem c.loop.self)
                 (state_of mem c.turn.new.self) (state_of mem w.put_output.new.self) inv.so_far
                 c.in_default.ensures.made done.put done.ok;
-            sound = same_sound g.R.Ram.bytes_len g.R.Ram.memory c.turn.new.self w.put_output.new.self done.rest c.turn.ensures.sound;
+            sound =
+                same_sound g.R.Ram.bytes_len g.R.Ram.memory c.turn.new.self w.put_output.new.self done.rest
+                c.turn.ensures.sound;
             room = omega (arith, inv.room, c.turn.ensures.reserved, done.reserved);
             reserved = omega (arith, inv.reserved, c.turn.ensures.reserved, done.reserved);
             stays_whole = λ h. same_whole whole c.turn.new.self w.put_output.new.self done.rest
