@@ -19,8 +19,8 @@ use Rattle.flat_ir.specs.declared.code.Operation.TheVariants.{Prim, Cast, Tuple}
 use Rattle.flat_ir.specs.Bodies.{Body, Give, LetGroup, Proc}
 use Rattle.flat_ir.specs.Counts.{tuple_words, decision_at, operation_words, body_words, flat_turn_words}
 use Rattle.flat_ir.specs.Machine.{FlatValue, FlatFrame, FlatFocus, Inside, Locals, Group, value, values, flat_arity}
-use Rattle.closure_convert.specs.FlatTally.{Prices, piled_prices, merged_prices, operator_kind, cast_cost}
-use Rattle.closure_convert.specs.FlatTally.{operation_cost, body_cost, flat_cost}
+use Rattle.flat_ir.specs.FlatTally.{Prices, piled_prices, merged_prices, operator_kind, cast_cost}
+use Rattle.flat_ir.specs.FlatTally.{operation_cost, body_cost, flat_cost}
 
 -- prices in a mode that are enough for what is made
 pub record AreEnough {C : Type 0} (mode : Mode C) (prices : Prices C) : Type 0 where

@@ -60,8 +60,8 @@ use Rattle.closure_convert.specs.Conversion.{meanings_of}
 use Rattle.closure_convert.specs.Conversion.{made, made_in, made_by, atom, placed, call_of, label_id, code}
 use Rattle.closure_convert.specs.Conversion.{gather}
 use Rattle.closure_convert.specs.Conversion.{gather_let, sequence}
-use Rattle.closure_convert.specs.FlatTally.{Cost, no_cost, Prices, made_vector as flat_vector, operator_kind, cast_cost}
-use Rattle.closure_convert.specs.FlatTally.{plain_cost, enter_cost, flat_cost, flat_atoms}
+use Rattle.flat_ir.specs.FlatTally.{Cost, no_cost, Prices, made_vector as flat_vector, operator_kind, cast_cost}
+use Rattle.flat_ir.specs.FlatTally.{plain_cost, enter_cost, flat_cost, flat_atoms}
 use Rattle.closure_convert.proofs.Relation.{none_some, same_some, firsts, seconds, means}
 use Rattle.closure_convert.proofs.Relation.{group_of, fun_of, Stands, StandsFor}
 use Rattle.closure_convert.proofs.Relation.{GroupStands}

@@ -38,7 +38,7 @@ use Rattle.closure_convert.proofs.States.{FocusOn}
 use Rattle.closure_convert.proofs.Agreeing.{same_shown, same_fits}
 use Rattle.core_calc.specs.Account.{StepKind}
 use Rattle.coer_core.specs.Tally.{kind_acts}
-use Rattle.closure_convert.specs.FlatTally.{no_cost, Prices}
+use Rattle.flat_ir.specs.FlatTally.{no_cost, Prices}
 use Rattle.closure_convert.proofs.Moves.{measure, no_more_frames, Over, Pair, left_on, Moves, each_turn}
 
 abbrev pub size : {C : Type 0} → Counted C → ℕ

@@ -32,8 +32,8 @@ use Rattle.coer_core.proofs.Public.{merged_runs_follow_the_calculus-never_wrong,
 use Rattle.flat_ir.specs.Bodies.{Body}
 use Rattle.flat_ir.specs.Machine.{FlatState, Inside, new_group, first_world, flat_state_at, flat_start, entry_body}
 use Rattle.closure_convert.specs.Conversion.{nothing_known, made, converted, code}
-use Rattle.closure_convert.specs.FlatTally.{Cost, Prices, kind_cost, piled_prices, merged_prices, FlatTally, KeepsTally}
-use Rattle.closure_convert.specs.FlatTally.{PaysTally, FlatBelow, FlatPaidBelow, flat_tally_in, flat_untallied}
+use Rattle.flat_ir.specs.FlatTally.{Cost, Prices, kind_cost, piled_prices, merged_prices, FlatTally, KeepsTally}
+use Rattle.flat_ir.specs.FlatTally.{PaysTally, FlatBelow, FlatPaidBelow, flat_tally_in, flat_untallied}
 use Rattle.closure_convert.proofs.Relation.{none_some, false_true}
 use Rattle.closure_convert.proofs.Standing.{IsClosedTerm, program_stands, entry_stands}
 use Rattle.closure_convert.proofs.Moves.{coer_cost, atom_few, size_of}

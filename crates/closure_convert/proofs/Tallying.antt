@@ -22,8 +22,8 @@ use Rattle.coer_core.specs.Tally.{Tally, Tallied}
 use Rattle.flat_ir.specs.Bodies.{Proc}
 use Rattle.flat_ir.specs.Machine.{FlatStore, FlatFrame, FlatFocus, FlatAfter, FlatState, flat_turn, answer_at}
 use Rattle.flat_ir.specs.Machine.{flat_state_at, after_flat, flat_running}
-use Rattle.closure_convert.specs.FlatTally.{Cost, Prices, flat_cost, flat_atoms, FlatTally, FlatTallied, flat_tallying}
-use Rattle.closure_convert.specs.FlatTally.{KeepsTally, PaysTally}
+use Rattle.flat_ir.specs.FlatTally.{Cost, Prices, flat_cost, flat_atoms, FlatTally, FlatTallied, flat_tallying}
+use Rattle.flat_ir.specs.FlatTally.{KeepsTally, PaysTally}
 use Rattle.closure_convert.proofs.States.{Cells, FocusOn}
 use Rattle.closure_convert.proofs.Agreeing.{same_shown, same_fits}
 use Rattle.closure_convert.proofs.Moves.{measure, coer_cost, no_more_frames, Live, Pair, left, left_on}

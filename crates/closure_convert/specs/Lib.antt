@@ -8,4 +8,3 @@ pub mod Converting
 pub mod Programs
 pub mod Uses
 pub mod Free
-pub mod FlatTally

@@ -20,8 +20,8 @@ ghost use Rattle.flat_ir.specs.Levels.{HaveLevels};
 ghost use Rattle.flat_ir.specs.Views.{procs_of};
 ghost use Rattle.closure_convert.specs.Bounds.{CountsKept};
 ghost use Rattle.closure_convert.specs.Conversion.{converted, made};
-ghost use Rattle.closure_convert.specs.FlatTally.{FlatBelow, FlatPaidBelow, flat_tally_in};
-ghost use Rattle.closure_convert.specs.FlatTally.{merged_prices, piled_prices};
+ghost use Rattle.flat_ir.specs.FlatTally.{FlatBelow, FlatPaidBelow, flat_tally_in};
+ghost use Rattle.flat_ir.specs.FlatTally.{merged_prices, piled_prices};
 ghost use Rattle.closure_convert.specs.Programs.{HasNoFreeNames};
 
 use crate::conversion::Converter;

@@ -4,3 +4,4 @@ pub mod Closed
 pub mod Levels
 pub mod Machine
 pub mod Counts
+pub mod FlatTally

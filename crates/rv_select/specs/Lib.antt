@@ -8,3 +8,4 @@ pub mod Sizes
 pub mod Select
 pub mod Selected
 pub mod CodeSizes
+pub mod Prices
