@@ -265,7 +265,7 @@ pub runs : {V : Type 0} (reading : Halt → Ending V) (procs : List Proc) (entry
     → RunsAsWords reading (select_items entry procs) procs entry
 runs reading procs entry low p regs memory world same b never =
     subst (λ ps. Simulates (virtual_machine reading (setting_of low (select_items entry ps)))
-    (low_machine reading low) low p regs memory world) same (record {
+    (low_machine reading low) (setting_of low (select_items entry ps)) low p regs memory world) same (record {
       follows = follows_select reading low entry p regs memory world b.small b.ordered b.aligned b.there b.none b.alloc
           b.region_end never;
       turns = costs_select reading low entry p regs memory world b.small b.ordered b.aligned b.there b.none b.alloc
@@ -277,7 +277,7 @@ pub runs_in_stack : {V : Type 0} (reading : Halt → Ending V) (procs : List Pro
     → RunsInStackAsWords reading (select_items entry procs) procs entry
 runs_in_stack reading procs entry lacking low p regs memory world room same b never =
     subst (λ ps. Simulates (stacked_machine reading (setting_of low (select_items entry ps)) room)
-    (low_in_stack reading low room) low p regs memory world) same (record {
+    (low_in_stack reading low room) (setting_of low (select_items entry ps)) low p regs memory world) same (record {
       follows = follows_in_stack reading low entry p regs memory world room b.small b.ordered b.aligned b.there b.none
           b.alloc b.region_end lacking never;
       turns = costs_in_stack reading low entry p regs memory world room b.small b.ordered b.aligned b.there b.none

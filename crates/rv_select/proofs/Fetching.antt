@@ -3,7 +3,6 @@ use Rattle.std.proofs.Common.{ℕ, zero, suc, ◌+◌, ◌%◌, ◌^◌, ◌≤�
 use Rattle.std.proofs.Common.{Some, None, refl, sym, ◌∙◌, ap, arith}
 use Rattle.std.specs.Prelude.{◌==◌, ◌&&◌, ◌||◌, not, if◌then◌else◌}
 use Rattle.run_laws.specs.Runs.{Ending}
-use Rattle.run_laws.specs.Machines.{Machine, Reaches}
 use Rattle.rv_machine.specs.Registers.{Registers, get_reg, set_reg}
 use Rattle.rv_machine.specs.State.{Halt}
 use Rattle.low_ir.specs.Steps.{Locals}
@@ -13,12 +12,11 @@ use Rattle.low_ir.specs.Run.{word_of}
 use Rattle.rv_select.specs.declared.code.VReg.{VReg}
 use Rattle.rv_select.specs.declared.code.VReg.TheVariants.{Real, Virtual}
 use Rattle.rv_select.specs.declared.code.VirtualItem.{VirtualItem}
-use Rattle.rv_select.specs.Run.{Setting, VirtualState, Shown, may_read, may_write, is_fixed, also_known}
-use Rattle.rv_select.specs.Run.{value, virtual_machine}
+use Rattle.rv_select.specs.Run.{Setting, VirtualState, may_read, may_write, is_fixed, also_known, value}
 use Rattle.rv_select.specs.Select.{source_reg, source_items}
 use Rattle.rv_select.proofs.Stretches.{SameFixed, fixed_self, also_fixed, wrote_real, Stands, stands_past, does_item}
 use Rattle.rv_select.proofs.Stretches.{only_is}
-use Rattle.rv_select.proofs.Stretches.{beyond}
+use Rattle.rv_select.proofs.Stretches.{PaidWay, prices, beyond}
 
 -- a register for numbers
 abbrev pub Scratch : ℕ → Type 0
@@ -108,27 +106,24 @@ written r w regs known sc = steps (may_read r) (is_fixed r) (r == r) (r == 0) sc
     steps true d true true h k m = absurd (let y : ⊥ = cc in y)
 
 module _ {V : Type 0} (reading : Halt → Ending V) (setting : Setting) where
-  abbrev N : Machine VirtualState Shown V
-  N = virtual_machine reading setting
-
-  module _ (P Q : VirtualState → Type 0) (l : Locals) where
+  module _ (P : VirtualState → Type 0) (Q : ℕ → VirtualState → Type 0) (l : Locals) where
     -- one source is fetched, and then go on
-    pub fetch : (r : ℕ) → Scratch r → (a : LowSource) (x : ℕ) (t : VirtualState) (rest : List VirtualItem) (k : ℕ)
+    pub fetch : (r : ℕ) → Scratch r → (a : LowSource) (x : ℕ) (t : VirtualState) (rest : List VirtualItem) (k left : ℕ)
         → word_of l a ≡ Some x → ((i : ℕ) → t.active.locals (t.active.found.first + i) ≡ l i)
         → Stands reading setting t.pc (source_items r a ++ rest) → P t
         → ((regs : Registers) (known : ℕ → Bool) → Kept t r regs known
         → value (record t { regs = regs; known = known; pc = beyond (source_items r a) t.pc })
         (source_reg t.active.found.first r a) ≡ Some x
-        → Reaches N P Q k (record t { regs = regs; known = known; pc = beyond (source_items r a) t.pc }))
-        → Reaches N P Q (fetches a k) t
-    fetch r sc (Word i) x t rest k e f s p go = go t.regs t.known (record { same = λ q h. refl; still = λ q h. h }) (f i
+        → PaidWay reading setting P Q k left (record t { regs = regs; known = known; pc = beyond (source_items r a) t.pc }))
+        → PaidWay reading setting P Q (fetches a k) (prices setting t.active.found (source_items r a) left) t
+    fetch r sc (Word i) x t rest k left e f s p go = go t.regs t.known (record { same = λ q h. refl; still = λ q h. h }) (f i
         ∙ e)
-    fetch r sc (Number zero) x t rest k e f s p go =
+    fetch r sc (Number zero) x t rest k left e f s p go =
         let same : 0 ≡ x = cc in go t.regs t.known (record { same = λ q h. refl; still = λ q h. h }) (ap Some same)
-    fetch r sc (Number (suc n)) x t rest k e f s p go =
+    fetch r sc (Number (suc n)) x t rest k left e f s p go =
         let same : suc n % 2 ^ 64 ≡ x = cc in
         let w : ℕ = suc n % 2 ^ 64 in
-        does_item reading setting P Q k t (wrote_real r w t) _ s.0 (only_is t (may_write r) _ sc.0) p (
+        does_item reading setting P Q k left t (wrote_real r w t) _ s.0 (only_is t (may_write r) _ sc.0) p (
         go (set_reg r w t.regs) (also_known r t.known) (record {
           same = λ q h. ap (λ c. if c && not (r == 0) then w else t.regs q) h;
           still = λ q h. still (q == r) (t.known q) h;
@@ -139,7 +134,7 @@ module _ {V : Type 0} (reading : Halt → Ending V) (setting : Setting) where
         still false d h = h
 
     -- two sources
-    pub fetch_both : (a b : LowSource) (x y : ℕ) (t : VirtualState) (rest : List VirtualItem) (k : ℕ)
+    pub fetch_both : (a b : LowSource) (x y : ℕ) (t : VirtualState) (rest : List VirtualItem) (k left : ℕ)
         → word_of l a ≡ Some x → word_of l b ≡ Some y → ((i : ℕ) → t.active.locals (t.active.found.first + i) ≡ l i)
         → Stands reading setting t.pc (source_items 5 a ++ (source_items 6 b ++ rest))
         → ((regs : Registers) (known : ℕ → Bool) (pc : ℕ) → SameFixed regs t.regs
@@ -157,17 +152,19 @@ module _ {V : Type 0} (reading : Halt → Ending V) (setting : Setting) where
           pc =
               beyond (source_items 6 b) (beyond (source_items 5 a) t.pc);
         }) (source_reg t.active.found.first 6 b) ≡ Some y
-        → Reaches N P Q k (record t {
+        → PaidWay reading setting P Q k left (record t {
           regs = regs;
           known = known;
           pc =
               beyond (source_items 6 b) (beyond (source_items 5 a) t.pc);
-        })) → Reaches N P Q (fetches a (fetches b k)) t
-    fetch_both a b x y t rest k ae be f s p go =
-        fetch 5 (refl, refl, refl, refl) a x t (source_items 6 b ++ rest) (fetches b k) ae f s
+        })) → PaidWay reading setting P Q (fetches a (fetches b k))
+        (prices setting t.active.found (source_items 5 a) (prices setting t.active.found (source_items 6 b) left)) t
+    fetch_both a b x y t rest k left ae be f s p go =
+        fetch 5 (refl, refl, refl, refl) a x t (source_items 6 b ++ rest) (fetches b k)
+        (prices setting t.active.found (source_items 6 b) left) ae f s
         (p t.regs t.known t.pc (fixed_self t.regs)) (λ regs known kept va.
         let u : VirtualState = record t { regs = regs; known = known; pc = beyond (source_items 5 a) t.pc } in
-        fetch 6 (refl, refl, refl, refl) b y u rest k be f (stands_past reading setting (source_items 5 a)
+        fetch 6 (refl, refl, refl, refl) b y u rest k left be f (stands_past reading setting (source_items 5 a)
         (source_items 6 b ++ rest) t.pc s) (p regs known u.pc (kept_fixed kept refl refl refl))
         (λ regs2 known2 kept2 vb.
         go regs2 known2 (also_fixed (kept_fixed kept2 refl refl refl) (kept_fixed kept refl refl refl))

@@ -3,7 +3,7 @@ use Rattle.std.proofs.Common.{ℕ, zero, suc, ◌+◌, ◌<◌, ◌≤◌, ◌�
 use Rattle.std.proofs.Common.{◌++◌, Option, Some, None, refl, sym, ◌∙◌, ap, subst, arith}
 use Rattle.std.specs.Prelude.{◌%◌, ◌^◌, ◌==◌, ◌&&◌, ◌||◌, if◌then◌else◌, length}
 use Rattle.run_laws.specs.Runs.{Ending}
-use Rattle.run_laws.specs.Machines.{Go, Reaches}
+use Rattle.run_laws.specs.Machines.{Go}
 use Rattle.rv_machine.specs.Registers.{Registers, get_reg, set_reg}
 use Rattle.rv_machine.specs.State.{Halt}
 use Rattle.low_ir.specs.Steps.{Locals, set_local}
@@ -13,11 +13,11 @@ use Rattle.low_ir.specs.Run.{word_of, words_of, and_more, bind}
 use Rattle.rv_select.specs.declared.code.VReg.TheVariants.{Real, Virtual}
 use Rattle.rv_select.specs.declared.code.VirtualItem.{VirtualItem}
 use Rattle.rv_select.specs.Run.{Setting, Found, VirtualState, may_read, may_write, is_fixed, also_known, is_own}
-use Rattle.rv_select.specs.Run.{puts, item_step, virtual_machine}
+use Rattle.rv_select.specs.Run.{puts, item_step}
 use Rattle.rv_select.specs.Select.{put_item, args_items, params_items}
 use Rattle.rv_select.proofs.Stretches.{SameFixed, fixed_self, also_fixed, wrote_real, wrote_local, Stands, does_item}
 use Rattle.rv_select.proofs.Stretches.{move_local, write_local, given_is}
-use Rattle.rv_select.proofs.Stretches.{SameFixed, fixed_self, also_fixed, only_is, more, beyond}
+use Rattle.rv_select.proofs.Stretches.{SameFixed, fixed_self, also_fixed, only_is, PaidWay, prices, more, beyond}
 
 -- the words of some sources are those of the first and of the rest
 pub words_cons : (o : Option ℕ) (r : Option (List ℕ)) (ws : List ℕ) → and_more o r ≡ Some ws → (x : ℕ) × (xs : List ℕ)
@@ -186,35 +186,37 @@ module _ {V : Type 0} (reading : Halt → Ending V) (setting : Setting) where
   put_real t l r (Number n) x e f h =
       let same : n % 2 ^ 64 ≡ x = cc in ap (λ w. puts reading setting (Real r) w t) same ∙ only_is t (may_write r) _ h
 
-  module _ (P Q : VirtualState → Type 0) (rest : List VirtualItem) (l : Locals) (k : ℕ) where
+  module _ (P : VirtualState → Type 0) (Q : ℕ → VirtualState → Type 0) (rest : List VirtualItem) (l : Locals)
+      (k left : ℕ) where
     -- words are handed on, one step each
     pub hands : (args : List LowSource) (ws : List ℕ) (from : ℕ) (t : VirtualState) → words_of l args ≡ Some ws
         → ((i : ℕ) → t.active.locals (t.active.found.first + i) ≡ l i) → from + length ws ≤ 8
         → Stands reading setting t.pc (args_items t.active.found.first from args ++ rest)
         → ((regs : Registers) (known : ℕ → Bool) (pc : ℕ) → SameFixed regs t.regs
         → P (record t { regs = regs; known = known; pc = pc }))
-        → Reaches (virtual_machine reading setting) P Q k (record t {
+        → PaidWay reading setting P Q k left (record t {
           regs = args_regs from ws t.regs;
           known =
               args_known from ws t.known;
           pc = beyond (args_items t.active.found.first from args) t.pc;
         })
-        → Reaches (virtual_machine reading setting) P Q (more args k) t
+        → PaidWay reading setting P Q (more args k)
+        (prices setting t.active.found (args_items t.active.found.first from args) left) t
     hands [] ws from t e h f s p r =
         let same : [] ≡ ws = cc in
-        subst (λ xs. Reaches (virtual_machine reading setting) P Q k
+        subst (λ xs. PaidWay reading setting P Q k left
         (record t { regs = args_regs from xs t.regs; known = args_known from xs t.known })) (sym same) r
     hands (a ∷ args) ws from t e h f s p r =
         let c = words_cons (word_of l a) (words_of l args) ws e in
         let t1 : VirtualState = wrote_real (10 + from) c.0 t in
         let f1 : from + length (c.0 ∷ c.1) ≤ 8 = subst (λ xs. from + length xs ≤ 8) c.4 f in
-        let r1 : Reaches (virtual_machine reading setting) P Q k (record t {
+        let r1 : PaidWay reading setting P Q k left (record t {
           regs = args_regs from (c.0 ∷ c.1) t.regs;
           known = args_known from (c.0 ∷ c.1) t.known;
           pc =
               beyond (args_items t.active.found.first from (a ∷ args)) t.pc;
         }) =
-        subst (λ xs. Reaches (virtual_machine reading setting) P Q k
+        subst (λ xs. PaidWay reading setting P Q k left
         (record t {
           regs = args_regs from xs t.regs;
           known = args_known from xs t.known;
@@ -223,7 +225,8 @@ module _ {V : Type 0} (reading : Halt → Ending V) (setting : Setting) where
         })) c.4 r in
         let f2 : from + suc (length c.1) ≤ 8 = omega (arith, f1) in
         let f3 : suc from + length c.1 ≤ 8 = omega (arith, f1) in
-        does_item reading setting P Q (more args k) t t1 _ s.0 (put_real t l (10 + from) a c.0 c.2 h
+        does_item reading setting P Q (more args k) (prices setting t.active.found
+        (args_items t.active.found.first (suc from) args) left) t t1 _ s.0 (put_real t l (10 + from) a c.0 c.2 h
         (writable from (length c.1) f2)) (p t.regs t.known t.pc (fixed_self t.regs)) (
         hands args c.1 (suc from) t1 c.3 h f3 s.1 (λ regs known pc q.
         p regs known pc (also_fixed q (arg_fixed from c.0 t.regs (length c.1) f2))) r1)
@@ -246,24 +249,26 @@ module _ {V : Type 0} (reading : Halt → Ending V) (setting : Setting) where
   own : (f : Found) (from n : ℕ) → from + suc n ≤ f.count → is_own f (f.first + from) ≡ true
   own f from n h = grind arith
 
-  module _ (P Q : VirtualState → Type 0) (rest : List VirtualItem) (k : ℕ) where
+  module _ (P : VirtualState → Type 0) (Q : ℕ → VirtualState → Type 0) (rest : List VirtualItem) (k left : ℕ) where
     -- parameters are taken, one step each
     pub takes : (n from : ℕ) (t : VirtualState) → ((i : ℕ) → from ≤ i → i < from + n → t.known (10 + i) ≡ true)
         → from + n ≤ 8 → from + n ≤ t.active.found.count
         → Stands reading setting t.pc (params_items t.active.found.first from n ++ rest)
         → ((L : Locals) (pc : ℕ) → P (record t { active = record t.active { locals = L }; pc = pc }))
-        → Reaches (virtual_machine reading setting) P Q k (record t {
+        → PaidWay reading setting P Q k left (record t {
           active =
               record t.active { locals = params_locals t.active.found.first from n t.regs t.active.locals };
           pc =
               beyond (params_items t.active.found.first from n) t.pc;
         })
-        → Reaches (virtual_machine reading setting) P Q (plus_steps n k) t
+        → PaidWay reading setting P Q (plus_steps n k)
+        (prices setting t.active.found (params_items t.active.found.first from n) left) t
     takes zero from t kn f g s p r = r
     takes (suc n) from t kn f g s p r =
         let word : ℕ = get_reg t.regs (10 + from) in
         let t1 : VirtualState = wrote_local (t.active.found.first + from) word t in
-        does_item reading setting P Q (plus_steps n k) t t1 _ s.0 (move_local reading setting t
+        does_item reading setting P Q (plus_steps n k) (prices setting t.active.found
+        (params_items t.active.found.first (suc from) n) left) t t1 _ s.0 (move_local reading setting t
         (t.active.found.first + from) (Real (10 + from)) word
         (ap (λ b. if b && (is_fixed (10 + from) || t.known (10 + from)) then Some word else None)
         (readable from n f) ∙ ap (λ b. if b then Some word else None)

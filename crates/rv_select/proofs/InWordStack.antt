@@ -5,10 +5,9 @@ use Rattle.std.specs.Prelude.{pos, ◌==◌, ◌&&◌, nat_lt, nat_le, if◌then
 use Rattle.grift_base.specs.World.{WorldState}
 use Rattle.grift_base.specs.EnvironmentCall.{environment_call}
 use Rattle.run_laws.specs.Runs.{Ending, Verdict, Exhausted, Wrong, Any, NeverWrong, FollowsBy}
-use Rattle.run_laws.specs.Machines.{Next, Go, Stop, Machine, and_then, steps, seen, run, Reaches, Onward, Alike}
-use Rattle.run_laws.specs.Machines.{OnTheWay, StopsAt, UnlessWrong, Simulation}
-use Rattle.run_laws.specs.Meters.{CostSimulation, each_one, unspent, metered, OfRest, Spends}
-use Rattle.run_laws.proofs.Public.{reaches_weaken, follows_from_start, follows_at_cost_from_start}
+use Rattle.run_laws.specs.Machines.{Next, Go, Stop, Machine, and_then, steps, seen, run, Onward, Alike, OnTheWay}
+use Rattle.run_laws.specs.Machines.{StopsAt, UnlessWrong}
+use Rattle.run_laws.specs.Meters.{unspent, metered, OfRest, Spends}
 use Rattle.rv_machine.specs.Memory.{Memory, load_bytes}
 use Rattle.rv_machine.specs.Turn.{plus}
 use Rattle.rv_machine.specs.Registers.{Registers}
@@ -21,16 +20,18 @@ use Rattle.low_ir.specs.Run.{Setting as LowSetting, Waiting, LowState, LowShown,
 use Rattle.low_ir.specs.Run.{bind, with_local, sets, word_of, words_of, proc_from}
 use Rattle.low_ir.specs.Operations.{compute}
 use Rattle.low_ir.specs.declared.code.LowSource.{LowSource}
-use Rattle.low_ir.specs.Run.{enter_some, waits, answers, falls, code_step, low_machine, low_turns, code_turns}
-use Rattle.low_ir.specs.Run.{low_start}
+use Rattle.low_ir.specs.Run.{enter_some, waits, answers, falls, code_step, low_machine, low_start}
+use Rattle.low_ir.specs.Prices.{low_price}
 use Rattle.rv_select.specs.declared.code.VirtualItem.{VirtualItem}
 use Rattle.rv_select.specs.Run.{VirtualState, Shown, virtual_machine, virtual_start}
+use Rattle.rv_select.specs.Prices.{start_price, virtual_price}
 use Rattle.rv_select.specs.Select.{select_items}
 use Rattle.rv_select.specs.Stacks.{stack_of, if_room, stacked_machine, frames_size, low_in_stack}
 use Rattle.rv_select.specs.Selected.{setting_of, SameRegion}
 use Rattle.rv_select.proofs.StackSizes.{stack_held}
-use Rattle.rv_select.proofs.Bounded.{DoesWithin, does_at_all, within, meter}
-use Rattle.rv_select.proofs.Selecting.{On, rate, Laid, as_alike, seen as seen_as, do_code}
+use Rattle.rv_select.proofs.Paying.{Pays, pays_weaken, DoesPaid, PaidSimulation, does_with_more, follows_paid}
+use Rattle.rv_select.proofs.Paying.{unmetered}
+use Rattle.rv_select.proofs.Selecting.{On, OnWith, purse_of, Laid, as_alike, seen as seen_as, do_code}
 use Rattle.rv_select.proofs.Following.{all, starts}
 
 unless : {V P : Type 0} (e : Ending V) → P → UnlessWrong e P
@@ -224,6 +225,10 @@ module _ {V : Type 0} (reading : Halt → Ending V) (low : LowSetting) (items : 
   abbrev NS : Machine VirtualState Shown V
   NS = stacked_machine reading (setting_of low items) room
 
+  -- what items cost
+  abbrev cost : VirtualState → ℕ
+  cost = virtual_price (setting_of low items)
+
   abbrev filled : VirtualState → ℕ
   filled t = stack_of t.active.found t.frames
 
@@ -232,8 +237,17 @@ module _ {V : Type 0} (reading : Halt → Ending V) (low : LowSetting) (items : 
     pub lacks : NS.step t ≡ Stop (reading (Lacks Stack)) t
     pub alike : Alike K MS NS s t
 
-  abbrev Both : LowState → VirtualState → Type 0
-  Both s t = ((bytes s ≤ room) × On reading low items stack small s t) ⊎ ((room < bytes s) × Waits s t)
+  -- the purse has what is owed, or pays the item that doesn't do it
+  abbrev Both : ℕ → LowState → VirtualState → Type 0
+  Both purse s t =
+      ((bytes s ≤ room) × OnWith reading low items stack small purse s t)
+      ⊎ ((room < bytes s) × Waits s t × (cost t ≤ purse))
+
+  abbrev In : LowState → ℕ → VirtualState → Type 0
+  In s purse t = Both purse s t
+
+  abbrev At : LowState → ℕ → VirtualState → Type 0
+  At s purse t = OnWith reading low items stack small purse s t
 
   -- a step that stops may follow one that was not done
   abbrev size : LowState → ℕ
@@ -297,19 +311,22 @@ module _ {V : Type 0} (reading : Halt → Ending V) (low : LowSetting) (items : 
   onward_map P Q Q' (Stop Wrong t1) f o = o
 
   -- a way on which all frames fit, up to its end, is one in the stack
-  stays_in : (P Q : VirtualState → Type 0) → ((t : VirtualState) → P t → filled t ≤ room)
-      → ((t : VirtualState) → Q t → filled t ≤ room) → (k : ℕ) (t : VirtualState) → Reaches N P Q k t
-      → Reaches NS P Q k t
-  stays_in P Q p q zero t r = r
-  stays_in P Q p q (suc k) t r = (
+  stays_in : (P : VirtualState → Type 0) (Q : ℕ → VirtualState → Type 0) → ((t : VirtualState) → P t → filled t ≤ room)
+      → ((left : ℕ) (t : VirtualState) → Q left t → filled t ≤ room) → (k purse : ℕ) (t : VirtualState)
+      → Pays N cost P Q k purse t → Pays NS cost P Q k purse t
+  stays_in P Q p q zero purse t r = r
+  stays_in P Q p q (suc k) purse t r = (
     r.0,
-    onward_map P (Reaches N P Q k) (Reaches NS P Q k) (NS.step t) (λ t1 r1. stays_in P Q p q k t1 r1)
-        (go_on P (Reaches N P Q k) t (N.step t) (λ t1 r1. here k t1 r1) r.1),
+    r.1,
+    r.2,
+    onward_map P (Pays N cost P Q k r.1) (Pays NS cost P Q k r.1) (NS.step t)
+        (λ t1 r1. stays_in P Q p q k r.1 t1 r1)
+        (go_on P (Pays N cost P Q k r.1) t (N.step t) (λ t1 r1. here k r.1 t1 r1) r.3),
   )
     where
-      here : (k : ℕ) (t1 : VirtualState) → Reaches N P Q k t1 → filled t1 ≤ room
-      here zero t1 r1 = q t1 r1
-      here (suc k) t1 r1 = p t1 r1.0
+      here : (k left : ℕ) (t1 : VirtualState) → Pays N cost P Q k left t1 → filled t1 ≤ room
+      here zero left t1 r1 = q left t1 r1
+      here (suc k) left t1 r1 = p t1 r1.0
 
   -- a state from which no frame fits is seen so
   before_all : (s s1 : LowState) (t : VirtualState) → Before s s1 → (Alike K M N s t ⊎ Alike K M N s1 t)
@@ -338,56 +355,64 @@ module _ {V : Type 0} (reading : Halt → Ending V) (low : LowSetting) (items : 
   Way s s1 t = OnTheWay K Any M N s s1 t
 
   -- in no more than so many steps the run in the stack comes to the end of a step over words, or waits before it
-  abbrev Comes : LowState → LowState → ℕ → VirtualState → Type 0
-  Comes s s1 k t = (j : ℕ) × (j ≤ k) × Reaches NS (Way s s1) (λ u. Both s1 u) j t
+  abbrev Comes : LowState → LowState → ℕ → ℕ → VirtualState → Type 0
+  Comes s s1 k purse t = (j : ℕ) × (j ≤ k) × Pays NS cost (Way s s1) (In s1) j purse t
 
-  abbrev Ahead : LowState → LowState → ℕ → VirtualState → Type 0
-  Ahead s s1 k t = Reaches N (Way s s1) (On reading low items stack small s1) k t
+  abbrev Ahead : LowState → LowState → ℕ → ℕ → VirtualState → Type 0
+  Ahead s s1 k purse t = Pays N cost (Way s s1) (At s1) k purse t
 
   chosen : (t t1 : VirtualState) (c : Bool) → N.step t ≡ Go t1 → nat_le (filled t1) room ≡ c
       → NS.step t ≡ (if c then Go t1 else Stop (reading (Lacks Stack)) t)
   chosen t t1 c e f = ap (λ y. if_room reading room t y) e
       ∙ ap (λ b. if b then Go t1 else Stop (reading (Lacks Stack)) t) f
 
-  by_fit : (s s1 : LowState) (k : ℕ) (t t1 : VirtualState) → Before s s1 → room < bytes s1 → Way s s1 t
-      → N.step t ≡ Go t1 → (filled t1 ≤ room → Comes s s1 k t1) → (c : Bool) → nat_le (filled t1) room ≡ c
-      → Comes s s1 (suc k) t
-  by_fit s s1 k t t1 b over w e later true f =
+  by_fit : (s s1 : LowState) (k purse left : ℕ) (t t1 : VirtualState) → Before s s1 → room < bytes s1 → Way s s1 t
+      → cost t + left ≤ purse → N.step t ≡ Go t1 → (filled t1 ≤ room → Comes s s1 k left t1) → (c : Bool)
+      → nat_le (filled t1) room ≡ c → Comes s s1 (suc k) purse t
+  by_fit s s1 k purse left t t1 b over w paid e later true f =
       let i = later (found_within (filled t1) f) in (
         suc i.0,
         (let h = i.1 in omega (arith, h)),
         (
           w,
-          subst (λ y. Onward y (Way s s1) (Reaches NS (Way s s1) (λ u. Both s1 u) i.0)) (sym (chosen t t1 true e f))
-              i.2,
+          left,
+          paid,
+          subst (λ y. Onward y (Way s s1) (Pays NS cost (Way s s1) (In s1) i.0 left)) (sym (chosen t t1 true e f)) i.2,
         ),
       )
-  by_fit s s1 k t t1 b over w e later false f = (
+  by_fit s s1 k purse left t t1 b over w paid e later false f = (
     0,
     omega arith,
-    inr (over, record { lacks = chosen t t1 false e f; alike = before_all s s1 t b w.0 }),
+    inr (over, record { lacks = chosen t t1 false e f; alike = before_all s s1 t b w.0 }, omega (arith, paid)),
   )
 
-  by_next : (s s1 : LowState) (k : ℕ) (t : VirtualState) → Before s s1 → room < bytes s1 → Way s s1 t
-      → ((t1 : VirtualState) → filled t1 ≤ room → Ahead s s1 k t1 → Comes s s1 k t1) → (y : Next VirtualState V)
-      → N.step t ≡ y → Onward y (Way s s1) (Ahead s s1 k) → Comes s s1 (suc k) t
-  by_next s s1 k t b over w later (Go t1) e o =
-      by_fit s s1 k t t1 b over w e (λ f. later t1 f o) (nat_le (filled t1) room) refl
-  by_next s s1 k t b over w later (Stop (Verdict v) t1) e o = absurd o
-  by_next s s1 k t b over w later (Stop Exhausted t1) e o = (
+  by_next : (s s1 : LowState) (k purse left : ℕ) (t : VirtualState) → Before s s1 → room < bytes s1 → Way s s1 t
+      → cost t + left ≤ purse
+      → ((t1 : VirtualState) → filled t1 ≤ room → Ahead s s1 k left t1 → Comes s s1 k left t1)
+      → (y : Next VirtualState V) → N.step t ≡ y → Onward y (Way s s1) (Ahead s s1 k left) → Comes s s1 (suc k) purse t
+  by_next s s1 k purse left t b over w paid later (Go t1) e o =
+      by_fit s s1 k purse left t t1 b over w paid e (λ f. later t1 f o) (nat_le (filled t1) room) refl
+  by_next s s1 k purse left t b over w paid later (Stop (Verdict v) t1) e o = absurd o
+  by_next s s1 k purse left t b over w paid later (Stop Exhausted t1) e o = (
     1,
     omega arith,
-    (w, subst (λ y. Onward (if_room reading room t y) (Way s s1) (λ u. Both s1 u)) (sym e) o),
+    (
+      w,
+      left,
+      paid,
+      subst (λ y. Onward (if_room reading room t y) (Way s s1) (In s1 left)) (sym e) o,
+    ),
   )
-  by_next s s1 k t b over w later (Stop Wrong t1) e o = absurd o
+  by_next s s1 k purse left t b over w paid later (Stop Wrong t1) e o = absurd o
 
   -- the first state from which the next frame doesn't fit
-  comes_to_wait : (s s1 : LowState) → Before s s1 → room < bytes s1 → (k : ℕ) (t : VirtualState) → filled t ≤ room
-      → Ahead s s1 k t → Comes s s1 k t
-  comes_to_wait s s1 b over zero t fits r =
-      let e = as_many s1 t r in absurd (omega (arith, e, over, fits))
-  comes_to_wait s s1 b over (suc k) t fits r =
-      by_next s s1 k t b over r.0 (λ t1 f r1. comes_to_wait s s1 b over k t1 f r1) (N.step t) refl r.1
+  comes_to_wait : (s s1 : LowState) → Before s s1 → room < bytes s1 → (k purse : ℕ) (t : VirtualState)
+      → filled t ≤ room → Ahead s s1 k purse t → Comes s s1 k purse t
+  comes_to_wait s s1 b over zero purse t fits r =
+      let e = as_many s1 t r.0 in absurd (omega (arith, e, over, fits))
+  comes_to_wait s s1 b over (suc k) purse t fits r =
+      by_next s s1 k purse r.1 t b over r.0 r.2 (λ t1 f r1. comes_to_wait s s1 b over k r.1 t1 f r1) (N.step t) refl
+      r.3
 
   -- ---- each step
 
@@ -409,36 +434,37 @@ module _ {V : Type 0} (reading : Halt → Ending V) (low : LowSetting) (items : 
   way_in : (s s1 : LowState) (t : VirtualState) → Way s s1 t → WayIn s s1 t
   way_in s s1 t w = (alike_either s s1 t w.0, tt)
 
-  takes_turns : (code : Code) → 1 ≤ code_turns code
-  takes_turns (Build d args rest) = omega arith
-  takes_turns (Call d k args rest) = omega arith
-  takes_turns (CallAt d f args rest) = omega arith
-  takes_turns (TailCall k args) = omega arith
-  takes_turns (TailCallAt f args) = omega arith
-  takes_turns code = omega arith
+  abbrev Ends : LowState → LowState → Ending V → ℕ → VirtualState → Type 0
+  Ends s s1 e left t = StopsAt K Any M N s s1 e t × (cost t ≤ left)
 
-  abbrev Ends : LowState → LowState → Ending V → VirtualState → Type 0
-  Ends s s1 e t = StopsAt K Any M N s s1 e t
+  abbrev EndsIn : LowState → LowState → Ending V → ℕ → VirtualState → Type 0
+  EndsIn s s1 e left t = StopsAt K Any MS NS s s1 e t × (cost t ≤ left)
 
-  ends_in : (s s1 : LowState) (e : Ending V) (t : VirtualState) → Ends s s1 e t → StopsAt K Any MS NS s s1 e t
-  ends_in s s1 e t q =
-      (way_in s s1 t q.0, (q.1.0, ap (λ y. if_room reading room t y) q.1.1, alike_in s1 q.1.0 q.1.2, tt))
+  ends_in : (s s1 : LowState) (e : Ending V) (left : ℕ) (t : VirtualState) → Ends s s1 e left t → EndsIn s s1 e left t
+  ends_in s s1 e left t q = (
+    (
+      way_in s s1 t q.0.0,
+      (q.0.1.0, ap (λ y. if_room reading room t y) q.0.1.1, alike_in s1 q.0.1.0 q.0.1.2, tt),
+    ),
+    q.1,
+  )
 
-  stops : (c : ℕ) (s s1 : LowState) (t : VirtualState) (e : Ending V) → bytes s ≤ room → bytes s1 ≡ bytes s
-      → (k : ℕ) × (k + 1 ≤ c) × Reaches N (Way s s1) (Ends s s1 e) k t
-      → (k : ℕ) × (k + 1 ≤ c) × Reaches NS (WayIn s s1) (StopsAt K Any MS NS s s1 e) k t
-  stops c s s1 t e h same d =
+  stops : (purse : ℕ) (s s1 : LowState) (t : VirtualState) (e : Ending V) → bytes s ≤ room → bytes s1 ≡ bytes s
+      → (k : ℕ) × (paid : ℕ) × (paid ≤ purse) × Pays N cost (Way s s1) (Ends s s1 e) k paid t
+      → (k : ℕ) × (paid : ℕ) × (paid ≤ purse) × Pays NS cost (WayIn s s1) (EndsIn s s1 e) k paid t
+  stops purse s s1 t e h same d =
       let k : bytes s1 ≤ room = omega (arith, same, h) in (
         d.0,
         d.1,
-        reaches_weaken NS (Way s s1) (Ends s s1 e) (WayIn s s1) (StopsAt K Any MS NS s s1 e)
-            (λ u w. way_in s s1 u w) (λ u q. ends_in s s1 e u q) d.0 t
+        d.2,
+        pays_weaken NS cost (Way s s1) (WayIn s s1) (Ends s s1 e) (EndsIn s s1 e) (λ u w. way_in s s1 u w)
+            (λ left u q. ends_in s s1 e left u q) d.0 d.1 t
             (stays_in (Way s s1) (Ends s s1 e) (λ u w. fits_between s s1 h k u w.0)
-            (λ u q. fits_between s s1 h k u q.0.0) d.0 t d.2),
+            (λ left u q. fits_between s s1 h k u q.0.0.0) d.0 d.1 t d.3),
       )
 
   abbrev Does : ℕ → LowState → VirtualState → Next LowState V → Type 0
-  Does c s t y = DoesWithin K c MS NS Both size s t y
+  Does purse s t y = DoesPaid K MS NS cost Both size purse s t y
 
   size_falls : (s s1 : LowState) → bytes s ≤ room → room < bytes s1 → size s1 < size s
   size_falls s s1 h k =
@@ -448,7 +474,7 @@ module _ {V : Type 0} (reading : Halt → Ending V) (low : LowSetting) (items : 
 
   fitting : (c : ℕ) (s : LowState) (t : VirtualState) → bytes s ≤ room → On reading low items stack small s t
       → (y : Next LowState V) → Grows reading low s y
-      → DoesWithin K c M N (On reading low items stack small) (λ x. 0) s t y → Does c s t y
+      → DoesPaid K M N cost (OnWith reading low items stack small) (λ x. 0) c s t y → Does c s t y
   fitting c s t h on (Go s1) g d = by_fit (nat_le (bytes s1) room) refl
     where
       positive : (0 < d.0) ⊎ (0 < 0) → 0 < d.0
@@ -461,91 +487,87 @@ module _ {V : Type 0} (reading : Halt → Ending V) (low : LowSetting) (items : 
             d.0,
             inl (positive d.1),
             d.2,
-            reaches_weaken NS (Way s s1) (On reading low items stack small s1) (WayIn s s1) (Both s1)
-                (λ u w. way_in s s1 u w) (λ u o. inl (k, o)) d.0 t
-                (stays_in (Way s s1) (On reading low items stack small s1)
-                (λ u w. fits_between s s1 h k u w.0)
-                (λ u o. let e = as_many s1 u o in omega (arith, e, k)) d.0 t d.3),
+            d.3,
+            pays_weaken NS cost (Way s s1) (WayIn s s1) (At s1) (In s1) (λ u w. way_in s s1 u w)
+                (λ left u o. inl (k, o)) d.0 d.2 t
+                (stays_in (Way s s1) (At s1) (λ u w. fits_between s s1 h k u w.0)
+                (λ left u o. let e = as_many s1 u o.0 in omega (arith, e, k)) d.0 d.2 t d.4),
           )
       by_fit false f =
           let k : room < bytes s1 = found_beyond (bytes s1) f in
           let b : Before s s1 = g (omega (arith, h, k)) in
-          let i = comes_to_wait s s1 b k d.0 t (let e = as_many s t on in omega (arith, e, h)) d.3 in (
+          let i = comes_to_wait s s1 b k d.0 d.2 t (let e = as_many s t on in omega (arith, e, h)) d.4 in (
             i.0,
             inr (size_falls s s1 h k),
-            (let x = i.1 in let y = d.2 in omega (arith, x, y)),
-            reaches_weaken NS (Way s s1) (Both s1) (WayIn s s1) (Both s1) (λ u w. way_in s s1 u w) (λ u o. o) i.0 t i.2,
+            d.2,
+            d.3,
+            pays_weaken NS cost (Way s s1) (WayIn s s1) (In s1) (In s1) (λ u w. way_in s s1 u w) (λ left u o. o) i.0
+                d.2 t i.2,
           )
   fitting c s t h on (Stop (Verdict v) s1) g d = stops c s s1 t (Verdict v) h g d
   fitting c s t h on (Stop Exhausted s1) g d = stops c s s1 t Exhausted h g d
   fitting c s t h on (Stop Wrong s1) g d = tt
 
-  does_both : Laid reading low items stack small → (s : LowState) (t : VirtualState) → Both s t
-      → Does (rate * low_turns s) s t (MS.step s)
-  does_both laid s t (inl r) =
-      subst (λ b. Does (rate * low_turns s) s t (if b then code_step reading low s.active.code s
+  does_both : Laid reading low items stack small → (purse : ℕ) (s : LowState) (t : VirtualState) → Both purse s t
+      → Does (purse + low_price low.procs s) s t (MS.step s)
+  does_both laid purse s t (inl r) =
+      let whole : ℕ = purse + low_price low.procs s in
+      subst (λ b. Does whole s t (if b then code_step reading low s.active.code s
       else Stop (reading (Lacks Stack)) s)) (sym (is_within (bytes s) r.0))
-      (fitting (rate * low_turns s) s t r.0 r.1 (code_step reading low s.active.code s)
-      (grows reading low s s.active.code)
-      (do_code reading low items stack small laid s t r.1 s.active.code r.1.active.lies))
-  does_both laid s t (inr r) =
-      subst (λ b. Does (rate * low_turns s) s t (if b then code_step reading low s.active.code s
+      (fitting whole s t r.0 r.1.0 (code_step reading low s.active.code s) (grows reading low s s.active.code)
+      (does_with_more K M N cost (OnWith reading low items stack small) (λ x. 0) s t (purse_of reading low items stack small s s.active.code) whole
+      (code_step reading low s.active.code s) (let owed = r.1.1 in omega (arith, owed))
+      (do_code reading low items stack small laid s t r.1.0 s.active.code r.1.0.active.lies)))
+  does_both laid purse s t (inr r) =
+      let whole : ℕ = purse + low_price low.procs s in
+      subst (λ b. Does whole s t (if b then code_step reading low s.active.code s
       else Stop (reading (Lacks Stack)) s)) (sym (is_beyond (bytes s) r.0))
       (unless (reading (Lacks Stack)) (
         0,
-        (let e = takes_turns s.active.code in omega (arith, e)),
-        ((inl r.1.alike, tt), (t, r.1.lacks, r.1.alike, tt)),
+        purse,
+        omega arith,
+        (((inl r.1.alike, tt), (t, r.1.lacks, r.1.alike, tt)), r.2),
       ))
 
-  alike_both : (s : LowState) (t : VirtualState) → Both s t → Alike K MS NS s t
-  alike_both s t (inl r) =
-      alike_in s t (as_alike reading low items stack small s t (seen_as reading low items stack small s t r.1.body))
-  alike_both s t (inr r) = r.1.alike
+  alike_both : (purse : ℕ) (s : LowState) (t : VirtualState) → Both purse s t → Alike K MS NS s t
+  alike_both purse s t (inl r) =
+      alike_in s t (as_alike reading low items stack small s t (seen_as reading low items stack small s t r.1.0.body))
+  alike_both purse s t (inr r) = r.1.alike
 
-  -- the code in its stack simulates the program in it
-  pub simulates_in_stack : Laid reading low items stack small → Simulation K Any MS NS Both size
+  -- the code in its stack simulates the program in it, each step at no more than its price
+  pub simulates_in_stack : Laid reading low items stack small
+      → PaidSimulation K MS NS (low_price low.procs) cost Both size
   simulates_in_stack laid = record {
-    alike = λ s t r. (alike_both s t r, tt);
-    does = λ s t r. does_at_all K (rate * low_turns s) MS NS Both size s t (MS.step s) (does_both laid s t r);
-    still_allowed = λ b s l. tt;
-  }
-
-  -- at most so many items for each unit of a step's work
-  pub cost_simulates_in_stack : Laid reading low items stack small
-      → CostSimulation K rate MS NS low_turns each_one Both size
-  cost_simulates_in_stack laid = record {
-    alike = λ s t r. alike_both s t r;
-    does = λ s t r. within K (rate * low_turns s) MS NS Both size s t (MS.step s) (does_both laid s t r);
+    alike = λ purse s t r. alike_both purse s t r;
+    does = λ purse s t r. does_both laid purse s t r;
   }
 
   -- where one item enters the program's first procedure
-  pub first_in_stack : (s : LowState) (t : VirtualState) → filled t ≤ room
-      → Reaches N (Way s s) (On reading low items stack small s) 1 t
-      → (j : ℕ) × (j ≤ 1) × Reaches NS (Alike K MS NS s) (Both s) j t
-  first_in_stack s t fits r = by_fit (nat_le (bytes s) room) refl
+  pub first_in_stack : (purse : ℕ) (s : LowState) (t : VirtualState) → filled t ≤ room
+      → Pays N cost (Way s s) (At s) 1 purse t → (j : ℕ) × (j ≤ 1) × Pays NS cost (Alike K MS NS s) (In s) j purse t
+  first_in_stack purse s t fits r = by_fit (nat_le (bytes s) room) refl
     where
       self : Before s s
       self = record { memory = refl; alloc = refl; world = refl; frames = omega arith; held = omega arith }
 
       by_fit : (b : Bool) → nat_le (bytes s) room ≡ b
-          → (j : ℕ) × (j ≤ 1) × Reaches NS (Alike K MS NS s) (Both s) j t
+          → (j : ℕ) × (j ≤ 1) × Pays NS cost (Alike K MS NS s) (In s) j purse t
       by_fit true f =
           let k : bytes s ≤ room = found_within (bytes s) f in (
             1,
             omega arith,
-            reaches_weaken NS (Way s s) (On reading low items stack small s) (Alike K MS NS s) (Both s)
-                (λ u w. either s u w.0) (λ u o. inl (k, o)) 1 t
-                (stays_in (Way s s) (On reading low items stack small s)
-                (λ u w. fits_between s s k k u w.0)
-                (λ u o. let e = as_many s u o in omega (arith, e, k)) 1 t r),
+            pays_weaken NS cost (Way s s) (Alike K MS NS s) (At s) (In s) (λ u w. either s u w.0)
+                (λ left u o. inl (k, o)) 1 purse t
+                (stays_in (Way s s) (At s) (λ u w. fits_between s s k k u w.0)
+                (λ left u o. let e = as_many s u o.0 in omega (arith, e, k)) 1 purse t r),
           )
       by_fit false f =
           let k : room < bytes s = found_beyond (bytes s) f in
-          let i = comes_to_wait s s self k 1 t fits r in (
+          let i = comes_to_wait s s self k 1 purse t fits r in (
             i.0,
             i.1,
-            reaches_weaken NS (Way s s) (Both s) (Alike K MS NS s) (Both s) (λ u w. either s u w.0) (λ u o. o) i.0 t
-                i.2,
+            pays_weaken NS cost (Way s s) (Alike K MS NS s) (In s) (In s) (λ u w. either s u w.0) (λ left u o. o) i.0
+                purse t i.2,
           )
 
 -- ---- whole runs
@@ -579,29 +601,28 @@ module _ {V : Type 0} (reading : Halt → Ending V) (low : LowSetting) (entry : 
     top,
   )
 
-  begun : (j : ℕ) × (j ≤ 1) × Reaches (NS reading low code (regs 25) small room)
+  begun : (j : ℕ) × (j ≤ 1) × Pays (NS reading low code (regs 25) small room) (virtual_price (setting_of low code))
       (Alike (SameRegion (regs 25) low.top) (MS reading low code (regs 25) small room)
-      (NS reading low code (regs 25) small room) s0) (Both reading low code (regs 25) small room s0) j t0
-  begun = first_in_stack reading low code (regs 25) small room s0 t0 (omega arith)
+      (NS reading low code (regs 25) small room) s0) (In reading low code (regs 25) small room s0) j start_price t0
+  begun = first_in_stack reading low code (regs 25) small room start_price s0 t0 (omega arith)
       (starts reading low entry p regs memory world small fits even found none alloc top
       (Way reading low code (regs 25) small room s0 s0) (inl first, tt))
 
   never_in_stack : NeverWrong (run (MS reading low code (regs 25) small room) s0)
   never_in_stack = low_never_wrong reading low room lacking s0 never
 
+  pub costs_in_stack : FollowsBy (OfRest (SameRegion (regs 25) low.top)) (Spends 1)
+      (run (metered (virtual_price (setting_of low code)) (stacked_machine reading (setting_of low code) room))
+      (unspent t0))
+      (run (metered (low_price low.procs) (low_in_stack reading low room))
+      (record { spent = start_price; rest = s0 }))
+  costs_in_stack =
+      follows_paid (simulates_in_stack reading low code (regs 25) small room laid_out) start_price s0 begun.0 t0
+      begun.2 never_in_stack
+
   pub follows_in_stack : FollowsBy (SameRegion (regs 25) low.top) Any
       (run (stacked_machine reading (setting_of low code) room) t0) (run (low_in_stack reading low room) s0)
   follows_in_stack =
-      follows_from_start (simulates_in_stack reading low code (regs 25) small room laid_out) s0 begun.0 t0
-      (reaches_weaken (NS reading low code (regs 25) small room) _ _ _ _ (λ t a. (a, tt)) (λ t b. b) begun.0 t0
-      begun.2) never_in_stack
-
-  pub costs_in_stack : FollowsBy (OfRest (SameRegion (regs 25) low.top)) (Spends rate)
-      (run (metered each_one (stacked_machine reading (setting_of low code) room)) (unspent t0))
-      (run (metered low_turns (low_in_stack reading low room)) (record { spent = 1; rest = s0 }))
-  costs_in_stack =
-      follows_at_cost_from_start (cost_simulates_in_stack reading low code (regs 25) small room laid_out)
-      (record { spent = 1; rest = s0 }) begun.0 (unspent t0) (meter (NS reading low code (regs 25) small room)
-      (Alike (SameRegion (regs 25) low.top) (MS reading low code (regs 25) small room)
-      (NS reading low code (regs 25) small room) s0) (Both reading low code (regs 25) small room s0) begun.0 0 rate t0
-      (let h = begun.1 in omega (arith, h)) begun.2) never_in_stack
+      unmetered (low_in_stack reading low room) (stacked_machine reading (setting_of low code) room)
+      (low_price low.procs) (virtual_price (setting_of low code)) (record { spent = start_price; rest = s0 }) t0
+      never_in_stack costs_in_stack

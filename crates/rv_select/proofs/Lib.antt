@@ -3,6 +3,8 @@ pub mod WordCounts
 pub mod Spared
 pub mod Public
 mod Bounded
+mod Paying
+mod Pricing
 mod Stretches
 mod Fetching
 mod Handing

@@ -9,9 +9,7 @@ use Rattle.grift_base.specs.EnvironmentCall.{Called, environment_call}
 use Rattle.grift_base.specs.declared.verdicts.Verdict.TheVariants.{Answer}
 use Rattle.grift_base.specs.declared.verdicts.AnswerKind.TheVariants.{Int as IntKind}
 use Rattle.run_laws.specs.Runs.{Ending, Verdict, Exhausted, Wrong, Any}
-use Rattle.run_laws.specs.Machines.{Next, Go, Stop, Machine, Reaches, Alike, OnTheWay, StopsAt, UnlessWrong}
-use Rattle.run_laws.specs.Machines.{Simulation}
-use Rattle.run_laws.specs.Meters.{CostSimulation, each_one}
+use Rattle.run_laws.specs.Machines.{Next, Go, Stop, Machine, Alike, OnTheWay, StopsAt, UnlessWrong}
 use Rattle.rv_isa.specs.declared.inst.Cond.{Cond}
 use Rattle.rv_isa.specs.declared.inst.Cond.TheVariants.{Ltu}
 use Rattle.rv_machine.specs.Memory.{Memory, load_bytes, store_bytes}
@@ -33,30 +31,35 @@ use Rattle.low_ir.specs.Procedures.{Call as LowCall, CallAt as LowCallAt, If, Re
 use Rattle.low_ir.specs.Procedures.{TailCall as LowTailCall, TailCallAt as LowTailCallAt, Proc}
 use Rattle.low_ir.specs.Run.{Setting as LowSetting, Active as LowActive, Waiting, LowState, LowShown, word_of, words_of}
 use Rattle.low_ir.specs.Run.{and_more, with_local, bind, goes_on, sets, proc_from, answers, waits, falls}
-use Rattle.low_ir.specs.Run.{low_machine, code_step, code_turns, low_turns, finds_no_room, held_by as words_held}
+use Rattle.low_ir.specs.Run.{low_machine, code_step, finds_no_room, held_by as words_held}
+use Rattle.low_ir.specs.Prices.{slot_price, source_price, sources_price, entering, leaving, entering_some, step_price}
+use Rattle.low_ir.specs.Prices.{low_price}
 use Rattle.rv_select.specs.declared.code.VReg.{VReg}
 use Rattle.rv_select.specs.declared.code.VReg.TheVariants.{Real, Virtual}
 use Rattle.rv_select.specs.declared.code.VirtualItem.{VirtualItem}
-use Rattle.rv_select.specs.declared.code.VirtualItem.TheVariants.{Move, Compute, ComputeWith, Load, Store}
-use Rattle.rv_select.specs.declared.code.VirtualItem.TheVariants.{Mark, Jump, Branch, Call, CallAt}
-use Rattle.rv_select.specs.declared.code.VirtualItem.TheVariants.{TailCall, TailCallAt, Environment}
+use Rattle.rv_select.specs.declared.code.VirtualItem.TheVariants.{Constant, Move, Compute, ComputeWith, Load, Store}
+use Rattle.rv_select.specs.declared.code.VirtualItem.TheVariants.{CodeOf, Mark, Jump, Branch, Call, CallAt}
+use Rattle.rv_select.specs.declared.code.VirtualItem.TheVariants.{TailCall, TailCallAt, Return, Environment}
 use Rattle.rv_select.specs.Run.{Setting, Found, Active, Frame, VirtualState, Shown, held_by, fits_item, also_known}
 use Rattle.rv_select.specs.Run.{only_args}
 use Rattle.rv_select.specs.Run.{only_answer, is_own, value, mark_place, procedure_from, procedure_at, puts, store}
 use Rattle.rv_select.specs.Run.{framed, back_to, branch, item_step, step_here, virtual_machine}
-use Rattle.rv_select.specs.Select.{is_small, number_of, second_items, compute_item, source_reg, source_items}
+use Rattle.rv_select.specs.Select.{put_item, is_small, number_of, second_items, compute_item, source_reg, source_items}
 use Rattle.rv_select.specs.Select.{args_items, params_items, stores_items, marks_in, code_items, out_items}
 use Rattle.rv_select.specs.Select.{answer_items}
 use Rattle.rv_select.specs.Selected.{setting_of, SameRegion}
-use Rattle.rv_select.proofs.Bounded.{DoesWithin, does_at_all, within}
-use Rattle.rv_select.proofs.Fetching.{NotIn, kept_value, kept_fixed, wrote_kept, source_apart, fetches, fetches_le}
-use Rattle.rv_select.proofs.Fetching.{fetches_ge, fetch, fetch_both}
+use Rattle.rv_select.specs.Prices.{end_price, register_price, giving_up, entering_found, item_price, virtual_price}
+use Rattle.rv_select.proofs.Paying.{DoesPaid, PaidSimulation, does_with_more}
+use Rattle.rv_select.proofs.Pricing.{own_slot, number_paid, few_bytes, leaving_paid, source_paid, put_paid, args_paid}
+use Rattle.rv_select.proofs.Pricing.{params_paid, stores_paid, prices_append}
+use Rattle.rv_select.proofs.Fetching.{NotIn, kept_value, kept_fixed, wrote_kept, source_apart, fetches, fetches_ge}
+use Rattle.rv_select.proofs.Fetching.{fetch, fetch_both}
 use Rattle.rv_select.proofs.Handing.{args_known, known_args, words_length, args_regs}
 use Rattle.rv_select.proofs.Handing.{HasArgs, args_fixed, has_args, set_shifted, bound, hands, takes}
 use Rattle.rv_select.proofs.Handing.{plus_steps, plus_is, put_local, put_real}
 use Rattle.rv_select.proofs.Stretches.{wrote_real, wrote_local, Stands, stands_front, stands_past, does_item}
 use Rattle.rv_select.proofs.Stretches.{move_local, write_local, given_is, only_is, more, more_is, beyond, beyond_append}
-use Rattle.rv_select.proofs.Stretches.{SameFixed, fixed_self, also_fixed}
+use Rattle.rv_select.proofs.Stretches.{SameFixed, fixed_self, also_fixed, PaidWay, price_here, prices}
 
 own : (f : Found) (count d : ℕ) → f.count ≡ count → nat_lt d count ≡ true → is_own f (f.first + d) ≡ true
 own f count d e h = grind arith
@@ -94,9 +97,18 @@ tight alloc n top h r k = grind arith
 within_top : (a b : ℕ) → nat_le a b ≡ true → a ≤ b
 within_top a b h = grind arith
 
--- a step takes at most so many items for each unit of its work
-abbrev pub rate : ℕ
-rate = 9
+-- what is still owed behind the steps of a state: each procedure that waits puts its answer into a word, for which the
+-- call has paid, and then the run ends
+abbrev pub owed : List Waiting → ℕ
+owed [] = end_price
+owed (w ∷ ws) = 1 + slot_price w.answer + owed ws
+
+end_is_owed : (ws : List Waiting) → 6 ≤ owed ws
+end_is_owed [] = omega arith
+end_is_owed (w ∷ ws) = let i = end_is_owed ws in omega (arith, i)
+
+pub all_owed : (n : ℕ) → n ≤ n
+all_owed n = omega arith
 
 module _ {V : Type 0} (reading : Halt → Ending V) (low : LowSetting) (items : List VirtualItem) (stack : ℕ)
     (small : low.top < 2 ^ 64) where
@@ -111,6 +123,10 @@ module _ {V : Type 0} (reading : Halt → Ending V) (low : LowSetting) (items : 
   -- that of the items
   abbrev pub N : Machine VirtualState Shown V
   N = virtual_machine reading setting
+
+  -- and what its items cost
+  abbrev pub cost : VirtualState → ℕ
+  cost = virtual_price setting
 
   -- these items stand here
   abbrev pub Here : ℕ → List VirtualItem → Type 0
@@ -227,6 +243,13 @@ module _ {V : Type 0} (reading : Halt → Ending V) (low : LowSetting) (items : 
     pub behind : Behind s.waiting t.frames
     pub body : Body s t
 
+  -- with so much in the purse, which has what is owed
+  abbrev pub OnWith : ℕ → LowState → VirtualState → Type 0
+  OnWith purse s t = On s t × (owed s.waiting ≤ purse)
+
+  abbrev At : LowState → ℕ → VirtualState → Type 0
+  At s purse t = OnWith purse s t
+
   abbrev Way : LowState → LowState → VirtualState → Type 0
   Way s s1 t = OnTheWay (SameRegion stack low.top) Any M N s s1 t
 
@@ -278,7 +301,24 @@ module _ {V : Type 0} (reading : Halt → Ending V) (low : LowSetting) (items : 
   size s = 0
 
   abbrev Sim : ℕ → LowState → VirtualState → Next LowState V → Type 0
-  Sim c s t y = DoesWithin (SameRegion stack low.top) c M N On size s t y
+  Sim purse s t y = DoesPaid (SameRegion stack low.top) M N cost OnWith size purse s t y
+
+  -- what a step may cost: its price, and what is owed
+  abbrev pub purse_of : LowState → Code → ℕ
+  purse_of s c = owed s.waiting + step_price low.procs s.active.count c
+
+  -- the last state of a run, with what its item costs
+  abbrev Ends : LowState → LowState → Ending V → ℕ → VirtualState → Type 0
+  Ends s s1 e left t = StopsAt (SameRegion stack low.top) Any M N s s1 e t × (cost t ≤ left)
+
+  as_much : (a b : ℕ) → a ≡ b → a ≤ b
+  as_much a b e = omega (arith, e)
+
+  -- an item that stands here costs its price
+  cost_here : (t : VirtualState) (item : VirtualItem) → slice_get items t.pc ≡ Some item
+      → cost t ≤ item_price setting t.active.found item
+  cost_here t item here = as_much (cost t) (item_price setting t.active.found item)
+      (price_here reading setting t item here)
 
   sim_given : {A : Type 0} (c : ℕ) (s s0 : LowState) (t : VirtualState) (o : Option A) (f : A → Next LowState V)
       → ((x : A) → o ≡ Some x → Sim c s t (f x)) → Sim c s t (given s0 o f)
@@ -353,19 +393,20 @@ module _ {V : Type 0} (reading : Halt → Ending V) (low : LowSetting) (items : 
       → Bool) (pc : ℕ) (item : VirtualItem) → SameFixed regs t.regs → ItemsOn s t on pc (item ∷ items_of s t on rest)
       → item_step reading setting item (record t { regs = regs; known = known; pc = pc })
       ≡ Go (wrote_local (t.active.found.first + d) word (record t { regs = regs; known = known; pc = pc }))
-      → Reaches N (Way s (record s { active = with_local d word (record s.active { code = rest }) }))
-      (On (record s { active = with_local d word (record s.active { code = rest }) })) 1
-      (record t { regs = regs; known = known; pc = pc })
+      → PaidWay reading setting (Way s (record s { active = with_local d word (record s.active { code = rest }) }))
+      (At (record s { active = with_local d word (record s.active { code = rest }) })) 1
+      (item_price setting t.active.found item + owed s.waiting) (record t { regs = regs; known = known; pc = pc })
   item_sets s t on rest d word regs known pc item h lies step =
       let s1 : LowState = record s { active = with_local d word (record s.active { code = rest }) } in
       let u : VirtualState = record t { regs = regs; known = known; pc = pc } in
-      does_item reading setting (Way s s1) (On s1) 0 u (wrote_local (t.active.found.first + d) word u) item
+      does_item reading setting (Way s s1) (At s1) 0 (owed s.waiting) u
+      (wrote_local (t.active.found.first + d) word u) item
       lies.stands.0 step (way_regs s s1 t on.body regs known pc h) (record {
         active = active_set s t on rest d word (suc pc) (next t.active.found on.active.out pc item
             (items_of s t on rest) s.active.rests lies);
         behind = on.behind;
         body = body_regs s t regs known (suc pc) on.body h;
-      })
+      }, all_owed (owed s.waiting))
 
   mine : (s : LowState) (t : VirtualState) (on : On s t) (d : ℕ) → nat_lt d s.active.count ≡ true
       → is_own t.active.found (t.active.found.first + d) ≡ true
@@ -374,13 +415,18 @@ module _ {V : Type 0} (reading : Halt → Ending V) (low : LowSetting) (items : 
   -- ---- straight code
 
   do_set : (s : LowState) (t : VirtualState) (on : On s t) (d : ℕ) (a : LowSource) (rest : Code)
-      → LiesOn s t on t.pc (Set d a rest) → Sim rate s t (code_step reading low (Set d a rest) s)
+      → LiesOn s t on t.pc (Set d a rest)
+      → Sim (purse_of s (Set d a rest)) s t (code_step reading low (Set d a rest) s)
   do_set s t on d a rest lies =
-      sim_given rate s s t (word_of s.active.locals a) _ (λ x e.
-      sim_if rate s (popped s rest) t (nat_lt d s.active.count) _ (λ h. (
+      let f : Found = t.active.found in
+      let purse : ℕ = purse_of s (Set d a rest) in
+      sim_given purse s s t (word_of s.active.locals a) _ (λ x e.
+      sim_if purse s (popped s rest) t (nat_lt d s.active.count) _ (λ h. (
         1,
         inl (omega arith),
-        omega arith,
+        item_price setting f (put_item f.first (Virtual (f.first + d)) a) + owed s.waiting,
+        (let p = put_paid setting f (Virtual (f.first + d)) a in
+        let q = own_slot f.first d in omega (arith, p, q)),
         item_sets s t on rest d x t.regs t.known t.pc _ (fixed_self t.regs) lies
             (put_local reading setting t s.active.locals (t.active.found.first + d) a x e on.active.locals
             (mine s t on d h)),
@@ -390,20 +436,34 @@ module _ {V : Type 0} (reading : Halt → Ending V) (low : LowSetting) (items : 
   some_steps : (a b : LowSource) → 0 < fetches a (fetches b 1)
   some_steps a b = let h = fetches_ge b 1 in let k = fetches_ge a (fetches b 1) in omega (arith, h, k)
 
-  few_steps : (a b : LowSource) → fetches a (fetches b 1) ≤ 3
-  few_steps a b = let h = fetches_le b 1 in let k = fetches_le a (fetches b 1) in omega (arith, h, k)
+  -- what puts both into registers, and the item that reads them there
+  both_paid : (s : LowState) (t : VirtualState) (a b : LowSource) (left : ℕ)
+      → (let f : Found = t.active.found in
+      prices setting f (source_items 5 a) (prices setting f (source_items 6 b) left)
+      + (register_price f.first (source_reg f.first 5 a) + register_price f.first (source_reg f.first 6 b))
+      ≤ source_price a + source_price b + left)
+  both_paid s t a b left =
+      let f : Found = t.active.found in
+      let p = source_paid setting f 5 a (prices setting f (source_items 6 b) left) in
+      let q = source_paid setting f 6 b left in omega (arith, p, q)
 
   do_compute : (s : LowState) (t : VirtualState) (on : On s t) (op : WordOp) (d : ℕ) (a b : LowSource) (rest : Code)
       → LiesOn s t on t.pc (LowCompute op d a b rest)
-      → Sim rate s t (code_step reading low (LowCompute op d a b rest) s)
+      → Sim (purse_of s (LowCompute op d a b rest)) s t (code_step reading low (LowCompute op d a b rest) s)
   do_compute s t on op d a b rest lies =
-      sim_given rate s s t (word_of s.active.locals a) _ (λ x ae.
-      sim_given rate s s t (word_of s.active.locals b) _ (λ y be.
-      sim_if rate s (popped s rest) t (nat_lt d s.active.count) _ (λ h.
+      sim_given purse s s t (word_of s.active.locals a) _ (λ x ae.
+      sim_given purse s s t (word_of s.active.locals b) _ (λ y be.
+      sim_if purse s (popped s rest) t (nat_lt d s.active.count) _ (λ h.
       by_kind x y ae be h (is_small op b) refl lies)))
     where
+      purse : ℕ
+      purse = purse_of s (LowCompute op d a b rest)
+
+      f : Found
+      f = t.active.found
+
       first : ℕ
-      first = t.active.found.first
+      first = f.first
 
       p1 : ℕ
       p1 = beyond (source_items 5 a) t.pc
@@ -424,16 +484,19 @@ module _ {V : Type 0} (reading : Halt → Ending V) (low : LowSetting) (items : 
           → nat_lt d s.active.count ≡ true → (c : Bool) → is_small op b ≡ c
           → ItemsOn s t on t.pc (source_items 5 a ++ (second_items c b
           ++ (compute_item c first op (Virtual (first + d)) a b ∷ items_of s t on rest)))
-          → Sim rate s t (Go (after x y))
+          → Sim purse s t (Go (after x y))
       by_kind x y ae be h true small_b there =
           let s1 : LowState = after x y in
           let item : VirtualItem = ComputeWith op (Virtual (first + d)) (source_reg first 5 a) (number_of b) in
           let k = small_is b y small_b be in (
             fetches a 1,
             inl (let z = fetches_ge a 1 in omega (arith, z)),
-            (let z = fetches_le a 1 in omega (arith, z)),
-            fetch reading setting (Way s s1) (On s1) s.active.locals 5 (refl, refl, refl, refl) a x t (item
-                ∷ items_of s t on rest) 1 ae on.active.locals there.stands (way_first s s1 t on.body)
+            prices setting f (source_items 5 a) (item_price setting f item + owed s.waiting),
+            (let p = source_paid setting f 5 a (item_price setting f item + owed s.waiting) in
+            let q = own_slot first d in omega (arith, p, q)),
+            fetch reading setting (Way s s1) (At s1) s.active.locals 5 (refl, refl, refl, refl) a x t (item
+                ∷ items_of s t on rest) 1 (item_price setting f item + owed s.waiting) ae on.active.locals there.stands
+                (way_first s s1 t on.body)
                 (λ regs known kept va.
                 item_sets s t on rest d (compute op x y) regs known p1 item (kept_fixed kept refl refl refl)
                 (past t.active.found on.active.out t.pc (source_items 5 a) (item
@@ -450,9 +513,13 @@ module _ {V : Type 0} (reading : Halt → Ending V) (low : LowSetting) (items : 
           let pc : ℕ = beyond (source_items 6 b) p1 in (
             fetches a (fetches b 1),
             inl (some_steps a b),
-            (let z = few_steps a b in omega (arith, z)),
-            fetch_both reading setting (Way s s1) (On s1) s.active.locals a b x y t (item
-                ∷ items_of s t on rest) 1 ae be on.active.locals there.stands (way_regs s s1 t on.body)
+            prices setting f (source_items 5 a) (prices setting f (source_items 6 b)
+                (item_price setting f item + owed s.waiting)),
+            (let p = both_paid s t a b (item_price setting f item + owed s.waiting) in
+            let q = own_slot first d in omega (arith, p, q)),
+            fetch_both reading setting (Way s s1) (At s1) s.active.locals a b x y t (item
+                ∷ items_of s t on rest) 1 (item_price setting f item + owed s.waiting) ae be on.active.locals
+                there.stands (way_regs s s1 t on.body)
                 (λ regs known same va vb.
                 item_sets s t on rest d (compute op x y) regs known pc item same
                 (past t.active.found on.active.out p1 (source_items 6 b) (item
@@ -463,22 +530,27 @@ module _ {V : Type 0} (reading : Halt → Ending V) (low : LowSetting) (items : 
           )
 
   do_load : (s : LowState) (t : VirtualState) (on : On s t) (d : ℕ) (a : LowSource) (offset : ℕ) (rest : Code)
-      → LiesOn s t on t.pc (LowLoad d a offset rest) → Sim rate s t (code_step reading low (LowLoad d a offset rest) s)
+      → LiesOn s t on t.pc (LowLoad d a offset rest)
+      → Sim (purse_of s (LowLoad d a offset rest)) s t (code_step reading low (LowLoad d a offset rest) s)
   do_load s t on d a offset rest lies =
-      let first : ℕ = t.active.found.first in
+      let purse : ℕ = purse_of s (LowLoad d a offset rest) in
+      let f : Found = t.active.found in
+      let first : ℕ = f.first in
       let item : VirtualItem = Load (Virtual (first + d)) (source_reg first 5 a) offset in
       let pc : ℕ = beyond (source_items 5 a) t.pc in
-      sim_given rate s s t (word_of s.active.locals a) _ (λ x ae.
+      let left : ℕ = item_price setting f item + owed s.waiting in
+      sim_given purse s s t (word_of s.active.locals a) _ (λ x ae.
       let at : ℕ = plus x (pos offset) in
-      sim_if rate s (popped s rest) t (may_load low.top at) _ (λ m.
-      sim_if rate s (popped s rest) t (nat_lt d s.active.count) _ (λ h.
+      sim_if purse s (popped s rest) t (may_load low.top at) _ (λ m.
+      sim_if purse s (popped s rest) t (nat_lt d s.active.count) _ (λ h.
       let word : ℕ = load_bytes 8 s.memory at in
       let s1 : LowState = record s { active = with_local d word (record s.active { code = rest }) } in (
         fetches a 1,
         inl (let z = fetches_ge a 1 in omega (arith, z)),
-        (let z = fetches_le a 1 in omega (arith, z)),
-        fetch reading setting (Way s s1) (On s1) s.active.locals 5 (refl, refl, refl, refl) a x t (item
-            ∷ items_of s t on rest) 1 ae on.active.locals lies.stands (way_first s s1 t on.body)
+        prices setting f (source_items 5 a) left,
+        (let p = source_paid setting f 5 a left in let q = own_slot first d in omega (arith, p, q)),
+        fetch reading setting (Way s s1) (At s1) s.active.locals 5 (refl, refl, refl, refl) a x t (item
+            ∷ items_of s t on rest) 1 left ae on.active.locals lies.stands (way_first s s1 t on.body)
             (λ regs known kept va.
             item_sets s t on rest d word regs known pc item (kept_fixed kept refl refl refl)
             (past t.active.found on.active.out t.pc (source_items 5 a) (item
@@ -492,16 +564,19 @@ module _ {V : Type 0} (reading : Halt → Ending V) (low : LowSetting) (items : 
 
   do_store : (s : LowState) (t : VirtualState) (on : On s t) (b a : LowSource) (offset : ℕ) (rest : Code)
       → LiesOn s t on t.pc (LowStore b a offset rest)
-      → Sim rate s t (code_step reading low (LowStore b a offset rest) s)
+      → Sim (purse_of s (LowStore b a offset rest)) s t (code_step reading low (LowStore b a offset rest) s)
   do_store s t on b a offset rest lies =
-      let first : ℕ = t.active.found.first in
+      let purse : ℕ = purse_of s (LowStore b a offset rest) in
+      let f : Found = t.active.found in
+      let first : ℕ = f.first in
       let item : VirtualItem = Store (source_reg first 6 b) (source_reg first 5 a) offset in
       let p1 : ℕ = beyond (source_items 5 a) t.pc in
       let pc : ℕ = beyond (source_items 6 b) p1 in
-      sim_given rate s s t (word_of s.active.locals a) _ (λ x ae.
-      sim_given rate s s t (word_of s.active.locals b) _ (λ y be.
+      let left : ℕ = item_price setting f item + owed s.waiting in
+      sim_given purse s s t (word_of s.active.locals a) _ (λ x ae.
+      sim_given purse s s t (word_of s.active.locals b) _ (λ y be.
       let at : ℕ = plus x (pos offset) in
-      sim_if rate s (popped s rest) t (may_store low.region low.top at) _ (λ m.
+      sim_if purse s (popped s rest) t (may_store low.region low.top at) _ (λ m.
       let s1 : LowState = record s {
         active = record s.active { code = rest };
         memory =
@@ -509,9 +584,10 @@ module _ {V : Type 0} (reading : Halt → Ending V) (low : LowSetting) (items : 
       } in (
         fetches a (fetches b 1),
         inl (some_steps a b),
-        (let z = few_steps a b in omega (arith, z)),
-        fetch_both reading setting (Way s s1) (On s1) s.active.locals a b x y t (item
-            ∷ items_of s t on rest) 1 ae be on.active.locals lies.stands (way_regs s s1 t on.body)
+        prices setting f (source_items 5 a) (prices setting f (source_items 6 b) left),
+        (let p = both_paid s t a b left in omega (arith, p)),
+        fetch_both reading setting (Way s s1) (At s1) s.active.locals a b x y t (item
+            ∷ items_of s t on rest) 1 left ae be on.active.locals lies.stands (way_regs s s1 t on.body)
             (λ regs known same va vb.
             let u : VirtualState = record t { regs = regs; known = known; pc = pc } in
             let here : ItemsOn s t on pc (item ∷ items_of s t on rest) =
@@ -519,7 +595,7 @@ module _ {V : Type 0} (reading : Halt → Ending V) (low : LowSetting) (items : 
             ∷ items_of s t on rest) s.active.rests (past t.active.found on.active.out t.pc (source_items 5 a)
             (source_items 6 b ++ (item ∷ items_of s t on rest)) s.active.rests lies) in
             let body = body_regs s t regs known (suc pc) on.body same in
-            does_item reading setting (Way s s1) (On s1) 0 u (record u {
+            does_item reading setting (Way s s1) (At s1) 0 (owed s.waiting) u (record u {
               memory = store_bytes 8 u.memory at y;
               pc =
                   suc pc;
@@ -539,20 +615,24 @@ module _ {V : Type 0} (reading : Halt → Ending V) (low : LowSetting) (items : 
                 body.7,
                 body.8,
               );
-            })),
+            }, all_owed (owed s.waiting))),
       ))))
 
   -- ---- the allocation word
 
   do_take : (s : LowState) (t : VirtualState) (on : On s t) (a : LowSource) (rest : Code)
-      → LiesOn s t on t.pc (Take a rest) → Sim rate s t (code_step reading low (Take a rest) s)
+      → LiesOn s t on t.pc (Take a rest) → Sim (purse_of s (Take a rest)) s t (code_step reading low (Take a rest) s)
   do_take s t on a rest lies =
-      let first : ℕ = t.active.found.first in
+      let purse : ℕ = purse_of s (Take a rest) in
+      let f : Found = t.active.found in
+      let first : ℕ = f.first in
+      let shift : VirtualItem = ComputeWith Sll (Real 5) (source_reg first 7 a) 3 in
+      let left : ℕ = item_price setting f shift + (1 + owed s.waiting) in
       let tail : List VirtualItem = ComputeWith Sll (Real 5) (source_reg first 7 a) 3
       ∷ Compute Add (Real 26) (Real 26) (Real 5) ∷ items_of s t on rest in
       let pc : ℕ = beyond (source_items 7 a) t.pc in
-      sim_given rate s s t (word_of s.active.locals a) _ (λ n ae.
-      sim_if rate s (popped s rest) t (nat_le (s.alloc + 8 * n) low.top) _ (λ h.
+      sim_given purse s s t (word_of s.active.locals a) _ (λ n ae.
+      sim_if purse s (popped s rest) t (nat_le (s.alloc + 8 * n) low.top) _ (λ h.
       let s1 : LowState = record s {
         active = record s.active { code = rest };
         alloc = s.alloc + 8 * n;
@@ -560,22 +640,25 @@ module _ {V : Type 0} (reading : Halt → Ending V) (low : LowSetting) (items : 
       } in (
         fetches a 2,
         inl (let z = fetches_ge a 2 in omega (arith, z)),
-        (let z = fetches_le a 2 in omega (arith, z)),
-        fetch reading setting (Way s s1) (On s1) s.active.locals 7 (
+        prices setting f (source_items 7 a) left,
+        (let p = source_paid setting f 7 a left in omega (arith, p)),
+        fetch reading setting (Way s s1) (At s1) s.active.locals 7 (
           refl,
           refl,
           refl,
           refl,
-        ) a n t tail 2 ae on.active.locals lies.stands (way_first s s1 t on.body) (λ regs known kept va.
+        ) a n t tail 2 left ae on.active.locals lies.stands (way_first s s1 t on.body) (λ regs known kept va.
             let u : VirtualState = record t { regs = regs; known = known; pc = pc } in
             let here : ItemsOn s t on pc tail =
             past t.active.found on.active.out t.pc (source_items 7 a) tail s.active.rests lies in
             let t2 : VirtualState = wrote_real 5 (n * 8 % 2 ^ 64) u in
             let t3 : VirtualState = wrote_real 26 ((regs 26 + n * 8 % 2 ^ 64) % 2 ^ 64) t2 in
             let body : Body s u = body_regs s t regs known pc on.body (kept_fixed kept refl refl refl) in
-            does_item reading setting (Way s s1) (On s1) 1 u t2 _ here.stands.0 (given_is u _ n _ va)
+            does_item reading setting (Way s s1) (At s1) 1 (1 + owed s.waiting) u t2
+            shift here.stands.0 (given_is u _ n _ va)
             (way_first s s1 u body) (
-            does_item reading setting (Way s s1) (On s1) 0 t2 t3 _ here.stands.1.0 refl (way_first s s1 t2 body)
+            does_item reading setting (Way s s1) (At s1) 0 (owed s.waiting) t2 t3
+            (Compute Add (Real 26) (Real 26) (Real 5)) here.stands.1.0 refl (way_first s s1 t2 body)
             (record {
               active = active_same s t on rest t3.pc (record {
                 stands = here.stands.1.1;
@@ -595,40 +678,58 @@ module _ {V : Type 0} (reading : Halt → Ending V) (low : LowSetting) (items : 
                 (let e = body.7 in omega arith),
                 body.8,
               );
-            }))),
+            }, all_owed (owed s.waiting)))),
       )))
 
   -- a request that finds no room: the code behind the mark
   module _ (s s1 : LowState) (out : ℕ) (f : Found) (homed : Homed s.active.count out f) where
     -- from a state that has only other registers, at the mark
     no_room : (t : VirtualState) → t.pc ≡ homed.room.0 → Body s1 t
-        → Reaches N (Way s s1) (StopsAt (SameRegion stack low.top) Any M N s s1 (reading (Lacks Region))) 4 t
+        → PaidWay reading setting (Way s s1) (Ends s s1 (reading (Lacks Region))) 4 7 t
     no_room t e body =
+        let P : VirtualState → Type 0 = Way s s1 in
+        let Q : ℕ → VirtualState → Type 0 = Ends s s1 (reading (Lacks Region)) in
         let t5 : VirtualState = record t { pc = suc t.pc } in
         let t51 : VirtualState = wrote_real 10 0 t5 in
         let t52 : VirtualState = wrote_real 11 0 t51 in
         let t6 : VirtualState = wrote_real 17 5 t52 in
         let here : Here t.pc (out_items out) = subst (λ p. Here p (out_items out)) (sym e) homed.room.2 in
-        does_item reading setting (Way s s1) _ 3 t t5 _ here.0 refl (way_second s s1 t body) (
-        does_item reading setting (Way s s1) _ 2 t5 t51 _ here.1.0 refl (way_second s s1 t5 body) (
-        does_item reading setting (Way s s1) _ 1 t51 t52 _ here.1.1.0 refl (way_second s s1 t51 body) (
-        does_item reading setting (Way s s1) _ 0 t52 t6 _ here.1.1.1.0 refl (way_second s s1 t52 body) ((
-          way_second s s1 t6 body,
+        does_item reading setting P Q 3 7 t t5 (Mark out) here.0 refl (way_second s s1 t body) (
+        does_item reading setting P Q 2 5 t5 t51 (Constant (Real 10) 0) here.1.0 refl (way_second s s1 t5 body) (
+        does_item reading setting P Q 1 3 t51 t52 (Constant (Real 11) 0) here.1.1.0 refl (way_second s s1 t51 body) (
+        does_item reading setting P Q 0 1 t52 t6 (Constant (Real 17) 5) here.1.1.1.0 refl (way_second s s1 t52 body) (
           (
-            t6,
-            stops_here t6 (reading (Lacks Region)) Environment here.1.1.1.1.0 (region_call t6),
-            as_alike s1 t6 (seen s1 t6 body),
-            tt,
+            way_second s s1 t6 body,
+            (
+              t6,
+              stops_here t6 (reading (Lacks Region)) Environment here.1.1.1.1.0 (region_call t6),
+              as_alike s1 t6 (seen s1 t6 body),
+              tt,
+            ),
           ),
-        )))))
+          cost_here t6 Environment here.1.1.1.1.0,
+        ))))
 
   do_request : (s : LowState) (t : VirtualState) (on : On s t) (d : ℕ) (a : LowSource) (rest : Code)
-      → LiesOn s t on t.pc (Request d a rest) → Sim rate s t (code_step reading low (Request d a rest) s)
+      → LiesOn s t on t.pc (Request d a rest)
+      → Sim (purse_of s (Request d a rest)) s t (code_step reading low (Request d a rest) s)
   do_request s t on d a rest lies =
-      sim_given rate s s t (word_of s.active.locals a) _ (λ n e. by_room n e (nat_le (s.alloc + 8 * n) low.top) refl)
+      sim_given purse s s t (word_of s.active.locals a) _ (λ n e. by_room n e (nat_le (s.alloc + 8 * n) low.top) refl)
     where
+      purse : ℕ
+      purse = purse_of s (Request d a rest)
+
+      f : Found
+      f = t.active.found
+
       first : ℕ
-      first = t.active.found.first
+      first = f.first
+
+      test : VirtualItem
+      test = Branch Ltu (Real 5) (source_reg first 7 a) on.active.out
+
+      put : VirtualItem
+      put = Move (Virtual (first + d)) (Real 26)
 
       pc : ℕ
       pc = beyond (source_items 7 a) t.pc
@@ -658,46 +759,53 @@ module _ {V : Type 0} (reading : Halt → Ending V) (low : LowSetting) (items : 
       u3 regs known = wrote_real 5 (free regs / 8) (u1 regs known)
 
       -- the source, three items, then what the branch comes to
-      tested : (n : ℕ) → word_of s.active.locals a ≡ Some n → (s1 : LowState) (Q : VirtualState → Type 0) (k : ℕ)
-          → ((regs : Registers) (known : ℕ → Bool) → SameFixed regs t.regs
-          → value (u3 regs known) (source_reg first 7 a) ≡ Some n → Reaches N (Way s s1) Q k (u3 regs known))
-          → Reaches N (Way s s1) Q (fetches a (suc (suc k))) t
-      tested n e s1 Q k r =
+      tested : (n : ℕ) → word_of s.active.locals a ≡ Some n → (s1 : LowState) (Q : ℕ → VirtualState → Type 0)
+          (k left : ℕ) → ((regs : Registers) (known : ℕ → Bool) → SameFixed regs t.regs
+          → value (u3 regs known) (source_reg first 7 a) ≡ Some n
+          → PaidWay reading setting (Way s s1) Q k left (u3 regs known))
+          → PaidWay reading setting (Way s s1) Q (fetches a (suc (suc k)))
+          (prices setting f (source_items 7 a) (1 + (1 + left))) t
+      tested n e s1 Q k left r =
           fetch reading setting (Way s s1) Q s.active.locals 7 (
             refl,
             refl,
             refl,
             refl,
-          ) a n t tail (suc (suc k)) e on.active.locals lies.stands (way_first s s1 t on.body)
+          ) a n t tail (suc (suc k)) (1 + (1 + left)) e on.active.locals lies.stands (way_first s s1 t on.body)
           (λ regs known kept va.
           let body : Body s (u0 regs known) = body_regs s t regs known pc on.body (kept_fixed kept refl refl refl) in
           let v1 : value (u1 regs known) (source_reg first 7 a) ≡ Some n =
           wrote_kept (u0 regs known) 5 (free regs) (source_reg first 7 a) n (source_apart first 7 5 a refl refl)
           va in
-          does_item reading setting (Way s s1) Q (suc k) (u0 regs known) (u1 regs known) _ here.stands.0 refl
+          does_item reading setting (Way s s1) Q (suc k) (1 + left) (u0 regs known) (u1 regs known)
+          (Compute Sub (Real 5) (Real 27) (Real 26)) here.stands.0 refl
           (way_first s s1 (u0 regs known) body) (
-          does_item reading setting (Way s s1) Q k (u1 regs known) (u3 regs known) _ here.stands.1.0 refl
+          does_item reading setting (Way s s1) Q k left (u1 regs known) (u3 regs known)
+          (ComputeWith Srl (Real 5) (Real 5) 3) here.stands.1.0 refl
           (way_first s s1 (u1 regs known) body) (
           r regs known (kept_fixed kept refl refl refl) (wrote_kept (u1 regs known) 5 (free regs / 8)
           (source_reg first 7 a) n (source_apart first 7 5 a refl refl) v1))))
 
       branched : (regs : Registers) (known : ℕ → Bool) (n : ℕ) → value (u3 regs known) (source_reg first 7 a) ≡ Some n
           → (b : Bool) → nat_lt (free regs / 8) n ≡ b
-          → item_step reading setting (Branch Ltu (Real 5) (source_reg first 7 a) on.active.out) (u3 regs known)
+          → item_step reading setting test (u3 regs known)
           ≡ branch reading setting b on.active.out (u3 regs known)
       branched regs known n e b h =
           given_is (u3 regs known) _ n _ e ∙ ap (λ c. branch reading setting c on.active.out (u3 regs known)) h
 
       by_room : (n : ℕ) → word_of s.active.locals a ≡ Some n → (b : Bool) → nat_le (s.alloc + 8 * n) low.top ≡ b
-          → Sim rate s t (if b then sets reading low d s.alloc (popped s rest)
+          → Sim purse s t (if b then sets reading low d s.alloc (popped s rest)
           else finds_no_room reading low n (popped s rest))
       by_room n e true h =
-          sim_if rate s (popped s rest) t (nat_lt d s.active.count) _ (λ m.
-          let s1 : LowState = record s { active = with_local d s.alloc (record s.active { code = rest }) } in (
+          sim_if purse s (popped s rest) t (nat_lt d s.active.count) _ (λ m.
+          let s1 : LowState = record s { active = with_local d s.alloc (record s.active { code = rest }) } in
+          let left : ℕ = item_price setting f test + (item_price setting f put + owed s.waiting) in (
             fetches a 4,
             inl (let z = fetches_ge a 4 in omega (arith, z)),
-            (let z = fetches_le a 4 in omega (arith, z)),
-            tested n e s1 (On s1) 2 (λ regs known same va.
+            prices setting f (source_items 7 a) (1 + (1 + left)),
+            (let p = source_paid setting f 7 a (1 + (1 + left)) in
+            let q = own_slot first d in omega (arith, p, q)),
+            tested n e s1 (At s1) 2 left (λ regs known same va.
                 let t3 : VirtualState = u3 regs known in
                 let t4 : VirtualState = record t3 { pc = suc t3.pc } in
                 let t5 : VirtualState = wrote_local (first + d) s.alloc t4 in
@@ -705,9 +813,9 @@ module _ {V : Type 0} (reading : Halt → Ending V) (low : LowSetting) (items : 
                 (record { stack = same.stack; alloc = same.alloc; top = same.top }) in
                 let lt : nat_lt (free regs / 8) n ≡ false = ap (λ x. nat_lt (x / 8) n) (free_is regs same)
                 ∙ fits s.alloc n low.top h on.body.5 small in
-                does_item reading setting (Way s s1) (On s1) 1 t3 t4 _ here.stands.1.1.0
-                (branched regs known n va false lt) (way_first s s1 t3 body) (
-                does_item reading setting (Way s s1) (On s1) 0 t4 t5 _ here.stands.1.1.1.0
+                does_item reading setting (Way s s1) (At s1) 1 (item_price setting f put + owed s.waiting) t3 t4 test
+                here.stands.1.1.0 (branched regs known n va false lt) (way_first s s1 t3 body) (
+                does_item reading setting (Way s s1) (At s1) 0 (owed s.waiting) t4 t5 put here.stands.1.1.1.0
                 (move_local reading setting t4 (first + d) (Real 26) s.alloc (ap Some body.1) (mine s t on d m))
                 (way_first s s1 t4 body) (record {
                   active = active_set s t on rest d s.alloc t5.pc (record {
@@ -718,23 +826,26 @@ module _ {V : Type 0} (reading : Halt → Ending V) (low : LowSetting) (items : 
                   });
                   behind = on.behind;
                   body = body;
-                }))),
+                }, all_owed (owed s.waiting)))),
           ))
       by_room n e false h =
           let s1 : LowState = record (popped s rest) { words = s.words + n } in
           let room = on.active.homed.room in
+          let left : ℕ = item_price setting f test + 7 in
           unless (reading (Lacks Region)) (
             fetches a 7,
-            (let z = fetches_le a 7 in omega (arith, z)),
-            tested n e s1 (StopsAt (SameRegion stack low.top) Any M N s s1 (reading (Lacks Region))) 5
-                (λ regs known same va.
+            prices setting f (source_items 7 a) (1 + (1 + left)),
+            (let p = source_paid setting f 7 a (1 + (1 + left)) in
+            let q = end_is_owed s.waiting in omega (arith, p, q)),
+            tested n e s1 (Ends s s1 (reading (Lacks Region))) 5 left (λ regs known same va.
                 let t3 : VirtualState = u3 regs known in
                 let t4 : VirtualState = record t3 { pc = room.0 } in
                 let body : Body s t3 = body_regs s t t3.regs t3.known t3.pc on.body
                 (record { stack = same.stack; alloc = same.alloc; top = same.top }) in
                 let lt : nat_lt (free regs / 8) n ≡ true = ap (λ x. nat_lt (x / 8) n) (free_is regs same)
                 ∙ tight s.alloc n low.top h on.body.5 small in
-                does_item reading setting (Way s s1) _ 4 t3 t4 _ here.stands.1.1.0 (branched regs known n va true lt
+                does_item reading setting (Way s s1) (Ends s s1 (reading (Lacks Region))) 4 7 t3 t4 test
+                here.stands.1.1.0 (branched regs known n va true lt
                 ∙ given_is t3 _ room.0 _ room.1) (way_first s s1 t3 body) (
                 no_room s s1 on.active.out t.active.found on.active.homed t4 refl body)),
           )
@@ -757,11 +868,6 @@ module _ {V : Type 0} (reading : Halt → Ending V) (low : LowSetting) (items : 
   stores_more [] k = k
   stores_more (a ∷ args) k = fetches a (suc (stores_more args k))
 
-  stores_le : (args : List LowSource) (k : ℕ) → stores_more args k ≤ 2 * length args + k
-  stores_le [] k = omega arith
-  stores_le (a ∷ args) k = let h = stores_le args k in let z = fetches_le a (suc (stores_more args k)) in
-      omega (arith, h, z)
-
   words_split : (o : Option ℕ) (r : Option (List ℕ)) (w : ℕ) (ws : List ℕ) → and_more o r ≡ Some (w ∷ ws) → (o ≡ Some w)
       × (r ≡ Some ws)
   words_split None r w ws e = absurd (let z : ⊥ = cc in z)
@@ -773,7 +879,7 @@ module _ {V : Type 0} (reading : Halt → Ending V) (low : LowSetting) (items : 
   words_none (Some x) None e = cc
   words_none (Some x) (Some xs) e = cc
 
-  module _ (s s1 : LowState) (z : ℕ) (Q : VirtualState → Type 0) (k : ℕ) (rest : List VirtualItem)
+  module _ (s s1 : LowState) (z : ℕ) (Q : ℕ → VirtualState → Type 0) (k left : ℕ) (rest : List VirtualItem)
       (even : s.alloc % 8 ≡ 0) (above : low.region ≤ s.alloc) where
     -- the words of an object are stored behind the allocation word
     stored : (args : List LowSource) (ws : List ℕ) (offset at : ℕ) (u : VirtualState) → at ≡ s.alloc + offset
@@ -785,13 +891,14 @@ module _ {V : Type 0} (reading : Halt → Ending V) (low : LowSetting) (items : 
         → pc ≡ beyond (stores_items u.active.found.first offset args) u.pc
         → SeenAs s (record u { regs = regs; known = known; pc = pc; memory = store_words ws at u.memory })
         → value (record u { regs = regs; known = known; pc = pc; memory = store_words ws at u.memory }) (Real 6)
-        ≡ Some z → Reaches N (Way s s1) Q k (record u {
+        ≡ Some z → PaidWay reading setting (Way s s1) Q k left (record u {
           regs = regs;
           known = known;
           pc = pc;
           memory =
               store_words ws at u.memory;
-        })) → Reaches N (Way s s1) Q (stores_more args k) u
+        })) → PaidWay reading setting (Way s s1) Q (stores_more args k)
+        (prices setting u.active.found (stores_items u.active.found.first offset args) left) u
     stored [] [] offset at u ate e f o room sn stands v6 go = go u.regs u.known u.pc (fixed_self u.regs) refl sn v6
     stored [] (w ∷ ws) offset at u ate e f o room sn stands v6 go = absurd (let y : ⊥ = cc in y)
     stored (a ∷ args) [] offset at u ate e f o room sn stands v6 go = absurd (words_none _ _ e)
@@ -805,8 +912,12 @@ module _ {V : Type 0} (reading : Halt → Ending V) (low : LowSetting) (items : 
         subst (Here u.pc) (append_assoc (source_items 5 a) (item ∷ later) rest) stands in
         let here : Here p (item ∷ (later ++ rest)) =
         stands_past reading setting (source_items 5 a) (item ∷ (later ++ rest)) u.pc split in
+        let after : ℕ = prices setting u.active.found later left in
+        subst (λ n. PaidWay reading setting (Way s s1) Q (fetches a (suc (stores_more args k))) n u)
+        (sym (prices_append setting u.active.found (source_items 5 a) (item ∷ later) left)) (
         fetch reading setting (Way s s1) Q s.active.locals 5 (refl, refl, refl, refl) a w u (item
-        ∷ (later ++ rest)) (suc (stores_more args k)) both.0 f split (way_seen s s1 u sn) (λ regs known kept va.
+        ∷ (later ++ rest)) (suc (stores_more args k)) (item_price setting u.active.found item + after) both.0 f split
+        (way_seen s s1 u sn) (λ regs known kept va.
         let u1 : VirtualState = record u { regs = regs; known = known; pc = p } in
         let u2 : VirtualState = record u1 { memory = store_bytes 8 u.memory at w; pc = suc p } in
         let sn1 : SeenAs s u1 = (
@@ -830,14 +941,14 @@ module _ {V : Type 0} (reading : Halt → Ending V) (low : LowSetting) (items : 
           sn1.5,
           sn1.6,
         ) in
-        does_item reading setting (Way s s1) Q (stores_more args k) u1 u2 item here.0 (given_is u1 _ w _ va
+        does_item reading setting (Way s s1) Q (stores_more args k) after u1 u2 item here.0 (given_is u1 _ w _ va
         ∙ (ap (λ x. store reading setting x w u1) place
         ∙ only_is u1 _ _ (may_there at s.alloc offset (length ws) low.top ate even o above room)))
         (way_seen s s1 u1 sn1) (
         stored args ws (offset + 8) (at + 8) u2 (omega (arith, ate)) both.1 f (omega (arith, o))
         (omega (arith, room)) sn2 here.1 v61 (λ regs3 known3 pc3 same there sn3 v63.
         go regs3 known3 pc3 (also_fixed same (kept_fixed kept refl refl refl)) (there
-        ∙ sym (beyond_append (source_items 5 a) (item ∷ later) u.pc)) sn3 v63)))
+        ∙ sym (beyond_append (source_items 5 a) (item ∷ later) u.pc)) sn3 v63))))
 
   fits_bytes : (alloc n top : ℕ) → (nat_le (alloc + 8 * n) top) ≡ true → alloc ≤ top → top < 2 ^ 64
       → nat_lt ((top + (2 ^ 64 - alloc)) % 2 ^ 64) (8 * n % 2 ^ 64) ≡ false
@@ -852,15 +963,38 @@ module _ {V : Type 0} (reading : Halt → Ending V) (low : LowSetting) (items : 
   moved_bytes alloc n top h k = grind arith
 
   do_build : (s : LowState) (t : VirtualState) (on : On s t) (d : ℕ) (args : List LowSource) (rest : Code)
-      → LiesOn s t on t.pc (Build d args rest) → Sim (rate * (1 + length args)) s t
-      (code_step reading low (Build d args rest) s)
+      → LiesOn s t on t.pc (Build d args rest)
+      → Sim (purse_of s (Build d args rest)) s t (code_step reading low (Build d args rest) s)
   do_build s t on d args rest lies =
-      sim_given (rate * (1 + length args)) s s t (words_of s.active.locals args) _ (λ ws e.
-      sim_if (rate * (1 + length args)) s (popped s rest) t (nat_lt (length ws) 256) _
+      sim_given purse s s t (words_of s.active.locals args) _ (λ ws e.
+      sim_if purse s (popped s rest) t (nat_lt (length ws) 256) _
       (λ few. by_room ws e few (nat_le (s.alloc + 8 * length ws) low.top) refl))
     where
+      purse : ℕ
+      purse = purse_of s (Build d args rest)
+
+      f : Found
+      f = t.active.found
+
       first : ℕ
-      first = t.active.found.first
+      first = f.first
+
+      size_item : VirtualItem
+      size_item = Constant (Real 6) (8 * length args)
+
+      test : VirtualItem
+      test = Branch Ltu (Real 5) (Real 6) on.active.out
+
+      put : VirtualItem
+      put = Move (Virtual (first + d)) (Real 26)
+
+      -- the size of so few words is a small number
+      size_paid : (ws : List ℕ) → words_of s.active.locals args ≡ Some ws → nat_lt (length ws) 256 ≡ true
+          → item_price setting f size_item ≡ 2
+      size_paid ws e few =
+          let many = words_length s.active.locals args ws e in
+          let less : length ws < 256 = grind arith in
+          let p = few_bytes (length args) (omega (arith, many, less)) in omega (arith, p)
 
       bytes : ℕ
       bytes = 8 * length args % 2 ^ 64
@@ -891,20 +1025,23 @@ module _ {V : Type 0} (reading : Halt → Ending V) (low : LowSetting) (items : 
       there = past t.active.found on.active.out (suc (suc (suc t.pc))) (stores_items first 0 args) tail s.active.rests
           after
 
-      tested : (s1 : LowState) (Q : VirtualState → Type 0) (k : ℕ) → Reaches N (Way s s1) Q k t2
-          → Reaches N (Way s s1) Q (suc (suc k)) t
-      tested s1 Q k r =
-          does_item reading setting (Way s s1) Q (suc k) t t1 _ lies.stands.0 refl (way_first s s1 t on.body) (
-          does_item reading setting (Way s s1) Q k t1 t2 _ lies.stands.1.0 refl (way_first s s1 t1 on.body) r)
+      tested : (s1 : LowState) (Q : ℕ → VirtualState → Type 0) (k left : ℕ)
+          → PaidWay reading setting (Way s s1) Q k left t2 → PaidWay reading setting (Way s s1) Q (suc (suc k))
+          (1 + (item_price setting f size_item + left)) t
+      tested s1 Q k left r =
+          does_item reading setting (Way s s1) Q (suc k) (item_price setting f size_item + left) t t1
+          (Compute Sub (Real 5) (Real 27) (Real 26)) lies.stands.0 refl (way_first s s1 t on.body) (
+          does_item reading setting (Way s s1) Q k left t1 t2 size_item lies.stands.1.0 refl
+          (way_first s s1 t1 on.body) r)
 
       branched : (b : Bool) → nat_lt free bytes ≡ b
-          → item_step reading setting (Branch Ltu (Real 5) (Real 6) on.active.out) t2
+          → item_step reading setting test t2
           ≡ branch reading setting b on.active.out t2
       branched b h = ap (λ c. branch reading setting c on.active.out t2) h
 
       by_room : (ws : List ℕ) → words_of s.active.locals args ≡ Some ws → nat_lt (length ws) 256 ≡ true → (b : Bool)
           → nat_le (s.alloc + 8 * length ws) low.top ≡ b
-          → Sim (rate * (1 + length args)) s t (if b then sets reading low d s.alloc
+          → Sim purse s t (if b then sets reading low d s.alloc
           (record (popped s rest) {
             memory = store_words ws s.alloc s.memory;
             alloc = s.alloc + 8 * length ws;
@@ -912,7 +1049,7 @@ module _ {V : Type 0} (reading : Halt → Ending V) (low : LowSetting) (items : 
                 s.words + length ws;
           }) else finds_no_room reading low (length ws) (popped s rest))
       by_room ws e few true h =
-          sim_if (rate * (1 + length args)) s (record (popped s rest) {
+          sim_if purse s (record (popped s rest) {
             memory = store_words ws s.alloc s.memory;
             alloc = s.alloc + 8 * length ws;
             words = s.words + length ws;
@@ -928,14 +1065,19 @@ module _ {V : Type 0} (reading : Halt → Ending V) (low : LowSetting) (items : 
           let t3 : VirtualState = record t2 { pc = suc t2.pc } in
           let lt : nat_lt free bytes ≡ false = ap (λ x. nat_lt x bytes) free_is
           ∙ (ap (λ n. nat_lt ((low.top + (2 ^ 64 - s.alloc)) % 2 ^ 64) (8 * n % 2 ^ 64)) (sym many)
-          ∙ fits_bytes s.alloc (length ws) low.top h on.body.5 small) in (
+          ∙ fits_bytes s.alloc (length ws) low.top h on.body.5 small) in
+          let left : ℕ = item_price setting f put + (1 + owed s.waiting) in
+          let later : ℕ = prices setting f (stores_items first 0 args) left in (
             suc (suc (suc (stores_more args 2))),
             inl (omega arith),
-            (let y = stores_le args 2 in omega (arith, y)),
-            tested s1 (On s1) (suc (stores_more args 2)) (
-                does_item reading setting (Way s s1) (On s1) (stores_more args 2) t2 t3 _ lies.stands.1.1.0
+            1 + (item_price setting f size_item + (11 + later)),
+            (let p = stores_paid setting f args 0 left in
+            let q = size_paid ws e few in
+            let i = own_slot first d in omega (arith, p, q, i)),
+            tested s1 (At s1) (suc (stores_more args 2)) (11 + later) (
+                does_item reading setting (Way s s1) (At s1) (stores_more args 2) later t2 t3 test lies.stands.1.1.0
                 (branched false lt) (way_first s s1 t2 on.body) (
-                stored s s1 bytes (On s1) 2 tail on.body.6 on.body.7 args ws 0 s.alloc t3 (omega arith) e
+                stored s s1 bytes (At s1) 2 left tail on.body.6 on.body.7 args ws 0 s.alloc t3 (omega arith) e
                 on.active.locals
                 refl (let y = within_top (s.alloc + 8 * length ws) low.top h in
                 omega (arith, y)) (seen s t3 on.body) after.stands refl (λ regs known pc same place sn v6.
@@ -953,10 +1095,11 @@ module _ {V : Type 0} (reading : Halt → Ending V) (low : LowSetting) (items : 
                 ap (λ x. (x + bytes) % 2 ^ 64) (same.alloc ∙ on.body.1)
                 ∙ (ap (λ n. (s.alloc + 8 * n % 2 ^ 64) % 2 ^ 64) (sym many)
                 ∙ moved_bytes s.alloc (length ws) low.top h small) in
-                does_item reading setting (Way s s1) (On s1) 1 u u1 _ here.stands.0
+                does_item reading setting (Way s s1) (At s1) 1 (1 + owed s.waiting) u u1 put here.stands.0
                 (move_local reading setting u (first + d) (Real 26) s.alloc (ap Some (same.alloc ∙ on.body.1))
                 (mine s t on d m)) (way_seen s s1 u sn) (
-                does_item reading setting (Way s s1) (On s1) 0 u1 u2 _ here.stands.1.0 (given_is u1 _ bytes _ v6)
+                does_item reading setting (Way s s1) (At s1) 0 (owed s.waiting) u1 u2
+                (Compute Add (Real 26) (Real 26) (Real 6)) here.stands.1.0 (given_is u1 _ bytes _ v6)
                 (way_seen s s1 u1 sn) (record {
                   active = active_set s t on rest d s.alloc u2.pc (record {
                     stands = here.stands.1.1;
@@ -977,7 +1120,7 @@ module _ {V : Type 0} (reading : Halt → Ending V) (low : LowSetting) (items : 
                     same.stack
                         ∙ on.body.8,
                   );
-                }))))),
+                }, all_owed (owed s.waiting)))))),
           ))
       by_room ws e few false h =
           let s1 : LowState = record (popped s rest) { words = s.words + length ws } in
@@ -990,9 +1133,12 @@ module _ {V : Type 0} (reading : Halt → Ending V) (low : LowSetting) (items : 
           y) on.body.5 small) in
           unless (reading (Lacks Region)) (
             7,
-            omega arith,
-            tested s1 (StopsAt (SameRegion stack low.top) Any M N s s1 (reading (Lacks Region))) 5 (
-                does_item reading setting (Way s s1) _ 4 t2 t4 _ lies.stands.1.1.0 (branched true lt
+            1 + (item_price setting f size_item + (11 + 7)),
+            (let p = size_paid ws e few in
+            let q = end_is_owed s.waiting in omega (arith, p, q)),
+            tested s1 (Ends s s1 (reading (Lacks Region))) 5 (11 + 7) (
+                does_item reading setting (Way s s1) (Ends s s1 (reading (Lacks Region))) 4 7 t2 t4 test
+                lies.stands.1.1.0 (branched true lt
                 ∙ given_is t2 _ room.0 _ room.1) (way_first s s1 t2 on.body) (
                 no_room s s1 on.active.out t.active.found on.active.homed t4 refl on.body)),
           )
@@ -1010,15 +1156,51 @@ module _ {V : Type 0} (reading : Halt → Ending V) (low : LowSetting) (items : 
 
   do_environment : (s : LowState) (t : VirtualState) (on : On s t) (number : ℕ) (a b : LowSource) (d e : ℕ)
       (rest : Code) → LiesOn s t on t.pc (LowEnvironment number a b d e rest)
-      → Sim rate s t (code_step reading low (LowEnvironment number a b d e rest) s)
+      → Sim (purse_of s (LowEnvironment number a b d e rest)) s t
+      (code_step reading low (LowEnvironment number a b d e rest) s)
   do_environment s t on number a b d e rest lies =
-      sim_given rate s s t (word_of s.active.locals a) _ (λ x xe.
-      sim_given rate s s t (word_of s.active.locals b) _ (λ y ye.
-      sim_if rate s (popped s rest) t (nat_lt d s.active.count) _ (λ dm.
-      sim_if rate s (popped s rest) t (nat_lt e s.active.count) _ (λ em.
+      sim_given purse s s t (word_of s.active.locals a) _ (λ x xe.
+      sim_given purse s s t (word_of s.active.locals b) _ (λ y ye.
+      sim_if purse s (popped s rest) t (nat_lt d s.active.count) _ (λ dm.
+      sim_if purse s (popped s rest) t (nat_lt e s.active.count) _ (λ em.
       let c : Called = environment_call (number % 2 ^ 64) x y (length low.labels) s.world in
       called x y xe ye dm em (effect_of low.labels c.effect) c.world (calls x y)))))
     where
+      purse : ℕ
+      purse = purse_of s (LowEnvironment number a b d e rest)
+
+      f : Found
+      f = t.active.found
+
+      -- the items that hand on both words and the call's number
+      first_word : VirtualItem
+      first_word = put_item f.first (Real 10) a
+
+      second_word : VirtualItem
+      second_word = put_item f.first (Real 11) b
+
+      call_number : VirtualItem
+      call_number = Constant (Real 17) number
+
+      with_words : ℕ → ℕ
+      with_words left =
+          item_price setting f first_word + (item_price setting f second_word
+          + (item_price setting f call_number + left))
+
+      words_paid : (left : ℕ) → with_words left
+          ≤ source_price a + source_price b + source_price (Number number) + 2 + left
+      words_paid left =
+          let x = put_paid setting f (Real 10) a in
+          let y = put_paid setting f (Real 11) b in
+          let z = number_paid number in omega (arith, x, y, z)
+
+      -- and those that set two words
+      puts_first : VirtualItem
+      puts_first = Move (Virtual (f.first + d)) (Real 10)
+
+      puts_second : VirtualItem
+      puts_second = Move (Virtual (f.first + e)) (Real 11)
+
       t1 : ℕ → VirtualState
       t1 x = wrote_real 10 x t
 
@@ -1037,21 +1219,23 @@ module _ {V : Type 0} (reading : Halt → Ending V) (low : LowSetting) (items : 
           (call_of x y w).world) on.body.3
 
       moved : (x y : ℕ) → word_of s.active.locals a ≡ Some x → word_of s.active.locals b ≡ Some y
-          → (s1 : LowState) (Q : VirtualState → Type 0) (k : ℕ) → Reaches N (Way s s1) Q k (t3 x y)
-          → Reaches N (Way s s1) Q (suc (suc (suc k))) t
-      moved x y xe ye s1 Q k r =
-          does_item reading setting (Way s s1) Q (suc (suc k)) t (t1 x) _ lies.stands.0
+          → (s1 : LowState) (Q : ℕ → VirtualState → Type 0) (k left : ℕ)
+          → PaidWay reading setting (Way s s1) Q k left (t3 x y)
+          → PaidWay reading setting (Way s s1) Q (suc (suc (suc k))) (with_words left) t
+      moved x y xe ye s1 Q k left r =
+          does_item reading setting (Way s s1) Q (suc (suc k)) (item_price setting f second_word
+          + (item_price setting f call_number + left)) t (t1 x) first_word lies.stands.0
           (put_real reading setting t s.active.locals 10 a x xe on.active.locals refl) (way_first s s1 t on.body) (
-          does_item reading setting (Way s s1) Q (suc k) (t1 x) (t2 x y) _ lies.stands.1.0
-          (put_real reading setting (t1 x) s.active.locals 11 b y ye on.active.locals refl)
+          does_item reading setting (Way s s1) Q (suc k) (item_price setting f call_number + left) (t1 x) (t2 x y)
+          second_word lies.stands.1.0 (put_real reading setting (t1 x) s.active.locals 11 b y ye on.active.locals refl)
           (way_first s s1 (t1 x) on.body) (
-          does_item reading setting (Way s s1) Q k (t2 x y) (t3 x y) _ lies.stands.1.1.0 refl
+          does_item reading setting (Way s s1) Q k left (t2 x y) (t3 x y) call_number lies.stands.1.1.0 refl
           (way_first s s1 (t2 x y) on.body) r))
 
       called : (x y : ℕ) → word_of s.active.locals a ≡ Some x → word_of s.active.locals b ≡ Some y
           → nat_lt d s.active.count ≡ true → nat_lt e s.active.count ≡ true → (ef : Effect) (w : WorldState)
           → item_step reading setting Environment (t3 x y) ≡ effect_from ef (t3 x y) w
-          → Sim rate s t (settle reading ef (popped s rest) (λ a0 a1. record s {
+          → Sim purse s t (settle reading ef (popped s rest) (λ a0 a1. record s {
             active =
                 with_local e a1 (with_local d a0 (record s.active { code = rest }));
             world = w;
@@ -1080,18 +1264,23 @@ module _ {V : Type 0} (reading : Halt → Ending V) (low : LowSetting) (items : 
             on.body.6,
             on.body.7,
             on.body.8,
-          ) in (
+          ) in
+          let last : ℕ = item_price setting f puts_second + owed s.waiting in
+          let later : ℕ = item_price setting f puts_first + last in (
             6,
             inl (omega arith),
-            omega arith,
-            moved x y xe ye s1 (On s1) 3 (
-                does_item reading setting (Way s s1) (On s1) 2 (t3 x y) t4 _ lies.stands.1.1.1.0 step
+            with_words (1 + later),
+            (let i = words_paid (1 + later) in
+            let m = own_slot f.first d in
+            let n = own_slot f.first e in omega (arith, i, m, n)),
+            moved x y xe ye s1 (At s1) 3 (1 + later) (
+                does_item reading setting (Way s s1) (At s1) 2 later (t3 x y) t4 Environment lies.stands.1.1.1.0 step
                 (way_first s s1 (t3 x y) on.body) (
-                does_item reading setting (Way s s1) (On s1) 1 t4 t5 _ lies.stands.1.1.1.1.0
+                does_item reading setting (Way s s1) (At s1) 1 last t4 t5 puts_first lies.stands.1.1.1.1.0
                 (move_local reading setting t4 (t.active.found.first + d) (Real 10) a0 refl (mine s t on d dm))
                 (way_second s s1 t4 body) (
-                does_item reading setting (Way s s1) (On s1) 0 t5 t6 _ lies.stands.1.1.1.1.1.0
-                (move_local reading setting t5 (t.active.found.first + e) (Real 11) a1 refl (mine s t on e em))
+                does_item reading setting (Way s s1) (At s1) 0 (owed s.waiting) t5 t6 puts_second
+                lies.stands.1.1.1.1.1.0 (move_local reading setting t5 (t.active.found.first + e) (Real 11) a1 refl (mine s t on e em))
                 (way_second s s1 t5 body) (record {
                   active = record {
                     mark = on.active.mark;
@@ -1109,21 +1298,25 @@ module _ {V : Type 0} (reading : Halt → Ending V) (low : LowSetting) (items : 
                   };
                   behind = on.behind;
                   body = body;
-                })))),
+                }, all_owed (owed s.waiting))))),
           )
       called x y xe ye dm em (Halts halt) w step =
           let s1 : LowState = popped s rest in
           unless (reading halt) (
             3,
-            omega arith,
-            moved x y xe ye s1 (StopsAt (SameRegion stack low.top) Any M N s s1 (reading halt)) 0 (
-              way_first s s1 (t3 x y) on.body,
+            with_words 1,
+            (let i = words_paid 1 in omega (arith, i)),
+            moved x y xe ye s1 (Ends s s1 (reading halt)) 0 1 (
               (
-                t3 x y,
-                stops_here (t3 x y) (reading halt) Environment lies.stands.1.1.1.0 step,
-                as_alike s1 (t3 x y) (seen s1 (t3 x y) on.body),
-                tt,
+                way_first s s1 (t3 x y) on.body,
+                (
+                  t3 x y,
+                  stops_here (t3 x y) (reading halt) Environment lies.stands.1.1.1.0 step,
+                  as_alike s1 (t3 x y) (seen s1 (t3 x y) on.body),
+                  tt,
+                ),
               ),
+              cost_here (t3 x y) Environment lies.stands.1.1.1.0,
             ),
           )
       called x y xe ye dm em Lost w step = tt
@@ -1133,11 +1326,14 @@ module _ {V : Type 0} (reading : Halt → Ending V) (low : LowSetting) (items : 
   -- what an item that goes to a mark, or on, leads to
   do_if : (s : LowState) (t : VirtualState) (on : On s t) (cond : Cond) (a b : LowSource) (one other rest : Code)
       → LiesOn s t on t.pc (If cond a b one other rest)
-      → Sim rate s t (code_step reading low (If cond a b one other rest) s)
+      → Sim (purse_of s (If cond a b one other rest)) s t (code_step reading low (If cond a b one other rest) s)
   do_if s t on cond a b one other rest lies =
-      sim_given rate s s t (word_of s.active.locals a) _ (λ x xe. sim_given rate s s t (word_of s.active.locals b) _
+      sim_given purse s s t (word_of s.active.locals a) _ (λ x xe. sim_given purse s s t (word_of s.active.locals b) _
       (λ y ye. either x y xe ye (holds cond x y) refl))
     where
+      purse : ℕ
+      purse = purse_of s (If cond a b one other rest)
+
       f : Found
       f = t.active.found
 
@@ -1221,17 +1417,20 @@ module _ {V : Type 0} (reading : Halt → Ending V) (low : LowSetting) (items : 
           given_is u _ x _ va ∙ (given_is u _ y _ vb ∙ ap (λ c. branch reading setting c m u) h)
 
       either : (x y : ℕ) → word_of s.active.locals a ≡ Some x → word_of s.active.locals b ≡ Some y → (test : Bool)
-          → holds cond x y ≡ test → Sim rate s t (Go (goes_on (if test then one else other) (rest ∷ s.active.rests) s))
+          → holds cond x y ≡ test → Sim purse s t (Go (goes_on (if test then one else other) (rest ∷ s.active.rests) s))
       either x y xe ye false h =
           let s1 : LowState = goes_on other (rest ∷ s.active.rests) s in (
             fetches a (fetches b 1),
             inl (some_steps a b),
-            (let z = few_steps a b in omega (arith, z)),
-            fetch_both reading setting (Way s s1) (On s1) s.active.locals a b x y t (item
-                ∷ (other_code ++ tail)) 1 xe ye on.active.locals lies.stands (way_regs s s1 t on.body)
+            prices setting f (source_items 5 a) (prices setting f (source_items 6 b)
+                (item_price setting f item + owed s.waiting)),
+            (let p = both_paid s t a b (item_price setting f item + owed s.waiting) in omega (arith, p)),
+            fetch_both reading setting (Way s s1) (At s1) s.active.locals a b x y t (item
+                ∷ (other_code ++ tail)) 1 (item_price setting f item + owed s.waiting) xe ye on.active.locals lies.stands (way_regs s s1 t on.body)
                 (λ regs known same va vb.
                 let u : VirtualState = record t { regs = regs; known = known; pc = pc } in
-                does_item reading setting (Way s s1) (On s1) 0 u (record u { pc = suc pc }) item here.stands.0
+                does_item reading setting (Way s s1) (At s1) 0 (owed s.waiting) u (record u { pc = suc pc }) item
+                here.stands.0
                 (branched x y u va vb false h) (way_regs s s1 t on.body regs known pc same) (record {
                   active = record {
                     mark = suc (suc m);
@@ -1243,23 +1442,25 @@ module _ {V : Type 0} (reading : Halt → Ending V) (low : LowSetting) (items : 
                   };
                   behind = on.behind;
                   body = body_regs s t regs known (suc pc) on.body same;
-                })),
+                }, all_owed (owed s.waiting))),
           )
       either x y xe ye true h =
           let s1 : LowState = goes_on one (rest ∷ s.active.rests) s in (
             fetches a (fetches b 2),
             inl (let i = fetches_ge b 2 in let j = fetches_ge a (fetches b 2) in
                 omega (arith, i, j)),
-            (let i = fetches_le b 2 in let j =
-                fetches_le a (fetches b 2) in omega (arith, i, j)),
-            fetch_both reading setting (Way s s1) (On s1) s.active.locals a b x y t (item
-                ∷ (other_code ++ tail)) 2 xe ye on.active.locals lies.stands (way_regs s s1 t on.body)
+            prices setting f (source_items 5 a) (prices setting f (source_items 6 b)
+                (item_price setting f item + (0 + owed s.waiting))),
+            (let p = both_paid s t a b (item_price setting f item + (0 + owed s.waiting)) in omega (arith, p)),
+            fetch_both reading setting (Way s s1) (At s1) s.active.locals a b x y t (item
+                ∷ (other_code ++ tail)) 2 (item_price setting f item + (0 + owed s.waiting)) xe ye on.active.locals lies.stands (way_regs s s1 t on.body)
                 (λ regs known same va vb.
                 let u : VirtualState = record t { regs = regs; known = known; pc = pc } in
                 let u1 : VirtualState = record u { pc = suc jump_place } in
-                does_item reading setting (Way s s1) (On s1) 1 u u1 item here.stands.0 (branched x y u va vb true h
+                does_item reading setting (Way s s1) (At s1) 1 (0 + owed s.waiting) u u1 item here.stands.0 (branched x y u va vb true h
                 ∙ given_is u _ (suc jump_place) _ jump_there.finds.1.0) (way_regs s s1 t on.body regs known pc same) (
-                does_item reading setting (Way s s1) (On s1) 0 u1 (record u1 { pc = suc (suc jump_place) }) (Mark m)
+                does_item reading setting (Way s s1) (At s1) 0 (owed s.waiting) u1
+                (record u1 { pc = suc (suc jump_place) }) (Mark m)
                 jump_there.stands.1.0 refl (way_regs s s1 t on.body regs known (suc jump_place) same) (record {
                   active = record {
                     mark = suc (suc m) + marks_in other;
@@ -1270,14 +1471,15 @@ module _ {V : Type 0} (reading : Halt → Ending V) (low : LowSetting) (items : 
                   };
                   behind = on.behind;
                   body = body_regs s t regs known (suc (suc jump_place)) on.body same;
-                }))),
+                }, all_owed (owed s.waiting)))),
           )
 
   do_done : (s : LowState) (t : VirtualState) (on : On s t) → Lies t.active.found on.active.out t.pc [] s.active.rests
-      → Sim rate s t (code_step reading low Done s)
+      → Sim (purse_of s Done) s t (code_step reading low Done s)
   do_done s t on lies = ended s.active.rests lies.leads
     where
-      ended : (rs : List Code) → Leads t.active.found on.active.out t.pc rs → Sim rate s t (falls reading low rs s)
+      ended : (rs : List Code) → Leads t.active.found on.active.out t.pc rs
+          → Sim (purse_of s Done) s t (falls reading low rs s)
       ended [] h = tt
       ended (r ∷ rs) h = joins h.3
         where
@@ -1290,9 +1492,10 @@ module _ {V : Type 0} (reading : Halt → Ending V) (low : LowSetting) (items : 
           t2 : VirtualState
           t2 = record t { pc = suc h.1 }
 
-          behind_mark : Reaches N (Way s s1) (On s1) 1 t1
+          behind_mark : PaidWay reading setting (Way s s1) (At s1) 1 (0 + owed s.waiting) t1
           behind_mark =
-              does_item reading setting (Way s s1) (On s1) 0 t1 t2 _ h.4.0 refl (way_first s s1 t1 on.body) (record {
+              does_item reading setting (Way s s1) (At s1) 0 (owed s.waiting) t1 t2 (Mark h.0) h.4.0 refl
+              (way_first s s1 t1 on.body) (record {
                 active = record {
                   mark = h.2;
                   out = on.active.out;
@@ -1302,20 +1505,23 @@ module _ {V : Type 0} (reading : Halt → Ending V) (low : LowSetting) (items : 
                 };
                 behind = on.behind;
                 body = on.body;
-              })
+              }, all_owed (owed s.waiting))
 
-          joins : Joins t.active.found.home t.pc h.0 h.1 → Sim rate s t (Go s1)
+          joins : Joins t.active.found.home t.pc h.0 h.1 → Sim (purse_of s Done) s t (Go s1)
           joins (inl e) = (
             1,
             inl (omega arith),
+            0 + owed s.waiting,
             omega arith,
-            subst (λ p. Reaches N (Way s s1) (On s1) 1 (record t { pc = p })) (sym e) behind_mark,
+            subst (λ p. PaidWay reading setting (Way s s1) (At s1) 1 (0 + owed s.waiting) (record t { pc = p })) (sym e)
+                behind_mark,
           )
           joins (inr j) = (
             2,
             inl (omega arith),
+            10 + (0 + owed s.waiting),
             omega arith,
-            does_item reading setting (Way s s1) (On s1) 1 t t1 _ j.0.0
+            does_item reading setting (Way s s1) (At s1) 1 (0 + owed s.waiting) t t1 (Jump h.0) j.0.0
                 (given_is t _ h.1 _ j.1) (way_first s s1 t on.body) behind_mark,
           )
 
@@ -1377,8 +1583,8 @@ module _ {V : Type 0} (reading : Halt → Ending V) (low : LowSetting) (items : 
       → Entered p f → HasArgs te.regs 0 ws → ((i : ℕ) → i < length ws → te.known (10 + i) ≡ true)
       → Behind s2.waiting te.frames → Body s2 te → te.active.found.count ≡ s2.active.count → p.params ≡ length ws
       → length ws ≤ 8 → p.params ≤ p.words
-      → Reaches N (Way s (entered ws s2 p)) (On (entered ws s2 p)) (plus_steps reading setting p.params 0)
-      (at_home n f te)
+      → PaidWay reading setting (Way s (entered ws s2 p)) (At (entered ws s2 p)) (plus_steps reading setting p.params 0)
+      (prices setting f (params_items f.first 0 p.params) (owed s2.waiting)) (at_home n f te)
   from_home s s2 te ws p f n count en args knows waiting body own_words many eight le =
       let s1 : LowState = entered ws s2 p in
       let t1 : VirtualState = at_home n f te in
@@ -1398,7 +1604,7 @@ module _ {V : Type 0} (reading : Halt → Ending V) (low : LowSetting) (items : 
         body.8,
       ) in
       let code : List VirtualItem = code_items f.first en.out en.mark p.code in
-      takes reading setting (Way s s1) (On s1) code 0 p.params 0 t1 (λ i h k.
+      takes reading setting (Way s s1) (At s1) code 0 (owed s2.waiting) p.params 0 t1 (λ i h k.
       handed_known te.known i n (knows i (let z = many in omega (arith, k))) (let z = many in let y = count in
       omega (arith, k))) (subst (λ x. 0 + x ≤ 8) (sym many) (omega (arith, eight)))
       (subst (λ x. 0 + p.params ≤ x) (sym en.homed.count) (omega (arith, le))) en.lies.stands
@@ -1412,7 +1618,7 @@ module _ {V : Type 0} (reading : Halt → Ending V) (low : LowSetting) (items : 
         };
         behind = waiting;
         body = inside;
-      })
+      }, all_owed (owed s2.waiting))
 
   -- words are handed on, and then an item enters a procedure
   handed : (s : LowState) (u : VirtualState) → Body s u
@@ -1424,9 +1630,11 @@ module _ {V : Type 0} (reading : Halt → Ending V) (low : LowSetting) (items : 
         known = args_known 0 ws u.known;
         pc =
             beyond (args_items u.active.found.first 0 args) u.pc;
-      }) ≡ Go t2 → length ws ≤ 8 → (s1 : LowState) (k : ℕ)
-      → Reaches N (Way s s1) (On s1) k t2 → Reaches N (Way s s1) (On s1) (more args (suc k)) u
-  handed s u body locals args ws rest item t2 e code step eight s1 k r =
+      }) ≡ Go t2 → length ws ≤ 8 → (s1 : LowState) (k left : ℕ)
+      → PaidWay reading setting (Way s s1) (At s1) k left t2
+      → PaidWay reading setting (Way s s1) (At s1) (more args (suc k)) (prices setting u.active.found
+      (args_items u.active.found.first 0 args) (item_price setting u.active.found item + left)) u
+  handed s u body locals args ws rest item t2 e code step eight s1 k left r =
       let t1 : VirtualState = record u {
         regs = args_regs 0 ws u.regs;
         known = args_known 0 ws u.known;
@@ -1434,9 +1642,10 @@ module _ {V : Type 0} (reading : Halt → Ending V) (low : LowSetting) (items : 
             beyond (args_items u.active.found.first 0 args) u.pc;
       } in
       let here = stands_past reading setting (args_items u.active.found.first 0 args) (item ∷ rest) u.pc code in
-      hands reading setting (Way s s1) (On s1) (item ∷ rest) s.active.locals (suc k) args ws 0 u e locals
+      hands reading setting (Way s s1) (At s1) (item ∷ rest) s.active.locals (suc k)
+      (item_price setting u.active.found item + left) args ws 0 u e locals
       (omega (arith, eight)) code (way_regs s s1 u body) (
-      does_item reading setting (Way s s1) (On s1) k t1 t2 item here.0 step
+      does_item reading setting (Way s s1) (At s1) k left t1 t2 item here.0 step
       (way_regs s s1 u body t1.regs t1.known t1.pc (args_fixed ws u.regs eight)) r)
 
   body_args : (s : LowState) (u : VirtualState) (ws : List ℕ) (pc : ℕ) → Body s u → length ws ≤ 8
@@ -1449,6 +1658,20 @@ module _ {V : Type 0} (reading : Halt → Ending V) (low : LowSetting) (items : 
   call_steps args ws params many e =
       more_is args (suc (plus_steps reading setting params 0)) ∙ (let i = plus_is reading setting params 0 in
       omega (arith, many, e, i))
+
+  -- what words cost that are handed on, the item that enters a procedure, and its parameters
+  abbrev entering_paid : Found → Found → List LowSource → VirtualItem → ℕ → ℕ → ℕ
+  entering_paid from f args item params left =
+      prices setting from (args_items from.first 0 args) (item_price setting from item
+      + prices setting f (params_items f.first 0 params) left)
+
+  enters_paid : (from f : Found) (args : List LowSource) (ws : List ℕ) (item : VirtualItem) (params left : ℕ)
+      → length ws ≡ length args → params ≡ length ws → length ws ≤ 8
+      → entering_paid from f args item params left ≤ sources_price args + item_price setting from item + left
+  enters_paid from f args ws item params left many e eight =
+      let a = args_paid setting from args 0 (item_price setting from item
+      + prices setting f (params_items f.first 0 params) left) in
+      let q = params_paid setting f params 0 left (omega (arith, e, eight)) in omega (arith, a, q, many, e)
 
   -- what goes on behind a call waits
   call_from : (s : LowState) (t : VirtualState) (on : On s t) (d : ℕ) (args : List LowSource) (ws : List ℕ)
@@ -1469,9 +1692,11 @@ module _ {V : Type 0} (reading : Halt → Ending V) (low : LowSetting) (items : 
             place;
         frames = record { back = suc place; active = t.active } ∷ t.frames;
       }))) → p.params ≡ length ws
-      → length ws ≤ 8 → p.params ≤ p.words → Reaches N (Way s (entered ws (waits reading low d (popped s rest)) p))
-      (On (entered ws (waits reading low d (popped s rest)) p)) (more args
-      (suc (plus_steps reading setting p.params 0))) (record t { regs = regs; known = known; pc = pc })
+      → length ws ≤ 8 → p.params ≤ p.words
+      → PaidWay reading setting (Way s (entered ws (waits reading low d (popped s rest)) p))
+      (At (entered ws (waits reading low d (popped s rest)) p)) (more args
+      (suc (plus_steps reading setting p.params 0))) (entering_paid t.active.found f args item p.params
+      (1 + slot_price d + owed s.waiting)) (record t { regs = regs; known = known; pc = pc })
   call_from s t on d args ws rest p f item regs known pc same en e lies step many eight le =
       let first : ℕ = t.active.found.first in
       let u : VirtualState = record t { regs = regs; known = known; pc = pc } in
@@ -1511,7 +1736,8 @@ module _ {V : Type 0} (reading : Halt → Ending V) (low : LowSetting) (items : 
             (past t.active.found on.active.out pc (args_items first 0 args) (item ∷ behind_item) s.active.rests lies);
       } in
       handed s u body on.active.locals args ws behind_item item (at_home (length args) f te) e lies.stands step eight
-      (entered ws s2 p) (plus_steps reading setting p.params 0) (
+      (entered ws s2 p) (plus_steps reading setting p.params 0)
+      (prices setting f (params_items f.first 0 p.params) (owed s2.waiting)) (
       from_home s s2 te ws p f (length args) (words_length s.active.locals args ws e) en (has_args ws 0 regs)
       (λ i h. known_args ws 0 i known (omega arith) (omega (arith, h))) (
         frame,
@@ -1519,35 +1745,52 @@ module _ {V : Type 0} (reading : Halt → Ending V) (low : LowSetting) (items : 
       ) entered_body on.active.homed.count many eight le)
 
   do_code_of : Laid → (s : LowState) (t : VirtualState) (on : On s t) (d k : ℕ) (rest : Code)
-      → LiesOn s t on t.pc (LowCodeOf d k rest) → Sim rate s t (code_step reading low (LowCodeOf d k rest) s)
+      → LiesOn s t on t.pc (LowCodeOf d k rest)
+      → Sim (purse_of s (LowCodeOf d k rest)) s t (code_step reading low (LowCodeOf d k rest) s)
   do_code_of laid s t on d k rest lies =
-      sim_given rate s s t (slice_get low.procs k) _ (λ p pe.
+      let f : Found = t.active.found in
+      let purse : ℕ = purse_of s (LowCodeOf d k rest) in
+      sim_given purse s s t (slice_get low.procs k) _ (λ p pe.
       let l = laid.by_number k p pe in
-      sim_if rate s (popped s rest) t (nat_lt d s.active.count) _ (λ h. (
+      sim_if purse s (popped s rest) t (nat_lt d s.active.count) _ (λ h. (
         1,
         inl (omega arith),
-        omega arith,
+        item_price setting f (CodeOf (Virtual (f.first + d)) k) + owed s.waiting,
+        (let q = own_slot f.first d in omega (arith, q)),
         item_sets s t on rest d (low.address k) t.regs t.known t.pc _
             (fixed_self t.regs) lies (given_is t _ l.0 _ l.1
             ∙ write_local reading setting t (t.active.found.first + d) (low.address k) (mine s t on d h)),
       )))
 
+  -- a procedure that is entered by its number costs as much in both
+  entry_paid : (k : ℕ) (p : Proc) (f : Found) → slice_get low.procs k ≡ Some p → procedure_from k 0 items ≡ Some f
+      → f.count ≡ p.words → entering_found (procedure_from k 0 items) ≡ entering_some (slice_get low.procs k)
+  entry_paid k p f there found count =
+      ap entering_found found ∙ (ap entering count ∙ sym (ap entering_some there))
+
   do_call : Laid → (s : LowState) (t : VirtualState) (on : On s t) (d k : ℕ) (args : List LowSource) (rest : Code)
       → LiesOn s t on t.pc (LowCall d k args rest)
-      → Sim (rate * (1 + length args)) s t (code_step reading low (LowCall d k args rest) s)
+      → Sim (purse_of s (LowCall d k args rest)) s t (code_step reading low (LowCall d k args rest) s)
   do_call laid s t on d k args rest lies =
-      sim_given (rate * (1 + length args)) s s t (words_of s.active.locals args) _ (λ ws e.
+      let from : Found = t.active.found in
+      let purse : ℕ = purse_of s (LowCall d k args rest) in
+      let item : VirtualItem = Call k (length args) in
+      sim_given purse s s t (words_of s.active.locals args) _ (λ ws e.
       let s2 : LowState = waits reading low d (popped s rest) in
-      sim_given (rate * (1 + length args)) s s2 t (slice_get low.procs k) _ (λ p pe.
+      sim_given purse s s2 t (slice_get low.procs k) _ (λ p pe.
       let l = laid.by_number k p pe in
-      sim_if (rate * (1 + length args)) s s2 t ((length ws == p.params)
+      sim_if purse s s2 t ((length ws == p.params)
       && (nat_le p.params 8 && nat_le p.params p.words)) _ (λ h.
       let f3 = fits_eight (length ws) p.params p.words h in
-      let steps = call_steps args ws p.params (words_length s.active.locals args ws e) f3.0 in (
+      let many = words_length s.active.locals args ws e in
+      let steps = call_steps args ws p.params many f3.0 in
+      let left : ℕ = 1 + slot_price d + owed s.waiting in (
         more args (suc (plus_steps reading setting p.params 0)),
         inl (omega (arith, steps)),
-        omega (arith, steps),
-        call_from s t on d args ws rest p l.0 (Call k (length args)) t.regs t.known t.pc (fixed_self t.regs) l.2
+        entering_paid from l.0 args item p.params left,
+        (let a = enters_paid from l.0 args ws item p.params left many f3.0 f3.1 in
+        let b = entry_paid k p l.0 pe l.1 l.2.homed.count in omega (arith, a, b)),
+        call_from s t on d args ws rest p l.0 item t.regs t.known t.pc (fixed_self t.regs) l.2
             e lies (given_is _ _ l.0 _ l.1) f3.0 f3.1 f3.2,
       ))))
 
@@ -1570,33 +1813,40 @@ module _ {V : Type 0} (reading : Halt → Ending V) (low : LowSetting) (items : 
 
   do_call_at : Laid → (s : LowState) (t : VirtualState) (on : On s t) (d : ℕ) (a : LowSource) (args : List LowSource)
       (rest : Code) → LiesOn s t on t.pc (LowCallAt d a args rest)
-      → Sim (rate * (1 + length args)) s t (code_step reading low (LowCallAt d a args rest) s)
+      → Sim (purse_of s (LowCallAt d a args rest)) s t (code_step reading low (LowCallAt d a args rest) s)
   do_call_at laid s t on d a args rest lies =
+      let from : Found = t.active.found in
+      let purse : ℕ = purse_of s (LowCallAt d a args rest) in
+      let left : ℕ = 1 + slot_price d + owed s.waiting in
       let first : ℕ = t.active.found.first in
       let item : VirtualItem = CallAt (source_reg first 7 a) (length args) in
       let tail : List VirtualItem =
       args_items first 0 args ++ (item ∷ Move (Virtual (first + d)) (Real 10) ∷ items_of s t on rest) in
       let pc : ℕ = beyond (source_items 7 a) t.pc in
-      sim_given (rate * (1 + length args)) s s t (word_of s.active.locals a) _ (λ at ae.
-      sim_given (rate * (1 + length args)) s s t (words_of s.active.locals args) _ (λ ws e.
+      sim_given purse s s t (word_of s.active.locals a) _ (λ at ae.
+      sim_given purse s s t (words_of s.active.locals args) _ (λ ws e.
       let s2 : LowState = waits reading low d (popped s rest) in
-      sim_given (rate * (1 + length args)) s s2 t (proc_from low.address at 0 low.procs) _ (λ p pe.
+      sim_given purse s s2 t (proc_from low.address at 0 low.procs) _ (λ p pe.
       let l = laid.by_address at p pe in
-      sim_if (rate * (1 + length args)) s s2 t ((length ws == p.params)
+      sim_if purse s s2 t ((length ws == p.params)
       && (nat_le p.params 8 && nat_le p.params p.words)) _ (λ h.
       let f3 = fits_eight (length ws) p.params p.words h in
       let s1 : LowState = entered ws s2 p in
       let total : ℕ = more args (suc (plus_steps reading setting p.params 0)) in
-      let steps = call_steps args ws p.params (words_length s.active.locals args ws e) f3.0 in (
+      let many = words_length s.active.locals args ws e in
+      let steps = call_steps args ws p.params many f3.0 in
+      let later : ℕ = entering_paid from l.0 args item p.params left in (
         fetches a total,
         inl (let z = fetches_ge a total in omega (arith, steps, z)),
-        (let z = fetches_le a total in omega (arith, steps, z)),
-        fetch reading setting (Way s s1) (On s1) s.active.locals 7 (
+        prices setting from (source_items 7 a) later,
+        (let i = source_paid setting from 7 a later in
+        let j = enters_paid from l.0 args ws item p.params left many f3.0 f3.1 in omega (arith, i, j)),
+        fetch reading setting (Way s s1) (At s1) s.active.locals 7 (
           refl,
           refl,
           refl,
           refl,
-        ) a at t tail total ae on.active.locals lies.stands (way_first s s1 t on.body)
+        ) a at t tail total later ae on.active.locals lies.stands (way_first s s1 t on.body)
             (λ regs known kept va.
             call_from s t on d args ws rest p l.0 item regs known pc (kept_fixed kept refl refl refl) l.2 e
             (past t.active.found on.active.out t.pc (source_items 7 a) tail s.active.rests lies)
@@ -1629,64 +1879,84 @@ module _ {V : Type 0} (reading : Halt → Ending V) (low : LowSetting) (items : 
         pc =
             place;
       }))) → p.params ≡ length ws → length ws ≤ 8 → p.params ≤ p.words
-      → Reaches N (Way s (entered ws s p)) (On (entered ws s p)) (more args
-      (suc (plus_steps reading setting p.params 0))) (record t { regs = regs; known = known; pc = pc })
+      → PaidWay reading setting (Way s (entered ws s p)) (At (entered ws s p)) (more args
+      (suc (plus_steps reading setting p.params 0))) (entering_paid t.active.found f args item p.params
+      (owed s.waiting)) (record t { regs = regs; known = known; pc = pc })
   tail_from s t on args ws p f item regs known pc same en e stands step many eight le =
       let u : VirtualState = record t { regs = regs; known = known; pc = pc } in
       let place : ℕ = beyond (args_items t.active.found.first 0 args) pc in
       let te : VirtualState = record t { regs = args_regs 0 ws regs; known = args_known 0 ws known; pc = place } in
       let body : Body s u = body_regs s t regs known pc on.body same in
       handed s u body on.active.locals args ws [] item (at_home (length args) f te) e stands step eight (entered ws s p)
-      (plus_steps reading setting p.params 0) (
+      (plus_steps reading setting p.params 0) (prices setting f (params_items f.first 0 p.params) (owed s.waiting)) (
       from_home s s te ws p f (length args) (words_length s.active.locals args ws e) en (has_args ws 0 regs)
       (λ i h. known_args ws 0 i known (omega arith) (omega (arith, h))) on.behind
       (body_args s u ws place body eight) on.active.homed.count many eight le)
 
+  -- to give up a frame costs no more than to leave its procedure
+  given_up : (s : LowState) (t : VirtualState) → On s t → giving_up t.active.found.count ≤ leaving s.active.count
+  given_up s t on =
+      subst (λ n. giving_up n ≤ leaving s.active.count) (sym on.active.homed.count) (leaving_paid s.active.count)
+
   do_tail : Laid → (s : LowState) (t : VirtualState) (on : On s t) (k : ℕ) (args : List LowSource)
-      → LiesOn s t on t.pc (LowTailCall k args) → Sim (rate * (1 + length args)) s t
-      (code_step reading low (LowTailCall k args) s)
+      → LiesOn s t on t.pc (LowTailCall k args)
+      → Sim (purse_of s (LowTailCall k args)) s t (code_step reading low (LowTailCall k args) s)
   do_tail laid s t on k args lies =
-      sim_given (rate * (1 + length args)) s s t (words_of s.active.locals args) _ (λ ws e.
-      sim_given (rate * (1 + length args)) s s t (slice_get low.procs k) _ (λ p pe.
+      let from : Found = t.active.found in
+      let purse : ℕ = purse_of s (LowTailCall k args) in
+      let item : VirtualItem = TailCall k (length args) in
+      sim_given purse s s t (words_of s.active.locals args) _ (λ ws e.
+      sim_given purse s s t (slice_get low.procs k) _ (λ p pe.
       let l = laid.by_number k p pe in
-      sim_if (rate * (1 + length args)) s s t ((length ws == p.params)
+      sim_if purse s s t ((length ws == p.params)
       && (nat_le p.params 8 && nat_le p.params p.words)) _ (λ h.
       let f3 = fits_eight (length ws) p.params p.words h in
-      let steps = call_steps args ws p.params (words_length s.active.locals args ws e) f3.0 in (
+      let many = words_length s.active.locals args ws e in
+      let steps = call_steps args ws p.params many f3.0 in (
         more args (suc (plus_steps reading setting p.params 0)),
         inl (omega (arith, steps)),
-        omega (arith, steps),
-        tail_from s t on args ws p l.0 (TailCall k (length args)) t.regs t.known t.pc (fixed_self t.regs) l.2 e
+        entering_paid from l.0 args item p.params (owed s.waiting),
+        (let a = enters_paid from l.0 args ws item p.params (owed s.waiting) many f3.0 f3.1 in
+        let b = entry_paid k p l.0 pe l.1 l.2.homed.count in
+        let c = given_up s t on in omega (arith, a, b, c)),
+        tail_from s t on args ws p l.0 item t.regs t.known t.pc (fixed_self t.regs) l.2 e
             lies.stands (framed_is s.waiting t.frames _ _ on.behind ∙ given_is _ _ l.0 _ l.1) f3.0 f3.1 f3.2,
       ))))
 
   do_tail_at : Laid → (s : LowState) (t : VirtualState) (on : On s t) (a : LowSource) (args : List LowSource)
       → LiesOn s t on t.pc (LowTailCallAt a args)
-      → Sim (rate * (1 + length args)) s t (code_step reading low (LowTailCallAt a args) s)
+      → Sim (purse_of s (LowTailCallAt a args)) s t (code_step reading low (LowTailCallAt a args) s)
   do_tail_at laid s t on a args lies =
+      let from : Found = t.active.found in
+      let purse : ℕ = purse_of s (LowTailCallAt a args) in
       let first : ℕ = t.active.found.first in
       let item : VirtualItem = TailCallAt (source_reg first 7 a) (length args) in
       let tail : List VirtualItem = args_items first 0 args ++ (item ∷ []) in
       let pc : ℕ = beyond (source_items 7 a) t.pc in
-      sim_given (rate * (1 + length args)) s s t (word_of s.active.locals a) _ (λ at ae.
-      sim_given (rate * (1 + length args)) s s t (words_of s.active.locals args) _ (λ ws e.
-      sim_given (rate * (1 + length args)) s s t (proc_from low.address at 0 low.procs) _ (λ p pe.
+      sim_given purse s s t (word_of s.active.locals a) _ (λ at ae.
+      sim_given purse s s t (words_of s.active.locals args) _ (λ ws e.
+      sim_given purse s s t (proc_from low.address at 0 low.procs) _ (λ p pe.
       let l = laid.by_address at p pe in
-      sim_if (rate * (1 + length args)) s s t ((length ws == p.params)
+      sim_if purse s s t ((length ws == p.params)
       && (nat_le p.params 8 && nat_le p.params p.words)) _ (λ h.
       let f3 = fits_eight (length ws) p.params p.words h in
       let s1 : LowState = entered ws s p in
       let total : ℕ = more args (suc (plus_steps reading setting p.params 0)) in
-      let steps = call_steps args ws p.params (words_length s.active.locals args ws e) f3.0 in (
+      let many = words_length s.active.locals args ws e in
+      let steps = call_steps args ws p.params many f3.0 in
+      let later : ℕ = entering_paid from l.0 args item p.params (owed s.waiting) in (
         fetches a total,
         inl (let z = fetches_ge a total in omega (arith, steps, z)),
-        (let z = fetches_le a total in omega (arith, steps, z)),
-        fetch reading setting (Way s s1) (On s1) s.active.locals 7 (
+        prices setting from (source_items 7 a) later,
+        (let i = source_paid setting from 7 a later in
+        let j = enters_paid from l.0 args ws item p.params (owed s.waiting) many f3.0 f3.1 in
+        let c = given_up s t on in omega (arith, i, j, c)),
+        fetch reading setting (Way s s1) (At s1) s.active.locals 7 (
           refl,
           refl,
           refl,
           refl,
-        ) a at t tail total ae on.active.locals lies.stands (way_first s s1 t on.body)
+        ) a at t tail total later ae on.active.locals lies.stands (way_first s s1 t on.body)
             (λ regs known kept va.
             tail_from s t on args ws p l.0 item regs known pc (kept_fixed kept refl refl refl) l.2 e
             (stands_past reading setting (source_items 7 a) tail t.pc lies.stands)
@@ -1702,14 +1972,31 @@ module _ {V : Type 0} (reading : Halt → Ending V) (low : LowSetting) (items : 
   answer_call x u = refl
 
   do_return : (s : LowState) (t : VirtualState) (on : On s t) (a : LowSource) → LiesOn s t on t.pc (LowReturn a)
-      → Sim rate s t (code_step reading low (LowReturn a) s)
+      → Sim (purse_of s (LowReturn a)) s t (code_step reading low (LowReturn a) s)
   do_return s t on a lies =
-      sim_given rate s s t (word_of s.active.locals a) _ (λ x e. returned x e s.waiting t.frames refl refl on.behind
+      sim_given purse s s t (word_of s.active.locals a) _ (λ x e. returned x e s.waiting t.frames refl refl on.behind
       on.body.2.0)
     where
+      purse : ℕ
+      purse = purse_of s (LowReturn a)
+
+      found : Found
+      found = t.active.found
+
+      put : VirtualItem
+      put = put_item found.first (Real 10) a
+
+      with_answer : ℕ → ℕ
+      with_answer left = item_price setting found put + (item_price setting found Return + left)
+
+      answer_paid : (left : ℕ) → with_answer left ≤ step_price low.procs s.active.count (LowReturn a) + left
+      answer_paid left =
+          let p = put_paid setting found (Real 10) a in
+          let q = given_up s t on in omega (arith, p, q)
+
       back : (x : ℕ) → word_of s.active.locals a ≡ Some x → (f : Frame) (fs : List Frame) → t.frames ≡ f ∷ fs
-          → (s1 : LowState) (Q : VirtualState → Type 0) (k : ℕ)
-          → Reaches N (Way s s1) Q k (record t {
+          → (s1 : LowState) (Q : ℕ → VirtualState → Type 0) (k left : ℕ)
+          → PaidWay reading setting (Way s s1) Q k left (record t {
             regs = set_reg 10 x t.regs;
             known =
                 only_answer (also_known 10 t.known);
@@ -1717,22 +2004,22 @@ module _ {V : Type 0} (reading : Halt → Ending V) (low : LowSetting) (items : 
             active = f.active;
             frames = fs;
           })
-          → Reaches N (Way s s1) Q (suc (suc k)) t
-      back x e f fs fe s1 Q k r =
+          → PaidWay reading setting (Way s s1) Q (suc (suc k)) (with_answer left) t
+      back x e f fs fe s1 Q k left r =
           let t1 : VirtualState = wrote_real 10 x t in
-          does_item reading setting (Way s s1) Q (suc k) t t1 _ lies.stands.0
-          (put_real reading setting t s.active.locals 10 a x e on.active.locals refl) (way_first s s1 t on.body) (
-          does_item reading setting (Way s s1) Q k t1 (record t1 {
+          does_item reading setting (Way s s1) Q (suc k) (item_price setting found Return + left) t t1 put
+          lies.stands.0 (put_real reading setting t s.active.locals 10 a x e on.active.locals refl) (way_first s s1 t on.body) (
+          does_item reading setting (Way s s1) Q k left t1 (record t1 {
             pc = f.back;
             active = f.active;
             frames = fs;
             known =
                 only_answer t1.known;
-          }) _ lies.stands.1.0 (ap (λ gs. back_to reading setting gs t1) fe)
+          }) Return lies.stands.1.0 (ap (λ gs. back_to reading setting gs t1) fe)
           (way_first s s1 t1 on.body) r)
 
       returned : (x : ℕ) → word_of s.active.locals a ≡ Some x → (ws : List Waiting) (fs : List Frame) → s.waiting ≡ ws
-          → t.frames ≡ fs → Behind ws fs → length fs ≡ length ws + 1 → Sim rate s t (answers reading low ws x s)
+          → t.frames ≡ fs → Behind ws fs → length fs ≡ length ws + 1 → Sim purse s t (answers reading low ws x s)
       returned x e [] [] we fe h n = absurd h
       returned x e [] (f ∷ []) we fe h n =
           let t2 : VirtualState = record t {
@@ -1746,29 +2033,36 @@ module _ {V : Type 0} (reading : Halt → Ending V) (low : LowSetting) (items : 
           let t4 : VirtualState = wrote_real 10 0 t3 in
           let t5 : VirtualState = wrote_real 17 0 t4 in
           let end = reading (Ended (Answer (record { kind = IntKind; word = cast_signed w64 x }))) in
-          let Q : VirtualState → Type 0 = StopsAt (SameRegion stack low.top) Any M N s s end in
+          let Q : ℕ → VirtualState → Type 0 = Ends s s end in
           let sn0 : SeenAs s t = seen s t on.body in
           let sn : SeenAs s t2 = (sn0.0, sn0.1, (omega arith, omega arith), sn0.3, sn0.4, sn0.5, sn0.6) in
           unless end (
             5,
-            omega arith,
-            back x e f [] fe s Q 3 (
-                does_item reading setting (Way s s) Q 2 t2 t3 _ h.0 refl (way_seen s s t2 sn) (
-                does_item reading setting (Way s s) Q 1 t3 t4 _ h.1.0 refl (way_seen s s t3 sn) (
-                does_item reading setting (Way s s) Q 0 t4 t5 _ h.1.1.0 refl (way_seen s s t4 sn) (
-                  way_seen s s t5 sn,
+            with_answer 6,
+            (let p = answer_paid 6 in let q = end_is_owed s.waiting in omega (arith, p, q)),
+            back x e f [] fe s Q 3 6 (
+                does_item reading setting (Way s s) Q 2 5 t2 t3 (Move (Real 11) (Real 10)) h.0 refl
+                (way_seen s s t2 sn) (
+                does_item reading setting (Way s s) Q 1 3 t3 t4 (Constant (Real 10) 0) h.1.0 refl
+                (way_seen s s t3 sn) (
+                does_item reading setting (Way s s) Q 0 1 t4 t5 (Constant (Real 17) 0) h.1.1.0 refl
+                (way_seen s s t4 sn) (
                   (
-                    t5,
-                    stops_here t5 end Environment h.1.1.1.0 (answer_call x t5),
-                    as_alike s t5 sn,
-                    tt,
+                    way_seen s s t5 sn,
+                    (
+                      t5,
+                      stops_here t5 end Environment h.1.1.1.0 (answer_call x t5),
+                      as_alike s t5 sn,
+                      tt,
+                    ),
                   ),
+                  cost_here t5 Environment h.1.1.1.0,
                 )))),
           )
       returned x e [] (f ∷ g ∷ fs) we fe h n = absurd h
       returned x e (w ∷ ws) [] we fe h n = absurd h
       returned x e (w ∷ ws) (f ∷ fs) we fe h n =
-          sim_if rate s s t (nat_lt w.answer w.rest.count) _ (λ m.
+          sim_if purse s s t (nat_lt w.answer w.rest.count) _ (λ m.
           let first : ℕ = f.active.found.first in
           let s1 : LowState = record s { active = with_local w.answer x w.rest; waiting = ws } in
           let t2 : VirtualState = record t {
@@ -1793,12 +2087,17 @@ module _ {V : Type 0} (reading : Halt → Ending V) (low : LowSetting) (items : 
             on.body.6,
             on.body.7,
             on.body.8,
-          ) in (
+          ) in
+          let item : VirtualItem = Move (Virtual (first + w.answer)) (Real 10) in
+          let left : ℕ = item_price setting f.active.found item + owed ws in (
             3,
             inl (omega arith),
-            omega arith,
-            back x e f fs fe s1 (On s1) 1 (
-                does_item reading setting (Way s s1) (On s1) 0 t2 t3 _ h.0.lies.stands.0
+            with_answer left,
+            (let p = answer_paid left in
+            let q = own_slot first w.answer in
+            let o : owed s.waiting ≡ owed (w ∷ ws) = ap owed we in omega (arith, p, q, o)),
+            back x e f fs fe s1 (At s1) 1 left (
+                does_item reading setting (Way s s1) (At s1) 0 (owed ws) t2 t3 item h.0.lies.stands.0
                 (move_local reading setting t2 (first + w.answer) (Real 10) x refl
                 (own f.active.found w.rest.count w.answer h.0.homed.count m)) (way_second s s1 t2 body) (record {
                   active = record {
@@ -1810,13 +2109,13 @@ module _ {V : Type 0} (reading : Halt → Ending V) (low : LowSetting) (items : 
                   };
                   behind = h.1;
                   body = body;
-                })),
+                }, all_owed (owed ws))),
           ))
 
   -- ---- all steps
 
   pub do_code : Laid → (s : LowState) (t : VirtualState) (on : On s t) (c : Code) → LiesOn s t on t.pc c
-      → Sim (rate * code_turns c) s t (code_step reading low c s)
+      → Sim (purse_of s c) s t (code_step reading low c s)
   do_code laid s t on Done lies = do_done s t on lies
   do_code laid s t on (Set d a rest) lies = do_set s t on d a rest lies
   do_code laid s t on (LowCompute op d a b rest) lies = do_compute s t on op d a b rest lies
@@ -1834,19 +2133,10 @@ module _ {V : Type 0} (reading : Halt → Ending V) (low : LowSetting) (items : 
   do_code laid s t on (LowTailCall k args) lies = do_tail laid s t on k args lies
   do_code laid s t on (LowTailCallAt a args) lies = do_tail_at laid s t on a args lies
 
-  -- the code simulates the program
-  pub selected : Laid → Simulation (SameRegion stack low.top) Any M N On size
+  -- the code simulates the program, each step at no more than its price
+  pub selected : Laid → PaidSimulation (SameRegion stack low.top) M N (low_price low.procs) cost OnWith size
   selected laid = record {
-    alike = λ s t on. (as_alike s t (seen s t on.body), tt);
-    does = λ s t on. does_at_all (SameRegion stack low.top) (rate * low_turns s) M N On size s t (M.step s)
-        (do_code laid s t on s.active.code on.active.lies);
-    still_allowed = λ b s l. tt;
-  }
-
-  -- at most so many items for each unit of a step's work
-  pub selected_costs : Laid → CostSimulation (SameRegion stack low.top) rate M N low_turns each_one On size
-  selected_costs laid = record {
-    alike = λ s t on. as_alike s t (seen s t on.body);
-    does = λ s t on. within (SameRegion stack low.top) (rate * low_turns s) M N On size s t (M.step s)
-        (do_code laid s t on s.active.code on.active.lies);
+    alike = λ purse s t on. as_alike s t (seen s t on.0.body);
+    does = λ purse s t on. does_with_more (SameRegion stack low.top) M N cost OnWith size s t (purse_of s s.active.code) (purse + low_price low.procs s) (M.step s)
+        (let le = on.1 in omega (arith, le)) (do_code laid s t on.0 s.active.code on.0.active.lies);
   }

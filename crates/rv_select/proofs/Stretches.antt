@@ -1,10 +1,9 @@
 -- Steps of virtual code, item by item.
-use Rattle.std.proofs.Common.{ℕ, suc, ◌+◌, ◌≡◌, true, Bool, List, [], ◌∷◌, ◌++◌, Option, Some, refl, ◌∙◌}
-use Rattle.std.proofs.Common.{ap, arith}
+use Rattle.std.proofs.Common.{ℕ, suc, ◌+◌, ◌≤◌, ◌≡◌, true, Bool, List, [], ◌∷◌, ◌++◌, Option, Some, refl, sym, ◌∙◌}
+use Rattle.std.proofs.Common.{ap, subst, arith}
 use Rattle.std.specs.Prelude.{slice_get, length}
 use Rattle.run_laws.specs.Runs.{Ending}
-use Rattle.run_laws.specs.Machines.{Next, Go, Reaches}
-use Rattle.run_laws.proofs.Public.{by_step}
+use Rattle.run_laws.specs.Machines.{Next, Go, Onward}
 use Rattle.rv_machine.specs.Registers.{Registers, set_reg}
 use Rattle.rv_machine.specs.State.{Halt}
 use Rattle.low_ir.specs.Steps.{set_local, given, only_if}
@@ -12,8 +11,10 @@ use Rattle.rv_select.specs.declared.code.VReg.{VReg}
 use Rattle.rv_select.specs.declared.code.VReg.TheVariants.{Virtual}
 use Rattle.rv_select.specs.declared.code.VirtualItem.{VirtualItem}
 use Rattle.rv_select.specs.declared.code.VirtualItem.TheVariants.{Move}
-use Rattle.rv_select.specs.Run.{Setting, VirtualState, also_known, is_own, value}
+use Rattle.rv_select.specs.Run.{Setting, Found, VirtualState, also_known, is_own, value}
 use Rattle.rv_select.specs.Run.{puts, item_step, step_here, virtual_machine}
+use Rattle.rv_select.specs.Prices.{item_price, some_price, virtual_price}
+use Rattle.rv_select.proofs.Paying.{Pays}
 
 -- the states after a register was written
 abbrev pub wrote_real : ℕ → ℕ → VirtualState → VirtualState
@@ -67,13 +68,29 @@ module _ {V : Type 0} (reading : Halt → Ending V) (setting : Setting) where
   stands_past [] ys p h = h
   stands_past (x ∷ xs) ys p h = stands_past xs ys (suc p) h.1
 
-  module _ (P Q : VirtualState → Type 0) where
-    -- one step, known by what the item that stands here does
-    pub does_item : (k : ℕ) (t t1 : VirtualState) (item : VirtualItem) → slice_get setting.items t.pc ≡ Some item
-        → item_step reading setting item t ≡ Go t1 → P t → Reaches (virtual_machine reading setting) P Q k t1
-        → Reaches (virtual_machine reading setting) P Q (suc k) t
-    does_item k t t1 item here e p r =
-        by_step (virtual_machine reading setting) P Q k t (Go t1) (ap (λ o. step_here reading setting o t) here ∙ e) p r
+  -- a way in which each item has its price
+  abbrev pub PaidWay : (VirtualState → Type 0) → (ℕ → VirtualState → Type 0) → ℕ → ℕ → VirtualState → Type 0
+  PaidWay = Pays (virtual_machine reading setting) (virtual_price setting)
+
+  -- the price of a state is that of the item that stands here
+  pub price_here : (t : VirtualState) (item : VirtualItem) → slice_get setting.items t.pc ≡ Some item
+      → virtual_price setting t ≡ item_price setting t.active.found item
+  price_here t item here = ap (λ o. some_price setting t.active.found o) here
+
+  as_much : (a b left : ℕ) → a ≡ b → a + left ≤ b + left
+  as_much a b left e = omega (arith, e)
+
+  module _ (P : VirtualState → Type 0) (Q : ℕ → VirtualState → Type 0) where
+    -- one step, known by what the item that stands here does, at the item's price
+    pub does_item : (k left : ℕ) (t t1 : VirtualState) (item : VirtualItem)
+        → slice_get setting.items t.pc ≡ Some item → item_step reading setting item t ≡ Go t1 → P t
+        → PaidWay P Q k left t1 → PaidWay P Q (suc k) (item_price setting t.active.found item + left) t
+    does_item k left t t1 item here e p r = (
+      p,
+      left,
+      as_much (virtual_price setting t) (item_price setting t.active.found item) left (price_here t item here),
+      subst (λ y. Onward y P (PaidWay P Q k left)) (sym (ap (λ o. step_here reading setting o t) here ∙ e)) r,
+    )
 
   -- a word is put into a virtual register
   pub write_local : (t : VirtualState) (v word : ℕ) → is_own t.active.found v ≡ true
@@ -93,6 +110,11 @@ given_is s o x f e = ap (λ p. given s p f) e
 -- where a test holds
 pub only_is : {S V : Type 0} (s : S) (b : Bool) (y : Next S V) → b ≡ true → only_if s b y ≡ y
 only_is s b y e = ap (λ c. only_if s c y) e
+
+-- the prices of items of a procedure, and what is paid behind them
+abbrev pub prices : Setting → Found → List VirtualItem → ℕ → ℕ
+prices setting f [] left = left
+prices setting f (x ∷ xs) left = item_price setting f x + prices setting f xs left
 
 -- so many steps more, one for each element
 abbrev pub more : {A : Type 0} → List A → ℕ → ℕ

@@ -28,6 +28,15 @@ abbrev pub entering_found : Option Found → ℕ
 entering_found None = 25
 entering_found (Some found) = entering found.count
 
+-- what the end of a run costs beyond its last step: the items behind the program's answer, or those of a request that
+-- finds no room
+abbrev pub end_price : ℕ
+end_price = 6
+
+-- what a run costs beyond its steps: the call of the first procedure with its entry, and the end
+abbrev pub start_price : ℕ
+start_price = 10 + 25 + end_price
+
 module _ (setting : Setting) where
   -- an item of a procedure
   abbrev pub item_price : Found → VirtualItem → ℕ

@@ -4,12 +4,13 @@ use Rattle.grift_base.specs.World.{WorldState}
 use Rattle.grift_base.specs.declared.verdicts.Verdict.{Verdict}
 use Rattle.run_laws.specs.Runs.{Ending, Wrong, NeverWrong, FollowsBy, Any}
 use Rattle.run_laws.specs.Machines.{Machine, run}
-use Rattle.run_laws.specs.Meters.{unspent, metered, each_one, Spends, OfRest}
+use Rattle.run_laws.specs.Meters.{unspent, metered, Spends, OfRest}
 use Rattle.rv_machine.specs.Memory.{Memory}
 use Rattle.rv_machine.specs.Registers.{Registers}
 use Rattle.rv_machine.specs.State.{Halt, Lacks, Stack}
 use Rattle.low_ir.specs.Procedures.{Proc}
-use Rattle.low_ir.specs.Run.{Setting as LowSetting, LowState, LowShown, low_machine, low_turns, low_start}
+use Rattle.low_ir.specs.Run.{Setting as LowSetting, LowState, LowShown, low_machine, low_start}
+use Rattle.low_ir.specs.Prices.{low_price}
 use Rattle.rv_select.specs.declared.code.Place.TheVariants.{Slot}
 use Rattle.rv_select.specs.declared.code.VReg.TheVariants.{Real}
 use Rattle.rv_select.specs.declared.code.VirtualItem.{VirtualItem}
@@ -20,6 +21,7 @@ use Rattle.rv_select.specs.Marks.{procedures, numbers_from, each_has_work, HaveO
 use Rattle.rv_select.specs.WellFormed.{IsWellFormed}
 use Rattle.rv_select.specs.Run.{Setting, VirtualState, Shown, virtual_machine, virtual_start}
 use Rattle.rv_select.specs.Select.{select_items, registers_of}
+use Rattle.rv_select.specs.Prices.{start_price, virtual_price}
 use Rattle.rv_select.specs.Stacks.{stacked_machine, low_in_stack}
 
 -- what a run of these items is told where a run over words is told this
@@ -51,22 +53,23 @@ pub record Begins (low : LowSetting) (entry : ℕ) (p : Proc) (regs : Registers)
   pub alloc : regs 26 ≡ low.region
   pub region_end : regs 27 ≡ low.top
 
--- from such a beginning a run of items follows a run over words, and shows the same region; it takes at most nine items
--- for each turn of that run, and as many for the start
+-- from such a beginning a run of items follows a run over words, and shows the same region; its items cost no more than
+-- the steps of that run, and the start
 pub record Simulates {V : Type 0} (X : Machine VirtualState Shown V) (Y : Machine LowState LowShown V)
-    (low : LowSetting) (p : Proc) (regs : Registers) (memory : Memory) (world : WorldState) : Type 0 where
+    (setting : Setting) (low : LowSetting) (p : Proc) (regs : Registers) (memory : Memory) (world : WorldState) : Type 0 where
   pub follows : FollowsBy (SameRegion (regs 25) low.top) Any (run X (virtual_start regs memory world))
       (run Y (low_start low p memory world))
-  pub turns : FollowsBy (OfRest (SameRegion (regs 25) low.top)) (Spends 9)
-      (run (metered each_one X) (unspent (virtual_start regs memory world)))
-      (run (metered low_turns Y) (record { spent = 1; rest = low_start low p memory world }))
+  pub turns : FollowsBy (OfRest (SameRegion (regs 25) low.top)) (Spends 1)
+      (run (metered (virtual_price setting) X) (unspent (virtual_start regs memory world)))
+      (run (metered (low_price low.procs) Y) (record { spent = start_price; rest = low_start low p memory world }))
 
 -- wherever a run over words of these procedures begins, if it never goes wrong
 abbrev pub RunsAsWords : {V : Type 0} → (Halt → Ending V) → List VirtualItem → List Proc → ℕ → Type 0
 RunsAsWords reading items procs entry =
     (low : LowSetting) (p : Proc) (regs : Registers) (memory : Memory) (world : WorldState) → low.procs ≡ procs
     → Begins low entry p regs → NeverWrong (run (low_machine reading low) (low_start low p memory world))
-    → Simulates (virtual_machine reading (setting_of low items)) (low_machine reading low) low p regs memory world
+    → Simulates (virtual_machine reading (setting_of low items)) (low_machine reading low) (setting_of low items) low p
+    regs memory world
 
 -- so it does in a stack of any size, if want of stack isn't read as going wrong
 abbrev pub RunsInStackAsWords : {V : Type 0} → (Halt → Ending V) → List VirtualItem → List Proc → ℕ → Type 0
@@ -75,8 +78,8 @@ RunsInStackAsWords reading items procs entry =
     → (low : LowSetting) (p : Proc) (regs : Registers) (memory : Memory) (world : WorldState) (room : ℕ)
     → low.procs ≡ procs → Begins low entry p regs
     → NeverWrong (run (low_machine reading low) (low_start low p memory world))
-    → Simulates (stacked_machine reading (setting_of low items) room) (low_in_stack reading low room) low p regs
-    memory world
+    → Simulates (stacked_machine reading (setting_of low items) room) (low_in_stack reading low room)
+    (setting_of low items) low p regs memory world
 
 -- a call of the first procedure, and then environment call 0 with kind 0 and its answer
 abbrev pub BeginsAsSaid : List VirtualItem → ℕ → Type 0
