@@ -79,13 +79,7 @@ fetches (Word i) k = k
 fetches (Number zero) k = k
 fetches (Number (suc n)) k = suc k
 
--- one step more at most
-pub fetches_le : (a : LowSource) (k : ℕ) → fetches a k ≤ suc k
-fetches_le (Word i) k = omega arith
-fetches_le (Number zero) k = omega arith
-fetches_le (Number (suc n)) k = omega arith
-
--- and none less
+-- none less
 pub fetches_ge : (a : LowSource) (k : ℕ) → k ≤ fetches a k
 fetches_ge (Word i) k = omega arith
 fetches_ge (Number zero) k = omega arith
@@ -114,10 +108,11 @@ module _ {V : Type 0} (reading : Halt → Ending V) (setting : Setting) where
         → ((regs : Registers) (known : ℕ → Bool) → Kept t r regs known
         → value (record t { regs = regs; known = known; pc = beyond (source_items r a) t.pc })
         (source_reg t.active.found.first r a) ≡ Some x
-        → PaidWay reading setting P Q k left (record t { regs = regs; known = known; pc = beyond (source_items r a) t.pc }))
+        → PaidWay reading setting P Q k left
+        (record t { regs = regs; known = known; pc = beyond (source_items r a) t.pc }))
         → PaidWay reading setting P Q (fetches a k) (prices setting t.active.found (source_items r a) left) t
-    fetch r sc (Word i) x t rest k left e f s p go = go t.regs t.known (record { same = λ q h. refl; still = λ q h. h }) (f i
-        ∙ e)
+    fetch r sc (Word i) x t rest k left e f s p go =
+        go t.regs t.known (record { same = λ q h. refl; still = λ q h. h }) (f i ∙ e)
     fetch r sc (Number zero) x t rest k left e f s p go =
         let same : 0 ≡ x = cc in go t.regs t.known (record { same = λ q h. refl; still = λ q h. h }) (ap Some same)
     fetch r sc (Number (suc n)) x t rest k left e f s p go =

@@ -66,18 +66,21 @@ module _ {V : Type 0} (reading : Halt → Ending V) (low : LowSetting) (entry : 
       let way : PaidWay reading setting P (λ left u. OnWith reading low items (regs 25) small left s0 u) 1
       (item_price setting t0.active.found (Call entry 0) + end_price) t0 =
       does_item reading setting P (λ left u. OnWith reading low items (regs 25) small left s0 u) 0 end_price t0 t1
-      (Call entry 0) refl (given_is _ _ f _ l.1) h (record {
-        active = record {
-          mark = l.2.mark;
-          out = l.2.out;
-          homed = l.2.homed;
-          locals = λ i. refl;
-          lies = subst (λ n. Lies reading low items (regs 25) small f l.2.out f.home (params_items f.first 0 n
-              ++ code_items f.first l.2.out l.2.mark p.code) []) none l.2.lies;
-        };
-        behind = (refl, (refl, (refl, (refl, (refl, tt)))));
-        body = (refl, alloc, (refl, first_words f l.2.homed.count), refl, top, fits, even, omega arith, refl);
-      }, all_owed end_price) in
+      (Call entry 0) refl (given_is _ _ f _ l.1) h (
+        record {
+          active = record {
+            mark = l.2.mark;
+            out = l.2.out;
+            homed = l.2.homed;
+            locals = λ i. refl;
+            lies = subst (λ n. Lies reading low items (regs 25) small f l.2.out f.home (params_items f.first 0 n
+                ++ code_items f.first l.2.out l.2.mark p.code) []) none l.2.lies;
+          };
+          behind = (refl, (refl, (refl, (refl, (refl, tt)))));
+          body = (refl, alloc, (refl, first_words f l.2.homed.count), refl, top, fits, even, omega arith, refl);
+        },
+        all_owed end_price,
+      ) in
       let paid = way.2 in (way.0, way.1, omega (arith, paid, few), way.3)
 
   first : Alike (SameRegion (regs 25) low.top) (low_machine reading low) (virtual_machine reading setting) s0 t0

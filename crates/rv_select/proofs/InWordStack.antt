@@ -515,7 +515,8 @@ module _ {V : Type 0} (reading : Halt → Ending V) (low : LowSetting) (items : 
       subst (λ b. Does whole s t (if b then code_step reading low s.active.code s
       else Stop (reading (Lacks Stack)) s)) (sym (is_within (bytes s) r.0))
       (fitting whole s t r.0 r.1.0 (code_step reading low s.active.code s) (grows reading low s s.active.code)
-      (does_with_more K M N cost (OnWith reading low items stack small) (λ x. 0) s t (purse_of reading low items stack small s s.active.code) whole
+      (does_with_more K M N cost (OnWith reading low items stack small) (λ x. 0) s t
+      (purse_of reading low items stack small s s.active.code) whole
       (code_step reading low s.active.code s) (let owed = r.1.1 in omega (arith, owed))
       (do_code reading low items stack small laid s t r.1.0 s.active.code r.1.0.active.lies)))
   does_both laid purse s t (inr r) =

@@ -8,6 +8,7 @@ use Rattle.grift_base.specs.declared.verdicts.Verdict.{Verdict as Outcome}
 use Rattle.grift_base.specs.declared.verdicts.Verdict.TheVariants.{Answer, RegionOut}
 use Rattle.run_laws.specs.Runs.{Verdict}
 use Rattle.run_laws.specs.Machines.{run}
+use Rattle.run_laws.specs.Meters.{metered, unspent}
 use Rattle.rv_isa.specs.declared.inst.Cond.TheVariants.{Ltu, Eq}
 use Rattle.rv_machine.specs.Mach.{stop_of}
 use Rattle.rv_machine.specs.Memory.{Memory, load_bytes, store_bytes}
@@ -17,7 +18,9 @@ use Rattle.low_ir.specs.declared.code.LowSource.TheVariants.{Word, Number}
 use Rattle.low_ir.specs.Procedures.{Done, Set, Compute, Load, Build, Call, If, Return, TailCall, Proc}
 use Rattle.low_ir.specs.Closed.{is_closed}
 use Rattle.low_ir.specs.Run.{Setting as LowSetting, low_machine, low_start}
+use Rattle.low_ir.specs.Prices.{low_price}
 use Rattle.rv_select.specs.Run.{virtual_machine, virtual_start}
+use Rattle.rv_select.specs.Prices.{start_price, virtual_price}
 use Rattle.rv_select.specs.Select.{select_items}
 use Rattle.rv_select.specs.Selected.{setting_of}
 
@@ -94,3 +97,27 @@ virtual_lacks : (run (virtual_machine stop_of (setting_of (low_in 67008) (select
     (virtual_start (start_regs 67000 8 4096) no_memory fresh) 90).ending ≡ Some (Verdict RegionOut)
 unfolding low_in main counts no_memory fresh load_bytes store_bytes environment_call
 virtual_lacks = refl
+
+-- a program of far words, whose items cost just as much as its steps and the start: so the start's price is as small as
+-- it can be
+far : Proc
+far = record {
+  params = 0;
+  words = 255;
+  code = Compute Add 0 (Number 5) (Number 3000) (Return (Word 0));
+}
+
+far_in : LowSetting
+unfolding low_in far main counts
+far_in = record (low_in 67064) { procs = far ∷ [] }
+
+low_pays : (run (metered (low_price (far ∷ [])) (low_machine stop_of far_in))
+    (record { spent = start_price; rest = low_start far_in far no_memory fresh }) 2).shown.spent ≡ 73
+unfolding far_in low_in far main counts no_memory fresh load_bytes store_bytes environment_call
+low_pays = refl
+
+virtual_pays : (run (metered (virtual_price (setting_of far_in (select_items 0 (far ∷ []))))
+    (virtual_machine stop_of (setting_of far_in (select_items 0 (far ∷ [])))))
+    (unspent (virtual_start (start_regs 67000 64 4096) no_memory fresh)) 10).shown.spent ≡ 73
+unfolding far_in low_in far main counts no_memory fresh load_bytes store_bytes environment_call
+virtual_pays = refl

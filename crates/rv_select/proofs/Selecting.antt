@@ -401,12 +401,15 @@ module _ {V : Type 0} (reading : Halt → Ending V) (low : LowSetting) (items : 
       let u : VirtualState = record t { regs = regs; known = known; pc = pc } in
       does_item reading setting (Way s s1) (At s1) 0 (owed s.waiting) u
       (wrote_local (t.active.found.first + d) word u) item
-      lies.stands.0 step (way_regs s s1 t on.body regs known pc h) (record {
-        active = active_set s t on rest d word (suc pc) (next t.active.found on.active.out pc item
-            (items_of s t on rest) s.active.rests lies);
-        behind = on.behind;
-        body = body_regs s t regs known (suc pc) on.body h;
-      }, all_owed (owed s.waiting))
+      lies.stands.0 step (way_regs s s1 t on.body regs known pc h) (
+        record {
+          active = active_set s t on rest d word (suc pc) (next t.active.found on.active.out pc item
+              (items_of s t on rest) s.active.rests lies);
+          behind = on.behind;
+          body = body_regs s t regs known (suc pc) on.body h;
+        },
+        all_owed (owed s.waiting),
+      )
 
   mine : (s : LowState) (t : VirtualState) (on : On s t) (d : ℕ) → nat_lt d s.active.count ≡ true
       → is_own t.active.found (t.active.found.first + d) ≡ true
@@ -426,7 +429,7 @@ module _ {V : Type 0} (reading : Halt → Ending V) (low : LowSetting) (items : 
         inl (omega arith),
         item_price setting f (put_item f.first (Virtual (f.first + d)) a) + owed s.waiting,
         (let p = put_paid setting f (Virtual (f.first + d)) a in
-        let q = own_slot f.first d in omega (arith, p, q)),
+            let q = own_slot f.first d in omega (arith, p, q)),
         item_sets s t on rest d x t.regs t.known t.pc _ (fixed_self t.regs) lies
             (put_local reading setting t s.active.locals (t.active.found.first + d) a x e on.active.locals
             (mine s t on d h)),
@@ -493,7 +496,7 @@ module _ {V : Type 0} (reading : Halt → Ending V) (low : LowSetting) (items : 
             inl (let z = fetches_ge a 1 in omega (arith, z)),
             prices setting f (source_items 5 a) (item_price setting f item + owed s.waiting),
             (let p = source_paid setting f 5 a (item_price setting f item + owed s.waiting) in
-            let q = own_slot first d in omega (arith, p, q)),
+                let q = own_slot first d in omega (arith, p, q)),
             fetch reading setting (Way s s1) (At s1) s.active.locals 5 (refl, refl, refl, refl) a x t (item
                 ∷ items_of s t on rest) 1 (item_price setting f item + owed s.waiting) ae on.active.locals there.stands
                 (way_first s s1 t on.body)
@@ -516,7 +519,7 @@ module _ {V : Type 0} (reading : Halt → Ending V) (low : LowSetting) (items : 
             prices setting f (source_items 5 a) (prices setting f (source_items 6 b)
                 (item_price setting f item + owed s.waiting)),
             (let p = both_paid s t a b (item_price setting f item + owed s.waiting) in
-            let q = own_slot first d in omega (arith, p, q)),
+                let q = own_slot first d in omega (arith, p, q)),
             fetch_both reading setting (Way s s1) (At s1) s.active.locals a b x y t (item
                 ∷ items_of s t on rest) 1 (item_price setting f item + owed s.waiting) ae be on.active.locals
                 there.stands (way_regs s s1 t on.body)
@@ -600,22 +603,25 @@ module _ {V : Type 0} (reading : Halt → Ending V) (low : LowSetting) (items : 
               pc =
                   suc pc;
             }) item here.stands.0 (given_is _ _ x _ va ∙ (given_is _ _ y _ vb ∙ only_is _ _ _ m))
-            (way_regs s s1 t on.body regs known pc same) (record {
-              active = active_same s t on rest (suc pc) (next t.active.found on.active.out pc item
-                  (items_of s t on rest) s.active.rests here);
-              behind = on.behind;
-              body = (
-                ap (λ (m0 : Memory). store_bytes 8 m0 at y) body.0,
-                body.1,
-                body.2,
-                body.3,
-                body.4,
-                body.5,
-                body.6,
-                body.7,
-                body.8,
-              );
-            }, all_owed (owed s.waiting))),
+            (way_regs s s1 t on.body regs known pc same) (
+              record {
+                active = active_same s t on rest (suc pc) (next t.active.found on.active.out pc item
+                    (items_of s t on rest) s.active.rests here);
+                behind = on.behind;
+                body = (
+                  ap (λ (m0 : Memory). store_bytes 8 m0 at y) body.0,
+                  body.1,
+                  body.2,
+                  body.3,
+                  body.4,
+                  body.5,
+                  body.6,
+                  body.7,
+                  body.8,
+                );
+              },
+              all_owed (owed s.waiting),
+            )),
       ))))
 
   -- ---- the allocation word
@@ -658,27 +664,29 @@ module _ {V : Type 0} (reading : Halt → Ending V) (low : LowSetting) (items : 
             shift here.stands.0 (given_is u _ n _ va)
             (way_first s s1 u body) (
             does_item reading setting (Way s s1) (At s1) 0 (owed s.waiting) t2 t3
-            (Compute Add (Real 26) (Real 26) (Real 5)) here.stands.1.0 refl (way_first s s1 t2 body)
-            (record {
-              active = active_same s t on rest t3.pc (record {
-                stands = here.stands.1.1;
-                finds = here.finds.1.1;
-                leads =
-                    here.leads;
-              });
-              behind = on.behind;
-              body = (
-                body.0,
-                ap (λ x. (x + n * 8 % 2 ^ 64) % 2 ^ 64) body.1 ∙ taken s.alloc n low.top h small,
-                body.2,
-                body.3,
-                body.4,
-                within_top (s.alloc + 8 * n) low.top h,
-                (let e = body.6 in omega arith),
-                (let e = body.7 in omega arith),
-                body.8,
-              );
-            }, all_owed (owed s.waiting)))),
+            (Compute Add (Real 26) (Real 26) (Real 5)) here.stands.1.0 refl (way_first s s1 t2 body) (
+              record {
+                active = active_same s t on rest t3.pc (record {
+                  stands = here.stands.1.1;
+                  finds = here.finds.1.1;
+                  leads =
+                      here.leads;
+                });
+                behind = on.behind;
+                body = (
+                  body.0,
+                  ap (λ x. (x + n * 8 % 2 ^ 64) % 2 ^ 64) body.1 ∙ taken s.alloc n low.top h small,
+                  body.2,
+                  body.3,
+                  body.4,
+                  within_top (s.alloc + 8 * n) low.top h,
+                  (let e = body.6 in omega arith),
+                  (let e = body.7 in omega arith),
+                  body.8,
+                );
+              },
+              all_owed (owed s.waiting),
+            ))),
       )))
 
   -- a request that finds no room: the code behind the mark
@@ -804,7 +812,7 @@ module _ {V : Type 0} (reading : Halt → Ending V) (low : LowSetting) (items : 
             inl (let z = fetches_ge a 4 in omega (arith, z)),
             prices setting f (source_items 7 a) (1 + (1 + left)),
             (let p = source_paid setting f 7 a (1 + (1 + left)) in
-            let q = own_slot first d in omega (arith, p, q)),
+                let q = own_slot first d in omega (arith, p, q)),
             tested n e s1 (At s1) 2 left (λ regs known same va.
                 let t3 : VirtualState = u3 regs known in
                 let t4 : VirtualState = record t3 { pc = suc t3.pc } in
@@ -817,16 +825,19 @@ module _ {V : Type 0} (reading : Halt → Ending V) (low : LowSetting) (items : 
                 here.stands.1.1.0 (branched regs known n va false lt) (way_first s s1 t3 body) (
                 does_item reading setting (Way s s1) (At s1) 0 (owed s.waiting) t4 t5 put here.stands.1.1.1.0
                 (move_local reading setting t4 (first + d) (Real 26) s.alloc (ap Some body.1) (mine s t on d m))
-                (way_first s s1 t4 body) (record {
-                  active = active_set s t on rest d s.alloc t5.pc (record {
-                    stands = here.stands.1.1.1.1;
-                    finds =
-                        here.finds.1.1.1.1;
-                    leads = here.leads;
-                  });
-                  behind = on.behind;
-                  body = body;
-                }, all_owed (owed s.waiting)))),
+                (way_first s s1 t4 body) (
+                  record {
+                    active = active_set s t on rest d s.alloc t5.pc (record {
+                      stands = here.stands.1.1.1.1;
+                      finds =
+                          here.finds.1.1.1.1;
+                      leads = here.leads;
+                    });
+                    behind = on.behind;
+                    body = body;
+                  },
+                  all_owed (owed s.waiting),
+                ))),
           ))
       by_room n e false h =
           let s1 : LowState = record (popped s rest) { words = s.words + n } in
@@ -836,7 +847,7 @@ module _ {V : Type 0} (reading : Halt → Ending V) (low : LowSetting) (items : 
             fetches a 7,
             prices setting f (source_items 7 a) (1 + (1 + left)),
             (let p = source_paid setting f 7 a (1 + (1 + left)) in
-            let q = end_is_owed s.waiting in omega (arith, p, q)),
+                let q = end_is_owed s.waiting in omega (arith, p, q)),
             tested n e s1 (Ends s s1 (reading (Lacks Region))) 5 left (λ regs known same va.
                 let t3 : VirtualState = u3 regs known in
                 let t4 : VirtualState = record t3 { pc = room.0 } in
@@ -1072,8 +1083,8 @@ module _ {V : Type 0} (reading : Halt → Ending V) (low : LowSetting) (items : 
             inl (omega arith),
             1 + (item_price setting f size_item + (11 + later)),
             (let p = stores_paid setting f args 0 left in
-            let q = size_paid ws e few in
-            let i = own_slot first d in omega (arith, p, q, i)),
+                let q = size_paid ws e few in
+                let i = own_slot first d in omega (arith, p, q, i)),
             tested s1 (At s1) (suc (stores_more args 2)) (11 + later) (
                 does_item reading setting (Way s s1) (At s1) (stores_more args 2) later t2 t3 test lies.stands.1.1.0
                 (branched false lt) (way_first s s1 t2 on.body) (
@@ -1100,27 +1111,30 @@ module _ {V : Type 0} (reading : Halt → Ending V) (low : LowSetting) (items : 
                 (mine s t on d m)) (way_seen s s1 u sn) (
                 does_item reading setting (Way s s1) (At s1) 0 (owed s.waiting) u1 u2
                 (Compute Add (Real 26) (Real 26) (Real 6)) here.stands.1.0 (given_is u1 _ bytes _ v6)
-                (way_seen s s1 u1 sn) (record {
-                  active = active_set s t on rest d s.alloc u2.pc (record {
-                    stands = here.stands.1.1;
-                    finds =
-                        here.finds.1.1;
-                    leads = here.leads;
-                  });
-                  behind = on.behind;
-                  body = (
-                    ap (λ (mem : Memory). store_words ws s.alloc mem) on.body.0,
-                    sum,
-                    on.body.2,
-                    on.body.3,
-                    same.top ∙ on.body.4,
-                    within_top (s.alloc + 8 * length ws) low.top h,
-                    (let y = on.body.6 in omega (arith, y)),
-                    (let y = on.body.7 in omega (arith, y)),
-                    same.stack
-                        ∙ on.body.8,
-                  );
-                }, all_owed (owed s.waiting)))))),
+                (way_seen s s1 u1 sn) (
+                  record {
+                    active = active_set s t on rest d s.alloc u2.pc (record {
+                      stands = here.stands.1.1;
+                      finds =
+                          here.finds.1.1;
+                      leads = here.leads;
+                    });
+                    behind = on.behind;
+                    body = (
+                      ap (λ (mem : Memory). store_words ws s.alloc mem) on.body.0,
+                      sum,
+                      on.body.2,
+                      on.body.3,
+                      same.top ∙ on.body.4,
+                      within_top (s.alloc + 8 * length ws) low.top h,
+                      (let y = on.body.6 in omega (arith, y)),
+                      (let y = on.body.7 in omega (arith, y)),
+                      same.stack
+                          ∙ on.body.8,
+                    );
+                  },
+                  all_owed (owed s.waiting),
+                ))))),
           ))
       by_room ws e few false h =
           let s1 : LowState = record (popped s rest) { words = s.words + length ws } in
@@ -1135,7 +1149,7 @@ module _ {V : Type 0} (reading : Halt → Ending V) (low : LowSetting) (items : 
             7,
             1 + (item_price setting f size_item + (11 + 7)),
             (let p = size_paid ws e few in
-            let q = end_is_owed s.waiting in omega (arith, p, q)),
+                let q = end_is_owed s.waiting in omega (arith, p, q)),
             tested s1 (Ends s s1 (reading (Lacks Region))) 5 (11 + 7) (
                 does_item reading setting (Way s s1) (Ends s s1 (reading (Lacks Region))) 4 7 t2 t4 test
                 lies.stands.1.1.0 (branched true lt
@@ -1271,8 +1285,8 @@ module _ {V : Type 0} (reading : Halt → Ending V) (low : LowSetting) (items : 
             inl (omega arith),
             with_words (1 + later),
             (let i = words_paid (1 + later) in
-            let m = own_slot f.first d in
-            let n = own_slot f.first e in omega (arith, i, m, n)),
+                let m = own_slot f.first d in
+                let n = own_slot f.first e in omega (arith, i, m, n)),
             moved x y xe ye s1 (At s1) 3 (1 + later) (
                 does_item reading setting (Way s s1) (At s1) 2 later (t3 x y) t4 Environment lies.stands.1.1.1.0 step
                 (way_first s s1 (t3 x y) on.body) (
@@ -1280,25 +1294,29 @@ module _ {V : Type 0} (reading : Halt → Ending V) (low : LowSetting) (items : 
                 (move_local reading setting t4 (t.active.found.first + d) (Real 10) a0 refl (mine s t on d dm))
                 (way_second s s1 t4 body) (
                 does_item reading setting (Way s s1) (At s1) 0 (owed s.waiting) t5 t6 puts_second
-                lies.stands.1.1.1.1.1.0 (move_local reading setting t5 (t.active.found.first + e) (Real 11) a1 refl (mine s t on e em))
-                (way_second s s1 t5 body) (record {
-                  active = record {
-                    mark = on.active.mark;
-                    out = on.active.out;
-                    homed = on.active.homed;
-                    locals = λ i. set_shifted t.active.found.first e a1 i (set_local (t.active.found.first + d) a0
-                        t.active.locals) (set_local d a0 s.active.locals) (set_shifted t.active.found.first d a0 i
-                        t.active.locals s.active.locals (on.active.locals i));
-                    lies = record {
-                      stands = lies.stands.1.1.1.1.1.1;
-                      finds = lies.finds.1.1.1.1.1.1;
-                      leads =
-                          lies.leads;
+                lies.stands.1.1.1.1.1.0
+                (move_local reading setting t5 (t.active.found.first + e) (Real 11) a1 refl (mine s t on e em))
+                (way_second s s1 t5 body) (
+                  record {
+                    active = record {
+                      mark = on.active.mark;
+                      out = on.active.out;
+                      homed = on.active.homed;
+                      locals = λ i. set_shifted t.active.found.first e a1 i (set_local (t.active.found.first + d) a0
+                          t.active.locals) (set_local d a0 s.active.locals) (set_shifted t.active.found.first d a0 i
+                          t.active.locals s.active.locals (on.active.locals i));
+                      lies = record {
+                        stands = lies.stands.1.1.1.1.1.1;
+                        finds = lies.finds.1.1.1.1.1.1;
+                        leads =
+                            lies.leads;
+                      };
                     };
-                  };
-                  behind = on.behind;
-                  body = body;
-                }, all_owed (owed s.waiting))))),
+                    behind = on.behind;
+                    body = body;
+                  },
+                  all_owed (owed s.waiting),
+                )))),
           )
       called x y xe ye dm em (Halts halt) w step =
           let s1 : LowState = popped s rest in
@@ -1426,23 +1444,27 @@ module _ {V : Type 0} (reading : Halt → Ending V) (low : LowSetting) (items : 
                 (item_price setting f item + owed s.waiting)),
             (let p = both_paid s t a b (item_price setting f item + owed s.waiting) in omega (arith, p)),
             fetch_both reading setting (Way s s1) (At s1) s.active.locals a b x y t (item
-                ∷ (other_code ++ tail)) 1 (item_price setting f item + owed s.waiting) xe ye on.active.locals lies.stands (way_regs s s1 t on.body)
+                ∷ (other_code ++ tail)) 1 (item_price setting f item + owed s.waiting) xe ye on.active.locals
+                lies.stands (way_regs s s1 t on.body)
                 (λ regs known same va vb.
                 let u : VirtualState = record t { regs = regs; known = known; pc = pc } in
                 does_item reading setting (Way s s1) (At s1) 0 (owed s.waiting) u (record u { pc = suc pc }) item
                 here.stands.0
-                (branched x y u va vb false h) (way_regs s s1 t on.body regs known pc same) (record {
-                  active = record {
-                    mark = suc (suc m);
-                    out = on.active.out;
-                    homed = on.active.homed;
-                    locals =
-                        on.active.locals;
-                    lies = at_other;
-                  };
-                  behind = on.behind;
-                  body = body_regs s t regs known (suc pc) on.body same;
-                }, all_owed (owed s.waiting))),
+                (branched x y u va vb false h) (way_regs s s1 t on.body regs known pc same) (
+                  record {
+                    active = record {
+                      mark = suc (suc m);
+                      out = on.active.out;
+                      homed = on.active.homed;
+                      locals =
+                          on.active.locals;
+                      lies = at_other;
+                    };
+                    behind = on.behind;
+                    body = body_regs s t regs known (suc pc) on.body same;
+                  },
+                  all_owed (owed s.waiting),
+                )),
           )
       either x y xe ye true h =
           let s1 : LowState = goes_on one (rest ∷ s.active.rests) s in (
@@ -1453,25 +1475,30 @@ module _ {V : Type 0} (reading : Halt → Ending V) (low : LowSetting) (items : 
                 (item_price setting f item + (0 + owed s.waiting))),
             (let p = both_paid s t a b (item_price setting f item + (0 + owed s.waiting)) in omega (arith, p)),
             fetch_both reading setting (Way s s1) (At s1) s.active.locals a b x y t (item
-                ∷ (other_code ++ tail)) 2 (item_price setting f item + (0 + owed s.waiting)) xe ye on.active.locals lies.stands (way_regs s s1 t on.body)
+                ∷ (other_code ++ tail)) 2 (item_price setting f item + (0 + owed s.waiting)) xe ye on.active.locals
+                lies.stands (way_regs s s1 t on.body)
                 (λ regs known same va vb.
                 let u : VirtualState = record t { regs = regs; known = known; pc = pc } in
                 let u1 : VirtualState = record u { pc = suc jump_place } in
-                does_item reading setting (Way s s1) (At s1) 1 (0 + owed s.waiting) u u1 item here.stands.0 (branched x y u va vb true h
+                does_item reading setting (Way s s1) (At s1) 1 (0 + owed s.waiting) u u1 item here.stands.0
+                (branched x y u va vb true h
                 ∙ given_is u _ (suc jump_place) _ jump_there.finds.1.0) (way_regs s s1 t on.body regs known pc same) (
                 does_item reading setting (Way s s1) (At s1) 0 (owed s.waiting) u1
                 (record u1 { pc = suc (suc jump_place) }) (Mark m)
-                jump_there.stands.1.0 refl (way_regs s s1 t on.body regs known (suc jump_place) same) (record {
-                  active = record {
-                    mark = suc (suc m) + marks_in other;
-                    out = on.active.out;
-                    homed = on.active.homed;
-                    locals = on.active.locals;
-                    lies = at_one;
-                  };
-                  behind = on.behind;
-                  body = body_regs s t regs known (suc (suc jump_place)) on.body same;
-                }, all_owed (owed s.waiting)))),
+                jump_there.stands.1.0 refl (way_regs s s1 t on.body regs known (suc jump_place) same) (
+                  record {
+                    active = record {
+                      mark = suc (suc m) + marks_in other;
+                      out = on.active.out;
+                      homed = on.active.homed;
+                      locals = on.active.locals;
+                      lies = at_one;
+                    };
+                    behind = on.behind;
+                    body = body_regs s t regs known (suc (suc jump_place)) on.body same;
+                  },
+                  all_owed (owed s.waiting),
+                ))),
           )
 
   do_done : (s : LowState) (t : VirtualState) (on : On s t) → Lies t.active.found on.active.out t.pc [] s.active.rests
@@ -1495,17 +1522,20 @@ module _ {V : Type 0} (reading : Halt → Ending V) (low : LowSetting) (items : 
           behind_mark : PaidWay reading setting (Way s s1) (At s1) 1 (0 + owed s.waiting) t1
           behind_mark =
               does_item reading setting (Way s s1) (At s1) 0 (owed s.waiting) t1 t2 (Mark h.0) h.4.0 refl
-              (way_first s s1 t1 on.body) (record {
-                active = record {
-                  mark = h.2;
-                  out = on.active.out;
-                  homed = on.active.homed;
-                  locals = on.active.locals;
-                  lies = record { stands = h.4.1; finds = h.5; leads = h.6 };
-                };
-                behind = on.behind;
-                body = on.body;
-              }, all_owed (owed s.waiting))
+              (way_first s s1 t1 on.body) (
+                record {
+                  active = record {
+                    mark = h.2;
+                    out = on.active.out;
+                    homed = on.active.homed;
+                    locals = on.active.locals;
+                    lies = record { stands = h.4.1; finds = h.5; leads = h.6 };
+                  };
+                  behind = on.behind;
+                  body = on.body;
+                },
+                all_owed (owed s.waiting),
+              )
 
           joins : Joins t.active.found.home t.pc h.0 h.1 → Sim (purse_of s Done) s t (Go s1)
           joins (inl e) = (
@@ -1608,17 +1638,20 @@ module _ {V : Type 0} (reading : Halt → Ending V) (low : LowSetting) (items : 
       handed_known te.known i n (knows i (let z = many in omega (arith, k))) (let z = many in let y = count in
       omega (arith, k))) (subst (λ x. 0 + x ≤ 8) (sym many) (omega (arith, eight)))
       (subst (λ x. 0 + p.params ≤ x) (sym en.homed.count) (omega (arith, le))) en.lies.stands
-      (λ L pc. way_second s s1 (record t1 { active = record { found = f; locals = L }; pc = pc }) inside) (record {
-        active = record {
-          mark = en.mark;
-          out = en.out;
-          homed = en.homed;
-          locals = bound ws f.first 0 p.params te.regs no_locals no_locals many (λ i. refl) args;
-          lies = past f en.out f.home (params_items f.first 0 p.params) code [] en.lies;
-        };
-        behind = waiting;
-        body = inside;
-      }, all_owed (owed s2.waiting))
+      (λ L pc. way_second s s1 (record t1 { active = record { found = f; locals = L }; pc = pc }) inside) (
+        record {
+          active = record {
+            mark = en.mark;
+            out = en.out;
+            homed = en.homed;
+            locals = bound ws f.first 0 p.params te.regs no_locals no_locals many (λ i. refl) args;
+            lies = past f en.out f.home (params_items f.first 0 p.params) code [] en.lies;
+          };
+          behind = waiting;
+          body = inside;
+        },
+        all_owed (owed s2.waiting),
+      )
 
   -- words are handed on, and then an item enters a procedure
   handed : (s : LowState) (u : VirtualState) → Body s u
@@ -1789,7 +1822,7 @@ module _ {V : Type 0} (reading : Halt → Ending V) (low : LowSetting) (items : 
         inl (omega (arith, steps)),
         entering_paid from l.0 args item p.params left,
         (let a = enters_paid from l.0 args ws item p.params left many f3.0 f3.1 in
-        let b = entry_paid k p l.0 pe l.1 l.2.homed.count in omega (arith, a, b)),
+            let b = entry_paid k p l.0 pe l.1 l.2.homed.count in omega (arith, a, b)),
         call_from s t on d args ws rest p l.0 item t.regs t.known t.pc (fixed_self t.regs) l.2
             e lies (given_is _ _ l.0 _ l.1) f3.0 f3.1 f3.2,
       ))))
@@ -1840,7 +1873,7 @@ module _ {V : Type 0} (reading : Halt → Ending V) (low : LowSetting) (items : 
         inl (let z = fetches_ge a total in omega (arith, steps, z)),
         prices setting from (source_items 7 a) later,
         (let i = source_paid setting from 7 a later in
-        let j = enters_paid from l.0 args ws item p.params left many f3.0 f3.1 in omega (arith, i, j)),
+            let j = enters_paid from l.0 args ws item p.params left many f3.0 f3.1 in omega (arith, i, j)),
         fetch reading setting (Way s s1) (At s1) s.active.locals 7 (
           refl,
           refl,
@@ -1917,8 +1950,8 @@ module _ {V : Type 0} (reading : Halt → Ending V) (low : LowSetting) (items : 
         inl (omega (arith, steps)),
         entering_paid from l.0 args item p.params (owed s.waiting),
         (let a = enters_paid from l.0 args ws item p.params (owed s.waiting) many f3.0 f3.1 in
-        let b = entry_paid k p l.0 pe l.1 l.2.homed.count in
-        let c = given_up s t on in omega (arith, a, b, c)),
+            let b = entry_paid k p l.0 pe l.1 l.2.homed.count in
+            let c = given_up s t on in omega (arith, a, b, c)),
         tail_from s t on args ws p l.0 item t.regs t.known t.pc (fixed_self t.regs) l.2 e
             lies.stands (framed_is s.waiting t.frames _ _ on.behind ∙ given_is _ _ l.0 _ l.1) f3.0 f3.1 f3.2,
       ))))
@@ -1949,8 +1982,8 @@ module _ {V : Type 0} (reading : Halt → Ending V) (low : LowSetting) (items : 
         inl (let z = fetches_ge a total in omega (arith, steps, z)),
         prices setting from (source_items 7 a) later,
         (let i = source_paid setting from 7 a later in
-        let j = enters_paid from l.0 args ws item p.params (owed s.waiting) many f3.0 f3.1 in
-        let c = given_up s t on in omega (arith, i, j, c)),
+            let j = enters_paid from l.0 args ws item p.params (owed s.waiting) many f3.0 f3.1 in
+            let c = given_up s t on in omega (arith, i, j, c)),
         fetch reading setting (Way s s1) (At s1) s.active.locals 7 (
           refl,
           refl,
@@ -2008,7 +2041,8 @@ module _ {V : Type 0} (reading : Halt → Ending V) (low : LowSetting) (items : 
       back x e f fs fe s1 Q k left r =
           let t1 : VirtualState = wrote_real 10 x t in
           does_item reading setting (Way s s1) Q (suc k) (item_price setting found Return + left) t t1 put
-          lies.stands.0 (put_real reading setting t s.active.locals 10 a x e on.active.locals refl) (way_first s s1 t on.body) (
+          lies.stands.0 (put_real reading setting t s.active.locals 10 a x e on.active.locals refl)
+          (way_first s s1 t on.body) (
           does_item reading setting (Way s s1) Q k left t1 (record t1 {
             pc = f.back;
             active = f.active;
@@ -2094,22 +2128,25 @@ module _ {V : Type 0} (reading : Halt → Ending V) (low : LowSetting) (items : 
             inl (omega arith),
             with_answer left,
             (let p = answer_paid left in
-            let q = own_slot first w.answer in
-            let o : owed s.waiting ≡ owed (w ∷ ws) = ap owed we in omega (arith, p, q, o)),
+                let q = own_slot first w.answer in
+                let o : owed s.waiting ≡ owed (w ∷ ws) = ap owed we in omega (arith, p, q, o)),
             back x e f fs fe s1 (At s1) 1 left (
                 does_item reading setting (Way s s1) (At s1) 0 (owed ws) t2 t3 item h.0.lies.stands.0
                 (move_local reading setting t2 (first + w.answer) (Real 10) x refl
-                (own f.active.found w.rest.count w.answer h.0.homed.count m)) (way_second s s1 t2 body) (record {
-                  active = record {
-                    mark = h.0.mark;
-                    out = h.0.out;
-                    homed = h.0.homed;
-                    locals = λ i. set_shifted first w.answer x i f.active.locals w.rest.locals (h.0.locals i);
-                    lies = record { stands = h.0.lies.stands.1; finds = h.0.lies.finds.1; leads = h.0.lies.leads };
-                  };
-                  behind = h.1;
-                  body = body;
-                }, all_owed (owed ws))),
+                (own f.active.found w.rest.count w.answer h.0.homed.count m)) (way_second s s1 t2 body) (
+                  record {
+                    active = record {
+                      mark = h.0.mark;
+                      out = h.0.out;
+                      homed = h.0.homed;
+                      locals = λ i. set_shifted first w.answer x i f.active.locals w.rest.locals (h.0.locals i);
+                      lies = record { stands = h.0.lies.stands.1; finds = h.0.lies.finds.1; leads = h.0.lies.leads };
+                    };
+                    behind = h.1;
+                    body = body;
+                  },
+                  all_owed (owed ws),
+                )),
           ))
 
   -- ---- all steps
@@ -2137,6 +2174,7 @@ module _ {V : Type 0} (reading : Halt → Ending V) (low : LowSetting) (items : 
   pub selected : Laid → PaidSimulation (SameRegion stack low.top) M N (low_price low.procs) cost OnWith size
   selected laid = record {
     alike = λ purse s t on. as_alike s t (seen s t on.0.body);
-    does = λ purse s t on. does_with_more (SameRegion stack low.top) M N cost OnWith size s t (purse_of s s.active.code) (purse + low_price low.procs s) (M.step s)
+    does = λ purse s t on. does_with_more (SameRegion stack low.top) M N cost OnWith size s t
+        (purse_of s s.active.code) (purse + low_price low.procs s) (M.step s)
         (let le = on.1 in omega (arith, le)) (do_code laid s t on.0 s.active.code on.0.active.lies);
   }

@@ -56,7 +56,8 @@ pub record Begins (low : LowSetting) (entry : ℕ) (p : Proc) (regs : Registers)
 -- from such a beginning a run of items follows a run over words, and shows the same region; its items cost no more than
 -- the steps of that run, and the start
 pub record Simulates {V : Type 0} (X : Machine VirtualState Shown V) (Y : Machine LowState LowShown V)
-    (setting : Setting) (low : LowSetting) (p : Proc) (regs : Registers) (memory : Memory) (world : WorldState) : Type 0 where
+    (setting : Setting) (low : LowSetting) (p : Proc) (regs : Registers) (memory : Memory) (world : WorldState)
+    : Type 0 where
   pub follows : FollowsBy (SameRegion (regs 25) low.top) Any (run X (virtual_start regs memory world))
       (run Y (low_start low p memory world))
   pub turns : FollowsBy (OfRest (SameRegion (regs 25) low.top)) (Spends 1)
