@@ -23,6 +23,7 @@ use Rattle.assembler.specs.Imaging.{word_bytes, half_bytes, image_bytes, AreSect
 use Rattle.assembler.specs.Imaging.{code_start, assembled}
 use Rattle.assembler.specs.Conditions.{CanBeAssembled}
 use Rattle.assembler.specs.Encoded.{AllDecode}
+use Rattle.assembler.specs.Prices.{state_price}
 use Rattle.assembler.specs.Following.{IsLike, CanBeCall, AllCanBeCall, IsNoCall, Starts, Simulates, DoesAsCode}
 use Rattle.assembler.specs.Following.{image_memory}
 use Rattle.assembler.proofs.Images.{statics_field, code_field, loaded_is, statics_long, code_long}
@@ -35,15 +36,15 @@ use Rattle.assembler.proofs.Doing.{Prepared, Related, simulates}
 
 -- ---- from runs that are counted to runs that are not
 
-module _ {V : Type 0} (X Y : Machine State State V) (s : State) where
+module _ {V : Type 0} (X Y : Machine State State V) (price : State → ℕ) (s : State) where
   -- the two follow each other when counted, so also when not
-  pub uncounted : FollowsBy (OfRest IsLike) (Spends 12) (run (metered each_one X) (unspent s))
-      (run (metered each_one Y) (unspent s)) → NeverWrong (run Y s) → Simulates X Y s
+  pub uncounted : FollowsBy (OfRest IsLike) (Spends 1) (run (metered each_one X) (unspent s))
+      (run (metered price Y) (unspent s)) → NeverWrong (run Y s) → Simulates X Y price s
   uncounted f nw =
       let nx : NeverWrong (run X s) = unmetered_never_wrong X each_one (unspent s)
       (follower_never_goes_wrong (follows_of f)) in
       let a = follows_metered X each_one (unspent s) nx in
-      let b = metered_follows Y each_one (unspent s) nw in
+      let b = metered_follows Y price (unspent s) nw in
       record {
         follows =
             follows_by_weaken IsLike Any (λ u v h. subst (λ x. IsLike x v) (sym h.1)
@@ -189,7 +190,8 @@ module _ {items : List RealItem} {statics : List ℕ} {labels : List Pos} (facts
       setting = record { address = address_of items l.code; ecall = ecall; ebreak = ebreak }
 
       pub simulated : NeverWrong (run (real_machine reading items setting) s)
-          → Simulates (machine_in reading items setting) (real_machine reading items setting) s
+          → Simulates (machine_in reading items setting) (real_machine reading items setting)
+          (state_price items setting) s
       simulated nw =
           let p = prepared s.memory ecall ebreak same can_ecall can_ebreak reading in
           let r : Related reading l s.memory items ecall ebreak s s = record {
@@ -198,8 +200,8 @@ module _ {items : List RealItem} {statics : List ℕ} {labels : List Pos} (facts
             layout = here;
             intact = λ at a b. refl;
           } in
-          uncounted (machine_in reading items setting) (real_machine reading items setting) s
-          (follows_at_cost (simulates reading l s.memory items ecall ebreak p) s s r nw) nw
+          uncounted (machine_in reading items setting) (real_machine reading items setting)
+          (state_price items setting) s (follows_at_cost (simulates reading l s.memory items ecall ebreak p) s s r nw) nw
 
   module _ {V : Type 0} (reading : Halt → Ending V) where
     abbrev sizes_of : {region stack : ℕ} {world : WorldState} {s : State} →
@@ -215,7 +217,8 @@ module _ {items : List RealItem} {statics : List ℕ} {labels : List Pos} (facts
         → Starts bytes items (address_of items start) region stack world s → (setting : Setting)
         → setting.address ≡ address_of items start → AllCanBeCall setting
         → NeverWrong (run (real_machine reading items setting) s)
-        → Simulates (machine_in reading items setting) (real_machine reading items setting) s
+        → Simulates (machine_in reading items setting) (real_machine reading items setting) (state_price items setting)
+        s
     starts_here region stack world s st setting e ok nw =
         let here : s.layout ≡ layout_of bytes region stack = ap (λ (t : State). t.layout) st.same in
         let c : address_of items start ≡ address_of items (first_address + statics_len bytes) = ap
@@ -226,7 +229,8 @@ module _ {items : List RealItem} {statics : List ℕ} {labels : List Pos} (facts
           ebreak = setting.ebreak;
         } = ap
         (λ (a : ℕ → ℕ). record { address = a; ecall = setting.ecall; ebreak = setting.ebreak }) (e ∙ c) in
-        subst (λ (x : Setting). Simulates (machine_in reading items x) (real_machine reading items x) s) (sym eq)
+        subst (λ (x : Setting). Simulates (machine_in reading items x) (real_machine reading items x)
+        (state_price items x) s) (sym eq)
         (simulated (sizes_of st) reading setting.ecall setting.ebreak ok.ecall ok.ebreak
         s here (λ at h. st.memory at (subst (λ (a : ℕ → ℕ). IsNoCall items a at) (sym c) h))
         (subst (λ (x : Setting). NeverWrong (run (real_machine reading items x) s)) eq nw))

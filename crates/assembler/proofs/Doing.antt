@@ -26,6 +26,7 @@ use Rattle.rv_machine.proofs.Public.{drop_next, a_condition_is_that_of_its_branc
 use Rattle.assembler.specs.Layout.{longest_widths, is_near, mark_place, address_of, width}
 use Rattle.assembler.specs.Expansion.{offset, opposite, far_insts, insts_of, target_of, item_insts}
 use Rattle.assembler.specs.Conditions.{registers_named, IsPlaced, is_mark, CanBeAssembled}
+use Rattle.assembler.specs.Prices.{real_price, price_here, state_price}
 use Rattle.assembler.specs.Following.{IsLike, ComeToLike, LeavesCode, CanBeCall}
 use Rattle.assembler.proofs.Distances.{lies_below}
 use Rattle.assembler.proofs.Finding.{width_at, Found, found, address_next, next_address, mark_lies}
@@ -124,28 +125,30 @@ module _ {V : Type 0} (reading : Halt → Ending V) (l : Layout) (m0 : Memory) (
     pub layout : t.layout ≡ l
     pub intact : Intact l m0 t.memory
 
-  abbrev Sim : State → State → Step State V → Type 0
-  Sim s t x = DoesOnBudget IsLike M N each_one Related (λ u. 0) 12 s t x
+  -- within so many turns
+  abbrev Sim : ℕ → State → State → Step State V → Type 0
+  Sim most s t x = DoesOnBudget IsLike M N each_one Related (λ u. 0) most s t x
 
   pub alike_of : (s t : State) → IsLike t s → Alike IsLike M N s t
   alike_of s t k = record { output = ap (λ (w : WorldState). w.output) k.world; shown = k }
 
   -- some turns, of which the last leads to where the item leads
-  goes : (k : ℕ) (s s1 t : State) → 0 < k → k ≤ 12 → Reaches N (λ u. IsLike u s) (Related s1) k t → Sim s t (Go s1)
-  goes k s s1 t h b r = (
+  goes : (most k : ℕ) (s s1 t : State) → 0 < k → k ≤ most → Reaches N (λ u. IsLike u s) (Related s1) k t
+      → Sim most s t (Go s1)
+  goes most k s s1 t h b r = (
     k,
     inl h,
-    reaches_weaken (metered each_one N) _ (λ u. Related s1 u.rest × (u.spent ≤ 12))
-        (OnBudget IsLike M N s s1 12) (λ u. Related s1 u.rest × (u.spent ≤ 12))
+    reaches_weaken (metered each_one N) _ (λ u. Related s1 u.rest × (u.spent ≤ most))
+        (OnBudget IsLike M N s s1 most) (λ u. Related s1 u.rest × (u.spent ≤ most))
         (λ u p. (inl (alike_of s u.rest p.0), p.1)) (λ u q. q) k (unspent t)
-        (counted N (λ u. IsLike u s) (Related s1) 12 k 0 t (omega arith) r),
+        (counted N (λ u. IsLike u s) (Related s1) most k 0 t (omega arith) r),
   )
 
   -- one turn that comes to the same
   does_turn : (x y : Turn) (s t : State) → ComeToLike x y → Related s t → turn_in items setting t ≡ x → LeavesCode t x
-      → Sim s t (step_by reading s y)
+      → Sim 1 s t (step_by reading s y)
   does_turn (Next t1) (Next s1) s t c r e k =
-      goes 1 s s1 t (omega arith) (omega arith)
+      goes 1 1 s s1 t (omega arith) (omega arith)
       (by_step N (λ u. IsLike u s) (Related s1) 0 t (Go t1) (ap (step_by reading t) e) r.like (record {
         like = c.0;
         pc = c.1;
@@ -164,12 +167,12 @@ module _ {V : Type 0} (reading : Halt → Ending V) (l : Layout) (m0 : Memory) (
   does_turn (Stops halt) (Next s1) s t c r e k = absurd c
 
   does_if : (lost : Bool) (x : Turn) (s s1 t : State) → ComeToLike x (Next s1) → Related s t
-      → turn_in items setting t ≡ x → LeavesCode t x → Sim s t (if lost then is_lost s else Go s1)
+      → turn_in items setting t ≡ x → LeavesCode t x → Sim 1 s t (if lost then is_lost s else Go s1)
   does_if true x s s1 t c r e k = tt
   does_if false x s s1 t c r e k = does_turn x (Next s1) s t c r e k
 
   does_last : (i : Inst) (x y : Turn) (s t : State) → ComeToLike x y → Related s t → turn_in items setting t ≡ x
-      → LeavesCode t x → Sim s t (last_step reading i s y)
+      → LeavesCode t x → Sim 1 s t (last_step reading i s y)
   does_last i x (Next s1) s t c r e k = does_if (needs_next i s s1) x s s1 t c r e k
   does_last i x (Stops other) s t c r e k = does_turn x (Stops other) s t c r e k
 
@@ -208,7 +211,7 @@ module _ {V : Type 0} (reading : Halt → Ending V) (l : Layout) (m0 : Memory) (
     does_op : (place : ℕ) (i : Inst) (rest : List RealItem) (next : Option ℕ) → drop place items ≡ Op i ∷ rest
         → ((n : ℕ) → next ≡ Some n → n ≡ address (suc place)) → (s t : State) → Related s t → t.pc ≡ address place
         → item_at address items t.pc ≡ Some (record { place = place; item = Op i; next = next })
-        → Sim s t (op_step reading (ecall place) (ebreak place) i next s)
+        → Sim 1 s t (op_step reading (ecall place) (ebreak place) i next s)
     does_op place i rest None there ok s t r q k =
         does_last i (act_with (ecall place) (ebreak place) i t) (act_with (ecall place) (ebreak place) i s) s t
         (like_act (ecall place) (ebreak place) (p.can_ecall place) (p.can_ebreak place) i
@@ -323,7 +326,7 @@ module _ {V : Type 0} (reading : Halt → Ending V) (l : Layout) (m0 : Memory) (
       jump_end = record s { regs = set_reg rd (address (suc place)) s.regs; pc = address (mark_place wanted items) }
 
       jumped : (near : Bool) → is_near (longest_widths items) items l.code place jump ≡ near → (t : State)
-          → Related s t → t.pc ≡ address place → (k : ℕ) × (0 < k) × (k ≤ 12)
+          → Related s t → t.pc ≡ address place → (k : ℕ) × (0 < k) × (k ≤ 10)
           × Reaches N (λ u. IsLike u s) (Related jump_end) k t
       jumped true e t r q =
           let w = begins place jump rest there refl refl s true e t r q in
@@ -383,22 +386,22 @@ module _ {V : Type 0} (reading : Halt → Ending V) (l : Layout) (m0 : Memory) (
         intact = r.intact;
       }
 
-      without_link : (b : Bool) → (rd == 0) ≡ b → (t : State) → (k : ℕ) × (0 < k) × (k ≤ 12)
+      without_link : (b : Bool) → (rd == 0) ≡ b → (t : State) → (k : ℕ) × (0 < k) × (k ≤ 10)
           × Reaches N (λ u. IsLike u s) (Related jump_end) k t
-          → Sim s t (if b then Go (record s { pc = address (mark_place wanted items) }) else is_lost s)
+          → Sim 10 s t (if b then Go (record s { pc = address (mark_place wanted items) }) else is_lost s)
       without_link false z t g = tt
       without_link true z t g =
-          goes g.0 s (record s { pc = address (mark_place wanted items) }) t g.1 g.2
+          goes 10 g.0 s (record s { pc = address (mark_place wanted items) }) t g.1 g.2
           (reaches_weaken N (λ u. IsLike u s) (Related jump_end) (λ u. IsLike u s)
           (Related (record s { pc = address (mark_place wanted items) })) (λ u h. h) (unlinked z) g.0 t g.3)
 
       does_jump : (mark next : Option ℕ) → ((n : ℕ) → mark ≡ Some n → n ≡ address (mark_place wanted items))
           → ((n : ℕ) → next ≡ Some n → n ≡ address (suc place)) → (t : State) → Related s t → t.pc ≡ address place
-          → Sim s t (jump_step rd mark next s)
+          → Sim 10 s t (jump_step rd mark next s)
       does_jump None next f g t r q = tt
       does_jump (Some to) (Some n) f g t r q =
           let j = jumped (is_near (longest_widths items) items l.code place jump) refl t r q in
-          rw (f to refl, g n refl) (goes j.0 s jump_end t j.1 j.2 j.3)
+          rw (f to refl, g n refl) (goes 10 j.0 s jump_end t j.1 j.2 j.3)
       does_jump (Some to) None f g t r q =
           let j = jumped (is_near (longest_widths items) items l.code place jump) refl t r q in
           rw (f to refl) (without_link (rd == 0) refl t j)
@@ -541,19 +544,19 @@ module _ {V : Type 0} (reading : Halt → Ending V) (l : Layout) (m0 : Memory) (
 
       to_mark : (near : Bool) → is_near (longest_widths items) items l.code place branch ≡ near
           → holds cond (reg s a) (reg s b) ≡ true → (t : State) → Related s t → t.pc ≡ address place
-          → Sim s t (Go taken_end)
-      to_mark true e h t r q = goes 1 s taken_end t (omega arith) (omega arith) (near_taken e h t r q)
-      to_mark false e h t r q = goes 11 s taken_end t (omega arith) (omega arith) (far_taken e h t r q)
+          → Sim 11 s t (Go taken_end)
+      to_mark true e h t r q = goes 11 1 s taken_end t (omega arith) (omega arith) (near_taken e h t r q)
+      to_mark false e h t r q = goes 11 11 s taken_end t (omega arith) (omega arith) (far_taken e h t r q)
 
       to_next : (near : Bool) → is_near (longest_widths items) items l.code place branch ≡ near
           → holds cond (reg s a) (reg s b) ≡ false → (t : State) → Related s t → t.pc ≡ address place
-          → Sim s t (Go passed_end)
-      to_next true e h t r q = goes 1 s passed_end t (omega arith) (omega arith) (near_passed e h t r q)
-      to_next false e h t r q = goes 1 s passed_end t (omega arith) (omega arith) (far_passed e h t r q)
+          → Sim 11 s t (Go passed_end)
+      to_next true e h t r q = goes 11 1 s passed_end t (omega arith) (omega arith) (near_passed e h t r q)
+      to_next false e h t r q = goes 11 1 s passed_end t (omega arith) (omega arith) (far_passed e h t r q)
 
       does_branch : (v : Bool) (mark next : Option ℕ) → holds cond (reg s a) (reg s b) ≡ v
           → ((n : ℕ) → mark ≡ Some n → n ≡ goal) → ((n : ℕ) → next ≡ Some n → n ≡ address (suc place)) → (t : State)
-          → Related s t → t.pc ≡ address place → Sim s t (branch_step v mark next s)
+          → Related s t → t.pc ≡ address place → Sim 11 s t (branch_step v mark next s)
       does_branch true None next h f g t r q = tt
       does_branch true (Some to) next h f g t r q =
           rw (f to refl) (to_mark (is_near (longest_widths items) items l.code place branch) refl h t r q)
@@ -586,7 +589,7 @@ module _ {V : Type 0} (reading : Halt → Ending V) (l : Layout) (m0 : Memory) (
       put_turn v to t e k = rw (e, k) refl
 
       addressed : (near : Bool) → is_near (longest_widths items) items l.code place item ≡ near → (t : State)
-          → Related s t → t.pc ≡ address place → (k : ℕ) × (0 < k) × (k ≤ 12)
+          → Related s t → t.pc ≡ address place → (k : ℕ) × (0 < k) × (k ≤ 10)
           × Reaches N (λ u. IsLike u s) (Related put_end) k t
       addressed true e t r q =
           let w = begins place item rest there refl refl s true e t r q in
@@ -630,12 +633,12 @@ module _ {V : Type 0} (reading : Halt → Ending V) (l : Layout) (m0 : Memory) (
 
       does_address : (mark next : Option ℕ) → ((n : ℕ) → mark ≡ Some n → n ≡ word)
           → ((n : ℕ) → next ≡ Some n → n ≡ address (suc place)) → (t : State) → Related s t → t.pc ≡ address place
-          → Sim s t (address_step rd mark next s)
+          → Sim 10 s t (address_step rd mark next s)
       does_address None next f g t r q = tt
       does_address (Some to) None f g t r q = tt
       does_address (Some to) (Some n) f g t r q =
           let j = addressed (is_near (longest_widths items) items l.code place item) refl t r q in
-          rw (f to refl, g n refl) (goes j.0 s put_end t j.1 j.2 j.3)
+          rw (f to refl, g n refl) (goes 10 j.0 s put_end t j.1 j.2 j.3)
 
     -- ---- all items
 
@@ -643,7 +646,7 @@ module _ {V : Type 0} (reading : Halt → Ending V) (l : Layout) (m0 : Memory) (
         → drop place items ≡ item ∷ rest → ((n : ℕ) → next ≡ Some n → n ≡ address (suc place)) → (s t : State)
         → Related s t → t.pc ≡ address place → item_at address items t.pc
         ≡ Some (record { place = place; item = item; next = next })
-        → Sim s t (item_step reading items setting place next item s)
+        → Sim (real_price item) s t (item_step reading items setting place next item s)
     does_item place (Op i) rest next there g s t r q k = does_op place i rest next there g s t r q k
     does_item place (Mark mark) rest next there g s t r q k = tt
     does_item place (Jump rd wanted) rest next there g s t r q k =
@@ -657,7 +660,7 @@ module _ {V : Type 0} (reading : Halt → Ending V) (l : Layout) (m0 : Memory) (
         (λ n e. mark_lies items l.code wanted n e) g t r q
 
     does_here : (o : Option Here) (s t : State) → Related s t → item_at address items s.pc ≡ o
-        → Sim s t (step_here reading items setting o s)
+        → Sim (price_here o) s t (step_here reading items setting o s)
     does_here None s t r k = tt
     does_here (Some here) s t r k =
         let f : Found items l.code s.pc here = found items l.code s.pc here k in
@@ -666,8 +669,12 @@ module _ {V : Type 0} (reading : Halt → Ending V) (l : Layout) (m0 : Memory) (
         (drop_next items here.place here.item f.rest f.stands).1 (sym f.next ∙ e)) s t r (r.pc ∙ sym f.address)
         (ap (item_at address items) r.pc ∙ k)
 
-    pub simulates : CostSimulation IsLike 12 M N each_one each_one Related (λ s. 0)
+    once : (n : ℕ) → n ≡ 1 * n
+    once n = omega arith
+
+    pub simulates : CostSimulation IsLike 1 M N (state_price items setting) each_one Related (λ s. 0)
     simulates = record {
       alike = λ s t r. alike_of s t r.like;
-      does = λ s t r. does_here (item_at address items s.pc) s t r refl;
+      does = λ s t r. subst (λ most. Sim most s t (M.step s)) (once (state_price items setting s))
+          (does_here (item_at address items s.pc) s t r refl);
     }

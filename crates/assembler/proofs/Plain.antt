@@ -23,6 +23,7 @@ use Rattle.rv_machine.specs.Real.{Setting, plain_setting, Here, item_at, call_of
 use Rattle.rv_machine.specs.Real.{turn_in, machine_in, real_machine}
 use Rattle.assembler.specs.Layout.{address_of}
 use Rattle.assembler.specs.Imaging.{code_start, assembled}
+use Rattle.assembler.specs.Prices.{state_price}
 use Rattle.assembler.specs.Following.{IsLike, LeavesCode, CanBeCall, Simulates, RunsAsCode, image_memory}
 use Rattle.assembler.proofs.Finding.{Found, found}
 use Rattle.assembler.proofs.Turns.{leaves_act, leaves_call, like_call}
@@ -188,7 +189,7 @@ module _ {items : List RealItem} {statics : List ℕ} {labels : List Pos} (facts
         (keeps_turn m.rest (turn_of m.rest) s (leaves_turn m.rest))) (unspent first) (refl, λ at a b. refl) n
 
     runs_as : NeverWrong (run (real_machine reading items setting) first)
-        → Simulates X (real_machine reading items setting) first
+        → Simulates X (real_machine reading items setting) (state_price items setting) first
     runs_as nw =
         let s = simulated facts sizes reading
         (λ place. call_environment) (λ place. is_undefined) (λ place. can_call) (λ place. can_refuse) first refl
@@ -197,9 +198,10 @@ module _ {items : List RealItem} {statics : List ℕ} {labels : List Pos} (facts
           follows =
               follows_by_equal IsLike Any (run X first) (run Y first) (run (real_machine reading items setting) first)
               same_runs s.follows;
-          turns = follows_by_equal (OfRest IsLike) (Spends 12) (run (metered each_one X) (unspent first))
+          turns = follows_by_equal (OfRest IsLike) (Spends 1) (run (metered each_one X) (unspent first))
               (run (metered each_one Y) (unspent first))
-              (run (metered each_one (real_machine reading items setting)) (unspent first)) same_counted s.turns;
+              (run (metered (state_price items setting) (real_machine reading items setting)) (unspent first))
+              same_counted s.turns;
         }
 
 pub runs_as_code : {items : List RealItem} {statics : List ℕ} {labels : List Pos} → CodeFacts items statics labels
@@ -210,6 +212,7 @@ runs_as_code {items} {statics} {labels} facts reading region stack world region_
     record { region = region; stack = stack; region_size = region_size; stack_size = stack_size } in
     let c = code_at facts in
     let s : State = start_of (assembled items statics labels) region stack world in
-    subst (λ n. Simulates (machine_by reading) (real_machine reading items (plain_setting (address_of items n))) s) c
+    subst (λ n. Simulates (machine_by reading) (real_machine reading items (plain_setting (address_of items n)))
+    (state_price items (plain_setting (address_of items n))) s) c
     (runs_as facts sizes world reading
     (subst (λ n. NeverWrong (run (real_machine reading items (plain_setting (address_of items n))) s)) (sym c) nw))

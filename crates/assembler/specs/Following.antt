@@ -16,6 +16,7 @@ use Rattle.rv_isa.specs.declared.inst.Inst.{Inst}
 use Rattle.rv_isa.specs.Encoding.{encode_of}
 use Rattle.rv_isa.specs.Decoding.{decode_of}
 use Rattle.rv_machine.specs.Real.{Setting, plain_setting, real_machine, machine_in}
+use Rattle.assembler.specs.Prices.{state_price}
 
 -- the same but for x31, and for how far the run has come
 pub record IsLike (s t : State) : Type 0 where
@@ -70,11 +71,11 @@ pub record Starts (bytes : List ℕ) (items : List RealItem) (address : ℕ → 
 -- ---- the claims
 
 -- from this state on, where the second machine never goes wrong, the first follows it, and shows the same but for x31
--- at moments that correspond; it takes at most twelve turns for each of its steps
-pub record Simulates {V : Type 0} (X Y : Machine State State V) (s : State) : Type 0 where
+-- at moments that correspond; it takes no more turns than the prices of that machine's steps add up to
+pub record Simulates {V : Type 0} (X Y : Machine State State V) (price : State → ℕ) (s : State) : Type 0 where
   pub follows : FollowsBy IsLike Any (run X s) (run Y s)
-  pub turns : FollowsBy (OfRest IsLike) (Spends 12) (run (metered each_one X) (unspent s))
-      (run (metered each_one Y) (unspent s))
+  pub turns : FollowsBy (OfRest IsLike) (Spends 1) (run (metered each_one X) (unspent s))
+      (run (metered price Y) (unspent s))
 
 -- in every setting with these addresses the machine does what the code does
 abbrev pub DoesAsCode : {V : Type 0} → (Halt → Ending V) → List ℕ → List RealItem → (ℕ → ℕ) → Type 0
@@ -82,7 +83,7 @@ DoesAsCode reading bytes items address =
     (setting : Setting) (region stack : ℕ) (world : WorldState) (s : State) → setting.address ≡ address
     → AllCanBeCall setting →
     Starts bytes items address region stack world s → NeverWrong (run (real_machine reading items setting) s) →
-    Simulates (machine_in reading items setting) (real_machine reading items setting) s
+    Simulates (machine_in reading items setting) (real_machine reading items setting) (state_price items setting) s
 
 -- and so does the machine that runs the image, whose ECALL calls the environment
 abbrev pub RunsAsCode : {V : Type 0} → (Halt → Ending V) → List ℕ → List RealItem → (ℕ → ℕ) → Type 0
@@ -90,7 +91,7 @@ RunsAsCode reading bytes items address =
     (region stack : ℕ) (world : WorldState) → IsRegionSize region → IsStackSize stack →
     NeverWrong (run (real_machine reading items (plain_setting address)) (start_of bytes region stack world)) →
     Simulates (machine_by reading) (real_machine reading items (plain_setting address))
-    (start_of bytes region stack world)
+    (state_price items (plain_setting address)) (start_of bytes region stack world)
 
 -- the image as it lies in memory
 abbrev pub image_memory : List ℕ → Memory

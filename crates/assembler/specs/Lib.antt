@@ -5,5 +5,6 @@ pub mod Imaging
 pub mod Conditions
 pub mod Encoded
 pub mod Tables
+pub mod Prices
 pub mod Following
 pub mod Assembled
