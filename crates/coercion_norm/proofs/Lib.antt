@@ -30,6 +30,7 @@ mod NodePlacing
 mod ObjectLists
 mod TypeObjects
 mod NodeObjects
+mod WidthLemmas
 mod StaticLemmas
 mod LaterTypes
 mod IdAndDyn

@@ -194,7 +194,7 @@ module _ (types : TypeRows) (table : NodeTable) (ordered : AreOrdered table.node
 
   module _ (more objects : List Object) (region tallest : ℕ) where
     abbrev layout : Layout
-    layout = layout_over types type_at start (stood ++ (added ++ more)) region tallest
+    layout = layout_over types type_at start (stood ++ (added ++ more)) region tallest 8
 
     old_held : (c : ℕ) → c < j → Held layout objects (tree_of nodes c) (give c)
     old_held c l = old.held (added ++ more) objects region tallest c l
@@ -217,9 +217,9 @@ module _ (types : TypeRows) (table : NodeTable) (ordered : AreOrdered table.node
 
     new_held : (next c : ℕ) → suc j ≡ next → c < j + 1
         → Held (layout_over types type_at start (told_objects types nodes type_at coercion_at2 next ++ more) region
-        tallest) objects (tree_of nodes c) (give2 c)
+        tallest 8) objects (tree_of nodes c) (give2 c)
     new_held next c e l =
-        subst (λ os. Held (layout_over types type_at start os region tallest) objects (tree_of nodes c) (give2 c))
+        subst (λ os. Held (layout_over types type_at start os region tallest 8) objects (tree_of nodes c) (give2 c))
         (sym (ap (λ os. os ++ more) (new_objects next e) ∙ append_assoc stood added more))
         (all_held c (below_or_last c j l))
 

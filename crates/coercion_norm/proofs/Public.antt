@@ -25,6 +25,7 @@ pub use Rattle.coercion_norm.proofs.PartLemmas.{part_at, part_no_higher}
 pub use Rattle.coercion_norm.proofs.KnownCasts.{AreCasts-kept, AreCasts-insert}
 pub use Rattle.coercion_norm.proofs.LaterTypes.{FitsTypes-later}
 pub use Rattle.coercion_norm.proofs.LabelLemmas.{coerce_labels, compose_labels}
+pub use Rattle.coercion_norm.proofs.WidthLemmas.{cast_no_wider, coerce_no_wider, type_slots_few}
 pub use Rattle.coercion_norm.proofs.IdAndDyn.{id_behind, a_dyn_inside}
 pub use Rattle.coercion_norm.proofs.Objects.{tells_both, told_header, told_kind, number_of_kind}
 pub use Rattle.coercion_norm.proofs.ObjectLists.{Within, object_kept, object_behind, found_within, last_stands}

@@ -11,11 +11,14 @@ use Rattle.coercion_norm.specs.Coercions.{Id, is_id}
 use Rattle.coercion_norm.specs.Nodes.{Node, tree_of}
 use Rattle.coercion_norm.specs.Held.{Held}
 use Rattle.coercion_norm.specs.ObjectsOfRows.{coercion_objects}
+use Rattle.coercion_norm.specs.Objects.{Object}
 use Rattle.coercion_norm.specs.Placed.{ArePlaced, SayCoercions, SayTypes}
 use Rattle.coercion_norm.specs.Statics.{AreStatics, layout_of}
+use Rattle.coercion_norm.specs.Widths.{CoercionNoWider}
 use Rattle.coercion_norm.specs.declared.cast_rows.CastRow.{CastRow}
 use Rattle.coercion_norm.proofs.OneDepth.{id_is}
 use Rattle.coercion_norm.proofs.TypeObjects.{types_stand}
+use Rattle.coercion_norm.proofs.WidthLemmas.{held_so_wide, types_so_wide}
 
 -- the word of a cast is that of its coercion
 cast_word : (told : List ℕ) (casts : List CastRow) (place : ℕ) (cast : CastRow) → slice_get casts place ≡ Some cast
@@ -46,15 +49,18 @@ pub are_statics : (types : TypeRows) (table : IsOrderedTable types) (nodes : Lis
     → AreStatics types nodes casts start statics
 are_statics types table nodes casts start statics first types_said placed said there cast_at = record {
   says = said.says;
-  types_stand = λ more region tallest.
-      types_stand types table start first statics.type_at types_said
+  types_stand = λ more region tallest width wide.
+      types_so_wide (layout_of types nodes start statics more region tallest 8) width wide
+      (types_stand types table start first statics.type_at types_said
       (coercion_objects types (λ type. slice_index statics.type_at type) nodes
-      (λ c. slice_index statics.coercion_at c) (length nodes)) more region tallest;
-  held = said.held;
-  casts_held = λ more objects region tallest place cast e.
-      subst (Held (layout_of types nodes start statics more region tallest) objects (tree_of nodes cast.coercion.0))
+      (λ c. slice_index statics.coercion_at c) (length nodes)) more region tallest);
+  held = so_wide;
+  casts_held = λ more objects region tallest width place cast e few.
+      subst
+      (Held (layout_of types nodes start statics more region tallest width) objects (tree_of nodes cast.coercion.0))
       (sym (ap (λ (ws : List ℕ). slice_index ws place) cast_at ∙ cast_word statics.coercion_at casts place cast e))
-      (said.held more objects region tallest cast.coercion.0 (cast_there (length nodes) casts place cast there e));
+      (so_wide more objects region tallest width cast.coercion.0
+      (cast_there (length nodes) casts place cast there e) few);
   whole = placed.row;
   type_words = λ memory t. (placed.as_many_types, placed.each_type memory t);
   coercion_words = λ memory t. (placed.as_many, placed.each memory t);
@@ -64,6 +70,14 @@ are_statics types table nodes casts start statics first types_said placed said t
   only_id = λ above c within none. by_test above c within none (is_id (tree_of nodes c)) refl;
 }
   where
+    so_wide : (more objects : List Object) (region tallest width c : ℕ) → c < length nodes
+        → CoercionNoWider width (tree_of nodes c)
+        → Held (layout_of types nodes start statics more region tallest width) objects (tree_of nodes c)
+        (slice_index statics.coercion_at c)
+    so_wide more objects region tallest width c within few =
+        held_so_wide (layout_of types nodes start statics more region tallest 8) width objects (tree_of nodes c)
+        (slice_index statics.coercion_at c) few (said.held more objects region tallest c within)
+
     by_test : 0 < start → (c : ℕ) → c < length nodes → slice_index statics.coercion_at c ≡ 0
         → (b : Bool) → is_id (tree_of nodes c) ≡ b → tree_of nodes c ≡ Id
     by_test above c within none true e = id_is (tree_of nodes c) e

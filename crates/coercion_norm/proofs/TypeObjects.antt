@@ -198,7 +198,7 @@ module _ (types : TypeRows) (table : IsOrderedTable types) where
     -- types stand, whatever stands behind them
     pub types_stand : (later more : List Object) (region tallest : ℕ)
         → TypesStand (layout_over types type_at start
-        ((type_objects types (λ t. slice_index type_at t) (length types) ++ later) ++ more) region tallest)
+        ((type_objects types (λ t. slice_index type_at t) (length types) ++ later) ++ more) region tallest 8)
     types_stand later more region tallest = record {
       stands = λ type within.
           let give : ℕ → ℕ = λ t. slice_index type_at t in

@@ -12,6 +12,7 @@ pub mod StaticObjects
 pub mod Objects
 pub mod ObjectsOfRows
 pub mod Held
+pub mod Widths
 pub mod Statics
 pub mod Placed
 pub mod Modes

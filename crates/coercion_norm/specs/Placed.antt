@@ -69,11 +69,11 @@ pub record SayTypes (types : TypeRows) (start : ℕ) (words type_at : List ℕ) 
   pub rising : (type other : ℕ) → type < other → other < many → slice_index type_at type < slice_index type_at other
 
 -- The words are those of the objects of all types and of the first coercions, as many as words are told for them, and
--- these words hold the coercions, whatever stands behind.
+-- these words hold the coercions, whatever stands behind. A table's coercions have no more than eight parts.
 pub record SayCoercions (types : TypeRows) (nodes : List Node) (start : ℕ) (words type_at coercion_at : List ℕ)
     (many : ℕ) : Type 0 where
   pub as_many : length coercion_at ≡ many
   pub says : words ≡ words_of_all (told_objects types nodes type_at coercion_at many)
   pub held : (more objects : List Object) (region tallest c : ℕ) → c < many
       → Held (layout_over types type_at start (told_objects types nodes type_at coercion_at many ++ more) region
-      tallest) objects (tree_of nodes c) (slice_index coercion_at c)
+      tallest 8) objects (tree_of nodes c) (slice_index coercion_at c)

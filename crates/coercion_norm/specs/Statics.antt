@@ -10,15 +10,16 @@ use Rattle.coercion_norm.specs.Objects.{Object, words_of_all}
 use Rattle.coercion_norm.specs.ObjectsOfRows.{static_objects}
 use Rattle.coercion_norm.specs.Held.{Layout, Held, TypesStand}
 use Rattle.coercion_norm.specs.StaticObjects.{HoldsCoercion, HoldsType, Tells, static_headers, type_header}
+use Rattle.coercion_norm.specs.Widths.{CoercionNoWider, NoWider}
 use Rattle.coercion_norm.specs.declared.cast_rows.CastRow.{CastRow}
 
--- What a run is told where types have these addresses and these objects stand before the region. No coercion between
--- types of a table has more than eight parts.
-abbrev pub layout_over : TypeRows → List ℕ → ℕ → List Object → ℕ → ℕ → Layout
-layout_over types type_at start statics region tallest = record {
+-- what a run is told where types have these addresses and these objects stand before the region, of proxies that are no
+-- higher and coercions that are no wider than this
+abbrev pub layout_over : TypeRows → List ℕ → ℕ → List Object → ℕ → ℕ → ℕ → Layout
+layout_over types type_at start statics region tallest width = record {
   types = types;
   type_at = λ type. slice_index type_at type;
-  width = 8;
+  width = width;
   statics = statics;
   first = start;
   region = region;
@@ -40,27 +41,29 @@ abbrev pub objects_of : TypeRows → List Node → Statics → List Object
 objects_of types nodes statics = told_objects types nodes statics.type_at statics.coercion_at (length nodes)
 
 -- what a run is told where these objects stand, with others behind them, before the region
-abbrev pub layout_of : TypeRows → List Node → ℕ → Statics → List Object → ℕ → ℕ → Layout
-layout_of types nodes start statics more region tallest =
-    layout_over types statics.type_at start (objects_of types nodes statics ++ more) region tallest
+abbrev pub layout_of : TypeRows → List Node → ℕ → Statics → List Object → ℕ → ℕ → ℕ → Layout
+layout_of types nodes start statics more region tallest width =
+    layout_over types statics.type_at start (objects_of types nodes statics ++ more) region tallest width
 
 -- The statics of these tables and casts from an address on: the words of the objects of all types and coercions. Where
 -- these objects stand, with any others behind them, types stand at the addresses that are told for them, and the words
--- that are told for coercions and casts hold their coercions. In each memory that has their words there, whole objects
+-- that are told for coercions and casts hold their coercions, with any width that no type and no coercion exceeds. In
+-- each memory that has their words there, whole objects
 -- fill them without gaps, one for each type and one for each coercion but Id, and the words that are told for types and
 -- coercions hold these. The word of a type is the address at which its object begins, and so is that of a coercion but
 -- Id. The word of a cast is that of its coercion. No coercion but Id has the word 0, unless the statics begin at 0.
 pub record AreStatics (types : TypeRows) (nodes : List Node) (casts : List CastRow) (start : ℕ) (statics : Statics)
     : Type 0 where
   pub says : statics.words ≡ words_of_all (objects_of types nodes statics)
-  pub types_stand : (more : List Object) (region tallest : ℕ)
-      → TypesStand (layout_of types nodes start statics more region tallest)
-  pub held : (more objects : List Object) (region tallest c : ℕ) → c < length nodes
-      → Held (layout_of types nodes start statics more region tallest) objects (tree_of nodes c)
+  pub types_stand : (more : List Object) (region tallest width : ℕ) → NoWider width types
+      → TypesStand (layout_of types nodes start statics more region tallest width)
+  pub held : (more objects : List Object) (region tallest width c : ℕ) → c < length nodes
+      → CoercionNoWider width (tree_of nodes c)
+      → Held (layout_of types nodes start statics more region tallest width) objects (tree_of nodes c)
       (slice_index statics.coercion_at c)
-  pub casts_held : (more objects : List Object) (region tallest place : ℕ) (cast : CastRow)
-      → slice_get casts place ≡ Some cast
-      → Held (layout_of types nodes start statics more region tallest) objects (tree_of nodes cast.coercion.0)
+  pub casts_held : (more objects : List Object) (region tallest width place : ℕ) (cast : CastRow)
+      → slice_get casts place ≡ Some cast → CoercionNoWider width (tree_of nodes cast.coercion.0)
+      → Held (layout_of types nodes start statics more region tallest width) objects (tree_of nodes cast.coercion.0)
       (slice_index statics.cast_at place)
   pub whole : (memory : Telling) → Tells memory start statics.words
       → IsRow memory InStatics start (static_headers types nodes) (start + 8 * length statics.words)

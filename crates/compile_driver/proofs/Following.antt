@@ -28,7 +28,7 @@ use Rattle.coer_core.specs.Counts.{run_in, told_of}
 use Rattle.type_graph.specs.TypeTables.{IsOrderedTable}
 use Rattle.coer_core.specs.Programs.{HaveCoercions, tallest_of}
 use Rattle.coer_core.specs.Terms.{RowTerm, core_of}
-use Rattle.coer_core.proofs.Public.{merged_runs_follow_the_calculus-follows}
+use Rattle.coer_core.proofs.Public.{no_wider, merged_runs_follow_the_calculus-follows}
 use Rattle.coer_core.proofs.Public.{merged_runs_follow_the_calculus-never_wrong}
 use Rattle.flat_ir.specs.Bodies.{Proc as FlatProc}
 use Rattle.flat_ir.specs.Closed.{is_closed}
@@ -52,7 +52,7 @@ use Rattle.lower.proofs.Public.{words_follow_procedures-storage, procedures_are_
 use Rattle.reg_assign.specs.Images.{HasRegionOf, IsImageOfWords}
 use Rattle.compile_driver.specs.Compiling.{FollowsProgram}
 use Rattle.compile_driver.specs.Space.{KeepsSpace, KeepsStorage}
-use Rattle.compile_driver.proofs.HeldCasts.{casts_held, tallest_low}
+use Rattle.compile_driver.proofs.HeldCasts.{casts_held, tallest_low, width_of}
 use Rattle.compile_driver.proofs.Kept.{kept}
 use Rattle.compile_driver.proofs.Layouts.{layout_stays}
 use Rattle.compile_driver.proofs.Starting.{told, setting, layout, runs_in, code_addresses, are_placed}
@@ -159,7 +159,7 @@ module _ {program : Program} {rows : List CastRow} {term : RowTerm} {answer : â„
   -- the tallest coercion is no higher than a type may be
   low : tallest â‰¤ 65534
   low =
-      let types = made_so.statics_are.types_stand [] 0 0 in
+      let types = made_so.statics_are.types_stand [] 0 0 (width_of program.types) (no_wider program.types) in
       tallest_low program.types types.heights types.low (row_casts rows)
 
   module _ (region stack : â„•) (input : List â„•) (r : IsRegionSize region) (s : IsStackSize stack) where
@@ -197,7 +197,7 @@ module _ {program : Program} {rows : List CastRow} {term : RowTerm} {answer : â„
           statics = statics_hold is at made_so.words region stack r s world tallest;
         })
         (top_low is at made_so.words region stack r s world made_so.short) is.is_image.labels_are row_is refl
-        (at.types_stand [] begin.layout.region tallest)
+        (at.types_stand [] begin.layout.region tallest (width_of program.types) (no_wider program.types))
         (casts_held at made_so.coercions made_so.cast_words begin.layout.region low) made_so.closed made_so.covered
         made_so.narrow (follower_never_goes_wrong (flat_follows passed input))
 

@@ -14,13 +14,20 @@ use Rattle.coercion_norm.specs.CoercionTables.{cast_of}
 use Rattle.coercion_norm.specs.Heights.{AreHeights}
 use Rattle.coercion_norm.specs.Held.{Layout, Held}
 use Rattle.coercion_norm.specs.Modes.{TypeCast, row_cast, row_casts}
-use Rattle.coercion_norm.specs.Nodes.{Node, IsTree}
+use Rattle.coercion_norm.specs.Nodes.{Node, IsTree, tree_of}
 use Rattle.coercion_norm.specs.Statics.{AreStatics, layout_of}
+use Rattle.coercion_norm.specs.Widths.{CoercionNoWider}
 use Rattle.coercion_norm.specs.declared.cast_rows.CastRow.{CastRow}
-use Rattle.coercion_norm.proofs.Public.{coerce_no_higher, coerce_normal}
+use Rattle.coercion_norm.proofs.Public.{cast_no_wider, coerce_no_higher, coerce_normal}
+use Rattle.core_calc.specs.Account.{widest}
+use Rattle.coer_core.proofs.Public.{no_wider}
 use Rattle.coer_core.specs.Programs.{HaveCoercions, cast_height, tallest_of}
 use Rattle.lower.specs.Emit.{cast_word}
 use Rattle.lower.specs.MergedMeaning.{MergedCasts}
+
+-- the width of the types, as the account is told it
+abbrev pub width_of : TypeRows → ℕ
+width_of types = max 2 (widest types)
 
 -- what holds of each element holds of the one at a place
 pub at : {X : Type 0} (P : X → Type 0) (xs : List X) → All P xs → (k : ℕ) (x : X) → slice_get xs k ≡ Some x → P x
@@ -71,7 +78,7 @@ module _ {types : TypeRows} {nodes : List Node} {rows : List CastRow} {start : �
     (words : All (λ w. w < 2 ^ 64) statics.cast_at) (region : ℕ)
     (low : tallest_of types (row_casts rows) ≤ 65534) where
   abbrev layout : Layout
-  layout = layout_of types nodes start statics [] region (tallest_of types (row_casts rows))
+  layout = layout_of types nodes start statics [] region (tallest_of types (row_casts rows)) (width_of types)
 
   as_many : length statics.cast_at ≡ length rows
   as_many =
@@ -88,7 +95,11 @@ module _ {types : TypeRows} {nodes : List Node} {rows : List CastRow} {start : �
         let tree = at (λ (r : CastRow). IsTree nodes r.coercion.0 (cast_of types r.from.0 r.to.0 r.label.0)) rows made
         number row.0 row.1 in
         let word = word_at statics.cast_at number less in
-        let held = placed.casts_held [] [] region (tallest_of types (row_casts rows)) number row.0 row.1 in (
+        let narrow : CoercionNoWider (width_of types) (tree_of nodes row.0.coercion.0) =
+        subst (CoercionNoWider (width_of types)) (sym tree.is)
+        (cast_no_wider (width_of types) types (no_wider types) row.0.from.0 row.0.to.0 row.0.label.0) in
+        let held = placed.casts_held [] [] region (tallest_of types (row_casts rows)) (width_of types) number row.0
+        row.1 narrow in (
           subst (λ c. Held layout [] (cast_of types c.from c.to c.label) (cast_word (slice_get statics.cast_at number)))
               row.2 (subst (λ w. Held layout [] (cast_of types row.0.from.0 row.0.to.0 row.0.label.0) w) (sym word)
               (subst (λ c. Held layout [] c (slice_index statics.cast_at number)) tree.is held)),

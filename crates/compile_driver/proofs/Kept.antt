@@ -27,6 +27,8 @@ use Rattle.rt_cast.specs.Objects.{HasWord, Holds, HoldsWords}
 use Rattle.rt_cast.specs.States.{Filled, Heap}
 use Rattle.rt_cast.proofs.Public.{objects_fill_the_region}
 use Rattle.reg_assign.specs.Images.{HasRegionOf, IsImageOfWords}
+use Rattle.coer_core.proofs.Public.{no_wider}
+use Rattle.compile_driver.proofs.HeldCasts.{width_of}
 use Rattle.compile_driver.specs.Space.{IsStored, KeepsStorage, told_by}
 use Rattle.compile_driver.proofs.Matching.{Fit, fit_match, starts, statics_fit, words_hold}
 use Rattle.compile_driver.proofs.Starting.{are_placed, layout, setting, start}
@@ -89,7 +91,7 @@ module _ {image : List ℕ} {procs : List Proc} {entry : ℕ} {statics : Statics
           let set = setting is placed words region stack region_size stack_size (fresh_world input) in
           let at = are_placed is placed words region stack region_size stack_size (fresh_world input) tallest in
           let heap : Heap = record { memory = shown.memory; alloc = shown.alloc; words = shown.words } in
-          let stand = placed.types_stand [] begin.layout.region tallest in
+          let stand = placed.types_stand [] begin.layout.region tallest (width_of types) (no_wider types) in
           let sh = static_headers types nodes in
           let os = objects_of types nodes statics in
           let fit : Fit os sh = statics_fit types (λ type. slice_index statics.type_at type) nodes

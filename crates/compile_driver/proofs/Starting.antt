@@ -28,6 +28,7 @@ use Rattle.rt_cast.specs.Objects.{Holds, HoldsWords, HasWord}
 use Rattle.rt_cast.specs.States.{Placed}
 use Rattle.rt_cast.proofs.Public.{objects_stand_where_their_words_do}
 use Rattle.lower.specs.SimulationClaims.{AreCodeAddresses}
+use Rattle.compile_driver.proofs.HeldCasts.{width_of}
 
 -- ---- code addresses
 
@@ -91,9 +92,9 @@ module _ {image : List ℕ} {procs : List Proc} {entry : ℕ} {statics : Statics
   abbrev pub setting : Setting
   setting = words_setting procs told start
 
-  -- how high a proxy's coercion may be doesn't matter to where things are
+  -- how high a proxy's coercion may be doesn't matter to where things are; coercions are no wider than the types
   abbrev pub layout : ℕ → Layout
-  layout tallest = layout_of types nodes first_address statics [] start.layout.region tallest
+  layout tallest = layout_of types nodes first_address statics [] start.layout.region tallest (width_of types)
 
   pub runs_in : (p : Proc) → slice_get procs entry ≡ Some p
       → RunsIn code statics.words procs entry p told region stack
