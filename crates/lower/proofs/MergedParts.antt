@@ -45,7 +45,7 @@ use Rattle.coercion_norm.specs.MergedMode.{tuple_coercion}
 use Rattle.coercion_norm.specs.ValueSteps.{on_some, ProjFrame, run_proj_dyn}
 use Rattle.flat_ir.specs.Machine.{flat_proj}
 use Rattle.rt_cast.specs.PartValues.{part_value, dyn_part_value, dyn_part_by, with_some}
-use Rattle.rt_cast.specs.Costs.{cast_words, project_words}
+use Rattle.rt_cast.specs.PartCosts.{tuple_part_words, dyn_part_words}
 use Rattle.rt_cast.specs.Procs.{project_proc}
 use Rattle.rt_cast.proofs.Public.{parts_of_tuples_are_answered, parts_in_dyn_are_answered}
 use Rattle.lower.specs.SchemeLaws.{PartsGiven}
@@ -183,7 +183,7 @@ module _ (setting : Setting) (l : Layout) (procs : List Proc) (casts : List Type
     deep = 4 * l.tallest + 6
 
     abbrev wide : ℕ
-    wide = cast_words l.width l.tallest
+    wide = tuple_part_words prep.0 l k m
 
     law : (total ≡ Stuck → ⊥)
         → (steps : ℕ) × Reaches (low_machine ending_of setting) (OnTheWay setting l s deep wide)
@@ -268,7 +268,7 @@ module _ (setting : Setting) (l : Layout) (procs : List Proc) (casts : List Type
     deep_dyn = 4 * l.tallest + 7
 
     abbrev wide_dyn : ℕ
-    wide_dyn = project_words l.width l.tallest
+    wide_dyn = dyn_part_words prep_dyn.0 l k (InDyn kept m)
 
     law_dyn : (total_dyn ≡ Stuck → ⊥)
         → (steps : ℕ) × Reaches (low_machine ending_of setting) (OnTheWay setting l s deep_dyn wide_dyn)

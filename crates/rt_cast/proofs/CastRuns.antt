@@ -36,7 +36,7 @@ use Rattle.rt_cast.specs.Procs.{coerce_proc, compose_proc, cast_proc}
 use Rattle.rt_cast.specs.PartCodes.{either}
 use Rattle.rt_cast.specs.PartCodes.{proc}
 use Rattle.rt_cast.specs.ComposeCodes.{compose_code}
-use Rattle.rt_cast.proofs.HeaderNumbers.{eq_true, eq_false, kind_read}
+use Rattle.rt_cast.proofs.HeaderNumbers.{eq_true, eq_false, eq_cases, kind_read}
 use Rattle.rt_cast.proofs.Steps.{Budget, End, Out, Pay, More, return_price, at_most, WordThere, loads}
 use Rattle.rt_cast.proofs.Steps.{computes, if_true, if_false, builds, calls, tail_calls, comes_back, header_there}
 use Rattle.rt_cast.proofs.Steps.{loads_at}
@@ -73,13 +73,13 @@ use Rattle.rt_cast.proofs.CoerceRuns.{all_cast, light_cast}
 use Rattle.rt_cast.proofs.ComposeSteps.{ComposeDoes, CoerceDoes, id_first, fail_first}
 use Rattle.rt_cast.proofs.ComposeRuns.{below_cost}
 use Rattle.rt_cast.specs.Costs.{middle_cost, coerce_cost, coerce_words}
-use Rattle.rt_cast.specs.LightCasts.{is_simple, ends_simply, has_none, has_no_middle, is_light, light_words}
+use Rattle.rt_cast.specs.LightCasts.{is_simple, ends_simply, has_none, is_light, light_words}
 use Rattle.rt_cast.specs.LightCasts.{light_price, cast_words_of, cast_price_of}
 use Rattle.coercion_norm.specs.Composition.{coerce_middle}
 use Rattle.coercion_norm.specs.Coercions.{kind_of}
 use Rattle.std.proofs.Common.{◌⊎◌, sym, cond, nat_eq, not}
 use Rattle.std.specs.Prelude.{◌&&◌, ◌||◌, if◌then◌else◌}
-use Rattle.grift_base.specs.Types.{is_dyn}
+use Rattle.grift_base.specs.Types.{IntRow, BoolRow, UnitRow, DynRow, FunRow, TupleRow, RefRow, VectRow, is_dyn}
 
 small_kind : (kind : ObjectKind) → number_of kind < 256
 small_kind Closure = omega arith
@@ -130,6 +130,17 @@ free_no_proxy VecType e = refl
 
 no_true : false ≡ true → ⊥
 no_true e = cc
+
+-- a row has its own head
+own_head : (row : TypeRow) → same_head row row ≡ true
+own_head IntRow = refl
+own_head BoolRow = refl
+own_head UnitRow = refl
+own_head DynRow = refl
+own_head (FunRow parameters answer) = eq_true (length parameters) (length parameters) refl
+own_head (TupleRow parts) = eq_true (length parts) (length parts) refl
+own_head (RefRow content) = refl
+own_head (VectRow content) = refl
 
 first_true : (b c : Bool) → (b && c) ≡ true → b ≡ true
 first_true true c e = refl
@@ -759,40 +770,52 @@ module _ {V : Type 0} (walk : Walk V) (low : walk.l.tallest ≤ 65534) (A : Type
   light_final (Inject g kept) nc lc e u = inject_by 5 0 0 39 g kept nc lc u (light_plain g e u)
   light_final (Project wanted label i) nc lc e u = absurd (no_true e)
 
-  -- the cast between types with no middle is Id or a Fail
-  simple_cast : (kept wanted label : ℕ) → is_dyn (R kept) ≡ false → is_dyn (R wanted) ≡ false
-      → has_no_middle (R kept) (R wanted) ≡ true
-      → (coerce_to R n kept wanted label ≡ Id) ⊎ (coerce_to R n kept wanted label ≡ Fail label)
-  simple_cast kept wanted label d1 d2 e =
-      subst (λ c. (c ≡ Id) ⊎ (c ≡ Fail label)) (sym (solid_is R n kept wanted label d1 d2))
-      (by (nat_eq kept wanted) (same_head (R kept) (R wanted)) (kind_of (R kept)) e)
+  -- a type with its own head
+  same_head_as : (kept wanted : ℕ) → nat_eq kept wanted ≡ true → same_head (R kept) (R wanted) ≡ true
+  same_head_as kept wanted e = by (eq_cases kept wanted)
     where
-      by : (b c : Bool) (o : Option Kind) → (not c || has_none o) ≡ true
-          → (cond b Id (cond c (coerce_middle R (coerce_below R n) o kept wanted label) (Fail label)) ≡ Id)
-          ⊎ (cond b Id (cond c (coerce_middle R (coerce_below R n) o kept wanted label) (Fail label)) ≡ Fail label)
-      by true c o e = inl refl
-      by false false o e = inr refl
-      by false true None e = inl refl
-      by false true (Some kind) e = absurd (no_true e)
+      by : (kept ≡ wanted) ⊎ ((kept == wanted) ≡ false) → same_head (R kept) (R wanted) ≡ true
+      by (inl same) = subst (λ t. same_head (R kept) (R t) ≡ true) same (own_head (R kept))
+      by (inr other) = absurd (no_true (sym other ∙ e))
 
   light_opened : (wanted label : ℕ) (i : Coercion) → IsNormal R (Project wanted label i)
       → NoHigher R (Project wanted label i) n → (kept : ℕ) (x : Merged A)
-      → has_no_middle (R kept) (R wanted) ≡ true → ends_simply i ≡ true
+      → (not (same_head (R kept) (R wanted)) || (has_none (kind_of (R kept)) && ends_simply i)) ≡ true
       → CastDoes 77 1 5 620 (Project wanted label i) (InDyn kept x) (open_dyn R n wanted label i (InDyn kept x))
-  light_opened wanted label i nc lc kept x apart simply =
+  light_opened wanted label i nc lc kept x light =
       opened 13 5 29 0 2 0 3 135 56 221 wanted label i nc lc kept x
-      (λ dyn lk. light_cast walk n kept wanted label dyn nc.0 apart) (λ dyn lk. composed (simple dyn))
-      (λ dyn lk. ended (simple dyn))
+      (λ dyn lk. light_cast walk n kept wanted label dyn nc.0
+      (no_middle_there (same_head (R kept) (R wanted)) (kind_of (R kept)) light))
+      (λ dyn lk. composed (simple dyn)) (λ dyn lk. ended (simple dyn))
     where
-      simple : is_dyn (R kept) ≡ false → (coerce_to R n kept wanted label ≡ Id)
-          ⊎ (coerce_to R n kept wanted label ≡ Fail label)
-      simple dyn = simple_cast kept wanted label dyn nc.0 apart
+      no_middle_there : (b : Bool) (o : Option Kind) → (not b || (has_none o && ends_simply i)) ≡ true
+          → (not b || has_none o) ≡ true
+      no_middle_there true o e = first_true (has_none o) (ends_simply i) e
+      no_middle_there false o e = refl
 
-      composed : (coerce_to R n kept wanted label ≡ Id) ⊎ (coerce_to R n kept wanted label ≡ Fail label)
+      -- the cast between the types is Id, with nothing but what ends simply behind it, or a Fail
+      IsSimple : Coercion → Type 0
+      IsSimple c = ((c ≡ Id) × (ends_simply i ≡ true)) ⊎ (c ≡ Fail label)
+
+      simple : is_dyn (R kept) ≡ false → IsSimple (coerce_to R n kept wanted label)
+      simple dyn =
+          subst IsSimple (sym (solid_is R n kept wanted label dyn nc.0))
+          (by (nat_eq kept wanted) (same_head (R kept) (R wanted)) (kind_of (R kept)) (same_head_as kept wanted) light)
+        where
+          by : (b c : Bool) (o : Option Kind) → (b ≡ true → c ≡ true)
+              → (not c || (has_none o && ends_simply i)) ≡ true
+              → IsSimple (cond b Id (cond c (coerce_middle R (coerce_below R n) o kept wanted label) (Fail label)))
+          by true true o f e = inl (refl, second_true (has_none o) (ends_simply i) e)
+          by true false o f e = absurd (no_true (f refl))
+          by false false o f e = inr refl
+          by false true None f e = inl (refl, e)
+          by false true (Some kind) f e = absurd (no_true e)
+
+      composed : IsSimple (coerce_to R n kept wanted label)
           → ComposeDoes walk 5 0 0 56 (coerce_to R n kept wanted label) i
           (compose_to R n (coerce_to R n kept wanted label) i)
       composed (inl e) =
-          subst (λ c. ComposeDoes walk 5 0 0 56 c i (compose_to R n c i)) (sym e)
+          subst (λ c. ComposeDoes walk 5 0 0 56 c i (compose_to R n c i)) (sym e.0)
           (λ B objects h fine waiting wc wd hc hd go. at_most walk
           (id_first walk i B objects h fine waiting wc wd hc hd go) (
             omega arith,
@@ -804,12 +827,12 @@ module _ {V : Type 0} (walk : Walk V) (low : walk.l.tallest ≤ 65534) (A : Type
       composed (inr e) =
           subst (λ c. ComposeDoes walk 5 0 0 56 c i (compose_to R n c i)) (sym e) (fail_first walk label i)
 
-      ended : (coerce_to R n kept wanted label ≡ Id) ⊎ (coerce_to R n kept wanted label ≡ Fail label)
+      ended : IsSimple (coerce_to R n kept wanted label)
           → CastDoes 29 1 3 221 (compose_to R n (coerce_to R n kept wanted label) i) x
           (apply_final R n (compose_to R n (coerce_to R n kept wanted label) i) x)
       ended (inl e) =
-          subst (λ c. CastDoes 29 1 3 221 (compose_to R n c i) x (apply_final R n (compose_to R n c i) x)) (sym e)
-          (light_final i nc.2 lc.1 simply x)
+          subst (λ c. CastDoes 29 1 3 221 (compose_to R n c i) x (apply_final R n (compose_to R n c i) x)) (sym e.0)
+          (light_final i nc.2 lc.1 e.1 x)
       ended (inr e) =
           subst (λ c. CastDoes 29 1 3 221 (compose_to R n c i) x (apply_final R n (compose_to R n c i) x)) (sym e)
           (light_final (Fail label) tt tt refl x)
@@ -838,9 +861,7 @@ module _ {V : Type 0} (walk : Walk V) (low : walk.l.tallest ≤ 65534) (A : Type
   by_light (Project wanted label i) nc lc (Base head x) e = absurd (no_true e)
   by_light (Project wanted label i) nc lc (Solid a) e = absurd (no_true e)
   by_light (Project wanted label i) nc lc (Proxied a d) e = absurd (no_true e)
-  by_light (Project wanted label i) nc lc (InDyn kept x) e =
-      light_opened wanted label i nc lc kept x (first_true (has_no_middle (R kept) (R wanted)) (ends_simply i) e)
-      (second_true (has_no_middle (R kept) (R wanted)) (ends_simply i) e)
+  by_light (Project wanted label i) nc lc (InDyn kept x) e = light_opened wanted label i nc lc kept x e
 
   -- the same of any cast, by whether it is light
   pub by_either : (c : Coercion) → IsNormal R c → NoHigher R c n → (u : Merged A)

@@ -20,6 +20,7 @@ mod PartCodeLemmas
 mod CastCases
 mod CastRuns
 mod CastDecisions
+mod HeavyTurns
 mod CastReaching
 mod ProjectRuns
 mod ProjectReaching

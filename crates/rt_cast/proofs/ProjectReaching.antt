@@ -5,7 +5,7 @@ use Rattle.run_laws.specs.Runs.{Ending, Exhausted}
 use Rattle.rv_machine.specs.State.{Halt, Lacks, Region}
 use Rattle.low_ir.specs.Run.{Setting, LowState}
 use Rattle.rt_cast.specs.Costs.{tuple_cost, project_cost}
-use Rattle.rt_cast.specs.Costs.{cast_words, project_words, tuple_price, project_price}
+use Rattle.rt_cast.specs.PartCosts.{tuple_part_words, tuple_part_price, dyn_part_words, dyn_part_price}
 use Rattle.coercion_norm.specs.Objects.{Object}
 use Rattle.coercion_norm.specs.Held.{Layout}
 use Rattle.rt_cast.specs.WholeObjects.{IsSolid}
@@ -30,17 +30,17 @@ module _ {V : Type 0} (reading : Halt → Ending V) (setting : Setting) (l : Lay
     pub parts_of_tuples : (u : Merged A) (r : Outcome A) (wv k label : ℕ) → part_value head parts l.types k u ≡ r
         → (r ≡ Stuck → ⊥) → CarriedBy l IsHeld objects u wv
         → ComesToOutcome reading setting l s IsHeld objects (project_proc first) (wv ∷ k ∷ 1 ∷ label ∷ []) r
-        (tuple_cost l.width l.tallest) (4 * l.tallest + 6) (cast_words l.width l.tallest)
-        (tuple_price l.width l.tallest)
+        (tuple_cost l.width l.tallest) (4 * l.tallest + 6) (tuple_part_words parts l k u)
+        (tuple_part_price parts l k u)
     parts_of_tuples u r wv k label e some hv =
         let w =
         walk reading setting l first s exhausts ready (ComesTo l setting s IsHeld objects r) (4 * l.tallest + 6)
-        (cast_words l.width l.tallest) in
+        (tuple_part_words parts l k u) in
         let z =
         tuple_part_done w low A IsHeld still is_solid head parts End objects (heap_of s)
         (at_first reading setting l first s exhausts ready objects filled) have s.waiting u wv k label hv r e some
         (ends reading setting l first s exhausts ready head IsHeld still is_solid low objects r some
-        (4 * l.tallest + 6) (cast_words l.width l.tallest) r refl) in (
+        (4 * l.tallest + 6) (tuple_part_words parts l k u) r refl) in (
           z.steps,
           (let f = z.few in omega arith),
           z.reach (record { room = omega arith; left = omega arith }),
@@ -50,17 +50,17 @@ module _ {V : Type 0} (reading : Halt → Ending V) (setting : Setting) (l : Lay
     pub parts_in_dyn : (u : Merged A) (r : Outcome A) (wv k label : ℕ)
         → dyn_part_value head parts l.types k label u ≡ r → (r ≡ Stuck → ⊥) → CarriedBy l IsHeld objects u wv
         → ComesToOutcome reading setting l s IsHeld objects (project_proc first) (wv ∷ k ∷ 0 ∷ label ∷ []) r
-        (project_cost l.width l.tallest) (4 * l.tallest + 7) (project_words l.width l.tallest)
-        (project_price l.width l.tallest)
+        (project_cost l.width l.tallest) (4 * l.tallest + 7) (dyn_part_words parts l k u)
+        (dyn_part_price parts l k u)
     parts_in_dyn u r wv k label e some hv =
         let w =
         walk reading setting l first s exhausts ready (ComesTo l setting s IsHeld objects r) (4 * l.tallest + 7)
-        (project_words l.width l.tallest) in
+        (dyn_part_words parts l k u) in
         let z =
         dyn_part_done w low A IsHeld still is_solid head parts End objects (heap_of s)
         (at_first reading setting l first s exhausts ready objects filled) have s.waiting u wv k label hv r e some
         (ends reading setting l first s exhausts ready head IsHeld still is_solid low objects r some
-        (4 * l.tallest + 7) (project_words l.width l.tallest) r refl) in (
+        (4 * l.tallest + 7) (dyn_part_words parts l k u) r refl) in (
           z.steps,
           (let f = z.few in omega arith),
           z.reach (record { room = omega arith; left = omega arith }),
@@ -73,8 +73,8 @@ module _ {V : Type 0} (reading : Halt → Ending V) (setting : Setting) (l : Lay
       → HaveParts l (IsVery l) objects parts → (u : Merged ℕ) (r : Outcome ℕ) (wv k label : ℕ)
       → part_value head parts l.types k u ≡ r → (r ≡ Stuck → ⊥) → Carries l objects u wv
       → ComesToOutcome reading setting l s (IsVery l) objects (project_proc first) (wv ∷ k ∷ 1 ∷ label ∷ []) r
-      (tuple_cost l.width l.tallest) (4 * l.tallest + 6) (cast_words l.width l.tallest)
-      (tuple_price l.width l.tallest)
+      (tuple_cost l.width l.tallest) (4 * l.tallest + 6) (tuple_part_words parts l k u)
+      (tuple_part_price parts l k u)
   parts_of_tuples_are_answered low objects filled head parts have u r wv k label e some hv =
       parts_of_tuples head (IsVery l)
       (λ old new g a x h. very_still reading setting l first s exhausts ready old new g a x h) (λ os a x h. h.solid)
@@ -85,8 +85,8 @@ module _ {V : Type 0} (reading : Halt → Ending V) (setting : Setting) (l : Lay
       → HaveParts l (IsVery l) objects parts → (u : Merged ℕ) (r : Outcome ℕ) (wv k label : ℕ)
       → dyn_part_value head parts l.types k label u ≡ r → (r ≡ Stuck → ⊥) → Carries l objects u wv
       → ComesToOutcome reading setting l s (IsVery l) objects (project_proc first) (wv ∷ k ∷ 0 ∷ label ∷ []) r
-      (project_cost l.width l.tallest) (4 * l.tallest + 7) (project_words l.width l.tallest)
-      (project_price l.width l.tallest)
+      (project_cost l.width l.tallest) (4 * l.tallest + 7) (dyn_part_words parts l k u)
+      (dyn_part_price parts l k u)
   parts_in_dyn_are_answered low objects filled head parts have u r wv k label e some hv =
       parts_in_dyn head (IsVery l)
       (λ old new g a x h. very_still reading setting l first s exhausts ready old new g a x h) (λ os a x h. h.solid)

@@ -23,7 +23,9 @@ use Rattle.coercion_norm.specs.Heights.{coercion_height, highest, TypeNoHigher}
 use Rattle.coercion_norm.specs.Modes.{part_to_dyn, cast_to_dyn, kept_part}
 use Rattle.coercion_norm.specs.MergedMode.{part_at, tuple_coercion}
 use Rattle.coercion_norm.specs.Normal.{IsNormal, AreNormal}
-use Rattle.rt_cast.specs.Costs.{tuple_cost, project_cost, cast_words, project_words, tuple_price, project_price}
+use Rattle.rt_cast.specs.Costs.{tuple_cost, project_cost}
+use Rattle.rt_cast.specs.LightCasts.{cast_words_of, cast_price_of}
+use Rattle.rt_cast.specs.PartCosts.{of_cast, of_part, dyn_part_words, dyn_part_price}
 use Rattle.coercion_norm.specs.Objects.{Object, Fixed}
 use Rattle.coercion_norm.specs.Held.{There, Held, AreHeld, HoldsType, rows_in, height_in}
 use Rattle.coercion_norm.specs.ObjectsOfRows.{header, type_kind}
@@ -50,7 +52,7 @@ use Rattle.rt_cast.proofs.Steps.{calls, tail_calls}
 use Rattle.rt_cast.proofs.Small.{ReachedIn, grows_not}
 use Rattle.rt_cast.proofs.ComposeSteps.{type_there, type_numbers}
 use Rattle.rt_cast.proofs.CastRuns.{rebased, after, GoesOn, whole_above, no_higher, carried_still, carried_small}
-use Rattle.rt_cast.proofs.CastRuns.{by_cast}
+use Rattle.rt_cast.proofs.CastRuns.{by_either}
 use Rattle.rt_cast.proofs.CastDecisions.{low_of, by_inject, by_cast as decided_cast}
 
 -- ---- lists and rows
@@ -243,11 +245,18 @@ module _ {V : Type 0} (walk : Walk V) (low : walk.l.tallest ≤ 65534) (A : Type
       ReachedIn walk (More cost above asks price B) (state 12 (asked wv k which label)
       (project_code walk.first) [] waiting h)
 
+  -- the words and the price of the cast of a part
+  abbrev asks_of : ℕ → Merged A → ℕ
+  asks_of k u = of_part parts (cast_words_of walk.l) k u
+
+  abbrev price_of : ℕ → Merged A → ℕ
+  price_of k u = of_part parts (cast_price_of walk.l) k u
+
   -- with 1 as its third word
-  abbrev pub TupleRuns : Budget → ℕ → ℕ → ℕ → List Waiting → Heap → Type 0
-  TupleRuns B wv k label waiting h =
-      Runs (tuple_cost walk.l.width n) (whole_above walk low A IsHeld still is_solid) (cast_words walk.l.width n)
-      (tuple_price walk.l.width n) B wv k 1 label waiting h
+  abbrev pub TupleRuns : Budget → Merged A → ℕ → ℕ → ℕ → List Waiting → Heap → Type 0
+  TupleRuns B u wv k label waiting h =
+      Runs (tuple_cost walk.l.width n) (whole_above walk low A IsHeld still is_solid) (asks_of k u) (price_of k u + 97)
+      B wv k 1 label waiting h
 
   -- a part of what stands under a proxy, by the part of its coercion
   abbrev on_part : A → ℕ → Option Coercion → Outcome A
@@ -257,14 +266,14 @@ module _ {V : Type 0} (walk : Walk V) (low : walk.l.tallest ≤ 65534) (A : Type
       (fine : Fine walk.setting walk.l walk.around objects h) → HaveParts walk.l IsHeld objects parts
       → (waiting : List Waiting) (u : Merged A) (wv k label : ℕ) → Carried objects u wv → (r : Outcome A)
       → part_value head parts walk.l.types k u ≡ r → (r ≡ Stuck → ⊥) → Goes B objects waiting r
-      → TupleRuns B wv k label waiting h
+      → TupleRuns B u wv k label waiting h
   tuple_part_done B objects h fine tuples waiting (Base hd x) wv k label hv r e some go = absurd (some (sym e))
   tuple_part_done B objects h fine tuples waiting (InDyn kept x) wv k label hv r e some go = absurd (some (sym e))
   tuple_part_done B objects h fine tuples waiting (Solid a) wv k label hv r e some go = by (slice_get (parts a) k) refl
       e
     where
       by : (o : Option (Merged A)) → slice_get (parts a) k ≡ o → with_some o (λ x. Gives x) ≡ r
-          → TupleRuns B wv k label waiting h
+          → TupleRuns B (Solid a) wv k label waiting h
       by None f g = absurd (some (sym g))
       by (Some x) f g =
           let p = part_there objects tuples a wv k x hv f in
@@ -286,7 +295,7 @@ module _ {V : Type 0} (walk : Walk V) (low : walk.l.tallest ≤ 65534) (A : Type
     where
       by_part : (ps : Coercions) → c ≡ Middle TupKind ps → (d : Coercion) → part_at ps k ≡ Some d → (x : Merged A)
           → slice_get (parts a) k ≡ Some x → cast_value head walk.l.types d x ≡ r
-          → TupleRuns B wv k label waiting h
+          → TupleRuns B (Proxied a c) wv k label waiting h
       by_part ps is d at x f g =
           let lc : IsLow walk.l (Middle TupKind ps) = subst (IsLow walk.l) is hv.5 in
           let hc : Held walk.l objects (Middle TupKind ps) hv.1 = subst (λ y. Held walk.l objects y hv.1) is hv.4 in
@@ -302,6 +311,10 @@ module _ {V : Type 0} (walk : Walk V) (low : walk.l.tallest ≤ 65534) (A : Type
           (omega arith) in
           let v = word_there walk objects h fine hv.1 head10 hc.0 hc.1 (suc k) q.0 (hv.1 + 8 * k + 8) q.1
           (omega arith) in
+          let words_are : asks_of k (Proxied a c) ≡ cast_words_of walk.l d x =
+          ap₂ (of_cast (cast_words_of walk.l)) (ap (λ y. tuple_coercion y (pos k)) is ∙ at) f in
+          let price_is : price_of k (Proxied a c) ≡ cast_price_of walk.l d x =
+          ap₂ (of_cast (cast_price_of walk.l)) (ap (λ y. tuple_coercion y (pos k)) is ∙ at) f in
           let done =
           decided_cast walk.l walk.types head d ld.normal (no_higher walk low A IsHeld still is_solid d ld) x
           (low_of walk.l walk.types head IsHeld objects x p.word p.carried) r some g in
@@ -319,28 +332,28 @@ module _ {V : Type 0} (walk : Walk V) (low : walk.l.tallest ≤ 65534) (A : Type
           (computes walk objects fine hv.1 (8 * k) (hv.1 + 8 * k) refl refl (let z = v.end in omega (arith, z)) refl
           (loads_at walk objects fine (hv.1 + 8 * k) q.0 refl v refl
           (tail_calls walk objects fine (p.word ∷ q.0 ∷ []) (cast_proc walk.first) refl (walk.stands 2 _ refl) refl
-          (by_cast walk low A IsHeld still is_solid d ld.normal (no_higher walk low A IsHeld still is_solid d ld) x B
+          (by_either walk low A IsHeld still is_solid d ld.normal (no_higher walk low A IsHeld still is_solid d ld) x B
           objects h fine waiting p.word q.0 p.carried q.2 (subst (Goes B objects waiting) (sym done) go))))))))))))))
-          (omega arith, omega arith, omega arith, omega arith)
+          (omega arith, omega arith, omega (arith, words_are), omega (arith, price_is))
 
       by_target : (ps : Coercions) → c ≡ Middle TupKind ps → (d : Coercion) → part_at ps k ≡ Some d
           → (o : Option (Merged A)) → slice_get (parts a) k ≡ o
           → with_some o (λ x. cast_value head walk.l.types d x) ≡ r
-          → TupleRuns B wv k label waiting h
+          → TupleRuns B (Proxied a c) wv k label waiting h
       by_target ps is d at None f g = absurd (some (sym g))
       by_target ps is d at (Some x) f g = by_part ps is d at x f g
 
       by_place : (ps : Coercions) → c ≡ Middle TupKind ps → (o : Option Coercion) → part_at ps k ≡ o → on_part a k o ≡ r
-          → TupleRuns B wv k label waiting h
+          → TupleRuns B (Proxied a c) wv k label waiting h
       by_place ps is None at g = absurd (some (sym g))
       by_place ps is (Some d) at g = by_target ps is d at (slice_get (parts a) k) refl g
 
       none : (o : Option Coercion) → tuple_coercion c (pos k) ≡ o → o ≡ None
-          → TupleRuns B wv k label waiting h
+          → TupleRuns B (Proxied a c) wv k label waiting h
       none o f g = absurd (some (sym e ∙ ap (on_part a k) (f ∙ g)))
 
       by_coercion : (d : Coercion) → c ≡ d
-          → TupleRuns B wv k label waiting h
+          → TupleRuns B (Proxied a c) wv k label waiting h
       by_coercion Id is = none _ (ap (λ x. tuple_coercion x (pos k)) is) refl
       by_coercion (Fail lb) is = none _ (ap (λ x. tuple_coercion x (pos k)) is) refl
       by_coercion (Inject g kept) is = none _ (ap (λ x. tuple_coercion x (pos k)) is) refl
@@ -434,8 +447,7 @@ module _ {V : Type 0} (walk : Walk V) (low : walk.l.tallest ≤ 65534) (A : Type
       → (waiting : List Waiting) (u : Merged A) (wv k label : ℕ) → Carried objects u wv → (r : Outcome A)
       → dyn_part_value head parts walk.l.types k label u ≡ r → (r ≡ Stuck → ⊥) → Goes B objects waiting r
       → Runs (project_cost walk.l.width n) (suc (whole_above walk low A IsHeld still is_solid))
-      (project_words walk.l.width n)
-      (project_price walk.l.width n) B wv k 0 label waiting h
+      (dyn_part_words parts walk.l k u) (dyn_part_price parts walk.l k u) B wv k 0 label waiting h
   dyn_part_done B objects h fine tuples waiting (Base hd x) wv k label hv r e some go = absurd (some (sym e))
   dyn_part_done B objects h fine tuples waiting (Solid a) wv k label hv r e some go = absurd (some (sym e))
   dyn_part_done B objects h fine tuples waiting (Proxied a c) wv k label hv r e some go = absurd (some (sym e))
@@ -494,7 +506,7 @@ module _ {V : Type 0} (walk : Walk V) (low : walk.l.tallest ≤ 65534) (A : Type
 
       from_object : (d : InObject) → (rests : List Code)
           → ReachedIn walk (More (tuple_cost walk.l.width n + 30) (suc (whole_above walk low A IsHeld still is_solid))
-          (project_words walk.l.width n) (tuple_price walk.l.width n + 207) B)
+          (asks_of k x + 3) (price_of k x + 304) B)
           (state 12 (set_local 4 0 (asked wv k 0 label)) (project_dyn_object walk.first) rests waiting h)
       from_object d rests =
           at_most walk
@@ -519,8 +531,8 @@ module _ {V : Type 0} (walk : Walk V) (low : walk.l.tallest ≤ 65534) (A : Type
               dyn)) ≡
               r
               → (rests : List Code) → ReachedIn walk (More (tuple_cost walk.l.width n + 18)
-              (suc (whole_above walk low A IsHeld still is_solid)) (project_words walk.l.width n)
-              (tuple_price walk.l.width n + 161) B) (state 12 L (project_dyn_part walk.first) rests
+              (suc (whole_above walk low A IsHeld still is_solid)) (asks_of k x + 3)
+              (price_of k x + 258) B) (state 12 L (project_dyn_part walk.first) rests
               waiting h)
           with_dyn ps row part got dyn place f rests =
               let known =
@@ -558,7 +570,7 @@ module _ {V : Type 0} (walk : Walk V) (low : walk.l.tallest ≤ 65534) (A : Type
               → dyn_part_by head parts walk.l.types (cast_to_dyn make o part label) k label x ≡ r → (rests : List Code)
               → ReachedIn walk (More (tuple_cost walk.l.width n + 18) (suc (whole_above walk low A IsHeld still
               is_solid))
-              (project_words walk.l.width n) (tuple_price walk.l.width n + 161) B)
+              (asks_of k x + 3) (price_of k x + 258) B)
               (state 12 L (project_dyn_part walk.first) rests waiting h)
           by_dyn ps row part got None place f rests = absurd (some (sym f))
           by_dyn ps row part got (Some dyn) place f rests = with_dyn ps row part got dyn place f rests
@@ -566,7 +578,7 @@ module _ {V : Type 0} (walk : Walk V) (low : walk.l.tallest ≤ 65534) (A : Type
           by_sight : Sight (R kept) k → (rests : List Code)
               → ReachedIn walk (More (tuple_cost walk.l.width n + 22) (suc (whole_above walk low A IsHeld still
               is_solid))
-              (project_words walk.l.width n) (tuple_price walk.l.width n + 188) B)
+              (asks_of k x + 3) (price_of k x + 285) B)
               (state 12 L (either Eq (Word 7) (Number 21) (either Ltu (Word 1) (Word 6) (project_dyn_part walk.first)
               project_blame) project_blame) rests waiting h)
           by_sight (NotTuple other none) rests =
@@ -602,7 +614,7 @@ module _ {V : Type 0} (walk : Walk V) (low : walk.l.tallest ≤ 65534) (A : Type
       by_size : (o : Option ℕ) → small_dyn (R kept) hv.0 ≡ o → IsDynBy walk.l objects o kept hv.0 wv
           → (rests : List Code)
           → ReachedIn walk (More (tuple_cost walk.l.width n + 34) (suc (whole_above walk low A IsHeld still is_solid))
-          (project_words walk.l.width n) (tuple_price walk.l.width n + 226) B)
+          (asks_of k x + 3) (price_of k x + 323) B)
           (state 12 (asked wv k 0 label) (project_dyn walk.first) rests waiting h)
       by_size (Some small) e d rests =
           let s = small_is (R kept) hv.0 small e in

@@ -25,6 +25,7 @@ pub use Rattle.rt_cast.proofs.Middles.{held_still}
 pub use Rattle.rt_cast.proofs.CastCases.{apply}
 pub use Rattle.rt_cast.proofs.CastRuns.{GoesOn, no_higher, whole_above, carried_still, by_cast, by_either}
 pub use Rattle.rt_cast.proofs.CastRuns.{words_within, price_within}
+pub use Rattle.rt_cast.proofs.HeavyTurns.{heavy_unless_light}
 pub use Rattle.rt_cast.proofs.CastDecisions.{low_of, by_cast as decided_cast}
 pub use Rattle.rt_cast.proofs.CastReaching.{ends, very_still}
 -- words in Dyn, behind a tag or not:

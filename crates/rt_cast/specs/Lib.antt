@@ -14,3 +14,5 @@ pub mod PartValues
 pub mod DynWords
 pub mod Carried
 pub mod LightCasts
+pub mod HeavyTurns
+pub mod PartCosts

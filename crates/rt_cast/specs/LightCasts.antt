@@ -31,7 +31,8 @@ has_none (Some kind) = false
 abbrev pub has_no_middle : TypeRow → TypeRow → Bool
 has_no_middle from to = not (same_head from to) || has_none (kind_of from)
 
--- no middle meets the value, and none is made for it
+-- no middle meets the value, and none is made for it; out of Dyn between different heads it comes to a blame, whatever
+-- stands behind the Project
 abbrev pub is_light : {A : Type 0} → (ℕ → TypeRow) → Coercion → Merged A → Bool
 is_light rows Id u = true
 is_light rows (Fail label) u = true
@@ -40,7 +41,8 @@ is_light rows (Inject g kept) u = is_simple g
 is_light rows (Project wanted label i) (Base head x) = false
 is_light rows (Project wanted label i) (Solid a) = false
 is_light rows (Project wanted label i) (Proxied a c) = false
-is_light rows (Project wanted label i) (InDyn kept u) = has_no_middle (rows kept) (rows wanted) && ends_simply i
+is_light rows (Project wanted label i) (InDyn kept u) =
+    not (same_head (rows kept) (rows wanted)) || (has_none (kind_of (rows kept)) && ends_simply i)
 
 -- a value in Dyn has three words, and a Fail that is made on opening one two
 abbrev pub light_words : Coercion → ℕ

@@ -1,7 +1,7 @@
 // What the procedures do.
 
-ghost use Rattle.std.specs.Prelude.{◌≡◌, ℕ, ◌+◌, ◌*◌, ◌<◌, ◌≤◌, ◌^◌, max, true, List, [], ◌∷◌, length};
-ghost use Rattle.grift_base.specs.Types.{TypeHead};
+ghost use Rattle.std.specs.Prelude.{◌≡◌, ℕ, ◌+◌, ◌*◌, ◌<◌, ◌≤◌, ◌^◌, max, true, false, List, [], ◌∷◌, length};
+ghost use Rattle.grift_base.specs.Types.{TypeHead, TypeRows};
 ghost use Rattle.run_laws.specs.Runs.{Ending, Exhausted};
 ghost use Rattle.rv_machine.specs.Memory.{Memory};
 ghost use Rattle.rv_machine.specs.State.{Halt, Lacks, Region};
@@ -9,19 +9,22 @@ ghost use Rattle.low_ir.specs.Procedures.{Proc};
 ghost use Rattle.low_ir.specs.Closed.{each_closed};
 ghost use Rattle.low_ir.specs.Run.{Setting, LowState};
 ghost use Rattle.type_graph.specs.declared.tables.TheConstants.{MOST_HEIGHT};
-ghost use Rattle.coercion_norm.specs.Coercions.{Coercion};
+ghost use Rattle.coercion_norm.specs.Coercions.{Coercion, rows_of};
 ghost use Rattle.coercion_norm.specs.CoercionTables.{IsSound, cast_of, composition_of};
 ghost use Rattle.coercion_norm.specs.Heights.{coercion_height};
 ghost use Rattle.coercion_norm.specs.Held.{Layout, Held, HoldsType, TypesStand, height_in, rows_in};
+ghost use Rattle.coercion_norm.specs.Normal.{IsNormal};
 ghost use Rattle.coercion_norm.specs.Objects.{Object, words_of_all};
 ghost use Rattle.rt_cast.specs.Costs.{coerce_cost, compose_cost, cast_cost, tuple_cost, project_cost};
-ghost use Rattle.rt_cast.specs.Costs.{coerce_words, compose_words, cast_words, project_words};
-ghost use Rattle.rt_cast.specs.Costs.{coerce_price, compose_price, cast_price, tuple_price, project_price};
+ghost use Rattle.rt_cast.specs.Costs.{coerce_words, compose_words, cast_words};
+ghost use Rattle.rt_cast.specs.Costs.{coerce_price, compose_price, cast_price};
 ghost use Rattle.rt_cast.specs.Frames.{largest_frame};
+ghost use Rattle.rt_cast.specs.HeavyTurns.{has_heavy_turn};
 ghost use Rattle.rt_cast.specs.LightCasts.{is_light, light_words, light_price};
 ghost use Rattle.rt_cast.specs.Objects.{Holds, HoldsWords};
 ghost use Rattle.rt_cast.specs.Procs.{Stand, coerce_proc, compose_proc, cast_proc, project_proc};
 ghost use Rattle.rt_cast.specs.Procs.{cast_procs};
+ghost use Rattle.rt_cast.specs.PartCosts.{tuple_part_words, tuple_part_price, dyn_part_words, dyn_part_price};
 ghost use Rattle.rt_cast.specs.PartValues.{part_value, dyn_part_value};
 ghost use Rattle.rt_cast.specs.MergedValues.{Merged, Outcome, Stuck, cast_value};
 ghost use Rattle.rt_cast.specs.Carried.{IsLow, IsVery, Carries, HaveParts, ComesToOutcome};
@@ -73,8 +76,9 @@ pub fn casts_are_made<V>()
         (cast_price l.width l.tallest) }
 {}
 
-/// A cast that is light, since no middle meets its value and none is made for it, takes 77 steps at most, with one
-/// procedure active above it, and words and a price that don't depend on heights.
+/// A cast that is light, since no middle meets its value and none is made for it, or since it comes out of Dyn between
+/// different heads, takes 77 steps at most, with one procedure active above it, and words and a price that don't depend
+/// on heights.
 pub fn light_casts_are_cheap<V>()
     ensures { (reading : Halt → Ending V) (setting : Setting) (l : Layout) (first : ℕ) (s : LowState)
         → reading (Lacks Region) ≡ Exhausted → IsReady setting l first → l.tallest ≤ MOST_HEIGHT
@@ -85,8 +89,16 @@ pub fn light_casts_are_cheap<V>()
         (light_words c) (light_price c) }
 {}
 
+/// Any other cast that comes to something has a heavy turn among those that the merged mode makes for it: one that
+/// wraps, wraps anew or unwraps, or that opens a value in Dyn whose kept type has parts and the head that is wanted.
+pub fn heavy_casts_have_heavy_turns()
+    ensures { (head : ℕ → TypeHead) (types : TypeRows) (c : Coercion) → IsNormal (rows_of types) c → (u : Merged ℕ)
+        → (cast_value head types c u ≡ Stuck → ⊥) → is_light (rows_of types) c u ≡ false
+        → has_heavy_turn head types c u ≡ true }
+{}
+
 /// Project, with 1 as its third word, comes to what the merged mode makes of a part of a tuple: the part as it is, or,
-/// of a tuple with a proxy, the part cast by the proxy's coercion for it.
+/// of a tuple with a proxy, the part cast by the proxy's coercion for it. It asks for the words of that cast alone.
 pub fn parts_of_tuples_are_answered<V>()
     ensures { (reading : Halt → Ending V) (setting : Setting) (l : Layout) (first : ℕ) (s : LowState)
         → reading (Lacks Region) ≡ Exhausted → IsReady setting l first → l.tallest ≤ MOST_HEIGHT
@@ -94,12 +106,13 @@ pub fn parts_of_tuples_are_answered<V>()
         (parts : ℕ → List (Merged ℕ)) → HaveParts l (IsVery l) objects parts → (u : Merged ℕ) (r : Outcome ℕ)
         (wv k label : ℕ) → part_value head parts l.types k u ≡ r → (r ≡ Stuck → ⊥) → Carries l objects u wv
         → ComesToOutcome reading setting l s (IsVery l) objects (project_proc first) (wv ∷ k ∷ 1 ∷ label ∷ []) r
-        (tuple_cost l.width l.tallest) (4 * l.tallest + 6) (cast_words l.width l.tallest)
-        (tuple_price l.width l.tallest) }
+        (tuple_cost l.width l.tallest) (4 * l.tallest + 6) (tuple_part_words parts l k u)
+        (tuple_part_price parts l k u) }
 {}
 
 /// With 0 as its third word it comes to what that mode makes of a part of a value in Dyn: the part, cast to Dyn, or the
-/// blame of the label that is handed in, where the type that the Dyn keeps has no such part.
+/// blame of the label that is handed in, where the type that the Dyn keeps has no such part. It asks for the words of
+/// the cast of the part, where one is made, and three more for the value in Dyn.
 pub fn parts_in_dyn_are_answered<V>()
     ensures { (reading : Halt → Ending V) (setting : Setting) (l : Layout) (first : ℕ) (s : LowState)
         → reading (Lacks Region) ≡ Exhausted → IsReady setting l first → l.tallest ≤ MOST_HEIGHT
@@ -107,8 +120,8 @@ pub fn parts_in_dyn_are_answered<V>()
         (parts : ℕ → List (Merged ℕ)) → HaveParts l (IsVery l) objects parts → (u : Merged ℕ) (r : Outcome ℕ)
         (wv k label : ℕ) → dyn_part_value head parts l.types k label u ≡ r → (r ≡ Stuck → ⊥) → Carries l objects u wv
         → ComesToOutcome reading setting l s (IsVery l) objects (project_proc first) (wv ∷ k ∷ 0 ∷ label ∷ []) r
-        (project_cost l.width l.tallest) (4 * l.tallest + 7) (project_words l.width l.tallest)
-        (project_price l.width l.tallest) }
+        (project_cost l.width l.tallest) (4 * l.tallest + 7) (dyn_part_words parts l k u)
+        (dyn_part_price parts l k u) }
 {}
 
 /// What the other laws say of every state on the way is what a walk of the region asks for: whole objects fill the
