@@ -38,10 +38,10 @@ use Rattle.rt_cast.specs.States.{heap_of}
 use Rattle.rt_refs.specs.Arguments.{Arguments, NoArguments, AllGive, OneBlames, then_others, arguments_cast}
 use Rattle.rt_refs.specs.Arguments.{handed}
 use Rattle.rt_refs.specs.CallCodes.{apply_proc}
-use Rattle.rt_refs.specs.CallLaws.{arguments_words, Resumes, CallComes}
+use Rattle.rt_refs.specs.CallLaws.{arguments_words, OnTheWayOfCall, Resumes, CallComes}
 use Rattle.rt_refs.specs.CallLaws.{CallsAt as RtCallsAt}
 use Rattle.rt_refs.specs.RefProcs.{Stand as RefsStand}
-use Rattle.rt_refs.proofs.Public.{calls_are_made, answers_are_cast}
+use Rattle.rt_refs.proofs.Public.{calls_are_made, calls_on_the_way, answers_are_cast}
 use Rattle.lower.specs.declared.served.Served.{Served}
 use Rattle.lower.specs.CarriedValues.{CarriedIn, AreCarried}
 use Rattle.lower.specs.MergedMeaning.{merged_meaning, merged_resumes, WrapsKind}
@@ -413,7 +413,14 @@ module _ (setting : Setting) (l : Layout) (procs : List Proc) (casts : List Type
         let z = calls_are_made ending_of setting l first s refl is_ready tallest objects rt_filled heads_of seen.0 cast
         ds e split given.0 w ws seen.2 given.2 (let q = given.3 in omega (arith, q, few)) closure.0 closure.1 closure.2
         closure.3 total_of refl some in
-        (z.0, z.2)
+        let Q : LowState → Type 0 = CallComes l setting first s (IsVery l) objects seen.0 closure.1 e total_of in (
+          z.0,
+          reaches_weaken (low_machine ending_of setting)
+              (OnTheWayOfCall setting l s (4 * l.tallest + 7) ds given.0) Q
+              (OnTheWay setting l s (4 * l.tallest + 7) wide_of) Q
+              (λ x way. calls_on_the_way setting l s (4 * l.tallest + 7) ds given.0 x way) (λ x q. q) z.0
+              (called_with w ws) z.2,
+        )
 
     call_made : Called (On (Entering v [] (pendings vs ds)) (CastFrame e ∷ base) store s.world) (called_with w ws)
     call_made = (

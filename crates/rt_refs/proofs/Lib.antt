@@ -1,5 +1,8 @@
 pub mod Public
+mod TakenWords
+mod Arriving
 mod Calling
+mod InTurn
 mod Applying
 mod CellSteps
 mod Finding

@@ -21,7 +21,7 @@ use Rattle.rt_cast.proofs.Public.{very_still}
 use Rattle.rt_refs.specs.CallCodes.{apply_proc}
 use Rattle.rt_refs.specs.CellCodes.{read_proc, write_proc}
 use Rattle.rt_refs.specs.Arguments.{Arguments, NoArguments, arguments_cast, handed}
-use Rattle.rt_refs.specs.CallLaws.{apply_cost, arguments_words, apply_price, Resumes, ComesToCall, GoesOnTo}
+use Rattle.rt_refs.specs.CallLaws.{apply_cost, apply_price, Resumes, ComesToCall, GoesOnTo}
 use Rattle.rt_refs.specs.CellLaws.{cell_behind, under, CellStands, CellInRegion, TrapsAt, TellsAt, WriteComes}
 use Rattle.rt_refs.specs.CellLaws.{ComesWhere, ComesWriting}
 use Rattle.rt_refs.proofs.Applying.{calls_through_proxies, answers_cast}
@@ -38,8 +38,7 @@ module _ {V : Type 0} where
       → (head address : ℕ) (rest : List ℕ) → There l objects f (Fixed head (address ∷ rest)) → (r : Arguments ℕ)
       → arguments_cast heads l.types 0 ds us ≡ r → (r ≡ NoArguments → ⊥)
       → ComesToCall reading setting l first s (IsVery l) objects (apply_proc (cast first)) (handed wv ws) f address e
-      r (apply_cost (cast_cost l.width l.tallest) (length us)) (4 * l.tallest + 7)
-      (arguments_words l ds us) (apply_price l ds us)
+      ds us r (apply_cost (cast_cost l.width l.tallest) (length us)) (4 * l.tallest + 7) (apply_price l ds us)
   calls_are_made reading setting l first s exhausts ready low objects filled heads f c ds e split us wv ws hv hu few
       head address rest there r is some =
       calls_through_proxies reading setting l first s exhausts ready heads (IsVery l)
