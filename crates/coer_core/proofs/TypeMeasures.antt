@@ -1,5 +1,5 @@
 -- The coercions of casts are no higher than the highest type of the table, and no type is wider than the widest.
-use Rattle.std.proofs.Common.{◌≡◌, ◌⊎◌, inl, inr, ℕ, zero, suc, ◌<◌, ◌≤◌, max, List, [], ◌∷◌, length, None, ap, arith}
+use Rattle.std.proofs.Common.{◌≡◌, ◌⊎◌, inl, inr, ℕ, zero, suc, ◌<◌, ◌≤◌, max, List, [], ◌∷◌, length, ap, arith}
 use Rattle.std.proofs.lemmas.List.{get_or_past}
 use Rattle.grift_base.specs.Types.{TypeRows, DynRow, parts_of}
 use Rattle.type_graph.specs.Trees.{height}
@@ -10,7 +10,7 @@ use Rattle.coercion_norm.specs.Heights.{AreHeights}
 use Rattle.coercion_norm.specs.Modes.{TypeCast}
 use Rattle.coercion_norm.specs.Widths.{NoWider}
 use Rattle.coercion_norm.proofs.Public.{coerce_no_higher, heights_of_a_table}
-use Rattle.coer_core.specs.Programs.{cast_height, tallest_of}
+use Rattle.coer_core.specs.Programs.{tallest_of}
 
 row_narrow : (types : TypeRows) (type : ℕ) → type < length types
     → length (parts_of (rows_of types type)) ≤ widest types

@@ -1,5 +1,5 @@
 -- The coercion of a cast has no more parts than types have, and what words hold doesn't depend on what width is told.
-use Rattle.std.proofs.Common.{◌≡◌, ◌⊎◌, inl, inr, ℕ, zero, suc, ◌<◌, ◌≤◌, max, Bool, true, false, cond, Option, Some}
+use Rattle.std.proofs.Common.{◌≡◌, ◌⊎◌, inl, inr, ℕ, zero, suc, ◌<◌, ◌≤◌, Bool, true, false, cond, Option, Some}
 use Rattle.std.proofs.Common.{None, refl, sym, ap, subst, arith, List, [], ◌∷◌, length, nat_eq}
 use Rattle.std.proofs.lemmas.List.{get_or_past}
 use Rattle.grift_base.specs.Types.{TypeRow, TypeRows, IntRow, BoolRow, UnitRow, DynRow, FunRow, TupleRow, RefRow}
@@ -7,8 +7,8 @@ use Rattle.grift_base.specs.Types.{VectRow, is_dyn, same_head, parts_of}
 use Rattle.coercion_norm.specs.Coercions.{Kind, Coercion, Coercions, Id, Fail, Middle, Inject, Project, NoCoercions}
 use Rattle.coercion_norm.specs.Coercions.{CoercionThen, all_id, kind_of, rows_of, runs_back, slot, slots, slots_of}
 use Rattle.coercion_norm.specs.CoercionTables.{cast_of}
-use Rattle.coercion_norm.specs.Composition.{middle, coerce_below, coerce_by, coerce_middle, coerce_part, coerce_parts}
-use Rattle.coercion_norm.specs.Composition.{coerce_solid, coerce_to, coerce_whole}
+use Rattle.coercion_norm.specs.Composition.{coerce_below, coerce_by, coerce_middle, coerce_part, coerce_parts}
+use Rattle.coercion_norm.specs.Composition.{coerce_to}
 use Rattle.coercion_norm.specs.Held.{AreHeld, Held, Layout, TypesStand}
 use Rattle.coercion_norm.specs.Objects.{Object}
 use Rattle.coercion_norm.specs.StandsFor.{is_none_left}
@@ -46,47 +46,47 @@ module _ (width : ℕ) (types : TypeRows) (wide : NoWider width types) where
 
   module _ (next : ℕ → ℕ → ℕ → Coercion) (all : (from to label : ℕ) → CoercionNoWider width (next from to label))
     where
-    part_narrow : (back : Bool) (from to label : ℕ)
-        → CoercionNoWider width (coerce_part (rows_of types) next back from to label)
-    part_narrow true from to label = all to from label
-    part_narrow false from to label = all from to label
+      part_narrow : (back : Bool) (from to label : ℕ)
+          → CoercionNoWider width (coerce_part (rows_of types) next back from to label)
+      part_narrow true from to label = all to from label
+      part_narrow false from to label = all from to label
 
-    parts_narrow : (kind : Kind) (from to label n j : ℕ)
-        → AllNoWider width (coerce_parts (rows_of types) next kind from to label n j)
-    parts_narrow kind from to label zero j = tt
-    parts_narrow kind from to label (suc n) j = (
-      part_narrow (runs_back kind (is_none_left n)) (slot (rows_of types) j from) (slot (rows_of types) j to) label,
-      parts_narrow kind from to label n (suc j),
-    )
+      parts_narrow : (kind : Kind) (from to label n j : ℕ)
+          → AllNoWider width (coerce_parts (rows_of types) next kind from to label n j)
+      parts_narrow kind from to label zero j = tt
+      parts_narrow kind from to label (suc n) j = (
+        part_narrow (runs_back kind (is_none_left n)) (slot (rows_of types) j from) (slot (rows_of types) j to) label,
+        parts_narrow kind from to label n (suc j),
+      )
 
-    as_many : (kind : Kind) (from to label n j : ℕ)
-        → count_of (coerce_parts (rows_of types) next kind from to label n j) ≡ n
-    as_many kind from to label zero j = refl
-    as_many kind from to label (suc n) j = ap suc (as_many kind from to label n (suc j))
+      as_many : (kind : Kind) (from to label n j : ℕ)
+          → count_of (coerce_parts (rows_of types) next kind from to label n j) ≡ n
+      as_many kind from to label zero j = refl
+      as_many kind from to label (suc n) j = ap suc (as_many kind from to label n (suc j))
 
-    middle_narrow : (o : Option Kind) (from to label : ℕ)
-        → CoercionNoWider width (coerce_middle (rows_of types) next o from to label)
-    middle_narrow None from to label = tt
-    middle_narrow (Some kind) from to label =
-        let n : ℕ = slots (rows_of types) from in
-        let parts : Coercions = coerce_parts (rows_of types) next kind from to label n 0 in
-        by_test (all_id parts) Id (Middle kind parts) tt (
-          subst (λ many. many ≤ width) (sym (as_many kind from to label n 0)) (type_slots_few from),
-          parts_narrow kind from to label n 0,
-        )
+      middle_narrow : (o : Option Kind) (from to label : ℕ)
+          → CoercionNoWider width (coerce_middle (rows_of types) next o from to label)
+      middle_narrow None from to label = tt
+      middle_narrow (Some kind) from to label =
+          let n : ℕ = slots (rows_of types) from in
+          let parts : Coercions = coerce_parts (rows_of types) next kind from to label n 0 in
+          by_test (all_id parts) Id (Middle kind parts) tt (
+            subst (λ many. many ≤ width) (sym (as_many kind from to label n 0)) (type_slots_few from),
+            parts_narrow kind from to label n 0,
+          )
 
-    by_narrow : (b1 b2 : Bool) (from to label : ℕ)
-        → CoercionNoWider width (coerce_by (rows_of types) next b1 b2 from to label)
-    by_narrow true true from to label = tt
-    by_narrow true false from to label = tt
-    by_narrow false true from to label = tt
-    by_narrow false false from to label =
-        by_test (nat_eq from to) Id
-        (cond (same_head (rows_of types from) (rows_of types to))
-        (coerce_middle (rows_of types) next (kind_of (rows_of types from)) from to label) (Fail label)) tt
-        (by_test (same_head (rows_of types from) (rows_of types to))
-        (coerce_middle (rows_of types) next (kind_of (rows_of types from)) from to label) (Fail label)
-        (middle_narrow (kind_of (rows_of types from)) from to label) tt)
+      by_narrow : (b1 b2 : Bool) (from to label : ℕ)
+          → CoercionNoWider width (coerce_by (rows_of types) next b1 b2 from to label)
+      by_narrow true true from to label = tt
+      by_narrow true false from to label = tt
+      by_narrow false true from to label = tt
+      by_narrow false false from to label =
+          by_test (nat_eq from to) Id
+          (cond (same_head (rows_of types from) (rows_of types to))
+          (coerce_middle (rows_of types) next (kind_of (rows_of types from)) from to label) (Fail label)) tt
+          (by_test (same_head (rows_of types from) (rows_of types to))
+          (coerce_middle (rows_of types) next (kind_of (rows_of types from)) from to label) (Fail label)
+          (middle_narrow (kind_of (rows_of types from)) from to label) tt)
 
   below_narrow : (n from to label : ℕ) → CoercionNoWider width (coerce_below (rows_of types) n from to label)
   below_narrow zero from to label = tt

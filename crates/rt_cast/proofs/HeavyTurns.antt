@@ -1,5 +1,5 @@
 -- A cast that isn't light has a heavy turn among those that the merged mode makes for it.
-use Rattle.std.proofs.Common.{◌≡◌, ℕ, suc, Bool, true, false, Option, Some, None, refl, sym, ap, ap₂, ◌∙◌, subst}
+use Rattle.std.proofs.Common.{◌≡◌, ℕ, suc, Bool, true, false, Option, Some, None, refl, ap, ap₂, ◌∙◌}
 use Rattle.std.proofs.Common.{cond, nat_eq}
 use Rattle.std.specs.Prelude.{◌&&◌, ◌||◌, not, max, if◌then◌else◌}
 use Rattle.grift_base.specs.Types.{TypeHead, TypeRow, TypeRows, IntRow, BoolRow, UnitRow, DynRow, FunRow, TupleRow}
@@ -8,10 +8,10 @@ use Rattle.type_graph.specs.Trees.{height}
 use Rattle.coercion_norm.specs.declared.middles.MiddleKind.{MiddleKind as Kind}
 use Rattle.coercion_norm.specs.Coercions.{Coercion, Coercions, Id, Fail, Middle, Inject, Project, kind_of, rows_of}
 use Rattle.coercion_norm.specs.CoercionTables.{cast_of, composition_of}
-use Rattle.coercion_norm.specs.Composition.{coerce_below, coerce_by, coerce_middle, coerce_solid}
-use Rattle.coercion_norm.specs.Modes.{Bare, Wrapped, Injected, Decision, NoCast, Opening}
+use Rattle.coercion_norm.specs.Composition.{coerce_below, coerce_by, coerce_middle}
+use Rattle.coercion_norm.specs.Modes.{Bare, Wrapped, Injected, Decision, NoCast}
 use Rattle.coercion_norm.specs.MergedMode.{applied, middle_head, proxied, rewrapped, shape_has_head, width}
-use Rattle.coercion_norm.specs.Normal.{IsNormal, is_flat, is_project}
+use Rattle.coercion_norm.specs.Normal.{IsNormal, is_project}
 use Rattle.rt_cast.specs.HeavyTurns.{has_heavy_turn, is_heavy, opens_parts, turns_heavily}
 use Rattle.rt_cast.specs.LightCasts.{ends_simply, has_none, is_light}
 use Rattle.rt_cast.specs.MergedValues.{Merged, Base, Solid, Proxied, InDyn, Outcome, Stuck, cast_to, cast_value, decided}

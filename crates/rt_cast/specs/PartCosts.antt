@@ -1,6 +1,6 @@
 -- What a part of a tuple and of a value in Dyn asks for and costs: what the cast does that is made of the part, if one
 -- is, and what is the procedure's own.
-use Rattle.std.specs.Prelude.{ℕ, ◌+◌, pos, List, Option, Some, None, slice_get}
+use Rattle.std.specs.Prelude.{ℕ, ◌+◌, pos, List, Option, Some, slice_get}
 use Rattle.coercion_norm.specs.Coercions.{Coercion}
 use Rattle.coercion_norm.specs.Held.{Layout}
 use Rattle.coercion_norm.specs.MergedMode.{tuple_coercion}
