@@ -14,8 +14,8 @@ use Rattle.coercion_norm.specs.MergedMode.{applied, middle_head, proxied, rewrap
 use Rattle.coercion_norm.specs.Normal.{IsNormal, is_project}
 use Rattle.rt_cast.specs.HeavyTurns.{has_heavy_turn, is_heavy, opens_parts, turns_heavily}
 use Rattle.rt_cast.specs.LightCasts.{ends_simply, has_none, is_light}
-use Rattle.rt_cast.specs.MergedValues.{Merged, Base, Solid, Proxied, InDyn, Outcome, Stuck, cast_to, cast_value, decided}
-use Rattle.rt_cast.specs.MergedValues.{shape_of, then_outcome}
+use Rattle.rt_cast.specs.MergedValues.{Merged, Base, Solid, Proxied, InDyn, Outcome, Stuck, cast_to, cast_value}
+use Rattle.rt_cast.specs.MergedValues.{decided, shape_of, then_outcome}
 
 no_true : false ≡ true → ⊥
 no_true e = cc
@@ -67,7 +67,8 @@ module _ {A : Type 0} (head : A → TypeHead) (types : TypeRows) where
         where
           by : (b : Bool) → (decided go (if b then proxied (cast_of types) (composition_of types) types
               (Middle kind cs) (Bare h) else NoCast) (Base h w) ≡ Stuck → ⊥)
-              → is_heavy {A = A} R (Middle kind cs) (Base h w) (if b then proxied (cast_of types) (composition_of types) types
+              → is_heavy {A = A} R (Middle kind cs) (Base h w) (if b then proxied (cast_of types) (composition_of
+              types) types
               (Middle kind cs) (Bare h) else NoCast) ≡ true
           by true some = refl
           by false some = absurd (some refl)
@@ -75,7 +76,8 @@ module _ {A : Type 0} (head : A → TypeHead) (types : TypeRows) where
         where
           by : (b : Bool) → (decided go (if b then proxied (cast_of types) (composition_of types) types
               (Middle kind cs) (Bare (head a)) else NoCast) (Solid a) ≡ Stuck → ⊥)
-              → is_heavy {A = A} R (Middle kind cs) (Solid a) (if b then proxied (cast_of types) (composition_of types) types
+              → is_heavy {A = A} R (Middle kind cs) (Solid a) (if b then proxied (cast_of types) (composition_of
+              types) types
               (Middle kind cs) (Bare (head a)) else NoCast) ≡ true
           by true some = refl
           by false some = absurd (some refl)
@@ -83,7 +85,8 @@ module _ {A : Type 0} (head : A → TypeHead) (types : TypeRows) where
         where
           by : (b : Bool) → (decided go (if b then proxied (cast_of types) (composition_of types) types
               (Middle kind cs) (Wrapped old) else NoCast) (Proxied a old) ≡ Stuck → ⊥)
-              → is_heavy {A = A} R (Middle kind cs) (Proxied a old) (if b then proxied (cast_of types) (composition_of types)
+              → is_heavy {A = A} R (Middle kind cs) (Proxied a old) (if b then proxied (cast_of types) (composition_of
+              types)
               types (Middle kind cs) (Wrapped old) else NoCast) ≡ true
           by true some = rewraps (composition_of types old (Middle kind cs)) (Middle kind cs) (Proxied a old)
           by false some = absurd (some refl)
@@ -91,7 +94,8 @@ module _ {A : Type 0} (head : A → TypeHead) (types : TypeRows) where
         where
           by : (b : Bool) → (decided go (if b then proxied (cast_of types) (composition_of types) types
               (Middle kind cs) (Injected kept) else NoCast) (InDyn kept x) ≡ Stuck → ⊥)
-              → is_heavy {A = A} R (Middle kind cs) (InDyn kept x) (if b then proxied (cast_of types) (composition_of types)
+              → is_heavy {A = A} R (Middle kind cs) (InDyn kept x) (if b then proxied (cast_of types) (composition_of
+              types)
               types (Middle kind cs) (Injected kept) else NoCast) ≡ true
           by true some = absurd (some refl)
           by false some = absurd (some refl)

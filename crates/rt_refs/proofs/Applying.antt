@@ -79,7 +79,8 @@ module _ {V : Type 0} (reading : Halt → Ending V) (setting : Setting) (l : Lay
       → (us : List (Merged A)) (wv : ℕ) (ws : List ℕ) → CarriedBy l IsHeld objects (Proxied f (Middle FunKind parts)) wv
       → AreCarried l IsHeld objects us ws → length us ≤ 6 → (address : ℕ) → HasAddress objects f address
       → (r : Arguments A) → arguments_cast heads l.types 0 ds us ≡ r → (r ≡ NoArguments → ⊥)
-      → ComesToCall reading setting l first s IsHeld objects (apply_proc (cast first)) (handed wv ws) f address e ds us r
+      → ComesToCall reading setting l first s IsHeld objects (apply_proc (cast first)) (handed wv ws) f address e ds
+      us r
       (many (length us)) (4 * l.tallest + 7) (apply_price l ds us)
   function_called low objects filled f parts ds e split us wv ws hv hu few address closure r is some =
       arrives_within reading setting Way Way Q Q (3 + rest) (9 + (arguments_price l ds us + 3)) (many (length us))
@@ -123,7 +124,8 @@ module _ {V : Type 0} (reading : Halt → Ending V) (setting : Setting) (l : Lay
 
       -- the function, the proxy's coercion and the code address are found
       t1 : LowState
-      t1 = st (around s) 13 locals1 (cast_arguments (cast first) (call_function (cast first)) 6 0) [] s.waiting (heap_of s)
+      t1 = st (around s) 13 locals1 (cast_arguments (cast first) (call_function (cast first)) 6 0) [] s.waiting
+          (heap_of s)
 
       Found : LowState → Type 0
       Found x = x ≡ t1
@@ -164,7 +166,8 @@ module _ {V : Type 0} (reading : Halt → Ending V) (setting : Setting) (l : Lay
       → (us : List (Merged A)) (wv : ℕ) (ws : List ℕ) → CarriedBy l IsHeld objects (Proxied f c) wv
       → AreCarried l IsHeld objects us ws → length us ≤ 6 → (address : ℕ) → HasAddress objects f address
       → (r : Arguments A) → arguments_cast heads l.types 0 ds us ≡ r → (r ≡ NoArguments → ⊥)
-      → ComesToCall reading setting l first s IsHeld objects (apply_proc (cast first)) (handed wv ws) f address e ds us r
+      → ComesToCall reading setting l first s IsHeld objects (apply_proc (cast first)) (handed wv ws) f address e ds
+      us r
       (many (length us)) (4 * l.tallest + 7) (apply_price l ds us)
   calls_through_proxies low objects filled f Id ds e split = none_some split
   calls_through_proxies low objects filled f (Fail label) ds e split = none_some split

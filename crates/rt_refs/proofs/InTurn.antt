@@ -204,7 +204,8 @@ module _ {V : Type 0} (reading : Halt → Ending V) (setting : Setting) (l : Lay
           → (objects : List Object) (h : Heap) → Fi objects h → Fine setting l (around t) objects h
           → Grows before objects → t.world ≡ s.world → (locals : Locals) (rests : List Code)
           → Found locals number function coercion address → Has locals 0 done → AreCarried l IsHeld objects pre done
-          → Held l objects (Middle FunKind parts) coercion → IsHeld objects f function → part_at parts number ≡ Some result
+          → Held l objects (Middle FunKind parts) coercion → IsHeld objects f function
+          → part_at parts number ≡ Some result
           → ReachedIn (from t Comes 0) (More 1 0 0 3 End)
           (st (around t) 13 locals (call_function (cast first) number) rests s.waiting h)
       called t pre done long e objects h fine here grows same locals rests found has hp hc hf at_end =
@@ -262,7 +263,8 @@ module _ {V : Type 0} (reading : Halt → Ending V) (setting : Setting) (l : Lay
       ends : (t : LowState) (cs : List Coercion) → t.waiting ≡ s.waiting
           → ReachedIn (from t Comes 0) (More 2 0 0 17 End) t
           → Arrives reading setting (Way t cs []) Comes 2 17 t
-      ends t cs waits z = arrives_within reading setting (OnTheWay setting l t deep 0) (Way t cs []) Comes Comes 2 17 2 17 t
+      ends t cs waits z = arrives_within reading setting (OnTheWay setting l t deep 0) (Way t cs []) Comes Comes 2 17
+          2 17 t
           (λ x w. first_of_call setting l deep t cs [] 0 (omega arith) x w) (λ x q. q) (omega arith) (omega arith) (
             z.steps,
             (let g = z.few in omega (arith, g)),
@@ -296,7 +298,8 @@ module _ {V : Type 0} (reading : Halt → Ending V) (setting : Setting) (l : Lay
 
       one_cast : (objects : List Object) (h : Heap) → Fi objects h → (locals : Locals) (rests : List Code) (j k : ℕ)
           → k < 6 → (number ≡ k → ⊥) → (d : Coercion) → IsLow l d → (v : Merged A) (word part : ℕ)
-          → Found locals number function coercion address → locals (suc k) ≡ Some word → CarriedBy l IsHeld objects v word
+          → Found locals number function coercion address → locals (suc k) ≡ Some word
+          → CarriedBy l IsHeld objects v word
           → (hc : Held l objects (Middle FunKind parts) coercion) → slice_get hc.0 k ≡ Some part → Held l objects d part
           → (cast_value (heads k) l.types d v ≡ Stuck → ⊥)
           → Arrives reading setting (OnTheWay setting l (top locals rests (suc j) k h) deep (cast_words_of l d v))
@@ -349,7 +352,8 @@ module _ {V : Type 0} (reading : Halt → Ending V) (setting : Setting) (l : Lay
             });
           }
 
-          blames : (label : ℕ) → o ≡ Blames label → Goes w low A IsHeld still is_solid End objects s.waiting (Blames label)
+          blames : (label : ℕ) → o ≡ Blames label
+              → Goes w low A IsHeld still is_solid End objects s.waiting (Blames label)
           blames label e = λ new h' count locals2 rests2 waiting a b d2 e2 rest grows fine' ea eb ld2 le2. record {
             steps = 0;
             few = le_refl 0;
@@ -385,7 +389,8 @@ module _ {V : Type 0} (reading : Halt → Ending V) (setting : Setting) (l : Lay
               (eq_false number k other)
               (loads w objects here coercion head9 hc.0 (suc k) part found.coercion_is hc.1 at_k (omega arith) refl
               (calls w objects here (word ∷ part ∷ []) (cast_proc first)
-              (ap₂ and_more (word_other 11 part locals (suc k) (eq_false (suc k) 11 (λ e. omega (arith, e, small))) ∙ next)
+              (ap₂ and_more (word_other 11 part locals (suc k) (eq_false (suc k) 11 (λ e. omega (arith, e, small))) ∙
+              next)
               (ap (λ x. and_more x (Some [])) (word_here 11 part locals))) (w.stands 2 _ refl) refl
               (cast_behind w low A IsHeld still is_solid (heads k) End End objects h here s.waiting
               (record { count = 13; locals = l11; code = asking j (suc k); rests = Done ∷ rests }) (suc k)
@@ -412,18 +417,18 @@ module _ {V : Type 0} (reading : Halt → Ending V) (setting : Setting) (l : Lay
           → ((label : ℕ) → arguments_cast heads l.types k ds us ≡ OneBlames label → r ≡ OneBlames label)
           → Arrives reading setting (Way (top locals rests j k h) ds us) Comes (rest_cost (length us))
           (arguments_price l ds us + 3) (top locals rests j k h)
-      arguments_cast_in_turn zero k sum (d ∷ ds) [] ws many casts pre done long objects h fine grows locals rests found has
-          next hp hu hc hf some values blames = absurd (some refl)
-      arguments_cast_in_turn (suc j) k sum (d ∷ ds) [] ws many casts pre done long objects h fine grows locals rests found
+      arguments_cast_in_turn zero k sum (d ∷ ds) [] ws many casts pre done long objects h fine grows locals rests found
           has next hp hu hc hf some values blames = absurd (some refl)
-      arguments_cast_in_turn zero k sum [] (u ∷ us) ws many casts pre done long objects h fine grows locals rests found has
-          next hp hu hc hf some values blames = absurd (some refl)
-      arguments_cast_in_turn (suc j) k sum [] (u ∷ us) ws many casts pre done long objects h fine grows locals rests found
+      arguments_cast_in_turn (suc j) k sum (d ∷ ds) [] ws many casts pre done long objects h fine grows locals rests
+          found has next hp hu hc hf some values blames = absurd (some refl)
+      arguments_cast_in_turn zero k sum [] (u ∷ us) ws many casts pre done long objects h fine grows locals rests found
           has next hp hu hc hf some values blames = absurd (some refl)
+      arguments_cast_in_turn (suc j) k sum [] (u ∷ us) ws many casts pre done long objects h fine grows locals rests
+          found has next hp hu hc hf some values blames = absurd (some refl)
       arguments_cast_in_turn zero k sum (d ∷ ds) (u ∷ us) ws many casts pre done long objects h fine grows locals rests
           found has next hp hu hc hf some values blames = absurd (omega (arith, sum, many, few))
-      arguments_cast_in_turn zero k sum [] [] ws many casts pre done long objects h fine grows locals rests found has next
-          hp hu hc hf some values blames =
+      arguments_cast_in_turn zero k sum [] [] ws many casts pre done long objects h fine grows locals rests found has
+          next hp hu hc hf some values blames =
           let same : number ≡ k = omega (arith, many) in
           let t : LowState = top locals rests zero k h in
           let w = from t Comes 0 in
@@ -448,8 +453,8 @@ module _ {V : Type 0} (reading : Halt → Ending V) (setting : Setting) (l : Lay
           (from_here t objects fine) grows refl locals (Done ∷ rests) found has hp hc hf
           (subst (λ m. part_at parts m ≡ Some result) (sym same) casts))))
           (omega arith, omega arith, omega arith, let n = number_near k (omega (arith, sum)) in omega (arith, n)))
-      arguments_cast_in_turn (suc j) k sum (d ∷ ds) (u ∷ us) [] many casts pre done long objects h fine grows locals rests
-          found has next hp hu hc hf some values blames = absurd hu
+      arguments_cast_in_turn (suc j) k sum (d ∷ ds) (u ∷ us) [] many casts pre done long objects h fine grows locals
+          rests found has next hp hu hc hf some values blames = absurd hu
       arguments_cast_in_turn (suc j) k sum (d ∷ ds) (u ∷ us) (word ∷ ws) many casts pre done long objects h fine grows
           locals rests found has next hp hu hc hf some values blames =
           let t : LowState = top locals rests (suc j) k h in
