@@ -43,44 +43,48 @@ module _ {V : Type 0} (reading : Halt → Ending V) (setting : Setting) (l : Lay
       steps = 0;
       few = le_refl 0;
       cheap = omega arith;
-      reach = λ spare.
-          subst (λ y. ComesTo l setting s IsHeld objects y (st (around s) count locals (Return a) rests s.waiting
-          h'))
-          q (record {
-            new = new;
-            grows = grows;
-            fine = fine;
-            word = x;
-            carried = held;
-            source = a;
-            code = refl;
-            is = is;
-            waits = refl;
-            same = refl;
-          });
+      reach = λ spare. (
+        record { active = let p = spare.room in omega (arith, p); asked = let p = spare.left in omega (arith, p) },
+        subst (λ y. ComesTo l setting s IsHeld objects y (st (around s) count locals (Return a) rests s.waiting
+            h'))
+            q (record {
+              new = new;
+              grows = grows;
+              fine = fine;
+              word = x;
+              carried = held;
+              source = a;
+              code = refl;
+              is = is;
+              waits = refl;
+              same = refl;
+            }),
+      );
     }
     ends low objects r some frames words (Blames label) q =
         λ new h' count locals rests waiting a b d e rest grows fine is other first second. record {
           steps = 0;
           few = le_refl 0;
           cheap = omega arith;
-          reach = λ spare.
-              subst (λ y. ComesTo l setting s IsHeld objects y
-              (st (around s) count locals (Environment 3 a b d e rest) rests waiting h')) q (record {
-                new = new;
-                fine = fine;
-                a = a;
-                b = b;
-                d = d;
-                e = e;
-                rest = rest;
-                code = refl;
-                is = is;
-                other = other;
-                first = first;
-                second = second;
-                same = refl;
-              });
+          reach = λ spare. (
+            record { active = let p = spare.room in omega (arith, p); asked = let p = spare.left in omega (arith, p) },
+            subst (λ y. ComesTo l setting s IsHeld objects y
+                (st (around s) count locals (Environment 3 a b d e rest) rests waiting h')) q (record {
+                  new = new;
+                  fine = fine;
+                  a = a;
+                  b = b;
+                  d = d;
+                  e = e;
+                  rest = rest;
+                  code = refl;
+                  is = is;
+                  other = other;
+                  first = first;
+                  second = second;
+                  same = refl;
+                }),
+          );
         }
 
     pub casts : l.tallest ≤ 65534 → (objects : List Object) → Filled setting l objects (heap_of s) → (c : Coercion)

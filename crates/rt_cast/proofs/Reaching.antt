@@ -12,7 +12,7 @@ use Rattle.rt_cast.specs.Costs.{coerce_cost, compose_cost, coerce_words, compose
 use Rattle.coercion_norm.specs.Objects.{Object}
 use Rattle.coercion_norm.specs.Held.{Layout, Held, HoldsType, rows_in, height_in}
 use Rattle.rt_cast.specs.Procs.{coerce_proc, compose_proc}
-use Rattle.rt_cast.specs.States.{Filled, Fine, OnTheWay, HeldAt, IsReady, ComesToHeld, around, heap_of}
+use Rattle.rt_cast.specs.States.{Filled, Fine, OnTheWay, Within, HeldAt, IsReady, ComesToHeld, around, heap_of}
 use Rattle.rt_cast.proofs.Walks.{Walk}
 use Rattle.rt_cast.proofs.Steps.{End}
 use Rattle.rt_cast.proofs.ComposeRuns.{all_composed}
@@ -25,7 +25,7 @@ module _ {V : Type 0} (reading : Halt → Ending V) (setting : Setting) (l : Lay
       → Fine setting l (around s) objects (heap_of s)
   at_first objects filled = record { filled = filled; beyond = le_refl s.alloc; kept = λ i lt. refl }
 
-  -- the walk to a state, with so many procedures above and so many words
+  -- the walk to a state, with so many procedures above and so many words, there too
   abbrev pub walk : (LowState → Type 0) → ℕ → ℕ → Walk V
   walk Q frames words = record {
     reading = reading;
@@ -33,7 +33,7 @@ module _ {V : Type 0} (reading : Halt → Ending V) (setting : Setting) (l : Lay
     l = l;
     around = around s;
     P = OnTheWay setting l s frames words;
-    Q = Q;
+    Q = λ t. Within s frames words t × Q t;
     frames = length s.waiting + frames;
     most = s.words + words;
     calm = λ active waiting h objects fine turns few asked. record {
@@ -72,19 +72,21 @@ module _ {V : Type 0} (reading : Halt → Ending V) (setting : Setting) (l : Lay
         steps = 0;
         few = le_refl 0;
         cheap = omega arith;
-        reach = λ spare.
-            record {
-              new = new;
-              grows = grows;
-              fine = fine;
-              word = w;
-              held = held;
-              source = a;
-              code = refl;
-              is = is;
-              waits = refl;
-              same = refl;
-            };
+        reach = λ spare. (
+          record { active = let q = spare.room in omega (arith, q); asked = let q = spare.left in omega (arith, q) },
+          record {
+            new = new;
+            grows = grows;
+            fine = fine;
+            word = w;
+            held = held;
+            source = a;
+            code = refl;
+            is = is;
+            waits = refl;
+            same = refl;
+          },
+        );
       })
       in (
         z.steps,
@@ -115,19 +117,21 @@ module _ {V : Type 0} (reading : Halt → Ending V) (setting : Setting) (l : Lay
         steps = 0;
         few = le_refl 0;
         cheap = omega arith;
-        reach = λ spare.
-            record {
-              new = new;
-              grows = grows;
-              fine = fine;
-              word = w;
-              held = held;
-              source = a;
-              code = refl;
-              is = is;
-              waits = refl;
-              same = refl;
-            };
+        reach = λ spare. (
+          record { active = let q = spare.room in omega (arith, q); asked = let q = spare.left in omega (arith, q) },
+          record {
+            new = new;
+            grows = grows;
+            fine = fine;
+            word = w;
+            held = held;
+            source = a;
+            code = refl;
+            is = is;
+            waits = refl;
+            same = refl;
+          },
+        );
       })
       in (
         z.steps,

@@ -17,7 +17,7 @@ use Rattle.coercion_norm.specs.Held.{Layout, There, Held, rows_in, height_in}
 use Rattle.coercion_norm.specs.ObjectsOfRows.{header}
 use Rattle.rt_cast.specs.DynWords.{IsDyn}
 use Rattle.rt_cast.specs.WholeObjects.{IsSolid}
-use Rattle.rt_cast.specs.States.{Grows, Fine, OnTheWay, around, heap_of, entered}
+use Rattle.rt_cast.specs.States.{Grows, Fine, OnTheWay, Within, around, heap_of, entered}
 use Rattle.rt_cast.specs.MergedValues.{Merged, Base, Solid, Proxied, InDyn, Outcome, Stuck, Gives, Blames}
 
 module _ (l : Layout) where
@@ -106,5 +106,5 @@ abbrev pub ComesToOutcome : {V A : Type 0} → (Halt → Ending V) → Setting �
 ComesToOutcome reading setting l s IsHeld objects p given outcome most frames words price =
     (k : ℕ) × (k ≤ most)
     × Reaches (low_machine reading setting) (OnTheWay setting l s frames words)
-    (ComesTo l setting s IsHeld objects outcome) k (entered s p given)
+    (λ t. Within s frames words t × ComesTo l setting s IsHeld objects outcome t) k (entered s p given)
     × CostsAtMost reading setting k (entered s p given) price

@@ -114,6 +114,11 @@ pub record OnTheWay (setting : Setting) (l : Layout) (s : LowState) (frames word
   pub asked : t.words ≤ s.words + words
   pub turns : low_turns t ≤ 10
 
+-- where it ends, no more procedures are active either, and no more words were asked for
+pub record Within (s : LowState) (frames words : ℕ) (t : LowState) : Type 0 where
+  pub active : length t.waiting ≤ length s.waiting + frames
+  pub asked : t.words ≤ s.words + words
+
 -- Entered with these words the procedure comes to a return of a word that holds the coercion, within so many steps,
 -- with so many procedures active above it, for so many words and at this price, or the region is exhausted before.
 abbrev pub ComesToHeld : {V : Type 0} → (Halt → Ending V) → Setting → Layout → LowState → List Object → Proc → List ℕ
@@ -121,5 +126,5 @@ abbrev pub ComesToHeld : {V : Type 0} → (Halt → Ending V) → Setting → La
 ComesToHeld reading setting l s objects p given c most frames words price =
     (k : ℕ) × (k ≤ most)
     × Reaches (low_machine reading setting) (OnTheWay setting l s frames words)
-    (HeldAt setting l (around s) objects s.waiting c) k (entered s p given)
+    (λ t. Within s frames words t × HeldAt setting l (around s) objects s.waiting c t) k (entered s p given)
     × CostsAtMost reading setting k (entered s p given) price
