@@ -3,10 +3,11 @@ use Rattle.std.proofs.Common.{◌≡◌, ℕ, ◌+◌, ◌*◌, ◌≤◌, List,
 use Rattle.std.proofs.Common.{suc, le_refl, arith}
 use Rattle.grift_base.specs.Types.{TypeHead}
 use Rattle.run_laws.specs.Runs.{Ending, Exhausted}
+use Rattle.run_laws.proofs.Public.{reaches_weaken}
 use Rattle.rv_machine.specs.State.{Halt, Lacks, Region}
 use Rattle.low_ir.specs.Prices.{slot_price, leaving}
 use Rattle.low_ir.specs.Steps.{Locals, no_locals, set_local}
-use Rattle.low_ir.specs.Run.{Setting, Waiting, LowState, and_more, bind}
+use Rattle.low_ir.specs.Run.{Setting, Waiting, LowState, and_more, bind, low_machine}
 use Rattle.coercion_norm.specs.Coercions.{Coercion, Coercions, Id, Fail, Middle, Inject, Project}
 use Rattle.coercion_norm.specs.declared.middles.MiddleKind.TheVariants.{Fun as FunKind, Tup as TupKind}
 use Rattle.coercion_norm.specs.declared.middles.MiddleKind.TheVariants.{Ref as RefKind, Vec as VecKind}
@@ -18,21 +19,17 @@ use Rattle.rt_cast.specs.WholeObjects.{IsSolid}
 use Rattle.rt_cast.specs.Costs.{cast_cost}
 use Rattle.rt_cast.specs.LightCasts.{cast_words_of, cast_price_of}
 use Rattle.rt_cast.specs.ComposeCodes.{cast}
-use Rattle.rt_cast.specs.States.{Grows, Fine, Filled, IsReady, OnTheWay, around, heap_of, st}
+use Rattle.rt_cast.specs.States.{Grows, Fine, Filled, IsReady, OnTheWay, Within, around, heap_of, st}
 use Rattle.rt_cast.specs.MergedValues.{Merged, Proxied, Outcome, Stuck, cast_value}
 use Rattle.rt_cast.specs.Carried.{CarriedBy, AreCarried, IsLow, ComesTo}
 use Rattle.rt_cast.proofs.Public.{Walk, none_some, End, More, at_most, loads, tail_calls, ReachedIn, grows_not}
 use Rattle.rt_cast.proofs.Public.{at_first, walk, apply, ends, no_higher, by_either, low_of, decided_cast}
 use Rattle.rt_cast.specs.Procs.{cast_proc}
-use Rattle.rt_refs.specs.Arguments.{Arguments, NoArguments, arguments_cast}
 use Rattle.rt_refs.specs.Arguments.{handed}
 use Rattle.rt_refs.specs.CallCodes.{cast_arguments, unwrap_code, call_function, apply_proc}
-use Rattle.rt_refs.specs.CallLaws.{apply_cost, arguments_cost, arguments_price, apply_price, Resumes, CallComes}
-use Rattle.rt_refs.specs.CallLaws.{ComesToCall, GoesOnTo, OnTheWayOfCall}
-use Rattle.rt_refs.proofs.Arriving.{Arrives, arrives_then, arrives_within}
 use Rattle.rt_refs.proofs.Calling.{Has, word_here, word_other, casts_of}
-use Rattle.rt_refs.proofs.InTurn.{arguments_cast_in_turn, first_of_call, same_call}
-use Rattle.rt_refs.proofs.TakenWords.{AllTaken, still_taken}
+use Rattle.rt_refs.specs.CallLaws.{CastInTurn, ComesToCall, GoesOnTo, Resumes}
+use Rattle.rt_refs.proofs.InTurn.{arguments_cast_in_turn}
 
 -- no word is farther, and no procedure is left for more
 slot_low : (i : ℕ) → slot_price i ≤ 13
@@ -71,47 +68,28 @@ module _ {V : Type 0} (reading : Halt → Ending V) (setting : Setting) (l : Lay
       (wa : ℕ) → IsHeld objects f wa
       → (head : ℕ) × (rest : List ℕ) × There l objects wa (Fixed head (address ∷ rest))
 
-  abbrev many : ℕ → ℕ
-  many n = apply_cost (cast_cost l.width l.tallest) n
-
   function_called : l.tallest ≤ 65534 → (objects : List Object) → Filled setting l objects (heap_of s) → (f : A)
       (parts : Coercions) (ds : List Coercion) (e : Coercion) → split_parts parts ≡ Some (ds, e)
       → (us : List (Merged A)) (wv : ℕ) (ws : List ℕ) → CarriedBy l IsHeld objects (Proxied f (Middle FunKind parts)) wv
-      → AreCarried l IsHeld objects us ws → length us ≤ 6 → (address : ℕ) → HasAddress objects f address
-      → (r : Arguments A) → arguments_cast heads l.types 0 ds us ≡ r → (r ≡ NoArguments → ⊥)
-      → ComesToCall reading setting l first s IsHeld objects (apply_proc (cast first)) (handed wv ws) f address e ds
-      us r
-      (many (length us)) (4 * l.tallest + 7) (apply_price l ds us)
-  function_called low objects filled f parts ds e split us wv ws hv hu few address closure r is some =
-      arrives_within reading setting Way Way Q Q (3 + rest) (9 + (arguments_price l ds us + 3)) (many (length us))
-      (apply_price l ds us) t0 (λ x w. w) (λ x q. q) (omega arith) (omega arith)
-      (arrives_then reading setting (AllTaken reading setting s.words s.alloc)
-      (still_taken reading setting s.words s.alloc) Way Found Q 3 9 rest (arguments_price l ds us + 3) t0
-      (arrives_within reading setting (OnTheWay setting l s deep 0) Way Found Found 3 9 3 9 t0
-      (λ x w. first_of_call setting l deep s ds us 0 (omega arith) x w) (λ x q. q) (omega arith) (omega arith) (
-        z.steps,
-        (let g = z.few in omega (arith, g)),
-        z.reach (record { room = omega arith; left = omega arith }),
-        let c = z.cheap in omega (arith, c),
-      )) refl
-      (λ x e even. subst (λ y. Arrives reading setting Way Q rest (arguments_price l ds us + 3) y) (sym e)
-      (arrives_within reading setting (OnTheWayOfCall setting l t1 deep ds us) Way Q Q rest
-      (arguments_price l ds us + 3) rest (arguments_price l ds us + 3) t1
-      (λ y w. same_call setting l deep s t1 ds us
-      (record { beyond = le_refl s.alloc; kept = λ i lt. refl; same = refl; waits = refl }) refl refl y w)
-      (λ y q. q) (omega arith) (omega arith) in_turn)))
+      → AreCarried l IsHeld objects us ws → length us ≤ 6 → length ds ≡ length us → (address : ℕ)
+      → HasAddress objects f address
+      → ComesToCall reading setting l first s IsHeld objects heads (apply_proc (cast first)) (handed wv ws) f address e
+      ds us
+  function_called low objects filled f parts ds e split us wv ws hv hu few many address closure = (
+    z.steps,
+    (let g = z.few in omega (arith, g)),
+    reaches_weaken (low_machine reading setting) (OnTheWay setting l t0 deep 0) (λ x. Within t0 deep 0 x × Found x)
+        (OnTheWay setting l t0 deep 0) (λ x. Within t0 deep 0 x × InTurn x) (λ x w. w)
+        (λ x q. (q.0, subst InTurn (sym q.1) in_turn)) z.steps t0
+        (z.reach (record { room = omega arith; left = omega arith })),
+    let c = z.cheap in omega (arith, c),
+  )
     where
-      Q : LowState → Type 0
-      Q = CallComes l setting first s IsHeld objects f address e r
-
       deep : ℕ
       deep = 4 * l.tallest + 7
 
-      Way : LowState → Type 0
-      Way = OnTheWayOfCall setting l s deep ds us
-
-      rest : ℕ
-      rest = arguments_cost (cast_cost l.width l.tallest) (length us) + 1
+      InTurn : LowState → Type 0
+      InTurn x = CastInTurn l setting first s IsHeld objects reading heads f address e 0 ds us [] x
 
       start : Locals
       start = bind 0 (handed wv ws) no_locals
@@ -124,14 +102,13 @@ module _ {V : Type 0} (reading : Halt → Ending V) (setting : Setting) (l : Lay
 
       -- the function, the proxy's coercion and the code address are found
       t1 : LowState
-      t1 = st (around s) 13 locals1 (cast_arguments (cast first) (call_function (cast first)) 6 0) [] s.waiting
-          (heap_of s)
+      t1 = st (around s) 13 locals1 (cast_arguments (cast first) (call_function (cast first)) 6 0) [] s.waiting (heap_of s)
 
       Found : LowState → Type 0
       Found x = x ≡ t1
 
       w : Walk V
-      w = walk reading setting l first s exhausts ready Found deep 0
+      w = walk reading setting l first t0 exhausts ready Found deep 0
 
       fine : Fine setting l (around s) objects (heap_of s)
       fine = at_first reading setting l first s exhausts ready objects filled
@@ -142,33 +119,38 @@ module _ {V : Type 0} (reading : Halt → Ending V) (setting : Setting) (l : Lay
       z : ReachedIn w (More 3 0 0 9 End) t0
       z =
           let c = closure hv.0 hv.3 in
-          let last : ReachedIn w End t1 =
-          record { steps = 0; few = le_refl 0; cheap = omega arith; reach = λ spare. refl } in
+          let last : ReachedIn w End t1 = record {
+            steps = 0;
+            few = le_refl 0;
+            cheap = omega arith;
+            reach = λ spare. (
+              record { active = let q = spare.room in omega (arith, q); asked = let q = spare.left in omega (arith, q) },
+              refl,
+            );
+          } in
           at_most w
           (loads w objects fine wv (header 2 0 2) (hv.0 ∷ hv.1 ∷ []) 1 hv.0 refl hv.2 refl refl refl
           (loads w objects fine wv (header 2 0 2) (hv.0 ∷ hv.1 ∷ []) 2 hv.1 refl hv.2 refl refl refl
           (loads w objects fine hv.0 c.0 (address ∷ c.1) 1 address refl c.2 refl refl refl last)))
           (omega arith, omega arith, omega arith, omega arith)
 
-      in_turn : Arrives reading setting (OnTheWayOfCall setting l t1 deep ds us) Q rest (arguments_price l ds us + 3) t1
+      in_turn : InTurn t1
       in_turn =
           arguments_cast_in_turn reading setting l first s exhausts ready heads IsHeld still is_solid low objects f
-          address e parts hv.5 r (length ws) hv.0 hv.1 (omega (arith, few, long)) 6 0 refl ds us ws
+          address e parts hv.5 (length ws) hv.0 hv.1 (omega (arith, few, long)) 6 0 refl ds us ws
           (omega (arith, long)) (casts_of parts ds e split) [] [] refl objects (heap_of s) fine (grows_not objects)
           locals1 [] (record { number_is = refl; function_is = refl; coercion_is = refl; address_is = refl }) tt
           (found_in wv hv.0 hv.1 address ws (omega (arith, few, long))) tt hu hv.4 hv.3
-          (λ q. some (sym is ∙ q)) (λ vs q. sym is ∙ q) (λ label q. sym is ∙ q)
 
-  -- a function with a proxy: it is about to be entered, with its arguments cast, or a label is blamed
+  -- a function with a proxy: its arguments are cast, and it is about to be entered, or a label is blamed
   pub calls_through_proxies : l.tallest ≤ 65534 → (objects : List Object) → Filled setting l objects (heap_of s)
       → (f : A)
       (c : Coercion) (ds : List Coercion) (e : Coercion) → function_parts c ≡ Some (ds, e)
       → (us : List (Merged A)) (wv : ℕ) (ws : List ℕ) → CarriedBy l IsHeld objects (Proxied f c) wv
-      → AreCarried l IsHeld objects us ws → length us ≤ 6 → (address : ℕ) → HasAddress objects f address
-      → (r : Arguments A) → arguments_cast heads l.types 0 ds us ≡ r → (r ≡ NoArguments → ⊥)
-      → ComesToCall reading setting l first s IsHeld objects (apply_proc (cast first)) (handed wv ws) f address e ds
-      us r
-      (many (length us)) (4 * l.tallest + 7) (apply_price l ds us)
+      → AreCarried l IsHeld objects us ws → length us ≤ 6 → length ds ≡ length us → (address : ℕ)
+      → HasAddress objects f address
+      → ComesToCall reading setting l first s IsHeld objects heads (apply_proc (cast first)) (handed wv ws) f address e
+      ds us
   calls_through_proxies low objects filled f Id ds e split = none_some split
   calls_through_proxies low objects filled f (Fail label) ds e split = none_some split
   calls_through_proxies low objects filled f (Inject g kept) ds e split = none_some split

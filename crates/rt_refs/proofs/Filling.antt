@@ -32,7 +32,7 @@ use Rattle.coercion_norm.specs.ObjectsOfRows.{header}
 use Rattle.coercion_norm.specs.Held.{Layout}
 use Rattle.coercion_norm.proofs.Public.{bytes_append, last_stands}
 use Rattle.rt_cast.specs.Objects.{HasWord, HoldsWords}
-use Rattle.rt_cast.specs.States.{Heap, Fine, Filled, Placed, OnTheWay, around, heap_of, st}
+use Rattle.rt_cast.specs.States.{Heap, Fine, Filled, Placed, OnTheWay, Within as IsWithin, around, heap_of, st}
 use Rattle.rt_cast.specs.WholeObjects.{WholeOther}
 use Rattle.rt_cast.proofs.Public.{eq_true, eq_false, holds_append, wholes_more}
 use Rattle.rt_refs.specs.FillCodes.{fill_loop, fill_code, fill_proc, trap_length}
@@ -524,15 +524,19 @@ module _ {V : Type 0} (reading : Halt → Ending V) (setting : Setting) (l : Lay
   lengths_below_zero_trap ge fits = (
     1,
     le_refl 1,
-    by_step N P' Q' 0 t0 (Go t1) (let e = below (signed n fits) in rw (e) refl) calm (record {
-      objects = objects;
-      fine = fine_at s.memory s.words (λ j lt. refl);
-      last = _;
-      stops = refl;
-      stays = refl;
-      same = refl;
-      same_after = refl;
-    }),
+    by_step N P' Q' 0 t0 (Go t1) (let e = below (signed n fits) in rw (e) refl) calm (
+      record { active = omega arith; asked = omega arith },
+      record {
+        objects = objects;
+        fine = fine_at s.memory s.words (λ j lt. refl);
+        last = _;
+        stops = refl;
+        cheap = omega arith;
+        stays = refl;
+        same = refl;
+        same_after = refl;
+      },
+    ),
     costs_on reading setting 0 0 14 t0 t1 (let e = below (signed n fits) in rw (e) refl) (le_refl 0) (le_refl 14),
   )
     where
@@ -540,7 +544,7 @@ module _ {V : Type 0} (reading : Halt → Ending V) (setting : Setting) (l : Lay
       P' = OnTheWay setting l s 0 0
 
       Q' : LowState → Type 0
-      Q' = TrapsAt reading setting l s Length
+      Q' t = IsWithin s 0 0 t × TrapsAt reading setting l s Length t
 
       t0 : LowState
       t0 = St 6 (bind 0 (n ∷ w ∷ []) no_locals) (fill_code own) [] s.waiting (heap s.memory)

@@ -1,6 +1,4 @@
 pub mod Public
-mod TakenWords
-mod Arriving
 mod Calling
 mod InTurn
 mod Applying

@@ -20,8 +20,8 @@ use Rattle.rt_cast.specs.States.{Filled, IsReady, heap_of}
 use Rattle.rt_cast.proofs.Public.{very_still}
 use Rattle.rt_refs.specs.CallCodes.{apply_proc}
 use Rattle.rt_refs.specs.CellCodes.{read_proc, write_proc}
-use Rattle.rt_refs.specs.Arguments.{Arguments, NoArguments, arguments_cast, handed}
-use Rattle.rt_refs.specs.CallLaws.{apply_cost, apply_price, Resumes, ComesToCall, GoesOnTo}
+use Rattle.rt_refs.specs.Arguments.{handed}
+use Rattle.rt_refs.specs.CallLaws.{ComesToCall, GoesOnTo, Resumes}
 use Rattle.rt_refs.specs.CellLaws.{cell_behind, under, CellStands, CellInRegion, TrapsAt, TellsAt, WriteComes}
 use Rattle.rt_refs.specs.CellLaws.{ComesWhere, ComesWriting}
 use Rattle.rt_refs.proofs.Applying.{calls_through_proxies, answers_cast}
@@ -35,16 +35,16 @@ module _ {V : Type 0} where
       → (heads : ℕ → ℕ → TypeHead) (f : ℕ) (c : Coercion) (ds : List Coercion) (e : Coercion)
       → function_parts c ≡ Some (ds, e) → (us : List (Merged ℕ)) (wv : ℕ) (ws : List ℕ)
       → Carries l objects (Proxied f c) wv → AreCarried l (IsVery l) objects us ws → length us ≤ 6
-      → (head address : ℕ) (rest : List ℕ) → There l objects f (Fixed head (address ∷ rest)) → (r : Arguments ℕ)
-      → arguments_cast heads l.types 0 ds us ≡ r → (r ≡ NoArguments → ⊥)
-      → ComesToCall reading setting l first s (IsVery l) objects (apply_proc (cast first)) (handed wv ws) f address e
-      ds us r (apply_cost (cast_cost l.width l.tallest) (length us)) (4 * l.tallest + 7) (apply_price l ds us)
+      → length ds ≡ length us → (head address : ℕ) (rest : List ℕ)
+      → There l objects f (Fixed head (address ∷ rest))
+      → ComesToCall reading setting l first s (IsVery l) objects heads (apply_proc (cast first)) (handed wv ws) f
+      address e ds us
   calls_are_made reading setting l first s exhausts ready low objects filled heads f c ds e split us wv ws hv hu few
-      head address rest there r is some =
+      many head address rest there =
       calls_through_proxies reading setting l first s exhausts ready heads (IsVery l)
       (λ old new g a w h. very_still reading setting l first s exhausts ready old new g a w h) (λ os a w h. h.solid)
-      low objects filled f c ds e split us wv ws hv hu few address
-      (λ wa h. (head, rest, subst (λ n. There l objects n (Fixed head (address ∷ rest))) (sym h.is) there)) r is some
+      low objects filled f c ds e split us wv ws hv hu few many address
+      (λ wa h. (head, rest, subst (λ n. There l objects n (Fixed head (address ∷ rest))) (sym h.is) there))
 
   pub answers_are_cast : (reading : Halt → Ending V) (setting : Setting) (l : Layout) (first : ℕ) (s : LowState)
       → reading (Lacks Region) ≡ Exhausted → IsReady setting l first → l.tallest ≤ MOST_HEIGHT

@@ -144,15 +144,19 @@ module _ {V : Type 0} (reading : Halt → Ending V) (setting : Setting) (l : Lay
             steps = 0;
             few = le_refl 0;
             cheap = omega arith;
-            reach = λ spare. record {
-              objects = objects;
-              fine = fine;
-              last = _;
-              stops = refl;
-              stays = refl;
-              same = refl;
-              same_after = refl;
-            };
+            reach = λ spare. (
+              record { active = let p = spare.room in omega (arith, p); asked = let p = spare.left in omega (arith, p) },
+              record {
+                objects = objects;
+                fine = fine;
+                last = _;
+                stops = refl;
+                cheap = omega arith;
+                stays = refl;
+                same = refl;
+                same_after = refl;
+              },
+            );
           } in
           at_most v
           (if_false v objects fine i (length ws) e2 e4 (lt_false i (length ws) outside) (last _))
@@ -184,8 +188,10 @@ module _ {V : Type 0} (reading : Halt → Ending V) (setting : Setting) (l : Lay
         steps = 0;
         few = le_refl 0;
         cheap = omega arith;
-        reach = λ spare.
-            record { fine = fine_here; source = Word 4; code = refl; is = refl; waits = refl; same = refl };
+        reach = λ spare. (
+          record { active = let p = spare.room in omega (arith, p); asked = let p = spare.left in omega (arith, p) },
+          record { fine = fine_here; source = Word 4; code = refl; is = refl; waits = refl; same = refl },
+        );
       } in
       at_most q
       (computes q objects fine_here head0 32 (length ws) e4 refl

@@ -20,7 +20,7 @@ use Rattle.rt_cast.specs.Costs.{cast_cost}
 use Rattle.rt_cast.specs.LightCasts.{cast_words_of, cast_price_of}
 use Rattle.rt_cast.specs.ComposeCodes.{cast}
 use Rattle.rt_cast.specs.Procs.{cast_proc}
-use Rattle.rt_cast.specs.States.{Grows, Heap, Fine, Filled, IsReady, around, heap_of, st}
+use Rattle.rt_cast.specs.States.{Grows, Heap, Fine, Filled, IsReady, Within, around, heap_of, st}
 use Rattle.rt_cast.specs.MergedValues.{Merged, Outcome, Stuck, Gives, Blames, cast_value}
 use Rattle.rt_cast.specs.Carried.{CarriedBy}
 use Rattle.rt_cast.proofs.Public.{Walk, lt_true, lt_false, End, More, at_most, computes, if_true, if_false, calls}
@@ -69,7 +69,7 @@ module _ {V : Type 0} (reading : Halt → Ending V) (setting : Setting) (l : Lay
     l = l;
     around = around s;
     P = OnTheWayWriting setting l s (4 * l.tallest + 7) asks;
-    Q = Q;
+    Q = λ t. Within s (4 * l.tallest + 7) asks t × Q t;
     frames = length s.waiting + (4 * l.tallest + 7);
     most = s.words + asks;
     calm = λ active waiting h objects fine turns few asked. record {
@@ -128,25 +128,27 @@ module _ {V : Type 0} (reading : Halt → Ending V) (setting : Setting) (l : Lay
       steps = 0;
       few = le_refl 0;
       cheap = omega arith;
-      reach = λ spare.
-          subst (λ z. WriteComes setting l s IsHeld objects a i z
-          (st (around s) 6 locals (Return (Number 0)) rests s.waiting after)) (sym q) (record {
-            new = new;
-            grows = grows;
-            filled = filled_after;
-            before = h';
-            fine = fine';
-            cell = wa;
-            held = ha;
-            word = word';
-            carried = hy;
-            memory = refl;
-            source = Number 0;
-            code = refl;
-            is = refl;
-            waits = refl;
-            same = refl;
-          });
+      reach = λ spare. (
+        record { active = let p = spare.room in omega (arith, p); asked = let p = spare.left in omega (arith, p) },
+        subst (λ z. WriteComes setting l s IsHeld objects a i z
+            (st (around s) 6 locals (Return (Number 0)) rests s.waiting after)) (sym q) (record {
+              new = new;
+              grows = grows;
+              filled = filled_after;
+              before = h';
+              fine = fine';
+              cell = wa;
+              held = ha;
+              word = word';
+              carried = hy;
+              memory = refl;
+              source = Number 0;
+              code = refl;
+              is = refl;
+              waits = refl;
+              same = refl;
+            }),
+      );
     }
 
     stored : (locals : Locals) (rests : List Code) → locals 1 ≡ Some wa → locals 2 ≡ Some i → locals 3 ≡ Some word'
@@ -199,23 +201,25 @@ module _ {V : Type 0} (reading : Halt → Ending V) (setting : Setting) (l : Lay
       steps = 0;
       few = le_refl 0;
       cheap = omega arith;
-      reach = λ spare.
-          subst (λ y. WriteComes setting l s IsHeld objects a i y
-          (st (around s) count locals (Environment 3 aa b dd e' rest) rests waiting h')) (sym q) (record {
-            new = new;
-            fine = fine';
-            a = aa;
-            b = b;
-            d = dd;
-            e = e';
-            rest = rest;
-            code = refl;
-            is = ea;
-            other = eb;
-            first = ld;
-            second = le;
-            same = refl;
-          });
+      reach = λ spare. (
+        record { active = let p = spare.room in omega (arith, p); asked = let p = spare.left in omega (arith, p) },
+        subst (λ y. WriteComes setting l s IsHeld objects a i y
+            (st (around s) count locals (Environment 3 aa b dd e' rest) rests waiting h')) (sym q) (record {
+              new = new;
+              fine = fine';
+              a = aa;
+              b = b;
+              d = dd;
+              e = e';
+              rest = rest;
+              code = refl;
+              is = ea;
+              other = eb;
+              first = ld;
+              second = le;
+              same = refl;
+            }),
+      );
     }
 
     -- an index is one of the cell's where there is something to store
@@ -347,15 +351,19 @@ module _ {V : Type 0} (reading : Halt → Ending V) (setting : Setting) (l : Lay
             steps = 0;
             few = le_refl 0;
             cheap = omega arith;
-            reach = λ spare. record {
-              objects = objects;
-              fine = fine_here;
-              last = _;
-              stops = refl;
-              stays = refl;
-              same = refl;
-              same_after = refl;
-            };
+            reach = λ spare. (
+              record { active = let p = spare.room in omega (arith, p); asked = let p = spare.left in omega (arith, p) },
+              record {
+                objects = objects;
+                fine = fine_here;
+                last = _;
+                stops = refl;
+                cheap = omega arith;
+                stays = refl;
+                same = refl;
+                same_after = refl;
+              },
+            );
           } in
           at_most v
           (if_false v objects fine_here i (length ws) e2 e4 (lt_false i (length ws) outside) (last _))
