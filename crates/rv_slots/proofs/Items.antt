@@ -15,8 +15,9 @@ use Rattle.rv_machine.specs.Turn.{add, act_with}
 use Rattle.rv_machine.specs.Real.{address_from, mark_address, holds}
 use Rattle.rv_machine.proofs.Public.{Program, At, HasItem, at_small, at_aligned, behind_mark, mark_at}
 use Rattle.rv_machine.proofs.Public.{drop_next}
-use Rattle.rv_machine.proofs.Public.{Comes, ComesOn, op, jump, falls_through, is_taken, puts_address, jumps_to}
-use Rattle.rv_slots.proofs.PutWords.{OnlyIn, word_turns, puts_word}
+use Rattle.rv_select.specs.Prices.{number_price}
+use Rattle.rv_slots.proofs.Paying.{Comes, ComesOn, op, jump, falls_through, is_taken, puts_address, jumps_to}
+use Rattle.rv_slots.proofs.PutWords.{OnlyIn, puts_word}
 use Rattle.rv_slots.specs.Slots.{word_items}
 
 items_some : (xs : List RealItem) → HasItem xs → 0 < length xs
@@ -102,26 +103,26 @@ module _ {V : Type 0} (program : Program V) where
         → Stands s.pc (Jump rd mark ∷ xs) → HasItem xs
         → mark_address program.setting.address program.code mark ≡ Some target → P s
         → ((pc : ℕ) → Stands pc xs → Then most (record s { regs = set_reg rd pc s.regs; pc = target }))
-        → ThenOn (suc most) s
+        → ThenOn (10 + most) s
     jumps s target c h there p go =
         jump program P Q target (as_at s c) h there p (λ pc at. go pc (as_stands (at (record s { pc = pc }) refl)))
 
     pub goes_past : {most : ℕ} (s : State) {cond : Cond} {a b mark : ℕ} {xs : List RealItem}
         → Stands s.pc (Branch cond a b mark ∷ xs) → HasItem xs → holds cond (reg s a) (reg s b) ≡ false → P s
-        → ((pc : ℕ) → Stands pc xs → Then most (record s { pc = pc })) → ThenOn (suc most) s
+        → ((pc : ℕ) → Stands pc xs → Then most (record s { pc = pc })) → ThenOn (11 + most) s
     goes_past s c h test p go = falls_through program P Q (as_at s c) h test p (λ pc at. go pc (as_stands at))
 
     pub taken : {most : ℕ} (s : State) {cond : Cond} {a b mark : ℕ} {xs : List RealItem} (target : ℕ)
         → Stands s.pc (Branch cond a b mark ∷ xs) → holds cond (reg s a) (reg s b) ≡ true
         → mark_address program.setting.address program.code mark ≡ Some target → P s
-        → Then most (record s { pc = target }) → ThenOn (suc most) s
+        → Then most (record s { pc = target }) → ThenOn (11 + most) s
     taken s target c test there p go = is_taken program P Q target (as_at s c) test there p go
 
     pub addresses : {most : ℕ} (s : State) {rd mark : ℕ} {xs : List RealItem} (target : ℕ)
         → Stands s.pc (Address rd mark ∷ xs) → HasItem xs
         → mark_address program.setting.address program.code mark ≡ Some target → P s
         → ((pc : ℕ) → Stands pc xs → Then most (record s { regs = set_reg rd target s.regs; pc = pc }))
-        → ThenOn (suc most) s
+        → ThenOn (10 + most) s
     addresses s target c h there p go =
         puts_address program P Q target (as_at s c) h there p (λ pc at. go pc (as_stands at))
 
@@ -139,7 +140,7 @@ module _ {V : Type 0} (program : Program V) where
         → ((regs : Registers) (pc : ℕ) → OnlyIn rd regs s.regs → P (record s { regs = regs; pc = pc }))
         → ((regs : Registers) (pc : ℕ) → get_reg regs rd ≡ word → OnlyIn rd regs s.regs → Stands pc xs
         → Then most (record s { regs = regs; pc = pc }))
-        → Stands s.pc (word_items rd word ++ xs) → ThenOn (word_turns + most) s
+        → Stands s.pc (word_items rd word ++ xs) → ThenOn (number_price word + most) s
     words s rd word xs some small h p go c =
         puts_word program P Q s rd word xs some small h p (λ regs pc v only at. go regs pc v only (as_stands at))
         (as_at s c)

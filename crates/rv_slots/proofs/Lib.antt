@@ -1,14 +1,17 @@
 pub mod Public
 mod Halves
+mod Paying
 mod PutWords
 mod Items
 mod Frames
+mod SlotPrices
 mod SlotWords
 mod SlotItems
 mod SlotMarks
 mod SlotCalls
 mod SlotReturns
 mod SlotSteps
+mod Stopping
 mod SlotDistinct
 mod SlotConditions
 mod InStack

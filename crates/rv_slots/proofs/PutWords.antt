@@ -1,5 +1,5 @@
 -- A word is put into a register, eleven bits at a time.
-use Rattle.std.proofs.Common.{ℕ, zero, suc, ◌+◌, ◌*◌, ◌/◌, ◌%◌, ◌^◌, ◌<◌, ◌≡◌, Bool, true, false, List, [], ◌∷◌}
+use Rattle.std.proofs.Common.{ℕ, zero, suc, ◌+◌, ◌*◌, ◌/◌, ◌%◌, ◌^◌, ◌<◌, ◌≤◌, ◌≡◌, Bool, true, false, List, [], ◌∷◌}
 use Rattle.std.proofs.Common.{◌++◌, refl, sym, ◌∙◌, ap, arith}
 use Rattle.std.proofs.Math.Nat.{div-div-eq-div-mul}
 use Rattle.std.proofs.lemmas.Nat.{pow-add}
@@ -10,10 +10,11 @@ use Rattle.rv_isa.specs.declared.real.RealItem.TheVariants.{Op}
 use Rattle.rv_machine.specs.Registers.{Registers, get_reg, set_reg}
 use Rattle.rv_machine.specs.State.{State}
 use Rattle.rv_machine.specs.Turn.{plus, put, shift_left, half}
-use Rattle.rv_machine.proofs.Public.{Program, At, HasItem, has_item-append, Comes, ComesOn, comes_there}
-use Rattle.rv_machine.proofs.Public.{comes_on_later, op}
+use Rattle.rv_machine.proofs.Public.{Program, At, HasItem, has_item-append}
+use Rattle.rv_select.specs.Prices.{number_price}
 use Rattle.rv_slots.specs.Slots.{word_items, long_items, chunk_items, chunk_of, is_half, upper_of, lower_of}
 use Rattle.rv_slots.proofs.Halves.{two_make}
+use Rattle.rv_slots.proofs.Paying.{Comes, ComesOn, comes_there, comes_later, comes_on_later, op}
 
 -- the next eleven bits are added
 chunk_more : (y : ℕ) → y < 2 ^ 64 → (shift_left (y / 2048) 11 + y % 2048) % 2 ^ 64 ≡ y
@@ -40,9 +41,12 @@ set_there r q word regs h = rw h refl
 abbrev pub OnlyIn : ℕ → Registers → Registers → Type 0
 OnlyIn r regs old = (q : ℕ) → (q == r) ≡ false → regs q ≡ old q
 
--- the most turns in which a word is put
-abbrev pub word_turns : ℕ
-word_turns = 11
+pub number_most : (word : ℕ) → number_price word ≤ 11
+number_most word = pick (nat_lt word 2048)
+  where
+    pick : (c : Bool) → (if c then 1 else 11) ≤ 11
+    pick true = omega arith
+    pick false = omega arith
 
 module _ {V : Type 0} (program : Program V) (P Q : State → Type 0) where
   -- the word is put, whatever comes behind
@@ -57,9 +61,7 @@ module _ {V : Type 0} (program : Program V) (P Q : State → Type 0) where
           → Comes program P Q (2 * k + most) (record s { regs = regs; pc = pc })
       chunks zero regs pc same v c =
           let whole : word / 2 ^ (11 * 0) ≡ word = omega arith in
-          let reached = go regs pc (v ∙ whole) same c in
-          let few = reached.few in
-          record { steps = reached.steps; few = omega arith; reaches = reached.reaches }
+          comes_later program P Q (2 * 0 + most) (omega arith) (go regs pc (v ∙ whole) same c)
       chunks (suc k) regs pc same v c =
           let y : ℕ = word / 2 ^ (11 * k) in
           let below : y < 2 ^ 64 = quotient_fits word (2 ^ (11 * k)) small in
@@ -67,7 +69,8 @@ module _ {V : Type 0} (program : Program V) (P Q : State → Type 0) where
           let regs1 : Registers = set_reg rd high regs in
           let regs2 : Registers = set_reg rd y regs1 in
           let here : State = record s { regs = regs; pc = pc } in
-          let reached = comes_there program P Q (op program P Q regs1 s.memory c tt
+          comes_later program P Q (2 * suc k + most) (omega arith) (comes_there program P Q (
+          op program P Q regs1 s.memory c tt
           (λ ecall ebreak q. ap (λ z. put rd (shift_left z 11) (record here { pc = q })) (v ∙ higher word k))
           (p regs pc same) (λ pc1 c1.
           let next : State = record s { regs = regs1; pc = pc1 } in
@@ -77,18 +80,16 @@ module _ {V : Type 0} (program : Program V) (P Q : State → Type 0) where
           ∙ ap (λ z. put rd z (record next { pc = q })) (chunk_more y below))
           (p regs1 pc1 (λ q m. set_there rd q high regs m ∙ same q m)) (λ pc2 c2.
           chunks k regs2 pc2 (λ q m. set_there rd q y regs1 m ∙ (set_there rd q high regs m ∙ same q m))
-          (set_here rd y regs1 some) c2)))) in
-          let few = reached.few in
-          record { steps = reached.steps; few = omega arith; reaches = reached.reaches }
+          (set_here rd y regs1 some) c2)))))
 
       in_two : is_half word ≡ true
           → At program s ((Op (Lui rd (upper_of word)) ∷ Op (Addiw rd rd (lower_of word)) ∷ []) ++ xs)
-          → ComesOn program P Q (word_turns + most) s
+          → ComesOn program P Q (11 + most) s
       in_two e c =
           let high : ℕ = half (upper_of word * 2 ^ 12) in
           let regs1 : Registers = set_reg rd high s.regs in
           let regs2 : Registers = set_reg rd word regs1 in
-          comes_on_later program P Q (word_turns + most) (omega arith) (
+          comes_on_later program P Q (11 + most) (omega arith) (
           op program P Q regs1 s.memory c tt (λ ecall ebreak q. refl) (p s.regs s.pc (λ q m. refl)) (λ pc1 c1.
           let next : State = record s { regs = regs1; pc = pc1 } in
           comes_there program P Q (op program P Q regs2 s.memory c1 h
@@ -102,26 +103,26 @@ module _ {V : Type 0} (program : Program V) (P Q : State → Type 0) where
       in_long : (two : Bool) → is_half word ≡ two
           → At program s ((if two then Op (Lui rd (upper_of word)) ∷ Op (Addiw rd rd (lower_of word)) ∷ []
           else Op (Addi rd 0 (pos (chunk_of word 5))) ∷ chunk_items rd word 5) ++ xs)
-          → ComesOn program P Q (word_turns + most) s
+          → ComesOn program P Q (11 + most) s
       in_long true e c = in_two e c
       in_long false e c =
           let y : ℕ = word / 2 ^ (11 * 5) in
           let first : (0 + chunk_of word 5) % 2 ^ 64 ≡ y = omega arith in
-          comes_on_later program P Q (word_turns + most) (omega arith) (
+          comes_on_later program P Q (11 + most) (omega arith) (
           op program P Q (set_reg rd y s.regs) s.memory c (has_item-append (chunk_items rd word 5) xs h)
           (λ ecall ebreak q. ap (λ z. put rd z (record s { pc = q })) first) (p s.regs s.pc (λ q m. refl)) (λ pc c1.
           chunks 5 (set_reg rd y s.regs) pc (λ q m. set_there rd q y s.regs m) (set_here rd y s.regs some) c1))
 
       in_form : (short : Bool) → nat_lt word 2048 ≡ short
           → At program s ((if short then Op (Addi rd 0 (pos word)) ∷ [] else long_items rd word) ++ xs)
-          → ComesOn program P Q (word_turns + most) s
+          → ComesOn program P Q ((if short then 1 else 11) + most) s
       in_form true e c =
           let fits : (0 + word) % 2 ^ 64 ≡ word = omega arith in
-          comes_on_later program P Q (word_turns + most) (omega arith) (
+          comes_on_later program P Q (1 + most) (omega arith) (
           op program P Q (set_reg rd word s.regs) s.memory c h
           (λ ecall ebreak q. ap (λ z. put rd z (record s { pc = q })) fits) (p s.regs s.pc (λ q m. refl)) (λ pc c1.
           go (set_reg rd word s.regs) pc (set_here rd word s.regs some) (λ q m. set_there rd q word s.regs m) c1))
       in_form false e c = in_long (is_half word) refl c
 
-      pub puts_word : At program s (word_items rd word ++ xs) → ComesOn program P Q (word_turns + most) s
+      pub puts_word : At program s (word_items rd word ++ xs) → ComesOn program P Q (number_price word + most) s
       puts_word c = in_form (nat_lt word 2048) refl c

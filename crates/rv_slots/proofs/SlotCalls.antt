@@ -1,11 +1,12 @@
 -- Calls, tail calls and returns: a frame is made where it fits into the stack, and given up.
-use Rattle.std.proofs.Common.{ℕ, suc, ◌+◌, ◌-◌, ◌*◌, ◌%◌, ◌^◌, ◌<◌, ◌≤◌, ◌≡◌, inl, inr, Bool, true, false, List, []}
-use Rattle.std.proofs.Common.{◌∷◌}
-use Rattle.std.proofs.Common.{◌++◌, Some, refl, sym, ◌∙◌, ap, subst, arith}
+use Rattle.std.proofs.Common.{ℕ, suc, ◌+◌, ◌-◌, ◌*◌, ◌%◌, ◌^◌, ◌<◌, ◌≤◌, ◌≡◌, ◌⊎◌, inl, inr, Bool, true, false}
+use Rattle.std.proofs.Common.{List, [], ◌∷◌, ◌++◌, Some, refl, sym, ◌∙◌, ap, subst, arith}
 use Rattle.std.specs.Prelude.{◌==◌, nat_lt, nat_le, if◌then◌else◌, length, slice_get, pos}
 use Rattle.grift_base.specs.EnvironmentCall.{environment_call}
-use Rattle.run_laws.specs.Runs.{Ending, Verdict, Exhausted, Wrong, Any}
-use Rattle.run_laws.specs.Machines.{Go, Stop, StopsAt, UnlessWrong}
+use Rattle.run_laws.specs.Runs.{Ending, Verdict, Exhausted, Wrong}
+use Rattle.run_laws.specs.Machines.{Go, Stop, Alike, UnlessWrong}
+use Rattle.run_laws.specs.Meters.{metered, unspent}
+use Rattle.run_laws.proofs.Public.{reaches_weaken}
 use Rattle.rv_isa.specs.declared.inst.Inst.TheVariants.{Sd, Addi, Jalr, Ecall, Ebreak, Sub as SubInst}
 use Rattle.rv_isa.specs.declared.inst.Cond.TheVariants.{Ltu}
 use Rattle.rv_isa.specs.declared.real.RealItem.{RealItem}
@@ -15,26 +16,29 @@ use Rattle.rv_machine.specs.Registers.{Registers, get_reg, set_reg}
 use Rattle.rv_machine.specs.State.{State, Lacks, Stack, Turn, Stops}
 use Rattle.rv_machine.specs.Turn.{put, comes_to, call_environment}
 use Rattle.rv_machine.proofs.Public.{load_stored, stored_outside, has_item-append, call_stops}
-use Rattle.rv_machine.proofs.Public.{comes_there, is_there, comes_on_later}
+use Rattle.low_ir.specs.Prices.{entering}
 use Rattle.low_ir.specs.Steps.{no_locals}
 use Rattle.rv_select.specs.declared.code.VReg.{VReg}
 use Rattle.rv_select.specs.declared.code.VirtualItem.TheVariants.{CodeOf, Call, CallAt}
 use Rattle.rv_select.specs.Run.{Found, VirtualState, may_read, only_args, value}
-use Rattle.rv_select.specs.Run.{procedure_from, procedure_at, item_step}
+use Rattle.rv_select.specs.Run.{procedure_from, procedure_at}
+use Rattle.rv_select.specs.Prices.{register_price, number_price, entering_found}
 use Rattle.rv_slots.specs.Slots.{register_for, fetch_items, save_items, word_items}
 use Rattle.rv_slots.specs.Slots.{expand_all, final_items}
 use Rattle.rv_select.specs.Stacks.{frame_size, stack_of}
-use Rattle.rv_select.proofs.Public.{DoesWithin}
+use Rattle.rv_slots.proofs.Paying.{cost, cost_is, comes_there, is_there, comes_on_later}
 use Rattle.rv_slots.proofs.PutWords.{OnlyIn}
 use Rattle.rv_slots.proofs.Items.{Then, ThenOn, as_at, regrouped, stands_small, stands_aligned, mark_stands}
 use Rattle.rv_slots.proofs.Items.{does, jumps, goes_past, taken, addresses, lands, words}
 use Rattle.rv_slots.proofs.Frames.{Slotting, none_is, readable_low, low_reg, other_get, get_only, scratch_same}
-use Rattle.rv_slots.proofs.Frames.{set_fits, fits_only, stored_fits, program, virtual_setting, M, N, Stand, rest_of}
+use Rattle.rv_slots.proofs.Frames.{set_fits, fits_only, stored_fits, program, M, N, Stand, rest_of}
 use Rattle.rv_slots.proofs.Frames.{has_rest, HasHome, Stacked, stack_is, stack_high, stack_same, Body, On}
 use Rattle.rv_slots.proofs.Frames.{Same, Seen, seen_of, seen_still, as_alike, Way, way_first, way_second}
 use Rattle.rv_slots.proofs.Frames.{body_scratch}
+use Rattle.rv_slots.proofs.SlotPrices.{made_for, entering_most}
 use Rattle.rv_slots.proofs.SlotWords.{wrote, stores, fetch, saved}
-use Rattle.rv_slots.proofs.SlotItems.{item_turns, code_of, size, room, Sim, sim_given, sim_puts}
+use Rattle.rv_slots.proofs.SlotItems.{code_of, room, DoesFor, SimItem}
+use Rattle.rv_slots.proofs.SlotItems.{reached_for, sim_given, sim_puts}
 use Rattle.rv_slots.proofs.SlotMarks.{beyond, drop_beyond, frame_items, enter_items, Begins}
 use Rattle.rv_slots.proofs.SlotMarks.{found_number, found_address, told_address, begins_at}
 
@@ -59,28 +63,28 @@ lacks_stack s h =
     ap (λ n. call_with n (get_reg s.regs 10) (get_reg s.regs 11) s) h
     ∙ sixth_stops (get_reg s.regs 10) (get_reg s.regs 11) s
 
--- the most turns in which a procedure is entered
-abbrev pub enter_turns : ℕ
-enter_turns = 15
-
--- those in which a frame is given up
-abbrev pub leave_turns : ℕ
-leave_turns = 13
+-- the price of a procedure's entry up to where its stop for want of stack is next
+abbrev pub entry_price : ℕ → ℕ
+entry_price count = number_price (frame_size count) + 13
 
 aligned_below : (x n : ℕ) → x % 8 ≡ 0 → 8 * n ≤ x → (x - 8 * n) % 8 ≡ 0
 aligned_below x n e k = omega arith
 
 module _ {V : Type 0} (w : Slotting V) where
-  -- the run lacks stack where the virtual run does
-  abbrev pub Out : VirtualState → State → Type 0
-  Out t s = StopsAt (Same w) Any (M w) (N w) t t (w.reading (Lacks Stack)) s
+  -- the machine's next step stops for want of stack, as fewer bytes are left than the frame of a procedure has
+  pub record Out (t : VirtualState) (f : Found) (s : State) : Type 0 where
+    pub alike : Alike (Same w) (M w) (N w) t s
+    pub step : (N w).step s ≡ Stop (w.reading (Lacks Stack)) s
+    pub one : cost (program w) s ≡ 1
+    pub left : s.regs 2 < s.regs 25 + frame_size f.count
+    pub world : s.world ≡ t.world
 
   -- the code behind the last procedure
-  no_room : (t : VirtualState) (s : State) → Seen w t s
+  no_room : (t : VirtualState) (f : Found) (s : State) → Seen w t s → s.regs 2 < s.regs 25 + frame_size f.count
       → Stand w s.pc (Op (Addi 17 0 (pos 6)) ∷ Op Ecall ∷ Op Ebreak ∷ [])
-      → ThenOn (program w) (Way w t t) (Out t) 1 s
-  no_room t s seen c =
-      does (program w) (Way w t t) (Out t) s (set_reg 17 6 s.regs) s.memory c tt (λ ecall ebreak pc. refl)
+      → ThenOn (program w) (Way w t t) (Out t f) 1 s
+  no_room t f s seen left c =
+      does (program w) (Way w t t) (Out t f) s (set_reg 17 6 s.regs) s.memory c tt (λ ecall ebreak pc. refl)
       (way_first w t t s seen) (λ n c1.
       let s1 : State = record s { regs = set_reg 17 6 s.regs; pc = n } in
       let seen1 : Seen w t s1 = record {
@@ -96,7 +100,13 @@ module _ {V : Type 0} (w : Slotting V) where
       let at = as_at (program w) s1 c1 in
       let stops = call_stops (program w) (Lacks Stack) at tt (λ pc.
       w.calls at.place (record s1 { pc = pc }) ∙ lacks_stack (record s1 { pc = pc }) refl) in
-      is_there (program w) (Way w t t) (Out t) (way_first w t t s1 seen1, (s1, stops, as_alike w t s1 seen1, tt)))
+      is_there (program w) (Way w t t) (Out t f) (record {
+        alike = as_alike w t s1 seen1;
+        step = stops;
+        one = cost_is (program w) at refl;
+        left = left;
+        world = seen1.world;
+      }))
 
   -- ---- a procedure is entered
 
@@ -110,12 +120,12 @@ module _ {V : Type 0} (w : Slotting V) where
 
   -- from where the procedure begins, the link in x1, the machine comes to where Q holds, in steps between two states;
   -- the first is where the step began, and u what is left of it
-  abbrev pub Enters : VirtualState → VirtualState → ℕ → Found → VirtualState → (State → Type 0) → Type 0
-  Enters t u back f t1 Q =
+  abbrev pub Enters : ℕ → VirtualState → VirtualState → ℕ → Found → VirtualState → (State → Type 0) → Type 0
+  Enters most t u back f t1 Q =
       (s : State) → Seen w t s → Body w u s → HasHome w u.active.found
       → Stand w (s.regs 1) (rest_of w u.active.found back)
       → Stand w s.pc (enter_items w f.count ++ rest_of w f f.home)
-      → ThenOn (program w) (Way w t t1) Q enter_turns s
+      → ThenOn (program w) (Way w t t1) Q most s
 
   -- the code where the stack lacks room, or where the frame is made, behind the test
   abbrev AfterTest : Bool → ℕ → List RealItem → Type 0
@@ -128,7 +138,7 @@ module _ {V : Type 0} (w : Slotting V) where
       → Stand w s.pc (frame_items w ++ rest)
       → ((pc : ℕ) → AfterTest lacks pc rest
       → Then (program w) (Way w t t1) Q most (record s { regs = set_reg 29 (s.regs 2 - w.top) s.regs; pc = pc }))
-      → ThenOn (program w) (Way w t t1) Q (suc (suc most)) s
+      → ThenOn (program w) (Way w t t1) Q (suc (11 + most)) s
   stack_test {most} t t1 u Q s need rest lacks seen b size28 test c go =
       does (program w) (Way w t t1) Q s regs2 s.memory c tt
       (λ ecall ebreak pc. ap (λ z. put 29 z (record s { pc = pc })) free_word) (way_first w t t1 s seen) (λ n2 c2.
@@ -167,7 +177,7 @@ module _ {V : Type 0} (w : Slotting V) where
           → (c : Bool) → nat_lt free need ≡ c
           → ((pc : ℕ) → AfterTest c pc rest
           → Then (program w) (Way w t t1) Q most (record s { regs = regs2; pc = pc }))
-          → ThenOn (program w) (Way w t t1) Q (suc most) (record s { regs = regs2; pc = n2 })
+          → ThenOn (program w) (Way w t t1) Q (11 + most) (record s { regs = regs2; pc = n2 })
       tested n2 c2 true h next =
           let s2 : State = record s { regs = regs2; pc = n2 } in
           let last : List RealItem = Op (Addi 17 0 (pos 6)) ∷ Op Ecall ∷ Op Ebreak ∷ [] in
@@ -307,9 +317,10 @@ module _ {V : Type 0} (w : Slotting V) where
       → Stand w (s.regs 1) (rest_of w u.active.found back)
       → Stand w s.pc (enter_items w f.count ++ rest_of w f f.home)
       → ((s2 : State) → Seen w t s2 → Body w u s2 → Stand w (s2.regs 1) (rest_of w u.active.found back)
-      → get_reg s2.regs 28 ≡ frame_size f.count → s2.regs 2 ≡ s.regs 2 → AfterTest lacks s2.pc (rest_of w f f.home)
+      → get_reg s2.regs 28 ≡ frame_size f.count → s2.regs 2 ≡ s.regs 2
+      → s2.regs 25 ≡ s.regs 25 → AfterTest lacks s2.pc (rest_of w f f.home)
       → Then (program w) (Way w t t1) Q most s2)
-      → ThenOn (program w) (Way w t t1) Q (11 + suc (suc most)) s
+      → ThenOn (program w) (Way w t t1) Q (number_price (frame_size f.count) + suc (11 + most)) s
   enters_by {most} t t1 u Q k back f lacks begins s seen b test link c go =
       words (program w) (Way w t t1) Q s 28 need (frame_items w ++ rest) refl small tt
       (λ regs pc only. way_first w t t1 (record s { regs = regs; pc = pc }) (seen28 regs pc only))
@@ -330,7 +341,7 @@ module _ {V : Type 0} (w : Slotting V) where
       let b2 : Body w u s2 = body_scratch w u s1 (set_reg 29 free regs) n2 b1
       (λ q m. scratch_same 29 free q regs (omega arith) m) refl (set_fits 29 free regs small2 b1.fits) in
       go s2 seen2 b2 (subst (λ x. Stand w x (rest_of w u.active.found back)) (sym (only 1 refl)) link) e1 (only 2 refl)
-      c2))) (regrouped (program w) (word_items 28 need) (frame_items w) rest c)
+      (only 25 refl) c2))) (regrouped (program w) (word_items 28 need) (frame_items w) rest c)
     where
       need : ℕ
       need = frame_size f.count
@@ -349,7 +360,7 @@ module _ {V : Type 0} (w : Slotting V) where
   HasRoom c f u = nat_le (frame_size f.count + stack_of u.active.found u.frames) (room w) ≡ c
 
   enters_fit : (t u : VirtualState) (k n back : ℕ) (f : Found) → Begins w k f → HasRoom true f u
-      → Enters t u back f (entered n u f back) (On w (entered n u f back))
+      → Enters (suc (entry_price f.count)) t u back f (entered n u f back) (On w (entered n u f back))
   enters_fit t u k n back f begins fit s seen b home link c =
       let filled = stack_is w s.memory (s.regs 2) u.active u.frames b.stack in
       let x = b.above in
@@ -357,58 +368,84 @@ module _ {V : Type 0} (w : Slotting V) where
       let no_lack : nat_lt (s.regs 2 - w.top) (frame_size f.count) ≡ false = grind (arith, filled, x, fit) in
       let enough : frame_size f.count ≤ s.regs 2 - w.top = grind (arith, filled, x, fit) in
       let t1 : VirtualState = entered n u f back in
-      enters_by t t1 u (On w t1) k back f false begins s seen b no_lack link c (λ s2 seen2 b2 link2 e2 sp2 c2.
+      comes_on_later (program w) (Way w t t1) (On w t1) (suc (entry_price f.count)) (omega arith) (
+      enters_by t t1 u (On w t1) k back f false begins s seen b no_lack link c (λ s2 seen2 b2 link2 e2 sp2 limit2 c2.
       let enough2 : frame_size f.count ≤ s2.regs 2 - w.top =
       subst (λ y. frame_size f.count ≤ y - w.top) (sym sp2) enough in
       comes_there (program w) (Way w t t1) (On w t1)
-      (makes_frame t u n back f s2 seen2 b2 home begins.home link2 e2 enough2 c2))
+      (makes_frame t u n back f s2 seen2 b2 home begins.home link2 e2 enough2 c2)))
 
   enters_out : (t u : VirtualState) (k back : ℕ) (f : Found) → Begins w k f → HasRoom false f u
-      → Enters t u back f t (Out t)
+      → Enters (entry_price f.count) t u back f t (Out t f)
   enters_out t u k back f begins lacks s seen b home link c =
       let filled = stack_is w s.memory (s.regs 2) u.active u.frames b.stack in
       let x = b.above in
       let lack : nat_lt (s.regs 2 - w.top) (frame_size f.count) ≡ true = grind (arith, filled, x, lacks) in
-      comes_on_later (program w) (Way w t t) (Out t) enter_turns (omega arith) (
-      enters_by t t u (Out t) k back f true begins s seen b lack link c (λ s2 seen2 b2 link2 e2 sp2 c2.
-      comes_there (program w) (Way w t t) (Out t) (no_room t s2 seen2 c2)))
+      let limit = b.limit in
+      let left : s.regs 2 < s.regs 25 + frame_size f.count = grind (arith, lack, x, limit) in
+      comes_on_later (program w) (Way w t t) (Out t f) (entry_price f.count) (omega arith) (
+      enters_by t t u (Out t f) k back f true begins s seen b lack link c (λ s2 seen2 b2 link2 e2 sp2 limit2 c2.
+      comes_there (program w) (Way w t t) (Out t f)
+      (no_room t f s2 seen2 (omega (arith, left, sp2, limit2)) c2)))
 
   -- what is to be shown of an item that enters a procedure, whether its frame fits or not
+  alike_first : (t : VirtualState) (s : State) → (Alike (Same w) (M w) (N w) t s ⊎ Alike (Same w) (M w) (N w) t s)
+      → Alike (Same w) (M w) (N w) t s
+  alike_first t s (inl a) = a
+  alike_first t s (inr a) = a
+
   pub unless : {P : Type 0} (e : Ending V) → P → UnlessWrong e P
   unless (Verdict v) p = p
   unless Exhausted p = p
   unless Wrong p = tt
 
-  pub sim_enter : (most : ℕ) (t u : VirtualState) (s : State) (k n back : ℕ) (f : Found) → Begins w k f
-      → suc most ≤ item_turns
-      → ((t1 : VirtualState) (Q : State → Type 0) → Enters t u back f t1 Q
-      → ThenOn (program w) (Way w t t1) Q most s)
-      → DoesWithin (Same w) item_turns (M w) (N w) (On w) (size w) t s
+  pub sim_enter : {b : ℕ} (before : ℕ) (t u : VirtualState) (s : State) (k n back : ℕ) (f : Found) → Begins w k f
+      → t.world ≡ u.world → before + entering f.count ≤ b
+      → ((most : ℕ) (t1 : VirtualState) (Q : State → Type 0) → Enters most t u back f t1 Q
+      → ThenOn (program w) (Way w t t1) Q (before + most) s)
+      → DoesFor w b t s (Go (entered n u f back))
       (if nat_le (frame_size f.count + stack_of u.active.found u.frames) (room w) then Go (entered n u f back)
       else Stop (w.reading (Lacks Stack)) t)
-  sim_enter most t u s k n back f begins few go =
+  sim_enter {b} before t u s k n back f begins world few go =
       by_room (nat_le (frame_size f.count + stack_of u.active.found u.frames) (room w)) refl
     where
-      by_room : (c : Bool) → HasRoom c f u → DoesWithin (Same w) item_turns (M w) (N w) (On w) (size w) t s
-          (if c then Go (entered n u f back) else Stop (w.reading (Lacks Stack)) t)
+      t1 : VirtualState
+      t1 = entered n u f back
+
+      by_room : (c : Bool) → HasRoom c f u
+          → DoesFor w b t s (Go t1) (if c then Go t1 else Stop (w.reading (Lacks Stack)) t)
       by_room true h =
-          let t1 : VirtualState = entered n u f back in
-          let r = comes_on_later (program w) (Way w t t1) (On w t1) item_turns (omega (arith, few))
-          (go t1 (On w t1) (enters_fit t u k n back f begins h)) in
-          (suc r.later, inl (omega arith), r.few, r.reaches)
+          let made = made_for f.count in
+          reached_for w b (before + suc (entry_price f.count)) t t1 s (omega (arith, few, made))
+          (go (suc (entry_price f.count)) t1 (On w t1) (enters_fit t u k n back f begins h))
       by_room false h =
-          let r = go t (Out t) (enters_out t u k back f begins h) in
-          let g = r.few in
-          unless (w.reading (Lacks Stack)) (suc r.later, omega (arith, few, g), r.reaches)
+          let made = made_for f.count in
+          let r = go (entry_price f.count) t (Out t f) (enters_out t u k back f begins h) in
+          unless (w.reading (Lacks Stack)) (
+            suc r.later,
+            reaches_weaken (metered (cost (program w)) (N w)) _ _ _ _ (λ m p. (alike_first t m.rest p.0.0, omega (
+              arith,
+              few,
+              made,
+              p.1,
+            ))) (λ m q. record {
+              alike = q.0.alike;
+              last = m.rest;
+              step = q.0.step;
+              same = q.0.alike;
+              few = (let one = q.0.one in let spent = q.1 in omega (arith, few, made, one, spent));
+              lacking = record { left = q.0.left; world = q.0.world ∙ world };
+            }) (suc r.later) (unspent s) (r.pays 0 (before + entry_price f.count) (omega arith)),
+          )
 
   -- ---- the address of a procedure
 
   pub do_code_of : (t : VirtualState) (s : State) (on : On w t s) (rd : VReg) (k : ℕ)
       → slice_get w.items t.pc ≡ Some (CodeOf rd k)
-      → Sim w t s (item_step w.reading (virtual_setting w) (CodeOf rd k) t)
+      → SimItem w t s (CodeOf rd k)
   do_code_of t s on rd k here =
-      sim_given w t t s (procedure_from k 0 w.items) _ (λ g e.
-      sim_puts w {most = 14} t s rd (w.told k) on.body (omega arith) (λ permit.
+      sim_given w _ t t s (procedure_from k 0 w.items) _ (λ g e.
+      sim_puts w t s rd (w.told k) on.body (omega arith) (λ permit.
       let f : Found = t.active.found in
       let rest : List RealItem = rest_of w f (suc t.pc) in
       let t1 : VirtualState = wrote rd (w.told k) t in
@@ -424,12 +461,12 @@ module _ {V : Type 0} (w : Slotting V) where
   -- ---- calls
 
   -- the link is in x1, and the machine is at the procedure
-  linked : (t : VirtualState) (s : State) (home : HasHome w t.active.found) (at m : ℕ) (f : Found) (t1 : VirtualState)
-      (Q : State → Type 0) (regs : Registers) → Body w t (record s { regs = regs })
-      → Enters t t (suc t.pc) f t1 Q → Stand w at (enter_items w f.count ++ rest_of w f f.home)
+  linked : (most : ℕ) (t : VirtualState) (s : State) (home : HasHome w t.active.found) (at m : ℕ) (f : Found)
+      (t1 : VirtualState) (Q : State → Type 0) (regs : Registers) → Body w t (record s { regs = regs })
+      → Enters most t t (suc t.pc) f t1 Q → Stand w at (enter_items w f.count ++ rest_of w f f.home)
       → Stand w m (rest_of w t.active.found (suc t.pc))
-      → Then (program w) (Way w t t1) Q enter_turns (record s { regs = set_reg 1 m regs; pc = at })
-  linked t s home at m f t1 Q regs b enters c link =
+      → Then (program w) (Way w t t1) Q most (record s { regs = set_reg 1 m regs; pc = at })
+  linked most t s home at m f t1 Q regs b enters c link =
       let s1 : State = record s { regs = set_reg 1 m regs; pc = at } in
       let small : m < 2 ^ 64 = stands_small (program w) s link in
       let body : Body w t s1 = body_scratch w t (record s { regs = regs }) (set_reg 1 m regs) at b
@@ -439,22 +476,27 @@ module _ {V : Type 0} (w : Slotting V) where
   same_state : (t : VirtualState) (s : State) → Body w t s → Body w t (record s { regs = s.regs })
   same_state t s b = b
 
+  -- what is entered by its number is paid by it
+  pub entered_price : (k : ℕ) (f : Found) → procedure_from k 0 w.items ≡ Some f
+      → entering_found (procedure_from k 0 w.items) ≡ entering f.count
+  entered_price k f e = ap entering_found e
+
   pub do_call : (t : VirtualState) (s : State) (on : On w t s) (k n : ℕ) → slice_get w.items t.pc ≡ Some (Call k n)
-      → Sim w t s (item_step w.reading (virtual_setting w) (Call k n) t)
+      → SimItem w t s (Call k n)
   do_call t s on k n here =
-      sim_given w t t s (procedure_from k 0 w.items) _ (λ f e.
+      sim_given w _ t t s (procedure_from k 0 w.items) _ (λ f e.
       let begins = found_number w k f e in
       let a = begins_at w s k f begins in
-      sim_enter 16 t t s k n (suc t.pc) f begins (omega arith) (λ t1 Q enters.
+      sim_enter 10 t t s k n (suc t.pc) f begins refl (omega (arith, entered_price k f e)) (λ most t1 Q enters.
       jumps (program w) (Way w t t1) Q s a.pc (code_of w t s on (Call k n) here tt)
       (has_rest w t.active.found (suc t.pc)) a.is_address (way_first w t t1 s (seen_of w t s on.body)) (λ m c.
-      linked t s on.home a.pc m f t1 Q s.regs (same_state t s on.body) enters a.stands c)))
+      linked most t s on.home a.pc m f t1 Q s.regs (same_state t s on.body) enters a.stands c)))
 
   pub do_call_at : (t : VirtualState) (s : State) (on : On w t s) (a : VReg) (n : ℕ)
       → slice_get w.items t.pc ≡ Some (CallAt a n)
-      → Sim w t s (item_step w.reading (virtual_setting w) (CallAt a n) t)
+      → SimItem w t s (CallAt a n)
   do_call_at t s on a n here =
-      sim_given w t t s (value t a) _ (λ at ae. sim_given w t t s (procedure_at w.told at 0 w.items) _ (λ f e.
+      sim_given w _ t t s (value t a) _ (λ at ae. sim_given w _ t t s (procedure_at w.told at 0 w.items) _ (λ f e.
       let z = found_address w at f e in
       let b = begins_at w s z.0 f z.1 in
       let same : b.pc ≡ at = sym (told_address w z.0 b.pc f z.1 b.is_address) ∙ z.2 in
@@ -462,11 +504,13 @@ module _ {V : Type 0} (w : Slotting V) where
       subst (λ x. Stand w x (enter_items w f.count ++ rest_of w f f.home)) same b.stands in
       let rest : List RealItem = rest_of w t.active.found (suc t.pc) in
       let last : List RealItem = Op (Jalr 1 (register_for 28 a) (pos 0)) ∷ [] in
-      sim_enter 29 t t s z.0 n (suc t.pc) f z.1 (omega arith) (λ t1 Q enters.
-      fetch w t t1 Q 16 s on.body 28 a at (last ++ rest) (omega arith) ae tt
+      sim_enter (register_price t.active.found.first a + 1) t t s z.0 n (suc t.pc) f z.1 refl
+      (let dearest = entering_most f.count in omega (arith, dearest)) (λ most t1 Q enters.
+      comes_on_later (program w) (Way w t t1) Q (register_price t.active.found.first a + 1 + most) (omega arith) (
+      fetch w t t1 Q (suc most) s on.body 28 a at (last ++ rest) (omega arith) ae tt
       (regrouped (program w) (fetch_items t.active.found.first 28 a) last rest
       (code_of w t s on (CallAt a n) here tt)) (λ s1 f1 c1.
       lands (program w) (Way w t t1) Q s1 at c1 (has_rest w t.active.found (suc t.pc)) f1.there
       (stands_small (program w) s code) (stands_aligned (program w) s code)
       (way_first w t t1 s1 (seen_of w t s1 f1.body)) (λ m c2.
-      linked t s1 on.home at m f t1 Q s1.regs (same_state t s1 f1.body) enters code c2)))))
+      linked most t s1 on.home at m f t1 Q s1.regs (same_state t s1 f1.body) enters code c2))))))

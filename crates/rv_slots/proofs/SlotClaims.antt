@@ -7,7 +7,7 @@ use Rattle.rv_select.specs.declared.code.VirtualItem.TheVariants.{Procedure}
 use Rattle.rv_slots.specs.Slots.{slots_items}
 use Rattle.rv_slots.specs.Slotted.{free_mark, HasFew, EachHasFew, IsSlotsOf}
 use Rattle.rv_slots.proofs.SlotConditions.{slots_assemble, slots_spare, slots_begin}
-use Rattle.rv_slots.proofs.SlotRuns.{does_in_stack, does_as_virtual}
+use Rattle.rv_slots.proofs.SlotRuns.{does_in_stack, does_as_virtual, ends_so}
 
 few_at : (items : List VirtualItem) (p k first count : ℕ) → EachHasFew items
     → slice_get items p ≡ Some (Procedure k first count) → count < 2 ^ 32
@@ -27,5 +27,7 @@ is_slots items code few e =
       in_stack = λ distinct reading. does_in_stack reading items distinct (λ p k first count h.
           few_at items p k first count few h);
       follows = λ distinct reading. does_as_virtual reading items distinct (λ p k first count h.
+          few_at items p k first count few h);
+      stops = λ distinct reading. ends_so reading items distinct (λ p k first count h.
           few_at items p k first count few h);
     })

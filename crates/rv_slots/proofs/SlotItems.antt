@@ -7,7 +7,10 @@ use Rattle.std.specs.Int.{w64, cast_signed, cast_unsigned, int_shr}
 use Rattle.std.proofs.lemmas.Int.{of_z-to_z}
 use Rattle.std.proofs.lemmas.Nat.{and_le_l, or_lt, xor_lt}
 use Rattle.std.proofs.lemmas.Option.{slice_get_within}
-use Rattle.run_laws.specs.Machines.{Next as Step, Go, Stop}
+use Rattle.run_laws.specs.Runs.{Ending}
+use Rattle.run_laws.specs.Machines.{Next as Step, Go, Stop, Reaches, Alike, UnlessWrong}
+use Rattle.run_laws.specs.Meters.{Metered, metered, unspent, OnBudget}
+use Rattle.run_laws.proofs.Public.{reaches_weaken}
 use Rattle.rv_isa.specs.declared.inst.Inst.TheVariants.{Ld, Sd, Addi}
 use Rattle.rv_isa.specs.declared.real.RealItem.{RealItem}
 use Rattle.rv_isa.specs.declared.real.RealItem.TheVariants.{Op}
@@ -17,8 +20,7 @@ use Rattle.rv_machine.specs.State.{State, Lacks, Stack, Turn, Next, reg}
 use Rattle.rv_machine.specs.Turn.{add, plus, subtract, put, flag, signed_less, shift_left, shift_right}
 use Rattle.rv_machine.specs.Turn.{shift_right_signed}
 use Rattle.rv_machine.specs.Turn.{act_with}
-use Rattle.rv_machine.proofs.Public.{load_below, load_same, stored_outside, has_item-append, comes_there}
-use Rattle.rv_machine.proofs.Public.{is_there, comes_on_later, comes_later}
+use Rattle.rv_machine.proofs.Public.{load_below, load_same, stored_outside, has_item-append}
 use Rattle.low_ir.specs.declared.code.WordOp.{WordOp}
 use Rattle.low_ir.specs.declared.code.WordOp.TheVariants.{Add, Sub, And, Or, Xor, Sll, Srl, Sra, Slt, Sltu}
 use Rattle.low_ir.specs.Operations.{compute}
@@ -33,8 +35,10 @@ use Rattle.rv_select.specs.Run.{item_step}
 use Rattle.rv_slots.specs.Slots.{op_inst, op_with, negated, slot_offset, register_for, fetch_items, save_items}
 use Rattle.rv_slots.specs.Slots.{word_items, slot_fetch, slot_save, constant_items, move_items, expand, expand_all}
 use Rattle.rv_slots.specs.Slots.{final_items}
-use Rattle.rv_select.specs.Stacks.{stack_of, if_room}
-use Rattle.rv_select.proofs.Public.{DoesWithin}
+use Rattle.rv_select.specs.Stacks.{frame_size, stack_of, if_room}
+use Rattle.low_ir.specs.Prices.{slot_price}
+use Rattle.rv_select.specs.Prices.{register_price, number_price, item_price}
+use Rattle.rv_slots.proofs.Paying.{cost, comes_there, is_there, comes_on_later}
 use Rattle.rv_slots.proofs.PutWords.{OnlyIn, quotient_fits}
 use Rattle.rv_slots.proofs.Items.{ThenOn, regrouped, does, words}
 use Rattle.rv_slots.proofs.Frames.{Slotting, equal_of, readable_low, low_reg, get_only, fits_only}
@@ -43,10 +47,6 @@ use Rattle.rv_slots.proofs.Frames.{stack_same, Body, On, has_room, Same, seen_of
 use Rattle.rv_slots.proofs.Frames.{way_first, body_scratch}
 use Rattle.rv_slots.proofs.SlotWords.{wrote, Permits, when_readable, loads, stores, Fetched, fetch}
 use Rattle.rv_slots.proofs.SlotWords.{saved_slot, saved_from, saved, slot_into, real_put}
-
--- the most turns in which the code of an item is done
-abbrev pub item_turns : ℕ
-item_turns = 43
 
 -- ---- words of operations
 
@@ -192,19 +192,50 @@ module _ {V : Type 0} (w : Slotting V) where
   abbrev pub room : ℕ
   room = w.layout.end - w.top
 
-  -- the code does what the step of the virtual run does
-  abbrev pub Sim : VirtualState → State → Step VirtualState V → Type 0
-  Sim t s y = DoesWithin (Same w) item_turns (M w) (N w) (On w) size t s (if_room w.reading room t y)
+  -- where the machine stops as the next frame doesn't fit, fewer bytes are left than that has; told what the next item
+  -- comes to where the stack has no bound
+  pub record IsShort (s : State) (t : VirtualState) : Type 0 where
+    pub left : s.regs 2 < s.regs 25 + frame_size t.active.found.count
+    pub world : s.world ≡ t.world
 
-  pub sim_given : {A : Type 0} (t t0 : VirtualState) (s : State) (o : Option A) (f : A → Step VirtualState V)
-      → ((x : A) → o ≡ Some x → Sim t s (f x)) → Sim t s (given t0 o f)
-  sim_given t t0 s None f h = tt
-  sim_given t t0 s (Some x) f h = h x refl
+  abbrev pub Lacking : State → Step VirtualState V → Type 0
+  Lacking s (Go t) = IsShort s t
+  Lacking s (Stop e t) = Unit {0}
 
-  pub sim_if : (t t0 : VirtualState) (s : State) (b : Bool) (y : Step VirtualState V) → (b ≡ true → Sim t s y)
-      → Sim t s (only_if t0 b y)
-  sim_if t t0 s true y h = h refl
-  sim_if t t0 s false y h = tt
+  -- the machine's step stops, with at most b spent when it has
+  pub record Stops (b : ℕ) (t t1 : VirtualState) (e : Ending V) (y : Step VirtualState V) (m : Metered State) : Type 0
+    where
+      pub alike : Alike (Same w) (M w) (N w) t m.rest
+      pub last : State
+      pub step : (N w).step m.rest ≡ Stop e last
+      pub same : Alike (Same w) (M w) (N w) t1 last
+      pub few : m.spent + cost (program w) m.rest ≤ b
+      pub lacking : Lacking last y
+
+  abbrev pub Paid : (b k : ℕ) → (P Q : Metered State → Type 0) → State → Type 0
+  Paid b k P Q s = Reaches (metered (cost (program w)) (N w)) P Q k (unspent s)
+
+  -- for at most b the code does what an item comes to in the stack, told what it comes to where that has no bound
+  abbrev pub DoesFor : ℕ → VirtualState → State → Step VirtualState V → Step VirtualState V → Type 0
+  DoesFor b t s y (Go t1) =
+      (k : ℕ) × (0 < k ⊎ size t1 < size t) × Paid b k (OnBudget (Same w) (M w) (N w) t t1 b)
+      (λ m. On w t1 m.rest × (m.spent ≤ b)) s
+  DoesFor b t s y (Stop e t1) =
+      UnlessWrong e ((k : ℕ) × Paid b k (λ m. Alike (Same w) (M w) (N w) t m.rest × (m.spent ≤ b)) (Stops b t t1 e y) s)
+
+  -- for at most b the code does what the step of the virtual run does
+  abbrev pub Sim : ℕ → VirtualState → State → Step VirtualState V → Type 0
+  Sim b t s y = DoesFor b t s y (if_room w.reading room t y)
+
+  pub sim_given : {A : Type 0} (b : ℕ) (t t0 : VirtualState) (s : State) (o : Option A) (f : A → Step VirtualState V)
+      → ((x : A) → o ≡ Some x → Sim b t s (f x)) → Sim b t s (given t0 o f)
+  sim_given b t t0 s None f h = tt
+  sim_given b t t0 s (Some x) f h = h x refl
+
+  pub sim_if : (b : ℕ) (t t0 : VirtualState) (s : State) (c : Bool) (y : Step VirtualState V)
+      → (c ≡ true → Sim b t s y) → Sim b t s (only_if t0 c y)
+  sim_if b t t0 s true y h = h refl
+  sim_if b t t0 s false y h = tt
 
   -- the frames of a state fit into the stack
   abbrev pub Fits : VirtualState → Type 0
@@ -214,38 +245,49 @@ module _ {V : Type 0} (w : Slotting V) where
   abbrev pub Reached : ℕ → VirtualState → VirtualState → State → Type 0
   Reached most t t1 s = ThenOn (program w) (Way w t t1) (On w t1) most s
 
-  pub sim_go : {most : ℕ} (t t1 : VirtualState) (s : State) → most ≤ item_turns → Fits t1 → Reached most t t1 s
-      → Sim t s (Go t1)
-  sim_go t t1 s few fits r =
-      let k = comes_on_later (program w) (Way w t t1) (On w t1) item_turns few r in
-      subst (λ (c : Bool). DoesWithin (Same w) item_turns (M w) (N w) (On w) size t s
-      (if c then Go t1 else Stop (w.reading (Lacks Stack)) t)) (sym fits)
-      (suc k.later, inl (omega arith), k.few, k.reaches)
+  pub reached_for : (b most : ℕ) (t t1 : VirtualState) (s : State) → most ≤ b → Reached most t t1 s
+      → DoesFor b t s (Go t1) (Go t1)
+  reached_for b most t t1 s few r = (
+    suc r.later,
+    inl (omega arith),
+    reaches_weaken (metered (cost (program w)) (N w)) _ _ _ _ (λ m p. (p.0.0, p.1)) (λ m q. q) (suc r.later)
+        (unspent s) (r.pays 0 b (omega (arith, few))),
+  )
+
+  pub sim_go : {b most : ℕ} (t t1 : VirtualState) (s : State) → most ≤ b → Fits t1 → Reached most t t1 s
+      → Sim b t s (Go t1)
+  sim_go {b} {most} t t1 s few fits r =
+      subst (λ (c : Bool). DoesFor b t s (Go t1) (if c then Go t1 else Stop (w.reading (Lacks Stack)) t)) (sym fits)
+      (reached_for b most t t1 s few r)
 
   -- the machine is there already
-  pub sim_stay : (t t1 : VirtualState) (s : State) → Fits t1 → size t1 < size t → On w t1 s → Sim t s (Go t1)
-  sim_stay t t1 s fits less on =
-      subst (λ (c : Bool). DoesWithin (Same w) item_turns (M w) (N w) (On w) size t s
-      (if c then Go t1 else Stop (w.reading (Lacks Stack)) t)) (sym fits)
-      (0, inr less, omega arith, on)
+  pub sim_stay : (b : ℕ) (t t1 : VirtualState) (s : State) → Fits t1 → size t1 < size t → On w t1 s → Sim b t s (Go t1)
+  sim_stay b t t1 s fits less on =
+      subst (λ (c : Bool). DoesFor b t s (Go t1) (if c then Go t1 else Stop (w.reading (Lacks Stack)) t)) (sym fits)
+      (0, inr less, (on, omega arith))
 
-  pub sim_puts : {most : ℕ} (t : VirtualState) (s : State) (rd : VReg) (word : ℕ) → Body w t s → most ≤ item_turns
+  pub sim_puts : {b most : ℕ} (t : VirtualState) (s : State) (rd : VReg) (word : ℕ) → Body w t s → most ≤ b
       → (Permits t rd → Reached most t (wrote rd word t) s)
-      → Sim t s (puts w.reading (virtual_setting w) rd word t)
+      → Sim b t s (puts w.reading (virtual_setting w) rd word t)
   sim_puts t s (Real r) word b few f =
-      sim_if t t s (may_write r) _ (λ h. sim_go t (wrote (Real r) word t) s few (has_room w t s b) (f h))
+      sim_if _ t t s (may_write r) _ (λ h. sim_go t (wrote (Real r) word t) s few (has_room w t s b) (f h))
   sim_puts t s (Virtual v) word b few f =
-      sim_if t t s (is_own t.active.found v) _ (λ h.
+      sim_if _ t t s (is_own t.active.found v) _ (λ h.
       sim_go t (wrote (Virtual v) word t) s few (has_room w t s b) (f h))
+
+  -- for the price of the item
+  abbrev pub SimItem : VirtualState → State → VirtualItem → Type 0
+  SimItem t s item =
+      Sim (item_price (virtual_setting w) t.active.found item) t s (item_step w.reading (virtual_setting w) item t)
 
   -- ---- items that write a register
 
   pub do_compute : (t : VirtualState) (s : State) (on : On w t s) (o : WordOp) (rd a b : VReg)
       → slice_get w.items t.pc ≡ Some (Compute o rd a b)
-      → Sim t s (item_step w.reading (virtual_setting w) (Compute o rd a b) t)
+      → SimItem t s (Compute o rd a b)
   do_compute t s on o rd a b here =
-      sim_given t t s (value t a) _ (λ x xe. sim_given t t s (value t b) _ (λ y ye.
-      sim_puts {most = 40} t s rd (compute o x y) on.body (omega arith) (λ permit. computed x y xe ye permit)))
+      sim_given _ t t s (value t a) _ (λ x xe. sim_given _ t t s (value t b) _ (λ y ye.
+      sim_puts t s rd (compute o x y) on.body (omega arith) (λ permit. computed x y xe ye permit)))
     where
       f : Found
       f = t.active.found
@@ -257,7 +299,8 @@ module _ {V : Type 0} (w : Slotting V) where
       last = Op (op_inst o (register_for 28 rd) (register_for 28 a) (register_for 29 b)) ∷ save_items f.first rd
 
       computed : (x y : ℕ) → value t a ≡ Some x → value t b ≡ Some y → Permits t rd
-          → Reached 40 t (wrote rd (compute o x y) t) s
+          → Reached (register_price f.first a + (register_price f.first b + suc (register_price f.first rd))) t
+          (wrote rd (compute o x y) t) s
       computed x y xe ye permit =
           let word : ℕ = compute o x y in
           let t1 : VirtualState = wrote rd word t in
@@ -265,10 +308,11 @@ module _ {V : Type 0} (w : Slotting V) where
           let r1 : ℕ = register_for 28 a in
           let r2 : ℕ = register_for 29 b in
           let rd1 : ℕ = register_for 28 rd in
-          fetch w t t1 (On w t1) 27 s on.body 28 a x ((fetch_items f.first 29 b ++ last) ++ rest) (omega arith) xe
+          fetch w t t1 (On w t1) (register_price f.first b + suc (register_price f.first rd)) s on.body 28 a x
+          ((fetch_items f.first 29 b ++ last) ++ rest) (omega arith) xe
           (has_item-append (fetch_items f.first 29 b ++ last) rest (has_rest w f (suc t.pc)))
           (regrouped (program w) (fetch_items f.first 28 a) (fetch_items f.first 29 b ++ last) rest c0) (λ s1 f1 c1.
-          fetch w t t1 (On w t1) 14 s1 f1.body 29 b y (last ++ rest) (omega arith) ye
+          fetch w t t1 (On w t1) (suc (register_price f.first rd)) s1 f1.body 29 b y (last ++ rest) (omega arith) ye
           (has_item-append last rest (has_rest w f (suc t.pc)))
           (regrouped (program w) (fetch_items f.first 29 b) last rest c1) (λ s2 f2 c2.
           let xr : get_reg s2.regs r1 ≡ x = f2.others r1 (kept t a x xe) ∙ f1.there in
@@ -283,10 +327,10 @@ module _ {V : Type 0} (w : Slotting V) where
 
   pub do_compute_with : (t : VirtualState) (s : State) (on : On w t s) (o : WordOp) (rd a : VReg) (n : ℕ)
       → slice_get w.items t.pc ≡ Some (ComputeWith o rd a n)
-      → Sim t s (item_step w.reading (virtual_setting w) (ComputeWith o rd a n) t)
+      → SimItem t s (ComputeWith o rd a n)
   do_compute_with t s on o rd a n here =
-      sim_given t t s (value t a) _ (λ x xe. sim_if t t s (fits_item o n) _ (λ h.
-      sim_puts {most = 27} t s rd (compute o x n) on.body (omega arith) (λ permit. computed x xe h permit)))
+      sim_given _ t t s (value t a) _ (λ x xe. sim_if _ t t s (fits_item o n) _ (λ h.
+      sim_puts t s rd (compute o x n) on.body (omega arith) (λ permit. computed x xe h permit)))
     where
       f : Found
       f = t.active.found
@@ -298,13 +342,13 @@ module _ {V : Type 0} (w : Slotting V) where
       last = Op (op_with o (register_for 28 rd) (register_for 28 a) n) ∷ save_items f.first rd
 
       computed : (x : ℕ) → value t a ≡ Some x → fits_item o n ≡ true → Permits t rd
-          → Reached 27 t (wrote rd (compute o x n) t) s
+          → Reached (register_price f.first a + suc (register_price f.first rd)) t (wrote rd (compute o x n) t) s
       computed x xe h permit =
           let word : ℕ = compute o x n in
           let t1 : VirtualState = wrote rd word t in
           let r1 : ℕ = register_for 28 a in
           let rd1 : ℕ = register_for 28 rd in
-          fetch w t t1 (On w t1) 14 s on.body 28 a x (last ++ rest) (omega arith) xe
+          fetch w t t1 (On w t1) (suc (register_price f.first rd)) s on.body 28 a x (last ++ rest) (omega arith) xe
           (has_item-append last rest (has_rest w f (suc t.pc)))
           (regrouped (program w) (fetch_items f.first 28 a) last rest
           (code_of t s on (ComputeWith o rd a n) here tt)) (λ s1 f1 c1.
@@ -332,7 +376,7 @@ module _ {V : Type 0} (w : Slotting V) where
 
   pub do_move : (t : VirtualState) (s : State) (on : On w t s) (rd a : VReg)
       → slice_get w.items t.pc ≡ Some (Move rd a)
-      → Sim t s (item_step w.reading (virtual_setting w) (Move rd a) t)
+      → SimItem t s (Move rd a)
   do_move t s on rd a here = by_places rd a here
     where
       fewer : (p n : ℕ) → p < n → n - suc p < n - p
@@ -346,32 +390,36 @@ module _ {V : Type 0} (w : Slotting V) where
 
       -- from a real register to another
       across : (r q x : ℕ) → value t (Real q) ≡ Some x → Permits t (Real r)
-          → Stand w s.pc (Op (Addi r q (pos 0)) ∷ rest) → Reached 27 t (wrote (Real r) x t) s
+          → Stand w s.pc (Op (Addi r q (pos 0)) ∷ rest) → Reached 1 t (wrote (Real r) x t) s
       across r q x xe permit c =
           let t1 : VirtualState = wrote (Real r) x t in
           let z = when_readable t q x xe in
           let is : get_reg s.regs q ≡ x = on.body.regs q z.0 ∙ z.1 in
           let small : x < 2 ^ 64 = subst (λ y. y < 2 ^ 64) is (get_fits q s.regs on.body.fits) in
-          comes_on_later (program w) (Way w t t1) (On w t1) 27 (omega arith) (
           does (program w) (Way w t t1) (On w t1) s (set_reg r x s.regs) s.memory c (has_rest w f (suc t.pc))
           (λ ecall ebreak pc. ap (λ y. put r ((y + 0) % 2 ^ 64) (record s { pc = pc })) is
           ∙ ap (λ y. put r y (record s { pc = pc })) (whole x small))
           (way_first w t t1 s (seen_of w t s on.body)) (λ n c2.
-          saved w t s (Real r) x n on.body on.home permit small c2))
+          saved w t s (Real r) x n on.body on.home permit small c2)
 
       moved : (rd a : VReg) (x : ℕ) → NotBoth rd a → value t a ≡ Some x → Permits t rd
-          → Stand w s.pc (move_items f.first rd a ++ rest) → Reached 27 t (wrote rd x t) s
+          → Stand w s.pc (move_items f.first rd a ++ rest)
+          → Reached (register_price f.first a + 1 + register_price f.first rd) t (wrote rd x t) s
       moved (Real r) (Real q) x differ xe permit c =
-          across r q x xe permit (subst (λ (b : Bool).
-          Stand w s.pc ((if b then [] else Op (Addi r q (pos 0)) ∷ []) ++ rest)) differ c)
+          comes_on_later (program w) (Way w t (wrote (Real r) x t)) (On w (wrote (Real r) x t))
+          (register_price f.first (Real q) + 1 + register_price f.first (Real r)) (omega arith)
+          (across r q x xe permit (subst (λ (b : Bool).
+          Stand w s.pc ((if b then [] else Op (Addi r q (pos 0)) ∷ []) ++ rest)) differ c))
       moved (Real r) (Virtual v) x differ xe permit c = pick (r == 26) refl c
         where
           pick : (b : Bool) → (r == 26) ≡ b
               → Stand w s.pc ((if b then slot_fetch 28 (slot_offset f.first v) ++ (Op (Addi r 28 (pos 0)) ∷ [])
-              else slot_fetch r (slot_offset f.first v)) ++ rest) → Reached 27 t (wrote (Real r) x t) s
+              else slot_fetch r (slot_offset f.first v)) ++ rest)
+              → Reached (slot_price (v - f.first) + 1 + 0) t (wrote (Real r) x t) s
           pick true k c1 =
               let t1 : VirtualState = wrote (Real r) x t in
-              fetch w t t1 (On w t1) 14 s on.body 28 (Virtual v) x (Op (Addi r 28 (pos 0)) ∷ rest) (omega arith) xe
+              comes_on_later (program w) (Way w t t1) (On w t1) (slot_price (v - f.first) + 1 + 0) (omega arith) (
+              fetch w t t1 (On w t1) 1 s on.body 28 (Virtual v) x (Op (Addi r 28 (pos 0)) ∷ rest) (omega arith) xe
               tt (regrouped (program w) (slot_fetch 28 (slot_offset f.first v)) (Op (Addi r 28 (pos 0)) ∷ []) rest c1)
               (λ s1 f1 c2.
               let small : x < 2 ^ 64 = fetched_fits t s s1 28 (Virtual v) x f1 in
@@ -379,44 +427,46 @@ module _ {V : Type 0} (w : Slotting V) where
               (λ ecall ebreak pc. ap (λ y. put r ((y + 0) % 2 ^ 64) (record s1 { pc = pc })) f1.there
               ∙ ap (λ y. put r y (record s1 { pc = pc })) (whole x small))
               (way_first w t t1 s1 (seen_of w t s1 f1.body)) (λ n c3.
-              saved w t s1 (Real r) x n f1.body on.home permit small c3))
+              saved w t s1 (Real r) x n f1.body on.home permit small c3)))
           pick false k c1 =
               let t1 : VirtualState = wrote (Real r) x t in
-              slot_into w t t1 (On w t1) 14 s on.body r v x rest (not_zero_put r permit)
+              comes_on_later (program w) (Way w t t1) (On w t1) (slot_price (v - f.first) + 1 + 0) (omega arith) (
+              slot_into w t t1 (On w t1) 0 s on.body r v x rest (not_zero_put r permit)
               (apart_from 2 r permit k (inl refl)) (apart_from 25 r permit k (inr (inl refl)))
               (apart_from 26 r permit k (inr (inr (inl refl)))) (apart_from 27 r permit k (inr (inr (inr refl)))) xe
               (has_rest w f (suc t.pc)) c1 (λ regs n e1 small only c2.
-              comes_later (program w) (Way w t t1) (On w t1) 14 (omega arith) (
               is_there (program w) (Way w t t1) (On w t1)
               (real_put w t s r x regs n on.body on.home permit small e1 only c2)))
       moved (Virtual v) (Real q) x differ xe permit c =
           let z = when_readable t q x xe in
           let is : get_reg s.regs q ≡ x = on.body.regs q z.0 ∙ z.1 in
           let small : x < 2 ^ 64 = subst (λ y. y < 2 ^ 64) is (get_fits q s.regs on.body.fits) in
-          comes_on_later (program w) (Way w t (wrote (Virtual v) x t)) (On w (wrote (Virtual v) x t)) 27 (omega arith)
+          comes_on_later (program w) (Way w t (wrote (Virtual v) x t)) (On w (wrote (Virtual v) x t))
+          (0 + 1 + slot_price (v - f.first)) (omega arith)
           (saved_from w t s q v x on.body on.home permit small is (low_reg q 29 (readable_low q z.0) (omega arith)) c)
       moved (Virtual v) (Virtual u) x differ xe permit c =
           let t1 : VirtualState = wrote (Virtual v) x t in
-          fetch w t t1 (On w t1) 14 s on.body 28 (Virtual u) x (slot_save (slot_offset f.first v) ++ rest) (omega arith)
-          xe (has_item-append (slot_save (slot_offset f.first v)) rest (has_rest w f (suc t.pc)))
+          comes_on_later (program w) (Way w t t1) (On w t1) (slot_price (u - f.first) + 1 + slot_price (v - f.first))
+          (omega arith) (
+          fetch w t t1 (On w t1) (slot_price (v - f.first)) s on.body 28 (Virtual u) x
+          (slot_save (slot_offset f.first v) ++ rest) (omega arith) xe
+          (has_item-append (slot_save (slot_offset f.first v)) rest (has_rest w f (suc t.pc)))
           (regrouped (program w) (slot_fetch 28 (slot_offset f.first u)) (slot_save (slot_offset f.first v)) rest c)
           (λ s1 f1 c1.
           let small : x < 2 ^ 64 = fetched_fits t s s1 28 (Virtual u) x f1 in
-          comes_on_later (program w) (Way w t t1) (On w t1) 14 (omega arith)
-          (saved_from w t s1 28 v x f1.body on.home permit small f1.there refl c1))
+          saved_from w t s1 28 v x f1.body on.home permit small f1.there refl c1))
 
-      steps : (rd a : VReg) → NotBoth rd a → slice_get w.items t.pc ≡ Some (Move rd a)
-          → Sim t s (item_step w.reading (virtual_setting w) (Move rd a) t)
+      steps : (rd a : VReg) → NotBoth rd a → slice_get w.items t.pc ≡ Some (Move rd a) → SimItem t s (Move rd a)
       steps rd a differ here =
-          sim_given t t s (value t a) _ (λ x xe.
-          sim_puts {most = 27} t s rd x on.body (omega arith) (λ permit.
+          sim_given _ t t s (value t a) _ (λ x xe.
+          sim_puts t s rd x on.body (omega arith) (λ permit.
           moved rd a x differ xe permit (code_of t s on (Move rd a) here tt)))
 
       -- the word is there already
       stays : (r q : ℕ) → (r == q) ≡ true → slice_get w.items t.pc ≡ Some (Move (Real r) (Real q))
-          → Sim t s (item_step w.reading (virtual_setting w) (Move (Real r) (Real q)) t)
+          → SimItem t s (Move (Real r) (Real q))
       stays r q k here =
-          sim_given t t s (value t (Real q)) _ (λ x xe. sim_if t t s (may_write r) _ (λ permit.
+          sim_given _ t t s (value t (Real q)) _ (λ x xe. sim_if _ t t s (may_write r) _ (λ permit.
           let z = when_readable t q x xe in
           let same : r ≡ q = equal_of r q k in
           let is : get_reg s.regs r ≡ x = ap (get_reg s.regs) same ∙ (on.body.regs q z.0 ∙ z.1) in
@@ -424,16 +474,14 @@ module _ {V : Type 0} (w : Slotting V) where
           let c : Stand w s.pc rest = subst (λ (b : Bool).
           Stand w s.pc ((if b then [] else Op (Addi r q (pos 0)) ∷ []) ++ rest)) k
           (code_of t s on (Move (Real r) (Real q)) here tt) in
-          sim_stay t (wrote (Real r) x t) s (has_room w t s on.body)
+          sim_stay _ t (wrote (Real r) x t) s (has_room w t s on.body)
           (fewer t.pc (length w.items) (slice_get_within w.items t.pc (Move (Real r) (Real q)) here))
           (real_put w t s r x s.regs s.pc on.body on.home permit small is (λ y m. refl) c)))
 
-      by_places : (rd a : VReg) → slice_get w.items t.pc ≡ Some (Move rd a)
-          → Sim t s (item_step w.reading (virtual_setting w) (Move rd a) t)
+      by_places : (rd a : VReg) → slice_get w.items t.pc ≡ Some (Move rd a) → SimItem t s (Move rd a)
       by_places (Real r) (Real q) here = pick (r == q) refl
         where
-          pick : (b : Bool) → (r == q) ≡ b
-              → Sim t s (item_step w.reading (virtual_setting w) (Move (Real r) (Real q)) t)
+          pick : (b : Bool) → (r == q) ≡ b → SimItem t s (Move (Real r) (Real q))
           pick true k = stays r q k here
           pick false k = steps (Real r) (Real q) k here
       by_places (Real r) (Virtual v) here = steps (Real r) (Virtual v) tt here
@@ -450,9 +498,9 @@ module _ {V : Type 0} (w : Slotting V) where
 
   pub do_constant : (t : VirtualState) (s : State) (on : On w t s) (rd : VReg) (number : ℕ)
       → slice_get w.items t.pc ≡ Some (Constant rd number)
-      → Sim t s (item_step w.reading (virtual_setting w) (Constant rd number) t)
+      → SimItem t s (Constant rd number)
   do_constant t s on rd number here =
-      sim_puts {most = 25} t s rd word on.body (omega arith) (λ permit.
+      sim_puts t s rd word on.body (omega arith) (λ permit.
       put_word rd permit (code_of t s on (Constant rd number) here tt))
     where
       word : ℕ
@@ -474,7 +522,7 @@ module _ {V : Type 0} (w : Slotting V) where
           (seen_still w t s regs pc 28 (seen_of w t s on.body) only refl refl refl refl)
 
       put_word : (rd : VReg) → Permits t rd → Stand w s.pc (constant_items f.first rd word ++ rest)
-          → Reached 25 t (wrote rd word t) s
+          → Reached (number_price word + 1 + register_price f.first rd) t (wrote rd word t) s
       put_word (Real r) permit c = pick (r == 26) refl c
         where
           t1 : VirtualState
@@ -482,8 +530,9 @@ module _ {V : Type 0} (w : Slotting V) where
 
           pick : (b : Bool) → (r == 26) ≡ b
               → Stand w s.pc ((if b then word_items 28 word ++ (Op (Addi r 28 (pos 0)) ∷ []) else word_items r word)
-              ++ rest) → Reached 25 t t1 s
+              ++ rest) → Reached (number_price word + 1 + 0) t t1 s
           pick true k c1 =
+              comes_on_later (program w) (Way w t t1) (On w t1) (number_price word + 1 + 0) (omega arith) (
               words (program w) (Way w t t1) (On w t1) s 28 word (Op (Addi r 28 (pos 0)) ∷ rest) refl small tt
               (λ regs pc only. seen_still_in t1 regs pc only) (λ regs n e1 only c2.
               let s1 : State = record s { regs = regs; pc = n } in
@@ -494,9 +543,9 @@ module _ {V : Type 0} (w : Slotting V) where
               ∙ ap (λ z. put r z (record s1 { pc = pc })) (whole word small))
               (way_first w t t1 s1 (seen_of w t s1 b1)) (λ n1 c3.
               saved w t s1 (Real r) word n1 b1 on.home permit small c3)))
-              (regrouped (program w) (word_items 28 word) (Op (Addi r 28 (pos 0)) ∷ []) rest c1)
+              (regrouped (program w) (word_items 28 word) (Op (Addi r 28 (pos 0)) ∷ []) rest c1))
           pick false k c1 =
-              comes_on_later (program w) (Way w t t1) (On w t1) 25 (omega arith) (
+              comes_on_later (program w) (Way w t t1) (On w t1) (number_price word + 1 + 0) (omega arith) (
               words (program w) (Way w t t1) (On w t1) s r word rest (not_zero_put r permit) small
               (has_rest w f (suc t.pc)) (λ regs pc only.
               way_first w t t1 (record s { regs = regs; pc = pc }) (seen_still w t s regs pc r (seen_of w t s on.body)
@@ -507,7 +556,8 @@ module _ {V : Type 0} (w : Slotting V) where
               (real_put w t s r word regs n on.body on.home permit small e1 only c2)) c1)
       put_word (Virtual v) permit c =
           let t1 : VirtualState = wrote (Virtual v) word t in
-          comes_on_later (program w) (Way w t t1) (On w t1) 25 (omega arith) (
+          comes_on_later (program w) (Way w t t1) (On w t1) (number_price word + 1 + slot_price (v - f.first))
+          (omega arith) (
           words (program w) (Way w t t1) (On w t1) s 28 word (slot_save (slot_offset f.first v) ++ rest) refl small
           (has_item-append (slot_save (slot_offset f.first v)) rest (has_rest w f (suc t.pc)))
           (λ regs pc only. seen_still_in t1 regs pc only) (λ regs n e1 only c1.
@@ -518,11 +568,11 @@ module _ {V : Type 0} (w : Slotting V) where
 
   pub do_load : (t : VirtualState) (s : State) (on : On w t s) (rd a : VReg) (offset : ℕ)
       → slice_get w.items t.pc ≡ Some (Load rd a offset)
-      → Sim t s (item_step w.reading (virtual_setting w) (Load rd a offset) t)
+      → SimItem t s (Load rd a offset)
   do_load t s on rd a offset here =
-      sim_given t t s (value t a) _ (λ x xe.
-      sim_if t t s (may_load w.top ((x + offset) % 2 ^ 64)) _ (λ m.
-      sim_puts {most = 27} t s rd (load_bytes 8 t.memory ((x + offset) % 2 ^ 64)) on.body (omega arith) (λ permit.
+      sim_given _ t t s (value t a) _ (λ x xe.
+      sim_if _ t t s (may_load w.top ((x + offset) % 2 ^ 64)) _ (λ m.
+      sim_puts t s rd (load_bytes 8 t.memory ((x + offset) % 2 ^ 64)) on.body (omega arith) (λ permit.
       loaded x xe m permit)))
     where
       f : Found
@@ -538,7 +588,8 @@ module _ {V : Type 0} (w : Slotting V) where
       parts at m = grind arith
 
       loaded : (x : ℕ) → value t a ≡ Some x → may_load w.top ((x + offset) % 2 ^ 64) ≡ true → Permits t rd
-          → Reached 27 t (wrote rd (load_bytes 8 t.memory ((x + offset) % 2 ^ 64)) t) s
+          → Reached (register_price f.first a + suc (register_price f.first rd)) t
+          (wrote rd (load_bytes 8 t.memory ((x + offset) % 2 ^ 64)) t) s
       loaded x xe m permit =
           let at : ℕ = (x + offset) % 2 ^ 64 in
           let word : ℕ = load_bytes 8 t.memory at in
@@ -547,7 +598,7 @@ module _ {V : Type 0} (w : Slotting V) where
           let p = parts at m in
           let q = p.2 in
           let r = w.lies.stack in
-          fetch w t t1 (On w t1) 14 s on.body 28 a x (last ++ rest) (omega arith) xe
+          fetch w t t1 (On w t1) (suc (register_price f.first rd)) s on.body 28 a x (last ++ rest) (omega arith) xe
           (has_item-append last rest (has_rest w f (suc t.pc)))
           (regrouped (program w) (fetch_items f.first 28 a) last rest
           (code_of t s on (Load rd a offset) here tt)) (λ s1 f1 c1.
@@ -565,11 +616,11 @@ module _ {V : Type 0} (w : Slotting V) where
 
   pub do_store : (t : VirtualState) (s : State) (on : On w t s) (b a : VReg) (offset : ℕ)
       → slice_get w.items t.pc ≡ Some (Store b a offset)
-      → Sim t s (item_step w.reading (virtual_setting w) (Store b a offset) t)
+      → SimItem t s (Store b a offset)
   do_store t s on b a offset here =
-      sim_given t t s (value t a) _ (λ x xe. sim_given t t s (value t b) _ (λ y ye.
-      sim_if t t s (may_store w.layout.region w.top ((x + offset) % 2 ^ 64)) _ (λ m.
-      sim_go {most = 27} t (after x y) s (omega arith) (has_room w t s on.body) (stored x y xe ye m))))
+      sim_given _ t t s (value t a) _ (λ x xe. sim_given _ t t s (value t b) _ (λ y ye.
+      sim_if _ t t s (may_store w.layout.region w.top ((x + offset) % 2 ^ 64)) _ (λ m.
+      sim_go t (after x y) s (omega arith) (has_room w t s on.body) (stored x y xe ye m))))
     where
       f : Found
       f = t.active.found
@@ -588,7 +639,8 @@ module _ {V : Type 0} (w : Slotting V) where
       parts at m = grind arith
 
       stored : (x y : ℕ) → value t a ≡ Some x → value t b ≡ Some y
-          → may_store w.layout.region w.top ((x + offset) % 2 ^ 64) ≡ true → Reached 27 t (after x y) s
+          → may_store w.layout.region w.top ((x + offset) % 2 ^ 64) ≡ true
+          → Reached (register_price f.first a + (register_price f.first b + 1)) t (after x y) s
       stored x y xe ye m =
           let at : ℕ = (x + offset) % 2 ^ 64 in
           let t1 : VirtualState = after x y in
@@ -596,7 +648,8 @@ module _ {V : Type 0} (w : Slotting V) where
           let q = p.2 in
           let r = w.lies.stack in
           let c0 = code_of t s on (Store b a offset) here tt in
-          fetch w t t1 (On w t1) 14 s on.body 28 a x ((fetch_items f.first 29 b ++ last) ++ rest) (omega arith) xe
+          fetch w t t1 (On w t1) (register_price f.first b + 1) s on.body 28 a x
+          ((fetch_items f.first 29 b ++ last) ++ rest) (omega arith) xe
           (has_item-append (fetch_items f.first 29 b ++ last) rest (has_rest w f (suc t.pc)))
           (regrouped (program w) (fetch_items f.first 28 a) (fetch_items f.first 29 b ++ last) rest c0) (λ s1 f1 c1.
           fetch w t t1 (On w t1) 1 s1 f1.body 29 b y (last ++ rest) (omega arith) ye

@@ -1,5 +1,5 @@
 -- Where the marks and procedures of a virtual code stand in the code with slots, and what jumps and branches come to.
-use Rattle.std.proofs.Common.{append_assoc, ℕ, suc, ◌-◌, ◌^◌, ◌<◌, ◌≡◌, Bool, true, false, List}
+use Rattle.std.proofs.Common.{append_assoc, ℕ, suc, ◌+◌, ◌-◌, ◌^◌, ◌<◌, ◌≡◌, Bool, true, false, List}
 use Rattle.std.proofs.Common.{[], ◌∷◌, ◌++◌, Some, drop, refl, sym, ◌∙◌, ap, subst, arith}
 use Rattle.std.specs.Prelude.{◌==◌, ◌&&◌, if◌then◌else◌, length, slice_get, pos}
 use Rattle.std.proofs.lemmas.Option.{slice_get_within}
@@ -13,22 +13,23 @@ use Rattle.rv_isa.specs.declared.real.RealItem.TheVariants.{Branch as RealBranch
 use Rattle.rv_machine.specs.Registers.{Registers, get_reg, set_reg}
 use Rattle.rv_machine.specs.State.{State, reg}
 use Rattle.rv_machine.specs.Real.{holds, mark_address}
-use Rattle.rv_machine.proofs.Public.{drop_next, has_item-append, is_there}
+use Rattle.rv_machine.proofs.Public.{drop_next, has_item-append}
 use Rattle.low_ir.specs.Steps.{given}
 use Rattle.rv_select.specs.declared.code.VReg.{VReg}
 use Rattle.rv_select.specs.declared.code.VirtualItem.{VirtualItem}
 use Rattle.rv_select.specs.declared.code.VirtualItem.TheVariants.{Mark, Procedure, Jump, Branch}
 use Rattle.rv_select.specs.Run.{Found, VirtualState, value, mark_from, mark_place, procedure_from, procedure_at}
-use Rattle.rv_select.specs.Run.{item_step}
+use Rattle.rv_select.specs.Prices.{register_price}
 use Rattle.rv_slots.specs.Slots.{register_for, fetch_items, word_items, expand, expand_all, final_items}
 use Rattle.rv_select.specs.Stacks.{frame_size}
+use Rattle.rv_slots.proofs.Paying.{is_there}
 use Rattle.rv_slots.proofs.Items.{regrouped, past_mark, MarkStands, mark_stands, jumps, goes_past, taken}
-use Rattle.rv_slots.proofs.Frames.{Slotting, none_is, some_is, equal_of, code, program, virtual_setting, Stand}
+use Rattle.rv_slots.proofs.Frames.{Slotting, none_is, some_is, equal_of, code, program, Stand}
 use Rattle.rv_slots.proofs.Frames.{rest_of, has_rest, HasHome, Body, On, has_room, seen_of, Way, way_first}
 use Rattle.rv_slots.proofs.Frames.{body_scratch, body_at}
 use Rattle.rv_slots.proofs.SlotWords.{fetch}
-use Rattle.rv_slots.proofs.SlotItems.{drop_here, IsBody, expand_cons, kept, code_of, Sim, sim_given, Reached}
-use Rattle.rv_slots.proofs.SlotItems.{sim_go, sim_stay}
+use Rattle.rv_slots.proofs.SlotItems.{drop_here, IsBody, expand_cons, kept, code_of, Sim, SimItem, sim_given}
+use Rattle.rv_slots.proofs.SlotItems.{Reached, sim_go, sim_stay}
 
 -- the place behind so many items
 abbrev pub beyond : List RealItem → ℕ → ℕ
@@ -52,11 +53,11 @@ zero_fits n regs h q = pick (q == 0)
 
 module _ {V : Type 0} (w : Slotting V) where
   pub do_mark : (t : VirtualState) (s : State) (on : On w t s) (mark : ℕ) → slice_get w.items t.pc ≡ Some (Mark mark)
-      → Sim w t s (item_step w.reading (virtual_setting w) (Mark mark) t)
+      → SimItem w t s (Mark mark)
   do_mark t s on mark here =
       let t1 : VirtualState = record t { pc = suc t.pc } in
       let inside = slice_get_within w.items t.pc (Mark mark) here in
-      sim_stay w t t1 s (has_room w t s on.body) (fewer t.pc (length w.items) inside) (record {
+      sim_stay w _ t t1 s (has_room w t s on.body) (fewer t.pc (length w.items) inside) (record {
         body = body_at w t s (suc t.pc) t.known on.body;
         home = on.home;
         code = past_mark (program w) s (code_of w t s on (Mark mark) here tt);
@@ -143,12 +144,12 @@ module _ {V : Type 0} (w : Slotting V) where
       }
 
   pub do_jump : (t : VirtualState) (s : State) (on : On w t s) (m : ℕ) → slice_get w.items t.pc ≡ Some (Jump m)
-      → Sim w t s (item_step w.reading (virtual_setting w) (Jump m) t)
+      → SimItem w t s (Jump m)
   do_jump t s on m here =
-      sim_given w t t s (mark_place w.items t.active.found.home m) _ (λ q e.
+      sim_given w _ t t s (mark_place w.items t.active.found.home m) _ (λ q e.
       let t1 : VirtualState = record t { pc = q } in
       let found = found_mark t s on m q e in
-      sim_go w {most = 1} t t1 s (omega arith) (has_room w t s on.body) (
+      sim_go w t t1 s (omega arith) (has_room w t s on.body) (
       jumps (program w) (Way w t t1) (On w t1) s found.pc (code_of w t s on (Jump m) here tt)
       (has_rest w t.active.found (suc t.pc)) found.is_address (way_first w t t1 s (seen_of w t s on.body)) (λ k c.
       is_there (program w) (Way w t t1) (On w t1) (at_mark t s m q on found s on.body (set_reg 0 k s.regs)
@@ -156,9 +157,9 @@ module _ {V : Type 0} (w : Slotting V) where
 
   pub do_branch : (t : VirtualState) (s : State) (on : On w t s) (cond : Cond) (a b : VReg) (m : ℕ)
       → slice_get w.items t.pc ≡ Some (Branch cond a b m)
-      → Sim w t s (item_step w.reading (virtual_setting w) (Branch cond a b m) t)
+      → SimItem w t s (Branch cond a b m)
   do_branch t s on cond a b m here =
-      sim_given w t t s (value t a) _ (λ x xe. sim_given w t t s (value t b) _ (λ y ye.
+      sim_given w _ t t s (value t a) _ (λ x xe. sim_given w _ t t s (value t b) _ (λ y ye.
       decided x y xe ye (holds cond x y) refl))
     where
       f : Found
@@ -174,13 +175,15 @@ module _ {V : Type 0} (w : Slotting V) where
       at_branch : (x y : ℕ) → value t a ≡ Some x → value t b ≡ Some y → (t1 : VirtualState)
           → ((s2 : State) → Body w t s2
           → holds cond (reg s2 (register_for 28 a)) (reg s2 (register_for 29 b)) ≡ holds cond x y
-          → Stand w s2.pc (last ++ rest) → Reached w 1 t t1 s2) → Reached w 27 t t1 s
+          → Stand w s2.pc (last ++ rest) → Reached w 11 t t1 s2)
+          → Reached w (register_price f.first a + (register_price f.first b + 11)) t t1 s
       at_branch x y xe ye t1 go =
-          fetch w t t1 (On w t1) 14 s on.body 28 a x ((fetch_items f.first 29 b ++ last) ++ rest) (omega arith) xe
+          fetch w t t1 (On w t1) (register_price f.first b + 11) s on.body 28 a x
+          ((fetch_items f.first 29 b ++ last) ++ rest) (omega arith) xe
           (has_item-append (fetch_items f.first 29 b ++ last) rest (has_rest w f (suc t.pc)))
           (regrouped (program w) (fetch_items f.first 28 a) (fetch_items f.first 29 b ++ last) rest
           (code_of w t s on (Branch cond a b m) here tt)) (λ s1 f1 c1.
-          fetch w t t1 (On w t1) 1 s1 f1.body 29 b y (last ++ rest) (omega arith) ye
+          fetch w t t1 (On w t1) 11 s1 f1.body 29 b y (last ++ rest) (omega arith) ye
           (has_item-append last rest (has_rest w f (suc t.pc)))
           (regrouped (program w) (fetch_items f.first 29 b) last rest c1) (λ s2 f2 c2.
           let r1 : ℕ = register_for 28 a in
@@ -189,19 +192,20 @@ module _ {V : Type 0} (w : Slotting V) where
           c2))
 
       decided : (x y : ℕ) → value t a ≡ Some x → value t b ≡ Some y → (test : Bool) → holds cond x y ≡ test
-          → Sim w t s (if test then given t (mark_place w.items t.active.found.home m) (λ p. Go (record t { pc = p }))
+          → Sim w (register_price f.first a + register_price f.first b + 11) t s
+          (if test then given t (mark_place w.items t.active.found.home m) (λ p. Go (record t { pc = p }))
           else Go (record t { pc = suc t.pc }))
       decided x y xe ye true h =
-          sim_given w t t s (mark_place w.items t.active.found.home m) _ (λ q e.
+          sim_given w _ t t s (mark_place w.items t.active.found.home m) _ (λ q e.
           let t1 : VirtualState = record t { pc = q } in
           let found = found_mark t s on m q e in
-          sim_go w {most = 27} t t1 s (omega arith) (has_room w t s on.body) (at_branch x y xe ye t1 (λ s2 body same c2.
+          sim_go w t t1 s (omega arith) (has_room w t s on.body) (at_branch x y xe ye t1 (λ s2 body same c2.
           taken (program w) (Way w t t1) (On w t1) s2 found.pc c2 (same ∙ h) found.is_address
           (way_first w t t1 s2 (seen_of w t s2 body)) (is_there (program w) (Way w t t1) (On w t1) (
           at_mark t s m q on found s2 body s2.regs (λ r. refl) body.fits refl)))))
       decided x y xe ye false h =
           let t1 : VirtualState = record t { pc = suc t.pc } in
-          sim_go w {most = 27} t t1 s (omega arith) (has_room w t s on.body) (at_branch x y xe ye t1 (λ s2 body same c2.
+          sim_go w t t1 s (omega arith) (has_room w t s on.body) (at_branch x y xe ye t1 (λ s2 body same c2.
           goes_past (program w) (Way w t t1) (On w t1) s2 c2 (has_rest w f (suc t.pc)) (same ∙ h)
           (way_first w t t1 s2 (seen_of w t s2 body)) (λ n c3.
           is_there (program w) (Way w t t1) (On w t1) (record {

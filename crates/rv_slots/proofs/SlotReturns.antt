@@ -10,26 +10,29 @@ use Rattle.rv_machine.specs.Memory.{load_bytes}
 use Rattle.rv_machine.specs.Registers.{Registers, get_reg, set_reg}
 use Rattle.rv_machine.specs.State.{State}
 use Rattle.rv_machine.specs.Turn.{put}
-use Rattle.rv_machine.proofs.Public.{load_below, HasItem, has_item-append, comes_there, comes_later, is_there}
+use Rattle.rv_machine.proofs.Public.{load_below, HasItem, has_item-append}
 use Rattle.low_ir.specs.Steps.{no_locals, given}
 use Rattle.rv_select.specs.declared.code.VReg.{VReg}
 use Rattle.rv_select.specs.declared.code.VReg.TheVariants.{Real, Virtual}
 use Rattle.rv_select.specs.declared.code.VirtualItem.TheVariants.{TailCall, TailCallAt, Return}
 use Rattle.rv_select.specs.Run.{Found, Frame, VirtualState, may_read, only_args, only_answer, value, enter, back_to}
-use Rattle.rv_select.specs.Run.{framed, procedure_from, procedure_at, item_step}
+use Rattle.rv_select.specs.Run.{framed, procedure_from, procedure_at}
+use Rattle.rv_select.specs.Prices.{register_price, giving_up, item_price}
 use Rattle.rv_slots.specs.Slots.{register_for, fetch_items, word_items, raise_items, leave_items}
 use Rattle.rv_select.specs.Stacks.{frame_size, stack_of}
-use Rattle.rv_slots.proofs.PutWords.{OnlyIn}
+use Rattle.rv_slots.proofs.Paying.{comes_there, comes_on_later, is_there}
+use Rattle.rv_slots.proofs.PutWords.{OnlyIn, number_most}
 use Rattle.rv_slots.proofs.Items.{Then, ThenOn, regrouped, stands_small, stands_aligned, does, jumps, lands, words}
 use Rattle.rv_slots.proofs.Frames.{Slotting, readable_low, low_reg, other_get, get_only, set_fits, fits_only, program}
 use Rattle.rv_slots.proofs.Frames.{virtual_setting, Stand, rest_of, has_rest, HasHome, Framed, Stacked, stack_is, Body}
 use Rattle.rv_slots.proofs.Frames.{On}
 use Rattle.rv_slots.proofs.Frames.{has_room, Seen, seen_of, seen_still, Way, way_first, body_scratch, body_at}
 use Rattle.rv_slots.proofs.SlotWords.{loads, when_readable, Fetched, fetch}
-use Rattle.rv_slots.proofs.SlotItems.{code_of, room, Sim, sim_given, sim_go}
+use Rattle.rv_slots.proofs.SlotPrices.{entering_most, given_up_for}
+use Rattle.rv_slots.proofs.SlotItems.{code_of, room, Sim, SimItem, sim_given, sim_go}
 use Rattle.rv_slots.proofs.SlotMarks.{zero_lost, zero_fits, enter_items, found_number, found_address, begins_at}
 use Rattle.rv_slots.proofs.SlotMarks.{told_address}
-use Rattle.rv_slots.proofs.SlotCalls.{Enters, entered, enter_turns, sim_enter}
+use Rattle.rv_slots.proofs.SlotCalls.{Enters, entered, sim_enter, entered_price}
 
 not_link : (q : ℕ) → may_read q ≡ true → (q == 1) ≡ false
 not_link q h = grind arith
@@ -56,11 +59,13 @@ module _ {V : Type 0} (w : Slotting V) where
       (xs : List RealItem) → Body w t s → t.frames ≡ f ∷ fs → HasItem xs
       → Stand w s.pc (leave_items t.active.found.count ++ xs)
       → ((s1 : State) → Left t f fs s s1 → Stand w s1.pc xs → ThenOn (program w) (Way w t t1) Q most s1)
-      → ThenOn (program w) (Way w t t1) Q (suc (11 + suc most)) s
+      → ThenOn (program w) (Way w t t1) Q (giving_up t.active.found.count + most) s
   leaves {most} t t1 Q s f fs xs b frames h c go =
+      comes_on_later (program w) P Q (giving_up t.active.found.count + most)
+      (let given_up = given_up_for t.active.found.count in omega (arith, given_up)) (
       does (program w) P Q s regs1 s.memory c (has_item-append (raise_items need) xs h)
       (λ ecall ebreak pc. loads w s 1 2 sp 0 pc ecall ebreak b.layout whole k.0.aligned low below)
-      (way_first w t t1 s (seen_of w t s b)) (λ n1 c1. raised n1 (nat_lt need 2048) refl c1)
+      (way_first w t t1 s (seen_of w t s b)) (λ n1 c1. raised n1 (nat_lt need 2048) refl c1))
     where
       P : State → Type 0
       P = Way w t t1
@@ -150,18 +155,20 @@ module _ {V : Type 0} (w : Slotting V) where
       raised : (n1 : ℕ) (short : Bool) → nat_lt need 2048 ≡ short
           → Stand w n1 ((if short then Op (Addi 2 2 (pos need)) ∷ []
           else word_items 28 need ++ (Op (AddInst 2 2 28) ∷ [])) ++ xs)
-          → Then (program w) P Q (11 + suc most) (record s { regs = regs1; pc = n1 })
+          → Then (program w) P Q ((if short then 1 else 12) + most) (record s { regs = regs1; pc = n1 })
       raised n1 true e c1 =
           let s1 : State = record s { regs = regs1; pc = n1 } in
           let seen : Seen w t s1 = seen28 n1 regs1 n1 (λ q m. refl) in
-          comes_later (program w) P Q (11 + suc most) (omega arith) (comes_there (program w) P Q (
+          comes_there (program w) P Q (comes_on_later (program w) P Q (1 + most) (omega arith) (
           does (program w) P Q s1 (set_reg 2 (sp + need) regs1) s.memory c1 h
           (λ ecall ebreak pc. ap (λ x. put 2 x (record s1 { pc = pc })) top_word) (way_first w t t1 s1 seen) (λ n3 c3.
           comes_there (program w) P Q (go (record s { regs = set_reg 2 (sp + need) regs1; pc = n3 })
           (left regs1 n1 n3 fits1 (λ q m. refl) seen) c3))))
       raised n1 false e c1 =
           let s1 : State = record s { regs = regs1; pc = n1 } in
-          comes_there (program w) P Q (words (program w) P Q s1 28 need (Op (AddInst 2 2 28) ∷ xs) refl need_small tt
+          comes_there (program w) P Q (comes_on_later (program w) P Q (12 + most)
+          (let number = number_most need in omega (arith, number)) (
+          words (program w) P Q s1 28 need (Op (AddInst 2 2 28) ∷ xs) refl need_small tt
           (λ regs pc only. way_first w t t1 (record s { regs = regs; pc = pc }) (seen28 n1 regs pc only))
           (λ regs n2 e2 only c2.
           let s2 : State = record s { regs = regs; pc = n2 } in
@@ -172,7 +179,7 @@ module _ {V : Type 0} (w : Slotting V) where
           ∙ ap (λ x. put 2 x (record s2 { pc = pc })) top_word)) (way_first w t t1 s2 seen) (λ n3 c3.
           comes_there (program w) P Q (go (record s { regs = set_reg 2 (sp + need) regs; pc = n3 })
           (left regs n2 n3 (fits_only 28 need regs regs1 only e2 (omega arith) need_small fits1) only seen) c3))))
-          (regrouped (program w) (word_items 28 need) (Op (AddInst 2 2 28) ∷ []) xs c1))
+          (regrouped (program w) (word_items 28 need) (Op (AddInst 2 2 28) ∷ []) xs c1)))
 
   -- the frames that are left fit where all did
   left_room : (t : VirtualState) (s : State) (f : Frame) (fs : List Frame) → Body w t s → t.frames ≡ f ∷ fs
@@ -183,17 +190,18 @@ module _ {V : Type 0} (w : Slotting V) where
       grind (arith, h)
 
   pub do_return : (t : VirtualState) (s : State) (on : On w t s) → slice_get w.items t.pc ≡ Some Return
-      → Sim w t s (item_step w.reading (virtual_setting w) Return t)
-  do_return t s on here = sim_given w t t s (value t (Real 10)) _ (λ x e. by_frames t.frames refl)
+      → SimItem w t s Return
+  do_return t s on here = sim_given w _ t t s (value t (Real 10)) _ (λ x e. by_frames t.frames refl)
     where
-      by_frames : (gs : List Frame) → t.frames ≡ gs → Sim w t s (back_to w.reading (virtual_setting w) gs t)
+      by_frames : (gs : List Frame) → t.frames ≡ gs
+          → Sim w (giving_up t.active.found.count + 1) t s (back_to w.reading (virtual_setting w) gs t)
       by_frames [] e = tt
       by_frames (f ∷ fs) e =
           let rest : List RealItem = rest_of w t.active.found (suc t.pc) in
           let t1 : VirtualState =
           record t { pc = f.back; active = f.active; frames = fs; known = only_answer t.known } in
           let last : List RealItem = Op (Jalr 0 1 (pos 0)) ∷ [] in
-          sim_go w {most = 14} t t1 s (omega arith) (left_room t s f fs on.body e) (
+          sim_go w t t1 s (omega arith) (left_room t s f fs on.body e) (
           leaves t t1 (On w t1) s f fs (last ++ rest) on.body e tt
           (regrouped (program w) (leave_items t.active.found.count) last rest (code_of w t s on Return here tt))
           (λ s1 left c1.
@@ -218,11 +226,12 @@ module _ {V : Type 0} (w : Slotting V) where
       record t { pc = g.home; active = record { found = g; locals = no_locals }; known = only_args n t.known }
 
   -- from where the frame was given up the machine enters the procedure
-  goes_over : (t t1 : VirtualState) (f : Frame) (fs : List Frame) (g : Found) (Q : State → Type 0) (s s1 : State)
-      → Left t f fs s s1 → (at m : ℕ) → Enters w t (without t f fs) f.back g t1 Q
+  goes_over : (most : ℕ) (t t1 : VirtualState) (f : Frame) (fs : List Frame) (g : Found) (Q : State → Type 0)
+      (s s1 : State)
+      → Left t f fs s s1 → (at m : ℕ) → Enters w most t (without t f fs) f.back g t1 Q
       → Stand w at (enter_items w g.count ++ rest_of w g g.home)
-      → Then (program w) (Way w t t1) Q enter_turns (record s1 { regs = set_reg 0 m s1.regs; pc = at })
-  goes_over t t1 f fs g Q s s1 left at m enters code =
+      → Then (program w) (Way w t t1) Q most (record s1 { regs = set_reg 0 m s1.regs; pc = at })
+  goes_over most t t1 f fs g Q s s1 left at m enters code =
       let regs : Registers = set_reg 0 m s1.regs in
       let s2 : State = record s1 { regs = regs; pc = at } in
       let b2 : Body w (without t f fs) s2 = body_scratch w (without t f fs) s1 regs at left.body
@@ -230,10 +239,11 @@ module _ {V : Type 0} (w : Slotting V) where
       let seen2 : Seen w t s2 = seen_still w t s1 regs at 0 left.seen (λ q h. rw h refl) refl refl refl refl in
       comes_there (program w) (Way w t t1) Q (enters s2 seen2 b2 left.home left.link code)
 
-  sim_tail : (t : VirtualState) (s : State) (f : Frame) (fs : List Frame) (n : ℕ) (g : Found) → t.frames ≡ f ∷ fs
-      → Sim w t s (Go (entered w n (without t f fs) g f.back)) → Sim w t s (Go (taken_over n t g))
-  sim_tail t s f fs n g e h =
-      subst (λ gs. Sim w t s (Go (record t {
+  sim_tail : (b : ℕ) (t : VirtualState) (s : State) (f : Frame) (fs : List Frame) (n : ℕ) (g : Found)
+      → t.frames ≡ f ∷ fs → Sim w b t s (Go (entered w n (without t f fs) g f.back))
+      → Sim w b t s (Go (taken_over n t g))
+  sim_tail b t s f fs n g e h =
+      subst (λ gs. Sim w b t s (Go (record t {
         pc = g.home;
         active = record { found = g; locals = no_locals };
         frames = gs;
@@ -242,31 +252,34 @@ module _ {V : Type 0} (w : Slotting V) where
 
   pub do_tail : (t : VirtualState) (s : State) (on : On w t s) (k n : ℕ)
       → slice_get w.items t.pc ≡ Some (TailCall k n)
-      → Sim w t s (item_step w.reading (virtual_setting w) (TailCall k n) t)
+      → SimItem w t s (TailCall k n)
   do_tail t s on k n here = by_frames t.frames refl
     where
       by_frames : (gs : List Frame) → t.frames ≡ gs
-          → Sim w t s (framed w.reading (virtual_setting w) gs t
+          → Sim w (item_price (virtual_setting w) t.active.found (TailCall k n)) t s
+          (framed w.reading (virtual_setting w) gs t
           (given t (procedure_from k 0 w.items) (enter w.reading (virtual_setting w) n t)))
       by_frames [] e = tt
       by_frames (f ∷ fs) e =
-          sim_given w t t s (procedure_from k 0 w.items) _ (λ g ge.
+          sim_given w _ t t s (procedure_from k 0 w.items) _ (λ g ge.
           let begins = found_number w k g ge in
           let a = begins_at w s k g begins in
           let rest : List RealItem = rest_of w t.active.found (suc t.pc) in
           let u : VirtualState = without t f fs in
           let last : List RealItem = RealJump 0 k ∷ [] in
-          sim_tail t s f fs n g e (sim_enter w 29 t u s k n f.back g begins (omega arith) (λ t1 Q enters.
+          sim_tail _ t s f fs n g e (sim_enter w (giving_up t.active.found.count + 10) t u s k n f.back g begins
+          refl (omega (arith, entered_price w k g ge)) (λ most t1 Q enters.
+          comes_on_later (program w) (Way w t t1) Q (giving_up t.active.found.count + 10 + most) (omega arith) (
           leaves t t1 Q s f fs (last ++ rest) on.body e tt
           (regrouped (program w) (leave_items t.active.found.count) last rest
           (code_of w t s on (TailCall k n) here tt)) (λ s1 left c1.
           jumps (program w) (Way w t t1) Q s1 a.pc c1 (has_rest w t.active.found (suc t.pc)) a.is_address
           (way_first w t t1 s1 left.seen) (λ m c2.
-          goes_over t t1 f fs g Q s s1 left a.pc m enters a.stands)))))
+          goes_over most t t1 f fs g Q s s1 left a.pc m enters a.stands))))))
 
   pub do_tail_at : (t : VirtualState) (s : State) (on : On w t s) (a : VReg) (n : ℕ)
       → slice_get w.items t.pc ≡ Some (TailCallAt a n)
-      → Sim w t s (item_step w.reading (virtual_setting w) (TailCallAt a n) t)
+      → SimItem w t s (TailCallAt a n)
   do_tail_at t s on a n here = by_frames t.frames refl
     where
       -- what was fetched into x29, or stands in a real register, is still there
@@ -276,11 +289,12 @@ module _ {V : Type 0} (w : Slotting V) where
       still (Virtual v) word f fs s0 s1 fetched e left = left.target ∙ fetched.there
 
       by_frames : (gs : List Frame) → t.frames ≡ gs
-          → Sim w t s (framed w.reading (virtual_setting w) gs t (given t (value t a) (λ at.
+          → Sim w (item_price (virtual_setting w) t.active.found (TailCallAt a n)) t s
+          (framed w.reading (virtual_setting w) gs t (given t (value t a) (λ at.
           given t (procedure_at w.told at 0 w.items) (enter w.reading (virtual_setting w) n t))))
       by_frames [] e = tt
       by_frames (f ∷ fs) e =
-          sim_given w t t s (value t a) _ (λ at ae. sim_given w t t s (procedure_at w.told at 0 w.items) _ (λ g ge.
+          sim_given w _ t t s (value t a) _ (λ at ae. sim_given w _ t t s (procedure_at w.told at 0 w.items) _ (λ g ge.
           let z = found_address w at g ge in
           let b = begins_at w s z.0 g z.1 in
           let same : b.pc ≡ at = sym (told_address w z.0 b.pc g z.1 b.is_address) ∙ z.2 in
@@ -290,12 +304,17 @@ module _ {V : Type 0} (w : Slotting V) where
           let u : VirtualState = without t f fs in
           let last : List RealItem = Op (Jalr 0 (register_for 29 a) (pos 0)) ∷ [] in
           let leave : List RealItem = leave_items t.active.found.count in
-          sim_tail t s f fs n g e (sim_enter w 42 t u s z.0 n f.back g z.1 (omega arith) (λ t1 Q enters.
-          fetch w t t1 Q 29 s on.body 29 a at ((leave ++ last) ++ rest) (omega arith) ae tt
+          sim_tail _ t s f fs n g e (
+          sim_enter w (register_price t.active.found.first a + giving_up t.active.found.count + 1) t u s z.0 n f.back g
+          z.1 refl (let dearest = entering_most g.count in omega (arith, dearest)) (λ most t1 Q enters.
+          comes_on_later (program w) (Way w t t1) Q
+          (register_price t.active.found.first a + giving_up t.active.found.count + 1 + most) (omega arith) (
+          fetch w t t1 Q (giving_up t.active.found.count + suc most) s on.body 29 a at
+          ((leave ++ last) ++ rest) (omega arith) ae tt
           (regrouped (program w) (fetch_items t.active.found.first 29 a) (leave ++ last) rest
           (code_of w t s on (TailCallAt a n) here tt)) (λ s0 f0 c0.
           leaves t t1 Q s0 f fs (last ++ rest) f0.body e tt (regrouped (program w) leave last rest c0) (λ s1 left c1.
           lands (program w) (Way w t t1) Q s1 at c1 (has_rest w t.active.found (suc t.pc))
           (still a at f fs s0 s1 f0 ae left) (stands_small (program w) s code) (stands_aligned (program w) s code)
           (way_first w t t1 s1 left.seen) (λ m c2.
-          goes_over t t1 f fs g Q s0 s1 left at m enters code)))))))
+          goes_over most t t1 f fs g Q s0 s1 left at m enters code))))))))

@@ -3,7 +3,7 @@ use Rattle.std.proofs.Common.{ℕ, ◌^◌, ◌<◌, ◌≤◌, ◌≡◌, ◌�
 use Rattle.std.specs.Prelude.{slice_get}
 use Rattle.run_laws.specs.Runs.{Ending, Wrong, Exhausted, NeverWrong, FollowsBy, Any}
 use Rattle.run_laws.specs.Machines.{Machine, run}
-use Rattle.run_laws.specs.Meters.{unspent, metered, each_one, Spends, OfRest}
+use Rattle.run_laws.specs.Meters.{unspent, metered, Spends, OfRest}
 use Rattle.run_laws.proofs.Public.{follows_at_cost, follows_of, follows_by_trans, follows_by_weaken, metered_follows}
 use Rattle.run_laws.proofs.Public.{follows_metered, unmetered_never_wrong, follower_never_goes_wrong, spends_through}
 use Rattle.rv_isa.specs.declared.real.RealItem.{RealItem}
@@ -12,25 +12,28 @@ use Rattle.rv_machine.specs.Real.{Setting as RealSetting, real_machine}
 use Rattle.rv_select.specs.declared.code.VirtualItem.{VirtualItem}
 use Rattle.rv_select.specs.declared.code.VirtualItem.TheVariants.{Procedure}
 use Rattle.rv_select.specs.Run.{VirtualState, Shown, virtual_machine}
+use Rattle.assembler.specs.Prices.{state_price}
+use Rattle.rv_select.specs.Prices.{virtual_price}
 use Rattle.rv_select.specs.Marks.{marks, Distinct}
 use Rattle.rv_slots.specs.Slots.{slots_items}
 use Rattle.rv_select.specs.Stacks.{stacked_machine}
 use Rattle.rv_slots.specs.Slotted.{free_mark, Starts, setting_in, room_in, start_in, IsSeenAs, FollowsVirtual}
-use Rattle.rv_slots.specs.Slotted.{DoesInStack, DoesAsVirtual}
+use Rattle.rv_slots.specs.Slotted.{DoesInStack, DoesAsVirtual, StopsAsVirtual, EndsAsVirtual, frames_of, last_frame}
 use Rattle.rv_slots.proofs.Frames.{Slotting, On}
 use Rattle.rv_slots.proofs.SlotSteps.{slots_simulate}
 use Rattle.rv_slots.proofs.SlotDistinct.{slots_once}
+use Rattle.rv_slots.proofs.Stopping.{ends_as_virtual}
 use Rattle.rv_slots.proofs.InStack.{stacked_never_wrong, stacked_simulates}
 
 -- a machine that follows another at a cost follows it
-unmetered : {A B V S T : Type 0} (K : A → B → Type 0) (c : ℕ) (X : Machine S A V) (Y : Machine T B V) (s : S) (t : T)
-    → NeverWrong (run Y t)
-    → FollowsBy (OfRest K) (Spends c) (run (metered each_one X) (unspent s)) (run (metered each_one Y) (unspent t))
+unmetered : {A B V S T : Type 0} (K : A → B → Type 0) (c : ℕ) (X : Machine S A V) (cost : S → ℕ) (Y : Machine T B V)
+    (work : T → ℕ) (s : S) (t : T) → NeverWrong (run Y t)
+    → FollowsBy (OfRest K) (Spends c) (run (metered cost X) (unspent s)) (run (metered work Y) (unspent t))
     → FollowsBy K Any (run X s) (run Y t)
-unmetered K c X Y s t never h =
-    let never1 = unmetered_never_wrong X each_one (unspent s) (follower_never_goes_wrong (follows_of h)) in
-    let below = follows_metered X each_one (unspent s) never1 in
-    let above = metered_follows Y each_one (unspent t) never in
+unmetered K c X cost Y work s t never h =
+    let never1 = unmetered_never_wrong X cost (unspent s) (follower_never_goes_wrong (follows_of h)) in
+    let below = follows_metered X cost (unspent s) never1 in
+    let above = metered_follows Y work (unspent t) never in
     follows_by_weaken K Any (λ a b k. subst (λ x. K x b) (sym k.1) (subst (λ y. K k.0.rest y) k.2.2 k.2.1))
     (λ a b k. tt) (follows_by_trans below (follows_by_trans h above))
 
@@ -61,6 +64,15 @@ module _ {V : Type 0} (reading : Halt → Ending V) (items : List VirtualItem) (
     abbrev free : Machine VirtualState Shown V
     free = virtual_machine reading (setting_in items told s)
 
+    abbrev real : Machine State State V
+    real = real_machine reading code setting
+
+    abbrev price : State → ℕ
+    price = state_price code setting
+
+    abbrev work : VirtualState → ℕ
+    work = virtual_price (setting_in items told s)
+
     abbrev bound : Machine VirtualState Shown V
     bound = stacked_machine reading (setting_in items told s) (room_in s)
 
@@ -81,34 +93,35 @@ module _ {V : Type 0} (reading : Halt → Ending V) (items : List VirtualItem) (
       code = record { place = 0; stand = refl; address = starts.pc };
     }
 
-    pub follows_in_stack : reading (Lacks Stack) ≢ Wrong
-        → FollowsVirtual 43 (real_machine reading code setting) bound s
+    pub follows_in_stack : reading (Lacks Stack) ≢ Wrong → FollowsVirtual real price bound work s
     follows_in_stack lacking =
         let never1 = stacked_never_wrong reading (setting_in items told s) (room_in s) lacking (start_in s) never in
         let turns = follows_at_cost (slots_simulate slotting) (start_in s) s at_start never1 in
         record {
-          follows = unmetered (IsSeenAs (s.regs 25)) 43 (real_machine reading code setting) bound s (start_in s) never1
-              turns;
+          follows = unmetered (IsSeenAs (s.regs 25)) 1 real price bound work s (start_in s) never1 turns;
           turns = turns;
         }
 
-    pub follows_virtual : reading (Lacks Stack) ≡ Exhausted
-        → FollowsVirtual 43 (real_machine reading code setting) free s
+    pub follows_virtual : reading (Lacks Stack) ≡ Exhausted → FollowsVirtual real price free work s
     follows_virtual out =
         let lacking : reading (Lacks Stack) ≢ Wrong = (λ e. not_both (reading (Lacks Stack)) out e) in
-        let upper = follows_at_cost (stacked_simulates reading (setting_in items told s) (room_in s) out) (start_in s)
-        (start_in s) refl never in
-        let turns = follows_by_weaken (OfRest (IsSeenAs (s.regs 25))) (Spends 43)
-        (λ a b k. subst (λ x. IsSeenAs (s.regs 25) a.rest x) k.2 k.1) (λ a b k. spends_through 43 1 a b k)
+        let upper = follows_at_cost (stacked_simulates reading (setting_in items told s) (room_in s) work out)
+        (start_in s) (start_in s) refl never in
+        let turns = follows_by_weaken (OfRest (IsSeenAs (s.regs 25))) (Spends 1)
+        (λ a b k. subst (λ x. IsSeenAs (s.regs 25) a.rest x) k.2 k.1) (λ a b k. spends_through 1 1 a b k)
         (follows_by_trans (follows_in_stack lacking).turns upper) in
         record {
-          follows = unmetered (IsSeenAs (s.regs 25)) 43 (real_machine reading code setting) free s (start_in s) never
-              turns;
+          follows = unmetered (IsSeenAs (s.regs 25)) 1 real price free work s (start_in s) never turns;
           turns = turns;
         }
       where
         not_both : (o : Ending V) → o ≡ Exhausted → o ≡ Wrong → ⊥
         not_both o e f = cc
+
+    pub stops_as_virtual : reading (Lacks Stack) ≢ Wrong → EndsAsVirtual reading frames_of last_frame real free s
+    stops_as_virtual lacking m verdict h =
+        ends_as_virtual slotting (start_in s) s at_start
+        (stacked_never_wrong reading (setting_in items told s) (room_in s) lacking (start_in s) never) m verdict h
 
   -- the claims of the definition
   pub does_in_stack : DoesInStack reading items code
@@ -117,3 +130,6 @@ module _ {V : Type 0} (reading : Halt → Ending V) (items : List VirtualItem) (
 
   pub does_as_virtual : DoesAsVirtual reading items code
   does_as_virtual out setting told s starts never = follows_virtual setting told s starts never out
+
+  pub ends_so : StopsAsVirtual reading items code
+  ends_so is setting told s starts never = stops_as_virtual setting told s starts never (is.lacking Stack)

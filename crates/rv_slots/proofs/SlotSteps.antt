@@ -1,5 +1,6 @@
 -- The code with slots does each step of the virtual run in its stack.
-use Rattle.std.proofs.Common.{ℕ, suc, ◌^◌, ◌<◌, ◌≡◌, Bool, true, false, List, [], ◌∷◌, Option, Some, None}
+use Rattle.std.proofs.Common.{ℕ, suc, ◌*◌, ◌^◌, ◌<◌, ◌≡◌, inl, Bool, true, false, List, [], ◌∷◌}
+use Rattle.std.proofs.Common.{Option, Some, None}
 use Rattle.std.proofs.Common.{refl, ◌∙◌, ap, subst, arith}
 use Rattle.std.specs.Prelude.{ℤ, FitsSigned, ◌==◌, ◌%◌, nat_lt, if◌then◌else◌, length, slice_get}
 use Rattle.std.specs.Int.{w64, cast_signed, cast_unsigned}
@@ -15,28 +16,31 @@ use Rattle.grift_base.specs.declared.worlds.EnvEffect.{EnvEffect}
 use Rattle.grift_base.specs.declared.worlds.EnvEffect.TheVariants.{Next as GoesOn, Ended as Answers, Blamed as Blames}
 use Rattle.grift_base.specs.declared.worlds.EnvEffect.TheVariants.{Trapped as Traps, RegionOut as RegionEnds}
 use Rattle.grift_base.specs.declared.worlds.EnvEffect.TheVariants.{StackOut as StackEnds, Refused, OutOfMemory}
-use Rattle.run_laws.specs.Machines.{Next as Step, Stop}
-use Rattle.run_laws.specs.Meters.{each_one, CostSimulation}
+use Rattle.run_laws.specs.Machines.{Next as Step, Go, Stop}
+use Rattle.run_laws.specs.Meters.{metered, unspent, DoesOnBudget, CostSimulation}
+use Rattle.run_laws.proofs.Public.{reaches_weaken, unless_wrong_map}
 use Rattle.rv_isa.specs.declared.inst.Inst.TheVariants.{Ecall}
 use Rattle.rv_isa.specs.declared.real.RealItem.{RealItem}
 use Rattle.rv_isa.specs.declared.real.RealItem.TheVariants.{Op}
 use Rattle.rv_machine.specs.Registers.{Registers, get_reg, set_reg}
 use Rattle.rv_machine.specs.State.{Layout, State, Halt, Region, Stack, Ended, Lacks, Turn, Stops}
 use Rattle.rv_machine.specs.Turn.{comes_to, blames, call_environment}
-use Rattle.rv_machine.proofs.Public.{At, call, call_stops, is_there}
+use Rattle.rv_machine.proofs.Public.{At, call_stops}
 use Rattle.low_ir.specs.Steps.{effect_of, blame_of, settle}
 use Rattle.rv_select.specs.declared.code.VReg.TheVariants.{Real}
 use Rattle.rv_select.specs.declared.code.VirtualItem.{VirtualItem}
 use Rattle.rv_select.specs.declared.code.VirtualItem.TheVariants.{Constant, Move, Compute, ComputeWith, Load, Store}
 use Rattle.rv_select.specs.declared.code.VirtualItem.TheVariants.{CodeOf, Mark, Procedure, Jump, Branch, Call, CallAt}
 use Rattle.rv_select.specs.declared.code.VirtualItem.TheVariants.{TailCall, TailCallAt, Return, Environment}
-use Rattle.rv_select.specs.Run.{VirtualState, also_known, value, item_step, step_here}
-use Rattle.rv_select.proofs.Public.{within}
+use Rattle.rv_select.specs.Run.{VirtualState, also_known, value, step_here}
+use Rattle.rv_select.specs.Prices.{some_price, virtual_price}
+use Rattle.rv_slots.proofs.Paying.{cost, cost_is, call, is_there}
 use Rattle.rv_slots.proofs.Items.{as_at, as_stands}
 use Rattle.rv_slots.proofs.Frames.{Slotting, set_same, set_fits, program, virtual_setting, M, N, rest_of, has_rest}
 use Rattle.rv_slots.proofs.Frames.{On, has_room, Same, seen_of, as_alike, Way, way_first}
 use Rattle.rv_slots.proofs.SlotWords.{when_readable}
-use Rattle.rv_slots.proofs.SlotItems.{item_turns, code_of, size, Sim, sim_given, sim_go, do_compute, do_compute_with}
+use Rattle.rv_slots.proofs.SlotItems.{code_of, size, Sim, SimItem, DoesFor, sim_given, sim_go, do_compute}
+use Rattle.rv_slots.proofs.SlotItems.{do_compute_with}
 use Rattle.rv_slots.proofs.SlotItems.{do_move, do_constant, do_load, do_store}
 use Rattle.rv_slots.proofs.SlotMarks.{do_mark, do_jump, do_branch}
 use Rattle.rv_slots.proofs.SlotCalls.{unless, do_code_of, do_call, do_call_at}
@@ -112,10 +116,10 @@ goes_words number a0 a1 labels w x y e h k =
 
 module _ {V : Type 0} (w : Slotting V) where
   do_environment : (t : VirtualState) (s : State) (on : On w t s) → slice_get w.items t.pc ≡ Some Environment
-      → Sim w t s (item_step w.reading (virtual_setting w) Environment t)
+      → SimItem w t s Environment
   do_environment t s on here =
-      sim_given w t t s (value t (Real 17)) _ (λ number e. sim_given w t t s (value t (Real 10)) _ (λ x f.
-      sim_given w t t s (value t (Real 11)) _ (λ y g. same_words number x y (when_readable t 17 number e).1
+      sim_given w _ t t s (value t (Real 17)) _ (λ number e. sim_given w _ t t s (value t (Real 10)) _ (λ x f.
+      sim_given w _ t t s (value t (Real 11)) _ (λ y g. same_words number x y (when_readable t 17 number e).1
       (when_readable t 10 x f).1 (when_readable t 11 y g).1)))
     where
       c : Called
@@ -152,20 +156,30 @@ module _ {V : Type 0} (w : Slotting V) where
           w.calls at.place u ∙ (same u refl refl refl ∙ ap (λ x. comes_to x c.world u) h)
 
       stops : (halt : Halt) → ((pc : ℕ) → w.setting.ecall at.place (record s { pc = pc }) ≡ Stops halt)
-          → Sim w t s (Stop (w.reading halt) t)
+          → Sim w 1 t s (Stop (w.reading halt) t)
       stops halt h =
           let seen = seen_of w t s on.body in
           let stop = call_stops (program w) halt at (has_rest w t.active.found (suc t.pc)) h in
-          unless w (w.reading halt) (0, omega arith, (way_first w t t s seen, (s, stop, as_alike w t s seen, tt)))
+          unless w (w.reading halt) (
+            0,
+            record {
+              alike = as_alike w t s seen;
+              last = s;
+              step = stop;
+              same = as_alike w t s seen;
+              few = (let one = cost_is (program w) at refl in omega (arith, one));
+              lacking = tt;
+            },
+          )
 
       blamed : (o : Option Pos)
           → ((pc : ℕ) → w.setting.ecall at.place (record s { pc = pc }) ≡ blames o (record s { pc = pc }))
-          → Sim w t s (settle w.reading (blame_of o) t (called_back c.world t))
+          → Sim w 1 t s (settle w.reading (blame_of o) t (called_back c.world t))
       blamed None h = tt
       blamed (Some label) h = stops (Ended (Blame label)) h
 
       by_effect : (e : EnvEffect) → c.effect ≡ e
-          → Sim w t s (settle w.reading (effect_of w.layout.labels e) t (called_back c.world t))
+          → Sim w 1 t s (settle w.reading (effect_of w.layout.labels e) t (called_back c.world t))
       by_effect (GoesOn x y) h =
           let t1 : VirtualState = called_back c.world t x y in
           let b = on.body in
@@ -173,7 +187,7 @@ module _ {V : Type 0} (w : Slotting V) where
           let words = goes_words (get_reg t.regs 17) (get_reg t.regs 10) (get_reg t.regs 11) (length w.layout.labels)
           t.world x y h (subst (λ z. z < 2 ^ 64) (b.regs 10 refl) (b.fits 10))
           (subst (λ z. z < 2 ^ 64) (b.regs 11 refl) (b.fits 11)) in
-          sim_go w {most = 1} t t1 s (omega arith) (has_room w t s b) (
+          sim_go w t t1 s (omega arith) (has_room w t s b) (
           call (program w) (Way w t t1) (On w t1) regs c.world at (has_rest w t.active.found (suc t.pc))
           (turn (GoesOn x y) h) (way_first w t t1 s (seen_of w t s b)) (λ n c1.
           is_there (program w) (Way w t t1) (On w t1) (record {
@@ -208,15 +222,15 @@ module _ {V : Type 0} (w : Slotting V) where
           settle w.reading (effect_of w.layout.labels d.effect) t (called_back d.world t)
 
       same_words : (number x y : ℕ) → get_reg t.regs 17 ≡ number → get_reg t.regs 10 ≡ x → get_reg t.regs 11 ≡ y
-          → Sim w t s (call_of number x y)
+          → Sim w 1 t s (call_of number x y)
       same_words number x y e f g =
-          subst (λ n. Sim w t s (call_of n x y)) e (subst (λ n. Sim w t s (call_of (get_reg t.regs 17) n y)) f (
-          subst (λ n. Sim w t s (call_of (get_reg t.regs 17) (get_reg t.regs 10) n)) g (by_effect c.effect refl)))
+          subst (λ n. Sim w 1 t s (call_of n x y)) e (subst (λ n. Sim w 1 t s (call_of (get_reg t.regs 17) n y)) f (
+          subst (λ n. Sim w 1 t s (call_of (get_reg t.regs 17) (get_reg t.regs 10) n)) g (by_effect c.effect refl)))
 
   -- ---- all steps
 
   do_item : (t : VirtualState) (s : State) (on : On w t s) (item : VirtualItem) → slice_get w.items t.pc ≡ Some item
-      → Sim w t s (item_step w.reading (virtual_setting w) item t)
+      → SimItem w t s item
   do_item t s on (Constant rd word) here = do_constant w t s on rd word here
   do_item t s on (Move rd a) here = do_move w t s on rd a here
   do_item t s on (Compute o rd a b) here = do_compute w t s on o rd a b here
@@ -235,15 +249,37 @@ module _ {V : Type 0} (w : Slotting V) where
   do_item t s on Return here = do_return w t s on here
   do_item t s on Environment here = do_environment t s on here
 
-  do_here : (t : VirtualState) (s : State) (on : On w t s) (o : Option VirtualItem) → slice_get w.items t.pc ≡ o
-      → Sim w t s (step_here w.reading (virtual_setting w) o t)
+  pub do_here : (t : VirtualState) (s : State) (on : On w t s) (o : Option VirtualItem) → slice_get w.items t.pc ≡ o
+      → Sim w (some_price (virtual_setting w) t.active.found o) t s (step_here w.reading (virtual_setting w) o t)
   do_here t s on None e = tt
   do_here t s on (Some item) e = do_item t s on item e
 
-  -- the code with slots simulates the virtual run in its stack, in at most so many turns for each item
-  pub slots_simulate : CostSimulation (Same w) item_turns (M w) (N w) each_one each_one (On w) (size w)
+  -- what is known of a stop is let go
+  on_budget : (b : ℕ) (t : VirtualState) (s : State) (y z : Step VirtualState V) → DoesFor w b t s y z
+      → DoesOnBudget (Same w) (M w) (N w) (cost (program w)) (On w) (size w) b t s z
+  on_budget b t s y (Go t1) h = h
+  on_budget b t s y (Stop e t1) h =
+      unless_wrong_map e (λ g. (
+        g.0,
+        reaches_weaken (metered (cost (program w)) (N w)) _ _ _ _ (λ m p. (inl p.0, p.1))
+            (λ m q. (
+              (inl q.alike, let few = q.few in omega (arith, few)),
+              (q.last, q.step, q.same, q.few),
+            )) g.0 (unspent s) g.1,
+      )) h
+
+  once : (n : ℕ) → n ≡ 1 * n
+  once n = omega arith
+
+  -- the code with slots simulates the virtual run in its stack, and its items cost no more than those of that run
+  pub slots_simulate : CostSimulation (Same w) 1 (M w) (N w) (virtual_price (virtual_setting w)) (cost (program w))
+      (On w) (size w)
   slots_simulate = record {
     alike = λ t s on. as_alike w t s (seen_of w t s on.body);
-    does = λ t s on. within (Same w) item_turns (M w) (N w) (On w) (size w) t s _
-        (do_here t s on (slice_get w.items t.pc) refl);
+    does = λ t s on.
+        subst (λ b. DoesOnBudget (Same w) (M w) (N w) (cost (program w)) (On w) (size w) b t s ((M w).step t))
+        (once (virtual_price (virtual_setting w) t))
+        (on_budget (virtual_price (virtual_setting w) t) t s
+        (step_here w.reading (virtual_setting w) (slice_get w.items t.pc) t) ((M w).step t)
+        (do_here t s on (slice_get w.items t.pc) refl));
   }

@@ -1,6 +1,6 @@
 -- Words that are fetched from slots, and put into them.
-use Rattle.std.proofs.Common.{ℕ, suc, ◌+◌, ◌%◌, ◌^◌, ◌<◌, ◌≤◌, ◌≡◌, Bool, true, false, List, [], ◌∷◌, ◌++◌, Some, None}
-use Rattle.std.proofs.Common.{inl, refl, sym, ◌∙◌, ap, subst, arith}
+use Rattle.std.proofs.Common.{ℕ, suc, ◌+◌, ◌-◌, ◌%◌, ◌^◌, ◌<◌, ◌≤◌, ◌≡◌, Bool, true, false, List, [], ◌∷◌, ◌++◌}
+use Rattle.std.proofs.Common.{Some, None, inl, refl, sym, ◌∙◌, ap, subst, arith}
 use Rattle.std.specs.Prelude.{◌==◌, ◌&&◌, ◌||◌, nat_lt, nat_le, if◌then◌else◌, pos}
 use Rattle.std.specs.Int.{w64}
 use Rattle.rv_isa.specs.declared.inst.Inst.TheVariants.{Ld, Sd, Add as AddInst}
@@ -10,26 +10,25 @@ use Rattle.rv_machine.specs.Memory.{Memory, load_bytes, store_bytes, first_addre
 use Rattle.rv_machine.specs.Registers.{Registers, get_reg, set_reg}
 use Rattle.rv_machine.specs.State.{State, Turn, Next, reg}
 use Rattle.rv_machine.specs.Turn.{add, put, load_into, store_from, act_with}
-use Rattle.rv_machine.proofs.Public.{load_below, stored_outside, HasItem, comes_there, is_there, comes_on_later}
-use Rattle.rv_machine.proofs.Public.{comes_later}
+use Rattle.rv_machine.proofs.Public.{load_below, stored_outside, HasItem}
+use Rattle.low_ir.specs.Prices.{slot_price}
 use Rattle.low_ir.specs.Steps.{set_local}
 use Rattle.rv_select.specs.declared.code.VReg.{VReg}
 use Rattle.rv_select.specs.declared.code.VReg.TheVariants.{Real, Virtual}
 use Rattle.rv_select.specs.Run.{Found, VirtualState, may_read, may_write, is_fixed, also_known, is_own, value}
+use Rattle.rv_select.specs.Prices.{register_price}
 use Rattle.rv_slots.specs.Slots.{slot_offset, register_for, fetch_items, save_items, word_items, slot_save}
 use Rattle.rv_select.specs.Stacks.{frame_size}
 use Rattle.rv_slots.specs.Slots.{slot_fetch, slot_save_of}
+use Rattle.rv_slots.proofs.Paying.{comes_there, is_there, comes_on_later}
 use Rattle.rv_slots.proofs.Items.{Then, ThenOn, regrouped, does, words}
-use Rattle.rv_slots.proofs.PutWords.{OnlyIn, set_here}
-use Rattle.rv_slots.proofs.Frames.{Slotting, equal_of, other_get, some_is, none_is, readable_low, low_reg, not_zero, unset}
-use Rattle.rv_slots.proofs.Frames.{get_only, scratch_same, set_same, set_fits, fits_only, stored_fits}
+use Rattle.rv_slots.proofs.PutWords.{OnlyIn, set_here, number_most}
+use Rattle.rv_slots.proofs.SlotPrices.{one_slot, far_slot}
+use Rattle.rv_slots.proofs.Frames.{Slotting, equal_of, other_get, some_is, none_is, readable_low, low_reg, not_zero}
+use Rattle.rv_slots.proofs.Frames.{unset, get_only, scratch_same, set_same, set_fits, fits_only, stored_fits}
 use Rattle.rv_slots.proofs.Frames.{slot_inside, slot_aligned, program, rest_of, has_rest, HasHome, Stand, Stacked}
 use Rattle.rv_slots.proofs.Frames.{slot_of, frame_fits, stack_written, Body, On, seen_of, seen_still, Way}
 use Rattle.rv_slots.proofs.Frames.{way_first, body_scratch}
-
--- the most turns in which a word is fetched from its slot, and in which it is put there
-abbrev pub slot_turns : ℕ
-slot_turns = 13
 
 -- the states after a register was written
 abbrev pub wrote : VReg → ℕ → VirtualState → VirtualState
@@ -122,7 +121,7 @@ module _ {V : Type 0} (w : Slotting V) where
         → Stand w s.pc (slot_fetch scratch (slot_offset t.active.found.first v) ++ xs)
         → ((regs : Registers) (n : ℕ) → get_reg regs scratch ≡ word → word < 2 ^ 64 → OnlyIn scratch regs s.regs
         → Stand w n xs → Later most (record s { regs = regs; pc = n }))
-        → LaterOn (slot_turns + most) s
+        → LaterOn (slot_price (v - t.active.found.first) + most) s
     slot_into most s b scratch v word xs r0 r2 r25 r26 r27 e h c go =
         let x = w.lies.base in
         let y = w.lies.region in
@@ -170,10 +169,11 @@ module _ {V : Type 0} (w : Slotting V) where
             → Stand w s.pc ((if short then Op (Ld scratch 2 (pos offset)) ∷ []
             else word_items scratch offset ++ (Op (AddInst scratch scratch 2) ∷ Op (Ld scratch scratch (pos 0)) ∷ []))
             ++ xs)
-            → LaterOn (slot_turns + most) s
+            → LaterOn (slot_price (v - f.first) + most) s
         in_form true k above below small c1 =
             let there : ℕ = load_bytes 8 s.memory at in
-            comes_on_later (program w) (Way w t t1) Q (slot_turns + most) (omega arith) (
+            comes_on_later (program w) (Way w t t1) Q (slot_price (v - f.first) + most)
+            (let near = one_slot (v - f.first) in omega (arith, near)) (
             does (program w) (Way w t t1) Q s (set_reg scratch there s.regs) s.memory c1 h
             (λ ecall ebreak pc. loads s scratch 2 at offset pc ecall ebreak b.layout place whole above below)
             (way_first w t t1 s (seen_of w t s b)) (λ n c2.
@@ -181,7 +181,8 @@ module _ {V : Type 0} (w : Slotting V) where
             (λ q m. unset q scratch there s.regs m) c2))
         in_form false k above below small c1 =
             let there : ℕ = load_bytes 8 s.memory at in
-            comes_on_later (program w) (Way w t t1) Q (slot_turns + most) (omega arith) (
+            comes_on_later (program w) (Way w t t1) Q (slot_price (v - f.first) + most)
+            (let far = far_slot f.first v k in let number = number_most offset in omega (arith, far, number)) (
             words (program w) (Way w t t1) Q s scratch offset
             (Op (AddInst scratch scratch 2) ∷ Op (Ld scratch scratch (pos 0)) ∷ xs) r0 small tt
             (λ regs pc only. seen_only regs pc only) (λ regs n e1 only c2.
@@ -212,11 +213,11 @@ module _ {V : Type 0} (w : Slotting V) where
         → t.active.locals v ≡ Some word → HasItem xs
         → Stand w s.pc (fetch_items t.active.found.first scratch (Virtual v) ++ xs)
         → ((s1 : State) → Fetched t scratch (Virtual v) word s s1 → Stand w s1.pc xs → Later most s1)
-        → LaterOn (slot_turns + most) s
+        → LaterOn (slot_price (v - t.active.found.first) + most) s
     fetch_slot most s b scratch v word xs hi e h c go =
         slot_into most s b scratch v word xs (not_zero scratch hi) (low_reg 2 scratch (omega arith) hi)
-        (low_reg 25 scratch (omega arith) hi) (low_reg 26 scratch (omega arith) hi) (low_reg 27 scratch (omega arith) hi)
-        e h c (λ regs n e1 small only c1.
+        (low_reg 25 scratch (omega arith) hi) (low_reg 26 scratch (omega arith) hi)
+        (low_reg 27 scratch (omega arith) hi) e h c (λ regs n e1 small only c1.
         go (record s { regs = regs; pc = n }) (record {
           body = body_scratch w t s regs n b
               (λ q m. get_only scratch q regs s.regs only (low_reg q scratch (readable_low q m) hi))
@@ -229,10 +230,10 @@ module _ {V : Type 0} (w : Slotting V) where
     pub fetch : (most : ℕ) (s : State) (b : Body w t s) (scratch : ℕ) (a : VReg) (word : ℕ) (xs : List RealItem)
         → 28 ≤ scratch → value t a ≡ Some word → HasItem xs
         → Stand w s.pc (fetch_items t.active.found.first scratch a ++ xs) → Behind most scratch a word xs s
-        → LaterOn (slot_turns + most) s
+        → LaterOn (register_price t.active.found.first a + most) s
     fetch most s b scratch (Real r) word xs hi e h c go =
         let z = when_readable t r word e in
-        comes_on_later (program w) (Way w t t1) Q (slot_turns + most) (omega arith)
+        comes_on_later (program w) (Way w t t1) Q (register_price t.active.found.first (Real r) + most) (omega arith)
         (go s (record { body = b; there = b.regs r z.0 ∙ z.1; others = λ q k. refl }) c)
     fetch most s b scratch (Virtual v) word xs hi e h c go =
         fetch_slot most s b scratch v word xs hi e h c (λ s1 f c1. comes_there (program w) (Way w t t1) Q (go s1 f c1))
@@ -245,7 +246,8 @@ module _ {V : Type 0} (w : Slotting V) where
   pub saved_from : (t : VirtualState) (s : State) (r v word : ℕ) → Body w t s → HasHome w t.active.found
       → is_own t.active.found v ≡ true → word < 2 ^ 64 → get_reg s.regs r ≡ word → (r == 29) ≡ false
       → Stand w s.pc (slot_save_of r (slot_offset t.active.found.first v) ++ rest_of w t.active.found (suc t.pc))
-      → ThenOn (program w) (Way w t (wrote (Virtual v) word t)) (On w (wrote (Virtual v) word t)) slot_turns s
+      → ThenOn (program w) (Way w t (wrote (Virtual v) word t)) (On w (wrote (Virtual v) word t))
+      (slot_price (v - t.active.found.first)) s
   saved_from t s r v word b home permit small there r29 c = in_form (nat_lt offset 2048) refl c
     where
       f : Found
@@ -322,9 +324,10 @@ module _ {V : Type 0} (w : Slotting V) where
       in_form : (short : Bool) → nat_lt offset 2048 ≡ short
           → Stand w s.pc ((if short then Op (Sd r 2 (pos offset)) ∷ []
           else word_items 29 offset ++ (Op (AddInst 29 29 2) ∷ Op (Sd r 29 (pos 0)) ∷ [])) ++ rest)
-          → ThenOn (program w) P Q slot_turns s
+          → ThenOn (program w) P Q (slot_price (v - f.first)) s
       in_form true k c1 =
-          comes_on_later (program w) P Q slot_turns (omega arith) (
+          comes_on_later (program w) P Q (slot_price (v - f.first))
+          (let near = one_slot (v - f.first) in omega (arith, near)) (
           does (program w) P Q s s.regs memory c1 (has_rest w f (suc t.pc))
           (λ ecall ebreak pc. stores s r 2 at offset pc ecall ebreak b.layout place whole low high
           ∙ ap (λ z. Next (record s { memory = store_bytes 8 s.memory at z; pc = add pc 4 })) there)
@@ -337,7 +340,8 @@ module _ {V : Type 0} (w : Slotting V) where
           let z = high in
           let bound : offset < 2 ^ 64 = omega arith in
           let small_at : at < 2 ^ 64 = omega arith in
-          comes_on_later (program w) P Q slot_turns (omega arith) (
+          comes_on_later (program w) P Q (slot_price (v - f.first))
+          (let far = far_slot f.first v k in let number = number_most offset in omega (arith, far, number)) (
           words (program w) P Q s 29 offset (Op (AddInst 29 29 2) ∷ Op (Sd r 29 (pos 0)) ∷ rest) refl bound tt
           (λ regs pc only. seen_only regs pc only) (λ regs n e1 only c2.
           let s1 : State = record s { regs = regs; pc = n } in
@@ -363,7 +367,7 @@ module _ {V : Type 0} (w : Slotting V) where
   pub saved_slot : (t : VirtualState) (s : State) (v word : ℕ) → Body w t s → HasHome w t.active.found
       → is_own t.active.found v ≡ true → word < 2 ^ 64 → get_reg s.regs 28 ≡ word
       → Stand w s.pc (slot_save (slot_offset t.active.found.first v) ++ rest_of w t.active.found (suc t.pc))
-      → Ends t (wrote (Virtual v) word t) slot_turns s
+      → Ends t (wrote (Virtual v) word t) (slot_price (v - t.active.found.first)) s
   saved_slot t s v word b home permit small there c =
       comes_there (program w) (Way w t (wrote (Virtual v) word t)) (On w (wrote (Virtual v) word t))
       (saved_from t s 28 v word b home permit small there refl c)
@@ -412,12 +416,13 @@ module _ {V : Type 0} (w : Slotting V) where
   pub saved : (t : VirtualState) (s : State) (rd : VReg) (word n : ℕ) → Body w t s → HasHome w t.active.found
       → Permits t rd → word < 2 ^ 64
       → Stand w n (save_items t.active.found.first rd ++ rest_of w t.active.found (suc t.pc))
-      → Ends t (wrote rd word t) slot_turns (record s { regs = set_reg (register_for 28 rd) word s.regs; pc = n })
+      → Ends t (wrote rd word t) (register_price t.active.found.first rd)
+      (record s { regs = set_reg (register_for 28 rd) word s.regs; pc = n })
   saved t s (Real r) word n b home permit small c =
       let P : State → Type 0 = Way w t (wrote (Real r) word t) in
       let Q : State → Type 0 = On w (wrote (Real r) word t) in
       let sp = unset 2 r word s.regs (not_two r permit) in
-      comes_later (program w) P Q slot_turns (omega arith) (is_there (program w) P Q (record {
+      is_there (program w) P Q (record {
         body = record {
           regs = λ q h. set_same r word q s.regs t.regs (b.regs q h);
           limit = unset 25 r word s.regs (not_limit r permit) ∙ b.limit;
@@ -431,7 +436,7 @@ module _ {V : Type 0} (w : Slotting V) where
         };
         home = home;
         code = c;
-      }))
+      })
   saved t s (Virtual v) word n b home permit small c =
       let regs : Registers = set_reg 28 word s.regs in
       saved_slot t (record s { regs = regs; pc = n }) v word

@@ -1,10 +1,10 @@
 -- What the code with slots is to the virtual code that it comes from.
-use Rattle.std.specs.Prelude.{ℕ, suc, ◌+◌, ◌-◌, ◌%◌, ◌^◌, ◌<◌, ◌≤◌, ◌≡◌, max, false, List, [], ◌∷◌}
+use Rattle.std.specs.Prelude.{ℕ, suc, ◌+◌, ◌-◌, ◌%◌, ◌^◌, ◌<◌, ◌≤◌, ◌≡◌, ◌⊎◌, max, false, List, [], ◌∷◌}
 use Rattle.std.specs.Prelude.{Some, slice_get, All, Contains}
-use Rattle.grift_base.specs.declared.verdicts.Verdict.{Verdict}
-use Rattle.run_laws.specs.Runs.{Ending, Exhausted, NeverWrong, FollowsBy, Any}
-use Rattle.run_laws.specs.Machines.{Machine, run}
-use Rattle.run_laws.specs.Meters.{unspent, metered, each_one, Spends, OfRest}
+use Rattle.grift_base.specs.declared.verdicts.Verdict.{Verdict as Outcome}
+use Rattle.run_laws.specs.Runs.{Ending, Verdict, Exhausted, Moment, NeverWrong, FollowsBy, Any}
+use Rattle.run_laws.specs.Machines.{Go, Machine, steps, run}
+use Rattle.run_laws.specs.Meters.{unspent, metered, Spends, OfRest}
 use Rattle.rv_isa.specs.declared.real.RealItem.{RealItem}
 use Rattle.rv_isa.specs.declared.real.RealItem.TheVariants.{Mark as RealMark}
 use Rattle.rv_machine.specs.Memory.{first_address}
@@ -13,6 +13,7 @@ use Rattle.rv_machine.specs.Mach.{IsReading}
 use Rattle.rv_machine.specs.Turn.{call_environment}
 use Rattle.rv_machine.specs.Real.{Setting as RealSetting, AreAddresses, is_mark, address_from, mark_address}
 use Rattle.rv_machine.specs.Real.{real_machine}
+use Rattle.assembler.specs.Prices.{state_price}
 use Rattle.assembler.specs.Conditions.{registers_named, CanBeAssembled}
 use Rattle.rv_select.specs.declared.code.VirtualItem.{VirtualItem}
 use Rattle.rv_select.specs.declared.code.VirtualItem.TheVariants.{Procedure}
@@ -20,7 +21,8 @@ use Rattle.rv_select.specs.Run.{Setting, VirtualState, Shown, virtual_machine, v
 use Rattle.rv_select.specs.Marks.{marks, Distinct}
 use Rattle.rv_select.specs.WellFormed.{IsWellFormed}
 use Rattle.rv_slots.specs.Slots.{slots_items}
-use Rattle.rv_select.specs.Stacks.{stacked_machine, frames_size}
+use Rattle.rv_select.specs.Prices.{virtual_price}
+use Rattle.rv_select.specs.Stacks.{frame_size, stack_of, stacked_machine, frames_size}
 
 -- ---- the mark where the stack lacks room
 
@@ -100,12 +102,13 @@ pub record IsSeenAs (bound : ℕ) (s : State) (shown : Shown) : Type 0 where
   pub above : bound ≤ s.regs 2
   pub used : s.layout.end ≤ s.regs 2 + frames_size shown.frames shown.held
 
--- from a state on the machine follows a virtual run, and takes at most so many turns for each of its items
-pub record FollowsVirtual {V : Type 0} (rate : ℕ) (X : Machine State State V) (Y : Machine VirtualState Shown V)
-    (s : State) : Type 0 where
+-- from a state on the machine follows a virtual run, and its items, at their prices, cost no more than the items of
+-- that run at theirs
+pub record FollowsVirtual {V : Type 0} (X : Machine State State V) (price : State → ℕ)
+    (Y : Machine VirtualState Shown V) (virtual_price : VirtualState → ℕ) (s : State) : Type 0 where
   pub follows : FollowsBy (IsSeenAs (s.regs 25)) Any (run X s) (run Y (start_in s))
-  pub turns : FollowsBy (OfRest (IsSeenAs (s.regs 25))) (Spends rate) (run (metered each_one X) (unspent s))
-      (run (metered each_one Y) (unspent (start_in s)))
+  pub turns : FollowsBy (OfRest (IsSeenAs (s.regs 25))) (Spends 1) (run (metered price X) (unspent s))
+      (run (metered virtual_price Y) (unspent (start_in s)))
 
 -- however stops are read, the machine follows the virtual run in a stack of so many bytes: so it stops for want of
 -- stack only where that does
@@ -113,8 +116,8 @@ abbrev pub DoesInStack : {V : Type 0} → (Halt → Ending V) → List VirtualIt
 DoesInStack reading items code =
     IsReading reading → (setting : RealSetting) (told : ℕ → ℕ) (s : State) → Starts items code setting told s
     → NeverWrong (run (virtual_machine reading (setting_in items told s)) (start_in s))
-    → FollowsVirtual 43 (real_machine reading code setting)
-    (stacked_machine reading (setting_in items told s) (room_in s)) s
+    → FollowsVirtual (real_machine reading code setting) (state_price code setting)
+    (stacked_machine reading (setting_in items told s) (room_in s)) (virtual_price (setting_in items told s)) s
 
 -- where want of stack is read as exhausted, the machine follows the virtual run that has no bound on its stack
 abbrev pub DoesAsVirtual : {V : Type 0} → (Halt → Ending V) → List VirtualItem → List RealItem → Type 0
@@ -122,7 +125,54 @@ DoesAsVirtual reading items code =
     reading (Lacks Stack) ≡ Exhausted → (setting : RealSetting) (told : ℕ → ℕ) (s : State)
     → Starts items code setting told s
     → NeverWrong (run (virtual_machine reading (setting_in items told s)) (start_in s))
-    → FollowsVirtual 43 (real_machine reading code setting) (virtual_machine reading (setting_in items told s)) s
+    → FollowsVirtual (real_machine reading code setting) (state_price code setting)
+    (virtual_machine reading (setting_in items told s)) (virtual_price (setting_in items told s)) s
+
+-- ---- where the machine stops
+
+-- The machine has come to its end where the virtual run, with no bound on its stack, has come to the beginning of a
+-- procedure: both have printed the same, the frames of that state don't fit into the stack, and fewer bytes are left
+-- in it than the frame of that procedure has. Told how many bytes the frames of a state have, and that one frame.
+pub record EntersBeyond {V : Type 0} (frames frame : VirtualState → ℕ) (Y : Machine VirtualState Shown V) (room : ℕ)
+    (start : VirtualState) (x : Moment State V) : Type 0 where
+  pub items : ℕ
+  pub entered : VirtualState
+  pub comes : steps Y start items ≡ Go entered
+  pub output : x.output ≡ entered.world.output
+  pub beyond : room < frames entered
+  pub left : x.shown.regs 2 < x.shown.regs 25 + frame entered
+
+-- the virtual run has printed the same, and ends with the same verdict
+pub record EndsToo {V : Type 0} (verdict : V) (Y : Machine VirtualState Shown V) (start : VirtualState)
+    (x : Moment State V) : Type 0 where
+  pub items : ℕ
+  pub ended : (run Y start items).ending ≡ Some (Verdict verdict)
+  pub output : x.output ≡ (run Y start items).output
+
+-- where the machine has ended with a verdict, so does the virtual run that has no bound on its stack, or that verdict
+-- is want of stack, and the next frame doesn't fit
+abbrev pub EndsAsVirtual : {V : Type 0} → (Halt → Ending V) → (frames frame : VirtualState → ℕ)
+    → Machine State State V → Machine VirtualState Shown V → State → Type 0
+EndsAsVirtual {V = V} reading frames frame X Y s =
+    (m : ℕ) (verdict : V) → (run X s m).ending ≡ Some (Verdict verdict)
+    → EndsToo verdict Y (start_in s) (run X s m)
+    ⊎ ((reading (Lacks Stack) ≡ Verdict verdict) × EntersBeyond frames frame Y (room_in s) (start_in s) (run X s m))
+
+-- the bytes of all frames of a state, and those of the last
+abbrev pub frames_of : VirtualState → ℕ
+frames_of t = stack_of t.active.found t.frames
+
+abbrev pub last_frame : VirtualState → ℕ
+last_frame t = frame_size t.active.found.count
+
+abbrev pub StopsAsVirtual : {V : Type 0} → (Halt → Ending V) → List VirtualItem → List RealItem → Type 0
+StopsAsVirtual reading items code =
+    IsReading reading → (setting : RealSetting) (told : ℕ → ℕ) (s : State) → Starts items code setting told s
+    → NeverWrong (run (virtual_machine reading (setting_in items told s)) (start_in s))
+    → EndsAsVirtual reading frames_of last_frame (real_machine reading code setting)
+    (virtual_machine reading (setting_in items told s)) s
+
+-- ---- what the code keeps to
 
 -- x30 and x31 are named by no item
 abbrev pub SparesLast : RealItem → Type 0
@@ -144,5 +194,6 @@ pub record IsSlotsOf (items : List VirtualItem) (code : List RealItem) : Type 0 
   pub spares : IsWellFormed items → All SparesLast code
   pub begins : IsWellFormed items → ProceduresBegin items code
   -- what it does, however stops are read as endings, where no mark stands twice in the virtual code
-  pub in_stack : Distinct (marks items) → (reading : Halt → Ending Verdict) → DoesInStack reading items code
-  pub follows : Distinct (marks items) → (reading : Halt → Ending Verdict) → DoesAsVirtual reading items code
+  pub in_stack : Distinct (marks items) → (reading : Halt → Ending Outcome) → DoesInStack reading items code
+  pub follows : Distinct (marks items) → (reading : Halt → Ending Outcome) → DoesAsVirtual reading items code
+  pub stops : Distinct (marks items) → (reading : Halt → Ending Outcome) → StopsAsVirtual reading items code

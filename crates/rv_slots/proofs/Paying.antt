@@ -1,0 +1,214 @@
+-- What a code with marks comes to within a budget, item by item: one lemma a kind of item, each over what the run comes
+-- to from there.
+use Rattle.std.proofs.Common.{ℕ, suc, ◌+◌, ◌-◌, ◌%◌, ◌^◌, ◌<◌, ◌≤◌, ◌≡◌, Bool, true, false, List, ◌∷◌}
+use Rattle.std.proofs.Common.{Some, refl, sym, ◌∙◌, ap, subst, arith}
+use Rattle.std.specs.Prelude.{◌==◌, if◌then◌else◌, pos}
+use Rattle.grift_base.specs.World.{WorldState}
+use Rattle.run_laws.specs.Machines.{Go, Reaches}
+use Rattle.run_laws.specs.Meters.{Metered, metered}
+use Rattle.run_laws.proofs.Public.{by_step_at_cost}
+use Rattle.rv_isa.specs.declared.inst.Inst.{Inst}
+use Rattle.rv_isa.specs.declared.inst.Inst.TheVariants.{Jalr, Ecall}
+use Rattle.rv_isa.specs.declared.inst.Cond.{Cond}
+use Rattle.rv_isa.specs.declared.real.RealItem.{RealItem}
+use Rattle.rv_isa.specs.declared.real.RealItem.TheVariants.{Op, Jump, Branch, Address}
+use Rattle.rv_machine.specs.declared.faults.MachineFault.TheVariants.{Misaligned}
+use Rattle.rv_machine.specs.Memory.{Memory}
+use Rattle.rv_machine.specs.Registers.{Registers, set_reg}
+use Rattle.rv_machine.specs.State.{State, Turn, Next, reg}
+use Rattle.rv_machine.specs.Turn.{subtract, add, act_with, goes_wrong}
+use Rattle.rv_machine.specs.Mach.{step_by}
+use Rattle.rv_machine.specs.Real.{is_mark, address_from, mark_address, holds, op_step, jump_step, branch_step}
+use Rattle.rv_machine.specs.Real.{address_step, goes_to}
+use Rattle.rv_machine.proofs.Public.{Program, At, HasItem, item_here, next_at, running, step_is}
+use Rattle.assembler.specs.Prices.{real_price, price_here, state_price}
+
+back_again : (n : ℕ) → n < 2 ^ 64 → add (subtract n 4) 4 ≡ n
+back_again n h = omega arith
+
+module _ {V : Type 0} (program : Program V) where
+  -- the price of the item that a state is at
+  abbrev pub cost : State → ℕ
+  cost s = state_price program.code program.setting s
+
+  pub cost_is : {s : State} {x : RealItem} {xs : List RealItem} → At program s (x ∷ xs) → is_mark x ≡ false
+      → cost s ≡ real_price x
+  cost_is at m = ap price_here (item_here program at m)
+
+  module _ (P Q : State → Type 0) where
+    -- something holds, and no more than a total was spent
+    abbrev pub Within : (State → Type 0) → ℕ → Metered State → Type 0
+    Within G total m = G m.rest × (m.spent ≤ total)
+
+    -- in so many steps, for this much, whatever was spent before
+    abbrev pub Pays : ℕ → ℕ → State → Type 0
+    Pays steps most s =
+        (spent total : ℕ) → spent + most ≤ total
+        → Reaches (metered cost (running program)) (Within P total) (Within Q total) steps
+        (record { spent = spent; rest = s })
+
+    -- for at most so much the run comes to where Q holds, or is exhausted before; P holds at each state that it leaves
+    pub record Comes (most : ℕ) (s : State) : Type 0 where
+      pub steps : ℕ
+      pub pays : Pays steps most s
+
+    -- the run comes there by one step at least
+    pub record ComesOn (most : ℕ) (s : State) : Type 0 where
+      pub later : ℕ
+      pub pays : Pays (suc later) most s
+
+    pub comes_there : {most : ℕ} {s : State} → ComesOn most s → Comes most s
+    comes_there on = record { steps = suc on.later; pays = on.pays }
+
+    -- a run that is there comes there for nothing
+    pub is_there : {s : State} → Q s → Comes 0 s
+    is_there q = record { steps = 0; pays = λ spent total h. (q, omega (arith, h)) }
+
+    -- a budget may be larger
+    pub comes_later : {n : ℕ} {s : State} (m : ℕ) → n ≤ m → Comes n s → Comes m s
+    comes_later m h c =
+        record { steps = c.steps; pays = λ spent total g. c.pays spent total (omega (arith, h, g)) }
+
+    pub comes_on_later : {n : ℕ} {s : State} (m : ℕ) → n ≤ m → ComesOn n s → ComesOn m s
+    comes_on_later m h c =
+        record { later = c.later; pays = λ spent total g. c.pays spent total (omega (arith, h, g)) }
+
+    -- the run goes on by one step that is known
+    pub goes : {most : ℕ} {s : State} {x : RealItem} {xs : List RealItem} (price : ℕ) (t : State)
+        → At program s (x ∷ xs) → is_mark x ≡ false → real_price x ≡ price → (running program).step s ≡ Go t → P s
+        → Comes most t → ComesOn (price + most) s
+    goes {most} {s} price t at m costs e p c = record {
+      later = c.steps;
+      pays = λ spent total h.
+          by_step_at_cost (running program) cost (Within P total) (Within Q total) c.steps
+          (record { spent = spent; rest = s }) (Go t) e (p, omega (arith, h))
+          (subst (λ n. Reaches (metered cost (running program)) (Within P total) (Within Q total) c.steps
+          (record { spent = spent + n; rest = t })) (sym (cost_is at m ∙ costs))
+          (c.pays (spent + price) total (omega (arith, h))));
+    }
+
+    -- an instruction that changes registers and memory and goes on
+    pub op : {most : ℕ} {s : State} {i : Inst} {xs : List RealItem} (regs : Registers) (memory : Memory) →
+        At program s (Op i ∷ xs) → HasItem xs →
+        ((ecall ebreak : State → Turn) (pc : ℕ) → act_with ecall ebreak i (record s { pc = pc })
+        ≡ Next (record s { regs = regs; memory = memory; pc = add pc 4 })) →
+        P s →
+        ((pc : ℕ) → At program (record s { regs = regs; memory = memory; pc = pc }) xs →
+        Comes most (record s { regs = regs; memory = memory; pc = pc })) →
+        ComesOn (suc most) s
+    op {most} {s} {i} {xs} regs memory at h act p go =
+        let next = next_at program at h in
+        let ecall = program.setting.ecall at.place in
+        let ebreak = program.setting.ebreak at.place in
+        let t : State = record s { regs = regs; memory = memory; pc = next.pc } in
+        comes_on_later (suc most) (omega arith) (goes 1 t at refl refl (step_is program at refl
+        ∙ (ap (λ o. op_step program.reading ecall ebreak i o s) next.is_next
+        ∙ (ap (λ turn. step_by program.reading s turn) (act ecall ebreak (subtract next.pc 4))
+        ∙ ap (λ q. Go (record s { regs = regs; memory = memory; pc = q })) (back_again next.pc next.small))))
+        p (go next.pc (next.at t refl)))
+
+    -- an ECALL that goes on
+    pub call : {most : ℕ} {s : State} {xs : List RealItem} (regs : Registers) (world : WorldState)
+        (at : At program s (Op Ecall ∷ xs)) → HasItem xs →
+        ((pc : ℕ) → program.setting.ecall at.place (record s { pc = pc })
+        ≡ Next (record s { regs = regs; world = world; pc = add pc 4 })) →
+        P s →
+        ((pc : ℕ) → At program (record s { regs = regs; world = world; pc = pc }) xs →
+        Comes most (record s { regs = regs; world = world; pc = pc })) →
+        ComesOn (suc most) s
+    call {most} {s} {xs} regs world at h act p go =
+        let next = next_at program at h in
+        let ecall = program.setting.ecall at.place in
+        let ebreak = program.setting.ebreak at.place in
+        let t : State = record s { regs = regs; world = world; pc = next.pc } in
+        comes_on_later (suc most) (omega arith) (goes 1 t at refl refl (step_is program at refl
+        ∙ (ap (λ o. op_step program.reading ecall ebreak Ecall o s) next.is_next
+        ∙ (ap (λ turn. step_by program.reading s turn) (act (subtract next.pc 4))
+        ∙ ap (λ q. Go (record s { regs = regs; world = world; pc = q })) (back_again next.pc next.small))))
+        p (go next.pc (next.at t refl)))
+
+    -- a jump to a mark, which keeps the next item's address
+    pub jump : {most : ℕ} {s : State} {rd mark : ℕ} {xs : List RealItem} (target : ℕ) →
+        At program s (Jump rd mark ∷ xs) → HasItem xs →
+        mark_address program.setting.address program.code mark ≡ Some target → P s →
+        ((pc : ℕ) → ((t : State) → t.pc ≡ pc → At program t xs) →
+        Comes most (record s { regs = set_reg rd pc s.regs; pc = target })) →
+        ComesOn (10 + most) s
+    jump {most} {s} {rd} {mark} {xs} target at h there p go =
+        let next = next_at program at h in
+        goes 10 (record s { regs = set_reg rd next.pc s.regs; pc = target }) at refl refl (step_is program at refl
+        ∙ (ap (λ to. jump_step rd to (address_from program.setting.address (suc at.place) xs) s) there
+        ∙ ap (λ o. jump_step rd (Some target) o s) next.is_next))
+        p (go next.pc next.at)
+
+    -- a branch that isn't taken, and one that is
+    pub falls_through : {most : ℕ} {s : State} {cond : Cond} {a b mark : ℕ} {xs : List RealItem} →
+        At program s (Branch cond a b mark ∷ xs) → HasItem xs → holds cond (reg s a) (reg s b) ≡ false → P s →
+        ((pc : ℕ) → At program (record s { pc = pc }) xs → Comes most (record s { pc = pc })) → ComesOn (11 + most) s
+    falls_through {most} {s} {cond} {a} {b} {mark} {xs} at h test p go =
+        let next = next_at program at h in
+        let t : State = record s { pc = next.pc } in
+        let to = mark_address program.setting.address program.code mark in
+        goes 11 t at refl refl (step_is program at refl
+        ∙ (ap (λ c. branch_step c to (address_from program.setting.address (suc at.place) xs) s) test
+        ∙ ap (λ o. goes_to o s) next.is_next))
+        p (go next.pc (next.at t refl))
+
+    pub is_taken : {most : ℕ} {s : State} {cond : Cond} {a b mark : ℕ} {xs : List RealItem} (target : ℕ) →
+        At program s (Branch cond a b mark ∷ xs) → holds cond (reg s a) (reg s b) ≡ true →
+        mark_address program.setting.address program.code mark ≡ Some target → P s →
+        Comes most (record s { pc = target }) → ComesOn (11 + most) s
+    is_taken {most} {s} {cond} {a} {b} {mark} {xs} target at test there p go =
+        let to = mark_address program.setting.address program.code mark in
+        goes 11 (record s { pc = target }) at refl refl (step_is program at refl
+        ∙ (ap (λ c. branch_step c to (address_from program.setting.address (suc at.place) xs) s) test
+        ∙ ap (λ o. goes_to o s) there))
+        p go
+
+    -- the address of a mark is put into a register
+    pub puts_address : {most : ℕ} {s : State} {rd mark : ℕ} {xs : List RealItem} (target : ℕ) →
+        At program s (Address rd mark ∷ xs) → HasItem xs →
+        mark_address program.setting.address program.code mark ≡ Some target → P s →
+        ((pc : ℕ) → At program (record s { regs = set_reg rd target s.regs; pc = pc }) xs →
+        Comes most (record s { regs = set_reg rd target s.regs; pc = pc })) →
+        ComesOn (10 + most) s
+    puts_address {most} {s} {rd} {mark} {xs} target at h there p go =
+        let next = next_at program at h in
+        let t : State = record s { regs = set_reg rd target s.regs; pc = next.pc } in
+        goes 10 t at refl refl (step_is program at refl
+        ∙ (ap (λ to. address_step rd to (address_from program.setting.address (suc at.place) xs) s) there
+        ∙ ap (λ o. address_step rd (Some target) o s) next.is_next))
+        p (go next.pc (next.at t refl))
+
+    -- a jump to the address in a register, which keeps the next item's address
+    pub jumps_to : {most : ℕ} {s : State} {rd a : ℕ} {xs : List RealItem} (target : ℕ) →
+        At program s (Op (Jalr rd a (pos 0)) ∷ xs) → HasItem xs → reg s a ≡ target → target < 2 ^ 64 →
+        target % 4 ≡ 0 → P s →
+        ((pc : ℕ) → ((t : State) → t.pc ≡ pc → At program t xs) →
+        Comes most (record s { regs = set_reg rd pc s.regs; pc = target })) →
+        ComesOn (suc most) s
+    jumps_to {most} {s} {rd} {a} {xs} target at h is_target small aligned p go =
+        let next = next_at program at h in
+        let ecall = program.setting.ecall at.place in
+        let ebreak = program.setting.ebreak at.place in
+        let whole : (target + 0) % 2 ^ 64 - (target + 0) % 2 ^ 64 % 2 ≡ target = omega arith in
+        let even : (target % 4 == 0) ≡ true = ap (λ x. x == 0) aligned in
+        comes_on_later (suc most) (omega arith) (
+        goes 1 (record s { regs = set_reg rd next.pc s.regs; pc = target }) at refl refl (step_is program at refl
+        ∙ (ap (λ o. op_step program.reading ecall ebreak (Jalr rd a (pos 0)) o s) next.is_next
+        ∙ (ap (λ w. step_by program.reading s (lands rd w (subtract next.pc 4))) is_target
+        ∙ (ap (λ w. step_by program.reading s (lands_at rd w (subtract next.pc 4))) whole
+        ∙ (ap (λ (c : Bool). step_by program.reading s (if c then arrives rd target (subtract next.pc 4)
+        else goes_wrong Misaligned (record s { pc = subtract next.pc 4 }))) even
+        ∙ ap (λ q. Go (record s { regs = set_reg rd q s.regs; pc = target })) (back_again next.pc next.small))))))
+        p (go next.pc next.at))
+      where
+        arrives : ℕ → ℕ → ℕ → Turn
+        arrives rd to pc = Next (record s { regs = set_reg rd (add pc 4) s.regs; pc = to })
+
+        lands_at : ℕ → ℕ → ℕ → Turn
+        lands_at rd to pc =
+            if to % 4 == 0 then arrives rd to pc else goes_wrong Misaligned (record s { pc = pc })
+
+        lands : ℕ → ℕ → ℕ → Turn
+        lands rd word pc = lands_at rd ((word + 0) % 2 ^ 64 - (word + 0) % 2 ^ 64 % 2) pc
