@@ -1,31 +1,36 @@
 -- The machine that runs the real code of a code with places follows the virtual run.
-use Rattle.std.proofs.Common.{ℕ, zero, suc, ◌^◌, ◌<◌, ◌≡◌, ◌≢◌, List, [], ◌∷◌, Some, refl}
+use Rattle.std.proofs.Common.{ℕ, zero, suc, ◌+◌, ◌^◌, ◌<◌, ◌≡◌, ◌≢◌, ◌⊎◌, inl, inr, List, [], ◌∷◌, Some, refl}
 use Rattle.std.proofs.Common.{sym, ◌∙◌, ap, subst, arith}
 use Rattle.std.specs.Prelude.{slice_get}
-use Rattle.run_laws.specs.Runs.{Ending, Wrong, Exhausted, NeverWrong, FollowsBy, Any}
+use Rattle.run_laws.specs.Runs.{Ending, Verdict, Wrong, Exhausted, Moment, EndsAs, NeverWrong, FollowsBy, Any}
 use Rattle.run_laws.specs.Machines.{Machine, run}
-use Rattle.run_laws.specs.Meters.{unspent, metered, each_one, Spends, OfRest}
-use Rattle.run_laws.proofs.Public.{follows_at_cost, follows_of, follows_by_trans, follows_by_weaken, metered_follows}
-use Rattle.run_laws.proofs.Public.{follows_metered, unmetered_never_wrong, follower_never_goes_wrong, spends_through}
+use Rattle.run_laws.specs.Meters.{unspent, Spends, OfRest}
+use Rattle.run_laws.proofs.Public.{follows_at_cost, follows_of, follows_by_trans, follows_by_weaken}
+use Rattle.run_laws.proofs.Public.{follower_never_goes_wrong, spends_through}
 use Rattle.rv_isa.specs.declared.real.RealItem.{RealItem}
 use Rattle.rv_machine.specs.State.{State, Halt, Lacks, Stack}
 use Rattle.rv_machine.specs.Real.{Setting as RealSetting, real_machine}
 use Rattle.rv_select.specs.declared.code.Place.{Place}
 use Rattle.rv_select.specs.declared.code.VirtualItem.{VirtualItem}
 use Rattle.rv_select.specs.declared.code.VirtualItem.TheVariants.{Mark, Procedure}
-use Rattle.rv_select.specs.Run.{VirtualState, Shown, virtual_machine}
+use Rattle.rv_select.specs.Run.{Found, Frame, VirtualState, Shown, virtual_machine}
 use Rattle.rv_select.specs.Holding.{Sets, IsHolding}
 use Rattle.rv_select.specs.Marks.{marks, Distinct}
-use Rattle.rv_select.specs.Stacks.{stacked_machine}
-use Rattle.rv_slots.specs.Slotted.{Starts, setting_in, room_in, start_in, IsSeenAs, FollowsVirtual}
-use Rattle.rv_slots.proofs.Public.{follows_in_stack}
+use Rattle.assembler.specs.Prices.{state_price}
+use Rattle.rv_select.specs.Prices.{virtual_price}
+use Rattle.rv_select.proofs.Public.{unmetered}
+use Rattle.rv_select.specs.Stacks.{frame_size, stacked_machine}
+use Rattle.rv_slots.specs.Slotted.{Starts, setting_in, room_in, start_in, IsSeenAs, FollowsVirtual, EntersBeyond}
+use Rattle.rv_slots.specs.Slotted.{EndsToo, EndsAsVirtual, frames_of, last_frame}
+use Rattle.rv_slots.proofs.Public.{follows_in_stack, stops_as_virtual}
 use Rattle.reg_assign.specs.Rename.{Naming, densely, rename_all, renamed}
-use Rattle.reg_assign.specs.Sized.{sized_machine, SameOrFewer}
-use Rattle.reg_assign.specs.Applied.{applied, slots_of, DoesInSlots, DoesAsVirtual}
-use Rattle.reg_assign.proofs.Renaming.{Pass}
+use Rattle.reg_assign.specs.Sized.{stack_by, sized_machine, SameOrFewer}
+use Rattle.reg_assign.specs.Applied.{applied, slots_of, frames_by, last_frame_by, DoesInSlots, DoesAsVirtual}
+use Rattle.reg_assign.specs.Applied.{StopsInSlots}
+use Rattle.reg_assign.proofs.Renaming.{Pass, Related, IsFound}
 use Rattle.reg_assign.proofs.Dense.{dense_naming}
 use Rattle.reg_assign.proofs.InSlots.{sized_never_wrong, sized_bound_simulates}
-use Rattle.reg_assign.proofs.Follows.{free_simulates, sized_simulates, related_start}
+use Rattle.reg_assign.proofs.Follows.{free_simulates, sized_simulates, related_start, comes_back, frames_same}
 
 -- ---- marks and procedures of the renamed code
 
@@ -56,18 +61,6 @@ procedure_back w first count (Procedure i g c ∷ rest) zero k f n e = same i k 
 procedure_back w first count (item ∷ rest) zero k f n e = absurd (let z : ⊥ = cc in z)
 procedure_back w first count (Procedure i g c ∷ rest) (suc p) k f n e = procedure_back w g c rest p k f n e
 procedure_back w first count (item ∷ rest) (suc p) k f n e = procedure_back w first count rest p k f n e
-
--- a machine that follows another at a cost follows it
-unmetered : {A B V S T : Type 0} (K : A → B → Type 0) (c : ℕ) (X : Machine S A V) (Y : Machine T B V) (s : S) (t : T)
-    → NeverWrong (run Y t)
-    → FollowsBy (OfRest K) (Spends c) (run (metered each_one X) (unspent s)) (run (metered each_one Y) (unspent t))
-    → FollowsBy K Any (run X s) (run Y t)
-unmetered K c X Y s t never h =
-    let never1 = unmetered_never_wrong X each_one (unspent s) (follower_never_goes_wrong (follows_of h)) in
-    let below = follows_metered X each_one (unspent s) never1 in
-    let above = metered_follows Y each_one (unspent t) never in
-    follows_by_weaken K Any (λ a b k. subst (λ x. K x b) (sym k.1) (subst (λ y. K k.0.rest y) k.2.2 k.2.1))
-    (λ a b k. tt) (follows_by_trans below (follows_by_trans h above))
 
 seen_through : (bound : ℕ) (s : State) (b a : Shown) → IsSeenAs bound s b → SameOrFewer b a → IsSeenAs bound s a
 seen_through bound s b a h k = record {
@@ -138,51 +131,114 @@ module _ {V : Type 0} (reading : Halt → Ending V) (items : List VirtualItem) (
       bytes = starts.bytes;
     }
 
+    abbrev real : Machine State State V
+    real = real_machine reading code setting
+
+    abbrev price : State → ℕ
+    price = state_price code setting
+
+    abbrev work : VirtualState → ℕ
+    work = virtual_price (setting_in items told s)
+
+    abbrev related : Related pass (start_in s) (start_in s)
+    related = related_start pass s.regs s.memory s.world
+
+    others_follow : FollowsBy SameOrFewer Any (run free_others (start_in s)) (run free (start_in s))
+    others_follow =
+        unmetered free free_others work (virtual_price (setting_in others told s)) (unspent (start_in s)) (start_in s)
+        never (follows_at_cost (free_simulates pass) (start_in s) (start_in s) related never)
+
     others_never : NeverWrong (run free_others (start_in s))
-    others_never =
-        let h = follows_at_cost (free_simulates pass) (start_in s) (start_in s)
-        (related_start pass s.regs s.memory s.world) never in
-        follower_never_goes_wrong (follows_of (unmetered SameOrFewer 1 free_others free (start_in s) (start_in s)
-        never h))
+    others_never = follower_never_goes_wrong (follows_of others_follow)
 
     sized_never : reading (Lacks Stack) ≢ Wrong → NeverWrong (run sized (start_in s))
     sized_never lacking =
         sized_never_wrong reading (setting_in items told s) (slots_of place) (room_in s) lacking (start_in s) never
 
-    pub follows_in_slots : reading (Lacks Stack) ≢ Wrong → FollowsVirtual 43 (real_machine reading code setting) sized s
+    pub follows_in_slots : reading (Lacks Stack) ≢ Wrong → FollowsVirtual real price sized work s
     follows_in_slots lacking =
         let lower = follows_in_stack reading others others_distinct others_counts setting told s others_start
         others_never lacking in
         let never1 = sized_never lacking in
-        let upper = follows_at_cost (sized_simulates pass (room_in s)) (start_in s) (start_in s)
-        (related_start pass s.regs s.memory s.world) never1 in
-        let turns = follows_by_weaken (OfRest (IsSeenAs (s.regs 25))) (Spends 43)
-        (λ a b k. seen_through (s.regs 25) a.rest k.0.rest b.rest k.1 k.2) (λ a b k. spends_through 43 1 a b k)
+        let upper = follows_at_cost (sized_simulates pass (room_in s)) (start_in s) (start_in s) related never1 in
+        let turns = follows_by_weaken (OfRest (IsSeenAs (s.regs 25))) (Spends 1)
+        (λ a b k. seen_through (s.regs 25) a.rest k.0.rest b.rest k.1 k.2) (λ a b k. spends_through 1 1 a b k)
         (follows_by_trans lower.turns upper) in
         record {
-          follows = unmetered (IsSeenAs (s.regs 25)) 43 (real_machine reading code setting) sized s (start_in s) never1
-              turns;
+          follows = unmetered sized real work price (unspent (start_in s)) s never1 turns;
           turns = turns;
         }
 
-    pub follows_virtual : reading (Lacks Stack) ≡ Exhausted
-        → FollowsVirtual 43 (real_machine reading code setting) free s
+    pub follows_virtual : reading (Lacks Stack) ≡ Exhausted → FollowsVirtual real price free work s
     follows_virtual out =
         let lacking : reading (Lacks Stack) ≢ Wrong = (λ e. not_both (reading (Lacks Stack)) out e) in
         let upper = follows_at_cost (sized_bound_simulates reading (setting_in items told s) (slots_of place) (room_in
         s)
-        out) (start_in s) (start_in s) refl never in
-        let turns = follows_by_weaken (OfRest (IsSeenAs (s.regs 25))) (Spends 43)
-        (λ a b k. subst (λ x. IsSeenAs (s.regs 25) a.rest x) k.2 k.1) (λ a b k. spends_through 43 1 a b k)
+        work out) (start_in s) (start_in s) refl never in
+        let turns = follows_by_weaken (OfRest (IsSeenAs (s.regs 25))) (Spends 1)
+        (λ a b k. subst (λ x. IsSeenAs (s.regs 25) a.rest x) k.2 k.1) (λ a b k. spends_through 1 1 a b k)
         (follows_by_trans (follows_in_slots lacking).turns upper) in
         record {
-          follows = unmetered (IsSeenAs (s.regs 25)) 43 (real_machine reading code setting) free s (start_in s) never
-              turns;
+          follows = unmetered free real work price (unspent (start_in s)) s never turns;
           turns = turns;
         }
       where
         not_both : (o : Ending V) → o ≡ Exhausted → o ≡ Wrong → ⊥
         not_both o e f = cc
+
+    -- what the renamed code ends with
+    ends_back : (verdict : V) (x : Moment State V) → EndsToo verdict free_others (start_in s) x
+        → EndsToo verdict free (start_in s) x
+    ends_back verdict x e =
+        let back = others_follow.back e.many in
+        record {
+          many = back.0;
+          ended = subst (λ o. EndsAs o (run free (start_in s) back.0).ending) e.ended back.1.1;
+          output = e.output ∙ back.1.0.output;
+        }
+
+    -- a stack with frames has a procedure
+    found_there : (f : Found) (fs : List Frame) → room_in s < stack_by (slots_of place) f fs → IsFound pass fs f
+        → (p : ℕ) × (k : ℕ) × (slice_get items p ≡ Some (Procedure k f.first f.count))
+    found_there f [] beyond found = absurd (omega (arith, beyond))
+    found_there f (g ∷ gs) beyond found = found
+
+    beyond_back : (x : Moment State V)
+        → EntersBeyond others frames_of last_frame free_others (room_in s) (start_in s) x
+        → EntersBeyond items (frames_by place) (last_frame_by place) free (room_in s) (start_in s) x
+    beyond_back x e =
+        let back = comes_back pass e.many (start_in s) (start_in s) e.entered related never e.comes in
+        let same = back.2.4 in
+        let beyond : room_in s < frames_by place back.0 =
+        subst (λ n. room_in s < n) (frames_same pass back.0 e.entered back.2) e.beyond in
+        let there = found_there back.0.active.found back.0.frames beyond back.2.5.found in
+        record {
+          many = e.many;
+          entered = back.0;
+          comes = back.1;
+          output = e.output ∙ ap (λ (z : VirtualState). z.world.output) same;
+          place = there.0;
+          number = there.1;
+          there = there.2;
+          beyond = beyond;
+          left = subst (λ (z : VirtualState). x.shown.regs 2 < x.shown.regs 25 + frame_size z.active.found.count) same
+              e.left;
+        }
+
+    pub stops_in_slots : reading (Lacks Stack) ≢ Wrong
+        → EndsAsVirtual reading items (frames_by place) (last_frame_by place) real free s
+    stops_in_slots lacking m verdict h =
+        either (stops_as_virtual reading others others_distinct others_counts setting told s others_start others_never
+        lacking m verdict h)
+      where
+        either : EndsToo verdict free_others (start_in s) (run real s m)
+            ⊎ ((reading (Lacks Stack) ≡ Verdict verdict)
+            × EntersBeyond others frames_of last_frame free_others (room_in s) (start_in s) (run real s m))
+            → EndsToo verdict free (start_in s) (run real s m)
+            ⊎ ((reading (Lacks Stack) ≡ Verdict verdict)
+            × EntersBeyond items (frames_by place) (last_frame_by place) free (room_in s) (start_in s) (run real s m))
+        either (inl e) = inl (ends_back verdict (run real s m) e)
+        either (inr e) = inr (e.0, beyond_back (run real s m) e.1)
 
   -- the claims of the definition
   pub does_in_slots : DoesInSlots reading place items code
@@ -191,3 +247,6 @@ module _ {V : Type 0} (reading : Halt → Ending V) (items : List VirtualItem) (
 
   pub does_as_virtual : DoesAsVirtual reading items code
   does_as_virtual out setting told s starts never = follows_virtual setting told s starts never out
+
+  pub ends_in_slots : StopsInSlots reading place items code
+  ends_in_slots is setting told s starts never = stops_in_slots setting told s starts never (is.lacking Stack)

@@ -1,12 +1,12 @@
 -- The run of a renamed code follows the run of the code, item by item, without a bound on the stack and in a stack.
-use Rattle.std.proofs.Common.{ℕ, suc, ◌+◌, ◌≤◌, ◌≡◌, inl, Bool, true, false, List, [], ◌∷◌}
+use Rattle.std.proofs.Common.{ℕ, zero, suc, ◌+◌, ◌*◌, ◌≤◌, ◌≡◌, inl, Bool, true, false, List, [], ◌∷◌}
 use Rattle.std.proofs.Common.{Some, refl, sym, ◌∙◌, ap, subst, arith}
 use Rattle.std.specs.Prelude.{if◌then◌else◌, nat_le, length, slice_get}
 use Rattle.grift_base.specs.World.{WorldState}
-use Rattle.run_laws.specs.Runs.{Ending, Verdict, Exhausted, Wrong, Any}
-use Rattle.run_laws.specs.Machines.{Next, Go, Stop, Machine, Alike, Onward, OnTheWay, UnlessWrong}
-use Rattle.run_laws.specs.Meters.{each_one, CostSimulation}
-use Rattle.run_laws.proofs.Public.{unless_wrong_map}
+use Rattle.run_laws.specs.Runs.{Ending, Verdict, Exhausted, Wrong, Moment, NeverWrong}
+use Rattle.run_laws.specs.Machines.{Next, Go, Stop, Machine, and_then, steps, seen, run, Alike, Onward, UnlessWrong}
+use Rattle.run_laws.specs.Meters.{charge, OnBudget, DoesOnBudget, CostSimulation}
+use Rattle.run_laws.proofs.Public.{unless_wrong_map, run_go}
 use Rattle.rv_machine.specs.Memory.{Memory}
 use Rattle.rv_machine.specs.Registers.{Registers}
 use Rattle.rv_machine.specs.State.{Lacks, Stack}
@@ -17,11 +17,17 @@ use Rattle.rv_select.specs.Run.{Found, Frame, VirtualState, Shown, held_by, step
 use Rattle.rv_select.specs.Run.{virtual_start, value}
 use Rattle.rv_select.specs.Stacks.{frame_size}
 use Rattle.rv_select.specs.Stacks.{stack_of, if_room, stacked_machine}
-use Rattle.rv_select.proofs.Public.{DoesWithin, within}
+use Rattle.rv_select.specs.Prices.{virtual_price}
 use Rattle.reg_assign.specs.Rename.{name, with_slots}
 use Rattle.reg_assign.specs.Sized.{stack_by, if_room_by, sized_machine, SameOrFewer}
 use Rattle.reg_assign.proofs.Names.{none_is}
 use Rattle.reg_assign.proofs.Renaming.{Pass, items', setting', image, Agree, AgreeAll, Related, Sim, do_step}
+use Rattle.reg_assign.proofs.RenamedPrices.{IfRight, renamed_pays}
+
+both : {V : Type 0} (P Q : Type 0) (e : Ending V) → UnlessWrong e P → UnlessWrong e Q → UnlessWrong e (P × Q)
+both P Q (Verdict v) p q = (p, q)
+both P Q Exhausted p q = (p, q)
+both P Q Wrong p q = tt
 
 module _ {V : Type 0} (w : Pass V) where
   -- the frames of both states
@@ -60,7 +66,9 @@ module _ {V : Type 0} (w : Pass V) where
       (m_shown : M.shown ≡ (virtual_machine w.reading w.setting).shown)
       (n_output : N.output ≡ (virtual_machine w.reading (setting' w)).output)
       (n_shown : N.shown ≡ (virtual_machine w.reading (setting' w)).shown)
-      (does_so : (t u : VirtualState) → Related w t u → Sim w t u (M.step t) (N.step u)) where
+      (does_so : (t u : VirtualState) → Related w t u → Sim w t u (M.step t) (N.step u))
+      (pays_so : (t u : VirtualState) → Related w t u
+      → IfRight w (M.step t) (virtual_price (setting' w) u ≤ virtual_price w.setting t)) where
     like : (t u : VirtualState) → Related w t u → Alike SameOrFewer M N t u
     like t u r =
         let facts = r.5 in
@@ -78,38 +86,49 @@ module _ {V : Type 0} (w : Pass V) where
               }));
         })
 
-    abbrev Way : VirtualState → VirtualState → VirtualState → Type 0
-    Way t t1 u = OnTheWay SameOrFewer Any M N t t1 u
+    abbrev cost : VirtualState → ℕ
+    cost u = virtual_price (setting' w) u
+
+    abbrev work : VirtualState → ℕ
+    work t = virtual_price w.setting t
 
     abbrev size : VirtualState → ℕ
     size t = 0
 
-    one_step : (t u : VirtualState) → Related w t u → (y : Next VirtualState V) → Sim w t u y (N.step u)
-        → DoesWithin SameOrFewer 1 M N (Related w) size t u y
-    one_step t u r (Go t1) k = (
+    abbrev Paid : VirtualState → VirtualState → Type 0
+    Paid t u = cost u ≤ work t
+
+    abbrev Does : ℕ → VirtualState → VirtualState → Next VirtualState V → Type 0
+    Does b t u y = DoesOnBudget SameOrFewer M N cost (Related w) size b t u y
+
+    one_step : (b : ℕ) (t u : VirtualState) → work t ≡ b → Related w t u → (y : Next VirtualState V)
+        → Sim w t u y (N.step u) → IfRight w y (Paid t u) → Does b t u y
+    one_step b t u same r (Go t1) k paid = (
       1,
       inl (omega arith),
-      omega arith,
       (
-        (inl (like t u r), tt),
-        subst (λ z. Onward z (Way t t1) (Related w t1)) (sym k.1) k.2,
+        (inl (like t u r), omega arith),
+        subst (λ z. Onward (charge (0 + cost u) z) (OnBudget SameOrFewer M N t t1 b)
+            (λ m. Related w t1 m.rest × (m.spent ≤ b))) (sym k.1) (k.2, omega (arith, paid, same)),
       ),
     )
-    one_step t u r (Stop e t1) k =
+    one_step b t u same r (Stop e t1) k paid =
         unless_wrong_map e (λ h. (
           0,
-          omega arith,
           (
-            (inl (like t u r), tt),
-            (u, h.1, subst (λ z. Alike SameOrFewer M N z u) (sym h.0) (like t u r), tt),
+            (inl (like t u r), omega arith),
+            (u, h.0.1, subst (λ z. Alike SameOrFewer M N z u) (sym h.0.0) (like t u r), (let paid = h.1 in
+                omega (arith, paid, same))),
           ),
-        )) k
+        )) (both _ (Paid t u) e k paid)
 
-    pub in_step : CostSimulation SameOrFewer 1 M N each_one each_one (Related w) size
+    once : (n : ℕ) → n ≡ 1 * n
+    once n = omega arith
+
+    pub in_step : CostSimulation SameOrFewer 1 M N work cost (Related w) size
     in_step = record {
       alike = like;
-      does = λ t u r. within SameOrFewer 1 M N (Related w) size t u (M.step t)
-          (one_step t u r (M.step t) (does_so t u r));
+      does = λ t u r. one_step (1 * work t) t u (once (work t)) r (M.step t) (does_so t u r) (pays_so t u r);
     }
 
   -- ---- both kinds of run
@@ -152,18 +171,80 @@ module _ {V : Type 0} (w : Pass V) where
       by_room room t u (step_here w.reading w.setting (slice_get w.setting.items t.pc) t)
       (step_here w.reading (setting' w) (slice_get (items' w) u.pc) u) (free_step t u r)
 
+  -- want of stack costs what the item would
+  room_pays : (room : ℕ) (t : VirtualState) (P : Type 0) (y : Next VirtualState V) → IfRight w y P
+      → IfRight w (if_room_by w.naming.slots w.reading room t y) P
+  room_pays room t P (Go t1) p = pick (nat_le (stack_by w.naming.slots t1.active.found t1.frames) room)
+    where
+      pick : (c : Bool) → IfRight w (if c then Go t1 else Stop (w.reading (Lacks Stack)) t) P
+      pick true = p
+      pick false = unless (w.reading (Lacks Stack)) p
+  room_pays room t P (Stop e t1) p = p
+
   pub free_simulates : CostSimulation SameOrFewer 1 (virtual_machine w.reading w.setting)
-      (virtual_machine w.reading (setting' w)) each_one each_one (Related w) (λ t. 0)
+      (virtual_machine w.reading (setting' w)) (virtual_price w.setting) (virtual_price (setting' w)) (Related w)
+      (λ t. 0)
   free_simulates =
       in_step (virtual_machine w.reading w.setting) (virtual_machine w.reading (setting' w)) refl refl refl refl
-      free_step
+      free_step (λ t u r. renamed_pays w t u r)
 
   pub sized_simulates : (room : ℕ) → CostSimulation SameOrFewer 1
-      (sized_machine w.reading w.setting w.naming.slots room) (stacked_machine w.reading (setting' w) room) each_one
-      each_one (Related w) (λ t. 0)
+      (sized_machine w.reading w.setting w.naming.slots room) (stacked_machine w.reading (setting' w) room)
+      (virtual_price w.setting) (virtual_price (setting' w)) (Related w) (λ t. 0)
   sized_simulates room =
       in_step (sized_machine w.reading w.setting w.naming.slots room) (stacked_machine w.reading (setting' w) room) refl
-      refl refl refl (room_step room)
+      refl refl refl (room_step room) (λ t u r.
+      room_pays room t (virtual_price (setting' w) u ≤ virtual_price w.setting t)
+      (step_here w.reading w.setting (slice_get w.setting.items t.pc) t) (renamed_pays w t u r))
+
+  -- ---- where the renamed code comes the code comes
+
+  abbrev free : Machine VirtualState Shown V
+  free = virtual_machine w.reading w.setting
+
+  abbrev free' : Machine VirtualState Shown V
+  free' = virtual_machine w.reading (setting' w)
+
+  no_stop : (e : Ending V) (t u : VirtualState) → Stop e t ≡ Go u → ⊥
+  no_stop e t u h = cc
+
+  here_is : (t u : VirtualState) → Go t ≡ (let y : Next VirtualState V = Go u in y) → t ≡ u
+  here_is t u h = cc
+
+  -- so many items lead to such a state
+  abbrev pub ComesFrom : VirtualState → ℕ → VirtualState → Type 0
+  ComesFrom t n u1 = (t1 : VirtualState) × (steps free t n ≡ Go t1) × Related w t1 u1
+
+  goes_back : (t u u1 : VirtualState) (n : ℕ) (y : Next VirtualState V) → free.step t ≡ y
+      → Sim w t u y (free'.step u) → NeverWrong (run free t)
+      → ((t2 u2 : VirtualState) → Related w t2 u2 → NeverWrong (run free t2) → steps free' u2 n ≡ Go u1
+      → ComesFrom t2 n u1)
+      → and_then (free'.step u) (λ u2. steps free' u2 n) ≡ Go u1 → ComesFrom t (suc n) u1
+  goes_back t u u1 n (Go t2) is k never ih h =
+      let on = ih t2 k.0 k.2
+      (λ m e. never (suc m) (ap (λ (x : Moment Shown V). x.ending) (run_go free t t2 m is) ∙ e))
+      (ap (λ y. and_then y (λ u2. steps free' u2 n)) (sym k.1) ∙ h) in
+      (on.0, ap (λ y. and_then y (λ t3. steps free t3 n)) is ∙ on.1, on.2)
+  goes_back t u u1 n (Stop (Verdict v) t2) is k never ih h =
+      absurd (no_stop (Verdict v) u u1 (ap (λ y. and_then y (λ u2. steps free' u2 n)) (sym k.1) ∙ h))
+  goes_back t u u1 n (Stop Exhausted t2) is k never ih h =
+      absurd (no_stop Exhausted u u1 (ap (λ y. and_then y (λ u2. steps free' u2 n)) (sym k.1) ∙ h))
+  goes_back t u u1 n (Stop Wrong t2) is k never ih h =
+      absurd (never 1 (ap (λ y. (seen free (and_then y (λ t3. steps free t3 0))).ending) is))
+
+  pub comes_back : (n : ℕ) (t u u1 : VirtualState) → Related w t u → NeverWrong (run free t)
+      → steps free' u n ≡ Go u1 → ComesFrom t n u1
+  comes_back zero t u u1 r never h = (t, refl, subst (Related w t) (here_is u u1 h) r)
+  comes_back (suc n) t u u1 r never h =
+      goes_back t u u1 n (free.step t) refl (free_step t u r) never
+      (λ t2 u2 r2 never2 h2. comes_back n t2 u2 u1 r2 never2 h2) h
+
+  -- the bytes of the frames of the state that is come to
+  pub frames_same : (t u : VirtualState) → Related w t u
+      → stack_of u.active.found u.frames ≡ stack_by w.naming.slots t.active.found t.frames
+  frames_same t u r =
+      ap (λ (z : VirtualState). stack_of z.active.found z.frames) r.4
+      ∙ stack_same t.active.found t.frames r.1 r.5.frames
 
   -- ---- where both begin
 
@@ -183,6 +264,7 @@ module _ {V : Type 0} (w : Pass V) where
         record {
           code = refl;
           home = refl;
+          found = tt;
           fixed = λ r h. refl;
           holds = λ a x h e. real_held a x e;
           owned = λ v x e. absurd (none_is x e);

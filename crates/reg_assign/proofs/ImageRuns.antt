@@ -1,12 +1,12 @@
 -- The image of a closed program over words follows it, and lacks stack only where it does.
-use Rattle.std.proofs.Common.{ℕ, ◌+◌, ◌^◌, ◌<◌, ◌≡◌, Bool, true, false, List, Some, length, refl, sym, ◌∙◌}
-use Rattle.std.proofs.Common.{ap, subst, arith}
+use Rattle.std.proofs.Common.{ℕ, ◌+◌, ◌^◌, ◌<◌, ◌≡◌, ◌⊎◌, inl, inr, Bool, true, false, List, Some, length, refl, sym}
+use Rattle.std.proofs.Common.{◌∙◌, ap, subst, arith}
 use Rattle.std.specs.Prelude.{◌≤◌, ◌==◌, ◌&&◌, not, if◌then◌else◌, slice_get}
 use Rattle.grift_base.specs.World.{WorldState}
 use Rattle.grift_base.specs.declared.places.Pos.{Pos}
 use Rattle.grift_base.specs.declared.verdicts.Verdict.{Verdict as Outcome}
-use Rattle.run_laws.specs.Runs.{Ending, Verdict, Exhausted, NeverWrong, Any, Through, Run, Follows, EndsAs}
-use Rattle.run_laws.specs.Machines.{Machine, run}
+use Rattle.run_laws.specs.Runs.{Ending, Verdict, Exhausted, Moment, NeverWrong, Any, Through, Run, Follows, EndsAs}
+use Rattle.run_laws.specs.Machines.{Go, Machine, seen, run}
 use Rattle.run_laws.specs.Meters.{Spends, OfRest}
 use Rattle.run_laws.proofs.Public.{follows_of, follows_by_trans, follows_by_weaken, follower_never_goes_wrong}
 use Rattle.run_laws.proofs.Public.{spends_through}
@@ -22,23 +22,29 @@ use Rattle.low_ir.specs.Procedures.{Proc}
 use Rattle.low_ir.specs.Closed.{is_closed}
 use Rattle.low_ir.specs.Run.{LowState, LowShown, low_machine, low_start}
 use Rattle.assembler.specs.Assembled.{item_address, IsImageOf}
+use Rattle.assembler.specs.Prices.{state_price}
 use Rattle.assembler.specs.Following.{IsLike, Simulates as AssembledSimulates}
 use Rattle.rv_select.specs.declared.code.Place.{Place}
 use Rattle.rv_select.specs.declared.code.VirtualItem.{VirtualItem}
 use Rattle.rv_select.specs.declared.code.VirtualItem.TheVariants.{Procedure}
-use Rattle.rv_select.specs.Run.{Shown, virtual_machine}
+use Rattle.rv_select.specs.Run.{VirtualState, Shown, virtual_machine}
 use Rattle.rv_select.specs.Select.{select_items, registers_of}
 use Rattle.rv_select.specs.Selected.{SameRegion, Begins, Simulates, IsCodeOf}
 use Rattle.rv_select.specs.Stacks.{stacked_machine, frames_size, low_in_stack}
-use Rattle.rv_select.proofs.Public.{closed_entry}
-use Rattle.rv_slots.specs.Slotted.{Starts, setting_in, room_in, start_in, IsSeenAs}
+use Rattle.rv_select.proofs.Public.{closed_entry, stack_held}
+use Rattle.rv_slots.specs.Slotted.{Starts, setting_in, room_in, start_in, IsSeenAs, EntersBeyond}
+use Rattle.rv_slots.specs.Slotted.{EndsToo as EndsTooVirtually}
 use Rattle.reg_assign.specs.Places.{place_in}
 use Rattle.reg_assign.specs.Sized.{sized_machine}
-use Rattle.reg_assign.specs.Applied.{applied, slots_of, IsApplied}
+use Rattle.reg_assign.specs.Applied.{applied, slots_of, frames_by, last_frame_by, IsApplied}
 use Rattle.reg_assign.specs.Room.{IsBest}
-use Rattle.reg_assign.specs.Images.{words_code, words_setting, HasRegionOf, FollowsWords, RunsIn, IsImageOfWords}
+use Rattle.reg_assign.specs.Images.{words_code, words_setting, HasRegionOf, FollowsWords, RunsIn, ExceedsStack}
+use Rattle.reg_assign.specs.Images.{EndsToo, IsImageOfWords}
 use Rattle.reg_assign.proofs.ImageBytes.{parts_small, memory_bytes}
 use Rattle.reg_assign.proofs.ProcAddresses.{In, in_procedures, below_numbers, have_addresses}
+use Rattle.reg_assign.proofs.ProcWords.{procedure_words}
+use Rattle.reg_assign.proofs.FrameSizes.{frames_no_larger}
+use Rattle.reg_assign.proofs.Dense.{few}
 use Rattle.reg_assign.proofs.LacksStack.{lacks_with_all}
 
 -- what a real state shows below the last two passes
@@ -179,33 +185,36 @@ module _ {image : List ℕ} {procs : List Proc} {entry : ℕ} {statics : List �
       abbrev real : Machine State State Outcome
       real = real_machine reading code (plain_setting (item_address code statics))
 
-      upper : Simulates (virtual_machine reading (setting_in items told s)) low (words_setting procs told s) p s.regs
-          s.memory s.world
+      abbrev virtual : Machine VirtualState Shown Outcome
+      virtual = virtual_machine reading (setting_in items told s)
+
+      upper : Simulates virtual low (setting_in items told s) (words_setting procs told s) p s.regs s.memory s.world
       upper = selected.runs reading (words_setting procs told s) p s.regs s.memory s.world refl begins never
 
-      virtual_never : NeverWrong (run (virtual_machine reading (setting_in items told s)) (start_in s))
+      virtual_never : NeverWrong (run virtual (start_in s))
       virtual_never = follower_never_goes_wrong (follows_of upper.follows)
 
-      lower : NeverWrong (run real s) → AssembledSimulates (machine_by reading) real s
+      lower : NeverWrong (run real s) → AssembledSimulates (machine_by reading) real
+          (state_price code (plain_setting (item_address code statics))) s
       lower real_never = is.runs reading region stack world given.region_size given.stack_size real_never
 
       -- from the machine of the image over that of the real code and the virtual run to the run over words
-      pub follows_words : reading (Lacks Stack) ≡ Exhausted → FollowsWords reading low low0 s
+      pub follows_words : reading (Lacks Stack) ≡ Exhausted → FollowsWords reading procs low low0 s
       follows_words out =
           let middle = placed.follows selected.well_formed.distinct reading out
           (plain_setting (item_address code statics)) told s starts virtual_never in
           let below = lower (follower_never_goes_wrong (follows_of middle.follows)) in
           let follows = follows_by_weaken (IsSeenAs (s.regs 25)) Any (below_code (s.regs 25)) (λ a b h. tt)
           (follows_by_trans below.follows middle.follows) in
-          let turns = follows_by_weaken (OfRest (IsSeenAs (s.regs 25))) (Spends 516)
-          (λ a b h. below_code (s.regs 25) a.rest b.rest (h.0.rest, h.1, h.2)) (λ a b h. spends_through 12 43 a b h)
+          let turns = follows_by_weaken (OfRest (IsSeenAs (s.regs 25))) (Spends 1)
+          (λ a b h. below_code (s.regs 25) a.rest b.rest (h.0.rest, h.1, h.2)) (λ a b h. spends_through 1 1 a b h)
           (follows_by_trans below.turns middle.turns) in
           record {
             follows = follows_by_weaken (HasRegionOf (s.regs 25)) Any (below_words (s.regs 25)) (λ a b h. tt)
                 (follows_by_trans follows upper.follows);
-            turns = follows_by_weaken (OfRest (HasRegionOf (s.regs 25))) (Spends 4644)
+            turns = follows_by_weaken (OfRest (HasRegionOf (s.regs 25))) (Spends 1)
                 (λ a b h. below_words (s.regs 25) a.rest b.rest (h.0.rest, h.1, h.2))
-                (λ a b h. spends_through 516 9 a b h)
+                (λ a b h. spends_through 1 1 a b h)
                 (follows_by_trans turns upper.turns);
             never_wrong = follower_never_goes_wrong (follows_of follows);
           }
@@ -232,6 +241,85 @@ module _ {image : List ℕ} {procs : List Proc} {entry : ℕ} {statics : List �
           (run (low_in_stack reading (words_setting procs told s) (room_in s)) low0) lacking
           (follows_of in_stack.follows) sized_lacks.0 (stacked_lacks ∙ ap Some read)
 
+      -- ---- where the machine ends
+
+      -- the run over words has come as far as the virtual run
+      ends_too : (verdict : Outcome) (x y : Moment State Outcome) → x.output ≡ y.output
+          → EndsTooVirtually verdict virtual (start_in s) y → (n : ℕ) × EndsToo verdict x (run low low0 n)
+      ends_too verdict x y same e =
+          let back = upper.follows.back e.many in (
+            back.0,
+            record {
+              output = same ∙ (e.output ∙ back.1.0.output);
+              ended = subst (λ o. EndsAs o (run low low0 back.0).ending) e.ended back.1.1;
+            },
+          )
+
+      exceeds : (x y : Moment State Outcome) → x.output ≡ y.output → x.shown.regs 2 ≡ y.shown.regs 2
+          → x.shown.regs 25 ≡ y.shown.regs 25
+          → EntersBeyond items (frames_by (place_in places)) (last_frame_by (place_in places)) virtual (room_in s)
+          (start_in s) y
+          → (n : ℕ) × ExceedsStack procs (room_in s) x (run low low0 n)
+      exceeds x y same sp limit e =
+          let back = upper.follows.back e.many in
+          let t : VirtualState = e.entered in
+          let here : run virtual (start_in s) e.many ≡ seen virtual (Go t) = ap (seen virtual) e.comes in
+          let region : SameRegion (s.regs 25) (s.regs 25) (virtual.shown t) (run low low0 back.0).shown =
+          subst (λ (m : Moment Shown Outcome). SameRegion (s.regs 25) (s.regs 25) m.shown (run low low0 back.0).shown)
+          here back.1.0.shown in
+          let words = procedure_words procs entry e.place e.number t.active.found.first t.active.found.count e.there in
+          let larger = frames_no_larger (place_in places) t.active.found t.frames in
+          let held = stack_held t.active.found t.frames in
+          let more_frames = region.frames in
+          let more_held = region.held in
+          let beyond = e.beyond in
+          let left = e.left in
+          let fewer = few (place_in places) t.active.found.first t.active.found.count in
+          let count = words.3 in (
+            back.0,
+            record {
+              output = same ∙ (e.output ∙ (sym (ap (λ (m : Moment Shown Outcome). m.output) here)
+                  ∙ back.1.0.output));
+              exceeds = omega (arith, beyond, larger, held, more_frames, more_held);
+              number = words.0;
+              proc = words.1;
+              there = words.2;
+              left = omega (arith, left, sp, limit, fewer, count);
+            },
+          )
+
+      pub ends_with_words : IsReading reading → (m : ℕ) (verdict : Outcome)
+          → (run (machine_by reading) s m).ending ≡ Some (Verdict verdict)
+          → (n : ℕ) × (EndsToo verdict (run (machine_by reading) s m) (run low low0 n)
+          ⊎ ((reading (Lacks Stack) ≡ Verdict verdict)
+          × ExceedsStack procs (room_in s) (run (machine_by reading) s m) (run low low0 n)))
+      ends_with_words sound m verdict e =
+          let middle = placed.in_slots selected.well_formed.distinct reading sound
+          (plain_setting (item_address code statics)) told s starts virtual_never in
+          let below = lower (follower_never_goes_wrong (follows_of middle.follows)) in
+          let back = below.follows.back m in
+          let ended : (run real s back.0).ending ≡ Some (Verdict verdict) =
+          subst (λ o. EndsAs o (run real s back.0).ending) e back.1.1 in
+          let like = back.1.0.shown in
+          either back.0 back.1.0.output (like.regs 2 (λ h. cc)) (like.regs 25 (λ h. cc))
+          (placed.stops selected.well_formed.distinct reading sound
+          (plain_setting (item_address code statics)) told s starts virtual_never back.0 verdict ended)
+        where
+          x : Moment State Outcome
+          x = run (machine_by reading) s m
+
+          either : (k : ℕ) → x.output ≡ (run real s k).output
+              → x.shown.regs 2 ≡ (run real s k).shown.regs 2 → x.shown.regs 25 ≡ (run real s k).shown.regs 25
+              → EndsTooVirtually verdict virtual (start_in s) (run real s k)
+              ⊎ ((reading (Lacks Stack) ≡ Verdict verdict)
+              × EntersBeyond items (frames_by (place_in places)) (last_frame_by (place_in places)) virtual (room_in s)
+              (start_in s) (run real s k))
+              → (n : ℕ) × (EndsToo verdict x (run low low0 n)
+              ⊎ ((reading (Lacks Stack) ≡ Verdict verdict) × ExceedsStack procs (room_in s) x (run low low0 n)))
+          either k same sp limit (inl h) = let g = ends_too verdict x (run real s k) same h in (g.0, inl g.1)
+          either k same sp limit (inr h) =
+              let g = exceeds x (run real s k) same sp limit h.1 in (g.0, inr (h.0, g.1))
+
   pub is_image_of_words : IsImageOfWords image procs entry statics labels
   is_image_of_words = record {
     places = places;
@@ -244,6 +332,8 @@ module _ {image : List ℕ} {procs : List Proc} {entry : ℕ} {statics : List �
         follows_words p told region stack world given reading never out;
     lacks = λ reading sound lacking read p told region stack world given never m e.
         lacks_with_words p told region stack world given reading never sound lacking read m e;
+    ends = λ reading sound p told region stack world given never m verdict e.
+        ends_with_words p told region stack world given reading never sound m verdict e;
   }
 
 -- the image of the real code of a closed program's code, whose registers have these places

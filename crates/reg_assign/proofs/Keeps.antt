@@ -21,7 +21,7 @@ use Rattle.rv_slots.proofs.Public.{slots_assemble, slots_spare, slots_begin}
 use Rattle.reg_assign.specs.Rename.{Naming, densely, rename, name, named, rename_all, renamed}
 use Rattle.reg_assign.specs.Applied.{applied, IsApplied}
 use Rattle.reg_assign.proofs.Dense.{near, few}
-use Rattle.reg_assign.proofs.AppliedRuns.{same_marks, does_in_slots, does_as_virtual}
+use Rattle.reg_assign.proofs.AppliedRuns.{same_marks, does_in_slots, does_as_virtual, ends_in_slots}
 
 module _ (w : Naming) (allowed : (v r : ℕ) → w.place v ≡ InReg r → may_hold r ≡ true) where
   held_reads : (r : ℕ) → may_hold r ≡ true → may_read r ≡ true
@@ -185,6 +185,8 @@ is_applied place items live code hold each e =
       in_slots = λ distinct reading. does_in_slots reading items place live hold distinct
           (λ p k first count h. few_at items p k first count each h);
       follows = λ distinct reading. does_as_virtual reading items place live hold distinct
+          (λ p k first count h. few_at items p k first count each h);
+      stops = λ distinct reading. ends_in_slots reading items place live hold distinct
           (λ p k first count h. few_at items p k first count each h);
     })
   where

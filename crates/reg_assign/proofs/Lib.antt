@@ -1,6 +1,7 @@
 mod Names
 mod Renaming
 mod Dense
+mod RenamedPrices
 mod Follows
 mod InSlots
 mod AppliedRuns
@@ -22,5 +23,6 @@ mod Rooms
 mod Assigned
 mod LacksStack
 mod ProcAddresses
+mod ProcWords
 mod ImageBytes
 mod ImageRuns

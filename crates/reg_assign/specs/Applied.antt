@@ -8,17 +8,20 @@ use Rattle.rv_machine.specs.State.{State, Halt, Lacks, Stack}
 use Rattle.rv_machine.specs.Mach.{IsReading}
 use Rattle.rv_machine.specs.Real.{Setting as RealSetting, real_machine}
 use Rattle.assembler.specs.Conditions.{CanBeAssembled}
+use Rattle.assembler.specs.Prices.{state_price}
 use Rattle.rv_select.specs.declared.code.Place.{Place}
 use Rattle.rv_select.specs.declared.code.Place.TheVariants.{Slot}
 use Rattle.rv_select.specs.declared.code.VirtualItem.{VirtualItem}
-use Rattle.rv_select.specs.Run.{Found, virtual_machine, is_own}
+use Rattle.rv_select.specs.Run.{Found, VirtualState, virtual_machine, is_own}
+use Rattle.rv_select.specs.Prices.{virtual_price}
+use Rattle.rv_select.specs.Stacks.{frame_size}
 use Rattle.rv_select.specs.Marks.{marks, Distinct}
 use Rattle.rv_select.specs.WellFormed.{IsWellFormed}
 use Rattle.rv_slots.specs.Slots.{slots_items, slot_offset}
 use Rattle.rv_slots.specs.Slotted.{free_mark, Starts, setting_in, room_in, start_in, FollowsVirtual}
-use Rattle.rv_slots.specs.Slotted.{SparesLast, ProceduresBegin}
+use Rattle.rv_slots.specs.Slotted.{EndsAsVirtual, SparesLast, ProceduresBegin}
 use Rattle.reg_assign.specs.Rename.{renamed, densely}
-use Rattle.reg_assign.specs.Sized.{sized_machine}
+use Rattle.reg_assign.specs.Sized.{stack_by, sized_machine}
 
 -- the registers are renamed, and those that are left have slots
 abbrev pub applied : (ℕ → Place) → List VirtualItem → List RealItem
@@ -35,8 +38,9 @@ abbrev pub DoesInSlots : {V : Type 0} → (Halt → Ending V) → (ℕ → Place
 DoesInSlots reading place items code =
     IsReading reading → (setting : RealSetting) (told : ℕ → ℕ) (s : State) → Starts items code setting told s
     → NeverWrong (run (virtual_machine reading (setting_in items told s)) (start_in s))
-    → FollowsVirtual 43 (real_machine reading code setting)
-    (sized_machine reading (setting_in items told s) (slots_of place) (room_in s)) s
+    → FollowsVirtual (real_machine reading code setting) (state_price code setting)
+    (sized_machine reading (setting_in items told s) (slots_of place) (room_in s))
+    (virtual_price (setting_in items told s)) s
 
 -- where want of stack is read as exhausted, the machine follows the virtual run that has no bound on its stack
 abbrev pub DoesAsVirtual : {V : Type 0} → (Halt → Ending V) → List VirtualItem → List RealItem → Type 0
@@ -44,7 +48,24 @@ DoesAsVirtual reading items code =
     reading (Lacks Stack) ≡ Exhausted → (setting : RealSetting) (told : ℕ → ℕ) (s : State)
     → Starts items code setting told s
     → NeverWrong (run (virtual_machine reading (setting_in items told s)) (start_in s))
-    → FollowsVirtual 43 (real_machine reading code setting) (virtual_machine reading (setting_in items told s)) s
+    → FollowsVirtual (real_machine reading code setting) (state_price code setting)
+    (virtual_machine reading (setting_in items told s)) (virtual_price (setting_in items told s)) s
+
+-- the bytes of all frames of a state, and those of the last, where a frame has the link and the slots that are left
+abbrev pub frames_by : (ℕ → Place) → VirtualState → ℕ
+frames_by place t = stack_by (slots_of place) t.active.found t.frames
+
+abbrev pub last_frame_by : (ℕ → Place) → VirtualState → ℕ
+last_frame_by place t = frame_size (slots_of place t.active.found.first t.active.found.count)
+
+-- where the machine ends with a verdict, so does the virtual run that has no bound on its stack, or that verdict is
+-- want of stack, and the next frame with the slots that are left doesn't fit
+abbrev pub StopsInSlots : {V : Type 0} → (Halt → Ending V) → (ℕ → Place) → List VirtualItem → List RealItem → Type 0
+StopsInSlots reading place items code =
+    IsReading reading → (setting : RealSetting) (told : ℕ → ℕ) (s : State) → Starts items code setting told s
+    → NeverWrong (run (virtual_machine reading (setting_in items told s)) (start_in s))
+    → EndsAsVirtual reading items (frames_by place) (last_frame_by place) (real_machine reading code setting)
+    (virtual_machine reading (setting_in items told s)) s
 
 -- the code of a virtual one with these places
 pub record IsApplied (place : ℕ → Place) (items : List VirtualItem) (code : List RealItem) : Type 0 where
@@ -62,3 +83,4 @@ pub record IsApplied (place : ℕ → Place) (items : List VirtualItem) (code : 
   -- what it does, however stops are read as endings, where no mark stands twice in the virtual code
   pub in_slots : Distinct (marks items) → (reading : Halt → Ending Verdict) → DoesInSlots reading place items code
   pub follows : Distinct (marks items) → (reading : Halt → Ending Verdict) → DoesAsVirtual reading items code
+  pub stops : Distinct (marks items) → (reading : Halt → Ending Verdict) → StopsInSlots reading place items code

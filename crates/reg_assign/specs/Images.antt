@@ -1,9 +1,9 @@
 -- What the image of a closed program over words is to the program, where the virtual registers of its code have places.
-use Rattle.std.specs.Prelude.{ℕ, ◌+◌, ◌^◌, ◌<◌, ◌≤◌, ◌≡◌, List, length, Some, slice_get}
+use Rattle.std.specs.Prelude.{ℕ, ◌+◌, ◌^◌, ◌<◌, ◌≤◌, ◌≡◌, ◌⊎◌, List, length, Some, slice_get}
 use Rattle.grift_base.specs.World.{WorldState}
 use Rattle.grift_base.specs.declared.places.Pos.{Pos}
 use Rattle.grift_base.specs.declared.verdicts.Verdict.{Verdict as Outcome}
-use Rattle.run_laws.specs.Runs.{Ending, Verdict, Exhausted, NeverWrong, FollowsBy, Any}
+use Rattle.run_laws.specs.Runs.{Ending, Verdict, Exhausted, Moment, NeverWrong, FollowsBy, Any}
 use Rattle.run_laws.specs.Machines.{Machine, run}
 use Rattle.run_laws.specs.Meters.{unspent, metered, each_one, Spends, OfRest}
 use Rattle.rv_isa.specs.declared.real.RealItem.{RealItem}
@@ -13,11 +13,13 @@ use Rattle.rv_machine.specs.Start.{start_of, IsRegionSize, IsStackSize}
 use Rattle.rv_machine.specs.Mach.{machine_by, IsReading}
 use Rattle.rv_machine.specs.Real.{mark_address}
 use Rattle.low_ir.specs.Procedures.{Proc}
-use Rattle.low_ir.specs.Run.{Setting as LowSetting, LowState, LowShown, low_machine, low_turns, low_start}
+use Rattle.low_ir.specs.Prices.{low_price}
+use Rattle.low_ir.specs.Run.{Setting as LowSetting, LowState, LowShown, low_machine, low_start}
 use Rattle.assembler.specs.Assembled.{item_address, IsImageOf}
 use Rattle.rv_select.specs.declared.code.Place.{Place}
+use Rattle.rv_select.specs.Prices.{start_price}
 use Rattle.rv_select.specs.Select.{select_items, registers_of}
-use Rattle.rv_select.specs.Stacks.{frames_size, low_in_stack}
+use Rattle.rv_select.specs.Stacks.{frame_size, frames_size, low_in_stack}
 use Rattle.rv_slots.specs.Slotted.{room_in}
 use Rattle.reg_assign.specs.Places.{place_in}
 use Rattle.reg_assign.specs.Applied.{applied}
@@ -50,14 +52,14 @@ pub record HasRegionOf (region_end : ℕ) (s : State) (l : LowShown) : Type 0 wh
   pub above : region_end ≤ s.regs 2
   pub used : s.layout.end ≤ s.regs 2 + frames_size l.frames l.held
 
--- from its start state on the machine follows a run over words; it takes at most 4,644 turns for each turn of that run,
--- and as many for the start
-pub record FollowsWords {V : Type 0} (reading : Halt → Ending V) (Y : Machine LowState LowShown V) (start : LowState)
-    (s : State) : Type 0 where
+-- from its start state on the machine follows a run over words of these procedures; it takes no more turns than the
+-- prices of the steps of that run add up to, and the price of the start
+pub record FollowsWords {V : Type 0} (reading : Halt → Ending V) (procs : List Proc) (Y : Machine LowState LowShown V)
+    (start : LowState) (s : State) : Type 0 where
   pub follows : FollowsBy (HasRegionOf (s.regs 25)) Any (run (machine_by reading) s) (run Y start)
-  pub turns : FollowsBy (OfRest (HasRegionOf (s.regs 25))) (Spends 4644)
+  pub turns : FollowsBy (OfRest (HasRegionOf (s.regs 25))) (Spends 1)
       (run (metered each_one (machine_by reading)) (unspent s))
-      (run (metered low_turns Y) (record { spent = 1; rest = start }))
+      (run (metered (low_price procs) Y) (record { spent = start_price; rest = start }))
   pub never_wrong : NeverWrong (run (machine_by reading) s)
 
 -- the image runs in a region and a stack that it may be given, and the run over words is told the address of the mark
@@ -79,7 +81,7 @@ RunsAsProgram reading image code procs entry statics =
     → let s = start_of image region stack world in
     NeverWrong (run (low_machine reading (words_setting procs told s))
     (low_start (words_setting procs told s) p s.memory s.world))
-    → FollowsWords reading (low_machine reading (words_setting procs told s))
+    → FollowsWords reading procs (low_machine reading (words_setting procs told s))
     (low_start (words_setting procs told s) p s.memory s.world) s
 
 -- Where it never goes wrong, and want of stack is read as a verdict: if the machine lacks stack, so does the run over
@@ -97,6 +99,38 @@ LacksWithWords {V = V} reading image code procs entry statics =
     → (m : ℕ) → (run (machine_by reading) s m).ending ≡ Some (Verdict lacking)
     → (n : ℕ) × ((run (low_in_stack reading (words_setting procs told s) (room_in s))
     (low_start (words_setting procs told s) p s.memory s.world) n).ending ≡ Some (Verdict lacking))
+
+-- The machine has come to its end, and a run over words has come so far that it has printed the same: frames with all
+-- words of its active procedures don't fit into a stack of so many bytes, and in the machine's stack fewer bytes are
+-- left than the frame of some procedure has.
+pub record ExceedsStack {V : Type 0} (procs : List Proc) (room : ℕ) (x : Moment State V) (y : Moment LowShown V) :
+    Type 0 where
+  pub output : x.output ≡ y.output
+  pub exceeds : room < frames_size y.shown.frames y.shown.held
+  pub number : ℕ
+  pub proc : Proc
+  pub there : slice_get procs number ≡ Some proc
+  pub left : x.shown.regs 2 < x.shown.regs 25 + frame_size proc.words
+
+-- the run over words has printed the same, and ends with the same verdict
+pub record EndsToo {V : Type 0} (verdict : V) (x : Moment State V) (y : Moment LowShown V) : Type 0 where
+  pub output : x.output ≡ y.output
+  pub ended : y.ending ≡ Some (Verdict verdict)
+
+-- Where the run over words never goes wrong, and the machine has ended with a verdict: that run, with no bound on its
+-- stack, has come to a moment at which it has ended so too; or the verdict is want of stack, and at that moment its
+-- frames exceed the machine's stack.
+abbrev pub EndsWithWords : {V : Type 0} → (Halt → Ending V) → List ℕ → List RealItem → List Proc → ℕ → List ℕ → Type 0
+EndsWithWords {V = V} reading image code procs entry statics =
+    IsReading reading → (p : Proc) (told : ℕ → ℕ) (region stack : ℕ) (world : WorldState)
+    → RunsIn code statics procs entry p told region stack
+    → let s = start_of image region stack world in
+    let X = run (machine_by reading) s in
+    let Y = run (low_machine reading (words_setting procs told s))
+    (low_start (words_setting procs told s) p s.memory s.world) in
+    NeverWrong Y → (m : ℕ) (verdict : V) → (X m).ending ≡ Some (Verdict verdict)
+    → (n : ℕ) × (EndsToo verdict (X m) (Y n)
+    ⊎ ((reading (Lacks Stack) ≡ Verdict verdict) × ExceedsStack procs (room_in s) (X m) (Y n)))
 
 -- the mark of each of so many procedures has an address, which is a word, and no two have the same
 pub record HaveAddresses (code : List RealItem) (statics : List ℕ) (many : ℕ) : Type 0 where
@@ -119,3 +153,5 @@ pub record IsImageOfWords (image : List ℕ) (procs : List Proc) (entry : ℕ) (
       → RunsAsProgram reading image (words_code places procs entry) procs entry statics
   pub lacks : (reading : Halt → Ending Outcome)
       → LacksWithWords reading image (words_code places procs entry) procs entry statics
+  pub ends : (reading : Halt → Ending Outcome)
+      → EndsWithWords reading image (words_code places procs entry) procs entry statics

@@ -434,7 +434,13 @@ module _ {V : Type 0} (w : Slotting V) where
               step = q.0.step;
               same = q.0.alike;
               few = (let one = q.0.one in let spent = q.1 in omega (arith, few, made, one, spent));
-              lacking = record { left = q.0.left; world = q.0.world ∙ world };
+              lacking = record {
+                left = q.0.left;
+                world = q.0.world ∙ world;
+                place = begins.mark;
+                number = k;
+                there = begins.is;
+              };
             }) (suc r.later) (unspent s) (r.pays 0 (before + entry_price f.count) (omega arith)),
           )
 

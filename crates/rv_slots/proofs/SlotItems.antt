@@ -197,6 +197,9 @@ module _ {V : Type 0} (w : Slotting V) where
   pub record IsShort (s : State) (t : VirtualState) : Type 0 where
     pub left : s.regs 2 < s.regs 25 + frame_size t.active.found.count
     pub world : s.world ≡ t.world
+    pub place : ℕ
+    pub number : ℕ
+    pub there : slice_get w.items place ≡ Some (Procedure number t.active.found.first t.active.found.count)
 
   abbrev pub Lacking : State → Step VirtualState V → Type 0
   Lacking s (Go t) = IsShort s t

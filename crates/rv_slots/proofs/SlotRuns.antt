@@ -14,6 +14,7 @@ use Rattle.rv_select.specs.declared.code.VirtualItem.TheVariants.{Procedure}
 use Rattle.rv_select.specs.Run.{VirtualState, Shown, virtual_machine}
 use Rattle.assembler.specs.Prices.{state_price}
 use Rattle.rv_select.specs.Prices.{virtual_price}
+use Rattle.rv_select.proofs.Public.{unmetered}
 use Rattle.rv_select.specs.Marks.{marks, Distinct}
 use Rattle.rv_slots.specs.Slots.{slots_items}
 use Rattle.rv_select.specs.Stacks.{stacked_machine}
@@ -24,18 +25,6 @@ use Rattle.rv_slots.proofs.SlotSteps.{slots_simulate}
 use Rattle.rv_slots.proofs.SlotDistinct.{slots_once}
 use Rattle.rv_slots.proofs.Stopping.{ends_as_virtual}
 use Rattle.rv_slots.proofs.InStack.{stacked_never_wrong, stacked_simulates}
-
--- a machine that follows another at a cost follows it
-unmetered : {A B V S T : Type 0} (K : A → B → Type 0) (c : ℕ) (X : Machine S A V) (cost : S → ℕ) (Y : Machine T B V)
-    (work : T → ℕ) (s : S) (t : T) → NeverWrong (run Y t)
-    → FollowsBy (OfRest K) (Spends c) (run (metered cost X) (unspent s)) (run (metered work Y) (unspent t))
-    → FollowsBy K Any (run X s) (run Y t)
-unmetered K c X cost Y work s t never h =
-    let never1 = unmetered_never_wrong X cost (unspent s) (follower_never_goes_wrong (follows_of h)) in
-    let below = follows_metered X cost (unspent s) never1 in
-    let above = metered_follows Y work (unspent t) never in
-    follows_by_weaken K Any (λ a b k. subst (λ x. K x b) (sym k.1) (subst (λ y. K k.0.rest y) k.2.2 k.2.1))
-    (λ a b k. tt) (follows_by_trans below (follows_by_trans h above))
 
 module _ {V : Type 0} (reading : Halt → Ending V) (items : List VirtualItem) (distinct : Distinct (marks items))
     (counts : (p k first count : ℕ) → slice_get items p ≡ Some (Procedure k first count) → count < 2 ^ 32) where
@@ -98,7 +87,7 @@ module _ {V : Type 0} (reading : Halt → Ending V) (items : List VirtualItem) (
         let never1 = stacked_never_wrong reading (setting_in items told s) (room_in s) lacking (start_in s) never in
         let turns = follows_at_cost (slots_simulate slotting) (start_in s) s at_start never1 in
         record {
-          follows = unmetered (IsSeenAs (s.regs 25)) 1 real price bound work s (start_in s) never1 turns;
+          follows = unmetered bound real work price (unspent (start_in s)) s never1 turns;
           turns = turns;
         }
 
@@ -111,14 +100,14 @@ module _ {V : Type 0} (reading : Halt → Ending V) (items : List VirtualItem) (
         (λ a b k. subst (λ x. IsSeenAs (s.regs 25) a.rest x) k.2 k.1) (λ a b k. spends_through 1 1 a b k)
         (follows_by_trans (follows_in_stack lacking).turns upper) in
         record {
-          follows = unmetered (IsSeenAs (s.regs 25)) 1 real price free work s (start_in s) never turns;
+          follows = unmetered free real work price (unspent (start_in s)) s never turns;
           turns = turns;
         }
       where
         not_both : (o : Ending V) → o ≡ Exhausted → o ≡ Wrong → ⊥
         not_both o e f = cc
 
-    pub stops_as_virtual : reading (Lacks Stack) ≢ Wrong → EndsAsVirtual reading frames_of last_frame real free s
+    pub stops_as_virtual : reading (Lacks Stack) ≢ Wrong → EndsAsVirtual reading items frames_of last_frame real free s
     stops_as_virtual lacking m verdict h =
         ends_as_virtual slotting (start_in s) s at_start
         (stacked_never_wrong reading (setting_in items told s) (room_in s) lacking (start_in s) never) m verdict h

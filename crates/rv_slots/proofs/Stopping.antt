@@ -143,10 +143,10 @@ module _ {V : Type 0} (w : Slotting V) where
 
   -- the next item entered a procedure whose frame doesn't fit
   record Short (e : Ending V) (t : VirtualState) (x : Moment Told V) : Type 0 where
-    items : ℕ
+    many : ℕ
     from : VirtualState
     entered : VirtualState
-    comes : steps free t items ≡ Go entered
+    comes : steps free t many ≡ Go entered
     next : free.step from ≡ Go entered
     beyond : room w < stack_of entered.active.found entered.frames
     reads : w.reading (Lacks Stack) ≡ e
@@ -154,9 +154,9 @@ module _ {V : Type 0} (w : Slotting V) where
 
   -- the run with no bound on its stack ends so
   record Plain (e : Ending V) (t : VirtualState) (x : Moment Told V) : Type 0 where
-    items : ℕ
-    ended : (run free t items).ending ≡ Some e
-    output : x.output ≡ (run free t items).output
+    many : ℕ
+    ended : (run free t many).ending ≡ Some e
+    output : x.output ≡ (run free t many).output
 
   some_is : (a b : Ending V) → Some a ≡ Some b → a ≡ b
   some_is a b h = cc
@@ -168,19 +168,19 @@ module _ {V : Type 0} (w : Slotting V) where
       → Short e t1 x ⊎ Plain e t1 x → Short e t x ⊎ Plain e t x
   later t t1 e x same (inl r) =
       inl (record {
-        items = suc r.items;
+        many = suc r.many;
         from = r.from;
         entered = r.entered;
-        comes = ap (λ y. and_then y (λ t2. steps free t2 r.items)) same ∙ r.comes;
+        comes = ap (λ y. and_then y (λ t2. steps free t2 r.many)) same ∙ r.comes;
         next = r.next;
         beyond = r.beyond;
         reads = r.reads;
         is = r.is;
       })
   later t t1 e x same (inr r) =
-      let on : run free t (suc r.items) ≡ run free t1 r.items = run_go free t t1 r.items same in
+      let on : run free t (suc r.many) ≡ run free t1 r.many = run_go free t t1 r.many same in
       inr (record {
-        items = suc r.items;
+        many = suc r.many;
         ended = ap (λ (y : Moment Shown V). y.ending) on ∙ r.ended;
         output = r.output ∙ sym (ap (λ (y : Moment Shown V). y.output) on);
       })
@@ -200,7 +200,7 @@ module _ {V : Type 0} (w : Slotting V) where
       by_room true fits g = later t t1 e (run telling (Running t1) n) same (ih t1 g)
       by_room false lacks g =
           inl (record {
-            items = 1;
+            many = 1;
             from = t;
             entered = t1;
             comes = ap (λ y. and_then y (λ t2. steps free t2 0)) same;
@@ -212,7 +212,7 @@ module _ {V : Type 0} (w : Slotting V) where
   stopped_by n t e (Stop o t1) same ih h =
       let on : run free t 1 ≡ seen free (Stop o t1) = ap (λ y. seen free (and_then y (λ t2. steps free t2 0))) same in
       inr (record {
-        items = 1;
+        many = 1;
         ended = ap (λ (y : Moment Shown V). y.ending) on ∙ h;
         output = sym (ap (λ (y : Moment Shown V). y.output) on);
       })
@@ -228,7 +228,7 @@ module _ {V : Type 0} (w : Slotting V) where
       → (run (N w) s m).ending ≡ Some (Verdict verdict)
       → EndsToo verdict free t (run (N w) s m)
       ⊎ ((w.reading (Lacks Stack) ≡ Verdict verdict)
-      × EntersBeyond frames_of last_frame free (room w) t (run (N w) s m))
+      × EntersBeyond w.items frames_of last_frame free (room w) t (run (N w) s m))
   ends_as_virtual t s on never m verdict h =
       let back = (follows_telling t s on never).back m in
       let ended : (run telling (Running t) back.0).ending ≡ Some (Verdict verdict) =
@@ -242,18 +242,22 @@ module _ {V : Type 0} (w : Slotting V) where
       by_end : (y : Moment Told V) → x.output ≡ y.output → Sees x.shown y.shown
           → Short (Verdict verdict) t y ⊎ Plain (Verdict verdict) t y
           → EndsToo verdict free t x
-          ⊎ ((w.reading (Lacks Stack) ≡ Verdict verdict) × EntersBeyond frames_of last_frame free (room w) t x)
+          ⊎ ((w.reading (Lacks Stack) ≡ Verdict verdict)
+          × EntersBeyond w.items frames_of last_frame free (room w) t x)
       by_end y same sees (inl r) =
           let lacking : Lacking w x.shown (Go r.entered) =
           subst (Lacking w x.shown) r.next (subst (Sees x.shown) r.is sees) in
           inr (r.reads, record {
-            items = r.items;
+            many = r.many;
             entered = r.entered;
             comes = r.comes;
             output = shows_output (N w) (λ u. refl) (steps (N w) s m)
                 ∙ ap (λ (world : WorldState). world.output) lacking.world;
+            place = lacking.place;
+            number = lacking.number;
+            there = lacking.there;
             beyond = r.beyond;
             left = lacking.left;
           })
       by_end y same sees (inr r) =
-          inl (record { items = r.items; ended = r.ended; output = same ∙ r.output })
+          inl (record { many = r.many; ended = r.ended; output = same ∙ r.output })

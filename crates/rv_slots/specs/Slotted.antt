@@ -130,33 +130,38 @@ DoesAsVirtual reading items code =
 
 -- ---- where the machine stops
 
--- The machine has come to its end where the virtual run, with no bound on its stack, has come to the beginning of a
+-- The machine has come to its end where the virtual run of these items, with no bound on its stack, has come into a
 -- procedure: both have printed the same, the frames of that state don't fit into the stack, and fewer bytes are left
 -- in it than the frame of that procedure has. Told how many bytes the frames of a state have, and that one frame.
-pub record EntersBeyond {V : Type 0} (frames frame : VirtualState → ℕ) (Y : Machine VirtualState Shown V) (room : ℕ)
-    (start : VirtualState) (x : Moment State V) : Type 0 where
-  pub items : ℕ
+pub record EntersBeyond {V : Type 0} (items : List VirtualItem) (frames frame : VirtualState → ℕ)
+    (Y : Machine VirtualState Shown V) (room : ℕ) (start : VirtualState) (x : Moment State V) : Type 0 where
+  pub many : ℕ
   pub entered : VirtualState
-  pub comes : steps Y start items ≡ Go entered
+  pub comes : steps Y start many ≡ Go entered
   pub output : x.output ≡ entered.world.output
+  pub place : ℕ
+  pub number : ℕ
+  pub there : slice_get items place
+      ≡ Some (Procedure number entered.active.found.first entered.active.found.count)
   pub beyond : room < frames entered
   pub left : x.shown.regs 2 < x.shown.regs 25 + frame entered
 
 -- the virtual run has printed the same, and ends with the same verdict
 pub record EndsToo {V : Type 0} (verdict : V) (Y : Machine VirtualState Shown V) (start : VirtualState)
     (x : Moment State V) : Type 0 where
-  pub items : ℕ
-  pub ended : (run Y start items).ending ≡ Some (Verdict verdict)
-  pub output : x.output ≡ (run Y start items).output
+  pub many : ℕ
+  pub ended : (run Y start many).ending ≡ Some (Verdict verdict)
+  pub output : x.output ≡ (run Y start many).output
 
 -- where the machine has ended with a verdict, so does the virtual run that has no bound on its stack, or that verdict
 -- is want of stack, and the next frame doesn't fit
-abbrev pub EndsAsVirtual : {V : Type 0} → (Halt → Ending V) → (frames frame : VirtualState → ℕ)
+abbrev pub EndsAsVirtual : {V : Type 0} → (Halt → Ending V) → List VirtualItem → (frames frame : VirtualState → ℕ)
     → Machine State State V → Machine VirtualState Shown V → State → Type 0
-EndsAsVirtual {V = V} reading frames frame X Y s =
+EndsAsVirtual {V = V} reading items frames frame X Y s =
     (m : ℕ) (verdict : V) → (run X s m).ending ≡ Some (Verdict verdict)
     → EndsToo verdict Y (start_in s) (run X s m)
-    ⊎ ((reading (Lacks Stack) ≡ Verdict verdict) × EntersBeyond frames frame Y (room_in s) (start_in s) (run X s m))
+    ⊎ ((reading (Lacks Stack) ≡ Verdict verdict)
+    × EntersBeyond items frames frame Y (room_in s) (start_in s) (run X s m))
 
 -- the bytes of all frames of a state, and those of the last
 abbrev pub frames_of : VirtualState → ℕ
@@ -169,7 +174,7 @@ abbrev pub StopsAsVirtual : {V : Type 0} → (Halt → Ending V) → List Virtua
 StopsAsVirtual reading items code =
     IsReading reading → (setting : RealSetting) (told : ℕ → ℕ) (s : State) → Starts items code setting told s
     → NeverWrong (run (virtual_machine reading (setting_in items told s)) (start_in s))
-    → EndsAsVirtual reading frames_of last_frame (real_machine reading code setting)
+    → EndsAsVirtual reading items frames_of last_frame (real_machine reading code setting)
     (virtual_machine reading (setting_in items told s)) s
 
 -- ---- what the code keeps to
