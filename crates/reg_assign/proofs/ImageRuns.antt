@@ -5,6 +5,7 @@ use Rattle.std.specs.Prelude.{◌≤◌, ◌==◌, ◌&&◌, not, if◌then◌el
 use Rattle.grift_base.specs.World.{WorldState}
 use Rattle.grift_base.specs.declared.places.Pos.{Pos}
 use Rattle.grift_base.specs.declared.verdicts.Verdict.{Verdict as Outcome}
+use Rattle.grift_base.specs.declared.verdicts.Verdict.TheVariants.{StackOut}
 use Rattle.run_laws.specs.Runs.{Ending, Verdict, Exhausted, Moment, NeverWrong, Any, Through, Run, Follows, EndsAs}
 use Rattle.run_laws.specs.Machines.{Go, Machine, seen, run}
 use Rattle.run_laws.specs.Meters.{Spends, OfRest}
@@ -16,11 +17,11 @@ use Rattle.rv_machine.specs.Registers.{Registers, set_reg, zero_regs}
 use Rattle.rv_machine.specs.Image.{IsImage, statics_len, code_len}
 use Rattle.rv_machine.specs.State.{State, Layout, Halt, Lacks, Stack}
 use Rattle.rv_machine.specs.Start.{start_of, start_regs}
-use Rattle.rv_machine.specs.Mach.{machine_by, IsReading}
+use Rattle.rv_machine.specs.Mach.{run_of, machine_by, IsReading}
 use Rattle.rv_machine.specs.Real.{plain_setting, real_machine}
 use Rattle.low_ir.specs.Procedures.{Proc}
 use Rattle.low_ir.specs.Closed.{is_closed}
-use Rattle.low_ir.specs.Run.{LowState, LowShown, low_machine, low_start}
+use Rattle.low_ir.specs.Run.{Setting as LowSetting, LowState, LowShown, low_machine, low_start}
 use Rattle.assembler.specs.Assembled.{item_address, IsImageOf}
 use Rattle.assembler.specs.Prices.{state_price}
 use Rattle.assembler.specs.Following.{IsLike, Simulates as AssembledSimulates}
@@ -33,16 +34,18 @@ use Rattle.rv_select.specs.Selected.{SameRegion, Begins, Simulates, IsCodeOf}
 use Rattle.rv_select.specs.Stacks.{stacked_machine, frames_size, low_in_stack}
 use Rattle.rv_select.proofs.Public.{closed_entry, stack_held}
 use Rattle.rv_slots.specs.Slotted.{Starts, setting_in, room_in, start_in, IsSeenAs, EntersBeyond}
-use Rattle.rv_slots.specs.Slotted.{EndsToo as EndsTooVirtually}
+use Rattle.rv_slots.specs.Slotted.{EndsToo}
 use Rattle.reg_assign.specs.Places.{place_in}
 use Rattle.reg_assign.specs.Sized.{sized_machine}
 use Rattle.reg_assign.specs.Applied.{applied, slots_of, frames_by, last_frame_by, IsApplied}
 use Rattle.reg_assign.specs.Room.{IsBest}
 use Rattle.reg_assign.specs.Images.{words_code, words_setting, HasRegionOf, FollowsWords, RunsIn, ExceedsStack}
-use Rattle.reg_assign.specs.Images.{EndsToo, IsImageOfWords}
+use Rattle.reg_assign.specs.Images.{IsImageOfWords}
 use Rattle.reg_assign.proofs.ImageBytes.{parts_small, memory_bytes}
 use Rattle.reg_assign.proofs.ProcAddresses.{In, in_procedures, below_numbers, have_addresses}
 use Rattle.reg_assign.proofs.ProcWords.{procedure_words}
+use Rattle.reg_assign.proofs.Readings.{same_but_ending, words_never_wrong, of_stack, of_stack_reads, words_lack_stack}
+use Rattle.reg_assign.proofs.Readings.{stopped, stop_read}
 use Rattle.reg_assign.proofs.FrameSizes.{frames_no_larger}
 use Rattle.reg_assign.proofs.Dense.{few}
 use Rattle.reg_assign.proofs.LacksStack.{lacks_with_all}
@@ -241,26 +244,30 @@ module _ {image : List ℕ} {procs : List Proc} {entry : ℕ} {statics : List �
           (run (low_in_stack reading (words_setting procs told s) (room_in s)) low0) lacking
           (follows_of in_stack.follows) sized_lacks.0 (stacked_lacks ∙ ap Some read)
 
-      -- ---- where the machine ends
+      -- ---- where the machine ends with a verdict
 
-      -- the run over words has come as far as the virtual run
+      -- so has the run over words, with the same output, or that exceeds the machine's stack
+      abbrev EndsSo : Outcome → Moment State Outcome → Moment LowShown Outcome → Type 0
+      EndsSo verdict x y =
+          (x.output ≡ y.output) × ((y.ending ≡ Some (Verdict verdict)) ⊎ ExceedsStack procs (room_in s) x.shown y.shown)
+
       ends_too : (verdict : Outcome) (x y : Moment State Outcome) → x.output ≡ y.output
-          → EndsTooVirtually verdict virtual (start_in s) y → (n : ℕ) × EndsToo verdict x (run low low0 n)
+          → EndsToo verdict virtual (start_in s) y → (n : ℕ) × EndsSo verdict x (run low low0 n)
       ends_too verdict x y same e =
           let back = upper.follows.back e.many in (
             back.0,
-            record {
-              output = same ∙ (e.output ∙ back.1.0.output);
-              ended = subst (λ o. EndsAs o (run low low0 back.0).ending) e.ended back.1.1;
-            },
+            (
+              same ∙ (e.output ∙ back.1.0.output),
+              inl (subst (λ o. EndsAs o (run low low0 back.0).ending) e.ended back.1.1),
+            ),
           )
 
-      exceeds : (x y : Moment State Outcome) → x.output ≡ y.output → x.shown.regs 2 ≡ y.shown.regs 2
-          → x.shown.regs 25 ≡ y.shown.regs 25
+      exceeds : (verdict : Outcome) (x y : Moment State Outcome) → x.output ≡ y.output
+          → x.shown.regs 2 ≡ y.shown.regs 2 → x.shown.regs 25 ≡ y.shown.regs 25
           → EntersBeyond items (frames_by (place_in places)) (last_frame_by (place_in places)) virtual (room_in s)
           (start_in s) y
-          → (n : ℕ) × ExceedsStack procs (room_in s) x (run low low0 n)
-      exceeds x y same sp limit e =
+          → (n : ℕ) × EndsSo verdict x (run low low0 n)
+      exceeds verdict x y same sp limit e =
           let back = upper.follows.back e.many in
           let t : VirtualState = e.entered in
           let here : run virtual (start_in s) e.many ≡ seen virtual (Go t) = ap (seen virtual) e.comes in
@@ -277,22 +284,21 @@ module _ {image : List ℕ} {procs : List Proc} {entry : ℕ} {statics : List �
           let fewer = few (place_in places) t.active.found.first t.active.found.count in
           let count = words.3 in (
             back.0,
-            record {
-              output = same ∙ (e.output ∙ (sym (ap (λ (m : Moment Shown Outcome). m.output) here)
-                  ∙ back.1.0.output));
-              exceeds = omega (arith, beyond, larger, held, more_frames, more_held);
-              number = words.0;
-              proc = words.1;
-              there = words.2;
-              left = omega (arith, left, sp, limit, fewer, count);
-            },
+            (
+              same ∙ (e.output ∙ (sym (ap (λ (m : Moment Shown Outcome). m.output) here) ∙ back.1.0.output)),
+              inr (record {
+                exceeds = omega (arith, beyond, larger, held, more_frames, more_held);
+                number = words.0;
+                proc = words.1;
+                there = words.2;
+                left = omega (arith, left, sp, limit, fewer, count);
+              }),
+            ),
           )
 
-      pub ends_with_words : IsReading reading → (m : ℕ) (verdict : Outcome)
+      ends_with_words : IsReading reading → (m : ℕ) (verdict : Outcome)
           → (run (machine_by reading) s m).ending ≡ Some (Verdict verdict)
-          → (n : ℕ) × (EndsToo verdict (run (machine_by reading) s m) (run low low0 n)
-          ⊎ ((reading (Lacks Stack) ≡ Verdict verdict)
-          × ExceedsStack procs (room_in s) (run (machine_by reading) s m) (run low low0 n)))
+          → (n : ℕ) × EndsSo verdict (run (machine_by reading) s m) (run low low0 n)
       ends_with_words sound m verdict e =
           let middle = placed.in_slots selected.well_formed.distinct reading sound
           (plain_setting (item_address code statics)) told s starts virtual_never in
@@ -310,15 +316,54 @@ module _ {image : List ℕ} {procs : List Proc} {entry : ℕ} {statics : List �
 
           either : (k : ℕ) → x.output ≡ (run real s k).output
               → x.shown.regs 2 ≡ (run real s k).shown.regs 2 → x.shown.regs 25 ≡ (run real s k).shown.regs 25
-              → EndsTooVirtually verdict virtual (start_in s) (run real s k)
+              → EndsToo verdict virtual (start_in s) (run real s k)
               ⊎ ((reading (Lacks Stack) ≡ Verdict verdict)
               × EntersBeyond items (frames_by (place_in places)) (last_frame_by (place_in places)) virtual (room_in s)
               (start_in s) (run real s k))
-              → (n : ℕ) × (EndsToo verdict x (run low low0 n)
-              ⊎ ((reading (Lacks Stack) ≡ Verdict verdict) × ExceedsStack procs (room_in s) x (run low low0 n)))
-          either k same sp limit (inl h) = let g = ends_too verdict x (run real s k) same h in (g.0, inl g.1)
-          either k same sp limit (inr h) =
-              let g = exceeds x (run real s k) same sp limit h.1 in (g.0, inr (h.0, g.1))
+              → (n : ℕ) × EndsSo verdict x (run low low0 n)
+          either k same sp limit (inl h) = ends_too verdict x (run real s k) same h
+          either k same sp limit (inr h) = exceeds verdict x (run real s k) same sp limit h.1
+
+    -- where the machine has stopped for want of stack, told by the reading by which that alone is a verdict
+    module _ (reading : Halt → Ending Outcome) (sound : IsReading reading) where
+      abbrev low_setting : LowSetting
+      low_setting = words_setting procs told s
+
+      abbrev low_first : LowState
+      low_first = low_start low_setting p s.memory s.world
+
+      abbrev words_run : (Halt → Ending Outcome) → Run LowShown Outcome
+      words_run other = run (low_machine other low_setting) low_first
+
+      abbrev Lacking : State → ℕ → Type 0
+      Lacking t n =
+          ExceedsStack procs (room_in s) t (words_run reading n).shown
+          ⊎ ((other : Halt → Ending Outcome) → (words_run other n).ending ≡ Some (other (Lacks Stack)))
+
+      pub lacks_as_words : NeverWrong (words_run reading) → (m : ℕ) (t : State)
+          → run_of m s ≡ (t, Some (Lacks Stack))
+          → (n : ℕ) × (t.world.output ≡ (words_run reading n).output) × Lacking t n
+      lacks_as_words never m t e =
+          let never1 = words_never_wrong reading of_stack sound of_stack_reads low_setting low_first never in
+          let x : run (machine_by of_stack) s m ≡ stopped of_stack (Lacks Stack) t =
+          stop_read of_stack m s t (Lacks Stack) e in
+          let ends = ends_with_words of_stack never1 of_stack_reads m StackOut
+          (ap (λ (y : Moment State Outcome). y.ending) x) in
+          let same = same_but_ending of_stack reading low_setting ends.0 low_first in (
+            ends.0,
+            sym (ap (λ (y : Moment State Outcome). y.output) x) ∙ (ends.1.0 ∙ same.output),
+            either ends.0 (ap (λ (y : Moment State Outcome). y.shown) x) same.shown ends.1.1,
+          )
+        where
+          either : (n : ℕ) → (run (machine_by of_stack) s m).shown ≡ t
+              → (words_run of_stack n).shown ≡ (words_run reading n).shown
+              → ((words_run of_stack n).ending ≡ Some (Verdict StackOut))
+              ⊎ ExceedsStack procs (room_in s) (run (machine_by of_stack) s m).shown (words_run of_stack n).shown
+              → Lacking t n
+          either n is shown (inl h) = inr (λ other. words_lack_stack other low_setting n low_first h)
+          either n is shown (inr h) =
+              inl (subst (λ l. ExceedsStack procs (room_in s) t l) shown
+              (subst (λ u. ExceedsStack procs (room_in s) u (words_run of_stack n).shown) is h))
 
   pub is_image_of_words : IsImageOfWords image procs entry statics labels
   is_image_of_words = record {
@@ -332,8 +377,8 @@ module _ {image : List ℕ} {procs : List Proc} {entry : ℕ} {statics : List �
         follows_words p told region stack world given reading never out;
     lacks = λ reading sound lacking read p told region stack world given never m e.
         lacks_with_words p told region stack world given reading never sound lacking read m e;
-    ends = λ reading sound p told region stack world given never m verdict e.
-        ends_with_words p told region stack world given reading never sound m verdict e;
+    lacks_stack = λ reading sound p told region stack world given never m t e.
+        lacks_as_words p told region stack world given reading sound never m t e;
   }
 
 -- the image of the real code of a closed program's code, whose registers have these places

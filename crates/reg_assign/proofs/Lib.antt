@@ -25,4 +25,5 @@ mod LacksStack
 mod ProcAddresses
 mod ProcWords
 mod ImageBytes
+mod Readings
 mod ImageRuns

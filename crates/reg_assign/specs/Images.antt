@@ -3,14 +3,14 @@ use Rattle.std.specs.Prelude.{ℕ, ◌+◌, ◌^◌, ◌<◌, ◌≤◌, ◌≡�
 use Rattle.grift_base.specs.World.{WorldState}
 use Rattle.grift_base.specs.declared.places.Pos.{Pos}
 use Rattle.grift_base.specs.declared.verdicts.Verdict.{Verdict as Outcome}
-use Rattle.run_laws.specs.Runs.{Ending, Verdict, Exhausted, Moment, NeverWrong, FollowsBy, Any}
+use Rattle.run_laws.specs.Runs.{Ending, Verdict, Exhausted, NeverWrong, FollowsBy, Any}
 use Rattle.run_laws.specs.Machines.{Machine, run}
 use Rattle.run_laws.specs.Meters.{unspent, metered, each_one, Spends, OfRest}
 use Rattle.rv_isa.specs.declared.real.RealItem.{RealItem}
 use Rattle.rv_machine.specs.Image.{IsImage, statics_len, code_len}
 use Rattle.rv_machine.specs.State.{State, Halt, Lacks, Stack}
 use Rattle.rv_machine.specs.Start.{start_of, IsRegionSize, IsStackSize}
-use Rattle.rv_machine.specs.Mach.{machine_by, IsReading}
+use Rattle.rv_machine.specs.Mach.{run_of, machine_by, IsReading}
 use Rattle.rv_machine.specs.Real.{mark_address}
 use Rattle.low_ir.specs.Procedures.{Proc}
 use Rattle.low_ir.specs.Prices.{low_price}
@@ -100,37 +100,29 @@ LacksWithWords {V = V} reading image code procs entry statics =
     → (n : ℕ) × ((run (low_in_stack reading (words_setting procs told s) (room_in s))
     (low_start (words_setting procs told s) p s.memory s.world) n).ending ≡ Some (Verdict lacking))
 
--- The machine has come to its end, and a run over words has come so far that it has printed the same: frames with all
--- words of its active procedures don't fit into a stack of so many bytes, and in the machine's stack fewer bytes are
--- left than the frame of some procedure has.
-pub record ExceedsStack {V : Type 0} (procs : List Proc) (room : ℕ) (x : Moment State V) (y : Moment LowShown V) :
-    Type 0 where
-  pub output : x.output ≡ y.output
-  pub exceeds : room < frames_size y.shown.frames y.shown.held
+-- frames with all words of the active procedures of a run over words don't fit into a stack of so many bytes, and in
+-- the machine's state fewer bytes are left in the stack than the frame of some procedure has
+pub record ExceedsStack (procs : List Proc) (room : ℕ) (s : State) (l : LowShown) : Type 0 where
+  pub exceeds : room < frames_size l.frames l.held
   pub number : ℕ
   pub proc : Proc
   pub there : slice_get procs number ≡ Some proc
-  pub left : x.shown.regs 2 < x.shown.regs 25 + frame_size proc.words
+  pub left : s.regs 2 < s.regs 25 + frame_size proc.words
 
--- the run over words has printed the same, and ends with the same verdict
-pub record EndsToo {V : Type 0} (verdict : V) (x : Moment State V) (y : Moment LowShown V) : Type 0 where
-  pub output : x.output ≡ y.output
-  pub ended : y.ending ≡ Some (Verdict verdict)
-
--- Where the run over words never goes wrong, and the machine has ended with a verdict: that run, with no bound on its
--- stack, has come to a moment at which it has ended so too; or the verdict is want of stack, and at that moment its
--- frames exceed the machine's stack.
-abbrev pub EndsWithWords : {V : Type 0} → (Halt → Ending V) → List ℕ → List RealItem → List Proc → ℕ → List ℕ → Type 0
-EndsWithWords {V = V} reading image code procs entry statics =
+-- Where the run over words never goes wrong: if the machine has stopped in a state for want of stack, that run, with no
+-- bound on its stack, has printed the same at some moment, and there it exceeds the machine's stack, or has itself
+-- stopped for want of stack, however stops are read, as it does by environment call 6.
+abbrev pub LacksStackAsWords : (Halt → Ending Outcome) → List ℕ → List RealItem → List Proc → ℕ → List ℕ → Type 0
+LacksStackAsWords reading image code procs entry statics =
     IsReading reading → (p : Proc) (told : ℕ → ℕ) (region stack : ℕ) (world : WorldState)
     → RunsIn code statics procs entry p told region stack
     → let s = start_of image region stack world in
-    let X = run (machine_by reading) s in
-    let Y = run (low_machine reading (words_setting procs told s))
+    let words_run = λ (other : Halt → Ending Outcome). run (low_machine other (words_setting procs told s))
     (low_start (words_setting procs told s) p s.memory s.world) in
-    NeverWrong Y → (m : ℕ) (verdict : V) → (X m).ending ≡ Some (Verdict verdict)
-    → (n : ℕ) × (EndsToo verdict (X m) (Y n)
-    ⊎ ((reading (Lacks Stack) ≡ Verdict verdict) × ExceedsStack procs (room_in s) (X m) (Y n)))
+    NeverWrong (words_run reading) → (m : ℕ) (t : State) → run_of m s ≡ (t, Some (Lacks Stack))
+    → (n : ℕ) × (t.world.output ≡ (words_run reading n).output)
+    × (ExceedsStack procs (room_in s) t (words_run reading n).shown
+    ⊎ ((other : Halt → Ending Outcome) → (words_run other n).ending ≡ Some (other (Lacks Stack))))
 
 -- the mark of each of so many procedures has an address, which is a word, and no two have the same
 pub record HaveAddresses (code : List RealItem) (statics : List ℕ) (many : ℕ) : Type 0 where
@@ -153,5 +145,5 @@ pub record IsImageOfWords (image : List ℕ) (procs : List Proc) (entry : ℕ) (
       → RunsAsProgram reading image (words_code places procs entry) procs entry statics
   pub lacks : (reading : Halt → Ending Outcome)
       → LacksWithWords reading image (words_code places procs entry) procs entry statics
-  pub ends : (reading : Halt → Ending Outcome)
-      → EndsWithWords reading image (words_code places procs entry) procs entry statics
+  pub lacks_stack : (reading : Halt → Ending Outcome)
+      → LacksStackAsWords reading image (words_code places procs entry) procs entry statics
