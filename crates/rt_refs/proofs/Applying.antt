@@ -102,7 +102,8 @@ module _ {V : Type 0} (reading : Halt → Ending V) (setting : Setting) (l : Lay
 
       -- the function, the proxy's coercion and the code address are found
       t1 : LowState
-      t1 = st (around s) 13 locals1 (cast_arguments (cast first) (call_function (cast first)) 6 0) [] s.waiting (heap_of s)
+      t1 = st (around s) 13 locals1 (cast_arguments (cast first) (call_function (cast first)) 6 0) [] s.waiting
+          (heap_of s)
 
       Found : LowState → Type 0
       Found x = x ≡ t1
@@ -124,7 +125,10 @@ module _ {V : Type 0} (reading : Halt → Ending V) (setting : Setting) (l : Lay
             few = le_refl 0;
             cheap = omega arith;
             reach = λ spare. (
-              record { active = let q = spare.room in omega (arith, q); asked = let q = spare.left in omega (arith, q) },
+              record {
+                active = let q = spare.room in omega (arith, q);
+                asked = let q = spare.left in omega (arith, q);
+              },
               refl,
             );
           } in

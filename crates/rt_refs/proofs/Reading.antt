@@ -145,7 +145,10 @@ module _ {V : Type 0} (reading : Halt → Ending V) (setting : Setting) (l : Lay
             few = le_refl 0;
             cheap = omega arith;
             reach = λ spare. (
-              record { active = let p = spare.room in omega (arith, p); asked = let p = spare.left in omega (arith, p) },
+              record {
+                active = let p = spare.room in omega (arith, p);
+                asked = let p = spare.left in omega (arith, p);
+              },
               record {
                 objects = objects;
                 fine = fine;
