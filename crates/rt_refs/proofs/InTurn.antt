@@ -2,9 +2,8 @@
 -- is a stretch of its own, so that it is known at which argument the run is.
 use Rattle.std.proofs.Common.{◌≡◌, ◌⊎◌, inl, inr, ℕ, zero, suc, ◌+◌, ◌*◌, ◌<◌, ◌≤◌, List, [], ◌∷◌, ◌++◌, length, Some}
 use Rattle.std.specs.Prelude.{slice_get}
-use Rattle.run_laws.specs.Machines.{Reaches}
 use Rattle.run_laws.proofs.Public.{reaches_weaken}
-use Rattle.std.proofs.Common.{refl, sym, ap, ap₂, ◌∙◌, subst, arith, append_assoc, append-nil, le_refl}
+use Rattle.std.proofs.Common.{refl, sym, ap, ap₂, ◌∙◌, subst, arith, le_refl}
 use Rattle.grift_base.specs.Types.{TypeHead}
 use Rattle.run_laws.specs.Runs.{Ending, Exhausted}
 use Rattle.rv_machine.specs.State.{Halt, Lacks, Region}
