@@ -117,8 +117,13 @@ module _ {V : Type 0} (w : Pass V) where
           0,
           (
             (inl (like t u r), omega arith),
-            (u, h.0.1, subst (λ z. Alike SameOrFewer M N z u) (sym h.0.0) (like t u r), (let paid = h.1 in
-                omega (arith, paid, same))),
+            (
+              u,
+              h.0.1,
+              subst (λ z. Alike SameOrFewer M N z u) (sym h.0.0) (like t u r),
+              (let paid = h.1 in
+                  omega (arith, paid, same)),
+            ),
           ),
         )) (both _ (Paid t u) e k paid)
 

@@ -423,12 +423,15 @@ module _ {V : Type 0} (w : Slotting V) where
           let r = go (entry_price f.count) t (Out t f) (enters_out t u k back f begins h) in
           unless (w.reading (Lacks Stack)) (
             suc r.later,
-            reaches_weaken (metered (cost (program w)) (N w)) _ _ _ _ (λ m p. (alike_first t m.rest p.0.0, omega (
-              arith,
-              few,
-              made,
-              p.1,
-            ))) (λ m q. record {
+            reaches_weaken (metered (cost (program w)) (N w)) _ _ _ _ (λ m p. (
+              alike_first t m.rest p.0.0,
+              omega (
+                arith,
+                few,
+                made,
+                p.1,
+              ),
+            )) (λ m q. record {
               alike = q.0.alike;
               last = m.rest;
               step = q.0.step;

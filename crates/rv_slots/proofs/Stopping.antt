@@ -247,17 +247,20 @@ module _ {V : Type 0} (w : Slotting V) where
       by_end y same sees (inl r) =
           let lacking : Lacking w x.shown (Go r.entered) =
           subst (Lacking w x.shown) r.next (subst (Sees x.shown) r.is sees) in
-          inr (r.reads, record {
-            many = r.many;
-            entered = r.entered;
-            comes = r.comes;
-            output = shows_output (N w) (λ u. refl) (steps (N w) s m)
-                ∙ ap (λ (world : WorldState). world.output) lacking.world;
-            place = lacking.place;
-            number = lacking.number;
-            there = lacking.there;
-            beyond = r.beyond;
-            left = lacking.left;
-          })
+          inr (
+            r.reads,
+            record {
+              many = r.many;
+              entered = r.entered;
+              comes = r.comes;
+              output = shows_output (N w) (λ u. refl) (steps (N w) s m)
+                  ∙ ap (λ (world : WorldState). world.output) lacking.world;
+              place = lacking.place;
+              number = lacking.number;
+              there = lacking.there;
+              beyond = r.beyond;
+              left = lacking.left;
+            },
+          )
       by_end y same sees (inr r) =
           inl (record { many = r.many; ended = r.ended; output = same ∙ r.output })
