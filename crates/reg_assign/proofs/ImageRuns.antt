@@ -21,6 +21,7 @@ use Rattle.rv_machine.specs.Mach.{run_of, machine_by, IsReading}
 use Rattle.rv_machine.specs.Real.{plain_setting, real_machine}
 use Rattle.low_ir.specs.Procedures.{Proc}
 use Rattle.low_ir.specs.Closed.{is_closed}
+use Rattle.low_ir.specs.Counting.{any_calls}
 use Rattle.low_ir.specs.Run.{Setting as LowSetting, LowState, LowShown, low_machine, low_start}
 use Rattle.assembler.specs.Assembled.{item_address, IsImageOf}
 use Rattle.assembler.specs.Prices.{state_price}
@@ -44,8 +45,9 @@ use Rattle.reg_assign.specs.Images.{IsImageOfWords}
 use Rattle.reg_assign.proofs.ImageBytes.{parts_small, memory_bytes}
 use Rattle.reg_assign.proofs.ProcAddresses.{In, in_procedures, below_numbers, have_addresses}
 use Rattle.reg_assign.proofs.ProcWords.{procedure_words}
-use Rattle.reg_assign.proofs.Readings.{same_but_ending, words_never_wrong, of_stack, of_stack_reads, words_lack_stack}
-use Rattle.reg_assign.proofs.Readings.{stopped, stop_read}
+use Rattle.reg_assign.proofs.Readings.{same_but_ending, words_never_wrong, of_stack, of_stack_reads, stopped}
+use Rattle.reg_assign.proofs.Readings.{stop_read}
+use Rattle.reg_assign.proofs.SpareStack.{never_lacks_stack}
 use Rattle.reg_assign.proofs.FrameSizes.{frames_no_larger}
 use Rattle.reg_assign.proofs.Dense.{few}
 use Rattle.reg_assign.proofs.LacksStack.{lacks_with_all}
@@ -335,15 +337,11 @@ module _ {image : List ℕ} {procs : List Proc} {entry : ℕ} {statics : List �
       abbrev words_run : (Halt → Ending Outcome) → Run LowShown Outcome
       words_run other = run (low_machine other low_setting) low_first
 
-      abbrev Lacking : State → ℕ → Type 0
-      Lacking t n =
-          ExceedsStack procs (room_in s) t (words_run reading n).shown
-          ⊎ ((other : Halt → Ending Outcome) → (words_run other n).ending ≡ Some (other (Lacks Stack)))
-
-      pub lacks_as_words : NeverWrong (words_run reading) → (m : ℕ) (t : State)
+      pub lacks_as_words : any_calls 6 procs ≡ false → NeverWrong (words_run reading) → (m : ℕ) (t : State)
           → run_of m s ≡ (t, Some (Lacks Stack))
-          → (n : ℕ) × (t.world.output ≡ (words_run reading n).output) × Lacking t n
-      lacks_as_words never m t e =
+          → (n : ℕ) × (t.world.output ≡ (words_run reading n).output)
+          × ExceedsStack procs (room_in s) t (words_run reading n).shown
+      lacks_as_words calm never m t e =
           let never1 = words_never_wrong reading of_stack sound of_stack_reads low_setting low_first never in
           let x : run (machine_by of_stack) s m ≡ stopped of_stack (Lacks Stack) t =
           stop_read of_stack m s t (Lacks Stack) e in
@@ -352,18 +350,19 @@ module _ {image : List ℕ} {procs : List Proc} {entry : ℕ} {statics : List �
           let same = same_but_ending of_stack reading low_setting ends.0 low_first in (
             ends.0,
             sym (ap (λ (y : Moment State Outcome). y.output) x) ∙ (ends.1.0 ∙ same.output),
-            either ends.0 (ap (λ (y : Moment State Outcome). y.shown) x) same.shown ends.1.1,
+            exceeds_so ends.0 (ap (λ (y : Moment State Outcome). y.shown) x) same.shown ends.1.1,
           )
         where
-          either : (n : ℕ) → (run (machine_by of_stack) s m).shown ≡ t
+          exceeds_so : (n : ℕ) → (run (machine_by of_stack) s m).shown ≡ t
               → (words_run of_stack n).shown ≡ (words_run reading n).shown
               → ((words_run of_stack n).ending ≡ Some (Verdict StackOut))
               ⊎ ExceedsStack procs (room_in s) (run (machine_by of_stack) s m).shown (words_run of_stack n).shown
-              → Lacking t n
-          either n is shown (inl h) = inr (λ other. words_lack_stack other low_setting n low_first h)
-          either n is shown (inr h) =
-              inl (subst (λ l. ExceedsStack procs (room_in s) t l) shown
-              (subst (λ u. ExceedsStack procs (room_in s) u (words_run of_stack n).shown) is h))
+              → ExceedsStack procs (room_in s) t (words_run reading n).shown
+          exceeds_so n is shown (inl h) =
+              absurd (never_lacks_stack low_setting calm entry p s.memory s.world n given.begins h)
+          exceeds_so n is shown (inr h) =
+              subst (λ l. ExceedsStack procs (room_in s) t l) shown
+              (subst (λ u. ExceedsStack procs (room_in s) u (words_run of_stack n).shown) is h)
 
   pub is_image_of_words : IsImageOfWords image procs entry statics labels
   is_image_of_words = record {
@@ -377,8 +376,8 @@ module _ {image : List ℕ} {procs : List Proc} {entry : ℕ} {statics : List �
         follows_words p told region stack world given reading never out;
     lacks = λ reading sound lacking read p told region stack world given never m e.
         lacks_with_words p told region stack world given reading never sound lacking read m e;
-    lacks_stack = λ reading sound p told region stack world given never m t e.
-        lacks_as_words p told region stack world given reading sound never m t e;
+    lacks_stack = λ reading sound calm p told region stack world given never m t e.
+        lacks_as_words p told region stack world given reading sound calm never m t e;
   }
 
 -- the image of the real code of a closed program's code, whose registers have these places

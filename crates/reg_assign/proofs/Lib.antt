@@ -26,4 +26,5 @@ mod ProcAddresses
 mod ProcWords
 mod ImageBytes
 mod Readings
+mod SpareStack
 mod ImageRuns

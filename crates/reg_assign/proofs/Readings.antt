@@ -195,23 +195,11 @@ of_stack_reads = record { wrong = λ fault. refl; ended = λ verdict e. cc; lack
     lacks Region e = cc
     lacks Stack e = cc
 
-stack_alone : (halt : Halt) → Verdict StackOut ≡ of_stack halt → halt ≡ Lacks Stack
+pub stack_alone : (halt : Halt) → Verdict StackOut ≡ of_stack halt → halt ≡ Lacks Stack
 stack_alone (Ended verdict) e = absurd (let z : ⊥ = cc in z)
 stack_alone (Lacks Region) e = absurd (let z : ⊥ = cc in z)
 stack_alone (Lacks Stack) e = refl
 stack_alone (GoesWrong fault) e = absurd (let z : ⊥ = cc in z)
-
--- a run over words that ends so has stopped for want of stack, however stops are read
-pub words_lack_stack : {V : Type 0} (reading : Halt → Ending V) (low : Setting) (n : ℕ) (s : LowState)
-    → (run (low_machine of_stack low) s n).ending ≡ Some (Verdict StackOut)
-    → (run (low_machine reading low) s n).ending ≡ Some (reading (Lacks Stack))
-words_lack_stack {V} reading low n s e =
-    let k = (same_but_ending of_stack reading low n s).ending (Verdict StackOut) e in
-    k.1 ∙ ap Some (by_stop k.0 k.2)
-  where
-    by_stop : (f : Ending V) → SameStop of_stack reading low (Verdict StackOut) f → f ≡ reading (Lacks Stack)
-    by_stop f (inl h) = h.2 ∙ ap reading (stack_alone h.0 h.1)
-    by_stop f (inr h) = absurd (let z : ⊥ = cc in z)
 
 -- ---- the machine
 

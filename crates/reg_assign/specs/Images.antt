@@ -1,5 +1,5 @@
 -- What the image of a closed program over words is to the program, where the virtual registers of its code have places.
-use Rattle.std.specs.Prelude.{ℕ, ◌+◌, ◌^◌, ◌<◌, ◌≤◌, ◌≡◌, ◌⊎◌, List, length, Some, slice_get}
+use Rattle.std.specs.Prelude.{ℕ, ◌+◌, ◌^◌, ◌<◌, ◌≤◌, ◌≡◌, false, List, length, Some, slice_get}
 use Rattle.grift_base.specs.World.{WorldState}
 use Rattle.grift_base.specs.declared.places.Pos.{Pos}
 use Rattle.grift_base.specs.declared.verdicts.Verdict.{Verdict as Outcome}
@@ -13,6 +13,7 @@ use Rattle.rv_machine.specs.Start.{start_of, IsRegionSize, IsStackSize}
 use Rattle.rv_machine.specs.Mach.{run_of, machine_by, IsReading}
 use Rattle.rv_machine.specs.Real.{mark_address}
 use Rattle.low_ir.specs.Procedures.{Proc}
+use Rattle.low_ir.specs.Counting.{any_calls}
 use Rattle.low_ir.specs.Prices.{low_price}
 use Rattle.low_ir.specs.Run.{Setting as LowSetting, LowState, LowShown, low_machine, low_start}
 use Rattle.assembler.specs.Assembled.{item_address, IsImageOf}
@@ -109,20 +110,19 @@ pub record ExceedsStack (procs : List Proc) (room : ℕ) (s : State) (l : LowSho
   pub there : slice_get procs number ≡ Some proc
   pub left : s.regs 2 < s.regs 25 + frame_size proc.words
 
--- Where the run over words never goes wrong: if the machine has stopped in a state for want of stack, that run, with no
--- bound on its stack, has printed the same at some moment, and there it exceeds the machine's stack, or has itself
--- stopped for want of stack, however stops are read, as it does by environment call 6.
+-- Where the run over words never goes wrong, and its procedures make no environment call 6: if the machine has stopped
+-- in a state for want of stack, that run, with no bound on its stack, has printed the same at some moment at which it
+-- exceeds the machine's stack
 abbrev pub LacksStackAsWords : (Halt → Ending Outcome) → List ℕ → List RealItem → List Proc → ℕ → List ℕ → Type 0
 LacksStackAsWords reading image code procs entry statics =
-    IsReading reading → (p : Proc) (told : ℕ → ℕ) (region stack : ℕ) (world : WorldState)
+    IsReading reading → any_calls 6 procs ≡ false
+    → (p : Proc) (told : ℕ → ℕ) (region stack : ℕ) (world : WorldState)
     → RunsIn code statics procs entry p told region stack
     → let s = start_of image region stack world in
-    let words_run = λ (other : Halt → Ending Outcome). run (low_machine other (words_setting procs told s))
+    let Y = run (low_machine reading (words_setting procs told s))
     (low_start (words_setting procs told s) p s.memory s.world) in
-    NeverWrong (words_run reading) → (m : ℕ) (t : State) → run_of m s ≡ (t, Some (Lacks Stack))
-    → (n : ℕ) × (t.world.output ≡ (words_run reading n).output)
-    × (ExceedsStack procs (room_in s) t (words_run reading n).shown
-    ⊎ ((other : Halt → Ending Outcome) → (words_run other n).ending ≡ Some (other (Lacks Stack))))
+    NeverWrong Y → (m : ℕ) (t : State) → run_of m s ≡ (t, Some (Lacks Stack))
+    → (n : ℕ) × (t.world.output ≡ (Y n).output) × ExceedsStack procs (room_in s) t (Y n).shown
 
 -- the mark of each of so many procedures has an address, which is a word, and no two have the same
 pub record HaveAddresses (code : List RealItem) (statics : List ℕ) (many : ℕ) : Type 0 where
