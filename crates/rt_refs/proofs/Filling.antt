@@ -531,7 +531,6 @@ module _ {V : Type 0} (reading : Halt → Ending V) (setting : Setting) (l : Lay
         fine = fine_at s.memory s.words (λ j lt. refl);
         last = _;
         stops = refl;
-        cheap = omega arith;
         stays = refl;
         same = refl;
         same_after = refl;

@@ -220,8 +220,8 @@ module _ {V : Type 0} (reading : Halt → Ending V) (setting : Setting) (l : Lay
 
       one_cast : (objects : List Object) (h : Heap) → Fi objects h → (locals : Locals) (rests : List Code) (j k : ℕ)
           → k < 6 → (number ≡ k → ⊥) → (d : Coercion) → IsLow l d → (v : Merged A) (word part : ℕ)
-          → Found locals number function coercion address → locals (suc k) ≡ Some word
-              → CarriedBy l IsHeld objects v word
+          → Found locals number function coercion address → locals (suc k) ≡ Some word → CarriedBy l IsHeld objects v
+          word
           → (hc : Held l objects (Middle FunKind parts) coercion) → slice_get hc.0 k ≡ Some part → Held l objects d part
           → (cast_value (heads k) l.types d v ≡ Stuck → ⊥)
           → Stretch reading setting l (top locals rests (suc j) k h) (cast_cost l.width l.tallest + 4) deep
@@ -279,8 +279,8 @@ module _ {V : Type 0} (reading : Halt → Ending V) (setting : Setting) (l : Lay
             );
           }
 
-          blames : (label : ℕ) → o ≡ Blames label → Goes w low A IsHeld still is_solid End objects s.waiting
-              (Blames label)
+          blames : (label : ℕ) → o ≡ Blames label
+              → Goes w low A IsHeld still is_solid End objects s.waiting (Blames label)
           blames label e = λ new h' count locals2 rests2 waiting a b d2 e2 rest grows fine' ea eb ld2 le2. record {
             steps = 0;
             few = le_refl 0;
@@ -322,8 +322,8 @@ module _ {V : Type 0} (reading : Halt → Ending V) (setting : Setting) (l : Lay
               (eq_false number k other)
               (loads w objects here coercion head9 hc.0 (suc k) part found.coercion_is hc.1 at_k (omega arith) refl
               (calls w objects here (word ∷ part ∷ []) (cast_proc first)
-              (ap₂ and_more (word_other 11 part locals (suc k) (eq_false (suc k) 11 (λ e. omega
-                  (arith, e, small))) ∙ next)
+              (ap₂ and_more (word_other 11 part locals (suc k) (eq_false (suc k) 11 (λ e. omega (arith, e, small))) ∙
+              next)
               (ap (λ x. and_more x (Some [])) (word_here 11 part locals))) (w.stands 2 _ refl) refl
               (cast_behind w low A IsHeld still is_solid (heads k) End End objects h here s.waiting
               (record { count = 13; locals = l11; code = asking j (suc k); rests = Done ∷ rests }) (suc k)
@@ -377,22 +377,17 @@ module _ {V : Type 0} (reading : Halt → Ending V) (setting : Setting) (l : Lay
           → Held l objects (Middle FunKind parts) coercion → IsHeld objects f function
           → InTurn k ds us pre (top locals rests j k h)
       arguments_cast_in_turn zero k sum (d ∷ ds) [] ws many casts pre done long objects h fine grows locals rests found
-          has
-          next hp hu hc hf = tt
+          has next hp hu hc hf = tt
       arguments_cast_in_turn (suc j) k sum (d ∷ ds) [] ws many casts pre done long objects h fine grows locals rests
-          found
-          has next hp hu hc hf = tt
+          found has next hp hu hc hf = tt
       arguments_cast_in_turn zero k sum [] (u ∷ us) ws many casts pre done long objects h fine grows locals rests found
-          has
-          next hp hu hc hf = tt
-      arguments_cast_in_turn (suc j) k sum [] (u ∷ us) ws many casts pre done long objects h fine grows locals rests
-          found
           has next hp hu hc hf = tt
+      arguments_cast_in_turn (suc j) k sum [] (u ∷ us) ws many casts pre done long objects h fine grows locals rests
+          found has next hp hu hc hf = tt
       arguments_cast_in_turn zero k sum (d ∷ ds) (u ∷ us) ws many casts pre done long objects h fine grows locals rests
           found has next hp hu hc hf = absurd (omega (arith, sum, many, few))
       arguments_cast_in_turn zero k sum [] [] ws many casts pre done long objects h fine grows locals rests found has
-          next
-          hp hu hc hf =
+          next hp hu hc hf =
           let same : number ≡ k = omega (arith, many) in
           let t : LowState = top locals rests zero k h in
           let w = from t (Calls pre) 0 in (
@@ -417,13 +412,18 @@ module _ {V : Type 0} (reading : Halt → Ending V) (setting : Setting) (l : Lay
                 (subst (λ m. ReachedIn w (More 1 0 0 3 End) (at locals (call_function (cast first) m) (Done ∷ rests) h))
                 same
                 (called t pre done (long ∙ sym same) objects h fine (from_here t objects fine) grows refl locals
-                (Done ∷ rests) found has hp hc hf (subst (λ m. part_at parts m ≡ Some result) (sym same) casts))))
-                (omega arith, omega arith, omega arith, let n = number_near k (omega (arith, sum)) in omega
-                    (arith, n))),
+                (Done ∷ rests) found has hp hc hf (subst (λ m. part_at parts m ≡ Some result) (sym same) casts)))) (
+                  omega arith,
+                  omega arith,
+                  omega arith,
+                  let n = number_near k (omega (arith, sum)) in omega (
+                    arith,
+                    n,
+                  ),
+                )),
           )
       arguments_cast_in_turn (suc j) k sum (d ∷ ds) (u ∷ us) [] many casts pre done long objects h fine grows locals
-          rests
-          found has next hp hu hc hf = absurd hu
+          rests found has next hp hu hc hf = absurd hu
       arguments_cast_in_turn (suc j) k sum (d ∷ ds) (u ∷ us) (word ∷ ws) many casts pre done long objects h fine grows
           locals rests found has next hp hu hc hf =
           let t : LowState = top locals rests (suc j) k h in
@@ -439,8 +439,8 @@ module _ {V : Type 0} (reading : Halt → Ending V) (setting : Setting) (l : Lay
             λ some.
                 one_then t objects l11 rests j k o since (cast_words_of l d u) (52 + cast_price_of l d u)
                 (λ v x. InTurn (suc k) ds us (pre ++ v ∷ []) x)
-                (one_cast objects h fine locals rests j k small (λ e. omega
-                    (arith, e, many)) d ld u word p.0 found next.0
+                (one_cast objects h fine locals rests j k small (λ e. omega (arith, e, many)) d ld u word p.0 found
+                next.0
                 hu.0 hc p.1 p.2 some)
                 (λ x c.
                 let l1 : Locals = set_local (suc k) c.word l11 in

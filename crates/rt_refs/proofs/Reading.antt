@@ -154,7 +154,6 @@ module _ {V : Type 0} (reading : Halt → Ending V) (setting : Setting) (l : Lay
                 fine = fine;
                 last = _;
                 stops = refl;
-                cheap = omega arith;
                 stays = refl;
                 same = refl;
                 same_after = refl;
@@ -192,7 +191,10 @@ module _ {V : Type 0} (reading : Halt → Ending V) (setting : Setting) (l : Lay
         few = le_refl 0;
         cheap = omega arith;
         reach = λ spare. (
-          record { active = let p = spare.room in omega (arith, p); asked = let p = spare.left in omega (arith, p) },
+          record {
+            active = let p = spare.room in omega (arith, p);
+            asked = let p = spare.left in omega (arith, p);
+          },
           record { fine = fine_here; source = Word 4; code = refl; is = refl; waits = refl; same = refl },
         );
       } in

@@ -129,7 +129,10 @@ module _ {V : Type 0} (reading : Halt → Ending V) (setting : Setting) (l : Lay
       few = le_refl 0;
       cheap = omega arith;
       reach = λ spare. (
-        record { active = let p = spare.room in omega (arith, p); asked = let p = spare.left in omega (arith, p) },
+        record {
+          active = let p = spare.room in omega (arith, p);
+          asked = let p = spare.left in omega (arith, p);
+        },
         subst (λ z. WriteComes setting l s IsHeld objects a i z
             (st (around s) 6 locals (Return (Number 0)) rests s.waiting after)) (sym q) (record {
               new = new;
@@ -202,7 +205,10 @@ module _ {V : Type 0} (reading : Halt → Ending V) (setting : Setting) (l : Lay
       few = le_refl 0;
       cheap = omega arith;
       reach = λ spare. (
-        record { active = let p = spare.room in omega (arith, p); asked = let p = spare.left in omega (arith, p) },
+        record {
+          active = let p = spare.room in omega (arith, p);
+          asked = let p = spare.left in omega (arith, p);
+        },
         subst (λ y. WriteComes setting l s IsHeld objects a i y
             (st (around s) count locals (Environment 3 aa b dd e' rest) rests waiting h')) (sym q) (record {
               new = new;
@@ -361,7 +367,6 @@ module _ {V : Type 0} (reading : Halt → Ending V) (setting : Setting) (l : Lay
                 fine = fine_here;
                 last = _;
                 stops = refl;
-                cheap = omega arith;
                 stays = refl;
                 same = refl;
                 same_after = refl;
