@@ -7,5 +7,10 @@ pub mod Layouts
 pub mod Matching
 pub mod Storing
 pub mod Kept
+mod Readings
+mod MachineOutput
+mod CalculusAccount
+mod Raised
+mod Stopping
 pub mod Following
 mod Compiled

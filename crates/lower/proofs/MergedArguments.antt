@@ -1,6 +1,6 @@
 -- Arguments of calls through proxies: their casts, what is like their values, and the words that are handed on.
 use Rattle.std.proofs.Common.{◌≡◌, ◌⊎◌, inl, inr, ℕ, suc, ◌+◌, ◌*◌, List, [], ◌∷◌, ◌++◌, length, Some, None}
-use Rattle.std.proofs.Common.{Option, refl, sym, ap, ◌∙◌, subst, slice_get}
+use Rattle.std.proofs.Common.{Option, refl, sym, ap, ◌∙◌, subst, slice_get, append_assoc}
 use Rattle.std.specs.Prelude.{option_map}
 use Rattle.grift_base.specs.Types.{TypeRow}
 use Rattle.low_ir.specs.Run.{Setting}
@@ -23,7 +23,6 @@ use Rattle.rt_cast.specs.Carried.{IsVery}
 use Rattle.rt_cast.specs.Carried.{AreCarried as RtCarried}
 use Rattle.rt_cast.specs.MergedValues.{Merged, Solid}
 use Rattle.rt_cast.specs.States.{Placed, Heap}
-use Rattle.rt_refs.specs.Arguments.{Arguments, AllGive, OneBlames, in_front}
 use Rattle.rt_refs.specs.Arguments.{handed, word_or_zero}
 use Rattle.lower.specs.CarriedValues.{AreCarried}
 use Rattle.lower.specs.Emit.{cast_word}
@@ -95,18 +94,12 @@ all_cast (v ∷ vs) (d ∷ ds) = by_rest (all_cast vs ds)
     by_rest (inl e) = inl (ap (option_map (λ rest. record { value = v; casts = d ∷ [] } ∷ rest)) e)
     by_rest (inr e) = inr (ap (option_map (λ rest. record { value = v; casts = d ∷ [] } ∷ rest)) e.0, ap suc e.1)
 
--- what the arguments before them make of those that follow, the last one first
-abbrev pub fronts : List (Merged ℕ) → Arguments ℕ → Arguments ℕ
-fronts [] r = r
-fronts (m ∷ pre) r = fronts pre (in_front m r)
-
-pub fronts_blame : (pre : List (Merged ℕ)) (label : ℕ) → fronts pre (OneBlames label) ≡ OneBlames label
-fronts_blame [] label = refl
-fronts_blame (m ∷ pre) label = fronts_blame pre label
-
-pub fronts_give : (pre vs : List (Merged ℕ)) → fronts pre (AllGive vs) ≡ AllGive (onto pre vs)
-fronts_give [] vs = refl
-fronts_give (m ∷ pre) vs = fronts_give pre (m ∷ vs)
+-- what is put in front of others stands in front of none, before them
+pub onto_before : (pre xs : List (Merged ℕ)) → onto pre xs ≡ onto pre [] ++ xs
+onto_before [] xs = refl
+onto_before (x ∷ pre) xs =
+    onto_before pre (x ∷ xs) ∙ (sym (append_assoc (onto pre []) (x ∷ []) xs)
+    ∙ ap (λ ys. ys ++ xs) (sym (onto_before pre (x ∷ []))))
 
 -- the words that are handed on, told in two ways
 pub handed_is : (w : ℕ) (ws : List ℕ)

@@ -1,214 +1,268 @@
--- What casts of values in the merged mode come to, decision after decision, in a procedure that comes to the same.
-use Rattle.std.proofs.Common.{◌≡◌, inl, ℕ, ◌+◌, List, [], ◌∷◌, ◌++◌, Some}
-use Rattle.std.proofs.Common.{refl, sym, subst, append-nil}
+-- What casts of values and parts of tuples come to in the merged mode, in a procedure that comes to the same and
+-- returns it.
+use Rattle.std.proofs.Common.{◌≡◌, ◌⊎◌, inl, inr, ℕ, ◌+◌, ◌≤◌, List, [], ◌∷◌, ◌++◌, length, Some, slice_get}
+use Rattle.std.proofs.Common.{refl, sym, ◌∙◌, subst, append-nil, pos}
 use Rattle.grift_base.specs.Types.{TypeHead}
+use Rattle.grift_base.specs.declared.places.Pos.{Pos}
 use Rattle.grift_base.specs.declared.verdicts.Verdict.TheVariants.{Blame}
 use Rattle.run_laws.specs.Runs.{Verdict as EndsWith}
-use Rattle.run_laws.specs.Machines.{Reaches}
-use Rattle.run_laws.proofs.Public.{reaches_weaken}
-use Rattle.rv_machine.specs.Mach.{ending_of}
-use Rattle.low_ir.specs.Run.{Setting, LowState, low_machine}
+use Rattle.core_calc.specs.Account.{Measures}
+use Rattle.low_ir.specs.Run.{Setting, LowState}
 use Rattle.coercion_norm.specs.Coercions.{Coercion, rows_of}
 use Rattle.coercion_norm.specs.Normal.{IsNormal}
 use Rattle.coercion_norm.specs.MergedMode.{merging}
 use Rattle.coercion_norm.specs.Modes.{TypeCast}
-use Rattle.coercion_norm.specs.ValueSteps.{CastFrame, Return, On, BlameOf, decision_wraps}
+use Rattle.coercion_norm.specs.ValueSteps.{CastFrame, ProjFrame, Return, On, BlameOf, decision_wraps}
 use Rattle.coercion_norm.specs.Held.{Layout}
 use Rattle.coercion_norm.specs.Objects.{Object}
 use Rattle.flat_ir.specs.Bodies.{Proc}
 use Rattle.flat_ir.specs.Counts.{decision_at}
-use Rattle.flat_ir.specs.Machine.{FlatValue, FlatFrame, FlatStore, FlatAfter, flat_cast}
+use Rattle.flat_ir.specs.FlatTally.{Cost, act_cost, cast_cost, merged_prices}
+use Rattle.flat_ir.specs.Machine.{FlatValue, FlatFrame, FlatStore, FlatAfter, flat_cast, flat_proj}
 use Rattle.rt_cast.specs.Carried.{IsVery, Carries, GivesAt, ComesTo}
 use Rattle.rt_cast.specs.MergedValues.{Merged, Outcome, Stuck, Gives, Blames, cast_value, then_outcome}
-use Rattle.rt_cast.specs.States.{Heap, Placed, Filled as RtFilled, OnTheWay, heap_of}
-use Rattle.lower.specs.CarriedValues.{CarriedIn}
-use Rattle.lower.specs.MergedMeaning.{merged_meaning}
-use Rattle.lower.specs.Storage.{Filled}
-use Rattle.lower.specs.SchemeLaws.{Spent, Here, OnWay, StopsNow, After, Goes, Returns, ReturnsAt}
-use Rattle.lower.proofs.CarriedLater.{cells_later, cells_below}
-use Rattle.lower.proofs.MergedLaws.{merged_laws}
-use Rattle.std.proofs.Common.{pos}
-use Rattle.coercion_norm.specs.ValueSteps.{ProjFrame}
-use Rattle.flat_ir.specs.Machine.{flat_proj}
 use Rattle.rt_cast.specs.PartValues.{part_value}
+use Rattle.rt_cast.specs.States.{Placed, Filled as RtFilled, heap_of}
+use Rattle.lower.specs.CarriedValues.{CarriedIn}
+use Rattle.lower.specs.Keeping.{FitsMeasures}
+use Rattle.lower.specs.MergedMeaning.{merged_meaning}
+use Rattle.lower.specs.SchemeLaws.{Spent, Here, StopsNow, After, Goes, Returns, ReturnsAt, Aim}
+use Rattle.lower.proofs.CarriedLater.{cells_later, cells_below}
+use Rattle.lower.proofs.MergedBounds.{Fits}
+use Rattle.lower.proofs.MergedLaws.{merged_laws}
 use Rattle.lower.proofs.MergedLike.{Like, solid_head, like_back, KnownUnder}
-use Rattle.lower.proofs.MergedTurns.{Ends as EndsBy, IsStrict as StrictBy, Then as ThenBy, cast_made as cast_made_by}
-use Rattle.lower.proofs.MergedTurns.{ends_cast as ends_cast_by, value_part as value_part_by}
-use Rattle.lower.proofs.MergedTurns.{waits_for_part as waits_for_part_by}
-use Rattle.lower.proofs.MergedStates.{blame_stops}
+use Rattle.lower.proofs.MergedStages.{Calm, Stands, Stage, at_end, Settled, settled_calm, Begun, begun}
+use Rattle.lower.proofs.MergedStates.{blame_stops, filled_as}
+use Rattle.lower.proofs.MergedTurns.{Ends as EndsBy, IsStrict, Made as MadeBy, PartFits as PartFitsBy}
+use Rattle.lower.proofs.MergedTurns.{cast_made as cast_made_by, ends_cast as ends_cast_by}
+use Rattle.lower.proofs.MergedTurns.{ends_cast_later as ends_cast_later_by, value_part as value_part_by}
+use Rattle.lower.proofs.MergedTurns.{waits_for_part as waits_for_part_by, blames_now as blames_now_by}
+use Rattle.lower.proofs.MergedTurns.{takes_it as takes_it_by, skips as skips_by}
 
--- From a state te a procedure comes to the outcome; the numbered procedures come to it by turns, of which all but the
--- last have no step.
-module _ (setting : Setting) (l : Layout) (procs : List Proc) (casts : List TypeCast) (placed : Placed setting l)
-    (s : LowState) (places : List ℕ) (objects : List Object) (store : FlatStore Coercion) (at_first : ℕ)
-    (here : Here merged_meaning setting l procs casts places objects store at_first (heap_of s))
-    (base : List (FlatFrame Coercion)) (te : LowState) (deep wide : ℕ)
-    (begins : (n : ℕ) → OnWay merged_meaning setting l procs casts s (record { frames = deep; words = wide }) n n te)
-    (H : TypeHead) (total : Outcome ℕ)
-    (law : (total ≡ Stuck → ⊥) → (k : ℕ) × Reaches (low_machine ending_of setting) (OnTheWay setting l s deep wide)
-    (ComesTo l setting s (IsVery l) objects total) k te) where
-  abbrev heads : ℕ → TypeHead
-  heads a = H
+-- an outcome is nothing or something
+pub stuck_or_not : (r : Outcome ℕ) → (r ≡ Stuck) ⊎ (r ≡ Stuck → ⊥)
+stuck_or_not Stuck = inl refl
+stuck_or_not (Gives u) = inr (λ e. let z : ⊥ = cc in z)
+stuck_or_not (Blames label) = inr (λ e. let z : ⊥ = cc in z)
 
-  abbrev most : Spent
-  most = record { frames = deep; words = wide }
+pub gives_some : (x : Merged ℕ) → Gives x ≡ Stuck → ⊥
+gives_some x e = cc
 
-  filled_as : (n : ℕ) (os : List Object) (h : Heap) → RtFilled setting l os h → Filled merged_meaning setting l n os h
-  filled_as n os h f = record {
-    objects_stand = f.objects_stand;
-    statics_stand = f.statics_stand;
-    ends = f.ends;
-    fits = f.fits;
-    keeps = f.whole;
-  }
+pub blames_some : (label : ℕ) → (r : Outcome ℕ) → r ≡ Blames label → r ≡ Stuck → ⊥
+blames_some label r e q = cc
 
-  abbrev Way : ℕ → ℕ → LowState → Type 0
-  Way n n' t = OnWay merged_meaning setting l procs casts s most n n' t
+-- The procedure was entered from s, and returns the total, where so much is left.
+module _ (setting : Setting) (l : Layout) (procs : List Proc) (casts : List TypeCast) (m : Measures)
+    (measured : FitsMeasures l m) (placed : Placed setting l) (s : LowState) (places : List ℕ) (objects : List Object)
+    (store : FlatStore Coercion) (at_first : ℕ)
+    (here : Here merged_meaning setting l procs casts m places objects store at_first (heap_of s))
+    (base : List (FlatFrame Coercion)) (most : Spent) (leaves : ℕ) (H : TypeHead) (total : Outcome ℕ) where
+  abbrev pub aim : Aim merged_meaning setting l procs casts m
+  aim focus frames store' n left t =
+      Returns merged_meaning setting l procs casts m s leaves places objects base focus frames store' n left t
 
-  on_way : (n n' : ℕ) (t : LowState)
-      → OnTheWay setting l s deep wide t → Way n n' t
-  on_way n n' t o = record {
-    objects = o.calm.objects;
-    filled = inl (filled_as n o.calm.objects (heap_of t) o.calm.fine.filled);
-    same = o.calm.same;
-    active = o.active;
-    asked = o.asked;
-  }
+  abbrev pub Comes : LowState → Type 0
+  Comes t = ComesTo l setting s (IsVery l) objects total t
 
-  abbrev aim : Rattle.lower.specs.SchemeLaws.Aim merged_meaning setting l procs casts
-  aim focus frames store' n t =
-      Returns merged_meaning setting l procs casts s places objects base focus frames store' n t
+  stands_so : (r : Outcome ℕ) (t : LowState) → ComesTo l setting s (IsVery l) objects r t
+      → length t.waiting ≤ length s.waiting + most.frames → Stands setting l procs casts m s most t
+  stands_so Stuck t c few = absurd c
+  stands_so (Gives x) t c few =
+      record { objects = c.new; filled = c.fine.filled; same = c.same; active = few }
+  stands_so (Blames label) t c few =
+      record { objects = c.new; filled = c.fine.filled; same = c.same; active = few }
 
-  law_at : (r : Outcome ℕ) → total ≡ r → (r ≡ Stuck → ⊥)
-      → (k : ℕ) × Reaches (low_machine ending_of setting) (OnTheWay setting l s deep wide)
-      (ComesTo l setting s (IsVery l) objects r) k te
-  law_at r e =
-      subst (λ x. (x ≡ Stuck → ⊥) → (k : ℕ) × Reaches (low_machine ending_of setting) (OnTheWay setting l s deep wide)
-      (ComesTo l setting s (IsVery l) objects x) k te) e law
+  pub comes_stands : (t : LowState) → Comes t → length t.waiting ≤ length s.waiting + most.frames
+      → Stands setting l procs casts m s most t
+  comes_stands t c few = stands_so total t c few
 
-  -- a value comes back
-  comes_back : (u : FlatValue Coercion) (m : Merged ℕ) → Like setting l procs places objects u m
-      → total ≡ Gives m → (n wraps : ℕ)
-      → After merged_meaning setting l procs casts s most
-      (Goes merged_meaning setting l procs casts s most aim 0) (On (Return u) base store s.world) n wraps te
-  comes_back u m k e n wraps =
-      let z = law_at (Gives m) e (not_stuck m) in (
-        refl,
-        (
-          z.0,
-          reaches_weaken (low_machine ending_of setting)
-              (OnTheWay setting l s deep wide)
-              (ComesTo l setting s (IsVery l) objects (Gives m)) (Way n (n + wraps))
-              (aim (Return u) base store (n + wraps)) (on_way n (n + wraps)) (λ t g. (refl, returns t g)) z.0 te z.1,
-        ),
-      )
-    where
-      not_stuck : (m : Merged ℕ) → Gives m ≡ Stuck → ⊥
-      not_stuck m e = cc
+  abbrev pub Done : LowState → Type 0
+  Done = Settled setting l procs casts m s most (total ≡ Stuck) (stuck_or_not total) Comes comes_stands
 
-      returns : (t : LowState) → GivesAt l setting s (IsVery l) objects m t
-          → ReturnsAt merged_meaning setting l procs casts s places objects u store (n + wraps) t
-      returns t g =
-          let more = g.grows.more in
-          let full = subst (λ os. RtFilled setting l os (heap_of t)) g.grows.is g.fine.filled in
-          record {
-            cells = [];
-            more = g.grows.more;
-            here = subst (λ ps. Here merged_meaning setting l procs casts ps (objects ++ g.grows.more) store (n + wraps)
-                (heap_of t)) (sym (append-nil places)) (record {
-                  filled = filled_as (n + wraps) (objects ++ g.grows.more) (heap_of t) full;
-                  cells = cells_later l setting.address procs merged_meaning merged_laws places objects g.grows.more
-                      t.memory places store
-                      (cells_below l setting.address procs merged_meaning merged_laws places objects setting placed
-                      (heap_of s) here.filled t.memory g.fine.kept places store here.cells);
-                });
-            word = g.word;
-            carried = subst (λ ps. CarriedIn l setting.address procs merged_meaning ps (objects ++ g.grows.more) u []
-                g.word) (sym (append-nil places))
-                (like_back setting l procs places objects g.grows.more u m k g.word
-                (subst (λ os. Carries l os m g.word) g.grows.is g.carried));
-            source = g.source;
-            code = g.code;
-            is = g.is;
-            waits = g.waits;
-            same = g.same;
-          }
+  pub calm : (t : LowState) → Done t → Calm setting l procs casts m s most t
+  calm t done =
+      settled_calm setting l procs casts m s most (total ≡ Stuck) (stuck_or_not total) Comes comes_stands t done
 
-  -- a label is blamed
-  pub blames : (label : ℕ) → total ≡ Blames label → (n : ℕ)
-      → After merged_meaning setting l procs casts s most
-      (Goes merged_meaning setting l procs casts s most aim 0) (BlameOf label) n 0 te
-  blames label e n = (
-    refl,
-    λ place found_it.
-        let z = law_at (Blames label) e (not_stuck (Blames label) refl) in (
-          z.0,
-          reaches_weaken (low_machine ending_of setting)
-              (OnTheWay setting l s deep wide)
-              (ComesTo l setting s (IsVery l) objects (Blames label)) (Way n n)
-              (StopsNow merged_meaning setting l procs casts s n (EndsWith (Blame place))) (on_way n n)
-              (blame_stops setting l procs casts s objects n label place found_it) z.0 te z.1,
-        ),
-  )
-    where
-      not_stuck : (r : Outcome ℕ) → r ≡ Blames label → r ≡ Stuck → ⊥
-      not_stuck r e q = cc
+  -- the walk of a law, for so many words and at this price
+  abbrev pub walk : ℕ → ℕ → Stage setting l procs casts m s most Done
+  walk words price = begun setting l procs casts m s most (total ≡ Stuck) (stuck_or_not total) Comes comes_stands words
+      price
+
+  abbrev pub Walking : ℕ → ℕ → LowState → Type 0
+  Walking words price t =
+      Begun setting l procs casts m s most (total ≡ Stuck) (stuck_or_not total) Comes comes_stands words price t
+
+  abbrev pub ended : Stage setting l procs casts m s most Done
+  ended = at_end setting l procs casts m s most Done calm
+
+  comes_so : (r : Outcome ℕ) → total ≡ r → (r ≡ Stuck → ⊥) → (t : LowState) → Done t
+      → ComesTo l setting s (IsVery l) objects r t
+  comes_so r e some t done =
+      subst (λ x. ComesTo l setting s (IsVery l) objects x t) e (done.comes (λ q. some (sym e ∙ q)))
+
+  pub blamed : (label : ℕ) → total ≡ Blames label → (t : LowState) → Done t → (n : ℕ) (place : Pos)
+      → slice_get setting.labels label ≡ Some place
+      → StopsNow merged_meaning setting l procs casts m s n (EndsWith (Blame place)) t
+  blamed label e t done n place found_it =
+      blame_stops setting l procs casts m s objects n label place found_it t
+      (comes_so (Blames label) e (blames_some label (Blames label) refl) t done)
+
+  -- a return of what is like the value
+  pub returns : (u : FlatValue Coercion) (x : Merged ℕ) → Like setting l procs places objects u x → (n : ℕ)
+      (t : LowState) → GivesAt l setting s (IsVery l) objects x t
+      → ReturnsAt merged_meaning setting l procs casts m s places objects u store n t
+  returns u x k n t g =
+      let more = g.grows.more in
+      let full = subst (λ os. RtFilled setting l os (heap_of t)) g.grows.is g.fine.filled in
+      record {
+        cells = [];
+        more = g.grows.more;
+        here = subst (λ ps. Here merged_meaning setting l procs casts m ps (objects ++ g.grows.more) store n
+            (heap_of t)) (sym (append-nil places)) (record {
+              filled = filled_as setting l procs casts m n (objects ++ g.grows.more) (heap_of t) full;
+              cells = cells_later l setting.address procs merged_meaning merged_laws places objects g.grows.more
+                  t.memory places store
+                  (cells_below l setting.address procs merged_meaning merged_laws places objects setting placed
+                  (heap_of s) here.filled t.memory g.fine.kept places store here.cells);
+            });
+        word = g.word;
+        carried = subst (λ ps. CarriedIn l setting.address procs merged_meaning ps (objects ++ g.grows.more) u []
+            g.word) (sym (append-nil places))
+            (like_back setting l procs places objects g.grows.more u x k g.word
+            (subst (λ os. Carries l os x g.word) g.grows.is g.carried));
+        source = g.source;
+        code = g.code;
+        is = g.is;
+        waits = g.waits;
+        same = g.same;
+      }
 
   -- ---- the turns of casts, with this law
 
-  abbrev pub Ends : List (FlatFrame Coercion) → (Outcome ℕ → Outcome ℕ) → Type 0
-  Ends frames after =
-      EndsBy setting l procs casts s places objects store te most aim H total frames after
+  abbrev pub Ends : Stage setting l procs casts m s most Done → (Merged ℕ → ℕ → Type 0) → List (FlatFrame Coercion)
+      → (Outcome ℕ → Outcome ℕ) → Type 0
+  Ends g Fit frames after =
+      EndsBy setting l procs casts m measured s places objects store most aim H total Done calm blamed g Fit frames
+      after
 
-  abbrev pub IsStrict : (Outcome ℕ → Outcome ℕ) → Type 0
-  IsStrict after = StrictBy (λ label. Blames label) after
+  abbrev pub Later : ℕ → List (FlatFrame Coercion) → (Outcome ℕ → Outcome ℕ) → Type 0
+  Later need frames after = Ends ended (λ x credit. need ≤ credit) frames after
 
-  abbrev Then : ℕ → FlatAfter Coercion → ℕ → ℕ → Type 0
-  Then i x n wraps = ThenBy setting l procs casts s places objects store te most aim H total i x n wraps
+  pub ends_here : Later leaves base (λ o. o)
+  ends_here u x k h e =
+      (0, λ t done n credit le. (refl, le, returns u x k n t (comes_so (Gives x) e (gives_some x) t done)))
 
-  pub ends_here : Ends base (λ o. o)
-  ends_here u m k h e n wraps = (0, comes_back u m k e n wraps)
+  abbrev pub Turned : ℕ → FlatAfter Coercion → Cost → ℕ → ℕ → ℕ → LowState → Type 0
+  Turned i x cost credit n wraps t =
+      After merged_meaning setting l procs casts m s most (Goes merged_meaning setting l procs casts m s most aim i) x
+      cost credit n wraps t
+
+  abbrev pub Made : Stage setting l procs casts m s most Done → ℕ → Coercion → FlatValue Coercion → Merged ℕ
+      → List (FlatFrame Coercion) → Type 0
+  Made g need z u x frames =
+      MadeBy setting l procs casts m measured s places objects store most aim H total Done calm blamed g need z u x
+      frames
 
   -- every cast
-  pub cast_made : (z : Coercion) → IsNormal (rows_of l.types) z → (frames : List (FlatFrame Coercion))
-      (after : Outcome ℕ → Outcome ℕ) → IsStrict after → Ends frames after → (u : FlatValue Coercion) (m : Merged ℕ)
-      → Like setting l procs places objects u m → solid_head setting l procs places objects u ≡ H
-      → total ≡ after (cast_value heads l.types z m) → (n : ℕ)
-      → (i : ℕ)
-      × Then i (flat_cast procs (merging l.types casts) store s.world u z frames) n
-      (decision_wraps (decision_at procs (merging l.types casts) (Some z) u))
-  cast_made z normal frames after strict ends u m k h e n =
-      cast_made_by setting l procs casts s places objects store te most aim H total begins (λ label. Blames label)
-      blames
-      z normal frames after strict ends u m k h e n
+  pub cast_made : (g : Stage setting l procs casts m s most Done) (need : ℕ) (z : Coercion)
+      → IsNormal (rows_of l.types) z
+      → (frames : List (FlatFrame Coercion)) (after : Outcome ℕ → Outcome ℕ) → IsStrict after
+      → Later need frames after → (u : FlatValue Coercion) (x : Merged ℕ) → Like setting l procs places objects u x
+      → solid_head setting l procs places objects u ≡ H → total ≡ after (cast_value (λ a. H) l.types z x)
+      → Made g need z u x frames
+  cast_made =
+      cast_made_by setting l procs casts m measured s places objects store most aim H total Done calm blamed
 
   -- a cast that waits
-  pub ends_cast : (z : Coercion) → IsNormal (rows_of l.types) z → (frames : List (FlatFrame Coercion))
-      (after : Outcome ℕ → Outcome ℕ) → IsStrict after → Ends frames after
-      → Ends (CastFrame z ∷ frames) (λ o. after (then_outcome o (cast_value heads l.types z)))
-  ends_cast z normal frames after strict ends =
-      ends_cast_by setting l procs casts s places objects store te most aim H total begins (λ label. Blames label)
-      blames
-      z normal frames after strict ends
+  pub ends_cast : (g : Stage setting l procs casts m s most Done) (need : ℕ) (z : Coercion)
+      → IsNormal (rows_of l.types) z
+      → (frames : List (FlatFrame Coercion)) (after : Outcome ℕ → Outcome ℕ) → IsStrict after
+      → Later need frames after
+      → Ends g (λ x credit. Fits (rows_of l.types) m g.words g.price need z x credit) (CastFrame z ∷ frames)
+      (λ o. after (then_outcome o (cast_value (λ a. H) l.types z)))
+  ends_cast =
+      ends_cast_by setting l procs casts m measured s places objects store most aim H total Done calm blamed
+
+  pub ends_cast_later : (need : ℕ) (z : Coercion) → IsNormal (rows_of l.types) z
+      → (frames : List (FlatFrame Coercion)) (after : Outcome ℕ → Outcome ℕ) → IsStrict after
+      → Later need frames after
+      → Later need (CastFrame z ∷ frames) (λ o. after (then_outcome o (cast_value (λ a. H) l.types z)))
+  ends_cast_later =
+      ends_cast_later_by setting l procs casts m measured s places objects store most aim H total Done calm blamed
+
+  -- a cast whose walk is done at this price and for so many words, in one of its turns
+  pub cast_answers : (words price : ℕ) (z : Coercion) → IsNormal (rows_of l.types) z → (u : FlatValue Coercion)
+      (x : Merged ℕ) → Like setting l procs places objects u x → solid_head setting l procs places objects u ≡ H
+      → total ≡ cast_value (λ a. H) l.types z x → (te : LowState) → Walking words price te
+      → Fits (rows_of l.types) m words price leaves z x 0 → (n : ℕ)
+      → (i : ℕ) × Turned i (flat_cast procs (merging l.types casts) store s.world u z base)
+      (cast_cost procs (merging l.types casts) (merged_prices l.types (merging l.types casts) m) (Some z) u) 0 n
+      (decision_wraps (decision_at procs (merging l.types casts) (Some z) u)) te
+  cast_answers words price z normal u x k h e te ready fits n =
+      let r = cast_made (walk words price) leaves z normal base (λ o. o) (λ label. refl) ends_here u x k h e in
+      (r.0, r.1 te ready n 0 fits)
+
+  -- a turn at this cost gives the value, and the walk is done in it
+  pub returned_now : (words price : ℕ) (cost : Cost) (u : FlatValue Coercion) (x : Merged ℕ)
+      → Like setting l procs places objects u x → solid_head setting l procs places objects u ≡ H → total ≡ Gives x
+      → (te : LowState) → Walking words price te → words ≤ cost.asks → (credit : ℕ)
+      → price + leaves ≤ credit + cost.budget → (n : ℕ)
+      → (i : ℕ) × Turned i (On (Return u) base store s.world) cost credit n 0 te
+  returned_now words price cost u x k h e te ready few credit cheap n =
+      let r = takes_it_by setting l procs casts m measured s places objects store most aim H total Done calm blamed
+      (walk words price) cost leaves base (λ o. o) ends_here u x k h e in
+      (r.0, r.1 te ready n credit 0 (few, cheap))
+
+  -- a turn at this cost gives a value that is cast then, and the walk is done in a turn of that cast
+  pub cast_next : (words price : ℕ) (cost : Cost) (z : Coercion) → IsNormal (rows_of l.types) z
+      → (u : FlatValue Coercion) (x : Merged ℕ) → Like setting l procs places objects u x
+      → solid_head setting l procs places objects u ≡ H → total ≡ cast_value (λ a. H) l.types z x → (te : LowState)
+      → Walking words price te → (credit : ℕ)
+      → Fits (rows_of l.types) m words price leaves z x (credit + cost.budget) → (n : ℕ)
+      → (i : ℕ) × Turned i (On (Return u) (CastFrame z ∷ base) store s.world) cost credit n 0 te
+  cast_next words price cost z normal u x k h e te ready credit fits n =
+      let r = skips_by setting l procs casts m measured s places objects store most aim H total Done calm blamed
+      (walk words price) cost (λ y c. Fits (rows_of l.types) m words price leaves z y c) (CastFrame z ∷ base)
+      (λ o. then_outcome o (cast_value (λ a. H) l.types z))
+      (ends_cast (walk words price) leaves z normal base (λ o. o) (λ label. refl) ends_here) u x k h e in
+      (r.0, r.1 te ready n credit 0 fits)
+
+  -- a label is blamed at once
+  pub blames : (words price : ℕ) (cost : Cost) (label : ℕ) → total ≡ Blames label → (te : LowState)
+      → Walking words price te → words ≤ cost.asks → price ≤ 0 + cost.budget → (n : ℕ)
+      → Turned 0 (BlameOf label) cost 0 n 0 te
+  blames words price cost label e te ready few cheap n =
+      blames_now_by setting l procs casts m measured s places objects store most aim H total Done calm blamed
+      (walk words price) cost label e te ready n 0 few cheap
 
   -- parts of tuples, told the parts of what stands at an address
   module _ (parts : ℕ → List (Merged ℕ)) (k : ℕ) where
-    pub value_part : (u : FlatValue Coercion) (m : Merged ℕ) → Like setting l procs places objects u m
-        → KnownUnder setting l procs places objects H parts k u m
-        → (frames : List (FlatFrame Coercion)) (after : Outcome ℕ → Outcome ℕ) → IsStrict after → Ends frames after
-        → total ≡ after (part_value heads parts l.types k m) → (n : ℕ)
-        → (i : ℕ) × Then i (flat_proj procs (merging l.types casts) store s.world u (pos k) frames) n 0
+    abbrev pub PartFits : Stage setting l procs casts m s most Done → ℕ → Merged ℕ → ℕ → Type 0
+    PartFits g need x credit =
+        PartFitsBy setting l procs casts m measured s places objects store most aim H total Done calm blamed parts k g
+        need x credit
+
+    pub value_part : (g : Stage setting l procs casts m s most Done) (need : ℕ) (u : FlatValue Coercion) (x : Merged ℕ)
+        → Like setting l procs places objects u x → KnownUnder setting l procs places objects H parts k u x
+        → (frames : List (FlatFrame Coercion)) (after : Outcome ℕ → Outcome ℕ) → IsStrict after
+        → Later need frames after → total ≡ after (part_value (λ a. H) parts l.types k x)
+        → (i : ℕ) × ((t : LowState) → g.Ready t → (n credit : ℕ) → PartFits g need x credit
+        → Turned i (flat_proj procs (merging l.types casts) store s.world u (pos k) frames)
+        (act_cost procs (merging l.types casts) (merged_prices l.types (merging l.types casts) m)) credit n 0 t)
     value_part =
-        value_part_by setting l procs casts s places objects store te most aim H total begins (λ label. Blames label)
-        blames parts k
+        value_part_by setting l procs casts m measured s places objects store most aim H total Done calm blamed parts k
 
     -- and while it waits
-    pub waits_for_part : (u : FlatValue Coercion) (m : Merged ℕ) → Like setting l procs places objects u m
-        → KnownUnder setting l procs places objects H parts k u m
-        → (frames : List (FlatFrame Coercion)) (after : Outcome ℕ → Outcome ℕ) → IsStrict after → Ends frames after
-        → total ≡ after (part_value heads parts l.types k m) → (n : ℕ)
-        → (i : ℕ) × Then i (On (Return u) (ProjFrame (pos k) ∷ frames) store s.world) n 0
+    pub waits_for_part : (g : Stage setting l procs casts m s most Done) (need : ℕ) (u : FlatValue Coercion)
+        (x : Merged ℕ) → Like setting l procs places objects u x
+        → KnownUnder setting l procs places objects H parts k u x → (frames : List (FlatFrame Coercion))
+        (after : Outcome ℕ → Outcome ℕ) → IsStrict after → Later need frames after
+        → total ≡ after (part_value (λ a. H) parts l.types k x)
+        → (i : ℕ) × ((t : LowState) → g.Ready t → (n credit : ℕ) → PartFits g need x credit
+        → Goes merged_meaning setting l procs casts m s most aim i (Return u) (ProjFrame (pos k) ∷ frames) store n
+        credit
+        t)
     waits_for_part =
-        waits_for_part_by setting l procs casts s places objects store te most aim H total begins
-        (λ label. Blames label)
-        blames parts k
+        waits_for_part_by setting l procs casts m measured s places objects store most aim H total Done calm blamed
+        parts
+        k

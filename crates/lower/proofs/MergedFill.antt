@@ -1,12 +1,14 @@
 -- The procedure fill of the merged scheme does what the operator that makes vectors does.
-use Rattle.std.proofs.Common.{◌≡◌, inr, ℕ, zero, suc, ◌+◌, ◌^◌, ◌<◌, ◌≤◌, pos, negsuc, List, [], ◌∷◌, ◌++◌, length}
-use Rattle.std.proofs.Common.{Some, true, refl, sym, ap, ◌∙◌, subst, arith, slice_get, replicate}
+use Rattle.std.proofs.Common.{◌≡◌, inr, ℕ, zero, suc, ◌+◌, ◌*◌, ◌^◌, ◌<◌, ◌≤◌, pos, negsuc, List, [], ◌∷◌, ◌++◌, length}
+use Rattle.std.proofs.Common.{Some, true, le_refl, refl, sym, ap, ◌∙◌, subst, arith, slice_get, replicate}
 use Rattle.grift_base.specs.declared.operators.PrimOp.TheVariants.{MakeVector}
 use Rattle.grift_base.specs.declared.verdicts.Trap.TheVariants.{Length}
 use Rattle.run_laws.proofs.Public.{reaches_weaken}
 use Rattle.rv_machine.specs.Mach.{ending_of}
+use Rattle.core_calc.specs.Account.{Measures}
 use Rattle.low_ir.specs.Run.{Setting, LowState, low_machine}
 use Rattle.coercion_norm.specs.Coercions.{Coercion}
+use Rattle.coercion_norm.specs.MergedMode.{merging}
 use Rattle.coercion_norm.specs.Modes.{TypeCast}
 use Rattle.coercion_norm.specs.RunValues.{RunInt, RunBool, RunUnit, RunFun, RunTuple, RunLoc, RunWrap, RunInject}
 use Rattle.coercion_norm.specs.RunValues.{in_row}
@@ -15,7 +17,8 @@ use Rattle.coercion_norm.specs.Objects.{Object, Cell}
 use Rattle.coercion_norm.specs.ObjectsOfRows.{header}
 use Rattle.coercion_norm.specs.Held.{Layout}
 use Rattle.flat_ir.specs.Bodies.{Proc}
-use Rattle.flat_ir.specs.Machine.{FlatValue, FlatFrame, FlatStore, flat_operate}
+use Rattle.flat_ir.specs.FlatTally.{Cost, merged_prices, operator_cost}
+use Rattle.flat_ir.specs.Machine.{FlatValue, FlatFrame, FlatStore, FlatAfter, flat_operate}
 use Rattle.rt_cast.specs.States.{Placed, Filled as RtFilled, OnTheWay, entered, heap_of}
 use Rattle.rt_refs.specs.FillCodes.{fill_loop, fill_proc}
 use Rattle.rt_refs.specs.FillLaws.{MadeAt}
@@ -23,13 +26,14 @@ use Rattle.rt_refs.proofs.Public.{vectors_are_made, lengths_below_zero_trap}
 use Rattle.lower.specs.declared.served.Served.{Served}
 use Rattle.lower.specs.MergedMeaning.{merged_meaning}
 use Rattle.lower.specs.CarriedValues.{AreCarried}
-use Rattle.lower.specs.SchemeLaws.{Spent, Here, OnWay, Returns, ReturnsAt, Answers, OperatorDone, mode_here}
-use Rattle.lower.specs.SchemeLaws.{at_or_zero}
+use Rattle.lower.specs.SchemeLaws.{Spent, Here, OnWay, Goes, Returns, ReturnsAt, Answers, OperatorDone}
+use Rattle.lower.specs.SchemeLaws.{at_or_zero, nothing, operator_leaves}
+use Rattle.lower.proofs.MergedStages.{on_way, trapped_at}
 use Rattle.lower.proofs.CarriedLater.{grown, cells_grown, cells_below, carried_small}
 use Rattle.lower.proofs.HeapCells.{as_many_cells, cells_append, cells_end}
 use Rattle.lower.proofs.MergedLaws.{merged_laws}
 use Rattle.lower.proofs.SimulationServices.{kept_in_front}
-use Rattle.lower.proofs.MergedStates.{positive_is, negative_is, filled_as, filled_of, on_way, traps}
+use Rattle.lower.proofs.MergedStates.{positive_is, negative_is, filled_as, filled_of}
 use Rattle.lower.proofs.WordArithmetic.{word_small}
 
 last_place : (xs : List ℕ) (x n : ℕ) → length xs ≡ n → slice_get (xs ++ x ∷ []) n ≡ Some x
@@ -42,21 +46,21 @@ length_of_same : (n w : ℕ) → length (replicate n w) ≡ n
 length_of_same zero w = refl
 length_of_same (suc n) w = ap suc (length_of_same n w)
 
-module _ (setting : Setting) (l : Layout) (procs : List Proc) (casts : List TypeCast) (placed : Placed setting l)
-    (begins : l.region ≡ setting.region) (narrow : setting.top < 2 ^ 34) (own : ℕ)
+module _ (setting : Setting) (l : Layout) (procs : List Proc) (casts : List TypeCast) (m : Measures)
+    (placed : Placed setting l) (begins : l.region ≡ setting.region) (narrow : setting.top < 2 ^ 34) (own : ℕ)
     (there : slice_get setting.procs own ≡ Some (fill_loop own)) where
   module _ (s : LowState) (number : ℕ) (places : List ℕ) (objects : List Object) (store : FlatStore Coercion)
-      (here : Here merged_meaning setting l procs casts places objects store number (heap_of s))
+      (here : Here merged_meaning setting l procs casts m places objects store number (heap_of s))
       (base : List (FlatFrame Coercion)) where
     rt_filled : RtFilled setting l objects (heap_of s)
-    rt_filled = filled_of setting l procs casts number objects (heap_of s) here.filled
+    rt_filled = filled_of setting l procs casts m number objects (heap_of s) here.filled
 
     C : FlatValue Coercion → ℕ → Type 0
     C v w = AreCarried l setting.address procs merged_meaning places objects (in_row (v ∷ [])) (w ∷ [])
 
     module _ (n w : ℕ) (v : FlatValue Coercion)
         (cv : AreCarried l setting.address procs merged_meaning places objects (in_row (v ∷ [])) (w ∷ []))
-        (t : LowState) (m : MadeAt setting l s objects n w t) where
+        (t : LowState) (g : MadeAt setting l s objects n w t) where
       abbrev vector : Object
       vector = Cell (header 6 0 n) n
 
@@ -75,27 +79,27 @@ module _ (setting : Setting) (l : Layout) (procs : List Proc) (casts : List Type
       long : length (replicate n w) ≡ n
       long = length_of_same n w
 
-      returned : ReturnsAt merged_meaning setting l procs casts s places objects (RunLoc (length store) true)
+      returned : ReturnsAt merged_meaning setting l procs casts m s places objects (RunLoc (length store) true)
           (store ++ replicate n v ∷ []) (number + 0) t
       returned = record {
         cells = s.alloc ∷ [];
         more = vector ∷ [];
         here = record {
-          filled = filled_as setting l procs casts (number + 0) (objects ++ vector ∷ []) (heap_of t) m.fine.filled;
+          filled = filled_as setting l procs casts m (number + 0) (objects ++ vector ∷ []) (heap_of t) g.fine.filled;
           cells =
               cells_append l setting.address procs merged_meaning bigger (objects ++ vector ∷ []) 0 t.memory places
               store s.alloc (replicate n v)
               (cells_grown l setting.address procs merged_meaning merged_laws places bigger
               (kept_in_front places (s.alloc ∷ [])) objects (vector ∷ []) 0 t.memory places store
               (cells_below l setting.address procs merged_meaning merged_laws places objects setting placed (heap_of s)
-              here.filled t.memory m.fine.kept places store here.cells))
+              here.filled t.memory g.fine.kept places store here.cells))
               (cells_end l setting.address procs merged_meaning places objects setting placed (heap_of s) here.filled 0
               places store here.cells (omega arith))
               (record {
                 head = header 6 0 n;
                 words = replicate n w;
-                is = m.there ∙ ap (λ k. Some (Cell (header 6 0 n) k)) (sym long);
-                held = m.held;
+                is = g.there ∙ ap (λ k. Some (Cell (header 6 0 n) k)) (sym long);
+                held = g.held;
                 carried = all_carried n;
               });
         };
@@ -104,85 +108,103 @@ module _ (setting : Setting) (l : Layout) (procs : List Proc) (casts : List Type
           n,
           last_place places s.alloc (length store)
               (as_many_cells l setting.address procs merged_meaning places objects 0 s.memory places store here.cells),
-          inr m.there,
+          inr g.there,
           λ e. absurd (let z : ⊥ = cc in z),
         );
-        source = m.source;
-        code = m.code;
-        is = m.is;
-        waits = m.waits;
-        same = m.same;
+        source = g.source;
+        code = g.code;
+        is = g.is;
+        waits = g.waits;
+        same = g.same;
       }
+
+    abbrev cost : List (FlatValue Coercion) → Cost
+    cost vs =
+        operator_cost procs (merging l.types casts) (merged_prices l.types (merging l.types casts) m) MakeVector vs
+
+    abbrev Says : FlatAfter Coercion → Cost → LowState → Type 0
+    Says x c te =
+        (most : Spent) × Answers merged_meaning setting l procs casts m s most operator_leaves places objects base x c
+        number 0 te
 
     made : (n w wn : ℕ) (v : FlatValue Coercion) → wn ≡ n → n < 2 ^ 63
         → (cv : AreCarried l setting.address procs merged_meaning places objects (in_row (v ∷ [])) (w ∷ []))
-        → (most : Spent) × Answers merged_meaning setting l procs casts s most places objects base
-        (On (Return (RunLoc (length store) true)) base (store ++ replicate n v ∷ []) s.world) number 0
-        (entered s (fill_proc own) (wn ∷ w ∷ []))
+        → Says (On (Return (RunLoc (length store) true)) base (store ++ replicate n v ∷ []) s.world)
+        (cost (RunInt (pos n) ∷ v ∷ [])) (entered s (fill_proc own) (wn ∷ w ∷ []))
     made n w wn v is lt cv =
         let small = carried_small l setting.address procs merged_meaning merged_laws places objects setting placed
         (heap_of s) here.filled v w cv.0 in
         let z = vectors_are_made ending_of setting l s refl placed begins (omega (arith, narrow)) own there objects
         rt_filled n w small lt in
-        subst (λ k. (most : Spent) × Answers merged_meaning setting l procs casts s most places objects base
-        (On (Return (RunLoc (length store) true)) base (store ++ replicate n v ∷ []) s.world) number 0
-        (entered s (fill_proc own) (k ∷ w ∷ []))) (sym is) (
-          record { frames = 1; words = n + 1 },
+        let te : LowState = entered s (fill_proc own) (n ∷ w ∷ []) in
+        let most : Spent = record { frames = 1 } in
+        subst (λ k. Says (On (Return (RunLoc (length store) true)) base (store ++ replicate n v ∷ []) s.world)
+        (cost (RunInt (pos n) ∷ v ∷ [])) (entered s (fill_proc own) (k ∷ w ∷ []))) (sym is) (
+          most,
           (
             0,
             (
               refl,
               (
                 z.0,
+                61 * n + 124,
+                operator_leaves,
+                omega arith,
+                z.3,
                 reaches_weaken (low_machine ending_of setting) (OnTheWay setting l s 1 (n + 1)) (MadeAt setting l s
-                    objects n w)
-                    (OnWay merged_meaning setting l procs casts s (record { frames = 1; words = n + 1 }) number
-                    (number + 0))
-                    (Returns merged_meaning setting l procs casts s places objects base (Return
-                    (RunLoc (length store) true)) base
-                    (store ++ replicate n v ∷ []) (number + 0))
-                    (on_way setting l procs casts s (record { frames = 1; words = n + 1 }) 1 (n + 1) (omega arith)
-                    (omega arith) number
-                    (number + 0)) (λ t m. (refl, returned n w v cv t m)) z.0
-                    (entered s (fill_proc own) (n ∷ w ∷ [])) z.2,
+                    objects
+                    n w) (OnWay merged_meaning setting l procs casts m s te most (n + 1) number (number + 0))
+                    (λ u. (u.words ≤ te.words + (n + 1))
+                    × Returns merged_meaning setting l procs casts m s operator_leaves places objects base
+                    (Return (RunLoc (length store) true)) base (store ++ replicate n v ∷ []) (number + 0)
+                    operator_leaves u)
+                    (λ u x. on_way setting l procs casts m s most te u (n + 1) number (number + 0) (record {
+                      objects = x.calm.objects;
+                      filled = x.calm.fine.filled;
+                      same = x.calm.same;
+                      active = x.active;
+                    }) x.asked)
+                    (λ u g. (
+                      (let a = g.taken in omega (arith, a)),
+                      (refl, le_refl operator_leaves, returned n w v cv u g),
+                    )) z.0 te z.2,
               ),
             ),
           ),
         )
 
-    trapped : (n w : ℕ) → 2 ^ 63 ≤ n → n < 2 ^ 64 → w < 2 ^ 64
-        → (most : Spent) × Answers merged_meaning setting l procs casts s most places objects base
-        (TrapOf Length s.world) number 0 (entered s (fill_proc own) (n ∷ w ∷ []))
-    trapped n w ge lt small =
+    trapped : (n w : ℕ) (c : Cost) → 14 ≤ c.budget → 2 ^ 63 ≤ n → n < 2 ^ 64 → w < 2 ^ 64
+        → Says (TrapOf Length s.world) c (entered s (fill_proc own) (n ∷ w ∷ []))
+    trapped n w c enough ge lt small =
         let z = lengths_below_zero_trap ending_of setting l s refl placed begins (omega (arith, narrow)) own there
-        objects rt_filled n w small ge lt in (
-          record { frames = 0; words = 0 },
+        objects rt_filled n w small ge lt in
+        let te : LowState = entered s (fill_proc own) (n ∷ w ∷ []) in (
+          nothing,
           (
             0,
-            traps setting l procs casts s (record { frames = 0; words = 0 })
-                (Returns merged_meaning setting l procs casts s places objects base) Length 0 0 (omega arith) (omega
-                arith)
-                (entered s (fill_proc own) (n ∷ w ∷ [])) z.0 z.2 number,
+            trapped_at setting l procs casts m s nothing
+                (Goes merged_meaning setting l procs casts m s nothing
+                (Returns merged_meaning setting l procs casts m s operator_leaves places objects base) 0) Length 0 14
+                (omega arith) te refl z.0 z.2 z.3 c 0 (omega (arith, enough)) number,
           ),
         )
 
     does_for : (vs : List (FlatValue Coercion)) (ws : List ℕ)
         → AreCarried l setting.address procs merged_meaning places objects (in_row vs) ws
-        → (most : Spent) × Answers merged_meaning setting l procs casts s most places objects base
-        (flat_operate procs (mode_here merged_meaning setting l procs casts) store s.world MakeVector vs base) number 0
+        → Says (flat_operate procs (merging l.types casts) store s.world MakeVector vs base) (cost vs)
         (entered s (fill_proc own) (at_or_zero ws 0 ∷ at_or_zero ws 1 ∷ []))
-    does_for [] ws c = (record { frames = 0; words = 0 }, (0, refl))
-    does_for (RunBool b ∷ vs) ws c = (record { frames = 0; words = 0 }, (0, refl))
-    does_for (RunUnit ∷ vs) ws c = (record { frames = 0; words = 0 }, (0, refl))
-    does_for (RunFun code captured ∷ vs) ws c = (record { frames = 0; words = 0 }, (0, refl))
-    does_for (RunTuple values ∷ vs) ws c = (record { frames = 0; words = 0 }, (0, refl))
-    does_for (RunLoc cell is_vector ∷ vs) ws c = (record { frames = 0; words = 0 }, (0, refl))
-    does_for (RunWrap v d ∷ vs) ws c = (record { frames = 0; words = 0 }, (0, refl))
-    does_for (RunInject v kept ∷ vs) ws c = (record { frames = 0; words = 0 }, (0, refl))
-    does_for (RunInt (pos n) ∷ []) ws c = (record { frames = 0; words = 0 }, (0, refl))
-    does_for (RunInt (negsuc n) ∷ []) ws c = (record { frames = 0; words = 0 }, (0, refl))
-    does_for (RunInt (pos n) ∷ v ∷ x ∷ vs) ws c = (record { frames = 0; words = 0 }, (0, refl))
-    does_for (RunInt (negsuc n) ∷ v ∷ x ∷ vs) ws c = (record { frames = 0; words = 0 }, (0, refl))
+    does_for [] ws c = (nothing, (0, refl))
+    does_for (RunBool b ∷ vs) ws c = (nothing, (0, refl))
+    does_for (RunUnit ∷ vs) ws c = (nothing, (0, refl))
+    does_for (RunFun code captured ∷ vs) ws c = (nothing, (0, refl))
+    does_for (RunTuple values ∷ vs) ws c = (nothing, (0, refl))
+    does_for (RunLoc cell is_vector ∷ vs) ws c = (nothing, (0, refl))
+    does_for (RunWrap v d ∷ vs) ws c = (nothing, (0, refl))
+    does_for (RunInject v kept ∷ vs) ws c = (nothing, (0, refl))
+    does_for (RunInt (pos n) ∷ []) ws c = (nothing, (0, refl))
+    does_for (RunInt (negsuc n) ∷ []) ws c = (nothing, (0, refl))
+    does_for (RunInt (pos n) ∷ v ∷ x ∷ vs) ws c = (nothing, (0, refl))
+    does_for (RunInt (negsuc n) ∷ v ∷ x ∷ vs) ws c = (nothing, (0, refl))
     does_for (RunInt (pos n) ∷ v ∷ []) [] c = absurd c
     does_for (RunInt (pos n) ∷ v ∷ []) (wn ∷ []) c = absurd c.1
     does_for (RunInt (pos n) ∷ v ∷ []) (wn ∷ w ∷ x ∷ ws) c = absurd c.1.1
@@ -195,11 +217,11 @@ module _ (setting : Setting) (l : Layout) (procs : List Proc) (casts : List Type
         let z = negative_is n c.0.1 in
         let y = word_small (negsuc n) c.0.1 in
         let e = c.0.0 in
-        trapped wn w (omega (arith, z, e)) (omega (arith, y, e))
+        trapped wn w (cost (RunInt (negsuc n) ∷ v ∷ [])) (omega arith) (omega (arith, z, e)) (omega (arith, y, e))
         (carried_small l setting.address procs merged_meaning merged_laws places objects setting placed (heap_of s)
         here.filled v w c.1.0)
 
-  pub merged_fills : (run : Served) → OperatorDone merged_meaning setting l procs casts run MakeVector (fill_proc own)
+  pub merged_fills : (run : Served) → OperatorDone merged_meaning setting l procs casts m run MakeVector (fill_proc own)
       (λ ws. at_or_zero ws 0 ∷ at_or_zero ws 1 ∷ [])
   merged_fills run = record {
     does = λ s number places objects store here base vs ws c handed.

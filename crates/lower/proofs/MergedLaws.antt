@@ -1,5 +1,6 @@
 -- The laws of the meaning of the merged scheme.
-use Rattle.std.proofs.Common.{inl, ℕ, List, [], ◌∷◌, ◌++◌, refl, sym, subst, append-nil, append_assoc}
+use Rattle.std.proofs.Common.{◌≡◌, inl, ℕ, true, List, [], ◌∷◌, ◌++◌, Some, refl, sym, ap, subst, append-nil}
+use Rattle.std.proofs.Common.{append_assoc, le_refl}
 use Rattle.coercion_norm.specs.Coercions.{Coercion, Coercions, Id, Fail, Middle, Inject, Project, NoCoercions}
 use Rattle.coercion_norm.specs.Coercions.{CoercionThen}
 use Rattle.coercion_norm.specs.declared.middles.MiddleKind.TheVariants.{Fun, Tup, Ref, Vec}
@@ -7,7 +8,8 @@ use Rattle.coercion_norm.specs.Held.{Layout, Held, AreHeld}
 use Rattle.coercion_norm.specs.Objects.{Object}
 use Rattle.low_ir.specs.Run.{Setting, Waiting}
 use Rattle.rt_cast.specs.WholeObjects.{Wholes, WholeOther}
-use Rattle.lower.specs.Meanings.{MeaningLaws, IsWrapper}
+use Rattle.coer_core.specs.Tally.{kind_budget}
+use Rattle.lower.specs.Meanings.{MeaningLaws, IsWrapper, is_last}
 use Rattle.lower.specs.MergedMeaning.{merged_meaning, merged_wraps, merged_resumes, WrapsKind}
 use Rattle.lower.proofs.HeapFilled.{there_later}
 
@@ -88,6 +90,12 @@ resumes_later setting l objects more waiting (c ∷ []) h = (
   },
 )
 
+resumes_elsewhere : (setting : Setting) (l : Layout) (objects : List Object) (waiting : Waiting)
+    (casts : List Coercion) → merged_resumes setting l objects waiting casts → is_last waiting.rest.code ≡ true
+resumes_elsewhere setting l objects waiting [] h = absurd h
+resumes_elsewhere setting l objects waiting (c ∷ d ∷ casts) h = absurd h
+resumes_elsewhere setting l objects waiting (c ∷ []) h = ap is_last h.2.code
+
 wrapper : (l : Layout) (objects : List Object) (casts : List Coercion) (target w : ℕ)
     → merged_wraps l objects casts target w → IsWrapper l objects w
 wrapper l objects [] target w h = absurd h
@@ -99,9 +107,13 @@ pub merged_laws : MeaningLaws merged_meaning
 merged_laws = record {
   wraps_later = wraps_later;
   resumes_later = resumes_later;
+  resumes_elsewhere = resumes_elsewhere;
   wrapper = wrapper;
   begins = λ l. tt;
   keeps_more = λ l objects number o own keeps.
       wholes_append l [] objects (o ∷ []) keeps
       (WholeOther own.kind own.count own.head own.long own.free own.allowed, tt);
+  budgets = λ types casts m kind made functions. le_refl (kind_budget m (Some kind) functions);
+  makes = λ types casts m made functions. le_refl made;
+  boxes = λ types casts m. le_refl 2;
 }

@@ -36,7 +36,7 @@ module _ (setting : Setting) (first : ℕ) (words : List ℕ) (ways : List CastW
     };
     products = λ s a b small few.
         let z = products_are_answered ending_of setting s (32 + first) a b product_there small few in
-        (579, (z.0, z.1, z.2));
+        (579, (z.0, z.1, z.2, let c = z.3 in omega (arith, c)));
     divide = divide (33 + first);
     divide_stands = record {
       there = stand 35 (divide (suc (5 + (27 + first)))) refl ∙ ap (λ n. Some (divide n)) (omega arith);
@@ -46,13 +46,13 @@ module _ (setting : Setting) (first : ℕ) (words : List ℕ) (ways : List CastW
     };
     quotients = λ s n d small few some.
         let z = quotients_are_answered ending_of setting s (33 + first) n d quotient_there small few some in
-        (851, (z.0, z.1, z.2));
+        (851, (z.0, z.1, z.2, let c = z.3 in omega (arith, c)));
     remainders = λ s n d small few some.
         let z = remainders_are_answered ending_of setting s (33 + first) n d quotient_there small few some in
-        (851, (z.0, z.1, z.2));
+        (851, (z.0, z.1, z.2, let c = z.3 in omega (arith, c)));
     zero_divisors = λ s n which.
         let z = zero_divisors_trap ending_of setting s (33 + first) n which in
-        (2, (z.0, z.1, z.2));
+        (2, (z.0, z.1, z.2, let c = z.3 in omega (arith, c)));
   }
 
 -- ---- captured names

@@ -34,19 +34,20 @@ use Rattle.lower.proofs.MergedProducts.{merged_products}
 use Rattle.lower.proofs.SimulationProgram.{words_follow_by}
 
 pub merged_procedures_serve : ServesEverywhere merged_meaning merged_procs merged_numbers
-merged_procedures_serve = λ setting l procs casts first words placed begins small types held stand.
+merged_procedures_serve = λ setting l procs casts m first words measured placed begins small types held stand.
     let run_by = with_casts (merged_numbers first) words (cast_ways l.types casts) in
     let ready = cast_stand setting.procs first stand in
     let proxies = proxy_stand setting.procs first stand in
     record {
       products = merged_products setting first words (cast_ways l.types casts) stand;
-      casting = merged_casts_made setting l procs casts words first run_by placed types held ready refl refl;
-      words = merged_casts_have_words setting l procs casts words run_by held refl;
-      made_in_place = merged_casts_in_place setting l procs casts words run_by placed held refl;
-      parts = merged_parts_given setting l procs casts first run_by placed types held.tallest ready refl;
-      cells = merged_cells_served setting l procs casts words first run_by placed types held ready proxies begins small
-          refl refl refl;
-      calling = merged_calls_made setting l procs casts first run_by placed types held.tallest ready proxies refl;
+      casting = merged_casts_made setting l procs casts m words first run_by measured placed types held ready refl refl;
+      words = merged_casts_have_words setting l procs casts m words run_by held refl;
+      made_in_place = merged_casts_in_place setting l procs casts m words run_by measured placed held refl;
+      parts = merged_parts_given setting l procs casts m first run_by measured placed types held.tallest ready refl;
+      cells = merged_cells_served setting l procs casts m measured words first run_by placed types held ready proxies
+          begins small refl refl refl;
+      calling = merged_calls_made setting l procs casts m first run_by measured placed types held.tallest ready proxies
+          refl;
     }
 
 -- ---- what is told of the run

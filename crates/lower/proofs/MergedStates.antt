@@ -7,27 +7,24 @@ use Rattle.std.proofs.lemmas.Int.{int_wrap_fits, fits_signed_from_abs}
 use Rattle.grift_base.specs.declared.verdicts.Trap.{Trap}
 use Rattle.grift_base.specs.declared.verdicts.Verdict.TheVariants.{Trap as TrapVerdict}
 use Rattle.run_laws.specs.Runs.{Verdict as EndsWith}
-use Rattle.run_laws.specs.Machines.{Reaches}
-use Rattle.run_laws.proofs.Public.{reaches_weaken}
 use Rattle.rv_machine.specs.Mach.{ending_of}
-use Rattle.low_ir.specs.Procedures.{Proc as LowProc}
-use Rattle.low_ir.specs.Run.{Setting, LowState, low_machine}
+use Rattle.core_calc.specs.Account.{Measures}
+use Rattle.low_ir.specs.Run.{Setting, LowState}
 use Rattle.coercion_norm.specs.Coercions.{Coercion}
 use Rattle.coercion_norm.specs.Modes.{TypeCast}
 use Rattle.coercion_norm.specs.RunValues.{RunLoc, in_row}
-use Rattle.coercion_norm.specs.ValueSteps.{TrapOf}
 use Rattle.coercion_norm.specs.Objects.{Object, Cell}
 use Rattle.coercion_norm.specs.ObjectsOfRows.{header}
 use Rattle.coercion_norm.specs.Held.{Layout}
 use Rattle.coercion_norm.proofs.Public.{found_within}
 use Rattle.flat_ir.specs.Bodies.{Proc}
 use Rattle.flat_ir.specs.Machine.{FlatValue, FlatStore}
-use Rattle.rt_cast.specs.States.{Heap, Placed, Filled as RtFilled, OnTheWay, entered, heap_of}
-use Rattle.rt_refs.specs.CellLaws.{TrapsAt, OnTheWayWriting, CellStands, CellInRegion}
+use Rattle.rt_cast.specs.States.{Heap, Placed, Filled as RtFilled, heap_of}
+use Rattle.rt_refs.specs.CellLaws.{TrapsAt, CellStands, CellInRegion}
 use Rattle.lower.specs.MergedMeaning.{merged_meaning}
 use Rattle.lower.specs.Storage.{Filled}
 use Rattle.lower.specs.CarriedValues.{CarriedIn, AreCarried, CellHeld}
-use Rattle.lower.specs.SchemeLaws.{Spent, OnWay, StopsNow, After, Aim}
+use Rattle.lower.specs.SchemeLaws.{StopsNow}
 use Rattle.lower.proofs.HeapCells.{cell_of, there_is}
 use Rattle.lower.proofs.HeapObjects.{none_some, same_some}
 use Rattle.lower.proofs.WordArithmetic.{fits_wrapped}
@@ -73,40 +70,7 @@ past_element [] i le = refl
 past_element (x ∷ xs) zero le = absurd (let z : ⊥ = omega (arith, le) in z)
 past_element (x ∷ xs) (suc i) le = past_element xs i (omega (arith, le))
 
--- more words may be asked for
-pub asks_within : (setting : Setting) (l : Layout) (s : LowState) (frames few many : ℕ) → few ≤ many
-    → (Q : LowState → Type 0) (k : ℕ) (t : LowState)
-    → Reaches (low_machine ending_of setting) (OnTheWay setting l s frames few) Q k t
-    → Reaches (low_machine ending_of setting) (OnTheWay setting l s frames many) Q k t
-asks_within setting l s frames few many le Q k t r =
-    reaches_weaken (low_machine ending_of setting) (OnTheWay setting l s frames few) Q
-    (OnTheWay setting l s frames many) Q
-    (λ t o. record {
-      calm = o.calm;
-      active = o.active;
-      asked = let z = o.asked in omega
-          (arith, z, le);
-      turns = o.turns;
-    })
-    (λ t q. q) k t r
-
-pub asks_within_writing : (setting : Setting) (l : Layout) (s : LowState) (frames few many : ℕ) → few ≤ many
-    → (Q : LowState → Type 0) (k : ℕ) (t : LowState)
-    → Reaches (low_machine ending_of setting) (OnTheWayWriting setting l s frames few) Q k t
-    → Reaches (low_machine ending_of setting) (OnTheWayWriting setting l s frames many) Q k t
-asks_within_writing setting l s frames few many le Q k t r =
-    reaches_weaken (low_machine ending_of setting) (OnTheWayWriting setting l s frames few) Q
-    (OnTheWayWriting setting l s frames many) Q
-    (λ t o. record {
-      objects = o.objects;
-      filled = o.filled;
-      same = o.same;
-      active = o.active;
-      asked = let z = o.asked in omega (arith, z, le);
-      turns = o.turns;
-    }) (λ t q. q) k t r
-
-module _ (setting : Setting) (l : Layout) (procs : List Proc) (casts : List TypeCast) where
+module _ (setting : Setting) (l : Layout) (procs : List Proc) (casts : List TypeCast) (m : Measures) where
   -- ---- storage
 
   pub filled_as : (n : ℕ) (os : List Object) (h : Heap) → RtFilled setting l os h
@@ -129,78 +93,26 @@ module _ (setting : Setting) (l : Layout) (procs : List Proc) (casts : List Type
     whole = f.keeps;
   }
 
-  -- ---- states on the way, and where it ends
+  -- ---- where it ends
 
-  module _ (s : LowState) (most : Spent) where
-    abbrev pub Way : ℕ → ℕ → LowState → Type 0
-    Way n n' t = OnWay merged_meaning setting l procs casts s most n n' t
-
-    pub on_way : (frames words : ℕ) → frames ≤ most.frames → words ≤ most.words → (n n' : ℕ) (t : LowState)
-        → OnTheWay setting l s frames words t → Way n n' t
-    on_way frames words few little n n' t o = record {
-      objects = o.calm.objects;
-      filled = inl (filled_as n o.calm.objects (heap_of t) o.calm.fine.filled);
-      same = o.calm.same;
-      active = let z = o.active in omega (arith, z, few);
-      asked = let z = o.asked in omega (arith, z, little);
-    }
-
-    pub on_way_writing : (frames words : ℕ) → frames ≤ most.frames → words ≤ most.words → (n n' : ℕ) (t : LowState)
-        → OnTheWayWriting setting l s frames words t → Way n n' t
-    on_way_writing frames words few little n n' t o = record {
-      objects = o.objects;
-      filled = inl (filled_as n o.objects (heap_of t) o.filled);
-      same = o.same;
-      active = let z = o.active in omega (arith, z, few);
-      asked = let z = o.asked in omega (arith, z, little);
-    }
-
-    -- where a procedure is entered
-    pub begins_at : (number : ℕ) (objects : List Object) → Filled merged_meaning setting l number objects (heap_of s)
-        → (proc : LowProc) (words : List ℕ) (n : ℕ) → Way n n (entered s proc words)
-    begins_at number objects filled proc words n = record {
-      objects = objects;
-      filled = inl (filled_as n objects (heap_of s) (filled_of number objects (heap_of s) filled));
-      same = refl;
-      active = omega arith;
-      asked = omega arith;
-    }
-
-    -- a turn that traps
-    pub traps : (aim : Aim merged_meaning setting l procs casts) (trap : Trap) (frames words : ℕ) → frames ≤ most.frames
-        → words ≤ most.words → (te : LowState) (k : ℕ)
-        → Reaches (low_machine ending_of setting) (OnTheWay setting l s frames words)
-        (TrapsAt ending_of setting l s trap) k te
-        → (n : ℕ) → After merged_meaning setting l procs casts s most aim (TrapOf trap s.world) n 0 te
-    traps aim trap frames words few little te k reach n = (
-      refl,
-      refl,
-      (
-        k,
-        reaches_weaken (low_machine ending_of setting) (OnTheWay setting l s frames words)
-            (TrapsAt ending_of setting l s trap) (Way n n)
-            (StopsNow merged_meaning setting l procs casts s n (EndsWith (TrapVerdict trap)))
-            (on_way frames words few little n n) stops k te reach,
-      ),
-    )
-      where
-        stops : (t : LowState) → TrapsAt ending_of setting l s trap t
-            → StopsNow merged_meaning setting l procs casts s n (EndsWith (TrapVerdict trap)) t
-        stops t m =
-            let f = filled_as n m.objects (heap_of t) m.fine.filled in
-            record {
-              last = m.last;
-              stops = m.stops;
-              here = (m.objects, f);
-              after = (m.objects, subst (Filled merged_meaning setting l n m.objects) (sym m.stays) f);
-              same = m.same;
-              same_after = m.same_after;
-            }
+  -- a trap
+  pub trap_stops : (s : LowState) (n : ℕ) (trap : Trap) (t : LowState) → TrapsAt ending_of setting l s trap t
+      → StopsNow merged_meaning setting l procs casts m s n (EndsWith (TrapVerdict trap)) t
+  trap_stops s n trap t x =
+      let f = filled_as n x.objects (heap_of t) x.fine.filled in
+      record {
+        last = x.last;
+        stops = x.stops;
+        here = (x.objects, f);
+        after = (x.objects, subst (Filled merged_meaning setting l n x.objects) (sym x.stays) f);
+        same = x.same;
+        same_after = x.same_after;
+      }
 
   -- the environment call that blames a label stops so
   pub blame_stops : (s : LowState) (objects : List Object) (n label : ℕ) (place : Pos)
       → slice_get setting.labels label ≡ Some place → (t : LowState) → BlamesAt l setting s (IsVery l) objects label t
-      → StopsNow merged_meaning setting l procs casts s n (EndsWith (Blame place)) t
+      → StopsNow merged_meaning setting l procs casts m s n (EndsWith (Blame place)) t
   blame_stops s objects n label place found_it t b = record {
     last = goes_on b.rest t.active.rests t;
     stops =
@@ -253,14 +165,14 @@ module _ (setting : Setting) (l : Layout) (procs : List Proc) (casts : List Type
     one_of_two false = inl refl
 
     -- a cell of the store, at its address
-    module _ (placed : Placed setting l) (m : Rattle.rv_machine.specs.Memory.Memory) (store : FlatStore Coercion)
-        (cells : Rattle.lower.specs.CarriedValues.CellsHeld l setting.address procs merged_meaning places objects m
+    module _ (placed : Placed setting l) (bytes : Rattle.rv_machine.specs.Memory.Memory) (store : FlatStore Coercion)
+        (cells : Rattle.lower.specs.CarriedValues.CellsHeld l setting.address procs merged_meaning places objects bytes
         places store)
         (is_vector : Bool) (cell : ℕ) (values : List (FlatValue Coercion))
         (in_store : slice_get store cell ≡ Some values) (a : ℕ) (c : C (RunLoc cell is_vector) a) where
-      pub held : CellHeld l setting.address procs merged_meaning places objects m a values
+      pub held : CellHeld l setting.address procs merged_meaning places objects bytes a values
       held =
-          cell_of l setting.address procs merged_meaning places objects 0 m places store cells cell a values c.1
+          cell_of l setting.address procs merged_meaning places objects 0 bytes places store cells cell a values c.1
           in_store
 
       abbrev kind : ℕ
@@ -274,7 +186,7 @@ module _ (setting : Setting) (l : Layout) (procs : List Proc) (casts : List Type
       pub counted : c.0 ≡ length held.words
       counted = counts_same (header kind 0 c.0) held.head c.0 (length held.words) same
 
-      pub in_region : CellInRegion l objects m a held.words
+      pub in_region : CellInRegion l objects bytes a held.words
       in_region = record {
         kind = kind;
         one = one_of_two is_vector;
@@ -282,7 +194,7 @@ module _ (setting : Setting) (l : Layout) (procs : List Proc) (casts : List Type
         held = held.held;
       }
 
-      pub stands : CellStands l objects m a held.words
+      pub stands : CellStands l objects bytes a held.words
       stands = record {
         kind = in_region.kind;
         one = in_region.one;

@@ -7,6 +7,7 @@ use Rattle.grift_base.specs.Types.{TypeRow, IntRow, BoolRow, UnitRow, DynRow, Fu
 use Rattle.grift_base.specs.Types.{is_dyn, same_head, head_of}
 use Rattle.type_graph.specs.Trees.{height}
 use Rattle.object_layout.specs.DynWords.{is_narrow, tagged}
+use Rattle.core_calc.specs.Account.{Measures}
 use Rattle.low_ir.specs.Operations.{compute}
 use Rattle.low_ir.specs.declared.code.WordOp.TheVariants.{Sra}
 use Rattle.low_ir.specs.Run.{Setting, LowState}
@@ -22,7 +23,9 @@ use Rattle.coercion_norm.specs.Held.{Layout, There, Held, rows_in, height_in}
 use Rattle.coercion_norm.specs.Objects.{Object, Fixed}
 use Rattle.coercion_norm.specs.ObjectsOfRows.{header}
 use Rattle.flat_ir.specs.Bodies.{Proc}
+use Rattle.coer_core.specs.MergedTally.{effort}
 use Rattle.flat_ir.specs.Counts.{decision_at, flat_turn_wraps}
+use Rattle.flat_ir.specs.FlatTally.{Cost, cast_cost, effort_cost, merged_prices}
 use Rattle.flat_ir.specs.Machine.{FlatValue, FlatFrame, FlatStore, flat_cast, flat_turn, flat_arity, flat_entered}
 use Rattle.rt_cast.specs.Carried.{IsLow}
 use Rattle.rt_cast.specs.DynWords.{IsDyn, IsDynBy, behind_tag, small_dyn}
@@ -39,7 +42,8 @@ use Rattle.lower.specs.CastWays.{in_place}
 use Rattle.lower.specs.CarriedValues.{CarriedIn}
 use Rattle.lower.specs.Emit.{cast_word}
 use Rattle.lower.specs.MergedMeaning.{merged_meaning, MergedCasts}
-use Rattle.lower.specs.SchemeLaws.{Here, OnWay, After, Serves, GivesInPlace, CastsInPlace, nothing}
+use Rattle.lower.specs.Keeping.{FitsMeasures}
+use Rattle.lower.specs.SchemeLaws.{Here, OnWay, After, Serves, GivesInPlace, CastsInPlace, Aim, nothing}
 use Rattle.lower.proofs.HeapObjects.{none_some, same_some, found_within}
 use Rattle.lower.proofs.MergedCasts.{row_of}
 use Rattle.lower.proofs.WordArithmetic.{tag_some}
@@ -156,22 +160,29 @@ module _ (l : Layout) (from to label : ℕ) (tag : Tag) where
 
 -- ---- what the numbered procedures come to
 
-module _ (setting : Setting) (l : Layout) (procs : List Proc) (casts : List TypeCast) (placed : Placed setting l)
-    (s : LowState) (number : ℕ) (places : List ℕ) (objects : List Object) (store : FlatStore Coercion)
-    (here : Here merged_meaning setting l procs casts places objects store number (heap_of s))
+module _ (setting : Setting) (l : Layout) (procs : List Proc) (casts : List TypeCast) (m : Measures)
+    (measured : FitsMeasures l m) (placed : Placed setting l) (s : LowState) (number : ℕ) (places : List ℕ) (objects :
+    List Object) (store : FlatStore Coercion)
+    (here : Here merged_meaning setting l procs casts m places objects store number (heap_of s))
     (base : List (FlatFrame Coercion)) where
   abbrev C : FlatValue Coercion → ℕ → Type 0
   C v w = CarriedIn l setting.address procs merged_meaning places objects v [] w
 
+  abbrev costs : Coercion → FlatValue Coercion → Cost
+  costs c v = cast_cost procs (merging l.types casts) (merged_prices l.types (merging l.types casts) m) (Some c) v
+
+  abbrev aim : ℕ → Aim merged_meaning setting l procs casts m
+  aim word focus frames store' n left t =
+      GivesInPlace merged_meaning setting l procs casts m s places objects base word focus frames store' n left t
+
   abbrev Made : FlatValue Coercion → Coercion → ℕ → Type 0
   Made v c word =
-      Serves merged_meaning setting l procs casts s nothing
-      (GivesInPlace merged_meaning setting l procs casts s places objects base word)
-      (flat_cast procs (merging l.types casts) store s.world v c base) number
+      Serves merged_meaning setting l procs casts m s nothing (aim word)
+      (flat_cast procs (merging l.types casts) store s.world v c base) (costs c v) number
       (decision_wraps (decision_at procs (merging l.types casts) (Some c) v)) s
 
   -- the number plays no part
-  here_after : (n : ℕ) → Here merged_meaning setting l procs casts places objects store n (heap_of s)
+  here_after : (n : ℕ) → Here merged_meaning setting l procs casts m places objects store n (heap_of s)
   here_after n = record {
     filled = record {
       objects_stand = here.filled.objects_stand;
@@ -183,7 +194,7 @@ module _ (setting : Setting) (l : Layout) (procs : List Proc) (casts : List Type
     cells = here.cells;
   }
 
-  on_way : (n : ℕ) → OnWay merged_meaning setting l procs casts s nothing n n s
+  on_way : (n : ℕ) → OnWay merged_meaning setting l procs casts m s s nothing 0 n n s
   on_way n = record {
     objects = objects;
     filled = inl (here_after n).filled;
@@ -210,13 +221,36 @@ module _ (setting : Setting) (l : Layout) (procs : List Proc) (casts : List Type
       dyn : IsDyn l objects from w (tagged (tag_number tag) w)
       dyn = subst (λ o. IsDynBy l objects o from w (tagged (tag_number tag) w)) (sym small) (refl, known)
 
-      by : (b : Bool) → Serves merged_meaning setting l procs casts s nothing
-          (GivesInPlace merged_meaning setting l procs casts s places objects base (tagged (tag_number tag) w))
+      by : (b : Bool)
+          → Serves merged_meaning setting l procs casts m s nothing (aim (tagged (tag_number tag) w))
           (make (merging l.types casts) (flat_arity procs) (flat_entered procs) store s.world
-          (if b then Injecting from else NoCast) v base) number
+          (if b then Injecting from else NoCast) v base)
+          (effort_cost m (effort l.types (Inject Id from) (shape_of (flat_arity procs) v)
+          (if b then Injecting from else NoCast))) number
           (decision_wraps {C = Coercion} (if b then Injecting from else NoCast)) s
-      by true =
-          (0, (refl, (0, (refl, refl, here_after (number + 0), (w, dyn, high, ap is_dyn row ∙ no_dyn tag, carried)))))
+      by true = (
+        0,
+        (
+          refl,
+          (
+            0,
+            0,
+            896,
+            omega arith,
+            omega arith,
+            (
+              omega arith,
+              (
+                refl,
+                refl,
+                omega arith,
+                here_after (number + 0),
+                (w, dyn, high, ap is_dyn row ∙ no_dyn tag, carried),
+              ),
+            ),
+          ),
+        ),
+      )
       by false = (0, refl)
 
   -- what the word of a value in Dyn with a tag is
@@ -249,9 +283,24 @@ module _ (setting : Setting) (l : Layout) (procs : List Proc) (casts : List Type
   opened : (u : FlatValue Coercion) (kept w to label : ℕ) (tag : Tag) → C (RunInject u kept) w
       → rows_of l.types to ≡ tag_row tag → w % 8 ≡ tag_number tag
       → Made (RunInject u kept) (Project to label Id) (compute Sra w 3)
-  opened u kept w to label tag carried row found =
-      (1, (refl, (0, (tt, on_way (number + 0), subst After_by (sym none) kept_so))))
+  opened u kept w to label tag carried row found = (
+    1,
+    (
+      refl,
+      (
+        0,
+        0,
+        0 + open_cost.budget,
+        omega arith,
+        omega arith,
+        (omega arith, (tt, on_way (number + 0), subst After_by (sym none) kept_so)),
+      ),
+    ),
+  )
     where
+      open_cost : Cost
+      open_cost = costs (Project to label Id) (RunInject u kept)
+
       known : (rows_of l.types kept ≡ tag_row tag) × (compute Sra w 3 ≡ carried.0)
       known = behind kept carried.0 w tag carried.1 found
 
@@ -260,14 +309,32 @@ module _ (setting : Setting) (l : Layout) (procs : List Proc) (casts : List Type
 
       After_by : Coercion → Type 0
       After_by inner =
-          After merged_meaning setting l procs casts s nothing
-          (GivesInPlace merged_meaning setting l procs casts s places objects base (compute Sra w 3))
-          (flat_turn procs (merging l.types casts) store s.world (Return u) (CastFrame inner ∷ base)) (number + 0)
+          After merged_meaning setting l procs casts m s nothing (aim (compute Sra w 3))
+          (flat_turn procs (merging l.types casts) store s.world (Return u) (CastFrame inner ∷ base)) (costs inner u)
+          (0 + open_cost.budget) (number + 0)
           (flat_turn_wraps procs (merging l.types casts) (Return u) (CastFrame inner ∷ base)) s
 
       kept_so : After_by Id
-      kept_so =
-          (refl, (0, (refl, refl, here_after (number + 0 + 0), subst (λ z. C u z) (sym known.1) carried.4)))
+      kept_so = (
+        refl,
+        (
+          0,
+          0,
+          0 + open_cost.budget + 896,
+          omega arith,
+          omega arith,
+          (
+            omega arith,
+            (
+              refl,
+              refl,
+              omega arith,
+              here_after (number + 0 + 0),
+              subst (λ z. C u z) (sym known.1) carried.4,
+            ),
+          ),
+        ),
+      )
 
   taken : (v : FlatValue Coercion) (w : ℕ) → C v w → (to label : ℕ) (tag : Tag) → rows_of l.types to ≡ tag_row tag
       → w % 8 ≡ tag_number tag → Made v (Project to label Id) (compute Sra w 3)
@@ -313,9 +380,10 @@ module _ (setting : Setting) (l : Layout) (procs : List Proc) (casts : List Type
 
 -- What code makes of a word in place carries the value of its cast, wherever the procedures stand.
 pub merged_casts_in_place : (setting : Setting) (l : Layout) (procs : List Proc) (casts : List TypeCast)
-    (words : List ℕ) (run_by : Served) → Placed setting l → MergedCasts l casts words
-    → run_by.ways ≡ cast_ways l.types casts → CastsInPlace merged_meaning setting l procs casts run_by
-merged_casts_in_place setting l procs casts words run_by placed held ways_are =
+    (m : Measures) (words : List ℕ) (run_by : Served) → FitsMeasures l m → Placed setting l
+    → MergedCasts l casts words → run_by.ways ≡ cast_ways l.types casts
+    → CastsInPlace merged_meaning setting l procs casts m run_by
+merged_casts_in_place setting l procs casts m words run_by measured placed held ways_are =
     λ s number places objects store here base row c e v w carried word made.
     let r = row_of l.types (slice_get casts row) c e in
     let cast = r.0 in
@@ -323,10 +391,12 @@ merged_casts_in_place setting l procs casts words run_by placed held ways_are =
     let way : way_at (slice_get run_by.ways row) ≡ cast_way l.types r.0 =
     ap (λ ws. way_at (slice_get ws row)) ways_are ∙ (ap way_at (slice_get-map (cast_way l.types) casts row)
     ∙ ap (λ o. way_at (option_map (cast_way l.types) o)) r.1) in
-    subst (λ c. Serves merged_meaning setting l procs casts s nothing
-    (GivesInPlace merged_meaning setting l procs casts s places objects base word)
-    (flat_cast procs (merging l.types casts) store s.world v c base) number
+    subst (λ c. Serves merged_meaning setting l procs casts m s nothing
+    (GivesInPlace merged_meaning setting l procs casts m s places objects base word)
+    (flat_cast procs (merging l.types casts) store s.world v c base)
+    (cast_cost procs (merging l.types casts) (merged_prices l.types (merging l.types casts) m) (Some c) v) number
     (decision_wraps (decision_at procs (merging l.types casts) (Some c) v)) s) (sym r.2)
-    (cast_made setting l procs casts placed s number places objects store here base v w carried cast.from cast.to
+    (cast_made setting l procs casts m measured placed s number places objects store here base v w carried cast.from
+    cast.to
     cast.label (cast_word (slice_get words row)) z.0 z.1 word (cast_way l.types r.0)
     (joins (rows_of l.types cast.from) (rows_of l.types cast.to)) (ap (λ y. in_place y w) (sym way) ∙ made))

@@ -2,18 +2,20 @@
 use Rattle.std.proofs.Common.{◌≡◌, inl, inr, ℕ, zero, suc, ◌+◌, ◌*◌, ◌^◌, ◌<◌, ◌≤◌, ℤ, pos, negsuc, List, [], ◌∷◌}
 use Rattle.std.proofs.Common.{length}
 use Rattle.std.proofs.Common.{Some, None, Option, Bool, true, false, refl, sym, ap, ◌∙◌, subst, arith, slice_get}
-use Rattle.std.proofs.Common.{append-nil}
+use Rattle.std.proofs.Common.{◌⊎◌, append-nil, le_refl}
 use Rattle.std.specs.Prelude.{option_map, ◌++◌, slice_set}
 use Rattle.grift_base.specs.Types.{TypeHead, IntHead, BoolHead, UnitHead}
 use Rattle.grift_base.specs.declared.operators.PrimOp.TheVariants.{BoxSet, VectorSet}
 use Rattle.grift_base.specs.declared.verdicts.Trap.TheVariants.{Index}
+use Rattle.grift_base.specs.declared.places.Pos.{Pos}
 use Rattle.grift_base.specs.declared.verdicts.Verdict.TheVariants.{Blame}
 use Rattle.run_laws.specs.Runs.{Verdict as EndsWith}
 use Rattle.run_laws.specs.Machines.{Reaches}
-use Rattle.run_laws.proofs.Public.{reaches_weaken}
 use Rattle.rv_machine.specs.Memory.{Memory, store_bytes}
 use Rattle.rv_machine.specs.Mach.{ending_of}
 use Rattle.rv_machine.proofs.Public.{stored_outside, load_stored}
+use Rattle.core_calc.specs.Account.{Measures}
+use Rattle.low_ir.specs.Prices.{CostsAtMost}
 use Rattle.low_ir.specs.Run.{Setting, LowState, low_machine}
 use Rattle.coercion_norm.specs.Coercions.{Coercion, Id, Fail, Middle, Inject, Project, rows_of}
 use Rattle.coercion_norm.specs.declared.middles.MiddleKind.TheVariants.{Fun, Tup, Ref, Vec}
@@ -22,7 +24,7 @@ use Rattle.coercion_norm.specs.Normal.{IsNormal}
 use Rattle.coercion_norm.specs.MergedMode.{merging, cell_coercion}
 use Rattle.coercion_norm.specs.RunValues.{RunInt, RunBool, RunUnit, RunFun, RunTuple, RunLoc, RunWrap, RunInject}
 use Rattle.coercion_norm.specs.RunValues.{in_row}
-use Rattle.coercion_norm.specs.ValueSteps.{Return, On, BlameOf, TrapOf, NoNext, CastFrame, PrimFrame, on_some}
+use Rattle.coercion_norm.specs.ValueSteps.{Return, On, TrapOf, NoNext, CastFrame, PrimFrame, on_some}
 use Rattle.coercion_norm.specs.ValueSteps.{element_or_trap}
 use Rattle.coercion_norm.specs.ValueSteps.{run_with_element, run_writes_cell}
 use Rattle.coercion_norm.specs.Objects.{Object, Fixed, Cell, object_at, bytes_of_all}
@@ -30,17 +32,16 @@ use Rattle.coercion_norm.specs.ObjectsOfRows.{header}
 use Rattle.coercion_norm.specs.Held.{Layout, TypesStand, There}
 use Rattle.coercion_norm.proofs.Public.{object_kept, found_within}
 use Rattle.flat_ir.specs.Bodies.{Proc}
+use Rattle.flat_ir.specs.FlatTally.{Cost, act_cost, merged_prices}
 use Rattle.flat_ir.specs.Machine.{FlatValue, FlatFrame, FlatStore, FlatAfter, flat_operate, flat_arity, flat_entered}
 use Rattle.rt_cast.specs.ComposeCodes.{cast}
-use Rattle.rt_cast.specs.Costs.{cast_words}
-use Rattle.rt_cast.specs.LightCasts.{cast_words_of}
-use Rattle.rt_cast.proofs.Public.{words_within}
-use Rattle.lower.proofs.MergedStates.{asks_within_writing}
+use Rattle.rt_cast.specs.LightCasts.{cast_words_of, cast_price_of}
 use Rattle.rt_cast.specs.Objects.{HasWord, HoldsWords}
 use Rattle.rt_cast.specs.Procs.{Stand}
-use Rattle.rt_cast.specs.States.{Placed, IsReady, Filled as RtFilled, entered, heap_of}
+use Rattle.rt_cast.specs.States.{Placed, IsReady, Filled as RtFilled, Within, entered, heap_of}
 use Rattle.rt_cast.specs.Carried.{IsVery, Carries}
 use Rattle.rt_cast.specs.MergedValues.{Merged, Base, Solid, Proxied, InDyn, Outcome, Stuck, Gives, Blames, cast_value}
+use Rattle.rt_cast.specs.MergedValues.{then_outcome}
 use Rattle.rt_refs.specs.CellCodes.{write_proc}
 use Rattle.rt_refs.specs.CellLaws.{WroteAt, WriteComes, OnTheWayWriting, cell_behind, under}
 use Rattle.rt_refs.proofs.Public.{elements_are_written, box_writes_are_blamed, writes_outside_trap}
@@ -48,19 +49,23 @@ use Rattle.lower.specs.declared.served.Served.{Served}
 use Rattle.lower.specs.MergedMeaning.{merged_meaning, WrapsKind}
 use Rattle.lower.specs.Storage.{Filled}
 use Rattle.lower.specs.CarriedValues.{CarriedIn, AreCarried, CellsHeld, CellHeld}
-use Rattle.lower.specs.SchemeLaws.{Spent, Here, OnWay, StopsNow, After, Goes, Returns, ReturnsAt, Answers}
-use Rattle.lower.specs.SchemeLaws.{OperatorDone, at_or_zero}
-use Rattle.lower.specs.SchemeLaws.{Aim}
+use Rattle.lower.specs.Keeping.{FitsMeasures}
+use Rattle.lower.specs.SchemeLaws.{Spent, Here, StopsNow, After, Goes, Returns, ReturnsAt, Answers}
+use Rattle.lower.specs.SchemeLaws.{OperatorDone, Aim, at_or_zero, operator_leaves}
 use Rattle.lower.proofs.CarriedLater.{cells_later, cells_below, carried_small, all_later, function_there}
 use Rattle.lower.proofs.HeapCells.{cells_stored, as_many_cells, there_is}
 use Rattle.lower.proofs.HeapObjects.{none_some, same_some, word_same, words_same}
 use Rattle.lower.proofs.MergedLaws.{merged_laws}
 use Rattle.lower.proofs.MergedLike.{Like, solid_head, like_of, like_back, solid}
 use Rattle.lower.proofs.MergedReads.{no_proxy, solid_same}
-use Rattle.lower.proofs.MergedTurns.{cell_part_normal, Ends, ends_cast}
+use Rattle.lower.proofs.MergedBounds.{Fits, cast_fits}
+use Rattle.lower.proofs.MergedChains.{stuck_or_not, gives_some, blames_some}
+use Rattle.lower.proofs.MergedStages.{Calm, Stands, Stage, Settled, Begun, at_end, begun, settled_calm, calm_as, stays}
+use Rattle.lower.proofs.MergedStages.{takes, trapped_at, by_writing_law}
+use Rattle.lower.proofs.MergedTurns.{cell_part_normal, Ends, ends_cast, skips}
 use Rattle.lower.proofs.MergedStates.{positive_is, negative_is, element_past, past_element, as_many, element}
 use Rattle.lower.proofs.MergedStates.{blame_stops}
-use Rattle.lower.proofs.MergedStates.{filled_of, filled_as, on_way_writing, begins_at, traps, held, stands, short}
+use Rattle.lower.proofs.MergedStates.{filled_of, filled_as, held, stands, short}
 use Rattle.lower.proofs.MergedStates.{in_region, counted}
 
 -- ---- a word of a list, and an element of a cell
@@ -89,6 +94,9 @@ words_stored m at p w (x ∷ ws) (suc i) small lt e h = (
   words_stored m (at + 8) p w ws i small (omega (arith, lt)) (omega (arith, e)) h.1,
 )
 
+blames_or_gives : (label : ℕ) (y : Merged ℕ) (r : Outcome ℕ) → r ≡ Blames label → r ≡ Gives y → ⊥
+blames_or_gives label y r e f = cc
+
 no_base : (a : ℕ) (head : TypeHead) (x : ℕ) → Solid a ≡ Base head x → ⊥
 no_base a head x e = cc
 
@@ -106,14 +114,14 @@ there_same l objects w o p before (inl e) (inr f) = there_is l objects w o p bef
 there_same l objects w o p before (inr e) (inl f) = sym (there_is l objects w p o before (inl f) e)
 there_same l objects w o p before (inr e) (inr f) = same_some o p (sym e ∙ f)
 
-module _ (setting : Setting) (l : Layout) (procs : List Proc) (casts : List TypeCast) (first : ℕ)
-    (placed : Placed setting l) (types : TypesStand l) (tallest : l.tallest ≤ 65534)
-    (ready : Stand setting.procs first) (region : l.region ≡ setting.region)
+module _ (setting : Setting) (l : Layout) (procs : List Proc) (casts : List TypeCast) (m : Measures)
+    (measured : FitsMeasures l m) (first : ℕ) (placed : Placed setting l) (types : TypesStand l)
+    (tallest : l.tallest ≤ 65534) (ready : Stand setting.procs first) (region : l.region ≡ setting.region)
     (s : LowState) (number : ℕ) (places : List ℕ) (objects : List Object) (store : FlatStore Coercion)
-    (here : Here merged_meaning setting l procs casts places objects store number (heap_of s))
+    (here : Here merged_meaning setting l procs casts m places objects store number (heap_of s))
     (base : List (FlatFrame Coercion)) where
   rt_filled : RtFilled setting l objects (heap_of s)
-  rt_filled = filled_of setting l procs casts number objects (heap_of s) here.filled
+  rt_filled = filled_of setting l procs casts m number objects (heap_of s) here.filled
 
   is_ready : IsReady setting l first
   is_ready = record { placed = placed; stand = ready; types = types }
@@ -127,41 +135,100 @@ module _ (setting : Setting) (l : Layout) (procs : List Proc) (casts : List Type
   abbrev deep : ℕ
   deep = 4 * l.tallest + 7
 
-  abbrev wide : ℕ
-  wide = cast_words l.width l.tallest
-
   abbrev most : Spent
-  most = record { frames = deep; words = wide }
+  most = record { frames = deep }
 
-  abbrev Way : ℕ → ℕ → LowState → Type 0
-  Way n n' t = OnWay merged_meaning setting l procs casts s most n n' t
+  abbrev acting : Cost
+  acting = act_cost procs (merging l.types casts) (merged_prices l.types (merging l.types casts) m)
 
-  abbrev aim : Aim merged_meaning setting l procs casts
-  aim focus frames store' n t = Returns merged_meaning setting l procs casts s places objects base focus frames store'
-      n t
+  abbrev aim : Aim merged_meaning setting l procs casts m
+  aim focus frames store' n left t =
+      Returns merged_meaning setting l procs casts m s operator_leaves places objects base focus frames store' n left t
 
   abbrev Turned : LowState → ℕ → FlatAfter Coercion → ℕ → ℕ → Type 0
-  Turned te j x n wraps =
-      After merged_meaning setting l procs casts s most (Goes merged_meaning setting l procs casts s most aim j) x n
-      wraps te
+  Turned te j x credit n =
+      After merged_meaning setting l procs casts m s most (Goes merged_meaning setting l procs casts m s most aim j) x
+      acting credit n 0 te
 
-  -- the turns go to a return
+  -- the turns go to a return, behind one that is an act
   abbrev Does : LowState → FlatAfter Coercion → ℕ → Type 0
-  Does te x n = (j : ℕ) × Turned te j x n 0
+  Does te x n = (j : ℕ) × Turned te j x 0 n
 
   abbrev writes_at : ℕ → ℕ → ℕ → ℕ → LowState
   writes_at which wv wi w = entered s (write_proc (cast first)) (which ∷ wv ∷ wi ∷ w ∷ [])
 
-  begins : (which wv wi w n : ℕ) → Way n n (writes_at which wv wi w)
-  begins which wv wi w n =
-      begins_at setting l procs casts s most number objects here.filled (write_proc (cast first))
-      (which ∷ wv ∷ wi ∷ w ∷ []) n
+  stands_at : (which wv wi w : ℕ) → Stands setting l procs casts m s most (writes_at which wv wi w)
+  stands_at which wv wi w = record { objects = objects; filled = rt_filled; same = refl; active = omega arith }
 
   abbrev turn : List (FlatValue Coercion) → List (FlatFrame Coercion) → FlatAfter Coercion
   turn vs frames = flat_operate procs (merging l.types casts) store s.world VectorSet vs frames
 
   abbrev box_turn : List (FlatValue Coercion) → List (FlatFrame Coercion) → FlatAfter Coercion
   box_turn vs frames = flat_operate procs (merging l.types casts) store s.world BoxSet vs frames
+
+  -- ---- the walk of a law on a write to the place i of what stands at a, by what its cast comes to
+
+  module _ (a i : ℕ) (H : TypeHead) (total : Outcome ℕ) (Nothing : Type 0) (decided : Nothing ⊎ (Nothing → ⊥))
+      (sure : (label : ℕ) → total ≡ Blames label → Nothing → ⊥) where
+    abbrev Comes : LowState → Type 0
+    Comes t = WriteComes setting l s (IsVery l) objects a i total t
+
+    stands_so : (r : Outcome ℕ) (t : LowState) → WriteComes setting l s (IsVery l) objects a i r t
+        → length t.waiting ≤ length s.waiting + most.frames → Stands setting l procs casts m s most t
+    stands_so Stuck t c few = absurd c
+    stands_so (Gives x) t c few = record { objects = c.new; filled = c.filled; same = c.same; active = few }
+    stands_so (Blames label) t c few =
+        record { objects = c.new; filled = c.fine.filled; same = c.same; active = few }
+
+    comes_stands : (t : LowState) → Comes t → length t.waiting ≤ length s.waiting + most.frames
+        → Stands setting l procs casts m s most t
+    comes_stands t c few = stands_so total t c few
+
+    abbrev Done : LowState → Type 0
+    Done = Settled setting l procs casts m s most Nothing decided Comes comes_stands
+
+    calm : (t : LowState) → Done t → Calm setting l procs casts m s most t
+    calm t done = settled_calm setting l procs casts m s most Nothing decided Comes comes_stands t done
+
+    abbrev ended : Stage setting l procs casts m s most Done
+    ended = at_end setting l procs casts m s most Done calm
+
+    abbrev walk : ℕ → ℕ → Stage setting l procs casts m s most Done
+    walk words price = begun setting l procs casts m s most Nothing decided Comes comes_stands words price
+
+    abbrev Walking : ℕ → ℕ → LowState → Type 0
+    Walking words price t = Begun setting l procs casts m s most Nothing decided Comes comes_stands words price t
+
+    comes_so : (r : Outcome ℕ) → total ≡ r → (Nothing → ⊥) → (t : LowState) → Done t
+        → WriteComes setting l s (IsVery l) objects a i r t
+    comes_so r e some t done =
+        subst (λ x. WriteComes setting l s (IsVery l) objects a i x t) e (done.comes some)
+
+    stops_so : (label : ℕ) → total ≡ Blames label → (t : LowState) → Done t → (n : ℕ) (place : Pos)
+        → slice_get setting.labels label ≡ Some place
+        → StopsNow merged_meaning setting l procs casts m s n (EndsWith (Blame place)) t
+    stops_so label e t done n place found_it =
+        blame_stops setting l procs casts m s objects n label place found_it t
+        (comes_so (Blames label) e (sure label e) t done)
+
+    abbrev Later : ℕ → List (FlatFrame Coercion) → Type 0
+    Later need frames =
+        Ends setting l procs casts m measured s places objects store most aim H total Done calm stops_so ended
+        (λ x credit. need ≤ credit) frames (λ o. o)
+
+    -- the value is cast first, and the walk is done in a turn of that cast
+    cast_by : (words price : ℕ) (d : Coercion) → IsNormal (rows_of l.types) d → (frames : List (FlatFrame Coercion))
+        → Later 0 frames → (v : FlatValue Coercion) (x : Merged ℕ) → Like setting l procs places objects v x
+        → solid_head setting l procs places objects v ≡ H → total ≡ cast_value (λ b. H) l.types d x → (te : LowState)
+        → Walking words price te → Fits (rows_of l.types) m words price 0 d x 896 → (n : ℕ)
+        → Does te (On (Return v) (CastFrame d ∷ frames) store s.world) n
+    cast_by words price d normal frames ends v x k h e te ready fits n =
+        let r = skips setting l procs casts m measured s places objects store most aim H total Done calm stops_so
+        (walk words price) acting (λ y c. Fits (rows_of l.types) m words price 0 d y c) (CastFrame d ∷ frames)
+        (λ o. then_outcome o (cast_value (λ b. H) l.types d))
+        (ends_cast setting l procs casts m measured s places objects store most aim H total Done calm stops_so
+        (walk words price) 0 d normal frames (λ o. o) (λ label. refl) ends) v x k h e in
+        (r.0, r.1 te ready n 0 0 fits)
 
   -- what is carried in a row, with another element
   carried_set : (os : List Object) (vs : List (FlatValue Coercion)) (ws : List ℕ) (i : ℕ) (v : FlatValue Coercion) (w
@@ -178,11 +245,11 @@ module _ (setting : Setting) (l : Layout) (procs : List Proc) (casts : List Type
   -- ---- a cell of the store, at an address, seen through its proxy, if it has one
 
   module _ (is_vector : Bool) (cell : ℕ) (values : List (FlatValue Coercion))
-      (in_store : slice_get store cell ≡ Some values) (a : ℕ) (c : C (RunLoc cell is_vector) a) (m : Merged ℕ) (wv : ℕ)
-      (hv : Carries l objects m wv) where
+      (in_store : slice_get store cell ≡ Some values) (a : ℕ) (c : C (RunLoc cell is_vector) a) (x : Merged ℕ) (wv : ℕ)
+      (hv : Carries l objects x wv) where
     abbrev cell_held : CellHeld l setting.address procs merged_meaning places objects s.memory a values
     cell_held =
-        held setting l procs casts places objects placed s.memory store here.cells is_vector cell values in_store a c
+        held setting l procs casts m places objects placed s.memory store here.cells is_vector cell values in_store a c
 
     abbrev cell_words : List ℕ
     cell_words = cell_held.words
@@ -191,80 +258,79 @@ module _ (setting : Setting) (l : Layout) (procs : List Proc) (casts : List Type
     carried_words = cell_held.carried
 
     long : length cell_words ≡ length values
-    long = as_many setting l procs casts places objects values cell_words carried_words
+    long = as_many setting l procs casts m places objects values cell_words carried_words
 
     few : length cell_words < 2 ^ 63
     few =
-        short setting l procs casts places objects placed s.memory store here.cells is_vector cell values in_store a c
+        short setting l procs casts m places objects placed s.memory store here.cells is_vector cell values in_store a c
         s.alloc
         here.filled.ends here.filled.fits
 
     stands_here : Rattle.rt_refs.specs.CellLaws.CellStands l objects s.memory a cell_words
     stands_here =
-        stands setting l procs casts places objects placed s.memory store here.cells is_vector cell values in_store a c
+        stands setting l procs casts m places objects placed s.memory store here.cells is_vector cell values in_store a
+        c
 
     region_here : Rattle.rt_refs.specs.CellLaws.CellInRegion l objects s.memory a cell_words
     region_here =
-        in_region setting l procs casts places objects placed s.memory store here.cells is_vector cell values in_store
+        in_region setting l procs casts m places objects placed s.memory store here.cells is_vector cell values in_store
         a c
 
     -- no element is there
-    outside : under m ≡ Some a → (i w : ℕ) → slice_get values i ≡ None → (n : ℕ)
+    outside : under x ≡ Some a → (i w : ℕ) → slice_get values i ≡ None → (n : ℕ)
         → Does (writes_at 1 wv i w) (TrapOf Index s.world) n
     outside below i w none n =
         let p = element_past values i none in
         let q = long in
-        let z = writes_outside_trap ending_of setting l first s refl is_ready tallest objects rt_filled m wv hv a below
+        let z = writes_outside_trap ending_of setting l first s refl is_ready tallest objects rt_filled x wv hv a below
         cell_words stands_here 1 i w refl (omega (arith, p, q)) in (
           0,
-          traps setting l procs casts s most (Goes merged_meaning setting l procs casts s most aim 0) Index 0 0
-              (omega arith) (omega arith) (writes_at 1 wv i w) z.0 z.2 n,
+          trapped_at setting l procs casts m s most (Goes merged_meaning setting l procs casts m s most aim 0) Index 0
+              73
+              (omega arith) (writes_at 1 wv i w) refl z.0 z.2 z.3 acting 0 (omega arith) n,
         )
 
     -- a value is written over an element, cast by the part of the proxy's coercion
-    module _ (d : Coercion) (behind : cell_behind 1 m ≡ Some (a, d)) (normal : IsNormal (rows_of l.types) d)
+    module _ (d : Coercion) (behind : cell_behind 1 x ≡ Some (a, d)) (normal : IsNormal (rows_of l.types) d)
         (which i : ℕ) (old : FlatValue Coercion) (got : slice_get values i ≡ Some old) (v : FlatValue Coercion) (w : ℕ)
         (cv : C v w) where
       abbrev te : LowState
       te = writes_at which wv i w
 
-      abbrev H : TypeHead
-      H = solid_head setting l procs places objects v
+      abbrev head_of_it : TypeHead
+      head_of_it = solid_head setting l procs places objects v
 
       old_word : (x : ℕ) × (slice_get cell_words i ≡ Some x) × C old x
-      old_word = element setting l procs casts places objects values cell_words carried_words i old got
+      old_word = element setting l procs casts m places objects values cell_words carried_words i old got
 
-      like : (x : Merged ℕ) × Like setting l procs places objects v x × Carries l objects x w
+      like : (y : Merged ℕ) × Like setting l procs places objects v y × Carries l objects y w
       like = like_of setting l procs places objects placed (heap_of s) here.filled v w cv
 
-      abbrev total : Outcome ℕ
-      total = cast_value (λ b. H) l.types d like.0
+      abbrev what : Outcome ℕ
+      what = cast_value (λ b. head_of_it) l.types d like.0
 
-      law : (r : Outcome ℕ) → total ≡ r → (r ≡ Stuck → ⊥)
-          → (steps : ℕ) × Reaches (low_machine ending_of setting) (OnTheWayWriting setting l s deep wide)
-          (WriteComes setting l s (IsVery l) objects a i r) steps te
-      law r is some =
+      abbrev wide : ℕ
+      wide = cast_words_of l d like.0
+
+      abbrev dear : ℕ
+      dear = cast_price_of l d like.0 + 147
+
+      some_blame : (label : ℕ) → what ≡ Blames label → what ≡ Stuck → ⊥
+      some_blame label e q = blames_some label what e q
+
+      abbrev DoneHere : LowState → Type 0
+      DoneHere = Done a i head_of_it what (what ≡ Stuck) (stuck_or_not what) some_blame
+
+      begins : Walking a i head_of_it what (what ≡ Stuck) (stuck_or_not what) some_blame wide dear te
+      begins =
+          by_writing_law setting l procs casts m s most (what ≡ Stuck) (stuck_or_not what)
+          (Comes a i head_of_it what (what ≡ Stuck) (stuck_or_not what) some_blame)
+          (comes_stands a i head_of_it what (what ≡ Stuck) (stuck_or_not what) some_blame) deep wide dear (le_refl deep)
+          te (stands_at which wv i w) refl
+          (λ some.
           let z = elements_are_written ending_of setting l first s refl is_ready tallest objects rt_filled region
-          (λ b. H) m wv hv a d behind cell_words region_here which i w old_word.0 old_word.1 like.0 like.2 r is some
-          in (
-            z.0,
-            asks_within_writing setting l s deep (cast_words_of l d like.0) wide (words_within l d like.0)
-                (WriteComes setting l s (IsVery l) objects a i r) z.0 te z.2,
-          )
-
-      blamed : (label : ℕ) → total ≡ Blames label → (n : ℕ) → Turned te 0 (BlameOf label) n 0
-      blamed label e n = (
-        refl,
-        λ place found_it.
-            let z = law (Blames label) e (λ q. cc) in (
-              z.0,
-              reaches_weaken (low_machine ending_of setting) (OnTheWayWriting setting l s deep wide)
-                  (WriteComes setting l s (IsVery l) objects a i (Blames label)) (Way n n)
-                  (StopsNow merged_meaning setting l procs casts s n (EndsWith (Blame place)))
-                  (on_way_writing setting l procs casts s most deep wide (omega arith) (omega arith) n n)
-                  (blame_stops setting l procs casts s objects n label place found_it) z.0 te z.1,
-            ),
-      )
+          (λ b. head_of_it) x wv hv a d behind cell_words region_here which i w old_word.0 old_word.1 like.0 like.2 what
+          refl some in (z.0, z.2, z.3))
 
       -- the store with what it is cast to
       module _ (u : FlatValue Coercion) (y : Merged ℕ) (like_u : Like setting l procs places objects u y) (n : ℕ)
@@ -280,7 +346,7 @@ module _ (setting : Setting) (l : Layout) (procs : List Proc) (casts : List Type
 
         full : Filled merged_meaning setting l n new (heap_of t)
         full = subst (λ os. Filled merged_meaning setting l n os (heap_of t)) g.grows.is
-            (filled_as setting l procs casts n g.new (heap_of t) g.filled)
+            (filled_as setting l procs casts m n g.new (heap_of t) g.filled)
 
         carried_u : CarriedIn l setting.address procs merged_meaning places new u [] g.word
         carried_u =
@@ -340,12 +406,12 @@ module _ (setting : Setting) (l : Layout) (procs : List Proc) (casts : List Type
             cells_before cell
             c.1 (slice_set values i u) cell_after)
 
-        returns : ReturnsAt merged_meaning setting l procs casts s places objects RunUnit
+        returns : ReturnsAt merged_meaning setting l procs casts m s places objects RunUnit
             (slice_set store cell (slice_set values i u)) n t
         returns = record {
           cells = [];
           more = g.grows.more;
-          here = subst (λ ps. Here merged_meaning setting l procs casts ps new
+          here = subst (λ ps. Here merged_meaning setting l procs casts m ps new
               (slice_set store cell (slice_set values i u)) n (heap_of t)) (sym (append-nil places))
               (record { filled = full; cells = cells_after });
           word = 0;
@@ -357,34 +423,51 @@ module _ (setting : Setting) (l : Layout) (procs : List Proc) (casts : List Type
           same = g.same;
         }
 
-      -- the turn in which the cell is written
-      wrote : (u : FlatValue Coercion) (y : Merged ℕ) → Like setting l procs places objects u y → total ≡ Gives y
-          → (n wraps : ℕ)
-          → Turned te 0 (On (Return RunUnit) base (slice_set store cell (slice_set values i u)) s.world) n wraps
-      wrote u y like_u e n wraps =
-          let z = law (Gives y) e (λ q. cc) in (
-            refl,
-            (
-              z.0,
-              reaches_weaken (low_machine ending_of setting) (OnTheWayWriting setting l s deep wide)
-                  (WriteComes setting l s (IsVery l) objects a i (Gives y)) (Way n (n + wraps))
-                  (aim (Return RunUnit) base (slice_set store cell (slice_set values i u)) (n + wraps))
-                  (on_way_writing setting l procs casts s most deep wide (omega arith) (omega arith) n (n + wraps))
-                  (λ t g. (refl, returns u y like_u (n + wraps) t g)) z.0 te z.1,
-            ),
-          )
+      -- the state in which the cell is written
+      written : (u : FlatValue Coercion) (y : Merged ℕ) → Like setting l procs places objects u y → what ≡ Gives y
+          → (n left : ℕ) → operator_leaves ≤ left → (t : LowState) → DoneHere t
+          → aim (Return RunUnit) base (slice_set store cell (slice_set values i u)) n left t
+      written u y like_u e n left le t done = (
+        refl,
+        le,
+        returns u y like_u n t
+            (comes_so a i head_of_it what (what ≡ Stuck) (stuck_or_not what) some_blame (Gives y) e
+            (λ q. gives_some y (sym e ∙ q)) t done),
+      )
 
-      -- told that Id is no cast, and else the value is cast first
-      bare_write : total ≡ Gives like.0 → (n : ℕ)
+      -- the turn in which it is, behind the walk
+      wrote : (u : FlatValue Coercion) (y : Merged ℕ) → Like setting l procs places objects u y → what ≡ Gives y
+          → (n credit : ℕ) (t : LowState) → DoneHere t
+          → Turned t 0 (On (Return RunUnit) base (slice_set store cell (slice_set values i u)) s.world) credit n
+      wrote u y like_u e n credit t done = (
+        refl,
+        stays setting l procs casts m s most DoneHere
+            (λ left v. aim (Return RunUnit) base (slice_set store cell (slice_set values i u)) (n + 0) left v) acting
+            credit n (n + 0) t
+            (written u y like_u e (n + 0) (credit + acting.budget) (omega arith) t done),
+      )
+
+      -- told that Id is no cast, the walk is done in this turn; and else the value is cast first
+      bare_write : what ≡ Gives like.0 → wide ≤ 0 → dear ≤ 300 → (n : ℕ)
           → Does te (On (Return RunUnit) base (slice_set store cell (slice_set values i v)) s.world) n
-      bare_write same n = (0, wrote v like.0 like.1 same n 0)
+      bare_write same few cheap n = (
+        0,
+        (
+          refl,
+          takes setting l procs casts m s most DoneHere
+              (walk a i head_of_it what (what ≡ Stuck) (stuck_or_not what) some_blame wide dear)
+              (λ left u. aim (Return RunUnit) base (slice_set store cell (slice_set values i v)) (n + 0) left u) acting
+              operator_leaves 0 n (n + 0) te begins few (omega (arith, cheap))
+              (λ u done. written v like.0 like.1 same (n + 0) operator_leaves (le_refl operator_leaves) u done),
+        ),
+      )
 
       cast_first : (frames : List (FlatFrame Coercion))
-          → Ends setting l procs casts s places objects store te most aim H total frames (λ o. o) → (n : ℕ)
+          → Later a i head_of_it what (what ≡ Stuck) (stuck_or_not what) some_blame 0 frames → (n : ℕ)
           → Does te (On (Return v) (CastFrame d ∷ frames) store s.world) n
       cast_first frames ends n =
-          ends_cast setting l procs casts s places objects store te most aim H total (begins which wv i w)
-          (λ label. Blames label) blamed d normal frames (λ o. o) (λ label. refl) ends v like.0 like.1 refl refl n 0
+          cast_by a i head_of_it what (what ≡ Stuck) (stuck_or_not what) some_blame wide dear d normal frames ends v
+          like.0 like.1 refl refl te begins (cast_fits l m measured 147 0 d like.0 896 (omega arith) (omega arith)) n
 
   -- ---- elements of vectors
 
@@ -400,13 +483,13 @@ module _ (setting : Setting) (l : Layout) (procs : List Proc) (casts : List Type
 
   -- of a vector in the store, told what is done with the element
   module _ (cell : ℕ) (values : List (FlatValue Coercion)) (in_store : slice_get store cell ≡ Some values) (a : ℕ)
-      (c : C (RunLoc cell true) a) (m : Merged ℕ) (wv : ℕ) (hv : Carries l objects m wv) (below : under m ≡ Some a)
+      (c : C (RunLoc cell true) a) (x : Merged ℕ) (wv : ℕ) (hv : Carries l objects x wv) (below : under x ≡ Some a)
       (w : ℕ) (n : ℕ) where
     by_index : (go : ℕ → FlatValue Coercion → FlatAfter Coercion) (i : ℕ)
         → ((old : FlatValue Coercion) → slice_get values i ≡ Some old → Does (writes_at 1 wv i w) (go i old) n)
         → (o : Option (FlatValue Coercion)) → slice_get values i ≡ o
         → Does (writes_at 1 wv i w) (element_here o i go) n
-    by_index go i each None e = outside true cell values in_store a c m wv hv below i w e n
+    by_index go i each None e = outside true cell values in_store a c x wv hv below i w e n
     by_index go i each (Some old) e = each old e
 
     by_place : (go : ℕ → FlatValue Coercion → FlatAfter Coercion) (k wi : ℕ) → C (RunInt (pos k)) wi
@@ -414,16 +497,16 @@ module _ (setting : Setting) (l : Layout) (procs : List Proc) (casts : List Type
         → Does (writes_at 1 wv wi w) (with_element values (pos k) go) n
     by_place go k wi ci each =
         let is = positive_is k ci.1 in
-        subst (λ x. Does (writes_at 1 wv x w) (element_here (slice_get values k) k go) n) (sym (ci.0 ∙ is.0))
+        subst (λ y. Does (writes_at 1 wv y w) (element_here (slice_get values k) k go) n) (sym (ci.0 ∙ is.0))
         (by_index go k each (slice_get values k) refl)
 
     by_no_place : (k wi : ℕ) → C (RunInt (negsuc k)) wi → Does (writes_at 1 wv wi w) (TrapOf Index s.world) n
     by_no_place k wi ci =
         let high = negative_is k ci.1 in
         let word = ci.0 in
-        let many = long true cell values in_store a c m wv hv in
-        let lt = few true cell values in_store a c m wv hv in
-        outside true cell values in_store a c m wv hv below wi w
+        let many = long true cell values in_store a c x wv hv in
+        let lt = few true cell values in_store a c x wv hv in
+        outside true cell values in_store a c x wv hv below wi w
         (past_element values wi (omega (arith, high, word, many, lt))) n
 
   -- what a vector becomes
@@ -446,7 +529,8 @@ module _ (setting : Setting) (l : Layout) (procs : List Proc) (casts : List Type
       by_store z ci None e = (0, refl)
       by_store (pos k) ci (Some values) e =
           by_place cell values e wv c (Solid wv) wv very refl w number (writes_element cell values v) k wi ci
-          (λ old got. bare_write true cell values e wv c (Solid wv) wv very Id refl tt 1 k old got v w cv refl number)
+          (λ old got. bare_write true cell values e wv c (Solid wv) wv very Id refl tt 1 k old got v w cv refl
+          (omega arith) (omega arith) number)
       by_store (negsuc k) ci (Some values) e =
           by_no_place cell values e wv c (Solid wv) wv very refl w number k wi ci
 
@@ -469,26 +553,31 @@ module _ (setting : Setting) (l : Layout) (procs : List Proc) (casts : List Type
     by_part cell values in_store c k old got None e = (0, refl)
     by_part cell values in_store c k old got (Some d) e =
         let b = behind_it d e in
-        cast_first true cell values in_store a c (Proxied a wrapper) wv carries d b.0 b.1 1 k old got v w cv
-        (PrimFrame VectorSet (RunInt (pos k) ∷ RunLoc cell true ∷ []) ∷ base)
-        (λ u y like_u head is n wraps. (
+        let frames : List (FlatFrame Coercion) =
+        PrimFrame VectorSet (RunInt (pos k) ∷ RunLoc cell true ∷ []) ∷ base in
+        cast_first true cell values in_store a c (Proxied a wrapper) wv carries d b.0 b.1 1 k old got v w cv frames
+        (λ u y like_u head is. (
           1,
-          (refl, (0, (tt, begins 1 wv k w (n + wraps), last b u y like_u is (n + wraps)))),
-        ))
-        number
+          λ t done n credit le. (
+            tt,
+            calm_as setting l procs casts m s most t done.stands n,
+            last b u y like_u is n credit t done,
+          ),
+        )) number
       where
         last : (b : (cell_behind 1 (Proxied a wrapper) ≡ Some (a, d)) × IsNormal (rows_of l.types) d)
             (u : FlatValue Coercion) (y : Merged ℕ) → Like setting l procs places objects u y
-            → total true cell values in_store a c (Proxied a wrapper) wv carries d b.0 b.1 1 k old got v w cv ≡ Gives y
-            → (n : ℕ)
-            → Turned (writes_at 1 wv k w) 0 (turn (RunLoc cell true ∷ RunInt (pos k) ∷ u ∷ []) base) n 0
-        last b u y like_u is n =
-            subst (λ o. Turned (writes_at 1 wv k w) 0
-            (on_some o (λ elements. with_element elements (pos k) (writes_element cell elements u))) n 0) (sym in_store)
-            (subst (λ o. Turned (writes_at 1 wv k w) 0 (element_here o k (writes_element cell values u)) n 0) (sym got)
+            → what true cell values in_store a c (Proxied a wrapper) wv carries d b.0 b.1 1 k old got v w cv ≡ Gives y
+            → (n credit : ℕ) (t : LowState)
+            → DoneHere true cell values in_store a c (Proxied a wrapper) wv carries d b.0 b.1 1 k old got v w cv t
+            → Turned t 0 (turn (RunLoc cell true ∷ RunInt (pos k) ∷ u ∷ []) base) credit n
+        last b u y like_u is n credit t done =
+            subst (λ o. Turned t 0
+            (on_some o (λ elements. with_element elements (pos k) (writes_element cell elements u))) credit n)
+            (sym in_store)
+            (subst (λ o. Turned t 0 (element_here o k (writes_element cell values u)) credit n) (sym got)
             (wrote true cell values in_store a c (Proxied a wrapper) wv carries d b.0 b.1 1 k old got v w cv u y
-            like_u is
-            n 0))
+            like_u is n credit t done))
 
     abbrev through : FlatValue Coercion → ℤ → List (FlatValue Coercion) → FlatAfter Coercion
     through vec z elements =
@@ -546,7 +635,7 @@ module _ (setting : Setting) (l : Layout) (procs : List Proc) (casts : List Type
         many : length stored.0 ≡ 1
         many =
             let p =
-            counted setting l procs casts places objects placed s.memory store here.cells false cell stored.0 stored.1
+            counted setting l procs casts m places objects placed s.memory store here.cells false cell stored.0 stored.1
             a c in
             let q = long false cell stored.0 stored.1 a c (Proxied a wrapper) wv carries in
             sym q ∙ (sym p ∙ c.3 refl)
@@ -568,25 +657,28 @@ module _ (setting : Setting) (l : Layout) (procs : List Proc) (casts : List Type
         let b = behind_it d e in
         cast_first false cell (old ∷ []) in_store a c (Proxied a wrapper) wv carries d b.0 b.1 0 0 old refl v w cv
         (PrimFrame BoxSet (RunLoc cell false ∷ []) ∷ base)
-        (λ u y like_u head is n wraps. (
+        (λ u y like_u head is. (
           1,
-          (refl, (0, (tt, begins 0 wv 0 w (n + wraps), last b u y like_u is (n + wraps)))),
-        ))
-        number
+          λ t done n credit le. (
+            tt,
+            calm_as setting l procs casts m s most t done.stands n,
+            last b u y like_u is n credit t done,
+          ),
+        )) number
       where
         last : (b : (cell_behind 1 (Proxied a wrapper) ≡ Some (a, d)) × IsNormal (rows_of l.types) d)
             (u : FlatValue Coercion) (y : Merged ℕ) → Like setting l procs places objects u y
-            → total false cell (old ∷ []) in_store a c (Proxied a wrapper) wv carries d b.0 b.1 0 0 old refl v w cv ≡
+            → what false cell (old ∷ []) in_store a c (Proxied a wrapper) wv carries d b.0 b.1 0 0 old refl v w cv ≡
             Gives y
-            → (n : ℕ) → Turned (writes_at 0 wv 0 w) 0 (box_turn (RunLoc cell false ∷ u ∷ []) base) n 0
-        last b u y like_u is n =
-            subst (λ o. Turned (writes_at 0 wv 0 w) 0
+            → (n credit : ℕ) (t : LowState)
+            → DoneHere false cell (old ∷ []) in_store a c (Proxied a wrapper) wv carries d b.0 b.1 0 0 old refl v w cv t
+            → Turned t 0 (box_turn (RunLoc cell false ∷ u ∷ []) base) credit n
+        last b u y like_u is n credit t done =
+            subst (λ o. Turned t 0
             (on_some o (λ old. run_writes_cell (merging l.types casts) (flat_arity procs) (flat_entered procs) store
-            s.world
-            cell (u ∷ []) base)) n 0) (sym in_store)
+            s.world cell (u ∷ []) base)) credit n) (sym in_store)
             (wrote false cell (old ∷ []) in_store a c (Proxied a wrapper) wv carries d b.0 b.1 0 0 old refl v w cv u y
-            like_u
-            is n 0)
+            like_u is n credit t done)
 
     box_set : (cell : ℕ) → C (RunLoc cell false) a
         → Does (writes_at 0 wv 0 w) (box_turn (RunWrap (RunLoc cell false) wrapper ∷ v ∷ []) base) number
@@ -601,43 +693,76 @@ module _ (setting : Setting) (l : Layout) (procs : List Proc) (casts : List Type
       abbrev box_te : LowState
       box_te = writes_at 0 wv 0 w
 
-      abbrev head_of_it : TypeHead
-      head_of_it = solid_head setting l procs places objects v
+      abbrev head_in_box : TypeHead
+      head_in_box = solid_head setting l procs places objects v
 
       like_it : (x : Merged ℕ) × Like setting l procs places objects v x × Carries l objects x w
       like_it = like_of setting l procs places objects placed (heap_of s) here.filled v w cv
 
       abbrev comes_to : Outcome ℕ
-      comes_to = cast_value (λ b. head_of_it) l.types d like_it.0
+      comes_to = cast_value (λ b. head_in_box) l.types d like_it.0
 
-      blamed_first : (label : ℕ) → comes_to ≡ Blames label → (n : ℕ) → Turned box_te 0 (BlameOf label) n 0
-      blamed_first label q n = (
-        refl,
-        λ place found_it.
-            let z = box_writes_are_blamed ending_of setting l first s refl is_ready tallest objects rt_filled region
-            (λ b. head_of_it) (Proxied a wrapper) wv carries a d b.0
-            (cell_words true cell stored_vector.0 stored_vector.1 a c (Proxied a wrapper) wv carries)
-            (region_here true cell stored_vector.0 stored_vector.1 a c (Proxied a wrapper) wv carries) 0 w like_it.0
-            like_it.2 label q in (
-              z.0,
-              reaches_weaken (low_machine ending_of setting)
-                  (OnTheWayWriting setting l s deep (cast_words_of l d like_it.0))
-                  (WriteComes setting l s (IsVery l) objects a 0 (Blames label)) (Way n n)
-                  (StopsNow merged_meaning setting l procs casts s n (EndsWith (Blame place)))
-                  (on_way_writing setting l procs casts s most deep (cast_words_of l d like_it.0) (omega arith)
-                  (words_within l d like_it.0) n n)
-                  (blame_stops setting l procs casts s objects n label place found_it) z.0 box_te z.2,
-            ),
-      )
+      -- it says something where a label is blamed
+      abbrev Silent : Type 0
+      Silent = (label : ℕ) → comes_to ≡ Blames label → ⊥
+
+      silent_or_not : (r : Outcome ℕ) → comes_to ≡ r → Silent ⊎ (Silent → ⊥)
+      silent_or_not Stuck e = inl (λ label q. blames_some label comes_to q e)
+      silent_or_not (Gives y) e = inl (λ label q. blames_or_gives label y comes_to q e)
+      silent_or_not (Blames label) e = inr (λ silent. silent label e)
+
+      abbrev choice : Silent ⊎ (Silent → ⊥)
+      choice = silent_or_not comes_to refl
+
+      sure_of_it : (label : ℕ) → comes_to ≡ Blames label → Silent → ⊥
+      sure_of_it label e silent = silent label e
+
+      blame_law : (Silent → ⊥)
+          → (k : ℕ) × Reaches (low_machine ending_of setting)
+          (OnTheWayWriting setting l s deep (cast_words_of l d like_it.0))
+          (λ u. Within s deep (cast_words_of l d like_it.0) u
+          × WriteComes setting l s (IsVery l) objects a 0 comes_to u) k box_te
+          × CostsAtMost ending_of setting k box_te (cast_price_of l d like_it.0 + 147)
+      blame_law some = by comes_to refl
+        where
+          Says : Outcome ℕ → Type 0
+          Says r =
+              (k : ℕ) × Reaches (low_machine ending_of setting)
+              (OnTheWayWriting setting l s deep (cast_words_of l d like_it.0))
+              (λ u. Within s deep (cast_words_of l d like_it.0) u
+              × WriteComes setting l s (IsVery l) objects a 0 r u) k box_te
+              × CostsAtMost ending_of setting k box_te (cast_price_of l d like_it.0 + 147)
+
+          by : (r : Outcome ℕ) → comes_to ≡ r → Says comes_to
+          by Stuck e = absurd (some (λ label q. blames_some label comes_to q e))
+          by (Gives y) e = absurd (some (λ label q. blames_or_gives label y comes_to q e))
+          by (Blames label) e =
+              let z = box_writes_are_blamed ending_of setting l first s refl is_ready tallest objects rt_filled region
+              (λ b. head_in_box) (Proxied a wrapper) wv carries a d b.0
+              (cell_words true cell stored_vector.0 stored_vector.1 a c (Proxied a wrapper) wv carries)
+              (region_here true cell stored_vector.0 stored_vector.1 a c (Proxied a wrapper) wv carries) 0 w like_it.0
+              like_it.2 label e in
+              subst Says (sym e) (z.0, z.2, z.3)
+
+      begins_box : Walking a 0 head_in_box comes_to Silent choice sure_of_it (cast_words_of l d like_it.0)
+          (cast_price_of l d like_it.0 + 147) box_te
+      begins_box =
+          by_writing_law setting l procs casts m s most Silent choice
+          (Comes a 0 head_in_box comes_to Silent choice sure_of_it)
+          (comes_stands a 0 head_in_box comes_to Silent choice sure_of_it) deep (cast_words_of l d like_it.0)
+          (cast_price_of l d like_it.0 + 147) (le_refl deep) box_te (stands_at 0 wv 0 w) refl blame_law
 
       vector_cast : Does box_te (On (Return v) (CastFrame d ∷ PrimFrame BoxSet (RunLoc cell true ∷ []) ∷ base) store
           s.world)
           number
       vector_cast =
-          ends_cast setting l procs casts s places objects store box_te most aim head_of_it comes_to (begins 0 wv 0 w)
-          (λ label. Blames label) blamed_first d b.1 (PrimFrame BoxSet (RunLoc cell true ∷ []) ∷ base) (λ o. o)
-          (λ label. refl) (λ u y like_u head is n wraps. (1, (refl, (0, (tt, begins 0 wv 0 w (n + wraps), refl))))) v
-          like_it.0 like_it.1 refl refl number 0
+          cast_by a 0 head_in_box comes_to Silent choice sure_of_it (cast_words_of l d like_it.0)
+          (cast_price_of l d like_it.0 + 147) d b.1 (PrimFrame BoxSet (RunLoc cell true ∷ []) ∷ base)
+          (λ u y like_u head is. (
+            1,
+            λ t done n credit le. (tt, calm_as setting l procs casts m s most t done.stands n, refl),
+          )) v like_it.0 like_it.1 refl refl box_te begins_box
+          (cast_fits l m measured 147 0 d like_it.0 896 (omega arith) (omega arith)) number
 
     vector_by_part : (cell : ℕ) → C (RunLoc cell true) a → (o : Option Coercion) → cell_coercion 1 wrapper ≡ o
         → Does (writes_at 0 wv 0 w)
@@ -793,29 +918,36 @@ module _ (setting : Setting) (l : Layout) (procs : List Proc) (casts : List Type
 
 -- ---- the fields
 
-module _ (setting : Setting) (l : Layout) (procs : List Proc) (casts : List TypeCast) (first : ℕ) (run : Served)
-    (placed : Placed setting l) (types : TypesStand l) (tallest : l.tallest ≤ 65534)
+module _ (setting : Setting) (l : Layout) (procs : List Proc) (casts : List TypeCast) (m : Measures)
+    (measured : FitsMeasures l m) (first : ℕ) (run : Served) (placed : Placed setting l) (types : TypesStand l)
+    (tallest : l.tallest ≤ 65534)
     (ready : Stand setting.procs first) (region : l.region ≡ setting.region) where
-  pub merged_writes : OperatorDone merged_meaning setting l procs casts run VectorSet (write_proc (cast first))
+  pub merged_writes : OperatorDone merged_meaning setting l procs casts m run VectorSet (write_proc (cast first))
       (λ ws. 1 ∷ at_or_zero ws 0 ∷ at_or_zero ws 1 ∷ at_or_zero ws 2 ∷ [])
   merged_writes = record {
     does = λ s number places objects store here base vs ws c handed. (
-      most setting l procs casts first placed types tallest ready region s number places objects store here base,
-      writes_for setting l procs casts first placed types tallest ready region s number places objects store here base
+      most setting l procs casts m measured first placed types tallest ready region s number places objects store here
+          base,
+      writes_for setting l procs casts m measured first placed types tallest ready region s number places objects store
+          here base
           vs
           ws c,
     );
   }
 
-  pub merged_sets : OperatorDone merged_meaning setting l procs casts run BoxSet (write_proc (cast first))
+  pub merged_sets : OperatorDone merged_meaning setting l procs casts m run BoxSet (write_proc (cast first))
       (λ ws. 0 ∷ at_or_zero ws 0 ∷ 0 ∷ at_or_zero ws 1 ∷ [])
   merged_sets = record {
     does = λ s number places objects store here base vs ws c handed.
-        subst (λ xs. (most : Spent) × Answers merged_meaning setting l procs casts s most places objects base
-        (flat_operate procs (merging l.types casts) store s.world BoxSet xs base) number 0
+        subst (λ xs. (most : Spent) × Answers merged_meaning setting l procs casts m s most operator_leaves places
+        objects base
+        (flat_operate procs (merging l.types casts) store s.world BoxSet xs base)
+        (act_cost procs (merging l.types casts) (merged_prices l.types (merging l.types casts) m)) number 0
         (entered s (write_proc (cast first)) (0 ∷ at_or_zero ws 0 ∷ 0 ∷ at_or_zero ws 1 ∷ []))) (sym handed.3) (
-          most setting l procs casts first placed types tallest ready region s number places objects store here base,
-          sets_for setting l procs casts first placed types tallest ready region s number places objects store here base
+          most setting l procs casts m measured first placed types tallest ready region s number places objects store
+              here base,
+          sets_for setting l procs casts m measured first placed types tallest ready region s number places objects
+              store here base
               handed.0 handed.1 handed.2 ws
               (subst (λ xs. AreCarried l setting.address procs merged_meaning places objects (in_row xs) ws) handed.3
               c),

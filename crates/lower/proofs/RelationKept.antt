@@ -122,6 +122,7 @@ module _ (setting : Setting) (l : Layout) (run : Served) (procs : List Proc) (an
         let below : SameNamed s slot words new = λ i n. same i (fewer_named s slot depth r.0.deep i n) in (
           record {
             params = r.0.params;
+            few = r.0.few;
             deep = r.0.deep;
             word = r.0.word;
             same = r.0.same;
@@ -152,6 +153,7 @@ module _ (setting : Setting) (l : Layout) (run : Served) (procs : List Proc) (an
         words le r = (
           record {
             params = r.0.params;
+            few = r.0.few;
             deep = let z = r.0.deep in omega (arith, z, le);
             word = r.0.word;
             same = r.0.same;
@@ -181,6 +183,7 @@ module _ (setting : Setting) (l : Layout) (run : Served) (procs : List Proc) (an
     rest_branch P s count size group depth (OwnFrame (Waiting slot rest locals other) ∷ frames) d k rests words r = (
       record {
         params = r.0.params;
+        few = r.0.few;
         deep = r.0.deep;
         word = r.0.word;
         same = r.0.same;
@@ -280,6 +283,7 @@ module _ (setting : Setting) (l : Layout) (run : Served) (procs : List Proc) (an
       words r = (
         record {
           params = r.0.params;
+          few = r.0.few;
           deep = r.0.deep;
           word = r.0.word;
           same = r.0.same;

@@ -1,4 +1,5 @@
 -- A value that no body waits for is the program's answer in both runs.
+use Rattle.std.specs.Prelude.{◌≤◌}
 use Rattle.std.proofs.Common.{◌≡◌, inl, inr, ℕ, zero, suc, ◌+◌, ◌*◌, ◌%◌, ◌^◌, ◌<◌, Bool, true, false, List}
 use Rattle.std.proofs.Common.{[]}
 use Rattle.std.proofs.Common.{◌∷◌, length, Option, Some, None, refl, sym, ap, ◌∙◌, subst, arith, pos}
@@ -39,7 +40,13 @@ use Rattle.lower.specs.Lowered.{show_kept, open_object, open_small}
 use Rattle.rt_cast.specs.DynWords.{small_dyn, IsDynBy}
 use Rattle.rt_cast.proofs.Public.{SmallIs, small_is, tag_read, no_tag, untagged, eq_false}
 use Rattle.lower.proofs.HeapFilled.{stands, word_there, header_there}
-use Rattle.lower.proofs.WordSteps.{Comes, Calm, here, loads, computes, if_true, if_false, falls_through, comes_back}
+use Rattle.lower.proofs.WordSteps.{Comes, Calm, Goal, here, loads, computes, if_true, if_false, falls_through, left_of}
+use Rattle.lower.proofs.WordCredits.{by_go}
+use Rattle.lower.proofs.WordServices.{return_price}
+use Rattle.lower.proofs.EmitPrices.{source_most, number_most}
+use Rattle.low_ir.specs.Prices.{step_price, code_price}
+use Rattle.low_ir.specs.Procedures.{Proc}
+use Rattle.std.proofs.Common.{le_refl}
 use Rattle.lower.proofs.RelationKept.{word_other}
 use Rattle.coercion_norm.specs.Objects.{Object, Fixed}
 use Rattle.rt_cast.specs.States.{Heap}
@@ -50,9 +57,20 @@ use Rattle.lower.proofs.WordSteps.{at}
 use Rattle.lower.proofs.WordArithmetic.{word_read}
 use Rattle.lower.proofs.RelationKept.{word_here}
 use Rattle.lower.proofs.WordOperands.{and_true}
-use Rattle.lower.proofs.SimulationWay.{Program, Seen, Stopping, Settled, Filling}
+use Rattle.lower.proofs.SimulationWay.{Program, Seen, Stopping, Settled, Filling, Quietly}
 use Rattle.lower.proofs.SimulationGives.{CarriedHere}
 use Rattle.lower.specs.CarriedValues.{CarriedIn}
+
+-- showing an answer costs no more
+show_price : (procs : List Proc) (row : TypeRow) → code_price procs 3 (show_by row) ≤ 370
+show_price procs IntRow = omega arith
+show_price procs BoolRow = omega arith
+show_price procs UnitRow = omega arith
+show_price procs DynRow = omega arith
+show_price procs (FunRow parameters answer) = omega arith
+show_price procs (TupleRow parts) = omega arith
+show_price procs (RefRow content) = omega arith
+show_price procs (VectRow content) = omega arith
 
 calls_ending : (kind x labels : ℕ) (world : WorldState)
     → environment_call 0 kind x labels world ≡ record { effect = ends_call kind x; world = world }
@@ -96,40 +114,54 @@ module _ (program : Program) (typed : TypesStand program.l) (places : List ℕ) 
         now = seen t refl (objects, filled);
         last = last;
         stops = rw (e, called) refl;
+        cheap = cheap source kind;
         seen = seen last refl (objects, filled);
       }
+    where
+      cheap : (source : LowSource) (kind : ℕ) → step_price program.setting.procs 3 (ends kind source) ≤ 100
+      cheap source kind =
+          let x = source_most source in let y = number_most kind in omega (arith, x, y)
+
+  -- no words are asked for meanwhile
+  abbrev Showing : LowState → Type 0
+  Showing = Quietly program (Seen program f) h.words
+
+  abbrev stops_at : AnAnswer → Goal
+  stops_at a = record {
+    extra = 0;
+    floor = 0;
+    holds = λ left. Quietly program (Stopping program f (EndsWith (AnswerVerdict a))) h.words;
+    least = λ left t q. omega arith;
+  }
 
   module _ (a : AnAnswer) where
-    abbrev Stops : LowState → Type 0
-    Stops t = Stopping program f (EndsWith (AnswerVerdict a)) t
-
     abbrev Shows : List Code → Locals → Code → Type 0
     Shows rests words code =
-        Comes program.setting (Seen program f) (Stopping program f (EndsWith (AnswerVerdict a)))
+        Comes program.setting Showing (stops_at a)
         (at world h [] 3 rests words code)
 
-    abbrev calm : Calm program.setting (Seen program f) (Stopping program f (EndsWith (AnswerVerdict a))) world h
-    calm active waiting = record { output = refl; filling = (objects, filled) }
+    abbrev calm : Calm program.setting Showing (stops_at a) world h
+    calm active waiting = (record { output = refl; filling = (objects, filled) }, le_refl h.words)
 
     ended : (kind : ℕ) (source : LowSource) (x : ℕ) (words : Locals) (rests : List Code) → word_of words source ≡ Some x
         → ends_call (kind % 2 ^ 64) x ≡ Answers a → Shows rests words (ends kind source)
     ended kind source x words rests e is =
-        here program.setting (Seen program f) (Stopping program f (EndsWith (AnswerVerdict a)))
-        (at world h [] 3 rests words (ends kind source)) (ends_so kind source x a words rests e is)
+        here program.setting Showing (stops_at a)
+        (at world h [] 3 rests words (ends kind source)) (ends_so kind source x a words rests e is, le_refl h.words)
 
     -- the kind of the type is this one, or another
     takes : (n : ℕ) (one rest : Code) (words : Locals) → words 1 ≡ Some n → holds Eq n (n % 2 ^ 64) ≡ true
         → Shows (rest ∷ []) words one → Shows [] words (If Eq (Word 1) (Number n) one Done rest)
     takes n one rest words e same c =
-        if_true program.setting (Seen program f) (Stopping program f (EndsWith (AnswerVerdict a))) calm n (n % 2 ^ 64) e
+        if_true program.setting Showing (stops_at a) calm n (n % 2 ^ 64) e
         refl same c
 
     skips : (n m : ℕ) (one rest : Code) (words : Locals) → words 1 ≡ Some m → holds Eq m (n % 2 ^ 64) ≡ false
         → Shows [] words rest → Shows [] words (If Eq (Word 1) (Number n) one Done rest)
     skips n m one rest words e other c =
-        if_false program.setting (Seen program f) (Stopping program f (EndsWith (AnswerVerdict a))) calm m (n % 2 ^ 64)
+        if_false program.setting Showing (stops_at a) calm m (n % 2 ^ 64)
         e refl other
-        (falls_through program.setting (Seen program f) (Stopping program f (EndsWith (AnswerVerdict a))) calm c)
+        (falls_through program.setting Showing (stops_at a) calm c)
 
   abbrev CarriedInHere : FlatValue program.meaning.Cast → List program.meaning.Cast → ℕ → Type 0
   CarriedInHere u casts w =
@@ -239,10 +271,10 @@ module _ (program : Program) (typed : TypesStand program.l) (places : List ℕ) 
       a = shown u
 
       P : LowState → Type 0
-      P = Seen program f
+      P = Quietly program (Seen program f) h.words
 
-      Q : LowState → Type 0
-      Q = Stopping program f (EndsWith (AnswerVerdict (shown u)))
+      Q : Goal
+      Q = stops_at (shown u)
 
       row : TypeRow
       row = rows_in program.l kept
@@ -251,7 +283,8 @@ module _ (program : Program) (typed : TypesStand program.l) (places : List ℕ) 
       head = header (type_kind row) (height_in program.l kept) (length (parts_of row))
 
       -- with the kind of the type and the value's word
-      opened : (now : Locals) → now 1 ≡ Some (type_kind row) → now 2 ≡ Some c.0 → Shows (shown u) (show_kept ∷ []) now Done
+      opened : (now : Locals) → now 1 ≡ Some (type_kind row) → now 2 ≡ Some c.0 → Shows (shown u)
+          (show_kept ∷ []) now Done
       opened now kind value =
           falls_through program.setting P Q (calm a) (shows_kept row c.3 u [] c.0 c.4 fit now kind value)
 
@@ -372,8 +405,9 @@ module _ (program : Program) (typed : TypesStand program.l) (places : List ℕ) 
 
   pub answered : (size : ℕ) (rests : List Code) (words : Locals) (source : LowSource) (w : ℕ)
       → word_of words source ≡ Some w → CarriedHere program places objects v w
-      → Settled program f (at world h (entry_waiting program.answer ∷ []) size rests words (ReturnCode source))
-  answered size rests words source w is c =
+      → (due : ℕ) → Settled program f due (at world h (entry_waiting program.answer ∷ []) size rests words
+      (ReturnCode source))
+  answered size rests words source w is c due =
       by_test (fits_type (flat_arity program.procs) program.told.types v program.told.answer) refl
     where
       t : LowState
@@ -447,7 +481,7 @@ module _ (program : Program) (typed : TypesStand program.l) (places : List ℕ) 
       fitting (RunWrap u cast) c e = wrapped u cast [] c e
 
       by_test : (b : Bool) → fits_type (flat_arity program.procs) program.told.types v program.told.answer ≡ b
-          → Settled program f t
+          → Settled program f due t
       by_test false e =
           inr (record {
             seen = seen t refl (objects, filled);
@@ -456,12 +490,23 @@ module _ (program : Program) (typed : TypesStand program.l) (places : List ℕ) 
             ends = tt;
           })
       by_test true e =
-          let q = comes_back program.setting (Seen program f) (Stopping program f (EndsWith (AnswerVerdict (shown v))))
-          (calm (shown v)) w is (omega arith)
-          (shows program.answer v [] w c (fitting v c e) (set_local 0 w no_locals) (word_here 0 w no_locals)) in
+          let s = shows program.answer v [] w c (fitting v c e) (set_local 0 w no_locals) (word_here 0 w no_locals) in
+          let dear = show_price program.setting.procs program.answer in
+          let q = by_go program.setting Showing (stops_at (shown v)).holds 0
+          (left_of program.setting (at world h [] 3 [] (set_local 0 w no_locals) (show_by program.answer)) + 0)
+          (28 + (left_of program.setting (at world h [] 3 [] (set_local 0 w no_locals) (show_by program.answer)) + 0)) t
+          (at world h [] 3 [] (set_local 0 w no_locals) (show_by program.answer)) (rw is refl)
+          (let le = return_price program.setting.procs size source in omega (arith, le))
+          (record { output = refl; filling = (objects, filled) }, le_refl h.words) s in
           inr (record {
             seen = seen t refl (objects, filled);
             e = EndsWith (AnswerVerdict (shown v));
             is = ap (λ b. Some (if b then EndsWith (AnswerVerdict (shown v)) else Wrong)) e;
-            ends = record { steps = q.steps; reach = q.reach };
+            ends = record {
+              steps = q.steps;
+              price = q.price;
+              small = let z = q.within in omega (arith, z, dear);
+              cheap = q.cheap;
+              reach = q.reach;
+            };
           })

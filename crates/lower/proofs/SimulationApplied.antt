@@ -3,7 +3,6 @@ use Rattle.std.proofs.Common.{◌≡◌, inl, inr, ℕ, zero, suc, ◌+◌, ◌^
 use Rattle.std.proofs.Common.{◌≢◌, true, false, Option, refl, sym, ap, ap₂, ◌∙◌, subst, arith}
 use Rattle.std.specs.Prelude.{◌&&◌, nat_le}
 use Rattle.run_laws.specs.Machines.{Go}
-use Rattle.run_laws.proofs.Public.{reaches_weaken}
 use Rattle.low_ir.specs.declared.code.LowSource.{LowSource}
 use Rattle.low_ir.specs.declared.code.LowSource.TheVariants.{Word}
 use Rattle.low_ir.specs.Procedures.{Code, Done, Load, TailCall, TailCallAt, CallAt, Call as CallOf}
@@ -18,8 +17,8 @@ use Rattle.flat_ir.specs.declared.code.Operand.TheVariants.{Local, Captured, Sib
 use Rattle.flat_ir.specs.declared.code.Operand.TheVariants.{Unit as UnitCase}
 use Rattle.flat_ir.specs.Bodies.{Call}
 use Rattle.flat_ir.specs.Closed.{operand_bound, operands_bound}
-use Rattle.flat_ir.specs.Machine.{FlatCode, FlatValue, FlatAfter, FlatState, FlatFrame, FlatFocus, FlatStore, Group}
-use Rattle.flat_ir.specs.Machine.{value, values, flat_turn, flat_state_at}
+use Rattle.flat_ir.specs.Machine.{FlatCode, FlatValue, FlatAfter, FlatState, Group}
+use Rattle.flat_ir.specs.Machine.{value, values, flat_turn}
 use Rattle.flat_ir.specs.Machine.{Locals as FlatLocals}
 use Rattle.lower.specs.declared.numbering.Shape.{Shape}
 use Rattle.rt_cast.specs.States.{Heap, entered}
@@ -29,18 +28,22 @@ use Rattle.lower.specs.Emit.{Then, ToCaller, Into, emit, call, call_by, is_sibli
 use Rattle.lower.specs.Emit.{source_at}
 use Rattle.lower.specs.CarriedValues.{AreCarried, CellsHeld}
 use Rattle.lower.specs.RelatedStates.{Fits, NoCasts, pending_values}
-use Rattle.lower.specs.SchemeLaws.{Spent, Aim, OnWay, After, Goes, Calls, Serves, at_or_zero}
+use Rattle.lower.specs.SchemeLaws.{Spent, Goes, Calls, Serves, at_or_zero, call_leaves}
 use Rattle.lower.proofs.HeapObjects.{none_some, same_some}
 use Rattle.lower.proofs.CarriedLater.{as_many}
 use Rattle.lower.proofs.RelationKept.{SameNamed, rest_same, rest_branch}
-use Rattle.lower.proofs.WordSteps.{at, Moves, here, moved, comes_on, falls_through, waiting_for}
+use Rattle.lower.proofs.WordSteps.{at, falls_through, waiting_for, left_of}
+use Rattle.low_ir.specs.Prices.{low_price, codes_price}
+use Rattle.std.proofs.Common.{◌*◌}
+use Rattle.flat_ir.specs.FlatTally.{act_cost}
+use Rattle.lower.proofs.EmitPrices.{call_price_all, call_body_begins, then_price}
 use Rattle.lower.proofs.WordOperands.{ChangesFrom, and_true, both_words, found_all_same, same_besides, value_carried}
 use Rattle.lower.proofs.WordServices.{taken}
-use Rattle.lower.proofs.SimulationWay.{Program, N, mode_of, next_state}
+use Rattle.lower.proofs.SimulationWay.{Program, N, mode_of, prices_of, next_state, cost_of, dues, due_is, waiting_dues}
 use Rattle.lower.proofs.SimulationGives.{CarriedHere, RestHere, CallersHere}
-use Rattle.lower.proofs.SimulationServed.{OnServed, Waits, Next, Lands, lands_by, served_on, silent_after}
-use Rattle.lower.proofs.SimulationServices.{Landed, Served}
-use Rattle.lower.proofs.SimulationCasts.{serving_scene}
+use Rattle.lower.proofs.SimulationServed.{silent_after}
+use Rattle.lower.proofs.SimulationServices.{OnTurn, Calling, Served, calling_goal, calls_now, is_served, serve_step}
+use Rattle.lower.proofs.SimulationCasts.{serving_scene, as_it_was}
 use Rattle.lower.proofs.SimulationServing.{after_fetching, not_of_kind, wrapped_there}
 use Rattle.lower.proofs.SimulationEntering.{enters}
 use Rattle.lower.proofs.RelationKept.{Named, OwnName, LowName, HighName}
@@ -94,46 +97,6 @@ pub all_plain_onto : {C : Type 0} (done : List (FlatValue C)) (todo : List (Pend
 all_plain_onto [] todo e = plain_again todo e
 all_plain_onto (v ∷ done) todo e = all_plain_onto done (plain v ∷ todo) (refl, e)
 
--- ---- a step into a procedure that serves
-
-module _ (program : Program) (typed : TypesStand program.l) (f : FlatState program.meaning.Cast) (c : LowState)
-    (same_world : f.world ≡ c.world) (most : Spent) (low : ℕ)
-    (aim : Aim program.meaning program.setting program.l program.procs program.casts)
-    (lands : (focus : FlatFocus program.meaning.Cast) (frames : List (FlatFrame program.meaning.Cast))
-    (store : FlatStore program.meaning.Cast) (n : ℕ) (t : LowState) → aim focus frames store n t
-    → Lands program c.world.output n low (flat_state_at program.procs program.told focus frames store c.world) t) where
-  pub serve_step : (x : FlatAfter program.meaning.Cast) (n w i : ℕ) (t te : LowState) → (N program).step t ≡ Go te
-      → OnServed program c.world.output n (n + w) t
-      → OnWay program.meaning program.setting program.l program.procs program.casts c most n n te
-      → After program.meaning program.setting program.l program.procs program.casts c most
-      (Goes program.meaning program.setting program.l program.procs program.casts c most aim i) x n w te
-      → Moves program.setting (OnServed program c.world.output n (n + w))
-      (Landed program typed f (next_state program f x) (n + w)) t
-  serve_step x n w i t te step on begins a =
-      by_next (served_on program c most low aim lands i x n w f same_world te begins a).1
-    where
-      P : LowState → Type 0
-      P = OnServed program c.world.output n (n + w)
-
-      Q : LowState → Type 0
-      Q = Landed program typed f (next_state program f x) (n + w)
-
-      landed : (i : ℕ) (u : LowState) → Waits program low i (next_state program f x) (n + w) u
-          → Landed program typed f (next_state program f x) (n + w) u
-      landed zero u z = inl z
-      landed (suc i) u z = inr (low, i, z)
-
-      by_next : Next program (Waits program low i) low (i ≡ 0) c.world.output (next_state program f x) n (n + w) te
-          → Moves program.setting (OnServed program c.world.output n (n + w))
-          (Landed program typed f (next_state program f x) (n + w)) t
-      by_next (inl o) = moved program.setting P Q t te step on (here program.setting P Q te (inl (inr o)))
-      by_next (inr r) =
-          moved program.setting P Q t te step on (record {
-            steps = r.0;
-            reach = reaches_weaken (N program) P (Waits program low i (next_state program f x) (n + w)) P Q (λ u z. z)
-                (landed i) r.0 te r.2;
-          })
-
 -- ---- the call
 
 module _ (program : Program) (typed : TypesStand program.l)
@@ -147,7 +110,8 @@ module _ (program : Program) (typed : TypesStand program.l)
     count size group depth locals words (Call fo os))
     (rest : RestHere program places objects waiting s count size group depth f.frames next rests words)
     (wide : s.params + 10 ≤ size) (u : FlatValue program.meaning.Cast) (cast : program.meaning.Cast)
-    (function : value locals group fo ≡ RunWrap u cast) where
+    (function : value locals group fo ≡ RunWrap u cast) (six : s.params ≤ 6)
+    (cost_is : act_cost program.procs (mode_of program) (prices_of program) ≡ cost_of program f) where
   abbrev pub entering : FlatAfter program.meaning.Cast
   entering =
       flat_turn program.procs (mode_of program) f.store f.world
@@ -183,17 +147,25 @@ module _ (program : Program) (typed : TypesStand program.l)
       → CarriedHere program places objects (RunWrap u cast) w
       → AreCarried program.l program.setting.address program.procs program.meaning places objects
       (in_row (values locals group os)) ws
-      → (most : Spent) × Serves program.meaning program.setting program.l program.procs program.casts
+      → (most : Spent) × Serves program.meaning program.setting program.l program.procs program.casts program.measured
       (at f.world h waits n rr now code) most
-      (Calls program.meaning program.setting program.l program.procs program.casts (at f.world h waits n rr now code)
-      places objects f.frames) entering program.number 0
+      (Calls program.meaning program.setting program.l program.procs program.casts program.measured
+      (at f.world h waits n rr now code)
+      places objects f.frames) entering (cost_of program f) program.number 0
       (entered (at f.world h waits n rr now code) program.calling.proc
       (w ∷ at_or_zero ws 0 ∷ at_or_zero ws 1 ∷ at_or_zero ws 2 ∷ at_or_zero ws 3 ∷ at_or_zero ws 4 ∷ at_or_zero ws 5
       ∷ length ws ∷ []))
   law waits n rr now code w ws carried all =
-      program.calling.calls (at f.world h waits n rr now code) program.number places objects f.store
+      subst (λ cost. (most : Spent) × Serves program.meaning program.setting program.l program.procs program.casts
+      program.measured (at f.world h waits n rr now code) most
+      (Calls program.meaning program.setting program.l program.procs program.casts program.measured
+      (at f.world h waits n rr now code) places objects f.frames) entering cost program.number 0
+      (entered (at f.world h waits n rr now code) program.calling.proc
+      (w ∷ at_or_zero ws 0 ∷ at_or_zero ws 1 ∷ at_or_zero ws 2 ∷ at_or_zero ws 3 ∷ at_or_zero ws 4 ∷ at_or_zero ws 5
+      ∷ length ws ∷ []))) cost_is
+      (program.calling.calls (at f.world h waits n rr now code) program.number places objects f.store
       (record { filled = filled; cells = cells }) f.frames u cast w carried (values locals group os) ws all
-      (omega (arith, long, few))
+      (omega (arith, long, few)))
 
   abbrev handed : ℕ → List ℕ → List ℕ
   handed w ws =
@@ -227,60 +199,84 @@ module _ (program : Program) (typed : TypesStand program.l)
   not_test j (LowName p q) = λ z. omega (arith, z, q)
   not_test j (HighName p q) = λ z. omega (arith, z, p)
 
-  abbrev M : LowState → Type 0
-  M = Moves program.setting (OnServed program f.world.output program.number (program.number + 0))
-      (Landed program typed f (next_state program f entering) (program.number + 0))
+  abbrev start : LowState
+  start = at f.world h waiting size rests words (emit program.run s (Call fo os) next)
+
+  abbrev have : ℕ
+  have = 0 + dues start
+
+  -- where the value goes: what is left behind the call
+  abbrev floor_for : Then → ℕ
+  floor_for next' = then_price program.setting.procs size s six next' + codes_price program.setting.procs size rests
+
+  abbrev M : ℕ → LowState → Type 0
+  M floor t = Calling program typed f floor have 556 entering 0 t
 
   on : (waits : List LowWaiting) (n : ℕ) (rr : List Code) (now : Locals) (code : Code)
-      → OnServed program f.world.output program.number (program.number + 0) (at f.world h waits n rr now code)
-  on waits n rr now code = record { same = refl; filling = inl (objects, filled) }
+      → OnTurn program typed f 0 h.words (at f.world h waits n rr now code)
+  on waits n rr now code = record { same = refl; filling = inl (objects, filled); asked = omega arith }
 
   -- the procedure is entered from a state, for whose callers others wait
   enters_apply : (waits : List LowWaiting) (n : ℕ) (rr : List Code) (now : Locals) (code : Code) (w : ℕ) (ws : List ℕ)
       → CarriedHere program places objects (RunWrap u cast) w
       → AreCarried program.l program.setting.address program.procs program.meaning places objects
-      (in_row (values locals group os)) ws → CallersHere program places objects waits f.frames → (t : LowState)
+      (in_row (values locals group os)) ws → CallersHere program places objects waits f.frames
+      → 174 + waiting_dues waits + 556 ≤ call_leaves + have → (t : LowState) (floor : ℕ)
+      → low_price program.setting.procs t + floor ≤ left_of program.setting t → t.words ≡ h.words
       → (N program).step t ≡ Go (entered (at f.world h waits n rr now code) program.calling.proc (handed w ws))
-      → OnServed program f.world.output program.number (program.number + 0) t → M t
-  enters_apply waits n rr now code w ws carried all callers t step calm =
+      → OnTurn program typed f 0 t.words t → M floor t
+  enters_apply waits n rr now code w ws carried all callers enough t floor paid same step calm =
       let c = at f.world h waits n rr now code in
-      let z = law waits n rr now code w ws carried all in
-      serve_step program typed f c refl z.0 0
-      (Calls program.meaning program.setting program.l program.procs program.casts c places objects f.frames)
-      (λ focus frames store m v q. lands_by program f.world.output m 0
-      (flat_state_at program.procs program.told focus frames store f.world) v
-      (enters program typed f places objects c refl callers focus frames store m v q)) entering program.number 0 z.1.0 t
-      (entered c program.calling.proc (handed w ws)) step calm (record {
-        objects = objects;
-        filled = inl filled;
-        same = refl;
-        active = omega arith;
-        asked = omega arith;
-      }) z.1.1
+      let z = law waits n rr now code w ws carried all in (
+        low_price program.setting.procs t,
+        paid,
+        serve_step program typed f c refl z.0 0 have 556
+            (Calls program.meaning program.setting program.l program.procs program.casts program.measured c places
+            objects
+            f.frames)
+            (λ focus frames store m left v q. enters program typed f places objects c refl callers have 556 enough focus
+            frames store m left v q) entering 0 z.1.0 t
+            (entered c program.calling.proc (handed w ws)) step (sym same) calm (record {
+              objects = objects;
+              filled = inl filled;
+              same = refl;
+              active = omega arith;
+              asked = omega arith;
+            }) z.1.1,
+      )
 
-  by_next : (next : Then)
-      → RestHere program places objects waiting s count size group depth f.frames next rests words → (w : ℕ)
+  due_begun : 10 * length rests + waiting_dues waiting ≤ have
+  due_begun =
+      let z = due_is (emit program.run s (Call fo os) next) rests (call_body_begins program.run s fo os next) in
+      omega (arith, z)
+
+  by_next : (next' : Then)
+      → RestHere program places objects waiting s count size group depth f.frames next' rests words → (w : ℕ)
       (ws : List ℕ) (now : Locals) → CarriedHere program places objects (RunWrap u cast) w
       → AreCarried program.l program.setting.address program.procs program.meaning places objects
       (in_row (values locals group os)) ws → words_of now (a ∷ found_all s 1 os) ≡ Some (w ∷ ws)
       → SameNamed s depth words now
-      → M (at f.world h waiting size rests now (call program.run s a (found_all s 1 os) next))
+      → M (floor_for next') (at f.world h waiting size rests now (call program.run s a (found_all s 1 os) next'))
   by_next ToCaller r w ws now carried all are same =
       not_of_kind program typed f places objects h filled waiting size rests s count depth group locals wide entering 0
-      a w 1 (Load (test_word s) a 8 (TailCallAt (Word (test_word s)) (a ∷ found_all s 1 os))) Done
+      (floor_for ToCaller) have 556 a w 1 (Load (test_word s) a 8 (TailCallAt (Word (test_word s))
+      (a ∷ found_all s 1 os))) Done
       (TailCall program.run.apply (apply_words a (found_all s 1 os))) now (omega arith) (λ z. omega (arith, z))
       (λ z. omega (arith, z)) (and_more_parts (word_of now a) (words_of now (found_all s 1 os)) w ws are).0
       (wrapped_there program places objects u cast [] w carried)
       (λ last more.
-      let still = found_all_same (serving_scene program typed f places entering 0) f.world refl h objects filled waiting
+      let still = found_all_same (serving_scene program typed f places entering 0 0 0 0 h.words) f.world h
+      (as_it_was program f h.words) objects filled waiting
       size rests s count group depth locals (fo ∷ os) 0 all_bound (omega (arith, few)) now last more ∙ are in
-      falls_through program.setting (OnServed program f.world.output program.number (program.number + 0))
-      (Landed program typed f (next_state program f entering) (program.number + 0))
-      (λ active waiting. record { same = refl; filling = inl (objects, filled) })
-      (comes_on program.setting (OnServed program f.world.output program.number (program.number + 0))
-      (Landed program typed f (next_state program f entering) (program.number + 0))
+      falls_through program.setting (OnTurn program typed f 0 h.words)
+      (calling_goal program typed f (floor_for ToCaller) have 556 entering 0 h.words)
+      (λ active waiting. record { same = refl; filling = inl (objects, filled); asked = omega arith })
+      (calls_now program typed f (floor_for ToCaller) have 556 entering 0
+      (at f.world h waiting size rests last (TailCall program.run.apply (apply_words a (found_all s 1 os))))
       (enters_apply waiting size rests last (TailCall program.run.apply (apply_words a (found_all s 1 os))) w ws carried
-      all r (at f.world h waiting size rests last (TailCall program.run.apply (apply_words a (found_all s 1 os))))
+      all r (omega (arith, due_begun)) (at f.world h waiting size rests last
+      (TailCall program.run.apply (apply_words a (found_all s 1 os))))
+      (floor_for ToCaller) (omega arith) refl
       (let e = apply_handed last w ws all still in
       let there = program.calling.stands.there in
       let fine = taken program.setting program.run.apply 8 program.calling.proc (handed w ws) program.calling.stands
@@ -289,16 +285,19 @@ module _ (program : Program) (typed : TypesStand program.l)
       (on waiting size rests last (TailCall program.run.apply (apply_words a (found_all s 1 os)))))))
   by_next (Into d k) r w ws now carried all are same =
       not_of_kind program typed f places objects h filled waiting size rests s count depth group locals wide entering 0
-      a w 1 (Load (test_word s) a 8 (CallAt d (Word (test_word s)) (a ∷ found_all s 1 os) Done))
+      (floor_for (Into d k)) have 556 a w 1 (Load (test_word s) a 8 (CallAt d (Word (test_word s))
+      (a ∷ found_all s 1 os) Done))
       (CallOf d program.run.apply (apply_words a (found_all s 1 os)) Done) k now (omega arith) (λ z. omega (arith, z))
       (λ z. omega (arith, z)) (and_more_parts (word_of now a) (words_of now (found_all s 1 os)) w ws are).0
       (wrapped_there program places objects u cast [] w carried)
       (λ last more.
-      let still = found_all_same (serving_scene program typed f places entering 0) f.world refl h objects filled waiting
+      let still = found_all_same (serving_scene program typed f places entering 0 0 0 0 h.words) f.world h
+      (as_it_was program f h.words) objects filled waiting
       size rests s count group depth locals (fo ∷ os) 0 all_bound (omega (arith, few)) now last more ∙ are in
       let named : SameNamed s depth words last = λ j n. more j (not_test j n) ∙ same j n in
-      comes_on program.setting (OnServed program f.world.output program.number (program.number + 0))
-      (Landed program typed f (next_state program f entering) (program.number + 0))
+      calls_now program typed f (floor_for (Into d k)) have 556 entering 0
+      (at f.world h waiting size (k ∷ rests) last
+      (CallOf d program.run.apply (apply_words a (found_all s 1 os)) Done))
       (enters_apply (waiting_for d size (k ∷ rests) last Done ∷ waiting) size (k ∷ rests) last Done w ws carried all
       (inr (inl (
         s,
@@ -310,9 +309,9 @@ module _ (program : Program) (typed : TypesStand program.l)
             (rest_same program.setting program.l program.run program.procs program.answer program.meaning program.laws
             places objects (CallersHere program places objects waiting) s count size group depth f.frames (Into d k)
             rests words last named r),
-      )))
+      ))) (omega (arith, due_begun))
       (at f.world h waiting size (k ∷ rests) last
-      (CallOf d program.run.apply (apply_words a (found_all s 1 os)) Done))
+      (CallOf d program.run.apply (apply_words a (found_all s 1 os)) Done)) (floor_for (Into d k)) (omega arith) refl
       (let e = apply_handed last w ws all still in
       let there = program.calling.stands.there in
       let fine = taken program.setting program.run.apply 8 program.calling.proc (handed w ws) program.calling.stands
@@ -336,9 +335,11 @@ module _ (program : Program) (typed : TypesStand program.l)
       → AreCarried program.l program.setting.address program.procs program.meaning places objects
       (in_row (values locals group os)) ws → words_of now (a ∷ found_all s 1 os) ≡ Some (w ∷ ws)
       → SameNamed s depth words now
-      → M (at f.world h waiting size rests now (call_by program.run (is_sibling fo) s a (found_all s 1 os) next))
+      → M (floor_for next)
+      (at f.world h waiting size rests now (call_by program.run (is_sibling fo) s a (found_all s 1 os) next))
   by_kind w ws now carried all are same =
-      subst (λ bare. M (at f.world h waiting size rests now (call_by program.run bare s a (found_all s 1 os) next)))
+      subst (λ bare. M (floor_for next) (at f.world h waiting size rests now
+      (call_by program.run bare s a (found_all s 1 os) next)))
       (sym no_sibling) (by_next next rest w ws now carried all are same)
 
   carried_all : (ws : List ℕ)
@@ -352,38 +353,46 @@ module _ (program : Program) (typed : TypesStand program.l)
       by_operands [] b = ([], tt)
       by_operands (o ∷ os) b =
           let x = and_true (operand_bound s.captured count depth o) (operands_bound s.captured count depth os) b in
-          let c = value_carried (serving_scene program typed f places entering 0) f.world refl h objects filled waiting
+          let c = value_carried (serving_scene program typed f places entering 0 0 0 0 h.words) f.world h
+          (as_it_was program f h.words) objects filled waiting
           size rests s count group depth locals o x.0 words fits.knows in
           let cs = by_operands os x.1 in
           (c.0 ∷ cs.0, (c.1, cs.1))
 
-  pub call_served : Served program typed f entering 0
+  pub call_served : Served program typed f entering 0 0
       (at f.world h waiting size rests words (emit program.run s (Call fo os) next))
-  call_served = (
-    silent,
-    after_fetching program typed f places objects h filled waiting size rests s count depth group locals wide entering 0
-        (fo ∷ os) words (call_by program.run (is_sibling fo) s a (found_all s 1 os) next) all_bound (omega (arith, few)) fits.knows
-        (λ ws now carried are changed. fetched ws now carried are changed),
-  )
+  call_served =
+      is_served program typed f (floor_for next) 0 556 entering 0 start silent (omega arith)
+      (let z = call_price_all program.setting.procs size s six program.run fo os few next in omega (arith, z))
+      (after_fetching program typed f places objects h filled waiting size rests s count depth group locals wide
+      entering 0
+      (floor_for next) have 556 (fo ∷ os) words (call_by program.run (is_sibling fo) s a (found_all s 1 os) next)
+      all_bound (omega (arith, few)) fits.knows
+      (λ ws now carried are changed. fetched ws now carried are changed))
     where
       silent : (next_state program f entering).world.output ≡ f.world.output
       silent =
           let t = at f.world h waiting size rests words (emit program.run s (Call fo os) next) in
-          let c = value_carried (serving_scene program typed f places entering 0) f.world refl h objects filled waiting
+          let c = value_carried (serving_scene program typed f places entering 0 0 0 0 h.words) f.world h
+          (as_it_was program f h.words) objects filled waiting
           size rests s count group depth locals fo parts.0 words fits.knows in
           let own = subst (λ v. CarriedHere program places objects v c.0) function c.1 in
           let cs = carried_all in
           let z = law waiting size rests words (emit program.run s (Call fo os) next) c.0 cs.0 own cs.1 in
-          silent_after program t z.0 (Goes program.meaning program.setting program.l program.procs program.casts t z.0
-          (Calls program.meaning program.setting program.l program.procs program.casts t places objects f.frames)
-          z.1.0) f refl entering program.number 0 (entered t program.calling.proc (handed c.0 cs.0)) z.1.1
+          silent_after program t z.0 (Goes program.meaning program.setting program.l program.procs program.casts
+          program.measured t z.0
+          (Calls program.meaning program.setting program.l program.procs program.casts program.measured t places objects
+          f.frames)
+          z.1.0) f refl entering (cost_of program f) 0 program.number 0
+          (entered t program.calling.proc (handed c.0 cs.0)) z.1.1
 
       fetched : (all : List ℕ) (now : Locals)
           → AreCarried program.l program.setting.address program.procs program.meaning places objects
           (in_row (values locals group (fo ∷ os))) all
           → words_of now (found_all s 0 (fo ∷ os)) ≡ Some all
           → ChangesFrom (operand_word s 0) (length (fo ∷ os)) words now
-          → M (at f.world h waiting size rests now (call_by program.run (is_sibling fo) s a (found_all s 1 os) next))
+          → M (floor_for next)
+          (at f.world h waiting size rests now (call_by program.run (is_sibling fo) s a (found_all s 1 os) next))
       fetched [] now carried are changed = absurd carried
       fetched (w ∷ ws) now carried are changed =
           by_kind w ws now (subst (λ v. CarriedHere program places objects v w) function carried.0) carried.1

@@ -1,6 +1,6 @@
 -- The turns of bodies: branches, lets, groups of functions, and values that a body waits for.
 use Rattle.std.proofs.Common.{◌≡◌, inl, ℕ, zero, suc, ◌+◌, ◌<◌, ◌≤◌, List, [], ◌∷◌, ◌++◌, Some}
-use Rattle.std.proofs.Common.{true, length, refl, sym, ap, ◌∙◌, subst, arith, false, eqb-true}
+use Rattle.std.proofs.Common.{true, length, refl, sym, ap, ◌∙◌, subst, arith, false, eqb-true, le_refl}
 use Rattle.std.specs.Prelude.{slice_get, ◌==◌, ◌&&◌}
 use Rattle.low_ir.specs.Procedures.{Code, Done}
 use Rattle.low_ir.specs.Steps.{Locals}
@@ -20,7 +20,7 @@ use Rattle.rt_cast.specs.States.{Heap}
 use Rattle.lower.specs.Storage.{Filled}
 use Rattle.lower.specs.declared.numbering.Shape.{Shape}
 use Rattle.lower.specs.Numbering.{own_word, operand_word, local_word}
-use Rattle.lower.specs.Emit.{Then, ToCaller, Into, emit, found, choose}
+use Rattle.lower.specs.Emit.{Then, ToCaller, Into, emit, found, choose, group_words}
 use Rattle.lower.specs.Lowered.{low_proc}
 use Rattle.lower.specs.CoveredPrograms.{covers}
 use Rattle.lower.specs.CarriedValues.{CellsHeld, IsMember}
@@ -30,15 +30,25 @@ use Rattle.lower.proofs.RelationKept.{rest_later, callers_later, rest_same, rest
 use Rattle.lower.proofs.RelationKept.{knows_later, knows_more, SameNamed, OwnName, Between}
 use Rattle.lower.proofs.RelationKept.{free_other}
 use Rattle.lower.proofs.HeapGroups.{group_objects}
-use Rattle.lower.proofs.WordSteps.{at, Comes, here, if_true, if_false, falls_through, Calm}
+use Rattle.lower.proofs.WordCredits.{By, by_go, by_more}
+use Rattle.lower.proofs.EmitPrices.{fetch_price, computing_near, source_most, number_most, slot_most}
+use Rattle.lower.proofs.EmitPrices.{choose_body_begins, group_body_begins, group_price}
+use Rattle.low_ir.specs.declared.code.LowSource.TheVariants.{Number}
+use Rattle.low_ir.specs.Prices.{step_price, code_price, codes_price}
+use Rattle.low_ir.specs.Procedures.{Done, If}
+use Rattle.rv_isa.specs.declared.inst.Cond.TheVariants.{Ne}
+use Rattle.std.specs.Prelude.{max, ◌-◌, ◌*◌}
+use Rattle.lower.proofs.WordSteps.{at, here, Calm, Goal, left_of}
 use Rattle.lower.proofs.WordScene.{Scene}
 use Rattle.lower.proofs.WordOperands.{fetch_reads, value_carried, and_true, Changes}
 use Rattle.lower.proofs.WordGroups.{makes_group}
 use Rattle.lower.proofs.SimulationGroups.{begins_so, all_members}
 use Rattle.lower.proofs.SimulationWay.{mode_of}
-use Rattle.lower.proofs.SimulationWay.{Program, R, Follows, next_state, Way, scene_for}
+use Rattle.lower.proofs.SimulationWay.{Program, Follows, Live, Kept, next_state, Way, scene_for, turn_goal, turn_aim}
+use Rattle.lower.proofs.SimulationWay.{kept_by, kept_with, kept_here, at_start, asks_of, budget_of, dues, due_of}
+use Rattle.lower.proofs.SimulationWay.{due_most, arrives, floor_of}
 use Rattle.lower.proofs.SimulationGives.{CarriedHere, RestHere, CallersHere, levels_above}
-use Rattle.lower.proofs.SimulationOperations.{goes_wrong}
+use Rattle.lower.proofs.SimulationOperations.{goes_wrong, still_asked}
 
 module _ (program : Program) where
   -- a body goes on
@@ -53,13 +63,10 @@ module _ (program : Program) where
       size
       group depth locals words body
       → RestHere program places objects waiting s count size group depth frames next rests words
-      → Follows program f (On (Own (Inside body locals group)) frames f.store f.world)
-      (at f.world h waiting size rests words (emit program.run s body next))
+      → Live program (flat_state_at program.procs program.told (Own (Inside body locals group)) frames f.store f.world)
+      0 (at f.world h waiting size rests words (emit program.run s body next))
   running places objects h f filled cells body locals group frames waiting size rests words s count depth next fits
-      rest =
-      let f' = flat_state_at program.procs program.told (Own (Inside body locals group)) frames f.store f.world in
-      here program.setting (Way program f f') (R program f')
-      (at f.world h waiting size rests words (emit program.run s body next)) (inl (record {
+      rest = record {
         is = refl;
         related = record {
           places = places;
@@ -69,7 +76,7 @@ module _ (program : Program) where
           world = refl;
           goes = record { s = s; count = count; depth = depth; next = next; is = refl; fits = fits; rest = rest };
         };
-      }))
+      }
 
   module _ (typed : TypesStand program.l) (f : FlatState program.meaning.Cast) (places : List ℕ) (objects : List Object)
       (h : Heap) (filled : Filled program.meaning program.setting program.l program.number objects h)
@@ -86,18 +93,28 @@ module _ (program : Program) where
         (rest : RestHere program places objects waiting s count size group depth f.frames next rests words) where
       -- ---- branches
 
-      module _ (o : Operand) (a b : Body) (fits : FitsHere s count group depth locals words (Choose o a b)) where
+      module _ (o : Operand) (a b : Body) (fits : FitsHere s count group depth locals words (Choose o a b))
+          (six : s.params ≤ 6) (enough : 500 ≤ budget_of program f) where
         abbrev after : Body → FlatAfter program.meaning.Cast
         after body = On (Own (Inside body locals group)) f.frames f.store f.world
 
-        abbrev scene_of : Body → Scene
-        scene_of body =
-            scene_for program f (next_state program f (after body)) (R program (next_state program f (after body)))
-            places
+        abbrev start : LowState
+        start = at f.world h waiting size rests words (emit program.run s (Choose o a b) next)
 
-        abbrev calm_of : (body : Body) → Calm program.setting (Way program f (next_state program f (after body)))
-            (R program (next_state program f (after body))) f.world h
-        calm_of body active waiting = (inl refl, (objects, filled))
+        abbrev goal_of : Body → Goal
+        goal_of body = turn_goal program f (next_state program f (after body)) start
+
+        abbrev scene_of : Body → Scene
+        scene_of body = scene_for program f (next_state program f (after body)) h.words (goal_of body) places
+
+        as_before : (body : Body) → (scene_of body).allowed f.world h.words
+        as_before body = at_start program f (next_state program f (after body)) f.world h.words refl
+
+        abbrev calm_of : (body : Body)
+            → Calm program.setting (Way program f (next_state program f (after body)) h.words)
+            (goal_of body) f.world h
+        calm_of body active waiting =
+            (at_start program f (next_state program f (after body)) f.world h.words refl, (objects, filled))
 
         parts : (operand_bound s.captured count depth o ≡ true)
             × (body_bound program.procs s.captured count depth a ≡ true)
@@ -122,6 +139,7 @@ module _ (program : Program) where
           bound = parts.1;
           covered = cover.0;
           params = fits.params;
+          few = fits.few;
           room = let z = fits.room in omega (arith, z);
           knows =
               knows_same program.setting program.l program.run program.procs program.answer program.meaning program.laws
@@ -134,6 +152,7 @@ module _ (program : Program) where
           bound = parts.2;
           covered = cover.1;
           params = fits.params;
+          few = fits.few;
           room = let z = fits.room in omega (arith, z);
           knows =
               knows_same program.setting program.l program.run program.procs program.answer program.meaning program.laws
@@ -151,50 +170,174 @@ module _ (program : Program) where
             (CallersHere program places objects waiting) s count size group depth f.frames next rests words new
             (same_new new changed) rest
 
+        -- what a test leaves, where either branch may be taken
+        abbrev behind_test : Code → Code → Code → ℕ
+        behind_test one other k =
+            max (code_price program.setting.procs size one) (code_price program.setting.procs size other)
+            + code_price program.setting.procs size k + codes_price program.setting.procs size rests
+
+        abbrev testing : Then → Code
+        testing next =
+            choose program.run (found s (operand_word s 0) o) (emit program.run s a) (emit program.run s b) next
+
+        abbrev starting : Then → LowState
+        starting next = at f.world h waiting size rests words (emit program.run s (Choose o a b) next)
+
+        abbrev least_of : Then → ℕ
+        least_of next = floor_of program f 0 (left_of program.setting (starting next)) (starting next)
+
+        abbrev Aimed : Then → Body → ℕ → LowState → Type 0
+        Aimed next body = (turn_goal program f (next_state program f (after body)) (starting next)).holds
+
+        -- from the test on
+        abbrev Tests : Then → Body → Locals → Type 0
+        Tests next body new =
+            By program.setting (Way program f (next_state program f (after body)) h.words) (Aimed next body)
+            (floor_of program f 0 (left_of program.setting (starting next)) (starting next))
+            (left_of program.setting (at f.world h waiting size rests new (testing next)) + 0)
+            (at f.world h waiting size rests new (testing next))
+
+        test_paid : (n x y k r : ℕ) → n + (max x y + k + r) ≤ n + max x y + k + r + 0
+        test_paid n x y k r = omega arith
+
+        -- the state behind the test is within the budget
+        tested_kept : (next : Then) (body : Body) (one other k : Code) (rests' : List Code) (new : Locals) (c : Code)
+            (left : ℕ) → testing next ≡ If Ne (found s (operand_word s 0) o) (Number 0) one other k
+            → length rests' ≤ suc (length rests) → behind_test one other k ≤ 10 + left
+            → Kept program f (next_state program f (after body)) 0 (left_of program.setting (starting next))
+            (starting next) left 0
+            (at f.world h waiting size rests' new c)
+        tested_kept next body one other k rests' new c left is long le =
+            let dear = fetch_price program.setting.procs size s six (operand_word s 0)
+            (computing_near program.setting.procs size s six 0 (omega arith)) o (testing next) in
+            let source = source_most (found s (operand_word s 0) o) in
+            let same : code_price program.setting.procs size (testing next)
+            ≡ code_price program.setting.procs size (If Ne (found s (operand_word s 0) o) (Number 0) one other k) =
+            ap (λ c. code_price program.setting.procs size c) is in
+            kept_with program f (next_state program f (after body)) f.world f.world h h waiting size rests rests' words
+            new (emit program.run s (Choose o a b) next) c left 0 (choose_body_begins program.run s o a b next)
+            (omega (arith, dear, source, same, long, le, enough)) (omega arith)
+
         takes_one : (next : Then) → RestHere program places objects waiting s count size group depth f.frames next
             rests words
             → (new : Locals) → Changes (operand_word s 0) words new
-            → word_of new (found s (operand_word s 0) o) ≡ Some 1
-            → Follows program f (after a) (at f.world h waiting size rests new
-            (choose program.run (found s (operand_word s 0) o) (emit program.run s a) (emit program.run s b) next))
+            → word_of new (found s (operand_word s 0) o) ≡ Some 1 → Tests next a new
         takes_one ToCaller rest new changed is =
-            if_true program.setting (Way program f (next_state program f (after a)))
-            (R program (next_state program f (after a))) (calm_of a) 1 0 is refl refl
-            (running places objects h f filled cells a locals group f.frames waiting size
-            (emit program.run s b ToCaller ∷ rests) new s count depth ToCaller (fits_one new changed)
-            (rest_new ToCaller rest new changed))
+            let one = emit program.run s a ToCaller in
+            let k = emit program.run s b ToCaller in
+            let u = at f.world h waiting size (k ∷ rests) new one in
+            by_go program.setting (Way program f (next_state program f (after a)) h.words) (Aimed ToCaller a)
+            (least_of ToCaller)
+            (behind_test one Done k) (left_of program.setting (at f.world h waiting size rests new (testing ToCaller))
+            + 0)
+            (at f.world h waiting size rests new (testing ToCaller)) u (rw is refl)
+            (test_paid (step_price program.setting.procs size (testing ToCaller))
+            (code_price program.setting.procs size one) 10 (code_price program.setting.procs size k)
+            (codes_price program.setting.procs size rests))
+            (at_start program f (next_state program f (after a)) f.world h.words refl, (objects, filled))
+            (arrives program f (next_state program f (after a)) h.words 0
+            (left_of program.setting (starting ToCaller)) (starting ToCaller)
+            (behind_test one Done k) u (
+              0,
+              inl (running places objects h f filled cells a locals group f.frames waiting size (k ∷ rests) new s count
+                  depth ToCaller (fits_one new changed) (rest_new ToCaller rest new changed)),
+              tested_kept ToCaller a one Done k (k ∷ rests) new one (behind_test one Done k) refl
+                  (le_refl (suc (length rests))) (omega arith),
+            ))
         takes_one (Into d k) rest new changed is =
-            if_true program.setting (Way program f (next_state program f (after a)))
-            (R program (next_state program f (after a))) (calm_of a) 1 0 is refl refl
-            (running places objects h f filled cells a locals group f.frames waiting size (k ∷ rests) new s count depth
-            (Into d Done) (fits_one new changed)
-            (rest_branch program.setting program.l program.run program.procs program.answer program.meaning program.laws
-            places objects
-            (CallersHere program places objects waiting) s count size group depth f.frames d k rests new
-            (rest_new (Into d k) rest new changed)))
+            let one = emit program.run s a (Into d Done) in
+            let other = emit program.run s b (Into d Done) in
+            let u = at f.world h waiting size (k ∷ rests) new one in
+            by_go program.setting (Way program f (next_state program f (after a)) h.words) (Aimed (Into d k) a)
+            (least_of (Into d k))
+            (behind_test one other k) (left_of program.setting (at f.world h waiting size rests new
+            (testing (Into d k))) + 0)
+            (at f.world h waiting size rests new (testing (Into d k))) u (rw is refl)
+            (test_paid (step_price program.setting.procs size (testing (Into d k)))
+            (code_price program.setting.procs size one) (code_price program.setting.procs size other)
+            (code_price program.setting.procs size k) (codes_price program.setting.procs size rests))
+            (at_start program f (next_state program f (after a)) f.world h.words refl, (objects, filled))
+            (arrives program f (next_state program f (after a)) h.words 0
+            (left_of program.setting (starting (Into d k))) (starting (Into d k))
+            (behind_test one other k) u (
+              0,
+              inl (running places objects h f filled cells a locals group f.frames waiting size (k ∷ rests) new s count
+                  depth (Into d Done) (fits_one new changed)
+                  (rest_branch program.setting program.l program.run program.procs program.answer program.meaning
+                  program.laws places objects
+                  (CallersHere program places objects waiting) s count size group depth f.frames d k rests new
+                  (rest_new (Into d k) rest new changed))),
+              tested_kept (Into d k) a one other k (k ∷ rests) new one (behind_test one other k) refl
+                  (le_refl (suc (length rests))) (omega arith),
+            ))
 
         takes_other : (next : Then) → RestHere program places objects waiting s count size group depth f.frames next
             rests words
             → (new : Locals) → Changes (operand_word s 0) words new
-            → word_of new (found s (operand_word s 0) o) ≡ Some 0
-            → Follows program f (after b) (at f.world h waiting size rests new
-            (choose program.run (found s (operand_word s 0) o) (emit program.run s a) (emit program.run s b) next))
+            → word_of new (found s (operand_word s 0) o) ≡ Some 0 → Tests next b new
         takes_other ToCaller rest new changed is =
-            if_false program.setting (Way program f (next_state program f (after b)))
-            (R program (next_state program f (after b))) (calm_of b) 0 0 is refl refl
-            (falls_through program.setting (Way program f (next_state program f (after b)))
-            (R program (next_state program f (after b))) (calm_of b)
-            (running places objects h f filled cells b locals group f.frames waiting size rests new s count depth
-            ToCaller (fits_other new changed) (rest_new ToCaller rest new changed)))
+            let one = emit program.run s a ToCaller in
+            let k = emit program.run s b ToCaller in
+            let mid = at f.world h waiting size (k ∷ rests) new Done in
+            let u = at f.world h waiting size rests new k in
+            let left = max (code_price program.setting.procs size one) 10 - 10
+            + code_price program.setting.procs size k + codes_price program.setting.procs size rests in
+            let here : Way program f (next_state program f (after b)) h.words mid =
+            (at_start program f (next_state program f (after b)) f.world h.words refl, (objects, filled)) in
+            by_go program.setting (Way program f (next_state program f (after b)) h.words) (Aimed ToCaller b)
+            (least_of ToCaller)
+            (behind_test one Done k) (left_of program.setting (at f.world h waiting size rests new (testing ToCaller))
+            + 0)
+            (at f.world h waiting size rests new (testing ToCaller)) mid (rw is refl)
+            (test_paid (step_price program.setting.procs size (testing ToCaller))
+            (code_price program.setting.procs size one) 10 (code_price program.setting.procs size k)
+            (codes_price program.setting.procs size rests)) here
+            (by_go program.setting (Way program f (next_state program f (after b)) h.words) (Aimed ToCaller b)
+            (least_of ToCaller)
+            left (behind_test one Done k) mid u refl
+            (fallen (code_price program.setting.procs size one) (code_price program.setting.procs size k)
+            (codes_price program.setting.procs size rests)) here
+            (arrives program f (next_state program f (after b)) h.words 0 (left_of program.setting (starting ToCaller))
+            (starting ToCaller) left u (
+              0,
+              inl (running places objects h f filled cells b locals group f.frames waiting size rests new s count depth
+                  ToCaller (fits_other new changed) (rest_new ToCaller rest new changed)),
+              tested_kept ToCaller b one Done k rests new k left refl (omega arith)
+                  (fell (code_price program.setting.procs size one) (code_price program.setting.procs size k)
+                  (codes_price program.setting.procs size rests)),
+            )))
+          where
+            fallen : (x k r : ℕ) → 10 + (max x 10 - 10 + k + r) ≤ max x 10 + k + r
+            fallen x k r = grind arith
+
+            fell : (x k r : ℕ) → max x 10 + k + r ≤ 10 + (max x 10 - 10 + k + r)
+            fell x k r = grind arith
         takes_other (Into d k) rest new changed is =
-            if_false program.setting (Way program f (next_state program f (after b)))
-            (R program (next_state program f (after b))) (calm_of b) 0 0 is refl refl
-            (running places objects h f filled cells b locals group f.frames waiting size (k ∷ rests) new s count depth
-            (Into d Done) (fits_other new changed)
-            (rest_branch program.setting program.l program.run program.procs program.answer program.meaning program.laws
-            places objects
-            (CallersHere program places objects waiting) s count size group depth f.frames d k rests new
-            (rest_new (Into d k) rest new changed)))
+            let one = emit program.run s a (Into d Done) in
+            let other = emit program.run s b (Into d Done) in
+            let u = at f.world h waiting size (k ∷ rests) new other in
+            by_go program.setting (Way program f (next_state program f (after b)) h.words) (Aimed (Into d k) b)
+            (least_of (Into d k))
+            (behind_test one other k) (left_of program.setting (at f.world h waiting size rests new
+            (testing (Into d k))) + 0)
+            (at f.world h waiting size rests new (testing (Into d k))) u (rw is refl)
+            (test_paid (step_price program.setting.procs size (testing (Into d k)))
+            (code_price program.setting.procs size one) (code_price program.setting.procs size other)
+            (code_price program.setting.procs size k) (codes_price program.setting.procs size rests))
+            (at_start program f (next_state program f (after b)) f.world h.words refl, (objects, filled))
+            (arrives program f (next_state program f (after b)) h.words 0
+            (left_of program.setting (starting (Into d k))) (starting (Into d k))
+            (behind_test one other k) u (
+              0,
+              inl (running places objects h f filled cells b locals group f.frames waiting size (k ∷ rests) new s count
+                  depth (Into d Done) (fits_other new changed)
+                  (rest_branch program.setting program.l program.run program.procs program.answer program.meaning
+                  program.laws places objects
+                  (CallersHere program places objects waiting) s count size group depth f.frames d k rests new
+                  (rest_new (Into d k) rest new changed))),
+              tested_kept (Into d k) b one other k (k ∷ rests) new other (behind_test one other k) refl
+                  (le_refl (suc (length rests))) (omega arith),
+            ))
 
         abbrev branching : Code
         branching = emit program.run s (Choose o a b) next
@@ -204,7 +347,7 @@ module _ (program : Program) where
             (at f.world h waiting size rests words (emit program.run s (Choose o a b) next))
         branch_turns =
             by_value (value locals group o) refl
-            (value_carried (scene_of a) f.world (inl refl) h objects filled waiting size rests s count group depth
+            (value_carried (scene_of a) f.world h (as_before a) objects filled waiting size rests s count group depth
             locals o parts.0 words fits.knows)
           where
             lt : operand_word s 0 < size
@@ -216,14 +359,14 @@ module _ (program : Program) where
                 (flat_choose program.procs (mode_of program) f.store f.world v a b locals group f.frames)
                 (at f.world h waiting size rests words (emit program.run s (Choose o a b) next))
             by_value (RunBool true) is c =
-                fetch_reads (scene_of a) f.world (inl refl) h objects filled waiting size rests s count group depth
+                fetch_reads (scene_of a) f.world h (as_before a) objects filled waiting size rests s count group depth
                 locals o (operand_word s 0) parts.0 lt words fits.knows
                 (choose program.run (found s (operand_word s 0) o) (emit program.run s a) (emit program.run s b) next)
                 (λ w new carried found_is changed.
                 let one : w ≡ 1 = subst (λ v. CarriedHere program places objects v w) is carried in
                 takes_one next rest new changed (found_is ∙ ap Some one))
             by_value (RunBool false) is c =
-                fetch_reads (scene_of b) f.world (inl refl) h objects filled waiting size rests s count group depth
+                fetch_reads (scene_of b) f.world h (as_before b) objects filled waiting size rests s count group depth
                 locals o (operand_word s 0) parts.0 lt words fits.knows
                 (choose program.run (found s (operand_word s 0) o) (emit program.run s a) (emit program.run s b) next)
                 (λ w new carried found_is changed.
@@ -258,45 +401,62 @@ module _ (program : Program) where
           let cover = and_true (covers inner) (covers body) fits.covered in
           let same : slot ≡ depth = eqb-true slot depth x.0 in
           let room = fits.room in
-          running places objects h f filled cells inner locals group
-          (OwnFrame (Waiting slot body locals group) ∷ f.frames) waiting size rests words s count depth
-          (Into (local_word s slot) (emit program.run s body next)) (record {
-            bound = y.0;
-            covered = cover.0;
-            params = fits.params;
-            room = omega (arith, room);
-            knows = fits.knows;
-          }) (
-            record {
-              params = let z = fits.params in omega (arith, z, same);
-              deep = omega (arith, same);
-              word = refl;
-              same = refl;
-              bound = subst (λ n. body_bound program.procs s.captured count (suc n) body ≡ true) (sym same) y.1;
-              covered = cover.1;
-              room = subst (λ n. levels (suc n) body + 10 ≤ size) (sym same) (omega (arith, room));
-              knows =
-                  subst (λ n. Knows program.setting program.l program.run program.procs program.answer program.meaning
-                  places
-                  objects s count group n locals words) (sym same) fits.knows;
-            },
-            next,
-            rests,
+          let f' = flat_state_at program.procs program.told (Own (Inside inner locals group))
+          (OwnFrame (Waiting slot body locals group) ∷ f.frames) f.store f.world in
+          let t = at f.world h waiting size rests words (emit program.run s (LetBody slot inner body) next) in
+          here program.setting (Way program f f' h.words) (turn_goal program f f' t) t (
             0,
-            (refl, refl),
-            subst (λ n. RestHere program places objects waiting s count size group n f.frames next rests words)
-                (sym same) rest,
+            inl
+                (running places objects h f filled cells inner locals group
+                (OwnFrame (Waiting slot body locals group) ∷ f.frames) waiting size rests words s count depth
+                (Into (local_word s slot) (emit program.run s body next)) (record {
+                  bound = y.0;
+                  covered = cover.0;
+                  params = fits.params;
+                  few = fits.few;
+                  room = omega (arith, room);
+                  knows = fits.knows;
+                }) (
+                  record {
+                    params = let z = fits.params in omega (arith, z, same);
+                    few = fits.few;
+                    deep = omega (arith, same);
+                    word = refl;
+                    same = refl;
+                    bound = subst (λ n. body_bound program.procs s.captured count (suc n) body ≡ true) (sym same) y.1;
+                    covered = cover.1;
+                    room = subst (λ n. levels (suc n) body + 10 ≤ size) (sym same) (omega (arith, room));
+                    knows =
+                        subst (λ n. Knows program.setting program.l program.run program.procs program.answer
+                        program.meaning
+                        places
+                        objects s count group n locals words) (sym same) fits.knows;
+                  },
+                  next,
+                  rests,
+                  0,
+                  (refl, refl),
+                  subst (λ n. RestHere program places objects waiting s count size group n f.frames next rests words)
+                      (sym same) rest,
+                )),
+            kept_here program f f' 0 0 t (omega arith),
           )
 
       -- ---- groups of functions
 
+      group_floor : (step whole behind budget due : ℕ) → step ≤ budget
+          → whole + behind - (budget + (0 + due)) ≤ whole - step + behind
+      group_floor step whole behind budget due le = omega (arith, le)
+
       pub group_turns : (slot first many : ℕ) (captured : List Operand) (body : Body)
-          → FitsHere s count group depth locals words (LetGroup slot first many captured body)
+          → FitsHere s count group depth locals words (LetGroup slot first many captured body) → s.params ≤ 6
+          → 896 + 64 * (2 * many + length captured) ≤ budget_of program f
+          → 2 * many + length captured ≤ asks_of program f
           → Follows program f
           (On (Own (Inside body (set_group locals slot many (new_group first (values locals group captured))) group))
           f.frames f.store f.world)
           (at f.world h waiting size rests words (emit program.run s (LetGroup slot first many captured body) next))
-      group_turns slot first zero captured body fits =
+      group_turns slot first zero captured body fits six enough asked =
           let x = and_true (slot == depth) (begins_group (slice_get program.procs first) zero (length captured)
           && (operands_bound s.captured count depth captured
           && body_bound program.procs s.captured count (depth + zero) body)) fits.bound in
@@ -305,7 +465,7 @@ module _ (program : Program) where
           && body_bound program.procs s.captured count (depth + zero) body) x.1 in
           let b = begins_so program.procs program.closed first zero (length captured) y.0 in
           let some = b.some in absurd (omega (arith, some))
-      group_turns slot first (suc others) captured body fits =
+      group_turns slot first (suc others) captured body fits six enough asked =
           let x = and_true (slot == depth) (begins_group (slice_get program.procs first) (suc others) (length captured)
           && (operands_bound s.captured count depth captured
           && body_bound program.procs s.captured count (depth + suc others) body)) fits.bound in
@@ -327,7 +487,12 @@ module _ (program : Program) where
           let grp = b.member.group_is in
           let f' = next_state program f (On (Own (Inside body (set_group locals slot (suc others)
           (new_group first (values locals group captured))) group)) f.frames f.store f.world) in
-          makes_group (scene_for program f f' (R program f') places) f.world (inl refl) h objects filled waiting size
+          let code = emit program.run s (LetGroup slot first (suc others) captured body) next in
+          let start = at f.world h waiting size rests words code in
+          let k = emit program.run s body next in
+          let dear = group_price program.setting.procs size s six slot first (suc others) captured k in
+          makes_group (scene_for program f f' h.words (turn_goal program f f' start) places) f.world h
+          (at_start program f f' f.world h.words refl) objects filled waiting size
           rests s count group slot locals (omega (arith, same, params)) (omega (arith, same, room, above)) words
           (subst (λ n. Knows program.setting program.l program.run program.procs program.answer program.meaning places
           objects s
@@ -335,64 +500,117 @@ module _ (program : Program) where
           (subst (λ n. operands_bound s.captured count n captured ≡ true) (sym same) z.0)
           (omega (arith, same, room, above)) (omega (arith, narrow.0, cap)) (omega (arith, narrow.1, grp))
           (λ j lt. let m = members j lt in (low_proc program.run m.proc, program.stand (first + j) m.proc m.there))
-          program.addresses.small members
+          program.addresses.small members (inl (refl, omega (arith, asked)))
           (emit program.run s body next)
+          (group_floor (step_price program.setting.procs size code) (code_price program.setting.procs size code)
+          (codes_price program.setting.procs size rests) (budget_of program f) (dues start)
+          (let x = number_most (group_words (length captured) others) in
+          let y = slot_most (local_word s slot) in omega (arith, x, y, enough)))
           (λ cs h' now made.
           let more = group_objects program.setting.address first others cs in
-          let k = knows_later program.setting program.l program.run program.procs program.answer program.meaning
+          let kn = knows_later program.setting program.l program.run program.procs program.answer program.meaning
           program.laws places objects
           more s count group depth locals words fits.knows in
-          running places (objects ++ more) h' f made.all_filled
-          (cells_later program.l program.setting.address program.procs program.meaning program.laws places objects more
-          h'.memory places
-          f.store (cells_below program.l program.setting.address program.procs program.meaning program.laws places
-          objects program.setting
-          program.placed h filled h'.memory made.below places f.store cells)) body
-          (set_group locals slot (suc others) (new_group first (values locals group captured))) group f.frames waiting
-          size rests now s count (slot + suc others) next (record {
-            bound =
-                subst (λ n. body_bound program.procs s.captured count (n + suc others) body ≡ true) (sym same) z.1;
-            covered = fits.covered;
-            params = omega (arith, same, params);
-            room = subst (λ n. levels (n + suc others) body + 10 ≤ size) (sym same) room;
-            knows = record {
-              own = k.own;
-              own_is = made.same own_word (OwnName refl) ∙ k.own_is;
-              own_group = k.own_group;
-              local = made.local;
-            };
-          })
-          (rest_deeper program.setting program.l program.run program.procs program.answer program.meaning program.laws
-          places
-          (objects ++ more) (CallersHere program places (objects ++ more) waiting) s count size group slot
-          (slot + suc others) f.frames next rests now (omega arith)
-          (rest_same program.setting program.l program.run program.procs program.answer program.meaning program.laws
-          places (objects ++ more)
-          (CallersHere program places (objects ++ more) waiting) s count size group slot f.frames next rests words now
-          made.same
-          (rest_later program.setting program.l program.run program.procs program.answer program.meaning program.laws
-          places objects more
-          (CallersHere program places objects waiting) (CallersHere program places (objects ++ more) waiting)
-          (λ frames c. callers_later program.setting program.l program.run program.procs program.answer program.meaning
-          program.laws places
-          objects more waiting frames c) s count size group slot f.frames next rests words
-          (subst (λ n. RestHere program places objects waiting s count size group n f.frames next rests words)
-          (sym same) rest)))))
+          here program.setting (Way program f f' h.words) (turn_goal program f f' start)
+          (at f.world h' waiting size rests now k) (
+            0,
+            inl
+                (running places (objects ++ more) h' f made.all_filled
+                (cells_later program.l program.setting.address program.procs program.meaning program.laws places
+                objects more
+                h'.memory places
+                f.store (cells_below program.l program.setting.address program.procs program.meaning program.laws places
+                objects program.setting
+                program.placed h filled h'.memory made.below places f.store cells)) body
+                (set_group locals slot (suc others) (new_group first (values locals group captured))) group f.frames
+                waiting
+                size rests now s count (slot + suc others) next (record {
+                  bound =
+                      subst (λ n. body_bound program.procs s.captured count (n + suc others) body ≡ true)
+                      (sym same) z.1;
+                  covered = fits.covered;
+                  params = omega (arith, same, params);
+                  few = fits.few;
+                  room = subst (λ n. levels (n + suc others) body + 10 ≤ size) (sym same) room;
+                  knows = record {
+                    own = kn.own;
+                    own_is = made.same own_word (OwnName refl) ∙ kn.own_is;
+                    own_group = kn.own_group;
+                    local = made.local;
+                  };
+                })
+                (rest_deeper program.setting program.l program.run program.procs program.answer program.meaning
+                program.laws
+                places
+                (objects ++ more) (CallersHere program places (objects ++ more) waiting) s count size group slot
+                (slot + suc others) f.frames next rests now (omega arith)
+                (rest_same program.setting program.l program.run program.procs program.answer program.meaning
+                program.laws
+                places (objects ++ more)
+                (CallersHere program places (objects ++ more) waiting) s count size group slot f.frames next rests
+                words now
+                made.same
+                (rest_later program.setting program.l program.run program.procs program.answer program.meaning
+                program.laws
+                places objects more
+                (CallersHere program places objects waiting) (CallersHere program places (objects ++ more) waiting)
+                (λ frames c. callers_later program.setting program.l program.run program.procs program.answer
+                program.meaning
+                program.laws places
+                objects more waiting frames c) s count size group slot f.frames next rests words
+                (subst (λ n. RestHere program places objects waiting s count size group n f.frames next rests words)
+                (sym same) rest))))),
+            kept_by program f f' f.world f.world h h' waiting size rests words now code k 0
+                (group_body_begins program.run s slot first others captured body next)
+                (omega (arith, dear, enough)) (still_asked program f f' f.world h.words h'.words made.asked),
+          ))
 
     -- ---- values that a body waits for
 
-    -- the ends of branches are gone through
-    fall : (P Q : LowState → Type 0) → Calm program.setting P Q f.world h → (n : ℕ) (k : Code) (rests : List Code)
-        (k' : Code) (rests' : List Code) (words : Locals) → Falls n k rests k' rests'
-        → Comes program.setting P Q (at f.world h waiting size rests' words k')
-        → Comes program.setting P Q (at f.world h waiting size rests words k)
-    fall P Q calm zero k rests k' rests' words e c =
-        subst (λ x. Comes program.setting P Q (at f.world h waiting size rests words x)) (sym e.0)
-        (subst (λ x. Comes program.setting P Q (at f.world h waiting size x words k')) (sym e.1) c)
-    fall P Q calm (suc n) k [] k' rests' words e c = absurd e
-    fall P Q calm (suc n) k (r ∷ rests) k' rests' words e c =
-        subst (λ x. Comes program.setting P Q (at f.world h waiting size (r ∷ rests) words x)) (sym e.0)
-        (falls_through program.setting P Q calm (fall P Q calm n r rests k' rests' words e.1 c))
+    -- the ends of branches are gone through, at 10 for each
+    fall : (P : LowState → Type 0) (H : ℕ → LowState → Type 0) (floor : ℕ)
+        → ((active : Active) (waiting : List LowWaiting) → P (record {
+          active = active;
+          waiting = waiting;
+          memory = h.memory;
+          alloc = h.alloc;
+          world = f.world;
+          words = h.words;
+        })) → (n : ℕ) (k : Code) (rests : List Code)
+        (k' : Code) (rests' : List Code) (words : Locals) (credit : ℕ) → Falls n k rests k' rests'
+        → By program.setting P H floor credit (at f.world h waiting size rests' words k')
+        → By program.setting P H floor (10 * n + credit) (at f.world h waiting size rests words k)
+    fall P H floor calm zero k rests k' rests' words credit e c =
+        by_more program.setting P H floor credit (10 * 0 + credit) (at f.world h waiting size rests words k)
+        (omega arith)
+        (subst (λ x. By program.setting P H floor credit (at f.world h waiting size rests words x)) (sym e.0)
+        (subst (λ x. By program.setting P H floor credit (at f.world h waiting size x words k')) (sym e.1) c))
+    fall P H floor calm (suc n) k [] k' rests' words credit e c = absurd e
+    fall P H floor calm (suc n) k (r ∷ rests) k' rests' words credit e c =
+        subst (λ x. By program.setting P H floor (10 * suc n + credit) (at f.world h waiting size (r ∷ rests) words x))
+        (sym e.0)
+        (by_go program.setting P H floor (10 * n + credit) (10 * suc n + credit)
+        (at f.world h waiting size (r ∷ rests) words Done) (at f.world h waiting size rests words r) refl (omega arith)
+        (calm (record { count = size; locals = words; code = Done; rests = r ∷ rests }) waiting)
+        (fall P H floor calm n r rests k' rests' words credit e.1 c))
+
+    -- as many branches as ends are gone through are around no more
+    fallen_rests : (n : ℕ) (k : Code) (rests : List Code) (k' : Code) (rests' : List Code) → Falls n k rests k' rests'
+        → 10 * n + 10 * length rests' ≤ 10 * length rests
+    fallen_rests zero k rests k' rests' e = let z = ap length e.1 in omega (arith, z)
+    fallen_rests (suc n) k [] k' rests' e = absurd e
+    fallen_rests (suc n) k (r ∷ rests) k' rests' e =
+        let z = fallen_rests n r rests k' rests' e.1 in omega (arith, z)
+
+    dues_fall : (n : ℕ) (k : Code) (rests : List Code) (k' : Code) (rests' : List Code) → Falls n k rests k' rests'
+        → 10 * n + due_of k' rests' ≤ due_of k rests
+    dues_fall zero k rests k' rests' e =
+        subst (λ x. 10 * 0 + due_of x rests' ≤ due_of k rests) e.0
+        (subst (λ x. 10 * 0 + due_of k x ≤ due_of k rests) e.1 (omega arith))
+    dues_fall (suc n) k [] k' rests' e = absurd e
+    dues_fall (suc n) k (r ∷ rests) k' rests' e =
+        subst (λ x. 10 * suc n + due_of k' rests' ≤ due_of x (r ∷ rests)) (sym e.0)
+        (let z = fallen_rests n r rests k' rests' e.1 in let y = due_most k' rests' in omega (arith, z, y))
 
     abbrev waited : ℕ → Body → FlatLocals program.meaning.Cast → Group program.meaning.Cast
         → FlatValue program.meaning.Cast → List (FlatFrame program.meaning.Cast)
@@ -406,8 +624,13 @@ module _ (program : Program) where
         → Gave program.setting program.l program.run program.procs program.answer program.meaning places objects v
         (OwnFrame (Waiting slot body locals group) ∷ frames) active waiting
         → active.count ≡ size
-        → Follows program f (waited slot body locals group v frames)
-        (at f.world h waiting size active.rests active.locals active.code)
+        → (n : ℕ) × ((own whole : ℕ) (start : LowState) → start.words ≡ h.words
+        → whole + dues (at f.world h waiting size active.rests active.locals active.code)
+        ≤ 10 * n + budget_of program f + (own + dues start)
+        → By program.setting (Way program f (next_state program f (waited slot body locals group v frames)) start.words)
+        (turn_aim program f (next_state program f (waited slot body locals group v frames)) own whole start)
+        (floor_of program f own whole start) (10 * n)
+        (at f.world h waiting size active.rests active.locals active.code))
     gave_turns slot body locals group frames v active g sized =
         let r = g.rest in
         let words = active.locals in
@@ -421,6 +644,7 @@ module _ (program : Program) where
           bound = r.0.bound;
           covered = r.0.covered;
           params = let z = r.0.params in omega (arith, z);
+          few = r.0.few;
           room = let z = r.0.room in omega (arith, z, sized);
           knows =
               knows_more program.setting program.l program.run program.procs program.answer program.meaning program.laws
@@ -430,9 +654,9 @@ module _ (program : Program) where
               places
               objects s g.count x slot locals words) (sym r.0.same) r.0.knows);
         } in
-        fall (Way program f f') (R program f') (λ active waiting. (inl refl, (objects, filled))) r.3 active.code
-        active.rests (emit program.run s body r.1) r.2 words r.4
-        (running places objects h f filled cells body (set_flat locals slot v) group frames waiting size r.2 words s
+        let u = at f.world h waiting size r.2 words (emit program.run s body r.1) in
+        let live : Live program f' 0 u =
+        running places objects h f filled cells body (set_flat locals slot v) group frames waiting size r.2 words s
         g.count (suc slot) r.1 fits
         (rest_deeper program.setting program.l program.run program.procs program.answer program.meaning program.laws
         places objects
@@ -440,4 +664,27 @@ module _ (program : Program) where
         (omega arith)
         (subst (λ n. RestHere program places objects waiting s g.count n group slot frames r.1 r.2 words) sized
         (subst (λ x. RestHere program places objects waiting s g.count active.count x slot frames r.1 r.2 words)
-        (sym r.0.same) r.5))))
+        (sym r.0.same) r.5))) in (
+          r.3,
+          λ own whole start same le.
+              let here : Way program f f' start.words (at f.world h waiting size active.rests active.locals
+              active.code) =
+              (inl (refl, omega (arith, same)), (objects, filled)) in
+              subst (λ c. By program.setting (Way program f f' start.words) (turn_aim program f f' own whole start)
+              (floor_of program f own whole start) c
+              (at f.world h waiting size active.rests active.locals active.code)) (omega arith)
+              (fall (Way program f f' start.words) (turn_aim program f f' own whole start)
+              (floor_of program f own whole start)
+              (λ active waiting. (inl (refl, omega (arith, same)), (objects, filled))) r.3 active.code active.rests
+              (emit program.run s body r.1) r.2 words 0 r.4
+              (arrives program f f' start.words own whole start 0 u (
+                0,
+                inl live,
+                record {
+                  asked = omega (arith, same);
+                  paid =
+                      let z = dues_fall r.3 active.code active.rests (emit program.run s body r.1) r.2 r.4 in
+                      omega (arith, z, le);
+                },
+              ))),
+        )

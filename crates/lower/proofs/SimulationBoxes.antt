@@ -38,13 +38,22 @@ use Rattle.lower.proofs.CarriedLater.{grown, cells_grown, cells_below, carried_s
 use Rattle.lower.proofs.RelationKept.{word_here, word_other, rest_grown, callers_grown}
 use Rattle.lower.proofs.WordArithmetic.{header_is}
 use Rattle.lower.proofs.WordSteps.{at, Comes, here, comes_on, builds, loads, stores, sets_word, falls_through, Calm}
+use Rattle.lower.proofs.WordSteps.{Goal}
+use Rattle.lower.proofs.EmitPrices.{prim_price, perform_begins}
+use Rattle.lower.specs.Emit.{perform}
+use Rattle.flat_ir.specs.declared.code.Operation.TheVariants.{Prim}
+use Rattle.grift_base.specs.declared.operators.PrimOp.{PrimOp}
+use Rattle.grift_base.specs.declared.operators.PrimOp.TheVariants.{MakeBox, Unbox, BoxSet}
+use Rattle.low_ir.specs.Procedures.{Call}
 use Rattle.lower.proofs.WordScene.{Scene}
 use Rattle.lower.proofs.WordOperands.{fetch_all_reads, ChangesFrom, both_words, found_all_same}
 use Rattle.lower.proofs.WordOperations.{Touches, not_computed, is_of_kind, added_there}
 use Rattle.lower.proofs.WordGroups.{storable}
-use Rattle.lower.proofs.SimulationWay.{Program, R, Way, Follows, next_state, scene_for}
+use Rattle.lower.proofs.SimulationWay.{Program, Way, Follows, next_state, scene_for, turn_goal, kept_by, at_start}
+use Rattle.lower.proofs.SimulationWay.{asks_of, budget_of}
 use Rattle.lower.proofs.SimulationGives.{CarriedHere, RestHere, CallersHere, given, word_for, code_for}
-use Rattle.lower.proofs.SimulationOperations.{settle, room, word_less, put}
+use Rattle.lower.proofs.SimulationGives.{Fitting, due_for}
+use Rattle.lower.proofs.SimulationOperations.{settle, room, word_less, put, due_little}
 use Rattle.lower.proofs.SimulationServices.{kept_in_front}
 use Rattle.lower.proofs.SimulationApplied.{and_more_parts}
 use Rattle.lower.proofs.SimulationParts.{one_word}
@@ -64,7 +73,8 @@ module _ (program : Program) (typed : TypesStand program.l)
     (next : Then)
     (fits : Fits program.setting program.l program.run program.procs program.answer program.meaning places objects s
     count size group depth locals words (Give operation))
-    (rest : RestHere program places objects waiting s count size group depth f.frames next rests words) where
+    (rest : RestHere program places objects waiting s count size group depth f.frames next rests words)
+    (six : s.params ≤ 6) (enough : 500 ≤ budget_of program f) where
   wide : s.params + 10 ≤ size
   wide = room program typed f places objects h filled cells waiting size rests words s count depth group locals
       operation next fits rest
@@ -79,6 +89,20 @@ module _ (program : Program) (typed : TypesStand program.l)
   abbrev k : Code
   k = code_for program places objects s next
 
+  abbrev start_of : PrimOp → List Operand → LowState
+  start_of op os = at f.world h waiting size rests words (perform program.run s d (Prim op os) k)
+
+  fitting : (op : PrimOp) (os : List Operand) → length os ≤ 2
+      → Fitting program places objects f s size next (perform program.run s
+      (word_for program places objects s next) (Prim op os) (code_for program places objects s next))
+  fitting op os le =
+      let dear = prim_price program.setting.procs size s six program.run d op os (omega (arith, le)) k in
+      let little = due_little program places objects next in
+      record {
+        begins = perform_begins program.run s d (Prim op os) k;
+        paid = omega (arith, dear, little, enough, le);
+      }
+
   touched : (n : ℕ) → n ≤ 8 → (new : Locals) → ChangesFrom (operand_word s 0) n words new
       → Touches s (word_for program places objects s next) words new
   touched n few new changed j ne side = changed j (by_side side)
@@ -89,7 +113,8 @@ module _ (program : Program) (typed : TypesStand program.l)
 
   -- ---- a new box
 
-  module _ (o : Operand) (bound : (operand_bound s.captured count depth o && true) ≡ true) where
+  module _ (o : Operand) (bound : (operand_bound s.captured count depth o && true) ≡ true)
+      (asks : 2 ≤ asks_of program f) where
     abbrev v : FlatValue program.meaning.Cast
     v = value locals group o
 
@@ -101,44 +126,53 @@ module _ (program : Program) (typed : TypesStand program.l)
     box = Cell (header 5 0 1) 1
 
     abbrev scene : Scene
-    scene = scene_for program f (next_state program f made) (R program (next_state program f made)) places
+    scene = scene_for program f (next_state program f made) h.words
+        (turn_goal program f (next_state program f made) (start_of MakeBox (o ∷ []))) places
 
     pub box_made : Follows program f made (at f.world h waiting size rests words (fetch_all s 0 (o ∷ [])
         (Build (word_for program places objects s next)
         (Number (5 + 4294967296 * 1) ∷ found s (operand_word s 0) o ∷ []) (code_for program places objects s next))))
     box_made =
-        fetch_all_reads scene f.world (inl refl) h objects filled waiting size rests s count group depth locals (o ∷ [])
+        fetch_all_reads scene f.world h (at_start program f (next_state program f made) f.world h.words refl) objects
+        filled waiting size rests s count group depth locals (o ∷ [])
         0 bound (omega arith) wide words fits.knows
         (Build d (Number (5 + 4294967296 * 1) ∷ found s (operand_word s 0) o ∷ []) k)
         (λ ws new carried are changed. by_words ws new carried are changed)
       where
         P : LowState → Type 0
-        P = Way program f (next_state program f made)
+        P = Way program f (next_state program f made) h.words
 
-        Q : LowState → Type 0
-        Q = R program (next_state program f made)
+        Q : Goal
+        Q = turn_goal program f (next_state program f made) (start_of MakeBox (o ∷ []))
+
+        fit : Fitting program places objects f s size next (perform program.run s
+            (word_for program places objects s next) (Prim MakeBox (o ∷ [])) (code_for program places objects s next))
+        fit = fitting MakeBox (o ∷ []) (omega arith)
 
         by_words : (ws : List ℕ) (new : Locals)
             → AreCarried program.l program.setting.address program.procs program.meaning places objects
             (in_row (values locals group (o ∷ []))) ws → words_of new (found_all s 0 (o ∷ [])) ≡ Some ws
             → ChangesFrom (operand_word s 0) 1 words new
-            → Comes program.setting (Way program f (next_state program f made)) (R program (next_state program f made))
+            → Comes program.setting (Way program f (next_state program f made) h.words)
+            (turn_goal program f (next_state program f made) (start_of MakeBox (o ∷ [])))
             (at f.world h waiting size rests new
             (Build d (Number (5 + 4294967296 * 1) ∷ found s (operand_word s 0) o ∷ []) k))
         by_words [] new carried are changed = absurd carried
         by_words (w ∷ x ∷ ws) new carried are changed = absurd carried.1
         by_words (w ∷ []) new carried are changed =
             builds program.setting P Q
-            (λ n active waiting. (
-              inl refl,
+            (λ active waiting. (at_start program f (next_state program f made) f.world h.words refl, (objects, filled)))
+            (header 5 0 1 ∷ w ∷ [])
+            (both_words _ _ _ _ refl (both_words _ _ _ _ (one_word (word_of new (found s (operand_word s 0) o)) w are)
+            refl)) (omega arith) less
+            (λ active waiting. (
+              inl (refl, omega (arith, asks)),
               (
                 objects,
                 filled_above program.meaning program.setting program.l
-                    program.placed objects h h.memory n filled (λ i lt. refl),
+                    program.placed objects h h.memory (h.words + 2) filled (λ i lt. refl),
               ),
-            )) (header 5 0 1 ∷ w ∷ [])
-            (both_words _ _ _ _ refl (both_words _ _ _ _ (one_word (word_of new (found s (operand_word s 0) o)) w are)
-            refl)) (omega arith) less (λ room. stored room)
+            )) (let z = fit.paid in omega (arith, z)) (λ room. stored room)
           where
             m : Memory
             m = store_words (header 5 0 1 ∷ w ∷ []) h.alloc h.memory
@@ -164,8 +198,8 @@ module _ (program : Program) (typed : TypesStand program.l)
             kept = kept_in_front places (h.alloc ∷ [])
 
             stored : h.alloc + 8 * length (header 5 0 1 ∷ w ∷ []) ≤ program.setting.top
-                → Comes program.setting (Way program f (next_state program f made))
-                (R program (next_state program f made))
+                → Comes program.setting (Way program f (next_state program f made) h.words)
+                (turn_goal program f (next_state program f made) (start_of MakeBox (o ∷ [])))
                 (at f.world (record {
                   memory = store_words (header 5 0 1 ∷ w ∷ []) h.alloc h.memory;
                   alloc = h.alloc + 8 * length (header 5 0 1 ∷ w ∷ []);
@@ -218,15 +252,22 @@ module _ (program : Program) (typed : TypesStand program.l)
                 let many = as_many_cells program.l program.setting.address program.procs program.meaning places objects
                 0
                 h.memory places f.store cells in
-                here program.setting P Q (at f.world h' waiting size rests (set_local d h.alloc new) k)
-                (settle program typed (places ++ h.alloc ∷ []) (objects ++ box ∷ []) h' f.world filled'
-                (f.store ++ (value locals group o ∷ []) ∷ []) f.frames all (RunLoc (length f.store) false) waiting size
-                rests (set_local d h.alloc new) k
-                (given program (places ++ h.alloc ∷ []) (objects ++ box ∷ []) waiting s count size group depth f.frames
-                next rests words (set_local d h.alloc new) (RunLoc (length f.store) false) h.alloc rest'
-                (1, last_place places h.alloc (length f.store) many, inr stands_there, λ e. refl)
-                (word_here d h.alloc new)
-                (λ j ne side. word_other d h.alloc new j ne ∙ touched 1 (omega arith) new changed j ne side)))
+                here program.setting P Q (at f.world h' waiting size rests (set_local d h.alloc new) k) (
+                  due_for program places objects next,
+                  settle program typed (places ++ h.alloc ∷ []) (objects ++ box ∷ []) h' f.world filled'
+                      (f.store ++ (value locals group o ∷ []) ∷ []) f.frames all
+                      (RunLoc (length f.store) false) waiting size
+                      rests (set_local d h.alloc new) k (due_for program places objects next)
+                      (given program (places ++ h.alloc ∷ []) (objects ++ box ∷ []) waiting s count size group depth
+                      f.frames
+                      next rests words (set_local d h.alloc new) (RunLoc (length f.store) false) h.alloc rest'
+                      (1, last_place places h.alloc (length f.store) many, inr stands_there, λ e. refl)
+                      (word_here d h.alloc new)
+                      (λ j ne side. word_other d h.alloc new j ne ∙ touched 1 (omega arith) new changed j ne side)),
+                  kept_by program f (next_state program f made) f.world f.world h h' waiting size rests words
+                      (set_local d h.alloc new) (perform program.run s d (Prim MakeBox (o ∷ [])) k) k
+                      (due_for program places objects next) fit.begins fit.paid (omega (arith, asks)),
+                )
 
   -- the box of a cell stands in the region
   module _ (cell w n : ℕ) (values : List (FlatValue program.meaning.Cast)) (at_place : slice_get places cell ≡ Some w)
@@ -257,13 +298,18 @@ module _ (program : Program) (typed : TypesStand program.l)
 
   module _ (o : Operand) (bound : (operand_bound s.captured count depth o && true) ≡ true) (cell : ℕ)
       (is : value locals group o ≡ RunLoc cell false) (v : FlatValue program.meaning.Cast)
-      (in_store : slice_get f.store cell ≡ Some (v ∷ [])) (other : Code) where
+      (in_store : slice_get f.store cell ≡ Some (v ∷ [])) where
+    -- code for a box in a wrapper
+    abbrev pub other : Code
+    other = Call (word_for program places objects s next) program.run.read
+        (Number 0 ∷ found s (operand_word s 0) o ∷ Number 0 ∷ []) Done
+
     abbrev pub read_after : FlatAfter program.meaning.Cast
     read_after = On (Return v) f.frames f.store f.world
 
     abbrev read_scene : Scene
-    read_scene = scene_for program f (next_state program f read_after) (R program (next_state program f read_after))
-        places
+    read_scene = scene_for program f (next_state program f read_after) h.words
+        (turn_goal program f (next_state program f read_after) (start_of Unbox (o ∷ []))) places
 
     abbrev a : LowSource
     a = found s (operand_word s 0) o
@@ -273,26 +319,27 @@ module _ (program : Program) (typed : TypesStand program.l)
         (Load (word_for program places objects s next) (found s (operand_word s 0) o) 8 Done) other
         (code_for program places objects s next))))
     box_read_here =
-        fetch_all_reads read_scene f.world (inl refl) h objects filled waiting size rests s count group depth locals
+        fetch_all_reads read_scene f.world h (at_start program f (next_state program f read_after) f.world h.words
+        refl) objects filled waiting size rests s count group depth locals
         (o ∷ []) 0 bound (omega arith) wide words fits.knows (of_kind s a 5 (Load d a 8 Done) other k)
         (λ ws new carried are changed. by_words ws new carried are changed)
       where
         P : LowState → Type 0
-        P = Way program f (next_state program f read_after)
+        P = Way program f (next_state program f read_after) h.words
 
-        Q : LowState → Type 0
-        Q = R program (next_state program f read_after)
+        Q : Goal
+        Q = turn_goal program f (next_state program f read_after) (start_of Unbox (o ∷ []))
 
-        calm : Calm program.setting (Way program f (next_state program f read_after))
-            (R program (next_state program f read_after)) f.world h
-        calm active waiting = (inl refl, (objects, filled))
+        calm : Calm program.setting P Q f.world h
+        calm active waiting =
+            (at_start program f (next_state program f read_after) f.world h.words refl, (objects, filled))
 
         by_words : (ws : List ℕ) (new : Locals)
             → AreCarried program.l program.setting.address program.procs program.meaning places objects
             (in_row (values locals group (o ∷ []))) ws → words_of new (found_all s 0 (o ∷ [])) ≡ Some ws
             → ChangesFrom (operand_word s 0) 1 words new
-            → Comes program.setting (Way program f (next_state program f read_after))
-            (R program (next_state program f read_after))
+            → Comes program.setting (Way program f (next_state program f read_after) h.words)
+            (turn_goal program f (next_state program f read_after) (start_of Unbox (o ∷ [])))
             (at f.world h waiting size rests new (of_kind s a 5 (Load d a 8 Done) other k))
         by_words [] new carried are changed = absurd carried
         by_words (w ∷ x ∷ ws) new carried are changed = absurd carried.1
@@ -305,8 +352,8 @@ module _ (program : Program) (typed : TypesStand program.l)
 
             by_cell : (n : ℕ) → slice_get places cell ≡ Some w → There program.l objects w (Cell (header 5 0 n) n)
                 → (false ≡ false → n ≡ 1)
-                → Comes program.setting (Way program f (next_state program f read_after))
-                (R program (next_state program f read_after))
+                → Comes program.setting (Way program f (next_state program f read_after) h.words)
+                (turn_goal program f (next_state program f read_after) (start_of Unbox (o ∷ [])))
                 (at f.world h waiting size rests new (of_kind s a 5 (Load d a 8 Done) other k))
             by_cell n at_place there single =
                 by_held (held_cell cell w n (v ∷ []) at_place there (single refl) in_store).words
@@ -323,27 +370,32 @@ module _ (program : Program) (typed : TypesStand program.l)
                     → HoldsWords h.memory (w + 8) xs
                     → AreCarried program.l program.setting.address program.procs program.meaning places objects
                     (in_row (v ∷ [])) xs
-                    → Comes program.setting (Way program f (next_state program f read_after))
-                    (R program (next_state program f read_after))
+                    → Comes program.setting (Way program f (next_state program f read_after) h.words)
+                    (turn_goal program f (next_state program f read_after) (start_of Unbox (o ∷ [])))
                     (at f.world h waiting size rests new (of_kind s a 5 (Load d a 8 Done) other k))
                 by_held [] e held all = absurd all
                 by_held (x ∷ y ∷ xs) e held all = absurd all.1
                 by_held (x ∷ []) e held all =
                     let word = cell_word_there program.l program.setting.address program.procs program.meaning places
                     objects program.setting program.placed h filled w x [] head e held in
-                    comes_on program.setting P Q (is_of_kind read_scene f.world (inl refl) h objects filled waiting size
+                    comes_on program.setting P Q (is_of_kind read_scene f.world h
+                    (at_start program f (next_state program f read_after) f.world h.words refl) objects filled
+                    waiting size
                     rests s count group depth locals wide words fits.knows a w 5 n (Load d a 8 Done) other k new
                     (omega arith) (one_word (word_of new a) w are)
                     (kind_there cell w n (v ∷ []) at_place there (single refl) in_store)
                     (λ last more.
                     let still = one_word (word_of last a) w
-                    (found_all_same read_scene f.world (inl refl) h objects filled waiting size rests s count group
+                    (found_all_same read_scene f.world h (at_start program f
+                    (next_state program f read_after) f.world h.words refl) objects filled waiting size rests s
+                    count group
                     depth
                     locals (o ∷ []) 0 bound (omega arith) new last more ∙ are) in
                     loads program.setting P Q calm w x still word.may word.is (let z = word.end in omega arith) less
                     (falls_through program.setting P Q calm
                     (put program typed f places objects h filled cells waiting size rests words s count depth group
-                    locals operation next fits rest v x (set_local d x last) all.0 (word_here d x last)
+                    locals operation next fits rest (perform program.run s d (Prim Unbox (o ∷ [])) k)
+                    (fitting Unbox (o ∷ []) (omega arith)) v x (set_local d x last) all.0 (word_here d x last)
                     (λ j ne side. word_other d x last j ne
                     ∙ (more j (not_computed s (test_word s) j (omega arith) (omega arith) side)
                     ∙ touched 1 (omega arith) new changed j ne side))))))
@@ -352,7 +404,12 @@ module _ (program : Program) (typed : TypesStand program.l)
 
   module _ (b o : Operand) (bound : operands_bound s.captured count depth (b ∷ o ∷ []) ≡ true) (cell : ℕ)
       (is : value locals group b ≡ RunLoc cell false) (old : List (FlatValue program.meaning.Cast))
-      (in_store : slice_get f.store cell ≡ Some old) (other : Code) where
+      (in_store : slice_get f.store cell ≡ Some old) where
+    -- code for a box in a wrapper
+    abbrev pub other' : Code
+    other' = Call (word_for program places objects s next) program.run.write
+        (Number 0 ∷ found s (operand_word s 0) b ∷ Number 0 ∷ found s (operand_word s 1) o ∷ []) Done
+
     abbrev v' : FlatValue program.meaning.Cast
     v' = value locals group o
 
@@ -362,7 +419,12 @@ module _ (program : Program) (typed : TypesStand program.l)
 
     abbrev write_scene : Scene
     write_scene =
-        scene_for program f (next_state program f written_after) (R program (next_state program f written_after)) places
+        scene_for program f (next_state program f written_after) h.words
+        (turn_goal program f (next_state program f written_after) (start_of BoxSet (b ∷ o ∷ []))) places
+
+    as_written : Rattle.lower.proofs.SimulationWay.Allowed program f (next_state program f written_after) h.words
+        f.world h.words
+    as_written = at_start program f (next_state program f written_after) f.world h.words refl
 
     abbrev to : LowSource
     to = found s (operand_word s 0) b
@@ -374,30 +436,30 @@ module _ (program : Program) (typed : TypesStand program.l)
         (fetch_all s 0 (b ∷ o ∷ [])
         (of_kind s (found s (operand_word s 0) b) 5
         (Store (found s (operand_word s 1) o) (found s (operand_word s 0) b) 8
-        (Set (word_for program places objects s next) (Number 0) Done)) other
+        (Set (word_for program places objects s next) (Number 0) Done)) other'
         (code_for program places objects s next))))
     box_written_here =
-        fetch_all_reads write_scene f.world (inl refl) h objects filled waiting size rests s count group depth locals
+        fetch_all_reads write_scene f.world h as_written objects filled waiting size rests s count group depth locals
         (b ∷ o ∷ []) 0 bound (omega arith) wide words fits.knows
-        (of_kind s to 5 (Store from to 8 (Set d (Number 0) Done)) other k)
+        (of_kind s to 5 (Store from to 8 (Set d (Number 0) Done)) other' k)
         (λ ws new carried are changed. by_words ws new carried are changed)
       where
         P : LowState → Type 0
-        P = Way program f (next_state program f written_after)
+        P = Way program f (next_state program f written_after) h.words
 
-        Q : LowState → Type 0
-        Q = R program (next_state program f written_after)
+        Q : Goal
+        Q = turn_goal program f (next_state program f written_after) (start_of BoxSet (b ∷ o ∷ []))
 
         At : Locals → LowState
-        At new = at f.world h waiting size rests new (of_kind s to 5 (Store from to 8 (Set d (Number 0) Done)) other k)
+        At new = at f.world h waiting size rests new (of_kind s to 5 (Store from to 8 (Set d (Number 0) Done)) other' k)
 
         by_words : (ws : List ℕ) (new : Locals)
             → AreCarried program.l program.setting.address program.procs program.meaning places objects
             (in_row (values locals group (b ∷ o ∷ []))) ws → words_of new (found_all s 0 (b ∷ o ∷ [])) ≡ Some ws
             → ChangesFrom (operand_word s 0) 2 words new
-            → Comes program.setting (Way program f (next_state program f written_after))
-            (R program (next_state program f written_after))
-            (at f.world h waiting size rests new (of_kind s to 5 (Store from to 8 (Set d (Number 0) Done)) other k))
+            → Comes program.setting (Way program f (next_state program f written_after) h.words)
+            (turn_goal program f (next_state program f written_after) (start_of BoxSet (b ∷ o ∷ [])))
+            (at f.world h waiting size rests new (of_kind s to 5 (Store from to 8 (Set d (Number 0) Done)) other' k))
         by_words [] new carried are changed = absurd carried
         by_words (w ∷ []) new carried are changed = absurd carried.1
         by_words (w ∷ y ∷ z ∷ ws) new carried are changed = absurd carried.1.1
@@ -413,32 +475,42 @@ module _ (program : Program) (typed : TypesStand program.l)
 
             by_cell : (n : ℕ) → slice_get places cell ≡ Some w → There program.l objects w (Cell (header 5 0 n) n)
                 → (false ≡ false → n ≡ 1)
-                → Comes program.setting (Way program f (next_state program f written_after))
-                (R program (next_state program f written_after))
-                (at f.world h waiting size rests new (of_kind s to 5 (Store from to 8 (Set d (Number 0) Done)) other k))
+                → Comes program.setting (Way program f (next_state program f written_after) h.words)
+                (turn_goal program f (next_state program f written_after) (start_of BoxSet (b ∷ o ∷ [])))
+                (at f.world h waiting size rests new (of_kind s to 5 (Store from to 8 (Set d (Number 0) Done)) other'
+                k))
             by_cell n at_place there single =
-                comes_on program.setting P Q (is_of_kind write_scene f.world (inl refl) h objects filled waiting size
+                comes_on program.setting P Q (is_of_kind write_scene f.world h as_written objects filled waiting size
                 rests s count group depth locals wide words fits.knows to w 5 n
                 (Store from to 8 (Set d (Number 0) Done))
-                other k new (omega arith) (and_more_parts (word_of new to) (words_of new (from ∷ [])) w (y ∷ []) are).0
+                other' k new (omega arith) (and_more_parts (word_of new to) (words_of new (from ∷ [])) w (y ∷ []) are).0
                 (kind_there cell w n old at_place there (single refl) in_store)
                 (λ last more.
-                let still = found_all_same write_scene f.world (inl refl) h objects filled waiting size rests s count
+                let still = found_all_same write_scene f.world h as_written objects filled waiting size rests s count
                 group depth locals (b ∷ o ∷ []) 0 bound (omega arith) new last more ∙ are in
                 let both = and_more_parts (word_of last to) (words_of last (from ∷ [])) w (y ∷ []) still in
-                stores program.setting P Q (λ active waiting. (inl refl, (objects, filled))) w y
+                stores program.setting P Q
+                (λ active waiting. (
+                  at_start program f (next_state program f written_after) f.world h.words refl,
+                  (objects, filled),
+                )) w y
                 (one_word (word_of last from) y both.1) both.0 may (omega (arith, s1.high, filled.fits, top))
                 (sets_word program.setting P Q calm2 0 refl less
                 (falls_through program.setting P Q calm2
-                (here program.setting P Q (at f.world h2 waiting size rests (set_local d 0 last) k)
-                (settle program typed places objects h2 f.world filled2
-                (slice_set f.store cell (value locals group o ∷ [])) f.frames cells2 RunUnit waiting size rests
-                (set_local d 0 last) k
-                (given program places objects waiting s count size group depth f.frames next rests words
-                (set_local d 0 last) RunUnit 0 rest refl (word_here d 0 last)
-                (λ j ne side. word_other d 0 last j ne
-                ∙ (more j (not_computed s (test_word s) j (omega arith) (omega arith) side)
-                ∙ touched 2 (omega arith) new changed j ne side)))))))))
+                (here program.setting P Q (at f.world h2 waiting size rests (set_local d 0 last) k) (
+                  due_for program places objects next,
+                  settle program typed places objects h2 f.world filled2
+                      (slice_set f.store cell (value locals group o ∷ [])) f.frames cells2 RunUnit waiting size rests
+                      (set_local d 0 last) k (due_for program places objects next)
+                      (given program places objects waiting s count size group depth f.frames next rests words
+                      (set_local d 0 last) RunUnit 0 rest refl (word_here d 0 last)
+                      (λ j ne side. word_other d 0 last j ne
+                      ∙ (more j (not_computed s (test_word s) j (omega arith) (omega arith) side)
+                      ∙ touched 2 (omega arith) new changed j ne side))),
+                  kept_by program f (next_state program f written_after) f.world f.world h h2 waiting size rests words
+                      (set_local d 0 last) (perform program.run s d (Prim BoxSet (b ∷ o ∷ [])) k) k
+                      (due_for program places objects next) fit.begins fit.paid (omega arith),
+                ))))))
               where
                 top : program.setting.top < 2 ^ 64
                 top = program.placed.top
@@ -481,10 +553,15 @@ module _ (program : Program) (typed : TypesStand program.l)
                   keeps = filled.keeps;
                 }
 
-                calm2 : Calm program.setting (Way program f (next_state program f written_after))
-                    (R program (next_state program f written_after)) f.world
+                calm2 : Calm program.setting P Q f.world
                     (record h { memory = store_bytes 8 h.memory (w + 8) y })
-                calm2 active waiting = (inl refl, (objects, filled2))
+                calm2 active waiting =
+                    (at_start program f (next_state program f written_after) f.world h.words refl, (objects, filled2))
+
+                fit : Fitting program places objects f s size next (perform program.run s
+                    (word_for program places objects s next) (Prim BoxSet (b ∷ o ∷ []))
+                    (code_for program places objects s next))
+                fit = fitting BoxSet (b ∷ o ∷ []) (omega arith)
 
                 cells2 : CellsHeld program.l program.setting.address program.procs program.meaning places objects
                     (store_bytes 8 h.memory (w + 8) y) places (slice_set f.store cell (value locals group o ∷ []))

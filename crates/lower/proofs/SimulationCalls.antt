@@ -37,14 +37,16 @@ use Rattle.lower.proofs.CarriedLater.{as_many, carried_at, function_there}
 use Rattle.lower.proofs.RelationKept.{rest_same, rest_branch, word_here, word_other, local_low, SameNamed}
 use Rattle.lower.proofs.RelationKept.{Named, OwnName, LowName, HighName}
 use Rattle.lower.proofs.WordSteps.{at, Comes, Moves, here, moves_later, loads, loads_first, tail_calls_at, calls_at}
-use Rattle.lower.proofs.WordSteps.{waiting_for}
-use Rattle.lower.proofs.WordSteps.{Calm}
+use Rattle.lower.proofs.WordSteps.{waiting_for, first_to, left_of, Calm, Goal}
 use Rattle.lower.proofs.WordScene.{Scene}
 use Rattle.lower.proofs.WordOperands.{fetch_all_reads, and_true, Changes, ChangesFrom, found_all_same}
 use Rattle.lower.proofs.WordOperands.{same_besides}
 use Rattle.lower.proofs.WordOperations.{is_of_kind}
 use Rattle.lower.proofs.SimulationGroups.{proc_is_closed, covered_at}
-use Rattle.lower.proofs.SimulationWay.{Program, R, Follows, next_state, Way, scene_for}
+use Rattle.lower.proofs.SimulationWay.{Program, next_state, Way, Allowed, scene_for, turn_goal, at_start, budget_of}
+use Rattle.lower.proofs.SimulationWay.{dues, due_most, due_is, waiting_dues}
+use Rattle.lower.proofs.EmitPrices.{call_price_all, call_body_begins, then_price}
+use Rattle.low_ir.specs.Prices.{code_price, codes_price}
 use Rattle.lower.proofs.SimulationGives.{CarriedHere, RestHere, CallersHere, levels_above}
 
 -- ---- the words that a procedure takes
@@ -148,6 +150,7 @@ module _ (program : Program) where
               bound = c.bound;
               covered = covered_at program.procs program.procs k p program.covered there;
               params = le_refl p.params;
+              few = c.params;
               room = le_refl (levels p.params p.body + 10);
               knows = record {
                 own = own;
@@ -185,7 +188,7 @@ module _ (program : Program) where
           (fo : Operand) (os : List Operand)
           (fits : Fits program.setting program.l program.run program.procs program.answer program.meaning places objects
           s count
-          size group depth locals words (Call fo os)) where
+          size group depth locals words (Call fo os)) (six : s.params ≤ 6) (enough : 800 ≤ budget_of program f) where
         parts : (operand_bound s.captured count depth fo ≡ true)
             × (operands_bound s.captured count depth os ≡ true) × (nat_le (length os) 6 ≡ true)
         parts =
@@ -215,14 +218,32 @@ module _ (program : Program) where
           abbrev f' : FlatState program.meaning.Cast
           f' = next_state program f after
 
+          abbrev start : LowState
+          start = at f.world h waiting size rests words (emit program.run s (Call fo os) next)
+
+          abbrev P : LowState → Type 0
+          P = Way program f f' h.words
+
+          abbrev Q : Goal
+          Q = turn_goal program f f' start
+
+          as_before : Allowed program f f' h.words f.world h.words
+          as_before = at_start program f f' f.world h.words refl
+
           abbrev scene : Scene
-          scene = scene_for program f f' (R program f') places
+          scene = scene_for program f f' h.words Q places
 
           abbrev Going : LowState → Type 0
-          Going t = Moves program.setting (Way program f f') (R program f') t
+          Going t = Moves program.setting P Q t
 
-          calm : Calm program.setting (Way program f f') (R program f') f.world h
-          calm active waiting = (inl refl, (objects, filled))
+          -- the whole call costs no more in its own procedure
+          abbrev Cheap : Then → Type 0
+          Cheap next' =
+              code_price program.setting.procs size (emit program.run s (Call fo os) next)
+              ≤ 556 + then_price program.setting.procs size s six next'
+
+          calm : Calm program.setting P Q f.world h
+          calm active waiting = (as_before, (objects, filled))
 
           -- what stands at the address of the function
           module _ (w : ℕ) (ws : List ℕ) (now : Locals)
@@ -284,24 +305,36 @@ module _ (program : Program) where
                 all_true : (n m k : ℕ) → n ≡ m → m ≤ 8 → m ≤ k → ((n == m) && (nat_le m 8 && nat_le m k)) ≡ true
                 all_true n m k e x y = grind (arith, e, x, y)
 
+            due_begun : 10 * length rests + waiting_dues waiting ≤ dues start
+            due_begun =
+                let z = due_is (emit program.run s (Call fo os) next) rests
+                (call_body_begins program.run s fo os next) in
+                omega (arith, z)
+
             -- the procedure was entered
-            inside : (waiting' : List LowWaiting) → CallersHere program places objects waiting' f.frames
-                → Follows program f after (at f.world h waiting' low.words [] (bind 0 (w ∷ ws) no_locals) low.code)
-            inside waiting' callers =
-                here program.setting (Way program f f') (R program f')
-                (at f.world h waiting' low.words [] (bind 0 (w ∷ ws) no_locals) low.code) (inl (record {
-                  is = refl;
-                  related = record {
-                    places = places;
-                    objects = objects;
-                    filled = filled;
-                    cells = cells;
-                    world = refl;
-                    goes =
-                        entered p (record { first = first; captured = captured }) (values locals group os) w ws waiting'
-                        f.frames (first + place) there own carried long callers;
-                  };
-                }))
+            inside : (waiting' : List LowWaiting) (left : ℕ) → CallersHere program places objects waiting' f.frames
+                → left_of program.setting start + waiting_dues waiting' ≤ left + budget_of program f + dues start
+                → Q.holds left (at f.world h waiting' low.words [] (bind 0 (w ∷ ws) no_locals) low.code)
+            inside waiting' left callers le = (
+              0,
+              inl (record {
+                is = refl;
+                related = record {
+                  places = places;
+                  objects = objects;
+                  filled = filled;
+                  cells = cells;
+                  world = refl;
+                  goes =
+                      entered p (record { first = first; captured = captured }) (values locals group os) w ws waiting'
+                      f.frames (first + place) there own carried long callers;
+                };
+              }),
+              record {
+                asked = omega arith;
+                paid = let z = due_most low.code [] in omega (arith, le, z);
+              },
+            )
 
             first_word : (x : Option ℕ) (xs : Option (List ℕ)) → and_more x xs ≡ Some (w ∷ ws) → x ≡ Some w
             first_word None xs e = none_some e
@@ -317,7 +350,7 @@ module _ (program : Program) where
             still : (last : Locals) → Changes (test_word s) now last
                 → words_of last (found s (operand_word s 0) fo ∷ found_all s 1 os) ≡ Some (w ∷ ws)
             still last changed =
-                found_all_same scene f.world (inl refl) h objects filled waiting size rests s count group depth locals
+                found_all_same scene f.world h as_before objects filled waiting size rests s count group depth locals
                 (fo ∷ os) 0 both_bound (omega (arith, few)) now last changed
                 ∙ are
 
@@ -351,29 +384,30 @@ module _ (program : Program) where
 
             kind_tested : (one other k : Code)
                 → ((last : Locals) → Changes (test_word s) now last
-                → Follows program f after (at f.world h waiting size (k ∷ rests) last one))
+                → Comes program.setting P Q (at f.world h waiting size (k ∷ rests) last one))
                 → Going (at f.world h waiting size rests now
                 (of_kind s (found s (operand_word s 0) fo) 1 one other k))
             kind_tested one other k go =
-                is_of_kind scene f.world (inl refl) h objects filled waiting size rests s count group depth locals room
+                is_of_kind scene f.world h as_before objects filled waiting size rests s count group depth locals room
                 words fits.knows (found s (operand_word s 0) fo) w 1 (suc (length stands.0)) one other k now
                 (omega arith)
                 (found_is now (λ j ne. refl)) head_there go
 
             code_loaded : (rests' : List Code) (last : Locals) → Changes (test_word s) now last → (k : Code)
-                → Follows program f after
+                → Comes program.setting P Q
                 (at f.world h waiting size rests' (set_local (test_word s) code_address last) k)
-                → Follows program f after
+                → Comes program.setting P Q
                 (at f.world h waiting size rests' last (Load (test_word s) (found s (operand_word s 0) fo) 8 k))
             code_loaded rests' last changed k c =
-                loads program.setting (Way program f f') (R program f') calm w code_address (found_is last changed)
+                loads program.setting P Q calm w code_address (found_is last changed)
                 code_there.may code_there.is (let z = code_there.end in omega arith) (omega (arith, room)) c
 
             first_loaded : (k : Code)
-                → Follows program f after (at f.world h waiting size rests (set_local (test_word s) code_address now) k)
+                → Comes program.setting P Q (at f.world h waiting size rests
+                (set_local (test_word s) code_address now) k)
                 → Going (at f.world h waiting size rests now (Load (test_word s) (found s (operand_word s 0) fo) 8 k))
             first_loaded k c =
-                loads_first program.setting (Way program f f') (R program f') calm w code_address
+                loads_first program.setting P Q calm w code_address
                 (found_is now (λ j ne. refl)) code_there.may code_there.is (let z = code_there.end in omega arith)
                 (omega (arith, room)) c
 
@@ -383,24 +417,27 @@ module _ (program : Program) where
             test_apart j (HighName p q) = λ z. omega (arith, z, p)
 
             -- what is no proxy is not asked for its kind
-            goes_bare : (next : Then)
-                → RestHere program places objects waiting s count size group depth f.frames next rests words
+            goes_bare : (next' : Then) → Cheap next'
+                → RestHere program places objects waiting s count size group depth f.frames next' rests
+                words
                 → Going (at f.world h waiting size rests now
-                (call_bare s (found s (operand_word s 0) fo) (found_all s 1 os) next))
-            goes_bare ToCaller r =
+                (call_bare s (found s (operand_word s 0) fo) (found_all s 1 os) next'))
+            goes_bare ToCaller dear r =
                 first_loaded (TailCallAt (Word (test_word s)) (found s (operand_word s 0) fo ∷ found_all s 1 os))
-                (tail_calls_at program.setting (Way program f f') (R program f') calm code_address (w ∷ ws) low
+                (tail_calls_at program.setting P Q calm code_address (w ∷ ws) low
                 (word_here (test_word s) code_address now)
                 (still (set_local (test_word s) code_address now) (again now (λ j ne. refl))) at_code takes
-                (inside waiting r))
-            goes_bare (Into d k) r =
+                (inside waiting (codes_price program.setting.procs size rests) r
+                (omega (arith, dear, enough, due_begun))))
+            goes_bare (Into d k) dear r =
                 let words' = set_local (test_word s) code_address now in
                 let changed = again now (λ j ne. refl) in
                 let named : SameNamed s depth words words' = λ j n. changed j (test_apart j n) ∙ same j n in
                 first_loaded (CallAt d (Word (test_word s)) (found s (operand_word s 0) fo ∷ found_all s 1 os) k)
-                (calls_at program.setting (Way program f f') (R program f') calm code_address (w ∷ ws) low
+                (calls_at program.setting P Q calm code_address (w ∷ ws) low
                 (word_here (test_word s) code_address now) (still words' changed) at_code takes
-                (inside (waiting_for d size rests words' k ∷ waiting) (inr (inl (
+                (inside (waiting_for d size rests words' k ∷ waiting)
+                (code_price program.setting.procs size k + codes_price program.setting.procs size rests) (inr (inl (
                   s,
                   count,
                   group,
@@ -408,23 +445,26 @@ module _ (program : Program) where
                   rest_same program.setting program.l program.run program.procs program.answer program.meaning
                       program.laws places objects (CallersHere program places objects waiting) s count size group depth
                       f.frames (Into d k) rests words words' named r,
-                )))))
+                ))) (let z = due_most k rests in omega (arith, dear, enough, due_begun, z))))
 
-            goes_on : (next : Then)
-                → RestHere program places objects waiting s count size group depth f.frames next rests words
+            goes_on : (next' : Then) → Cheap next'
+                → RestHere program places objects waiting s count size group depth f.frames next' rests
+                words
                 → Going (at f.world h waiting size rests now
-                (call program.run s (found s (operand_word s 0) fo) (found_all s 1 os) next))
-            goes_on ToCaller r =
+                (call program.run s (found s (operand_word s 0) fo) (found_all s 1 os) next'))
+            goes_on ToCaller dear r =
                 kind_tested (Load (test_word s) (found s (operand_word s 0) fo) 8
                 (TailCallAt (Word (test_word s)) (found s (operand_word s 0) fo ∷ found_all s 1 os))) Done
                 (TailCall program.run.apply (apply_words (found s (operand_word s 0) fo) (found_all s 1 os)))
                 (λ last changed. code_loaded _ last changed
                 (TailCallAt (Word (test_word s)) (found s (operand_word s 0) fo ∷ found_all s 1 os))
-                (tail_calls_at program.setting (Way program f f') (R program f') calm code_address (w ∷ ws) low
+                (tail_calls_at program.setting P Q calm code_address (w ∷ ws) low
                 (word_here (test_word s) code_address last)
                 (still (set_local (test_word s) code_address last) (again last changed)) at_code takes
-                (inside waiting r)))
-            goes_on (Into d k) r =
+                (inside waiting (codes_price program.setting.procs size
+                (TailCall program.run.apply (apply_words (found s (operand_word s 0) fo) (found_all s 1 os)) ∷ rests)) r
+                (omega (arith, dear, enough, due_begun)))))
+            goes_on (Into d k) dear r =
                 kind_tested (Load (test_word s) (found s (operand_word s 0) fo) 8
                 (CallAt d (Word (test_word s)) (found s (operand_word s 0) fo ∷ found_all s 1 os) Done))
                 (CallOf d program.run.apply (apply_words (found s (operand_word s 0) fo) (found_all s 1 os)) Done) k
@@ -434,9 +474,11 @@ module _ (program : Program) where
                 λ j n. again last changed j (test_apart j n) ∙ same j n in
                 code_loaded (k ∷ rests) last changed
                 (CallAt d (Word (test_word s)) (found s (operand_word s 0) fo ∷ found_all s 1 os) Done)
-                (calls_at program.setting (Way program f f') (R program f') calm code_address (w ∷ ws) low
+                (calls_at program.setting P Q calm code_address (w ∷ ws) low
                 (word_here (test_word s) code_address last) (still words' (again last changed)) at_code takes
-                (inside (waiting_for d size (k ∷ rests) words' Done ∷ waiting) (inr (inl (
+                (inside (waiting_for d size (k ∷ rests) words' Done ∷ waiting)
+                (code_price program.setting.procs size Done + codes_price program.setting.procs size (k ∷ rests))
+                (inr (inl (
                   s,
                   count,
                   group,
@@ -449,23 +491,25 @@ module _ (program : Program) where
                       objects
                       (CallersHere program places objects waiting) s count size group depth f.frames (Into d k) rests
                       words words' named r),
-                ))))))
+                ))) (omega (arith, dear, enough, due_begun)))))
 
-            goes_by : (bare : Bool) (next : Then)
-                → RestHere program places objects waiting s count size group depth f.frames next rests words
+            goes_by : (bare : Bool) (next' : Then) → Cheap next'
+                → RestHere program places objects waiting s count size group depth f.frames next' rests
+                words
                 → Going (at f.world h waiting size rests now
-                (call_by program.run bare s (found s (operand_word s 0) fo) (found_all s 1 os) next))
-            goes_by true next r = goes_bare next r
-            goes_by false next r = goes_on next r
+                (call_by program.run bare s (found s (operand_word s 0) fo) (found_all s 1 os) next'))
+            goes_by true next' dear r = goes_bare next' dear r
+            goes_by false next' dear r = goes_on next' dear r
 
           pub call_goes : Going (at f.world h waiting size rests words (emit program.run s (Call fo os) next))
           call_goes =
-              let m = fetch_all_reads (scene_for program f f' Going places) f.world (inl refl) h objects filled waiting
+              let m = fetch_all_reads (scene_for program f f' h.words (first_to program.setting P Q) places) f.world h
+              as_before objects filled waiting
               size rests s count group depth locals (fo ∷ os) 0 bound_all (omega (arith, few)) room words fits.knows
               (call_by program.run (is_sibling fo) s (found s (operand_word s 0) fo) (found_all s 1 os) next)
               (λ all now carried are changed. fetched all now carried are changed) in
-              moves_later program.setting (Way program f f') (R program f') m.steps
-              (at f.world h waiting size rests words (emit program.run s (Call fo os) next)) m.reach
+              moves_later program.setting P Q
+              (at f.world h waiting size rests words (emit program.run s (Call fo os) next)) m
             where
               bound_all : (operand_bound s.captured count depth fo && operands_bound s.captured count depth os) ≡ true
               bound_all = let x = parts.0 in let y = parts.1 in rw (x, y) refl
@@ -475,13 +519,20 @@ module _ (program : Program) where
                   (in_row (values locals group (fo ∷ os))) all
                   → words_of now (found_all s 0 (fo ∷ os)) ≡ Some all
                   → ChangesFrom (operand_word s 0) (length (fo ∷ os)) words now
-                  → Comes program.setting (Way program f f') Going (at f.world h waiting size rests now
+                  → Comes program.setting P (first_to program.setting P Q) (at f.world h waiting size rests now
                   (call_by program.run (is_sibling fo) s (found s (operand_word s 0) fo) (found_all s 1 os) next))
               fetched [] now carried are changed = absurd carried
               fetched (w ∷ ws) now carried are changed =
-                  here program.setting (Way program f f') Going (at f.world h waiting size rests now
-                  (call_by program.run (is_sibling fo) s (found s (operand_word s 0) fo) (found_all s 1 os) next))
-                  (goes_by w ws now
+                  let u = at f.world h waiting size rests now
+                  (call_by program.run (is_sibling fo) s (found s (operand_word s 0) fo) (found_all s 1 os) next) in
+                  let m : Going u =
+                  goes_by w ws now
                   (subst (λ v. CarriedHere program places objects v w) function carried.0) carried.1
                   (same_besides s depth (operand_word s 0) (length (fo ∷ os)) words now (omega arith)
-                  (omega (arith, few)) changed) are (is_sibling fo) next rest)
+                  (omega (arith, few)) changed) are (is_sibling fo) next
+                  (call_price_all program.setting.procs size s six program.run fo os few next) rest in
+                  here program.setting P (first_to program.setting P Q) u (
+                    m,
+                    le_refl (left_of program.setting u),
+                    let x = m.comes.within in let y = m.comes.least in omega (arith, x, y),
+                  )

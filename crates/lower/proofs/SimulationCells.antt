@@ -27,16 +27,21 @@ use Rattle.lower.specs.Emit.{Then, found_all, fetch_all, source_at, of_kind}
 use Rattle.lower.specs.CarriedValues.{AreCarried, CellsHeld}
 use Rattle.lower.specs.RelatedStates.{Fits, Falls}
 use Rattle.lower.specs.SimulationServices.{StandsAs}
-use Rattle.lower.specs.SchemeLaws.{Goes, Returns, OperatorDone, IsHandedOn, at_or_zero}
-use Rattle.lower.proofs.WordSteps.{at, Moves, comes_on}
+use Rattle.lower.specs.SchemeLaws.{After, Goes, Returns, OperatorDone, IsHandedOn, at_or_zero, operator_leaves}
+use Rattle.lower.proofs.WordSteps.{at}
+use Rattle.low_ir.specs.Prices.{code_price, codes_price}
+use Rattle.std.proofs.Common.{◌*◌}
+use Rattle.flat_ir.specs.FlatTally.{operator_cost}
+use Rattle.lower.proofs.EmitPrices.{prim_price, perform_begins}
+use Rattle.lower.specs.Emit.{perform}
 use Rattle.lower.proofs.WordOperands.{value_carried, ChangesFrom, Changes, and_true, both_words, found_all_same}
 use Rattle.lower.proofs.WordOperations.{Touches, not_computed}
-use Rattle.lower.proofs.SimulationWay.{Program, mode_of, next_state}
+use Rattle.lower.proofs.SimulationWay.{Program, mode_of, prices_of, next_state, cost_of, waiting_dues, due_same}
 use Rattle.lower.proofs.SimulationGives.{RestHere, word_for, code_for}
 use Rattle.lower.proofs.SimulationOperations.{room, word_less}
-use Rattle.lower.proofs.SimulationServed.{OnServed, silent_after}
-use Rattle.lower.proofs.SimulationServices.{Landed, Served, called, caller}
-use Rattle.lower.proofs.SimulationCasts.{serving_scene}
+use Rattle.lower.proofs.SimulationServed.{silent_after}
+use Rattle.lower.proofs.SimulationServices.{Calling, Served, called, caller, is_served, lower_floor, calls_now}
+use Rattle.lower.proofs.SimulationCasts.{serving_scene, as_it_was}
 use Rattle.lower.proofs.SimulationServing.{after_fetching, not_of_kind, wrapped_there}
 use Rattle.lower.specs.Meanings.{IsWrapper}
 use Rattle.lower.proofs.SimulationApplied.{source_word}
@@ -50,7 +55,8 @@ module _ (program : Program) (typed : TypesStand program.l)
     (os : List Operand) (next : Then)
     (fits : Fits program.setting program.l program.run program.procs program.answer program.meaning places objects s
     count size group depth locals words (Give (Prim operator os)))
-    (rest : RestHere program places objects waiting s count size group depth f.frames next rests words) where
+    (rest : RestHere program places objects waiting s count size group depth f.frames next rests words)
+    (six : s.params ≤ 6) where
   wide : s.params + 10 ≤ size
   wide = room program typed f places objects h filled cells waiting size rests words s count depth group locals
       (Prim operator os) next fits rest
@@ -67,6 +73,26 @@ module _ (program : Program) (typed : TypesStand program.l)
 
   abbrev k : Code
   k = code_for program places objects s next
+
+  abbrev floor : ℕ
+  floor = code_price program.setting.procs size k + codes_price program.setting.procs size rests
+
+  abbrev have : ℕ
+  have = 0 + (10 * length rests + waiting_dues waiting)
+
+  -- the turn is served, where its code is that of an operator
+  operator_is_served : (op : PrimOp) (x : FlatAfter program.meaning.Cast)
+      → (next_state program f x).world.output ≡ f.world.output
+      → Calling program typed f floor have 446 x 0
+      (at f.world h waiting size rests words (perform program.run s d (Prim op os) k))
+      → Served program typed f x 0 0 (at f.world h waiting size rests words (perform program.run s d (Prim op os) k))
+  operator_is_served op x silent c =
+      is_served program typed f floor 0 446 x 0
+      (at f.world h waiting size rests words (perform program.run s d (Prim op os) k)) silent (omega arith)
+      (let z = prim_price program.setting.procs size s six program.run d op os few k in omega (arith, z, few))
+      (subst (λ n. Calling program typed f floor (0 + (n + waiting_dues waiting)) 446 x 0
+      (at f.world h waiting size rests words (perform program.run s d (Prim op os) k)))
+      (due_same (perform program.run s d (Prim op os) k) rests (perform_begins program.run s d (Prim op os) k)) c)
 
   touched_all : (new : Locals) → ChangesFrom (operand_word s 0) (length os) words new
       → Touches s (word_for program places objects s next) words new
@@ -88,18 +114,23 @@ module _ (program : Program) (typed : TypesStand program.l)
       by_operands (o ∷ os) b =
           let x = and_true (operand_bound s.captured count depth o) (operands_bound s.captured count depth os) b in
           let c = value_carried (serving_scene program typed f places
-          (flat_operate program.procs (mode_of program) f.store f.world MakeVector [] f.frames) 0) f.world refl h
-          objects
+          (flat_operate program.procs (mode_of program) f.store f.world MakeVector [] f.frames) 0 0 0 0 h.words)
+          f.world h
+          (as_it_was program f h.words) objects
           filled waiting size rests s count group depth locals o x.0 words fits.knows in
           let cs = by_operands os x.1 in
           (c.0 ∷ cs.0, (c.1, cs.1))
 
   module _ (op : PrimOp) (proc : LowProc) (number params : ℕ) (handed : List ℕ → List ℕ) (args : List LowSource)
-      (law : OperatorDone program.meaning program.setting program.l program.procs program.casts program.run op proc
-      handed) (stands : StandsAs program.setting number proc params) (long : (ws : List ℕ) → length (handed ws)
+      (law : OperatorDone program.meaning program.setting program.l program.procs program.casts program.measured
+      program.run op proc handed) (stands : StandsAs program.setting number proc params)
+      (long : (ws : List ℕ) → length (handed ws)
       ≡ params)
-      (on : IsHandedOn program.meaning program.setting program.l program.procs program.casts program.run op
-      (values locals group os)) where
+      (on : IsHandedOn program.meaning program.setting program.l program.procs program.casts program.measured
+      program.run
+      op (values locals group os))
+      (cost_is : operator_cost program.procs (mode_of program) (prices_of program) op (values locals group os)
+      ≡ cost_of program f) where
     abbrev pub after : FlatAfter program.meaning.Cast
     after = flat_operate program.procs (mode_of program) f.store f.world op (values locals group os) f.frames
 
@@ -108,40 +139,47 @@ module _ (program : Program) (typed : TypesStand program.l)
         let t = at f.world h waiting size rests words k in
         let z = law.does t program.number places objects f.store (record { filled = filled; cells = cells }) f.frames
         (values locals group os) carried_all.0 carried_all.1 on in
-        silent_after program t z.0 (Goes program.meaning program.setting program.l program.procs program.casts t z.0
-        (Returns program.meaning program.setting program.l program.procs program.casts t places objects f.frames)
-        z.1.0) f refl after program.number 0 (entered t proc (handed carried_all.0)) z.1.1
+        silent_after program t z.0 (Goes program.meaning program.setting program.l program.procs program.casts
+        program.measured t z.0
+        (Returns program.meaning program.setting program.l program.procs program.casts program.measured t
+        operator_leaves places objects f.frames)
+        z.1.0) f refl after (operator_cost program.procs (mode_of program) (prices_of program) op
+        (values locals group os)) 0 program.number 0 (entered t proc (handed carried_all.0)) z.1.1
 
-    pub calls_for : (behind : Code) (rr : List Code) (falls : ℕ)
+    pub calls_for : (behind : Code) (rr : List Code) (falls : ℕ) → falls ≤ 1
         → Falls falls behind rr (code_for program places objects s next) rests
         → (new : Locals) → Touches s (word_for program places objects s next) words new → (ws : List ℕ)
         → AreCarried program.l program.setting.address program.procs program.meaning places objects
         (in_row (values locals group os)) ws → words_of new args ≡ Some (handed ws)
-        → Moves program.setting (OnServed program f.world.output program.number (program.number + 0))
-        (Landed program typed f (next_state program f after) (program.number + 0))
+        → Calling program typed f (code_price program.setting.procs size behind
+        + codes_price program.setting.procs size rr) have 446 after 0
         (at f.world h waiting size rr new (Call (word_for program places objects s next) number args behind))
-    calls_for behind rr falls fall new touches ws carried are =
+    calls_for behind rr falls one fall new touches ws carried are =
         let c = caller program typed f places objects h filled cells waiting size rests words s count depth group next
-        rest less falls behind rr fall new touches in
+        rest less falls behind rr fall new touches operator_leaves have 446 (omega (arith, one)) (omega (arith, one)) in
         let z = law.does c program.number places objects f.store (record { filled = filled; cells = cells }) f.frames
         (values locals group os) ws carried on in
-        (called program typed f places objects h filled cells waiting size rests words s count depth group next rest
+        called program typed f places objects h filled cells waiting size rests words s count depth group next rest
         less
-        falls behind rr fall new touches after 0 number args (handed ws) proc params are stands (long ws) z.0 z.1.0
-        z.1.1).1
+        falls behind rr fall new touches operator_leaves have 446 (omega (arith, one)) (omega (arith, one)) after 0
+        number args (handed ws) proc params are stands (long ws) z.0 z.1.0
+        (subst (λ cost. After program.meaning program.setting program.l program.procs program.casts program.measured c
+        z.0 (Goes program.meaning program.setting program.l program.procs program.casts program.measured c z.0
+        (Returns program.meaning program.setting program.l program.procs program.casts program.measured c
+        operator_leaves places objects f.frames) z.1.0) after cost 0 program.number 0 (entered c proc (handed ws)))
+        cost_is z.1.1)
 
     pub serves_operator : ((new : Locals) (ws : List ℕ) → words_of new (found_all s 0 os) ≡ Some ws
         → words_of new args ≡ Some (handed ws))
-        → Served program typed f after 0
+        → Calling program typed f floor have 446 after 0
         (at f.world h waiting size rests words (fetch_all s 0 os
         (Call (word_for program places objects s next) number args (code_for program places objects s next))))
-    serves_operator told = (
-      silent,
-      after_fetching program typed f places objects h filled waiting size rests s count depth group locals wide after 0
-          os words (Call d number args k) fits.bound few fits.knows
-          (λ ws new carried are changed.
-          calls_for k rests 0 (refl, refl) new (touched_all new changed) ws carried (told new ws are)),
-    )
+    serves_operator told =
+        after_fetching program typed f places objects h filled waiting size rests s count depth group locals wide
+        after 0
+        floor have 446 os words (Call d number args k) fits.bound few fits.knows
+        (λ ws new carried are changed.
+        calls_for k rests 0 (omega arith) (refl, refl) new (touched_all new changed) ws carried (told new ws are))
 
   abbrev pub source : ℕ → LowSource
   source i = source_at (found_all s 0 os) i
@@ -150,48 +188,77 @@ module _ (program : Program) (typed : TypesStand program.l)
       → word_of new (source i) ≡ Some (at_or_zero ws i)
   found_word new ws i e = source_word new (found_all s 0 os) ws i e
 
-  pub vector_made : Served program typed f
-      (flat_operate program.procs (mode_of program) f.store f.world MakeVector (values locals group os) f.frames) 0
+  pub vector_made : operator_cost program.procs (mode_of program) (prices_of program) MakeVector
+      (values locals group os)
+      ≡ cost_of program f → Served program typed f
+      (flat_operate program.procs (mode_of program) f.store f.world MakeVector (values locals group os) f.frames) 0 0
       (at f.world h waiting size rests words (fetch_all s 0 os (Call (word_for program places objects s next)
       program.run.fill (source 0 ∷ source 1 ∷ []) (code_for program places objects s next))))
-  vector_made =
-      serves_operator MakeVector program.cells.fill program.run.fill 2
+  vector_made cost_is =
+      operator_is_served MakeVector
+      (flat_operate program.procs (mode_of program) f.store f.world MakeVector (values locals group os) f.frames)
+      (silent MakeVector program.cells.fill program.run.fill 2
       (λ ws. at_or_zero ws 0 ∷ at_or_zero ws 1 ∷ []) (source 0 ∷ source 1 ∷ []) program.cells.fills
-      program.cells.fill_stands (λ ws. refl) tt
-      (λ new ws e. both_words _ _ _ _ (found_word new ws 0 e) (both_words _ _ _ _ (found_word new ws 1 e) refl))
+      program.cells.fill_stands (λ ws. refl) tt cost_is)
+      (serves_operator MakeVector program.cells.fill program.run.fill 2
+      (λ ws. at_or_zero ws 0 ∷ at_or_zero ws 1 ∷ []) (source 0 ∷ source 1 ∷ []) program.cells.fills
+      program.cells.fill_stands (λ ws. refl) tt cost_is
+      (λ new ws e. both_words _ _ _ _ (found_word new ws 0 e) (both_words _ _ _ _ (found_word new ws 1 e) refl)))
 
-  pub vector_read : Served program typed f
-      (flat_operate program.procs (mode_of program) f.store f.world VectorRef (values locals group os) f.frames) 0
+  pub vector_read : operator_cost program.procs (mode_of program) (prices_of program) VectorRef (values locals group os)
+      ≡ cost_of program f → Served program typed f
+      (flat_operate program.procs (mode_of program) f.store f.world VectorRef (values locals group os) f.frames) 0 0
       (at f.world h waiting size rests words (fetch_all s 0 os (Call (word_for program places objects s next)
       program.run.read (Number 1 ∷ source 0 ∷ source 1 ∷ []) (code_for program places objects s next))))
-  vector_read =
-      serves_operator VectorRef program.cells.read program.run.read 3
+  vector_read cost_is =
+      operator_is_served VectorRef
+      (flat_operate program.procs (mode_of program) f.store f.world VectorRef (values locals group os) f.frames)
+      (silent VectorRef program.cells.read program.run.read 3
       (λ ws. 1 ∷ at_or_zero ws 0 ∷ at_or_zero ws 1 ∷ []) (Number 1 ∷ source 0 ∷ source 1 ∷ []) program.cells.reads
-      program.cells.read_stands (λ ws. refl) tt
+      program.cells.read_stands (λ ws. refl) tt cost_is)
+      (serves_operator VectorRef program.cells.read program.run.read 3
+      (λ ws. 1 ∷ at_or_zero ws 0 ∷ at_or_zero ws 1 ∷ []) (Number 1 ∷ source 0 ∷ source 1 ∷ []) program.cells.reads
+      program.cells.read_stands (λ ws. refl) tt cost_is
       (λ new ws e. both_words _ _ _ _ refl (both_words _ _ _ _ (found_word new ws 0 e)
-      (both_words _ _ _ _ (found_word new ws 1 e) refl)))
+      (both_words _ _ _ _ (found_word new ws 1 e) refl))))
 
-  pub vector_measured : Served program typed f
-      (flat_operate program.procs (mode_of program) f.store f.world VectorLength (values locals group os) f.frames) 0
+  pub vector_measured : operator_cost program.procs (mode_of program) (prices_of program) VectorLength
+      (values locals group os)
+      ≡ cost_of program f → Served program typed f
+      (flat_operate program.procs (mode_of program) f.store f.world VectorLength (values locals group os) f.frames) 0 0
       (at f.world h waiting size rests words (fetch_all s 0 os (Call (word_for program places objects s next)
       program.run.read (Number 2 ∷ source 0 ∷ Number 0 ∷ []) (code_for program places objects s next))))
-  vector_measured =
-      serves_operator VectorLength program.cells.read program.run.read 3
+  vector_measured cost_is =
+      operator_is_served VectorLength
+      (flat_operate program.procs (mode_of program) f.store f.world VectorLength (values locals group os) f.frames)
+      (silent VectorLength program.cells.read program.run.read 3
       (λ ws. 2 ∷ at_or_zero ws 0 ∷ 0 ∷ []) (Number 2 ∷ source 0 ∷ Number 0 ∷ []) program.cells.measures
-      program.cells.read_stands (λ ws. refl) tt
+      program.cells.read_stands (λ ws. refl) tt cost_is)
+      (serves_operator VectorLength program.cells.read program.run.read 3
+      (λ ws. 2 ∷ at_or_zero ws 0 ∷ 0 ∷ []) (Number 2 ∷ source 0 ∷ Number 0 ∷ []) program.cells.measures
+      program.cells.read_stands (λ ws. refl) tt cost_is
       (λ new ws e. both_words _ _ _ _ refl (both_words _ _ _ _ (found_word new ws 0 e)
-      (both_words _ _ _ _ refl refl)))
+      (both_words _ _ _ _ refl refl))))
 
-  pub vector_written : Served program typed f
-      (flat_operate program.procs (mode_of program) f.store f.world VectorSet (values locals group os) f.frames) 0
+  pub vector_written : operator_cost program.procs (mode_of program) (prices_of program) VectorSet
+      (values locals group os)
+      ≡ cost_of program f → Served program typed f
+      (flat_operate program.procs (mode_of program) f.store f.world VectorSet (values locals group os) f.frames) 0 0
       (at f.world h waiting size rests words (fetch_all s 0 os (Call (word_for program places objects s next)
       program.run.write (Number 1 ∷ source 0 ∷ source 1 ∷ source 2 ∷ []) (code_for program places objects s next))))
-  vector_written =
-      serves_operator VectorSet program.cells.write program.run.write 4
+  vector_written cost_is =
+      operator_is_served VectorSet
+      (flat_operate program.procs (mode_of program) f.store f.world VectorSet (values locals group os) f.frames)
+      (silent VectorSet program.cells.write program.run.write 4
       (λ ws. 1 ∷ at_or_zero ws 0 ∷ at_or_zero ws 1 ∷ at_or_zero ws 2 ∷ [])
-      (Number 1 ∷ source 0 ∷ source 1 ∷ source 2 ∷ []) program.cells.writes program.cells.write_stands (λ ws. refl) tt
+      (Number 1 ∷ source 0 ∷ source 1 ∷ source 2 ∷ []) program.cells.writes program.cells.write_stands
+      (λ ws. refl) tt cost_is)
+      (serves_operator VectorSet program.cells.write program.run.write 4
+      (λ ws. 1 ∷ at_or_zero ws 0 ∷ at_or_zero ws 1 ∷ at_or_zero ws 2 ∷ [])
+      (Number 1 ∷ source 0 ∷ source 1 ∷ source 2 ∷ []) program.cells.writes program.cells.write_stands
+      (λ ws. refl) tt cost_is
       (λ new ws e. both_words _ _ _ _ refl (both_words _ _ _ _ (found_word new ws 0 e)
-      (both_words _ _ _ _ (found_word new ws 1 e) (both_words _ _ _ _ (found_word new ws 2 e) refl))))
+      (both_words _ _ _ _ (found_word new ws 1 e) (both_words _ _ _ _ (found_word new ws 2 e) refl)))))
 
   -- ---- boxes in wrappers: the kind of what stands there is tested first
 
@@ -202,11 +269,15 @@ module _ (program : Program) (typed : TypesStand program.l)
       ∙ touched_all new changed j ne side
 
   module _ (op : PrimOp) (proc : LowProc) (number params : ℕ) (handed : List ℕ → List ℕ) (args : List LowSource)
-      (law : OperatorDone program.meaning program.setting program.l program.procs program.casts program.run op proc
-      handed) (stands : StandsAs program.setting number proc params) (long : (ws : List ℕ) → length (handed ws)
+      (law : OperatorDone program.meaning program.setting program.l program.procs program.casts program.measured
+      program.run op proc handed) (stands : StandsAs program.setting number proc params)
+      (long : (ws : List ℕ) → length (handed ws)
       ≡ params)
-      (on : IsHandedOn program.meaning program.setting program.l program.procs program.casts program.run op
-      (values locals group os)) (u : FlatValue program.meaning.Cast) (cast : program.meaning.Cast)
+      (on : IsHandedOn program.meaning program.setting program.l program.procs program.casts program.measured
+      program.run
+      op (values locals group os))
+      (cost_is : operator_cost program.procs (mode_of program) (prices_of program) op (values locals group os)
+      ≡ cost_of program f) (u : FlatValue program.meaning.Cast) (cast : program.meaning.Cast)
       (others : List (FlatValue program.meaning.Cast)) (wrapped : values locals group os ≡ RunWrap u cast ∷ others)
       (one : Code) (told : (new : Locals) (ws : List ℕ) → words_of new (found_all s 0 os) ≡ Some ws
       → words_of new args ≡ Some (handed ws)) where
@@ -216,63 +287,78 @@ module _ (program : Program) (typed : TypesStand program.l)
     first_wrapped [] c = absurd c
     first_wrapped (w ∷ ws) c = wrapped_there program places objects u cast [] w c.0
 
-    pub serves_tested : Served program typed f
+    pub serves_tested : Calling program typed f floor have 446
         (flat_operate program.procs (mode_of program) f.store f.world op (values locals group os) f.frames) 0
         (at f.world h waiting size rests words (fetch_all s 0 os (of_kind s (source 0) 5 one
         (Call (word_for program places objects s next) number args Done) (code_for program places objects s next))))
-    serves_tested = (
-      silent op proc number params handed args law stands long on,
-      after_fetching program typed f places objects h filled waiting size rests s count depth group locals wide
-          (flat_operate program.procs (mode_of program) f.store f.world op (values locals group os) f.frames) 0 os words
-          (of_kind s (source 0) 5 one (Call d number args Done) k) fits.bound few fits.knows
-          (λ ws new carried are changed.
-          not_of_kind program typed f places objects h filled waiting size rests s count depth group locals wide
-          (flat_operate program.procs (mode_of program) f.store f.world op (values locals group os) f.frames) 0
-          (source 0)
-          (at_or_zero ws 0) 5 one (Call d number args Done) k new (omega arith) (λ z. omega (arith, z))
-          (λ z. omega (arith, z)) (found_word new ws 0 are)
-          (first_wrapped ws (subst (λ vs. AreCarried program.l program.setting.address program.procs program.meaning
-          places objects (in_row vs) ws) wrapped carried))
-          (λ last more.
-          let still = found_all_same (serving_scene program typed f places
-          (flat_operate program.procs (mode_of program) f.store f.world op (values locals group os) f.frames) 0) f.world
-          refl h objects filled waiting size rests s count group depth locals os 0 fits.bound (omega (arith, few)) new
-          last more ∙ are in
-          comes_on program.setting (OnServed program f.world.output program.number (program.number + 0))
-          (Landed program typed f (next_state program f (flat_operate program.procs (mode_of program) f.store f.world op
-          (values locals group os) f.frames)) (program.number + 0))
-          (calls_for op proc number params handed args law stands long on Done (k ∷ rests) 1 (refl, (refl, refl)) last
-          (touched_more new last changed more) ws carried (told last ws still)))),
-    )
+    serves_tested =
+        after_fetching program typed f places objects h filled waiting size rests s count depth group locals wide
+        (flat_operate program.procs (mode_of program) f.store f.world op (values locals group os) f.frames) 0 floor
+        have 446 os words
+        (of_kind s (source 0) 5 one (Call d number args Done) k) fits.bound few fits.knows
+        (λ ws new carried are changed.
+        not_of_kind program typed f places objects h filled waiting size rests s count depth group locals wide
+        (flat_operate program.procs (mode_of program) f.store f.world op (values locals group os) f.frames) 0
+        floor have 446 (source 0)
+        (at_or_zero ws 0) 5 one (Call d number args Done) k new (omega arith) (λ z. omega (arith, z))
+        (λ z. omega (arith, z)) (found_word new ws 0 are)
+        (first_wrapped ws (subst (λ vs. AreCarried program.l program.setting.address program.procs program.meaning
+        places objects (in_row vs) ws) wrapped carried))
+        (λ last more.
+        let still = found_all_same (serving_scene program typed f places
+        (flat_operate program.procs (mode_of program) f.store f.world op (values locals group os) f.frames) 0 0 0 0
+        h.words) f.world
+        h (as_it_was program f h.words) objects filled waiting size rests s count group depth locals os 0 fits.bound
+        (omega (arith, few)) new
+        last more ∙ are in
+        let x = flat_operate program.procs (mode_of program) f.store f.world op (values locals group os) f.frames in
+        let t = at f.world h waiting size (k ∷ rests) last (Call d number args Done) in
+        calls_now program typed f floor have 446 x 0 t
+        (lower_floor program typed f (10 + floor) floor have 446 x 0 t (omega arith)
+        (calls_for op proc number params handed args law stands long on cost_is Done (k ∷ rests) 1 (omega arith)
+        (refl, (refl, refl)) last
+        (touched_more new last changed more) ws carried (told last ws still)))))
 
   pub box_read : (u : FlatValue program.meaning.Cast) (cast : program.meaning.Cast)
       (others : List (FlatValue program.meaning.Cast)) → values locals group os ≡ RunWrap u cast ∷ others
-      → Served program typed f
-      (flat_operate program.procs (mode_of program) f.store f.world Unbox (values locals group os) f.frames) 0
+      → operator_cost program.procs (mode_of program) (prices_of program) Unbox (values locals group os)
+      ≡ cost_of program f → Served program typed f
+      (flat_operate program.procs (mode_of program) f.store f.world Unbox (values locals group os) f.frames) 0 0
       (at f.world h waiting size rests words (fetch_all s 0 os (of_kind s (source 0) 5
       (Load (word_for program places objects s next) (source 0) 8 Done)
       (Call (word_for program places objects s next) program.run.read (Number 0 ∷ source 0 ∷ Number 0 ∷ []) Done)
       (code_for program places objects s next))))
-  box_read u cast others e =
-      serves_tested Unbox program.cells.read program.run.read 3 (λ ws. 0 ∷ at_or_zero ws 0 ∷ 0 ∷ [])
+  box_read u cast others e cost_is =
+      operator_is_served Unbox
+      (flat_operate program.procs (mode_of program) f.store f.world Unbox (values locals group os) f.frames)
+      (silent Unbox program.cells.read program.run.read 3 (λ ws. 0 ∷ at_or_zero ws 0 ∷ 0 ∷ [])
       (Number 0 ∷ source 0 ∷ Number 0 ∷ []) program.cells.unboxes program.cells.read_stands (λ ws. refl)
-      (u, cast, others, e) u cast others e (Load d (source 0) 8 Done)
+      (u, cast, others, e) cost_is)
+      (serves_tested Unbox program.cells.read program.run.read 3 (λ ws. 0 ∷ at_or_zero ws 0 ∷ 0 ∷ [])
+      (Number 0 ∷ source 0 ∷ Number 0 ∷ []) program.cells.unboxes program.cells.read_stands (λ ws. refl)
+      (u, cast, others, e) cost_is u cast others e (Load d (source 0) 8 Done)
       (λ new ws e. both_words _ _ _ _ refl (both_words _ _ _ _ (found_word new ws 0 e)
-      (both_words _ _ _ _ refl refl)))
+      (both_words _ _ _ _ refl refl))))
 
   pub box_written : (u : FlatValue program.meaning.Cast) (cast : program.meaning.Cast)
       (others : List (FlatValue program.meaning.Cast)) → values locals group os ≡ RunWrap u cast ∷ others
-      → Served program typed f
-      (flat_operate program.procs (mode_of program) f.store f.world BoxSet (values locals group os) f.frames) 0
+      → operator_cost program.procs (mode_of program) (prices_of program) BoxSet (values locals group os)
+      ≡ cost_of program f → Served program typed f
+      (flat_operate program.procs (mode_of program) f.store f.world BoxSet (values locals group os) f.frames) 0 0
       (at f.world h waiting size rests words (fetch_all s 0 os (of_kind s (source 0) 5
       (Store (source 1) (source 0) 8 (Set (word_for program places objects s next) (Number 0) Done))
       (Call (word_for program places objects s next) program.run.write
       (Number 0 ∷ source 0 ∷ Number 0 ∷ source 1 ∷ []) Done)
       (code_for program places objects s next))))
-  box_written u cast others e =
-      serves_tested BoxSet program.cells.write program.run.write 4
+  box_written u cast others e cost_is =
+      operator_is_served BoxSet
+      (flat_operate program.procs (mode_of program) f.store f.world BoxSet (values locals group os) f.frames)
+      (silent BoxSet program.cells.write program.run.write 4
       (λ ws. 0 ∷ at_or_zero ws 0 ∷ 0 ∷ at_or_zero ws 1 ∷ []) (Number 0 ∷ source 0 ∷ Number 0 ∷ source 1 ∷ [])
-      program.cells.sets program.cells.write_stands (λ ws. refl) (u, cast, others, e) u cast others e
+      program.cells.sets program.cells.write_stands (λ ws. refl) (u, cast, others, e) cost_is)
+      (serves_tested BoxSet program.cells.write program.run.write 4
+      (λ ws. 0 ∷ at_or_zero ws 0 ∷ 0 ∷ at_or_zero ws 1 ∷ []) (Number 0 ∷ source 0 ∷ Number 0 ∷ source 1 ∷ [])
+      program.cells.sets program.cells.write_stands (λ ws. refl) (u, cast, others, e) cost_is u cast others e
       (Store (source 1) (source 0) 8 (Set d (Number 0) Done))
       (λ new ws e. both_words _ _ _ _ refl (both_words _ _ _ _ (found_word new ws 0 e)
-      (both_words _ _ _ _ refl (both_words _ _ _ _ (found_word new ws 1 e) refl))))
+      (both_words _ _ _ _ refl (both_words _ _ _ _ (found_word new ws 1 e) refl)))))

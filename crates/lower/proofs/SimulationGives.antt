@@ -1,6 +1,6 @@
 -- A value is given to what waits for it.
 use Rattle.std.proofs.Common.{◌≡◌, inl, inr, ℕ, suc, ◌+◌, ◌<◌, ◌≤◌, List, [], ◌∷◌, Some}
-use Rattle.std.proofs.Common.{refl, ◌∙◌, arith, le_refl}
+use Rattle.std.proofs.Common.{refl, ◌∙◌, arith, le_refl, false}
 use Rattle.low_ir.specs.declared.code.LowSource.TheVariants.{Word}
 use Rattle.low_ir.specs.Procedures.{Code, Return as ReturnCode}
 use Rattle.low_ir.specs.Steps.{Locals}
@@ -16,7 +16,10 @@ use Rattle.lower.specs.Emit.{Then, ToCaller, Into}
 use Rattle.lower.specs.RelatedStates.{Carried, Rest, Callers, Gave, Goes}
 use Rattle.lower.proofs.RelationKept.{rest_same, OwnName, LowName, HighName, SameNamed, local_high}
 use Rattle.lower.proofs.WordOperations.{Touches}
-use Rattle.lower.proofs.SimulationWay.{Program}
+use Rattle.lower.specs.Meanings.{is_last}
+use Rattle.low_ir.specs.Prices.{code_price}
+use Rattle.flat_ir.specs.Machine.{FlatState}
+use Rattle.lower.proofs.SimulationWay.{Program, budget_of}
 
 -- a body has no names below the level at which it stands
 pub levels_above : (depth : ℕ) (body : Body) → depth ≤ levels depth body
@@ -88,6 +91,7 @@ module _ (program : Program) (places : List ℕ) (objects : List Object) where
             (Into d k) rests words new same (
               record {
                 params = r.0.params;
+                few = r.0.few;
                 deep = le_refl slot;
                 word = r.0.word;
                 same = r.0.same;
@@ -126,14 +130,26 @@ module _ (program : Program) (places : List ℕ) (objects : List Object) where
   code_for s ToCaller = ReturnCode (Word (test_word s))
   code_for s (Into d k) = k
 
+  -- what is due where it goes
+  abbrev pub due_for : Then → ℕ
+  due_for ToCaller = 28
+  due_for (Into d k) = 0
+
+  -- a code's price, with what is due behind it, is within the budget of the turn from f
+  pub record Fitting (f : FlatState program.meaning.Cast) (s : Shape) (size : ℕ) (next : Then) (code : Code)
+      : Type 0 where
+    pub begins : is_last code ≡ false
+    pub paid : code_price program.setting.procs size code + due_for next
+        ≤ code_price program.setting.procs size (code_for s next) + budget_of program f
+
   pub given : (waiting : List LowWaiting) (s : Shape) (count size : ℕ) (group : Group program.meaning.Cast) (depth : ℕ)
       (frames : List (FlatFrame program.meaning.Cast)) (next : Then) (rests : List Code) (words new : Locals)
       (v : FlatValue program.meaning.Cast) (w : ℕ) → RestHere waiting s count size group depth frames next rests words
       → CarriedHere v w → new (word_for s next) ≡ Some w → Touches s (word_for s next) words new
       → Goes program.setting program.l program.run program.procs program.answer program.meaning places objects
-      (Return v)
+      (due_for next) (Return v)
       frames (record { count = size; locals = new; code = code_for s next; rests = rests }) waiting
   given waiting s count size group depth frames ToCaller rests words new v w r c e touches =
-      inr (record { source = Word (test_word s); w = w; code = refl; is = e; carried = c; callers = r })
+      inr (record { source = Word (test_word s); w = w; code = refl; is = e; carried = c; callers = r }, le_refl 28)
   given waiting s count size group depth frames (Into d k) rests words new v w r c e touches =
       inl (put_in waiting s count size group depth frames d k rests words new v w r c e touches)

@@ -6,7 +6,7 @@ use Rattle.std.specs.Prelude.{slice_get}
 use Rattle.grift_base.specs.World.{WorldState}
 use Rattle.low_ir.specs.Procedures.{Code, Return as ReturnCode}
 use Rattle.low_ir.specs.Steps.{Locals}
-use Rattle.low_ir.specs.Run.{Waiting as LowWaiting}
+use Rattle.low_ir.specs.Run.{LowState, Waiting as LowWaiting}
 use Rattle.coercion_norm.specs.RunValues.{RunTuple, RunWrap, RunInt, RunBool, RunUnit, RunFun, RunLoc, RunInject}
 use Rattle.coercion_norm.specs.RunValues.{in_row}
 use Rattle.coercion_norm.specs.RunValues.{row_list}
@@ -29,19 +29,47 @@ use Rattle.lower.specs.CarriedValues.{CellsHeld}
 use Rattle.lower.specs.RelatedStates.{Fits, Goes, entry_waiting}
 use Rattle.lower.proofs.CarriedLater.{cells_later, cells_below}
 use Rattle.lower.proofs.RelationKept.{rest_later, callers_later}
-use Rattle.lower.proofs.WordSteps.{at, here}
+use Rattle.lower.proofs.WordSteps.{at, here, Goal, left_of}
 use Rattle.flat_ir.specs.Closed.{operand_bound}
 use Rattle.run_laws.specs.Runs.{Wrong}
 use Rattle.lower.proofs.WordScene.{Scene}
-use Rattle.lower.proofs.WordOperands.{fetch_reads, value_carried}
+use Rattle.lower.proofs.WordOperands.{fetch_reads, value_carried, and_true}
+use Rattle.lower.proofs.EmitPrices.{fetch_price, computing_near, move_price, tuple_price, proj_price}
+use Rattle.lower.proofs.EmitPrices.{perform_begins}
+use Rattle.low_ir.specs.Prices.{code_price, codes_price}
+use Rattle.flat_ir.specs.Closed.{operands_bound}
+use Rattle.std.proofs.Common.{le_refl, length, ◌≤◌, ◌&&◌, suc}
+use Rattle.std.specs.Prelude.{nat_le}
 use Rattle.lower.proofs.WordOperations.{Touches, moves, makes_tuple, takes_part}
 use Rattle.lower.proofs.SimulationWay.{Settled, settled}
 use Rattle.lower.proofs.SimulationWay.{mode_of}
-use Rattle.lower.proofs.SimulationWay.{Program, R, Follows, next_state, Way}
-use Rattle.lower.proofs.SimulationWay.{scene_for}
+use Rattle.lower.proofs.SimulationWay.{Program, R, Follows, FollowsFrom, next_state, Way, turn_goal, Allowed}
+use Rattle.lower.proofs.SimulationWay.{scene_for, kept_by, kept_here, at_start, asks_of, budget_of, due_of}
+use Rattle.lower.proofs.SimulationWay.{waiting_dues, zero_once_ended, FollowsBy, arrives}
+use Rattle.run_laws.specs.Runs.{Ending}
+use Rattle.grift_base.specs.declared.verdicts.Verdict.{Verdict}
 use Rattle.lower.proofs.SimulationGives.{CarriedHere, RestHere, CallersHere, given, word_for, code_for, word_fits}
+use Rattle.lower.proofs.SimulationGives.{Fitting, due_for}
 use Rattle.lower.proofs.SimulationAnswers.{answered}
 use Rattle.coercion_norm.specs.ValueSteps.{CastFrame, casts_onto}
+
+-- where a return is next, no branches around it are ended
+returned_kept : (o : Option (Ending Verdict)) (code k rests own waits budget : ℕ) → code + 28 ≤ k + budget
+    → code + rests + zero_once_ended o (28 + (0 + waits)) ≤ k + rests + budget + (0 + (own + waits))
+returned_kept None code k rests own waits budget le = omega (arith, le)
+returned_kept (Some e) code k rests own waits budget le = omega (arith, le)
+
+-- what is due behind a value's place
+pub due_little : (program : Program) (places : List ℕ) (objects : List Object) (next : Then)
+    → due_for program places objects next ≤ 28
+due_little program places objects ToCaller = le_refl 28
+due_little program places objects (Into d k) = omega arith
+
+-- wherever the turn is, no more words were taken than it asks for
+pub still_asked : (program : Program) (f f' : FlatState program.meaning.Cast) (world : WorldState) (base words : ℕ)
+    → Allowed program f f' base world words → words ≤ base + asks_of program f
+still_asked program f f' world base words (inl a) = a.1
+still_asked program f f' world base words (inr a) = let le = a.1 in omega (arith, le)
 
 -- a turn that has no next one
 pub goes_wrong : (program : Program) (f : FlatState program.meaning.Cast) (places : List ℕ) (objects : List Object)
@@ -50,13 +78,41 @@ pub goes_wrong : (program : Program) (f : FlatState program.meaning.Cast) (place
     (rests : List Code)
     (words : Locals) (code : Code) → Follows program f NoNext (at f.world h waiting size rests words code)
 goes_wrong program f places objects h filled waiting size rests words code =
-    here program.setting (Way program f (next_state program f NoNext)) (R program (next_state program f NoNext))
-    (at f.world h waiting size rests words code) (inr (inl (record {
-      seen = record { output = refl; filling = (objects, filled) };
-      e = Wrong;
-      is = refl;
-      ends = tt;
-    })))
+    let t = at f.world h waiting size rests words code in
+    here program.setting (Way program f (next_state program f NoNext) h.words)
+    (turn_goal program f (next_state program f NoNext) t) t (
+      0,
+      inr (inl (record {
+        seen = record { output = refl; filling = (objects, filled) };
+        e = Wrong;
+        is = refl;
+        ends = tt;
+      })),
+      kept_here program f (next_state program f NoNext) 0 0 t (omega arith),
+    )
+
+-- where so much was due
+pub wrong_by : (program : Program) (f : FlatState program.meaning.Cast) (own : ℕ) (places : List ℕ)
+    (objects : List Object) (h : Heap)
+    → Filled program.meaning program.setting program.l program.number objects h → (waiting : List LowWaiting) (size : ℕ)
+    (rests : List Code)
+    (words : Locals) (code : Code) → FollowsBy program f NoNext own (at f.world h waiting size rests words code)
+wrong_by program f own places objects h filled waiting size rests words code =
+    let t = at f.world h waiting size rests words code in
+    let f' = next_state program f NoNext in (
+      left_of program.setting t,
+      arrives program f f' h.words own (left_of program.setting t) t
+          (left_of program.setting t) t (
+            0,
+            inr (inl (record {
+              seen = record { output = refl; filling = (objects, filled) };
+              e = Wrong;
+              is = refl;
+              ends = tt;
+            })),
+            kept_here program f f' own 0 t (omega arith),
+          ),
+    )
 
 module _ (program : Program) (typed : TypesStand program.l) where
   -- a value that is given or returned goes with the value of the numbered procedures
@@ -65,13 +121,13 @@ module _ (program : Program) (typed : TypesStand program.l) where
       → (store : FlatStore program.meaning.Cast) (frames : List (FlatFrame program.meaning.Cast))
       → CellsHeld program.l program.setting.address program.procs program.meaning places objects h.memory places store
       → (v : FlatValue program.meaning.Cast) (waiting : List LowWaiting) (size : ℕ) (rests : List Code) (words : Locals)
-      (code : Code)
+      (code : Code) (due : ℕ)
       → Goes program.setting program.l program.run program.procs program.answer program.meaning places objects
-      (Return v) frames
+      due (Return v) frames
       (record { count = size; locals = words; code = code; rests = rests }) waiting
-      → Settled program (flat_state_at program.procs program.told (Return v) frames store world)
+      → Settled program (flat_state_at program.procs program.told (Return v) frames store world) due
       (at world h waiting size rests words code)
-  returned places objects h world filled store (frame ∷ frames) cells v waiting size rests words code goes =
+  returned places objects h world filled store (frame ∷ frames) cells v waiting size rests words code due goes =
       inl (record {
         is = refl;
         related = record {
@@ -83,21 +139,22 @@ module _ (program : Program) (typed : TypesStand program.l) where
           goes = goes;
         };
       })
-  returned places objects h world filled store [] cells v waiting size rests words code (inl gave) = absurd gave.rest
-  returned places objects h world filled store [] cells v waiting size rests words code (inr gives) =
+  returned places objects h world filled store [] cells v waiting size rests words code due
+      (inl gave) = absurd gave.rest
+  returned places objects h world filled store [] cells v waiting size rests words code due (inr (gives, le)) =
       by_callers waiting gives.callers
     where
       by_callers : (ws : List LowWaiting) → CallersHere program places objects ws []
-          → Settled program (flat_state_at program.procs program.told (Return v) [] store world)
+          → Settled program (flat_state_at program.procs program.told (Return v) [] store world) due
           (at world h ws size rests words code)
       by_callers [] c = absurd c
       by_callers (w ∷ ws) (inl e) =
-          subst (λ k. Settled program (flat_state_at program.procs program.told (Return v) [] store world)
+          subst (λ k. Settled program (flat_state_at program.procs program.told (Return v) [] store world) due
           (at world h (w ∷ ws) size rests words k)) (sym gives.code)
-          (subst (λ us. Settled program (flat_state_at program.procs program.told (Return v) [] store world)
+          (subst (λ us. Settled program (flat_state_at program.procs program.told (Return v) [] store world) due
           (at world h us size rests words (ReturnCode gives.source))) (sym (both w ws e.2 e.1))
           (answered program typed places objects h world filled store v size rests words gives.source gives.w gives.is
-          gives.carried))
+          gives.carried due))
         where
           both : (w : LowWaiting) (ws : List LowWaiting) → w ≡ entry_waiting program.answer → ws ≡ []
               → (w ∷ ws) ≡ entry_waiting program.answer ∷ []
@@ -114,16 +171,16 @@ module _ (program : Program) (typed : TypesStand program.l) where
       → (store : FlatStore program.meaning.Cast) (frames : List (FlatFrame program.meaning.Cast))
       → CellsHeld program.l program.setting.address program.procs program.meaning places objects h.memory places store
       → (v : FlatValue program.meaning.Cast) (waiting : List LowWaiting) (size : ℕ) (rests : List Code) (words : Locals)
-      (code : Code)
+      (code : Code) (due : ℕ)
       → Goes program.setting program.l program.run program.procs program.answer program.meaning places objects
-      (Return v) frames
+      due (Return v) frames
       (record { count = size; locals = words; code = code; rests = rests }) waiting
-      → R program (flat_state_at program.procs program.told (Return v) frames store world)
+      → R program (flat_state_at program.procs program.told (Return v) frames store world) due
       (at world h waiting size rests words code)
-  settle places objects h world filled store frames cells v waiting size rests words code goes =
-      settled program (flat_state_at program.procs program.told (Return v) frames store world)
+  settle places objects h world filled store frames cells v waiting size rests words code due goes =
+      settled program (flat_state_at program.procs program.told (Return v) frames store world) due
       (at world h waiting size rests words code)
-      (returned places objects h world filled store frames cells v waiting size rests words code goes)
+      (returned places objects h world filled store frames cells v waiting size rests words code due goes)
 
   -- a turn in which an operation of a body gives a value
   module _ (f : FlatState program.meaning.Cast) (places : List ℕ) (objects : List Object) (h : Heap)
@@ -157,27 +214,46 @@ module _ (program : Program) (typed : TypesStand program.l) where
     abbrev pub Turns : FlatValue program.meaning.Cast → Code → Type 0
     Turns v code = Follows program f (after v) (at f.world h waiting size rests words code)
 
-    abbrev pub scene_of : FlatValue program.meaning.Cast → Scene
-    scene_of v =
-        scene_for program f (next_state program f (after v)) (R program (next_state program f (after v))) places
+    -- the state in which the turn began, by its code
+    abbrev pub start_of : Code → LowState
+    start_of code = at f.world h waiting size rests words code
 
-    pub put : (v : FlatValue program.meaning.Cast) (w : ℕ) (new : Locals) → CarriedHere program places objects v w
+    abbrev pub goal_of : Code → FlatValue program.meaning.Cast → Goal
+    goal_of code v = turn_goal program f (next_state program f (after v)) (start_of code)
+
+    abbrev pub scene_of : Code → FlatValue program.meaning.Cast → Scene
+    scene_of code v = scene_for program f (next_state program f (after v)) h.words (goal_of code v) places
+
+    abbrev pub FittingHere : Then → Code → Type 0
+    FittingHere next code = Fitting program places objects f s size next code
+
+    pub put : (code : Code) → FittingHere next code → (v : FlatValue program.meaning.Cast) (w : ℕ) (new : Locals)
+        → CarriedHere program places objects v w
         → new (word_for program places objects s next) ≡ Some w
         → Touches s (word_for program places objects s next) words new
-        → Follows program f (after v)
+        → FollowsFrom program f (after v) (at f.world h waiting size rests words code)
         (at f.world h waiting size rests new (code_for program places objects s next))
-    put v w new c e touches =
-        here program.setting (Way program f (next_state program f (after v)))
-        (R program (next_state program f (after v)))
-        (at f.world h waiting size rests new (code_for program places objects s next))
-        (settle places objects h f.world filled f.store f.frames cells v waiting size rests new
-        (code_for program places objects s next)
-        (given program places objects waiting s count size group depth f.frames next rests words new v w rest c e
-        touches))
+    put code fitting v w new c e touches =
+        here program.setting (Way program f (next_state program f (after v)) h.words)
+        (turn_goal program f (next_state program f (after v)) (at f.world h waiting size rests words code))
+        (at f.world h waiting size rests new (code_for program places objects s next)) (
+          due_for program places objects next,
+          settle places objects h f.world filled f.store f.frames cells v waiting size rests new
+              (code_for program places objects s next) (due_for program places objects next)
+              (given program places objects waiting s count size group depth f.frames next rests words new v w rest c e
+              touches),
+          kept_by program f (next_state program f (after v)) f.world f.world h h waiting size rests words new code
+              (code_for program places objects s next) (due_for program places objects next) fitting.begins fitting.paid
+              (omega arith),
+        )
 
-    pub move_turns : (o : Operand) → operand_bound s.captured count depth o ≡ true
-        → Turns (value locals group o) (give program.run s (Move o) next)
-    move_turns o bound = by_next next rest word_less put
+    -- in the world as it was, and with the words that there were
+    pub as_before : (code : Code) (v : FlatValue program.meaning.Cast) → (scene_of code v).allowed f.world h.words
+    as_before code v = at_start program f (next_state program f (after v)) f.world h.words refl
+
+    pub move_turns : (o : Operand) → operand_bound s.captured count depth o ≡ true → s.params ≤ 6
+        → 64 ≤ budget_of program f → Turns (value locals group o) (give program.run s (Move o) next)
+    move_turns o bound six enough = by_next next rest word_less put
       where
         v : FlatValue program.meaning.Cast
         v = value locals group o
@@ -185,43 +261,78 @@ module _ (program : Program) (typed : TypesStand program.l) where
         by_next : (next : Then) → RestHere program places objects waiting s count size group depth f.frames next
             rests words
             → word_for program places objects s next < size
-            → ((v : FlatValue program.meaning.Cast) (w : ℕ) (new : Locals) → CarriedHere program places objects v w
+            → ((code : Code) → FittingHere next code → (v : FlatValue program.meaning.Cast) (w : ℕ) (new : Locals)
+            → CarriedHere program places objects v w
             → new (word_for program places objects s next) ≡ Some w
             → Touches s (word_for program places objects s next) words new
-            → Follows program f (after v)
+            → FollowsFrom program f (after v) (at f.world h waiting size rests words code)
             (at f.world h waiting size rests new (code_for program places objects s next)))
             → Turns (value locals group o) (give program.run s (Move o) next)
         by_next ToCaller r lt put =
-            fetch_reads (scene_of (value locals group o)) f.world (inl refl) h objects filled waiting size rests s count
-            group depth locals o (operand_word s 0) bound (omega (arith, room)) words fits.knows
-            (ReturnCode (found s (operand_word s 0) o))
+            let k = ReturnCode (found s (operand_word s 0) o) in
+            let code = give program.run s (Move o) ToCaller in
+            let dear = fetch_price program.setting.procs size s six (operand_word s 0)
+            (computing_near program.setting.procs size s six 0 (omega arith)) o k in
+            fetch_reads (scene_of code (value locals group o)) f.world h (as_before code (value locals group o))
+            objects filled waiting size rests s count
+            group depth locals o (operand_word s 0) bound (omega (arith, room)) words fits.knows k
             (λ w new carried is changed.
-            here program.setting (Way program f (next_state program f (after (value locals group o))))
-            (R program (next_state program f (after (value locals group o))))
-            (at f.world h waiting size rests new (ReturnCode (found s (operand_word s 0) o)))
-            (settle places objects h f.world filled f.store f.frames cells (value locals group o) waiting size rests
-            new (ReturnCode (found s (operand_word s 0) o)) (inr (record {
-              source = found s (operand_word s 0) o;
-              w = w;
-              code = refl;
-              is = is;
-              carried = carried;
-              callers = r;
-            }))))
+            here program.setting (Way program f (next_state program f (after (value locals group o))) h.words)
+            (goal_of code (value locals group o))
+            (at f.world h waiting size rests new k) (
+              28,
+              settle places objects h f.world filled f.store f.frames cells (value locals group o) waiting size rests
+                  new k 28 (inr (
+                    record {
+                      source = found s (operand_word s 0) o;
+                      w = w;
+                      code = refl;
+                      is = is;
+                      carried = carried;
+                      callers = r;
+                    },
+                    le_refl 28,
+                  )),
+              record {
+                asked = omega arith;
+                paid = returned_kept (next_state program f (after
+                    (value locals group o))).ended (code_price program.setting.procs size code)
+                    (code_price program.setting.procs size k) (codes_price program.setting.procs size rests)
+                    (due_of code rests) (waiting_dues waiting) (budget_of program f) (omega (arith, dear, enough));
+              },
+            ))
         by_next (Into d k) r lt put =
-            moves (scene_of (value locals group o)) f.world (inl refl) h objects filled waiting size rests s count group
+            let code = give program.run s (Move o) (Into d k) in
+            let dear = move_price program.setting.procs size s six program.run d o k in
+            moves (scene_of code (value locals group o)) f.world h (as_before code (value locals group o)) objects
+            filled waiting size rests s count group
             depth locals room words fits.knows o d bound lt k
-            (λ w new carried e touches. put (value locals group o) w new carried e touches)
+            (λ w new carried e touches. put code (record {
+              begins = perform_begins program.run s d (Move o) k;
+              paid = omega (arith, dear, enough);
+            }) (value locals group o) w new carried e touches)
 
     pub tuple_turns : (os : List Operand) → operation_bound s.captured count depth (Tuple os) ≡ true
+        → s.params ≤ 6 → 500 ≤ budget_of program f → suc (length os) ≤ asks_of program f
         → Turns (RunTuple (in_row (values locals group os)))
         (perform program.run s (word_for program places objects s next) (Tuple os)
         (code_for program places objects s next))
-    tuple_turns os bound =
-        makes_tuple (scene_of (RunTuple (in_row (values locals group os)))) f.world (inl refl) h objects filled waiting
+    tuple_turns os bound six enough asked =
+        let d = word_for program places objects s next in
+        let k = code_for program places objects s next in
+        let code = perform program.run s d (Tuple os) k in
+        let parts = and_true (operands_bound s.captured count depth os) (nat_le 1 (length os) && nat_le (length os) 8)
+        bound in
+        let sizes = and_true (nat_le 1 (length os)) (nat_le (length os) 8) parts.1 in
+        let most : length os ≤ 8 = grind (arith, sizes.1) in
+        let dear = tuple_price program.setting.procs size s six program.run d os most k in
+        let little = due_little program places objects next in
+        makes_tuple (scene_of code (RunTuple (in_row (values locals group os)))) f.world h
+        (as_before code (RunTuple (in_row (values locals group os)))) objects filled waiting
         size rests s count group depth locals room words fits.knows os (word_for program places objects s next) bound
-        word_less (code_for program places objects s next)
-        (λ more h' filled' below w new carried e touches.
+        word_less (code_for program places objects s next) (inl (refl, omega (arith, asked)))
+        (omega (arith, dear, enough))
+        (λ more h' filled' below still w new carried e touches.
         let v = RunTuple (in_row (values locals group os)) in
         let cells' = cells_later program.l program.setting.address program.procs program.meaning program.laws places
         objects more h'.memory
@@ -234,23 +345,30 @@ module _ (program : Program) (typed : TypesStand program.l) where
         (λ frames c. callers_later program.setting program.l program.run program.procs program.answer program.meaning
         program.laws places
         objects more waiting frames c) s count size group depth f.frames next rests words rest in
-        here program.setting (Way program f (next_state program f (after v)))
-        (R program (next_state program f (after v)))
-        (at f.world h' waiting size rests new (code_for program places objects s next))
-        (settle places (objects ++ more) h' f.world filled' f.store f.frames cells' v waiting size rests new
-        (code_for program places objects s next)
-        (given program places (objects ++ more) waiting s count size group depth f.frames next rests words new v w rest'
-        carried e touches)))
+        here program.setting (Way program f (next_state program f (after v)) h.words) (goal_of code v)
+        (at f.world h' waiting size rests new k) (
+          due_for program places objects next,
+          settle places (objects ++ more) h' f.world filled' f.store f.frames cells' v waiting size rests new k
+              (due_for program places objects next)
+              (given program places (objects ++ more) waiting s count size group depth f.frames next rests words new v w
+              rest' carried e touches),
+          kept_by program f (next_state program f (after v)) f.world f.world h h' waiting size rests words new code k
+              (due_for program places objects next) (perform_begins program.run s d (Tuple os) k)
+              (omega (arith, dear, little, enough))
+              (still_asked program f (next_state program f (after v)) f.world h.words h'.words still),
+        ))
 
     pub part_turns : (o : Operand) (i : ℤ) → operand_bound s.captured count depth o ≡ true
+        → s.params ≤ 6 → 500 ≤ budget_of program f
         → ((u : FlatValue program.meaning.Cast) (cast : program.meaning.Cast) → value locals group o ≡ RunWrap u cast
         → ⊥)
         → Follows program f (flat_proj program.procs (mode_of program) f.store f.world
         (value locals group o) i f.frames)
         (at f.world h waiting size rests words (perform program.run s (word_for program places objects s next)
         (Proj o i) (code_for program places objects s next)))
-    part_turns o i bound bare =
-        by_value (value locals group o) i refl (value_carried (scene_of RunUnit) f.world (inl refl) h objects filled
+    part_turns o i bound six enough bare =
+        by_value (value locals group o) i refl (value_carried (scene_of (code i) RunUnit) f.world h
+        (as_before (code i) RunUnit) objects filled
         waiting size rests s count group depth locals o bound words fits.knows)
       where
         code : ℤ → Code
@@ -263,10 +381,18 @@ module _ (program : Program) (typed : TypesStand program.l) where
             (at f.world h waiting size rests words (code (pos i)))
         by_part vs i is None e = goes_wrong program f places objects h filled waiting size rests words (code (pos i))
         by_part vs i is (Some v) e =
-            takes_part (scene_of v) f.world (inl refl) h objects filled waiting size rests s count group depth locals
+            let d = word_for program places objects s next in
+            let k = code_for program places objects s next in
+            let dear = proj_price program.setting.procs size s six program.run d o (pos i) k in
+            let little = due_little program places objects next in
+            takes_part (scene_of (code (pos i)) v) f.world h (as_before (code (pos i)) v) objects filled waiting size
+            rests s count group depth locals
             room words fits.knows o i (word_for program places objects s next) bound word_less
             (code_for program places objects s next) vs v is e
-            (λ w new carried e touches. put v w new carried e touches)
+            (λ w new carried e touches. put (code (pos i)) (record {
+              begins = perform_begins program.run s d (Proj o (pos i)) k;
+              paid = omega (arith, dear, little, enough);
+            }) v w new carried e touches)
 
         by_value : (u : FlatValue program.meaning.Cast) (i : ℤ) → value locals group o ≡ u
             → (w : ℕ) × CarriedHere program places objects u w

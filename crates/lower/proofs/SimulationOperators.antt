@@ -47,7 +47,13 @@ use Rattle.rv_machine.specs.Mach.{ending_of}
 use Rattle.coercion_norm.specs.ValueSteps.{TrapOf}
 use Rattle.rt_refs.specs.Answering.{Quiet, TrapsNext}
 use Rattle.rt_cast.specs.States.{heap_of}
-use Rattle.lower.proofs.WordSteps.{at, here, Comes, waiting_for}
+use Rattle.lower.proofs.WordStops.{stops_cheaply}
+use Rattle.lower.proofs.WordSteps.{at, here, Comes, Goal, waiting_for, left_of, plain}
+use Rattle.lower.proofs.EmitPrices.{prim_price, perform_begins, slot_near, test_near}
+use Rattle.low_ir.specs.Prices.{code_price, codes_price}
+use Rattle.std.proofs.Common.{length, le_refl}
+use Rattle.grift_base.specs.World.{WorldState}
+use Rattle.lower.specs.SimulationServices.{product_price}
 use Rattle.lower.proofs.WordServices.{heap_same}
 use Rattle.lower.proofs.WordOperators.{multiplies, divides, leaves, traps}
 use Rattle.lower.proofs.SimulationWay.{Seen, Stopping}
@@ -56,7 +62,12 @@ use Rattle.lower.proofs.WordOperations.{Touches}
 use Rattle.lower.proofs.WordOperators.{adds, subtracts, less, greater, at_most, at_least, equal, negates, prints_int}
 use Rattle.lower.proofs.WordOperators.{prints_newline, input_stops, reads_int, reads_none}
 use Rattle.lower.proofs.SimulationWay.{mode_of}
-use Rattle.lower.proofs.SimulationWay.{Program, R, Follows, next_state, Way, scene_for}
+use Rattle.lower.proofs.SimulationWay.{Program, Follows, FollowsFrom, FollowsBy, next_state, Way, Allowed, scene_for}
+use Rattle.lower.proofs.SimulationWay.{by_follows, turn_goal, turn_aim, kept_by, kept_besides, at_start, budget_of}
+use Rattle.lower.proofs.SimulationWay.{due_is}
+use Rattle.lower.proofs.SimulationWay.{floor_of, above_floor}
+use Rattle.lower.proofs.SimulationGives.{Fitting, due_for}
+use Rattle.lower.proofs.SimulationOperations.{due_little}
 use Rattle.lower.proofs.SimulationGives.{CarriedHere, RestHere, given, word_for, code_for}
 use Rattle.lower.proofs.SimulationOperations.{settle, goes_wrong, room, word_less, put}
 use Rattle.lower.proofs.WordScene.{Scene}
@@ -79,6 +90,13 @@ is_plain PrintInt = true
 is_plain Newline = true
 is_plain ReadInt = true
 is_plain _ = false
+
+-- products, quotients and remainders have more
+abbrev pub needed : PrimOp → ℕ
+needed Mul = 32768
+needed Quot = 32768
+needed Rem = 32768
+needed _ = 0
 
 module _ {C : Type 0} (locals : FlatLocals C) (group : Group C) where
   -- operands whose values are told
@@ -126,7 +144,8 @@ module _ (program : Program) (typed : TypesStand program.l)
     (fits : Fits program.setting program.l program.run program.procs program.answer program.meaning places objects s
     count
     size group depth locals words (Give (Prim op os)))
-    (rest : RestHere program places objects waiting s count size group depth f.frames next rests words) where
+    (rest : RestHere program places objects waiting s count size group depth f.frames next rests words)
+    (six : s.params ≤ 6) (few : length os ≤ 8) (enough : 500 ≤ budget_of program f) where
   abbrev d : ℕ
   d = word_for program places objects s next
 
@@ -137,13 +156,34 @@ module _ (program : Program) (typed : TypesStand program.l)
   abbrev Does : PrimOp → List Operand → FlatAfter program.meaning.Cast → Type 0
   Does op os x = Follows program f x (at f.world h waiting size rests words (perform program.run s d (Prim op os) k))
 
-  gives : (v : FlatValue program.meaning.Cast) (w : ℕ) (new : Locals) → CarriedHere program places objects v w
+  abbrev code_of : PrimOp → List Operand → Code
+  code_of op os = perform program.run s d (Prim op os) k
+
+  abbrev start_of : PrimOp → List Operand → LowState
+  start_of op os = at f.world h waiting size rests words (perform program.run s d (Prim op os) k)
+
+  -- an operator's price is within the budget of its turn
+  fitting : (op : PrimOp) (os : List Operand) → length os ≤ 8
+      → Fitting program places objects f s size next (perform program.run s
+      (word_for program places objects s next) (Prim op os) (code_for program places objects s next))
+  fitting op os le =
+      let dear = prim_price program.setting.procs size s six program.run d op os le k in
+      let little = due_little program places objects next in
+      record {
+        begins = perform_begins program.run s d (Prim op os) k;
+        paid = omega (arith, dear, little, enough);
+      }
+
+  gives : (op' : PrimOp) (os' : List Operand) → length os' ≤ 8 → (v : FlatValue program.meaning.Cast) (w : ℕ)
+      (new : Locals) → CarriedHere program places objects v w
       → new d ≡ Some w
       → Touches s d words new
-      → Follows program f (On (Return v) f.frames f.store f.world) (at f.world h waiting size rests new k)
-  gives v w new c e touches =
+      → FollowsFrom program f (On (Return v) f.frames f.store f.world)
+      (at f.world h waiting size rests words (perform program.run s d (Prim op' os') k))
+      (at f.world h waiting size rests new k)
+  gives op' os' le v w new c e touches =
       put program typed f places objects h filled cells waiting size rests words s count depth group locals
-      (Prim op os) next fits rest v w new c e touches
+      (Prim op os) next fits rest (code_of op' os') (fitting op' os' le) v w new c e touches
 
   wrong : (op : PrimOp) (os : List Operand) → Does op os NoNext
   wrong op os =
@@ -183,9 +223,15 @@ module _ (program : Program) (typed : TypesStand program.l)
       subst (λ l. Does op l (go a b)) (sym t.2)
       (does t.0 t.1 a b t.3 t.4 (subst (λ l. operands_bound s.captured count depth l ≡ true) t.2 fits.bound)))
 
-  abbrev scene_by : FlatValue program.meaning.Cast → Scene
-  scene_by v = scene_for program f (next_state program f (On (Return v) f.frames f.store f.world))
-      (R program (next_state program f (On (Return v) f.frames f.store f.world))) places
+  abbrev valued : FlatValue program.meaning.Cast → FlatState program.meaning.Cast
+  valued v = next_state program f (On (Return v) f.frames f.store f.world)
+
+  abbrev scene_by : PrimOp → List Operand → FlatValue program.meaning.Cast → Scene
+  scene_by op os v =
+      scene_for program f (valued v) h.words (turn_goal program f (valued v) (start_of op os)) places
+
+  as_before : (f' : FlatState program.meaning.Cast) → Allowed program f f' h.words f.world h.words
+  as_before f' = at_start program f f' f.world h.words refl
 
   less_than_size : word_for program places objects s next < size
   less_than_size = word_less program typed f places objects h filled cells waiting size rests words s count depth group
@@ -197,52 +243,58 @@ module _ (program : Program) (typed : TypesStand program.l)
 
   add : TwoInts Add (λ a b. On (Return (RunInt (int_wrap w64 (a +ℤ b)))) f.frames f.store f.world)
   add o p a b ea eb bound =
-      adds (scene_by (RunInt (int_wrap w64 (a +ℤ b)))) f.world
-      (inl refl) h objects filled waiting size rests s count group depth locals wide
+      adds (scene_by Add (o ∷ p ∷ []) (RunInt (int_wrap w64 (a +ℤ b)))) f.world h
+      (as_before (valued (RunInt (int_wrap w64 (a +ℤ b))))) objects filled waiting size rests s count group depth
+      locals wide
       words fits.knows o p a b ea eb bound d less_than_size k
-      (λ w new c e touches. gives (RunInt (int_wrap w64 (a +ℤ b))) w new c e touches)
+      (λ w new c e touches. gives Add (o ∷ p ∷ []) (omega arith) (RunInt (int_wrap w64 (a +ℤ b))) w new c e touches)
 
   subtract : TwoInts Sub (λ a b. On (Return (RunInt (int_wrap w64 (a -ℤ b)))) f.frames f.store f.world)
   subtract o p a b ea eb bound =
-      subtracts (scene_by (RunInt (int_wrap w64 (a -ℤ b)))) f.world
-      (inl refl) h objects filled waiting size rests s count group depth locals wide
+      subtracts (scene_by Sub (o ∷ p ∷ []) (RunInt (int_wrap w64 (a -ℤ b)))) f.world h
+      (as_before (valued (RunInt (int_wrap w64 (a -ℤ b))))) objects filled waiting size rests s count group depth
+      locals wide
       words fits.knows o p a b ea eb bound d less_than_size k
-      (λ w new c e touches. gives (RunInt (int_wrap w64 (a -ℤ b))) w new c e touches)
+      (λ w new c e touches. gives Sub (o ∷ p ∷ []) (omega arith) (RunInt (int_wrap w64 (a -ℤ b))) w new c e touches)
 
   less_than : TwoInts Lt (λ a b. On (Return (RunBool (int_lt a b))) f.frames f.store f.world)
   less_than o p a b ea eb bound =
-      less (scene_by (RunBool (int_lt a b))) f.world (inl refl) h objects filled waiting size rests s count group
+      less (scene_by Lt (o ∷ p ∷ []) (RunBool (int_lt a b))) f.world h
+      (as_before (valued (RunBool (int_lt a b)))) objects filled waiting size rests s count group
       depth locals wide
       words fits.knows o p a b ea eb bound d less_than_size k
-      (λ w new c e touches. gives (RunBool (int_lt a b)) w new c e touches)
+      (λ w new c e touches. gives Lt (o ∷ p ∷ []) (omega arith) (RunBool (int_lt a b)) w new c e touches)
 
   greater_than : TwoInts Gt (λ a b. On (Return (RunBool (int_lt b a))) f.frames f.store f.world)
   greater_than o p a b ea eb bound =
-      greater (scene_by (RunBool (int_lt b a))) f.world
-      (inl refl) h objects filled waiting size rests s count group depth locals wide
+      greater (scene_by Gt (o ∷ p ∷ []) (RunBool (int_lt b a))) f.world h
+      (as_before (valued (RunBool (int_lt b a)))) objects filled waiting size rests s count group depth locals wide
       words fits.knows o p a b ea eb bound d less_than_size k
-      (λ w new c e touches. gives (RunBool (int_lt b a)) w new c e touches)
+      (λ w new c e touches. gives Gt (o ∷ p ∷ []) (omega arith) (RunBool (int_lt b a)) w new c e touches)
 
   not_above : TwoInts Le (λ a b. On (Return (RunBool (not (int_lt b a)))) f.frames f.store f.world)
   not_above o p a b ea eb bound =
-      at_most (scene_by (RunBool (not (int_lt b a)))) f.world
-      (inl refl) h objects filled waiting size rests s count group depth locals wide
+      at_most (scene_by Le (o ∷ p ∷ []) (RunBool (not (int_lt b a)))) f.world h
+      (as_before (valued (RunBool (not (int_lt b a))))) objects filled waiting size rests s count group depth
+      locals wide
       words fits.knows o p a b ea eb bound d less_than_size k
-      (λ w new c e touches. gives (RunBool (not (int_lt b a))) w new c e touches)
+      (λ w new c e touches. gives Le (o ∷ p ∷ []) (omega arith) (RunBool (not (int_lt b a))) w new c e touches)
 
   not_below : TwoInts Ge (λ a b. On (Return (RunBool (not (int_lt a b)))) f.frames f.store f.world)
   not_below o p a b ea eb bound =
-      at_least (scene_by (RunBool (not (int_lt a b)))) f.world
-      (inl refl) h objects filled waiting size rests s count group depth locals wide
+      at_least (scene_by Ge (o ∷ p ∷ []) (RunBool (not (int_lt a b)))) f.world h
+      (as_before (valued (RunBool (not (int_lt a b))))) objects filled waiting size rests s count group depth
+      locals wide
       words fits.knows o p a b ea eb bound d less_than_size k
-      (λ w new c e touches. gives (RunBool (not (int_lt a b))) w new c e touches)
+      (λ w new c e touches. gives Ge (o ∷ p ∷ []) (omega arith) (RunBool (not (int_lt a b))) w new c e touches)
 
   same_as : TwoInts Equal (λ a b. On (Return (RunBool (int_eq a b))) f.frames f.store f.world)
   same_as o p a b ea eb bound =
-      equal (scene_by (RunBool (int_eq a b))) f.world (inl refl) h objects filled waiting size rests s count group
+      equal (scene_by Equal (o ∷ p ∷ []) (RunBool (int_eq a b))) f.world h
+      (as_before (valued (RunBool (int_eq a b)))) objects filled waiting size rests s count group
       depth locals wide
       words fits.knows o p a b ea eb bound d less_than_size k
-      (λ w new c e touches. gives (RunBool (int_eq a b)) w new c e touches)
+      (λ w new c e touches. gives Equal (o ∷ p ∷ []) (omega arith) (RunBool (int_eq a b)) w new c e touches)
 
   not_above' : TwoInts Le (λ a b. On (Return (RunBool (int_le a b))) f.frames f.store f.world)
   not_above' o p a b ea eb bound =
@@ -264,23 +316,43 @@ module _ (program : Program) (typed : TypesStand program.l)
       (values locals group os)
       (λ b e. let t = one_operand locals group os (RunBool b) e in
       subst (λ l. Does Not l (On (Return (RunBool (not b))) f.frames f.store f.world)) (sym t.1)
-      (negates (scene_by (RunBool (not b))) f.world (inl refl) h objects filled waiting size rests s count group depth
+      (negates (scene_by Not (t.0 ∷ []) (RunBool (not b))) f.world h (as_before (valued (RunBool (not b)))) objects
+      filled waiting size rests s count group depth
       locals wide words fits.knows t.0 b d t.2 (bound_of (t.0 ∷ []) t.1) less_than_size k
-      (λ w new c e touches. gives (RunBool (not b)) w new c e touches)))
+      (λ w new c e touches. gives Not (t.0 ∷ []) (omega arith) (RunBool (not b)) w new c e touches)))
 
   -- what is printed
   abbrev printed : List ℕ → FlatAfter program.meaning.Cast
   printed bytes = On (Return RunUnit) f.frames f.store (printing bytes f.world)
 
-  gives_unit : (bytes : List ℕ) (new : Locals) → new d ≡ Some 0 → Touches s d words new
-      → Follows program f (printed bytes) (at (printing bytes f.world) h waiting size rests new k)
-  gives_unit bytes new e touches =
-      here program.setting (Way program f (next_state program f (printed bytes)))
-      (R program (next_state program f (printed bytes))) (at (printing bytes f.world) h waiting size rests new k)
-      (settle program typed places objects h (printing bytes f.world) filled f.store f.frames cells RunUnit waiting
-      size rests new k
-      (given program places objects waiting s count size group depth f.frames next rests words new RunUnit 0 rest refl e
-      touches))
+  -- a value in a world that has changed, with no words asked for
+  gives_in : (op : PrimOp) (os : List Operand) → length os ≤ 8 → (v : FlatValue program.meaning.Cast) (w : ℕ)
+      (world' : WorldState) (new : Locals) → CarriedHere program places objects v w
+      → new d ≡ Some w → Touches s d words new
+      → FollowsFrom program f (On (Return v) f.frames f.store world') (start_of op os)
+      (at world' h waiting size rests new k)
+  gives_in op os le v w world' new c e touches =
+      let f' = next_state program f (On (Return v) f.frames f.store world') in
+      let fit = fitting op os le in
+      here program.setting (Way program f f' h.words) (turn_goal program f f' (start_of op os))
+      (at world' h waiting size rests new k) (
+        due_for program places objects next,
+        settle program typed places objects h world' filled f.store f.frames cells v waiting
+            size rests new k (due_for program places objects next)
+            (given program places objects waiting s count size group depth f.frames next rests words new v w rest c e
+            touches),
+        kept_by program f f' f.world world' h h waiting size rests words new (code_of op os) k
+            (due_for program places objects next) fit.begins fit.paid (omega arith),
+      )
+
+  gives_unit : (op : PrimOp) (os : List Operand) → length os ≤ 8 → (bytes : List ℕ) (new : Locals) → new d ≡ Some 0
+      → Touches s d words new
+      → FollowsFrom program f (printed bytes) (start_of op os)
+      (at (printing bytes f.world) h waiting size rests new k)
+  gives_unit op os le bytes new e touches = gives_in op os le RunUnit 0 (printing bytes f.world) new refl e touches
+
+  abbrev scene_in : PrimOp → List Operand → FlatState program.meaning.Cast → Scene
+  scene_in op os f' = scene_for program f f' h.words (turn_goal program f f' (start_of op os)) places
 
   turns_print : Does PrintInt os (run_on_int (mode_of program) (flat_arity program.procs) (flat_entered program.procs)
       f.store f.world (λ a. printed (signed_decimal a)) (values locals group os))
@@ -288,10 +360,11 @@ module _ (program : Program) (typed : TypesStand program.l)
       on_int (Does PrintInt os) (λ a. printed (signed_decimal a)) (wrong PrintInt os) (values locals group os)
       (λ a e. let t = one_operand locals group os (RunInt a) e in
       subst (λ l. Does PrintInt l (printed (signed_decimal a))) (sym t.1)
-      (prints_int (scene_for program f (next_state program f (printed (signed_decimal a)))
-      (R program (next_state program f (printed (signed_decimal a)))) places) f.world (inl refl) h objects filled
+      (prints_int (scene_in PrintInt (t.0 ∷ []) (next_state program f (printed (signed_decimal a)))) f.world h
+      (as_before (next_state program f (printed (signed_decimal a)))) objects filled
       waiting size rests s count group depth locals wide words fits.knows t.0 a d t.2 (bound_of (t.0 ∷ []) t.1)
-      less_than_size k (inr refl) (λ new e touches. gives_unit (signed_decimal a) new e touches)))
+      less_than_size k (inr (refl, le_refl h.words))
+      (λ new e touches. gives_unit PrintInt (t.0 ∷ []) (omega arith) (signed_decimal a) new e touches)))
 
   turns_line : (vs : List (FlatValue program.meaning.Cast)) → values locals group os ≡ vs
       → Does Newline os (run_newline (mode_of program) (flat_arity program.procs) (flat_entered program.procs) f.store
@@ -299,10 +372,10 @@ module _ (program : Program) (typed : TypesStand program.l)
   turns_line (v ∷ vs) e = wrong Newline os
   turns_line [] e =
       subst (λ l. Does Newline l (printed (codes "\n"))) (sym (no_operand locals group os e))
-      (prints_newline (scene_for program f (next_state program f (printed (codes "\n")))
-      (R program (next_state program f (printed (codes "\n")))) places) f.world (inl refl) h objects filled
-      waiting size rests s count group depth locals wide words fits.knows d less_than_size k (inr refl)
-      (λ new e touches. gives_unit (codes "\n") new e touches))
+      (prints_newline (scene_in Newline [] (next_state program f (printed (codes "\n")))) f.world h
+      (as_before (next_state program f (printed (codes "\n")))) objects filled
+      waiting size rests s count group depth locals wide words fits.knows d less_than_size k
+      (inr (refl, le_refl h.words)) (λ new e touches. gives_unit Newline [] (omega arith) (codes "\n") new e touches))
 
   -- ---- reading
 
@@ -312,14 +385,9 @@ module _ (program : Program) (typed : TypesStand program.l)
 
   gives_number : (n : ℤ) → int_wrap w64 n ≡ n → (new : Locals) → new d ≡ Some (cast_unsigned w64 n)
       → Touches s d words new
-      → Follows program f (number_read n) (at (past_run f.world) h waiting size rests new k)
+      → FollowsFrom program f (number_read n) (start_of ReadInt []) (at (past_run f.world) h waiting size rests new k)
   gives_number n small new e touches =
-      here program.setting (Way program f (next_state program f (number_read n)))
-      (R program (next_state program f (number_read n))) (at (past_run f.world) h waiting size rests new k)
-      (settle program typed places objects h (past_run f.world) filled f.store f.frames cells (RunInt n) waiting
-      size rests new k
-      (given program places objects waiting s count size group depth f.frames next rests words new (RunInt n)
-      (cast_unsigned w64 n) rest (refl, small) e touches))
+      gives_in ReadInt [] (omega arith) (RunInt n) (cast_unsigned w64 n) (past_run f.world) new (refl, small) e touches
 
   -- without a number the program traps
   abbrev no_number : FlatState program.meaning.Cast
@@ -327,14 +395,6 @@ module _ (program : Program) (typed : TypesStand program.l)
 
   abbrev no_number_ending : Ending Verdict
   no_number_ending = EndsWith (TrapVerdict Input)
-
-  abbrev no_number_scene : Scene
-  no_number_scene = record (scene_by RunUnit) {
-    P = Seen program no_number;
-    Q = Stopping program no_number no_number_ending;
-    allowed = λ world. world.output ≡ f.world.output;
-    calm = λ world h objects filled allowed active waiting. record { output = allowed; filling = (objects, filled) };
-  }
 
   -- the call that traps stops there
   traps_input : (inner : List Code) (new : Locals) → Stopping program no_number no_number_ending
@@ -347,6 +407,8 @@ module _ (program : Program) (typed : TypesStand program.l)
         stops =
             input_stops program.setting (past_white f.world) h waiting size inner new (test_word s)
             (omega (arith, wide));
+        cheap =
+            let z = slot_near (test_word s) (test_near program.setting.procs size s six) in omega (arith, z);
         seen = record { output = refl; filling = (objects, filled) };
       }
 
@@ -354,22 +416,35 @@ module _ (program : Program) (typed : TypesStand program.l)
       → Does ReadInt [] (run_reads (mode_of program) (flat_arity program.procs) (flat_entered program.procs) f.store
       f.world o f.frames)
   turns_read_by (Some n) e =
-      reads_int (scene_for program f (next_state program f (number_read n))
-      (R program (next_state program f (number_read n))) places) f.world (inl refl) h objects filled
-      waiting size rests s count group depth locals wide words fits.knows n d e less_than_size k (inr refl)
+      reads_int (scene_in ReadInt [] (next_state program f (number_read n))) f.world h
+      (as_before (next_state program f (number_read n))) objects filled
+      waiting size rests s count group depth locals wide words fits.knows n d e less_than_size k
+      (inr (refl, le_refl h.words))
       (λ new g touches. gives_number n (int_wrap_fits w64 n (next_number_fits f.world n e)) new g touches)
   turns_read_by None e =
-      let t = at f.world h waiting size rests words (perform program.run s d (Prim ReadInt []) k) in
-      let c = reads_none no_number_scene f.world refl h objects filled waiting size rests s count group depth locals
-      wide words fits.knows d e k refl
-      (here program.setting (Seen program no_number) (Stopping program no_number no_number_ending) _
-      (traps_input _ _)) in
-      here program.setting (Way program f no_number) (R program no_number) t (inr (inl (record {
-        seen = record { output = refl; filling = (objects, filled) };
-        e = no_number_ending;
-        is = refl;
-        ends = record { steps = c.steps; reach = c.reach };
-      })))
+      reads_none (scene_in ReadInt [] no_number) f.world h (as_before no_number) objects filled waiting size rests s
+      count group depth locals wide words fits.knows d e k (inl (refl, omega arith))
+      (here program.setting (Way program f no_number h.words) (turn_goal program f no_number (start_of ReadInt [])) _ (
+        0,
+        inr (inl (record {
+          seen = record { output = refl; filling = (objects, filled) };
+          e = no_number_ending;
+          is = refl;
+          ends = record {
+            steps = 0;
+            price = 0;
+            small = omega arith;
+            cheap = omega arith;
+            reach = (traps_input _ _, le_refl h.words);
+          };
+        })),
+        record {
+          asked = omega arith;
+          paid =
+              let dear = prim_price program.setting.procs size s six program.run d ReadInt [] (omega arith) k in
+              omega (arith, dear, enough);
+        },
+      ))
 
   turns_read : (vs : List (FlatValue program.meaning.Cast)) → values locals group os ≡ vs
       → Does ReadInt os (run_read (mode_of program) (flat_arity program.procs) (flat_entered program.procs) f.store
@@ -380,11 +455,60 @@ module _ (program : Program) (typed : TypesStand program.l)
       f.store f.world (next_number f.world) f.frames)) (sym (no_operand locals group os e))
       (turns_read_by (next_number f.world) refl)
 
-  multiplied : TwoInts Mul (λ a b. On (Return (RunInt (int_wrap w64 (a *ℤ b)))) f.frames f.store f.world)
-  multiplied o p a b ea eb bound =
-      multiplies (scene_by (RunInt (int_wrap w64 (a *ℤ b)))) f.world (inl refl) h objects filled waiting size rests s
-      count group depth locals wide words fits.knows program.products o p a b ea eb bound d k less_than_size
-      (λ w new c e touches. gives (RunInt (int_wrap w64 (a *ℤ b))) w new c e touches)
+  -- ---- products, quotients and remainders
+
+  -- what may be paid besides: the procedure that serves, and its return
+  abbrev product_goal : PrimOp → List Operand → FlatState program.meaning.Cast → Goal
+  product_goal op os f' = record {
+    extra = product_price + 28;
+    floor = floor_of program f 0 (left_of program.setting (start_of op os) + (product_price + 28)) (start_of op os);
+    holds = turn_aim program f f' 0 (left_of program.setting (start_of op os) + (product_price + 28)) (start_of op os);
+    least = above_floor program f f' 0 (left_of program.setting (start_of op os) + (product_price + 28))
+        (start_of op os);
+  }
+
+  abbrev product_scene : PrimOp → List Operand → FlatState program.meaning.Cast → Scene
+  product_scene op os f' = scene_for program f f' h.words (product_goal op os f') places
+
+  gives_product : (op : PrimOp) (o p : Operand) → 32768 ≤ budget_of program f
+      → (v : FlatValue program.meaning.Cast) (w : ℕ) (new : Locals)
+      → CarriedHere program places objects v w → new d ≡ Some w → Touches s d words new
+      → Comes program.setting (Way program f (valued v) h.words) (plain (product_goal op (o ∷ p ∷ []) (valued v)))
+      (at f.world h waiting size rests new k)
+  gives_product op o p big v w new c e touches =
+      let f' = valued v in
+      let dear = prim_price program.setting.procs size s six program.run d op (o ∷ p ∷ []) (omega arith) k in
+      let little = due_little program places objects next in
+      here program.setting (Way program f f' h.words) (plain (product_goal op (o ∷ p ∷ []) f'))
+      (at f.world h waiting size rests new k) (
+        due_for program places objects next,
+        settle program typed places objects h f.world filled f.store f.frames cells v waiting
+            size rests new k (due_for program places objects next)
+            (given program places objects waiting s count size group depth f.frames next rests words new v w rest c e
+            touches),
+        kept_besides program f f' f.world f.world h h waiting size rests words new (code_of op (o ∷ p ∷ [])) k
+            (product_price + 28) (due_for program places objects next)
+            (perform_begins program.run s d (Prim op (o ∷ p ∷ [])) k) (omega (arith, dear, little, big)) (omega arith),
+      )
+
+  -- a goal that is reached by what may be paid besides
+  by_all : (op : PrimOp) (os : List Operand) (x : FlatAfter program.meaning.Cast)
+      → Comes program.setting (Way program f (next_state program f x) h.words)
+      (product_goal op os (next_state program f x)) (start_of op os) → FollowsBy program f x 0 (start_of op os)
+  by_all op os x c = (left_of program.setting (start_of op os) + (product_price + 28), c)
+
+  multiplied : 32768 ≤ budget_of program f → (o p : Operand) (a b : ℤ) → value locals group o ≡ RunInt a
+      → value locals group p ≡ RunInt b → operands_bound s.captured count depth (o ∷ p ∷ []) ≡ true
+      → FollowsBy program f (On (Return (RunInt (int_wrap w64 (a *ℤ b)))) f.frames f.store f.world) 0
+      (start_of Mul (o ∷ p ∷ []))
+  multiplied big o p a b ea eb bound =
+      let v = RunInt (int_wrap w64 (a *ℤ b)) in
+      by_all Mul (o ∷ p ∷ []) (On (Return v) f.frames f.store f.world)
+      (multiplies (product_scene Mul (o ∷ p ∷ []) (valued v)) f.world h (as_before (valued v)) objects filled waiting
+      size rests s
+      count group depth locals wide words fits.knows program.products o p a b ea eb bound d k (omega arith)
+      less_than_size
+      (λ w new c e touches. gives_product Mul o p big v w new c e touches))
 
   -- ---- a divisor 0
 
@@ -393,14 +517,6 @@ module _ (program : Program) (typed : TypesStand program.l)
 
   abbrev trap_ending : Ending Verdict
   trap_ending = EndsWith (TrapVerdict ZeroDivisor)
-
-  abbrev trap_scene : Scene
-  trap_scene = record (scene_by RunUnit) {
-    P = Seen program trapped;
-    Q = Stopping program trapped trap_ending;
-    allowed = λ world. world.output ≡ f.world.output;
-    calm = λ world h objects filled allowed active waiting. record { output = allowed; filling = (objects, filled) };
-  }
 
   quiet_seen : (s t : LowState) → Quiet s t → s.world ≡ f.world
       → Filled program.meaning program.setting program.l program.number objects (heap_of s)
@@ -414,85 +530,168 @@ module _ (program : Program) (typed : TypesStand program.l)
     );
   }
 
-  traps_here : (op : PrimOp) (os : List Operand) → Comes program.setting (Seen program trapped)
-      (Stopping program trapped trap_ending)
-      (at f.world h waiting size rests words (perform program.run s d (Prim op os) k))
-      → Does op os (TrapOf ZeroDivisor f.world)
-  traps_here op os c =
-      let t = at f.world h waiting size rests words (perform program.run s d (Prim op os) k) in
-      here program.setting (Way program f trapped) (R program trapped) t (inr (inl (record {
-        seen = record { output = refl; filling = (objects, filled) };
-        e = trap_ending;
-        is = refl;
-        ends = record { steps = c.steps; reach = c.reach };
-      })))
-
-  stopping : (new : Locals) (t : LowState)
+  traps_here : (op : PrimOp) (o p : Operand) → 32768 ≤ budget_of program f → (new : Locals) (t : LowState)
       → TrapsNext ending_of program.setting ZeroDivisor
       (at f.world h (waiting_for d size rests new k ∷ waiting) size rests new k) t
-      → Stopping program trapped trap_ending t
-  stopping new t r =
-      let s = at f.world h (waiting_for d size rests new k ∷ waiting) size rests new k in
-      record {
-        now = quiet_seen s t r.quiet refl filled;
-        last = r.last;
-        stops = r.stops;
-        seen = quiet_seen s r.last r.stays refl filled;
-      }
+      → (product_goal op (o ∷ p ∷ []) trapped).holds
+      (code_price program.setting.procs size k + codes_price program.setting.procs size rests) t
+  traps_here op o p big new t r =
+      let s0 = at f.world h (waiting_for d size rests new k ∷ waiting) size rests new k in
+      let dear = prim_price program.setting.procs size s six program.run d op (o ∷ p ∷ []) (omega arith) k in
+      let quiet = quiet_seen s0 t r.quiet refl filled in (
+        0,
+        inr (inl (record {
+          seen = quiet;
+          e = trap_ending;
+          is = refl;
+          ends = record {
+            steps = 0;
+            price = 0;
+            small = omega arith;
+            cheap = omega arith;
+            reach = (
+              record {
+                now = quiet;
+                last = r.last;
+                stops = r.stops;
+                cheap = (stops_cheaply program.setting t r.last (TrapVerdict ZeroDivisor) r.stops).0;
+                seen = quiet_seen s0 r.last r.stays refl filled;
+              },
+              le_refl t.words,
+            );
+          };
+        })),
+        record {
+          asked = let z = r.quiet.words in omega (arith, z);
+          paid =
+              let due = due_is (code_of op (o ∷ p ∷ [])) rests (perform_begins program.run s d (Prim op (o ∷ p ∷ [])) k)
+              in
+              omega (arith, dear, big, due);
+        },
+      )
 
-  divided : TwoInts Quot (λ a b. if int_eq b (pos 0) then TrapOf ZeroDivisor f.world
-      else On (Return (RunInt (int_wrapping_div w64 a b))) f.frames f.store f.world)
-  divided o p a b ea eb bound = by_divisor (int_eq b (pos 0)) refl
+  trap_floor : (op : PrimOp) (o p : Operand) → 32768 ≤ budget_of program f
+      → floor_of program f 0 (left_of program.setting (start_of op (o ∷ p ∷ [])) + (product_price + 28))
+      (start_of op (o ∷ p ∷ []))
+      ≤ code_price program.setting.procs size k + codes_price program.setting.procs size rests
+  trap_floor op o p big =
+      let dear = prim_price program.setting.procs size s six program.run d op (o ∷ p ∷ []) (omega arith) k in
+      omega (arith, dear, big)
+
+  divided : 32768 ≤ budget_of program f → (o p : Operand) (a b : ℤ) → value locals group o ≡ RunInt a
+      → value locals group p ≡ RunInt b → operands_bound s.captured count depth (o ∷ p ∷ []) ≡ true
+      → FollowsBy program f (if int_eq b (pos 0) then TrapOf ZeroDivisor f.world
+      else On (Return (RunInt (int_wrapping_div w64 a b))) f.frames f.store f.world) 0 (start_of Quot (o ∷ p ∷ []))
+  divided big o p a b ea eb bound = by_divisor (int_eq b (pos 0)) refl
     where
       v : FlatValue program.meaning.Cast
       v = RunInt (int_wrapping_div w64 a b)
 
-      by_divisor : (t : Bool) → int_eq b (pos 0) ≡ t → Does Quot (o ∷ p ∷ []) (if t then TrapOf ZeroDivisor f.world
-          else On (Return (RunInt (int_wrapping_div w64 a b))) f.frames f.store f.world)
+      by_divisor : (t : Bool) → int_eq b (pos 0) ≡ t
+          → FollowsBy program f (if t then TrapOf ZeroDivisor f.world
+          else On (Return (RunInt (int_wrapping_div w64 a b))) f.frames f.store f.world) 0 (start_of Quot (o ∷ p ∷ []))
       by_divisor true e =
-          traps_here Quot (o ∷ p ∷ [])
-          (traps trap_scene f.world refl h objects filled waiting size rests s count group depth locals wide words
-          fits.knows program.products o p a b ea eb bound d k 0 (omega arith) e (λ new t r. stopping new t r))
+          by_all Quot (o ∷ p ∷ []) (TrapOf ZeroDivisor f.world)
+          (traps (product_scene Quot (o ∷ p ∷ []) trapped) f.world h (as_before trapped) objects filled waiting size
+          rests s count group depth locals wide words
+          fits.knows program.products o p a b ea eb bound d k (omega arith) 0 (omega arith) e (trap_floor Quot o p big)
+          (λ new t r. traps_here Quot o p big new t r))
       by_divisor false e =
-          divides (scene_by (RunInt (int_wrapping_div w64 a b))) f.world (inl refl) h objects filled waiting size rests
-          s count group depth locals wide words fits.knows program.products o p a b ea eb bound d k e less_than_size
-          (λ w new c q touches. gives (RunInt (int_wrapping_div w64 a b)) w new c q touches)
+          by_all Quot (o ∷ p ∷ []) (On (Return v) f.frames f.store f.world)
+          (divides (product_scene Quot (o ∷ p ∷ []) (valued v)) f.world h (as_before (valued v)) objects filled waiting
+          size rests
+          s count group depth locals wide words fits.knows program.products o p a b ea eb bound d k (omega arith) e
+          less_than_size
+          (λ w new c q touches. gives_product Quot o p big v w new c q touches))
 
-  left_over : TwoInts Rem (λ a b. if int_eq b (pos 0) then TrapOf ZeroDivisor f.world
-      else On (Return (RunInt (int_rem a b))) f.frames f.store f.world)
-  left_over o p a b ea eb bound = by_divisor (int_eq b (pos 0)) refl
+  left_over : 32768 ≤ budget_of program f → (o p : Operand) (a b : ℤ) → value locals group o ≡ RunInt a
+      → value locals group p ≡ RunInt b → operands_bound s.captured count depth (o ∷ p ∷ []) ≡ true
+      → FollowsBy program f (if int_eq b (pos 0) then TrapOf ZeroDivisor f.world
+      else On (Return (RunInt (int_rem a b))) f.frames f.store f.world) 0 (start_of Rem (o ∷ p ∷ []))
+  left_over big o p a b ea eb bound = by_divisor (int_eq b (pos 0)) refl
     where
-      by_divisor : (t : Bool) → int_eq b (pos 0) ≡ t → Does Rem (o ∷ p ∷ []) (if t then TrapOf ZeroDivisor f.world
-          else On (Return (RunInt (int_rem a b))) f.frames f.store f.world)
-      by_divisor true e =
-          traps_here Rem (o ∷ p ∷ [])
-          (traps trap_scene f.world refl h objects filled waiting size rests s count group depth locals wide words
-          fits.knows program.products o p a b ea eb bound d k 1 (omega arith) e (λ new t r. stopping new t r))
-      by_divisor false e =
-          leaves (scene_by (RunInt (int_rem a b))) f.world (inl refl) h objects filled waiting size rests s count group
-          depth locals wide words fits.knows program.products o p a b ea eb bound d k e less_than_size
-          (λ w new c q touches. gives (RunInt (int_rem a b)) w new c q touches)
+      v : FlatValue program.meaning.Cast
+      v = RunInt (int_rem a b)
 
-  pub operator_turns : (op' : PrimOp) → is_plain op' ≡ true
-      → Does op' os (flat_operate program.procs (mode_of program) f.store f.world op' (values locals group os) f.frames)
-  operator_turns Add c = two_ints Add _ add
-  operator_turns Sub c = two_ints Sub _ subtract
-  operator_turns Lt c = two_ints Lt _ less_than
-  operator_turns Gt c = two_ints Gt _ greater_than
-  operator_turns Le c = two_ints Le _ not_above'
-  operator_turns Ge c = two_ints Ge _ not_below'
-  operator_turns Equal c = two_ints Equal _ same_as
-  operator_turns Not c = turns_not
-  operator_turns PrintInt c = turns_print
-  operator_turns Newline c = turns_line (values locals group os) refl
-  operator_turns ReadInt c = turns_read (values locals group os) refl
-  operator_turns Mul c = two_ints Mul _ multiplied
-  operator_turns Quot c = two_ints Quot _ divided
-  operator_turns Rem c = two_ints Rem _ left_over
-  operator_turns MakeBox c = true_false c
-  operator_turns Unbox c = true_false c
-  operator_turns BoxSet c = true_false c
-  operator_turns MakeVector c = true_false c
-  operator_turns VectorRef c = true_false c
-  operator_turns VectorSet c = true_false c
-  operator_turns VectorLength c = true_false c
+      by_divisor : (t : Bool) → int_eq b (pos 0) ≡ t
+          → FollowsBy program f (if t then TrapOf ZeroDivisor f.world
+          else On (Return (RunInt (int_rem a b))) f.frames f.store f.world) 0 (start_of Rem (o ∷ p ∷ []))
+      by_divisor true e =
+          by_all Rem (o ∷ p ∷ []) (TrapOf ZeroDivisor f.world)
+          (traps (product_scene Rem (o ∷ p ∷ []) trapped) f.world h (as_before trapped) objects filled waiting size
+          rests s count group depth locals wide words
+          fits.knows program.products o p a b ea eb bound d k (omega arith) 1 (omega arith) e (trap_floor Rem o p big)
+          (λ new t r. traps_here Rem o p big new t r))
+      by_divisor false e =
+          by_all Rem (o ∷ p ∷ []) (On (Return v) f.frames f.store f.world)
+          (leaves (product_scene Rem (o ∷ p ∷ []) (valued v)) f.world h (as_before (valued v)) objects filled waiting
+          size rests s count group
+          depth locals wide words fits.knows program.products o p a b ea eb bound d k (omega arith) e less_than_size
+          (λ w new c q touches. gives_product Rem o p big v w new c q touches))
+
+  in_place : (op' : PrimOp) (x : FlatAfter program.meaning.Cast) → Does op' os x
+      → FollowsBy program f x 0 (start_of op' os)
+  in_place op' x c = by_follows program f x (start_of op' os) c
+
+  products : (op' : PrimOp) (go : ℤ → ℤ → FlatAfter program.meaning.Cast)
+      → ((o p : Operand) (a b : ℤ) → value locals group o ≡ RunInt a
+      → value locals group p ≡ RunInt b → operands_bound s.captured count depth (o ∷ p ∷ []) ≡ true
+      → FollowsBy program f (go a b) 0 (start_of op' (o ∷ p ∷ [])))
+      → FollowsBy program f (run_on_ints (mode_of program) (flat_arity program.procs)
+      (flat_entered program.procs) f.store f.world go
+      (values locals group os)) 0 (start_of op' os)
+  products op' go does =
+      on_ints (λ x. FollowsBy program f x 0 (start_of op' os)) go (in_place op' NoNext (wrong op' os))
+      (values locals group os)
+      (λ a b e. let t = two_operands locals group os (RunInt a) (RunInt b) e in
+      subst (λ l. FollowsBy program f (go a b) 0 (start_of op' l)) (sym t.2)
+      (does t.0 t.1 a b t.3 t.4 (subst (λ l. operands_bound s.captured count depth l ≡ true) t.2 fits.bound)))
+
+  ints : (op' : PrimOp) (go : ℤ → ℤ → FlatAfter program.meaning.Cast) → TwoInts op' go
+      → FollowsBy program f (run_on_ints (mode_of program) (flat_arity program.procs)
+      (flat_entered program.procs) f.store f.world go
+      (values locals group os)) 0 (start_of op' os)
+  ints op' go does =
+      in_place op' (run_on_ints (mode_of program) (flat_arity program.procs)
+      (flat_entered program.procs) f.store f.world go (values locals group os)) (two_ints op' go does)
+
+  pub operator_turns : (op' : PrimOp) → is_plain op' ≡ true → needed op' ≤ budget_of program f
+      → FollowsBy program f
+      (flat_operate program.procs (mode_of program) f.store f.world op' (values locals group os) f.frames) 0
+      (at f.world h waiting size rests words (perform program.run s
+      (word_for program places objects s next) (Prim op' os) (code_for program places objects s next)))
+  operator_turns Add c n = ints Add (λ a b. On (Return (RunInt (int_wrap w64 (a +ℤ b)))) f.frames f.store f.world) add
+  operator_turns Sub c n = ints Sub (λ a b. On (Return (RunInt (int_wrap w64 (a -ℤ b)))) f.frames f.store f.world)
+      subtract
+  operator_turns Lt c n = ints Lt (λ a b. On (Return (RunBool (int_lt a b))) f.frames f.store f.world) less_than
+  operator_turns Gt c n = ints Gt (λ a b. On (Return (RunBool (int_lt b a))) f.frames f.store f.world) greater_than
+  operator_turns Le c n = ints Le (λ a b. On (Return (RunBool (int_le a b))) f.frames f.store f.world) not_above'
+  operator_turns Ge c n = ints Ge (λ a b. On (Return (RunBool (int_le b a))) f.frames f.store f.world) not_below'
+  operator_turns Equal c n = ints Equal (λ a b. On (Return (RunBool (int_eq a b))) f.frames f.store f.world) same_as
+  operator_turns Not c n =
+      in_place Not (run_on_bool (mode_of program) (flat_arity program.procs) (flat_entered program.procs) f.store
+      f.world (λ b. On (Return (RunBool (not b))) f.frames f.store f.world) (values locals group os)) turns_not
+  operator_turns PrintInt c n =
+      in_place PrintInt (run_on_int (mode_of program) (flat_arity program.procs) (flat_entered program.procs)
+      f.store f.world (λ a. printed (signed_decimal a)) (values locals group os)) turns_print
+  operator_turns Newline c n =
+      in_place Newline (run_newline (mode_of program) (flat_arity program.procs) (flat_entered program.procs) f.store
+      f.world (values locals group os) f.frames) (turns_line (values locals group os) refl)
+  operator_turns ReadInt c n =
+      in_place ReadInt (run_read (mode_of program) (flat_arity program.procs) (flat_entered program.procs) f.store
+      f.world (values locals group os) f.frames) (turns_read (values locals group os) refl)
+  operator_turns Mul c n =
+      products Mul (λ a b. On (Return (RunInt (int_wrap w64 (a *ℤ b)))) f.frames f.store f.world) (multiplied n)
+  operator_turns Quot c n =
+      products Quot (λ a b. if int_eq b (pos 0) then TrapOf ZeroDivisor f.world
+      else On (Return (RunInt (int_wrapping_div w64 a b))) f.frames f.store f.world) (divided n)
+  operator_turns Rem c n =
+      products Rem (λ a b. if int_eq b (pos 0) then TrapOf ZeroDivisor f.world
+      else On (Return (RunInt (int_rem a b))) f.frames f.store f.world) (left_over n)
+  operator_turns MakeBox c n = true_false c
+  operator_turns Unbox c n = true_false c
+  operator_turns BoxSet c n = true_false c
+  operator_turns MakeVector c n = true_false c
+  operator_turns VectorRef c n = true_false c
+  operator_turns VectorSet c n = true_false c
+  operator_turns VectorLength c n = true_false c

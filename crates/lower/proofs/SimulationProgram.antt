@@ -1,4 +1,8 @@
 -- Lowered programs, as the simulation is told them.
+use Rattle.core_calc.specs.Account.{Measures}
+use Rattle.std.specs.Prelude.{max}
+use Rattle.std.proofs.Common.{le_refl, arith}
+use Rattle.lower.specs.Keeping.{FitsMeasures}
 use Rattle.std.proofs.Common.{◌≡◌, ℕ, zero, suc, List, [], ◌∷◌, ◌++◌, length, Some, true, sym, ap, ◌∙◌, subst}
 use Rattle.std.proofs.Common.{slice_get, map}
 use Rattle.grift_base.specs.Types.{TypeRow, row_at}
@@ -42,7 +46,7 @@ module _ (meaning : Meaning) (laws : MeaningLaws meaning) (setting : Setting) (l
     (casts : List TypeCast) (is : IsLowered setting l run_by procs entry answer serving memory)
     (labels : setting.labels ≡ told.labels) (row : row_at told.types told.answer ≡ Some answer)
     (closed : is_closed procs entry ≡ true) (covered : all_covered procs ≡ true) (narrow : AreNarrow procs)
-    (types : told.types ≡ l.types) (does : Serving meaning setting l procs casts run_by) where
+    (types : told.types ≡ l.types) (m : Measures) (does : Serving meaning setting l procs casts m run_by) where
   both : (takes_nothing (slice_get procs entry) ≡ true) × (each_closed procs procs ≡ true)
   both = and_true (takes_nothing (slice_get procs entry)) (each_closed procs procs) closed
 
@@ -59,6 +63,7 @@ module _ (meaning : Meaning) (laws : MeaningLaws meaning) (setting : Setting) (l
     procs = procs;
     answer = answer;
     casts = casts;
+    measured = m;
     told = told;
     answer_is = row;
     labels_are = labels;
@@ -87,6 +92,14 @@ module _ (meaning : Meaning) (laws : MeaningLaws meaning) (setting : Setting) (l
   unfolding program
   by_layout typed input never = words_follow program typed entry both.0 memory is.statics is.fits input never
 
+-- measures that fit a layout
+fitting : Layout → Measures
+fitting l = record { size = 0; height = l.tallest; width = max 2 l.width }
+
+it_fits : (l : Layout) → FitsMeasures l (fitting l)
+unfolding fitting
+it_fits l = record { wide = grind arith; some = grind arith; tall = le_refl l.tallest }
+
 -- for every scheme that owes what the law asks of it
 pub words_follow_by : (meaning : Meaning) → MeaningLaws meaning → (procs_from : ℕ → List LowProc)
     (numbers_from : ℕ → Served) → ServesEverywhere meaning procs_from numbers_from
@@ -102,6 +115,7 @@ words_follow_by meaning laws procs_from numbers_from serves = λ setting l words
     (run (low_machine ending_of setting) (low_start setting (entry_proc entry answer) memory (first_world input)))
     (flat_run_in procs entry (meaning.mode rows casts) told input)) (sym types)
     (by_layout meaning laws setting l run_by procs entry answer (procs_from first) memory told casts is labels row
-    closed covered narrow types
-    (serves setting l procs casts first words is.placed is.begins small typed held stand) typed input
+    closed covered narrow types (fitting l)
+    (serves setting l procs casts (fitting l) first words (it_fits l) is.placed is.begins small typed held stand)
+    typed input
     (subst (λ rows. NeverWrong (flat_run_in procs entry (meaning.mode rows casts) told input)) types never))

@@ -16,15 +16,21 @@ use Rattle.flat_ir.specs.Machine.{flat_state_at}
 use Rattle.rt_cast.specs.States.{Heap, heap_of}
 use Rattle.lower.specs.Storage.{Filled}
 use Rattle.lower.specs.CarriedValues.{CellsHeld}
-use Rattle.lower.specs.SchemeLaws.{Spent, Goes, Returns, ReturnsAt, Answers}
+use Rattle.lower.specs.SchemeLaws.{Spent, Goes, Returns, ReturnsAt, Answers, resumed_leaves}
 use Rattle.lower.proofs.RelationKept.{callers_grown}
-use Rattle.lower.proofs.WordSteps.{at, here, lt_true}
-use Rattle.lower.proofs.SimulationWay.{Program, N, mode_of, after_wraps, Settled, size_of, frames_weight}
+use Rattle.lower.proofs.WordCredits.{by_now, some_more}
+use Rattle.lower.proofs.WordSteps.{at, lt_true}
+use Rattle.lower.proofs.WordServices.{return_price}
+use Rattle.low_ir.specs.Prices.{low_price}
+use Rattle.run_laws.specs.Runs.{Ending}
+use Rattle.grift_base.specs.declared.verdicts.Verdict.{Verdict}
+use Rattle.std.proofs.Common.{◌+◌, ap, Option, None, le_refl}
+use Rattle.lower.proofs.SimulationWay.{Program, N, mode_of, next_state, after_wraps, Settled, size_of, frames_weight}
+use Rattle.lower.proofs.SimulationWay.{cost_of, budget_of, dues, due_of, waiting_dues, zero_once_ended}
 use Rattle.lower.proofs.SimulationGives.{CarriedHere, CallersHere}
 use Rattle.lower.proofs.SimulationOperations.{returned}
-use Rattle.lower.proofs.SimulationServed.{OnServed, Lands, silent_after}
-use Rattle.lower.proofs.SimulationServices.{Served, kept_in_front}
-use Rattle.lower.proofs.SimulationApplied.{serve_step}
+use Rattle.lower.proofs.SimulationServed.{OnServed, Lands, SettledWith, silent_after}
+use Rattle.lower.proofs.SimulationServices.{Served, OnTurn, Landing, serve_step, kept_in_front}
 
 module _ (program : Program) (typed : TypesStand program.l) (store : FlatStore program.meaning.Cast)
     (world : WorldState)
@@ -55,64 +61,102 @@ module _ (program : Program) (typed : TypesStand program.l) (store : FlatStore p
   light x [] store' = omega arith
   light x (frame ∷ k) store' = omega arith
 
-  lands_at : (x : FlatValue program.meaning.Cast) (store' : FlatStore program.meaning.Cast) (n : ℕ) (t : LowState)
-      → ReturnsAt program.meaning program.setting program.l program.procs program.casts c places objects x store' n t
-      → Lands program world.output n (suc (frames_weight base))
+  abbrev have : ℕ
+  have = 28 + dues (at world h (u ∷ us) size rests words (ReturnCode source))
+
+  lands_at : (x : FlatValue program.meaning.Cast) (store' : FlatStore program.meaning.Cast) (n left : ℕ) (t : LowState)
+      → resumed_leaves ≤ left
+      → ReturnsAt program.meaning program.setting program.l program.procs program.casts program.measured c places
+      objects
+      x store' n t
+      → Lands program world.output n (suc (frames_weight base)) have 28 left
       (flat_state_at program.procs program.told (Return x) base store' world) t
-  lands_at x store' n t q = record {
-    comes = here program.setting (OnServed program world.output n n)
-        (Settled (after_wraps program n) (flat_state_at program.procs program.told (Return x) base store' world)) t
-        (subst (λ z. Settled (after_wraps program n)
-        (flat_state_at program.procs program.told (Return x) base store' world)
-        (at z (heap_of t) t.waiting t.active.count t.active.rests t.active.locals t.active.code)) (sym q.same)
-        (returned (after_wraps program n) typed (places ++ q.cells) (objects ++ q.more) (heap_of t) world q.here.filled
-        store' base q.here.cells x t.waiting t.active.count t.active.rests t.active.locals t.active.code (inr (record {
-          source = q.source;
-          w = q.word;
-          code = q.code;
-          is = q.is;
-          carried = q.carried;
-          callers = subst (λ ws. CallersHere program (places ++ q.cells) (objects ++ q.more) ws base) (sym q.waits)
-              (callers_grown program.setting program.l program.run program.procs program.answer program.meaning
-              program.laws places (places ++ q.cells) (kept_in_front places q.cells) objects q.more us base callers);
-        }))));
+  lands_at x store' n left t le q = record {
+    comes = by_now program.setting (OnServed program world.output n n t.words)
+        (λ left u. (u.words ≤ t.words) × SettledWith program have 28 left
+        (flat_state_at program.procs program.told (Return x) base store' world) n u) 0 left t (omega arith) (
+          le_refl t.words,
+          (28, settled, kept (flat_state_at program.procs program.told (Return x) base store' world).ended),
+        );
     some = inr (light x base store');
   }
+    where
+      settled : Settled (after_wraps program n) (flat_state_at program.procs program.told (Return x) base store' world)
+          28 t
+      settled =
+          subst (λ z. Settled (after_wraps program n)
+          (flat_state_at program.procs program.told (Return x) base store' world) 28
+          (at z (heap_of t) t.waiting t.active.count t.active.rests t.active.locals t.active.code)) (sym q.same)
+          (returned (after_wraps program n) typed (places ++ q.cells) (objects ++ q.more)
+          (heap_of t) world q.here.filled
+          store' base q.here.cells x t.waiting t.active.count t.active.rests t.active.locals t.active.code 28 (inr (
+            record {
+              source = q.source;
+              w = q.word;
+              code = q.code;
+              is = q.is;
+              carried = q.carried;
+              callers = subst (λ ws. CallersHere program (places ++ q.cells) (objects ++ q.more) ws base) (sym q.waits)
+                  (callers_grown program.setting program.l program.run program.procs program.answer program.meaning
+                  program.laws places (places ++ q.cells) (kept_in_front places q.cells) objects q.more us base
+                  callers);
+            },
+            le_refl 28,
+          )))
+
+      kept : (o : Option (Ending Verdict)) → zero_once_ended o (28 + (due_of t.active.code t.active.rests
+          + waiting_dues t.waiting)) + 28 ≤ left + have
+      kept None =
+          let z = ap (λ k. due_of k t.active.rests) q.code in
+          let y = ap waiting_dues q.waits in omega (arith, le, z, y)
+      kept (Some e) = omega (arith, le)
 
   lands : (focus : FlatFocus program.meaning.Cast) (frames : List (FlatFrame program.meaning.Cast))
-      (store' : FlatStore program.meaning.Cast) (n : ℕ) (t : LowState)
-      → Returns program.meaning program.setting program.l program.procs program.casts c places objects base focus frames
-      store' n t
-      → Lands program world.output n (suc (frames_weight base))
+      (store' : FlatStore program.meaning.Cast) (n left : ℕ) (t : LowState)
+      → Returns program.meaning program.setting program.l program.procs program.casts program.measured c resumed_leaves
+      places objects base focus frames store' n left t
+      → Lands program world.output n (suc (frames_weight base)) have 28 left
       (flat_state_at program.procs program.told focus frames store' world) t
-  lands (Return x) frames store' n t q =
-      subst (λ fs. Lands program world.output n (suc (frames_weight base))
-      (flat_state_at program.procs program.told (Return x) fs store' world) t) (sym q.0) (lands_at x store' n t q.1)
-  lands (Own place) frames store' n t q = absurd q
-  lands (Entering g done todo) frames store' n t q = absurd q
+  lands (Return x) frames store' n left t q =
+      subst (λ fs. Lands program world.output n (suc (frames_weight base)) have 28 left
+      (flat_state_at program.procs program.told (Return x) fs store' world) t) (sym q.0)
+      (lands_at x store' n left t q.1 q.2)
+  lands (Own place) frames store' n left t q = absurd q
+  lands (Entering g done todo) frames store' n left t q = absurd q
 
-  pub resumed : Served program typed f after wraps (at world h (u ∷ us) size rests words (ReturnCode source))
+  pub resumed : Served program typed f after wraps 28 (at world h (u ∷ us) size rests words (ReturnCode source))
   resumed = (
-    silent_after program c law.1 (Goes program.meaning program.setting program.l program.procs program.casts c law.1
-        (Returns program.meaning program.setting program.l program.procs program.casts c places objects base) law.2.0)
-        f refl after program.number wraps (record c { active = with_local u.answer w u.rest }) law.2.1,
-    serve_step program typed f c refl law.1 (suc (frames_weight base))
-        (Returns program.meaning program.setting program.l program.procs program.casts c places objects base) lands
-        after
-        program.number wraps law.2.0 (at world h (u ∷ us) size rests words (ReturnCode source))
-        (record c { active = with_local u.answer w u.rest }) step
-        (record { same = refl; filling = inl (objects, filled) }) (record {
+    silent_after program c law.1 (Goes program.meaning program.setting program.l program.procs program.casts
+        program.measured c law.1
+        (Returns program.meaning program.setting program.l program.procs program.casts program.measured c resumed_leaves
+        places objects base) law.2.0)
+        f refl after (cost_of program f) 0 program.number wraps
+        (record c { active = with_local u.answer w u.rest }) law.2.1,
+    28,
+    omega arith,
+    some_more program.setting (OnTurn program typed f wraps h.words)
+        (Landing program typed f have 28 (next_state program f after) wraps h.words) 0
+        (low_price program.setting.procs (at world h (u ∷ us) size rests words (ReturnCode source)) + budget_of
+        program f)
+        (28 + budget_of program f) (at world h (u ∷ us) size rests words (ReturnCode source))
+        (let z = return_price program.setting.procs size source in omega (arith, z))
+        (serve_step program typed f c refl law.1 (suc (frames_weight base)) have 28
+        (Returns program.meaning program.setting program.l program.procs program.casts program.measured c resumed_leaves
+        places objects base) lands
+        after wraps law.2.0 (at world h (u ∷ us) size rests words (ReturnCode source))
+        (record c { active = with_local u.answer w u.rest }) step refl
+        (record { same = refl; filling = inl (objects, filled); asked = omega arith }) (record {
           objects = objects;
           filled = inl filled;
           same = refl;
           active = omega arith;
           asked = omega arith;
-        }) law.2.1,
+        }) law.2.1),
   )
     where
       law : (u.answer < u.rest.count) × (most : Spent)
-          × Answers program.meaning program.setting program.l program.procs program.casts c most places objects base
-          after
+          × Answers program.meaning program.setting program.l program.procs program.casts program.measured c most
+          resumed_leaves places objects base after (cost_of program f)
           program.number wraps (record c { active = with_local u.answer w u.rest })
       law = program.calling.goes_on c program.number places objects store (record { filled = filled; cells = cells })
           base u cast results resumes v w carried

@@ -6,9 +6,9 @@ use Rattle.grift_base.specs.World.{WorldState}
 use Rattle.grift_base.specs.declared.places.Pos.{Pos}
 use Rattle.grift_base.specs.declared.verdicts.Verdict.{Verdict}
 use Rattle.grift_base.specs.declared.verdicts.Verdict.TheVariants.{Blame, Trap as TrapVerdict}
-use Rattle.run_laws.specs.Runs.{Ending, Verdict as EndsWith, Wrong, Exhausted}
-use Rattle.run_laws.specs.Machines.{Next as Next', Go, Stop, Reaches, Onward}
-use Rattle.run_laws.proofs.Public.{reaches_weaken, by_step}
+use Rattle.run_laws.specs.Runs.{Ending, Verdict as EndsWith, Wrong}
+use Rattle.run_laws.specs.Machines.{Reaches}
+use Rattle.run_laws.proofs.Public.{reaches_weaken}
 use Rattle.low_ir.specs.Run.{Setting, LowState}
 use Rattle.coercion_norm.specs.Held.{Layout}
 use Rattle.lower.specs.Meanings.{Meaning}
@@ -20,16 +20,24 @@ use Rattle.coercion_norm.specs.Objects.{Object}
 use Rattle.rt_cast.specs.States.{heap_of}
 use Rattle.lower.specs.Storage.{Filled}
 use Rattle.lower.specs.SchemeLaws.{Spent, Aim, OnWay, StopsNow, Walks, After, Goes, IsPending}
-use Rattle.lower.proofs.WordSteps.{Comes, Moves, moved, then_comes}
-use Rattle.lower.proofs.SimulationWay.{Program, after_wraps, mode_of, N, Seen, Stopping, Ends, Over, Settled}
-use Rattle.lower.proofs.SimulationWay.{next_state, turn_of, size_of}
+use Rattle.lower.proofs.WordCredits.{By, by_then_step}
+use Rattle.lower.proofs.WordStops.{stops_cheaply}
+use Rattle.low_ir.specs.Prices.{CostsAtMost}
+use Rattle.rv_machine.specs.Mach.{ending_of}
+use Rattle.flat_ir.specs.FlatTally.{Cost}
+use Rattle.std.proofs.Common.{le_refl}
+use Rattle.lower.proofs.SimulationWay.{Program, after_wraps, mode_of, N, Seen, Over, Settled}
+use Rattle.lower.proofs.SimulationWay.{next_state, turn_of, size_of, over_price, zero_once_ended, dues, asks_of}
+use Rattle.lower.proofs.SimulationWay.{budget_of, cost_of, unless_ended, focus_weight, frames_weight}
 
--- on the way of a procedure that serves: nothing was printed, and the number is one of both
-pub record OnServedIn (meaning : Meaning) (setting : Setting) (l : Layout) (output : List ℕ) (before after : ℕ)
+-- on the way of a procedure that serves: nothing was printed, the number is one of both, and no more words were asked
+-- for
+pub record OnServedIn (meaning : Meaning) (setting : Setting) (l : Layout) (output : List ℕ) (before after limit : ℕ)
     (t : LowState) : Type 0 where
   pub same : t.world.output ≡ output
   pub filling : ((objects : List Object) × Filled meaning setting l before objects (heap_of t))
       ⊎ ((objects : List Object) × Filled meaning setting l after objects (heap_of t))
+  pub asked : t.words ≤ limit
 
 module _ (program : Program) where
   abbrev pub FillingAt : ℕ → LowState → Type 0
@@ -41,25 +49,41 @@ module _ (program : Program) where
   abbrev pub next_of : FlatState program.meaning.Cast → FlatState program.meaning.Cast
   next_of f = next_state program f (turn_of program f)
 
-  abbrev pub OnServed : List ℕ → ℕ → ℕ → LowState → Type 0
-  OnServed output before after t = OnServedIn program.meaning program.setting program.l output before after t
+  abbrev pub OnServed : List ℕ → ℕ → ℕ → ℕ → LowState → Type 0
+  OnServed output before after limit t =
+      OnServedIn program.meaning program.setting program.l output before after limit t
 
-  -- the run over words comes to where Q holds, in some step at least if Last holds, or in none to where the measure is
-  -- low; or the numbered procedures have ended
-  abbrev pub Next : (FlatState program.meaning.Cast → ℕ → LowState → Type 0) → ℕ → Type 0 → List ℕ
-      → FlatState program.meaning.Cast → ℕ → ℕ → LowState → Type 0
-  Next Q low Last output f' before after t =
-      Over (after_wraps program after) f' t
-      ⊎ ((k : ℕ) × (Last → (0 < k) ⊎ (size_of f' ≤ low))
-      × Reaches (N program) (OnServed output before after) (Q f' after) k t)
+  -- the numbered procedures have ended, and so does the run over words at its next step
+  abbrev pub Ended : FlatState program.meaning.Cast → ℕ → LowState → Type 0
+  Ended f n t =
+      (o : Over (after_wraps program n) f t) × (over_price (after_wraps program n) f t o.e o.ends ≤ 0)
 
-  -- so many turns are left
-  abbrev pub Waits : ℕ → ℕ → FlatState program.meaning.Cast → ℕ → LowState → Type 0
-  Waits low zero f n t = Settled (after_wraps program n) f t
-  Waits low (suc i) f n t =
-      Over (after_wraps program n) f t
+  -- both have come to states that go together: what is due there, and what was paid before the procedure was entered,
+  -- is
+  -- within what is left and what there was to begin with
+  abbrev pub SettledWith : ℕ → ℕ → ℕ → FlatState program.meaning.Cast → ℕ → LowState → Type 0
+  SettledWith have before left f n t =
+      (due : ℕ) × Settled (after_wraps program n) f due t
+      × (zero_once_ended f.ended (due + dues t) + before ≤ left + have)
+
+  -- the run over words comes to where Q holds, in a turn that asks for so many words, by this credit, in some step at
+  -- least if Last holds, or in none to where the measure is low; or the numbered procedures have ended
+  abbrev pub Next : (ℕ → FlatState program.meaning.Cast → ℕ → LowState → Type 0) → ℕ → Type 0 → List ℕ
+      → FlatState program.meaning.Cast → ℕ → ℕ → ℕ → ℕ → LowState → Type 0
+  Next Q low Last output f' asks credit before after t =
+      Ended f' after t
+      ⊎ ((c : By program.setting (OnServed output before after (t.words + asks))
+      (λ left u. (u.words ≤ t.words + asks) × Q left f' after u) 0 credit t)
+      × (Last → (0 < c.steps) ⊎ (size_of f' ≤ low)))
+
+  -- so many turns are left, and so much of their budgets
+  abbrev pub Waits : ℕ → ℕ → ℕ → ℕ → ℕ → FlatState program.meaning.Cast → ℕ → LowState → Type 0
+  Waits low have before zero left f n t = Ended f n t ⊎ SettledWith have before left f n t
+  Waits low have before (suc i) left f n t =
+      Ended f n t
       ⊎ ((f.ended ≡ None) × Seen (after_wraps program n) f t × ((next_of f).world.output ≡ f.world.output)
-      × Next (Waits low i) low (i ≡ 0) f.world.output (next_of f) n (n + wraps_of f) t)
+      × Next (Waits low have before i) low (i ≡ 0) f.world.output (next_of f) (asks_of program f)
+      (left + budget_of program f) n (n + wraps_of f) t)
 
   abbrev state_at : FlatFocus program.meaning.Cast → List (FlatFrame program.meaning.Cast)
       → FlatStore program.meaning.Cast → WorldState → FlatState program.meaning.Cast
@@ -67,7 +91,8 @@ module _ (program : Program) where
 
   pending : (focus : FlatFocus program.meaning.Cast) (frames : List (FlatFrame program.meaning.Cast)) (s : LowState)
       (most : Spent)
-      → IsPending program.meaning program.setting program.l program.procs program.casts s most focus frames
+      → IsPending program.meaning program.setting program.l program.procs program.casts program.measured s most focus
+      frames
       → answer_at program.procs program.told focus frames ≡ None
   pending (Return v) [] s most p = absurd p
   pending (Return v) (frame ∷ frames) s most p = refl
@@ -76,229 +101,331 @@ module _ (program : Program) where
 
   -- what serves prints nothing
   pub silent_after : (s : LowState) (most : Spent)
-      (aim : Aim program.meaning program.setting program.l program.procs program.casts)
-      (f : FlatState program.meaning.Cast) → f.world ≡ s.world → (x : FlatAfter program.meaning.Cast) (n w : ℕ)
-      (t : LowState)
-      → After program.meaning program.setting program.l program.procs program.casts s most aim x n w t
+      (aim : Aim program.meaning program.setting program.l program.procs program.casts program.measured)
+      (f : FlatState program.meaning.Cast) → f.world ≡ s.world → (x : FlatAfter program.meaning.Cast) (cost : Cost)
+      (credit n w : ℕ) (t : LowState)
+      → After program.meaning program.setting program.l program.procs program.casts program.measured s most aim x cost
+      credit n w t
       → (next_state program f x).world.output ≡ f.world.output
-  silent_after s most aim f fw (On focus frames store world) n w t a = ap (λ z. z.output) (a.0 ∙ sym fw)
-  silent_after s most aim f fw (BlameOf label) n w t a = refl
-  silent_after s most aim f fw (TrapOf trap world) n w t a = ap (λ z. z.output) (a.1 ∙ sym fw)
-  silent_after s most aim f fw NoNext n w t a = refl
+  silent_after s most aim f fw (On focus frames store world) cost credit n w t a = ap (λ z. z.output) (a.0 ∙ sym fw)
+  silent_after s most aim f fw (BlameOf label) cost credit n w t a = refl
+  silent_after s most aim f fw (TrapOf trap world) cost credit n w t a = ap (λ z. z.output) (a.1 ∙ sym fw)
+  silent_after s most aim f fw NoNext cost credit n w t a = refl
 
   -- the run over words comes to such a state, in some step at least, or to where the measure is low
-  pub record Lands (output : List ℕ) (n low : ℕ) (f' : FlatState program.meaning.Cast) (t : LowState) : Type 0 where
-    pub comes : Comes program.setting (OnServed output n n) (Settled (after_wraps program n) f') t
+  pub record Lands (output : List ℕ) (n low have before left : ℕ) (f' : FlatState program.meaning.Cast)
+      (t : LowState) : Type 0 where
+    pub comes : By program.setting (OnServed output n n t.words)
+        (λ left u. (u.words ≤ t.words) × SettledWith have before left f' n u) 0 left t
     pub some : (0 < comes.steps) ⊎ (size_of f' ≤ low)
 
-  pub lands_by : (output : List ℕ) (n low : ℕ) (f' : FlatState program.meaning.Cast) (t : LowState)
-      → Moves program.setting (OnServed output n n) (Settled (after_wraps program n) f') t → Lands output n low f' t
-  lands_by output n low f' t m =
-      record { comes = record { steps = m.steps; reach = m.reach }; some = inl m.some }
+  -- a credit may be greater
+  pub next_more : (Q : ℕ → FlatState program.meaning.Cast → ℕ → LowState → Type 0) (low : ℕ) (Last : Type 0)
+      (output : List ℕ) (f' : FlatState program.meaning.Cast) (asks credit more before after : ℕ) (t : LowState)
+      → credit ≤ more → Next Q low Last output f' asks credit before after t
+      → Next Q low Last output f' asks more before after t
+  next_more Q low Last output f' asks credit more before after t le (inl o) = inl o
+  next_more Q low Last output f' asks credit more before after t le (inr c) =
+      inr (
+        record {
+          steps = c.0.steps;
+          price = c.0.price;
+          left = c.0.left;
+          within = let z = c.0.within in omega (arith, z, le);
+          least = omega arith;
+          cheap = c.0.cheap;
+          reach = c.0.reach;
+        },
+        c.1,
+      )
 
   abbrev ZeroIsZero : Type 0
   ZeroIsZero = let zero_here : ℕ = 0 in zero_here ≡ 0
 
-  -- with a step first
-  steps_on : (P Q : LowState → Type 0) (k : ℕ) (t : LowState)
-      → Reaches (N program) P (Comes program.setting P Q) (suc k) t → Moves program.setting P Q t
-  steps_on P Q k t r = by_next ((N program).step t) refl r.1
-    where
-      by_next : (x : Next' LowState Verdict) → (N program).step t ≡ x
-          → Onward x P (Reaches (N program) P (Comes program.setting P Q) k) → Moves program.setting P Q t
-      by_next (Go t') e o =
-          moved program.setting P Q t t' e r.0
-          (then_comes program.setting P Q P (Comes program.setting P Q) (λ u p. p) k t' o (λ u c. c))
-      by_next (Stop (EndsWith v) t') e o = absurd o
-      by_next (Stop Wrong t') e o = absurd o
-      by_next (Stop Exhausted t') e o =
-          record { steps = 1; some = omega arith; reach = by_step (N program) P Q 0 t (Stop Exhausted t') e r.0 o }
-
-  module _ (s : LowState) (most : Spent) (low : ℕ)
-      (aim : Aim program.meaning program.setting program.l program.procs program.casts)
+  module _ (s : LowState) (most : Spent) (low have before : ℕ)
+      (aim : Aim program.meaning program.setting program.l program.procs program.casts program.measured)
       (lands : (focus : FlatFocus program.meaning.Cast) (frames : List (FlatFrame program.meaning.Cast))
-      (store : FlatStore program.meaning.Cast) (n : ℕ) (t : LowState) → aim focus frames store n t
-      → Lands s.world.output n low (state_at focus frames store s.world) t) where
-    abbrev AfterHere : ℕ → FlatAfter program.meaning.Cast → ℕ → ℕ → LowState → Type 0
-    AfterHere i x n w t =
-        After program.meaning program.setting program.l program.procs program.casts s most
-        (Goes program.meaning program.setting program.l program.procs program.casts s most aim i) x n w t
+      (store : FlatStore program.meaning.Cast) (n left : ℕ) (t : LowState) → aim focus frames store n left t
+      → Lands s.world.output n low have before left (state_at focus frames store s.world) t) where
+    abbrev AfterHere : ℕ → FlatAfter program.meaning.Cast → Cost → ℕ → ℕ → ℕ → LowState → Type 0
+    AfterHere i x cost credit n w t =
+        After program.meaning program.setting program.l program.procs program.casts program.measured s most
+        (Goes program.meaning program.setting program.l program.procs program.casts program.measured s most aim i) x
+        cost credit n w t
 
-    abbrev OnWayHere : ℕ → ℕ → LowState → Type 0
-    OnWayHere n n' t = OnWay program.meaning program.setting program.l program.procs program.casts s most n n' t
+    abbrev OnWayHere : LowState → ℕ → ℕ → ℕ → LowState → Type 0
+    OnWayHere t asks n n' u =
+        OnWay program.meaning program.setting program.l program.procs program.casts program.measured s t most asks n
+        n' u
 
-    served : (n n' : ℕ) (t : LowState) → OnWayHere n n' t → OnServed s.world.output n n' t
-    served n n' t o = record { same = ap (λ w. w.output) o.same; filling = by_filling o.filled }
+    abbrev WalksHere : ℕ → ℕ → ℕ → ℕ → (ℕ → LowState → Type 0) → LowState → Type 0
+    WalksHere asks credit n n' Q t =
+        Walks program.meaning program.setting program.l program.procs program.casts program.measured s most asks credit
+        n n' Q t
+
+    abbrev StopsHere : ℕ → Ending Verdict → LowState → Type 0
+    StopsHere n e t =
+        StopsNow program.meaning program.setting program.l program.procs program.casts program.measured s n e t
+
+    served : (t : LowState) (asks n n' : ℕ) (u : LowState) → OnWayHere t asks n n' u
+        → OnServed s.world.output n n' (t.words + asks) u
+    served t asks n n' u o =
+        record { same = ap (λ w. w.output) o.same; filling = by_filling o.filled; asked = o.asked }
       where
-        by_filling : Filled program.meaning program.setting program.l n o.objects (heap_of t)
-            ⊎ Filled program.meaning program.setting program.l n' o.objects (heap_of t)
-            → FillingAt n t ⊎ FillingAt n' t
+        by_filling : Filled program.meaning program.setting program.l n o.objects (heap_of u)
+            ⊎ Filled program.meaning program.setting program.l n' o.objects (heap_of u)
+            → FillingAt n u ⊎ FillingAt n' u
         by_filling (inl x) = inl (o.objects, x)
         by_filling (inr x) = inr (o.objects, x)
 
-    passing : (n : ℕ) (t : LowState) → OnWayHere n n t → FillingAt n t
-    passing n t o = by_filling o.filled
+    passing : (t : LowState) (asks n : ℕ) (u : LowState) → OnWayHere t asks n n u → FillingAt n u
+    passing t asks n u o = by_filling o.filled
       where
-        by_filling : Filled program.meaning program.setting program.l n o.objects (heap_of t)
-            ⊎ Filled program.meaning program.setting program.l n o.objects (heap_of t) → FillingAt n t
+        by_filling : Filled program.meaning program.setting program.l n o.objects (heap_of u)
+            ⊎ Filled program.meaning program.setting program.l n o.objects (heap_of u) → FillingAt n u
         by_filling (inl x) = (o.objects, x)
         by_filling (inr x) = (o.objects, x)
 
-    -- where the numbered procedures have ended
-    ended : (n n' : ℕ) → n' ≡ n → (f' : FlatState program.meaning.Cast) (e : Ending Verdict) → f'.ended ≡ Some e
-        → f'.world.output ≡ s.world.output → (t : LowState) → OnWayHere n n t
-        → Walks program.meaning program.setting program.l program.procs program.casts s most n n
-        (StopsNow program.meaning program.setting program.l program.procs program.casts s n e) t
-        → Ends (after_wraps program n') f' e t
-    ended n n' same f' e is out t here walks =
-        subst (λ m. Ends (after_wraps program m) f' e t) (sym same) (record {
-          steps = walks.0;
-          reach = reaches_weaken (N program) (OnWayHere n n)
-              (StopsNow program.meaning program.setting program.l program.procs program.casts s n e)
-              (Seen (after_wraps program n) f') (Stopping (after_wraps program n) f' e)
-              (λ u o. seen u (ap (λ w. w.output) o.same) (passing n u o))
-              (λ u q. record {
-                now = seen u (ap (λ w. w.output) q.same) q.here;
-                last = q.last;
-                stops = q.stops;
-                seen = seen q.last (ap (λ w. w.output) q.same_after) q.after;
-              }) walks.0 t walks.1;
-        })
+    over : (n n' : ℕ) → n' ≡ n → (f' : FlatState program.meaning.Cast) → f'.ended ≡ Some Wrong
+        → f'.world.output ≡ s.world.output → (t : LowState) → OnWayHere t 0 n n t → Ended f' n' t
+    over n n' same f' is out t here =
+        subst (λ m. Ended f' m t) (sym same) (
+          record {
+            seen = record { output = ap (λ w. w.output) here.same ∙ sym out; filling = passing t 0 n t here };
+            e = Wrong;
+            is = is;
+            ends = tt;
+          },
+          omega arith,
+        )
+
+    -- where the next step ends so
+    ended : (n : ℕ) (f' : FlatState program.meaning.Cast) (v : Verdict) → f'.ended ≡ Some (EndsWith v)
+        → f'.world.output ≡ s.world.output → (u : LowState) → StopsHere n (EndsWith v) u → Ended f' n u
+    ended n f' v is out u q = (
+      record {
+        seen = seen u (ap (λ w. w.output) q.same) q.here;
+        e = EndsWith v;
+        is = is;
+        ends = record {
+          steps = 0;
+          price = 0;
+          small = omega arith;
+          cheap = omega arith;
+          reach = (
+            record {
+              now = seen u (ap (λ w. w.output) q.same) q.here;
+              last = q.last;
+              stops = q.stops;
+              cheap = (stops_cheaply program.setting u q.last v q.stops).0;
+              seen = seen q.last (ap (λ w. w.output) q.same_after) q.after;
+            },
+            le_refl u.words,
+          );
+        };
+      },
+      omega arith,
+    )
       where
         seen : (u : LowState) → u.world.output ≡ s.world.output → FillingAt n u → Seen (after_wraps program n) f' u
         seen u o x = record { output = o ∙ sym out; filling = x }
 
-    over : (n n' : ℕ) → n' ≡ n → (f' : FlatState program.meaning.Cast) → f'.ended ≡ Some Wrong
-        → f'.world.output ≡ s.world.output → (t : LowState) → OnWayHere n n t → Over (after_wraps program n') f' t
-    over n n' same f' is out t here =
-        subst (λ m. Over (after_wraps program m) f' t) (sym same) (record {
-          seen = record { output = ap (λ w. w.output) here.same ∙ sym out; filling = passing n t here };
-          e = Wrong;
-          is = is;
-          ends = tt;
-        })
+    ends_in : (i left : ℕ) (f' : FlatState program.meaning.Cast) (n : ℕ) (u : LowState) → Ended f' n u
+        → Waits low have before i left f' n u
+    ends_in zero left f' n u o = inl o
+    ends_in (suc i) left f' n u o = inl o
 
-    ends_so : (n n' : ℕ) → n' ≡ n → (f' : FlatState program.meaning.Cast) (v : Verdict)
-        → f'.ended ≡ Some (EndsWith v) → f'.world.output ≡ s.world.output → (t : LowState) → OnWayHere n n t
-        → Walks program.meaning program.setting program.l program.procs program.casts s most n n
-        (StopsNow program.meaning program.setting program.l program.procs program.casts s n (EndsWith v)) t
-        → Over (after_wraps program n') f' t
-    ends_so n n' same f' v is out t here walks = record {
-      seen = record {
-        output = ap (λ w. w.output) here.same ∙ sym out;
-        filling = subst (λ m. FillingAt m t) (sym same) (passing n t here);
-      };
-      e = EndsWith v;
-      is = is;
-      ends = ended n n' same f' (EndsWith v) is out t here walks;
-    }
+    ends_so : (i asks credit n n' : ℕ) → n' ≡ n → (f' : FlatState program.meaning.Cast) (v : Verdict)
+        → f'.ended ≡ Some (EndsWith v) → f'.world.output ≡ s.world.output → (t : LowState)
+        → WalksHere asks credit n n (λ left. StopsHere n (EndsWith v)) t
+        → Next (Waits low have before i) low (i ≡ 0) s.world.output f' asks credit n n' t
+    ends_so i asks credit n n' same f' v is out t walks =
+        inr (
+          record {
+            steps = walks.0;
+            price = walks.1;
+            left = walks.2;
+            within = walks.3;
+            least = omega arith;
+            cheap = walks.4;
+            reach = reaches_weaken (N program) (OnWayHere t asks n n)
+                (λ u. (u.words ≤ t.words + asks) × StopsHere n (EndsWith v) u)
+                (OnServed s.world.output n n' (t.words + asks))
+                (λ u. (u.words ≤ t.words + asks) × Waits low have before i walks.2 f' n' u)
+                (λ u o. subst (λ m. OnServed s.world.output n m (t.words + asks) u) (sym same) (served t asks n n u o))
+                (λ u q. (
+                  q.0,
+                  subst (λ m. Waits low have before i walks.2 f' m u) (sym same)
+                      (ends_in i walks.2 f' n u (ended n f' v is out u q.1)),
+                )) walks.0 t walks.5;
+          },
+          λ z. inr (small f'.ended is),
+        )
+      where
+        small : (o : Option (Ending Verdict)) → o ≡ Some (EndsWith v)
+            → unless_ended o (focus_weight f'.focus + frames_weight f'.frames) ≤ low
+        small None e = absurd (let z : ⊥ = cc in z)
+        small (Some x) e = omega arith
+
+    widened : (n n' limit limit' : ℕ) (u : LowState) → limit ≤ limit' → OnServed s.world.output n' n' limit u
+        → OnServed s.world.output n n' limit' u
+    widened n n' limit limit' u le o =
+        record { same = o.same; filling = by o.filling; asked = let z = o.asked in omega (arith, z, le) }
+      where
+        by : FillingAt n' u ⊎ FillingAt n' u → FillingAt n u ⊎ FillingAt n' u
+        by (inl x) = inr x
+        by (inr x) = inr x
 
     -- from a state of the numbered procedures whose turn came to x
-    pub served_on : (i : ℕ) (x : FlatAfter program.meaning.Cast) (n w : ℕ) (f : FlatState program.meaning.Cast)
-        → f.world ≡ s.world → (t : LowState) → OnWayHere n n t → AfterHere i x n w t
+    pub served_on : (i : ℕ) (x : FlatAfter program.meaning.Cast) (cost : Cost) (credit n w : ℕ)
+        (f : FlatState program.meaning.Cast)
+        → f.world ≡ s.world → (t : LowState) → OnWayHere t 0 n n t → AfterHere i x cost credit n w t
         → ((next_state program f x).world.output ≡ f.world.output)
-        × Next (Waits low i) low (i ≡ 0) s.world.output (next_state program f x) n (n + w) t
-    served_on i NoNext n w f fw t here a = (
+        × Next (Waits low have before i) low (i ≡ 0) s.world.output (next_state program f x) cost.asks
+        (credit + cost.budget) n (n + w) t
+    served_on i NoNext cost credit n w f fw t here a = (
       refl,
       inl (over n (n + w) (omega (arith, a)) (next_state program f NoNext) refl (ap (λ z. z.output) fw) t
           here),
     )
-    served_on i (BlameOf label) n w f fw t here a =
-        (refl, inl (by_label (slice_get program.told.labels label) refl))
+    served_on i (BlameOf label) cost credit n w f fw t here a =
+        (refl, by_label (slice_get program.told.labels label) refl)
+      where
+        by_label : (p : Option Pos) → slice_get program.told.labels label ≡ p
+            → Next (Waits low have before i) low (i ≡ 0) s.world.output (next_state program f (BlameOf label)) cost.asks
+            (credit + cost.budget) n (n + w) t
+        by_label None e =
+            inl (over n (n + w) (let z = a.0 in omega (arith, z)) (next_state program f (BlameOf label))
+            (ap (λ p. Some (blame_ending p)) e) (ap (λ z. z.output) fw) t here)
+        by_label (Some place) e =
+            ends_so i cost.asks (credit + cost.budget) n (n + w) (let z = a.0 in omega (arith, z))
+            (next_state program f (BlameOf label)) (Blame place)
+            (ap (λ p. Some (blame_ending p)) e) (ap (λ z. z.output) fw) t
+            (a.1 place (ap (λ ls. slice_get ls label) program.labels_are ∙ e))
+    served_on i (TrapOf trap world) cost credit n w f fw t here a = (
+      ap (λ z. z.output) (a.1 ∙ sym fw),
+      ends_so i cost.asks (credit + cost.budget) n (n + w) (let z = a.0 in omega (arith, z))
+          (next_state program f (TrapOf trap world)) (TrapVerdict trap) refl (ap (λ z. z.output) a.1) t a.2,
+    )
+    served_on zero (On focus frames store world) cost credit n w f fw t here a = (
+      ap (λ z. z.output) (a.0 ∙ sym fw),
+      subst (λ z. Next (Waits low have before zero) low (ZeroIsZero) s.world.output (state_at focus frames store z)
+          cost.asks (credit + cost.budget) n (n + w) t) (sym a.0)
+          (by_steps a.1.0 a.1.1 a.1.2 a.1.3 a.1.4 a.1.5),
+    )
       where
         f' : FlatState program.meaning.Cast
-        f' = next_state program f (BlameOf label)
+        f' = flat_state_at program.procs program.told focus frames store s.world
 
-        by_label : (p : Option Pos) → slice_get program.told.labels label ≡ p
-            → Over (after_wraps program (n + w)) (next_state program f (BlameOf label)) t
-        by_label None e =
-            over n (n + w) (let z = a.0 in omega (arith, z)) (next_state program f (BlameOf label))
-            (ap (λ p. Some (blame_ending p)) e) (ap (λ z. z.output) fw) t here
-        by_label (Some place) e =
-            ends_so n (n + w) (let z = a.0 in omega (arith, z)) (next_state program f (BlameOf label)) (Blame place)
-            (ap (λ p. Some (blame_ending p)) e) (ap (λ z. z.output) fw) t here
-            (a.1 place (ap (λ ls. slice_get ls label) program.labels_are ∙ e))
-    served_on i (TrapOf trap world) n w f fw t here a = (
-      ap (λ z. z.output) (a.1 ∙ sym fw),
-      inl (ends_so n (n + w) (let z = a.0 in omega (arith, z)) (next_state program f (TrapOf trap world))
-          (TrapVerdict trap)
-          refl (ap (λ z. z.output) a.1) t here a.2),
-    )
-    served_on zero (On focus frames store world) n w f fw t here a = (
-      ap (λ z. z.output) (a.0 ∙ sym fw),
-      inr (subst (λ z. (k : ℕ) × (ZeroIsZero → (0 < k) ⊎ (size_of (state_at focus frames store z) ≤ low))
-          × Reaches (N program) (OnServed s.world.output n (n + w))
-          (Settled (after_wraps program (n + w)) (state_at focus frames store z)) k t) (sym a.0)
-          (by_steps a.1.0 a.1.1)),
-    )
-      where
+        limit : ℕ
+        limit = t.words + cost.asks
+
         P : LowState → Type 0
-        P = OnServed s.world.output n (n + w)
+        P = OnServedIn program.meaning program.setting program.l s.world.output n (n + w) (t.words + cost.asks)
 
-        Q : LowState → Type 0
-        Q = Settled (after_wraps program (n + w)) (state_at focus frames store s.world)
+        H : ℕ → LowState → Type 0
+        H left u =
+            (u.words ≤ t.words + cost.asks)
+            × Waits low have before zero left (flat_state_at program.procs program.told focus frames store s.world)
+            (n + w) u
 
-        widened : (u : LowState) → OnServed s.world.output (n + w) (n + w) u → OnServed s.world.output n (n + w) u
-        widened u o = record { same = o.same; filling = by o.filling }
-          where
-            by : FillingAt (n + w) u ⊎ FillingAt (n + w) u → FillingAt n u ⊎ FillingAt (n + w) u
-            by (inl x) = inr x
-            by (inr x) = inr x
+        wider : (left : ℕ) (u : LowState) → u.words ≤ t.words + cost.asks
+            → (l : Lands s.world.output (n + w) low have before left
+            (flat_state_at program.procs program.told focus frames store s.world) u)
+            → (c : By program.setting (OnServedIn program.meaning program.setting program.l s.world.output n (n + w)
+            (t.words + cost.asks)) H 0 left u)
+            × ((0 < c.steps) ⊎ (size_of (flat_state_at program.procs program.told focus frames store s.world) ≤ low))
+        wider left u le l = (
+          record {
+            steps = l.comes.steps;
+            price = l.comes.price;
+            left = l.comes.left;
+            within = l.comes.within;
+            least = omega arith;
+            cheap = l.comes.cheap;
+            reach = reaches_weaken (N program) (OnServed s.world.output (n + w) (n + w) u.words)
+                (λ v. (v.words ≤ u.words) × SettledWith have before l.comes.left
+                (flat_state_at program.procs program.told focus frames store s.world) (n + w) v)
+                (OnServedIn program.meaning program.setting program.l s.world.output n (n + w) (t.words + cost.asks))
+                (H l.comes.left)
+                (λ v o. widened n (n + w) u.words (t.words + cost.asks) v le o)
+                (λ v q. (let z = q.0 in omega (arith, z, le), inr q.1)) l.comes.steps u l.comes.reach;
+          },
+          l.some,
+        )
 
-        wider : (u : LowState) (l : Lands s.world.output (n + w) low (state_at focus frames store s.world) u)
-            → Reaches (N program) (OnServed s.world.output n (n + w))
-            (Settled (after_wraps program (n + w)) (state_at focus frames store s.world)) l.comes.steps u
-        wider u l =
-            reaches_weaken (N program) (OnServed s.world.output (n + w) (n + w))
-            (Settled (after_wraps program (n + w)) (state_at focus frames store s.world)) P Q widened (λ v x. x)
-            l.comes.steps u l.comes.reach
-
-        by_steps : (k : ℕ) → Reaches (N program) (OnWayHere n (n + w)) (aim focus frames store (n + w)) k t
-            → (k : ℕ) × (ZeroIsZero → (0 < k) ⊎ (size_of (state_at focus frames store s.world) ≤ low))
-            × Reaches (N program) (OnServed s.world.output n (n + w))
-            (Settled (after_wraps program (n + w)) (state_at focus frames store s.world)) k t
-        by_steps zero r =
-            let l = lands focus frames store (n + w) t r in (l.comes.steps, (λ z. l.some), wider t l)
-        by_steps (suc k) r =
-            let m = steps_on P Q k t
-            (reaches_weaken (N program) (OnWayHere n (n + w)) (aim focus frames store (n + w)) P
-            (Comes program.setting P Q) (served n (n + w))
-            (λ u q. let l = lands focus frames store (n + w) u q in record { steps = l.comes.steps; reach = wider u l })
-            (suc k) t r) in
-            (m.steps, (λ z. inl m.some), m.reach)
-    served_on (suc i) (On focus frames store world) n w f fw t here a = (
+        by_steps : (k price left : ℕ) → price + left ≤ credit + cost.budget
+            → CostsAtMost ending_of program.setting k t price
+            → Reaches (N program) (OnWayHere t cost.asks n (n + w))
+            (λ u. (u.words ≤ t.words + cost.asks) × aim focus frames store (n + w) left u) k t
+            → Next (Waits low have before zero) low ZeroIsZero s.world.output
+            (flat_state_at program.procs program.told focus frames store s.world)
+            cost.asks (credit + cost.budget) n (n + w) t
+        by_steps zero price left le c r =
+            next_more (Waits low have before zero) low ZeroIsZero s.world.output
+            (flat_state_at program.procs program.told focus frames store s.world) cost.asks left
+            (credit + cost.budget) n
+            (n + w) t (omega (arith, le))
+            (inr (let x = wider left t r.0 (lands focus frames store (n + w) left t r.1) in (x.0, λ z. x.1)))
+        by_steps (suc k) price left le c r =
+            next_more (Waits low have before zero) low ZeroIsZero s.world.output
+            (flat_state_at program.procs program.told focus frames store s.world) cost.asks (price + left)
+            (credit + cost.budget) n (n + w) t le
+            (inr (let x = by_then_step program.setting P H 0 (OnWayHere t cost.asks n (n + w))
+            (λ u. (u.words ≤ t.words + cost.asks) × aim focus frames store (n + w) left u)
+            (λ u o. served t cost.asks n (n + w) u o) k price left t (omega arith) c r
+            (λ u q. (wider left u q.0 (lands focus frames store (n + w) left u q.1)).0) in
+            (x.0, λ z. inl x.1)))
+    served_on (suc i) (On focus frames store world) cost credit n w f fw t here a = (
       ap (λ z. z.output) (a.0 ∙ sym fw),
-      inr (
-        a.1.0,
-        (λ z. absurd (no z)),
-        subst (λ z. Reaches (N program) (OnServed s.world.output n (n + w))
-            (Waits low (suc i) (state_at focus frames store z) (n + w)) a.1.0 t) (sym a.0)
-            (reaches_weaken (N program) (OnWayHere n (n + w))
-            (Goes program.meaning program.setting program.l program.procs program.casts s most aim (suc i) focus frames
-            store (n + w)) (OnServed s.world.output n (n + w))
-            (Waits low (suc i) (state_at focus frames store s.world) (n + w)) (served n (n + w))
-            (λ u g. further (served_on i) u g) a.1.0 t a.1.1),
-      ),
+      subst (λ z. Next (Waits low have before (suc i)) low (suc i ≡ 0) s.world.output (state_at focus frames store z)
+          cost.asks (credit + cost.budget) n (n + w) t) (sym a.0)
+          (inr (
+            record {
+              steps = a.1.0;
+              price = a.1.1;
+              left = a.1.2;
+              within = a.1.3;
+              least = omega arith;
+              cheap = a.1.4;
+              reach = reaches_weaken (N program) (OnWayHere t cost.asks n (n + w))
+                  (λ u. (u.words ≤ t.words + cost.asks)
+                  × Goes program.meaning program.setting program.l program.procs program.casts program.measured s most
+                  aim
+                  (suc i) focus frames store (n + w) a.1.2 u)
+                  (OnServed s.world.output n (n + w) (t.words + cost.asks))
+                  (λ u. (u.words ≤ t.words + cost.asks)
+                  × Waits low have before (suc i) a.1.2 (state_at focus frames store s.world) (n + w) u)
+                  (served t cost.asks n (n + w))
+                  (λ u g. (g.0, further (served_on i) a.1.2 u g.1)) a.1.0 t a.1.5;
+            },
+            λ z. absurd (no z),
+          )),
     )
       where
         no : suc i ≡ 0 → ⊥
         no e = omega (arith, e)
 
-        further : ((x : FlatAfter program.meaning.Cast) (n w : ℕ) (f : FlatState program.meaning.Cast)
-            → f.world ≡ s.world → (t : LowState) → OnWayHere n n t → AfterHere i x n w t
+        further : ((x : FlatAfter program.meaning.Cast) (cost : Cost) (credit n w : ℕ)
+            (f : FlatState program.meaning.Cast)
+            → f.world ≡ s.world → (t : LowState) → OnWayHere t 0 n n t → AfterHere i x cost credit n w t
             → ((next_state program f x).world.output ≡ f.world.output)
-            × Next (Waits low i) low (i ≡ 0) s.world.output (next_state program f x) n (n + w) t)
-            → (u : LowState)
-            → Goes program.meaning program.setting program.l program.procs program.casts s most aim (suc i) focus frames
-            store (n + w) u
-            → Waits low (suc i) (state_at focus frames store s.world) (n + w) u
-        further again u g =
+            × Next (Waits low have before i) low (i ≡ 0) s.world.output (next_state program f x) cost.asks
+            (credit + cost.budget) n (n + w) t)
+            → (left : ℕ) (u : LowState)
+            → Goes program.meaning program.setting program.l program.procs program.casts program.measured s most aim
+            (suc i) focus frames store (n + w) left u
+            → Waits low have before (suc i) left (state_at focus frames store s.world) (n + w) u
+        further again left u g =
             let f' = state_at focus frames store s.world in
-            let q = again (flat_turn program.procs (mode_of program) store s.world focus frames) (n + w)
+            let cost' = cost_of program f' in
+            let q = again (flat_turn program.procs (mode_of program) store s.world focus frames) cost' left (n + w)
             (flat_turn_wraps program.procs (mode_of program) focus frames) f' refl u g.1 g.2 in
             inr (
               pending focus frames s most g.0,
-              record { output = ap (λ z. z.output) g.1.same; filling = passing (n + w) u g.1 },
+              record { output = ap (λ z. z.output) g.1.same; filling = passing u 0 (n + w) u g.1 },
               q.0,
-              q.1,
+              next_more (Waits low have before i) low (i ≡ 0) s.world.output (next_of f') cost'.asks
+                  (left + cost'.budget) (left + budget_of program f') (n + w) (n + w + wraps_of f') u (omega arith)
+                  q.1,
             )

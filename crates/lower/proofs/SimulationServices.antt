@@ -1,5 +1,5 @@
 -- Calls of the procedures of a scheme, from the code of a body.
-use Rattle.std.proofs.Common.{◌≡◌, ◌⊎◌, inl, inr, ℕ, zero, suc, ◌+◌, ◌<◌, List, [], ◌∷◌, ◌++◌, length, Some, refl}
+use Rattle.std.proofs.Common.{◌≡◌, inl, inr, ℕ, zero, suc, ◌+◌, ◌<◌, List, [], ◌∷◌, ◌++◌, length, Some, refl}
 use Rattle.std.proofs.Common.{sym, ap, ◌∙◌, subst, arith, slice_get}
 use Rattle.grift_base.specs.World.{WorldState}
 use Rattle.run_laws.specs.Machines.{Go}
@@ -21,15 +21,26 @@ use Rattle.lower.specs.Emit.{Then}
 use Rattle.lower.specs.CarriedValues.{CellsHeld}
 use Rattle.lower.specs.RelatedStates.{Falls}
 use Rattle.lower.specs.SimulationServices.{StandsAs}
-use Rattle.lower.specs.SchemeLaws.{Spent, OnWay, After, Goes, Returns, ReturnsAt}
+use Rattle.lower.specs.SchemeLaws.{Spent, Aim, OnWay, After, Goes, Returns, ReturnsAt}
 use Rattle.lower.proofs.RelationKept.{word_here, word_other, rest_grown, callers_grown}
-use Rattle.lower.proofs.WordSteps.{at, Comes, Moves, waiting_for, here, goes, moved, lt_true}
+use Rattle.lower.proofs.WordCredits.{By, SomeBy, by_now, by_go, by_more, by_then_step, by_then_some, some_go, some_more}
+use Rattle.low_ir.specs.Prices.{CostsAtMost}
+use Rattle.run_laws.specs.Machines.{Reaches}
+use Rattle.lower.proofs.WordSteps.{at, waiting_for, lt_true, left_of, Goal, Moves, behind as step_behind}
+use Rattle.lower.proofs.WordServices.{return_price}
+use Rattle.low_ir.specs.Prices.{low_price, step_price, code_price, codes_price}
+use Rattle.low_ir.specs.Procedures.{Return as ReturnCode}
+use Rattle.std.proofs.Common.{◌≤◌, ◌*◌, le_refl, Option, None}
+use Rattle.std.specs.Prelude.{◌-◌}
+use Rattle.run_laws.specs.Runs.{Ending}
+use Rattle.grift_base.specs.declared.verdicts.Verdict.{Verdict}
 use Rattle.lower.proofs.WordOperations.{Touches}
 use Rattle.lower.proofs.WordServices.{taken}
-use Rattle.lower.proofs.SimulationWay.{Program, after_wraps, N, Settled, next_state}
-use Rattle.lower.proofs.SimulationGives.{RestHere, CallersHere, given, word_for, code_for}
-use Rattle.lower.proofs.SimulationOperations.{returned}
-use Rattle.lower.proofs.SimulationServed.{OnServed, Waits, Next, served_on, lands_by}
+use Rattle.lower.proofs.SimulationWay.{Program, after_wraps, N, Settled, next_state, asks_of, budget_of, cost_of, dues}
+use Rattle.lower.proofs.SimulationWay.{due_of, due_most, waiting_dues, zero_once_ended}
+use Rattle.lower.proofs.SimulationGives.{RestHere, CallersHere, given, word_for, code_for, due_for}
+use Rattle.lower.proofs.SimulationOperations.{returned, due_little}
+use Rattle.lower.proofs.SimulationServed.{OnServed, Waits, Next, Lands, SettledWith, served_on, next_more}
 
 pub kept_in_front : (xs ys : List ℕ) (i w : ℕ) → slice_get xs i ≡ Some w → slice_get (xs ++ ys) i ≡ Some w
 kept_in_front [] ys i w e = cc
@@ -37,41 +48,218 @@ kept_in_front (x ∷ xs) ys zero w e = e
 kept_in_front (x ∷ xs) ys (suc i) w e = kept_in_front xs ys i w e
 
 module _ (program : Program) (typed : TypesStand program.l) (f : FlatState program.meaning.Cast) where
-  -- to where the numbered procedures are in f', after so many wrap steps
-  abbrev pub Landed : FlatState program.meaning.Cast → ℕ → LowState → Type 0
-  Landed f' n t = Settled (after_wraps program n) f' t ⊎ ((low : ℕ) × (i : ℕ) × Waits program low (suc i) f' n t)
+  -- to where the numbered procedures are in f', after so many wrap steps, with so much left of the budgets, where there
+  -- was so much to begin with, and so much was paid before the procedure was entered
+  abbrev pub Landed : ℕ → ℕ → FlatState program.meaning.Cast → ℕ → ℕ → LowState → Type 0
+  Landed have before f' n left t = (low : ℕ) × (i : ℕ) × Waits program low have before i left f' n t
 
-  -- for a turn that came to x, the run over words makes a step at least
-  abbrev pub Served : FlatAfter program.meaning.Cast → ℕ → LowState → Type 0
-  Served x w t =
+  -- on the way of a turn that began after so many words, and makes so many wrap steps
+  abbrev pub OnTurn : ℕ → ℕ → LowState → Type 0
+  OnTurn w base t =
+      OnServed program f.world.output program.number (program.number + w) (base + asks_of program f) t
+
+  abbrev pub Landing : ℕ → ℕ → FlatState program.meaning.Cast → ℕ → ℕ → ℕ → LowState → Type 0
+  Landing have before f' w base left t =
+      (t.words ≤ base + asks_of program f) × Landed have before f' (program.number + w) left t
+
+  -- for a turn that came to x, the run over words makes a step at least, by what its budget allows and what was paid
+  -- before the procedure was entered
+  abbrev pub Served : FlatAfter program.meaning.Cast → ℕ → ℕ → LowState → Type 0
+  Served x w own start =
       ((next_state program f x).world.output ≡ f.world.output)
-      × Moves program.setting (OnServed program f.world.output program.number (program.number + w))
-      (Landed (next_state program f x) (program.number + w)) t
+      × (before : ℕ) × (before ≤ 556)
+      × SomeBy program.setting (OnTurn w start.words)
+      (Landing (own + dues start) before (next_state program f x) w start.words) 0 (before + budget_of program f) start
 
-  landed : (f' : FlatState program.meaning.Cast) (n i : ℕ) (t : LowState) → Waits program 0 i f' n t → Landed f' n t
-  landed f' n zero t w = inl w
-  landed f' n (suc i) t w = inr (0, i, w)
+  -- at a call of the procedure, whose price is p, in code where no less than a floor is left behind it
+  abbrev pub Calling : ℕ → ℕ → ℕ → FlatAfter program.meaning.Cast → ℕ → LowState → Type 0
+  Calling floor have before x w t =
+      (p : ℕ) × (p + floor ≤ left_of program.setting t)
+      × SomeBy program.setting (OnTurn w t.words) (Landing have before (next_state program f x) w t.words) 0
+      (p + budget_of program f) t
 
-  -- so much is left of the turns
-  abbrev pub Left : FlatAfter program.meaning.Cast → ℕ → ℕ → LowState → Type 0
-  Left x w i t =
-      Next program (Waits program 0 i) 0 (i ≡ 0) f.world.output (next_state program f x) program.number
-      (program.number + w) t
-
-  pub landing : (x : FlatAfter program.meaning.Cast) (w i : ℕ) (t : LowState) → Left x w i t
-      → Comes program.setting (OnServed program f.world.output program.number (program.number + w))
-      (Landed (next_state program f x) (program.number + w)) t
-  landing x w i t (inl o) =
-      here program.setting (OnServed program f.world.output program.number (program.number + w))
-      (Landed (next_state program f x) (program.number + w)) t (inl (inr o))
-  landing x w i t (inr r) = record {
-    steps = r.0;
-    reach = reaches_weaken (N program) (OnServed program f.world.output program.number (program.number + w))
-        (Waits program 0 i (next_state program f x) (program.number + w))
-        (OnServed program f.world.output program.number (program.number + w))
-        (Landed (next_state program f x) (program.number + w)) (λ u z. z)
-        (λ u z. landed (next_state program f x) (program.number + w) i u z) r.0 t r.2;
+  -- the same as a goal of the code before it, where such a call or what code makes in place is come to
+  abbrev pub calling_goal : ℕ → ℕ → ℕ → FlatAfter program.meaning.Cast → ℕ → ℕ → Goal
+  calling_goal floor have before x w base = record {
+    extra = 0;
+    floor = floor;
+    holds = λ left t. (p : ℕ) × (p + floor ≤ left)
+        × By program.setting (OnTurn w base) (Landing have before (next_state program f x) w base) 0
+        (p + budget_of program f) t;
+    least = λ left t q. let le = q.1 in omega (arith, le);
   }
+
+  -- with a step at least
+  abbrev pub starting_goal : ℕ → ℕ → ℕ → FlatAfter program.meaning.Cast → ℕ → ℕ → Goal
+  starting_goal floor have before x w base = record {
+    extra = 0;
+    floor = floor;
+    holds = λ left t. (p : ℕ) × (p + floor ≤ left)
+        × SomeBy program.setting (OnTurn w base) (Landing have before (next_state program f x) w base) 0
+        (p + budget_of program f) t;
+    least = λ left t q. let le = q.1 in omega (arith, le);
+  }
+
+  -- from code that comes to a call, by some step at least
+  pub some_calls : (floor have before : ℕ) (x : FlatAfter program.meaning.Cast) (w : ℕ) (t : LowState)
+      → Moves program.setting (OnTurn w t.words) (calling_goal floor have before x w t.words) t
+      → Calling floor have before x w t
+  some_calls floor have before x w t m = by_steps m.comes.steps m.some m.comes.cheap m.comes.reach
+    where
+      c : By program.setting (OnTurn w t.words) (calling_goal floor have before x w t.words).holds floor
+          (left_of program.setting t + 0) t
+      c = m.comes
+
+      by_steps : (k : ℕ) → 0 < k → CostsAtMost ending_of program.setting k t m.comes.price
+          → Reaches (N program) (OnTurn w t.words)
+          (λ u. (p : ℕ) × (p + floor ≤ m.comes.left)
+          × By program.setting (OnTurn w t.words) (Landing have before (next_state program f x) w t.words) 0
+          (p + budget_of program f) u) k t
+          → Calling floor have before x w t
+      by_steps zero lt cheap r = absurd (omega (arith, lt))
+      by_steps (suc k) lt cheap r =
+          let within = m.comes.within in
+          let least = m.comes.least in
+          let over = m.comes.left - floor in (
+            m.comes.price + (m.comes.left - floor),
+            omega (arith, within, least),
+            some_more program.setting (OnTurn w t.words) (Landing have before (next_state program f x) w t.words) 0
+                (m.comes.price + (m.comes.left - floor + budget_of program f))
+                (m.comes.price + (m.comes.left - floor) + budget_of program f) t (omega arith)
+                (by_then_step program.setting (OnTurn w t.words)
+                (Landing have before (next_state program f x) w t.words) 0 (OnTurn w t.words)
+                (λ u. (p : ℕ) × (p + floor ≤ m.comes.left)
+                × By program.setting (OnTurn w t.words) (Landing have before (next_state program f x) w t.words) 0
+                (p + budget_of program f) u) (λ u o. o) k m.comes.price (m.comes.left - floor + budget_of program f) t
+                (omega arith) cheap r
+                (λ u q. by_more program.setting (OnTurn w t.words) (Landing have before
+                (next_state program f x) w t.words) 0
+                (q.0 + budget_of program f) (m.comes.left - floor + budget_of program f) u
+                (let le = q.1 in omega (arith, le)) q.2)),
+          )
+
+  -- from code behind which there is some step
+  pub later_calls : (floor have before : ℕ) (x : FlatAfter program.meaning.Cast) (w : ℕ) (t : LowState)
+      → By program.setting (OnTurn w t.words) (starting_goal floor have before x w t.words).holds floor
+      (left_of program.setting t + 0) t → Calling floor have before x w t
+  later_calls floor have before x w t c =
+      let within = c.within in
+      let least = c.least in (
+        c.price + (c.left - floor),
+        omega (arith, within, least),
+        some_more program.setting (OnTurn w t.words) (Landing have before (next_state program f x) w t.words) 0
+            (c.price + (c.left - floor + budget_of program f)) (c.price + (c.left - floor) + budget_of program f) t
+            (omega arith)
+            (by_then_some program.setting (OnTurn w t.words) (Landing have before (next_state program f x) w t.words) 0
+            (OnTurn w t.words)
+            (λ u. (p : ℕ) × (p + floor ≤ c.left)
+            × SomeBy program.setting (OnTurn w t.words) (Landing have before (next_state program f x) w t.words) 0
+            (p + budget_of program f) u) (λ u o. o) c.steps c.price (c.left - floor + budget_of program f) t
+            (omega arith)
+            c.cheap c.reach
+            (λ u q. some_more program.setting (OnTurn w t.words) (Landing have before
+            (next_state program f x) w t.words) 0
+            (q.0 + budget_of program f) (c.left - floor + budget_of program f) u
+            (let le = q.1 in omega (arith, le)) q.2)),
+      )
+
+  -- less is enough
+  pub lower_floor : (floor less have before : ℕ) (x : FlatAfter program.meaning.Cast) (w : ℕ) (t : LowState)
+      → less ≤ floor → Calling floor have before x w t → Calling less have before x w t
+  lower_floor floor less have before x w t le c = (c.0, let z = c.1 in omega (arith, z, le), c.2)
+
+  -- it is come to
+  pub calls_now : (floor have before : ℕ) (x : FlatAfter program.meaning.Cast) (w : ℕ) (t : LowState)
+      → Calling floor have before x w t
+      → By program.setting (OnTurn w t.words) (calling_goal floor have before x w t.words).holds floor
+      (left_of program.setting t + 0) t
+  calls_now floor have before x w t c =
+      by_more program.setting (OnTurn w t.words) (calling_goal floor have before x w t.words).holds floor
+      (left_of program.setting t) (left_of program.setting t + 0) t (omega arith)
+      (by_now program.setting (OnTurn w t.words) (calling_goal floor have before x w t.words).holds floor
+      (left_of program.setting t) t (let z = c.1 in omega (arith, z)) (c.0, c.1, c.2.0))
+
+  pub starts_now : (floor have before : ℕ) (x : FlatAfter program.meaning.Cast) (w : ℕ) (t : LowState)
+      → Calling floor have before x w t
+      → By program.setting (OnTurn w t.words) (starting_goal floor have before x w t.words).holds floor
+      (left_of program.setting t + 0) t
+  starts_now floor have before x w t c =
+      by_more program.setting (OnTurn w t.words) (starting_goal floor have before x w t.words).holds floor
+      (left_of program.setting t) (left_of program.setting t + 0) t (omega arith)
+      (by_now program.setting (OnTurn w t.words) (starting_goal floor have before x w t.words).holds floor
+      (left_of program.setting t) t (let z = c.1 in omega (arith, z)) c)
+
+  -- from where the turn began
+  pub is_served : (floor own before : ℕ) (x : FlatAfter program.meaning.Cast) (w : ℕ) (t : LowState)
+      → (next_state program f x).world.output ≡ f.world.output → before ≤ 556
+      → left_of program.setting t ≤ before + floor → Calling floor (own + dues t) before x w t → Served x w own t
+  is_served floor own before x w t silent small le c = (
+    silent,
+    before,
+    small,
+    some_more program.setting (OnTurn w t.words) (Landing (own + dues t) before (next_state program f x) w t.words) 0
+        (c.0 + budget_of program f) (before + budget_of program f) t (let z = c.1 in omega (arith, z, le)) c.2,
+  )
+
+  -- a procedure that was entered goes to where it lands
+  pub landing : (x : FlatAfter program.meaning.Cast) (w low have before i base : ℕ) (t : LowState)
+      → base ≡ t.words
+      → Next program (Waits program low have before i) low (i ≡ 0) f.world.output (next_state program f x)
+      (asks_of program f) (budget_of program f) program.number (program.number + w) t
+      → By program.setting (OnTurn w base) (Landing have before (next_state program f x) w base) 0
+      (budget_of program f) t
+  landing x w low have before zero base t same (inl o) =
+      by_now program.setting (OnTurn w base) (Landing have before (next_state program f x) w base) 0
+      (budget_of program f) t
+      (omega arith) (omega (arith, same), (low, zero, inl o))
+  landing x w low have before (suc i) base t same (inl o) =
+      by_now program.setting (OnTurn w base) (Landing have before (next_state program f x) w base) 0
+      (budget_of program f) t
+      (omega arith) (omega (arith, same), (low, suc i, inl o))
+  landing x w low have before i base t same (inr c) = record {
+    steps = c.0.steps;
+    price = c.0.price;
+    left = c.0.left;
+    within = c.0.within;
+    least = omega arith;
+    cheap = c.0.cheap;
+    reach = reaches_weaken (N program)
+        (OnServed program f.world.output program.number (program.number + w) (t.words + asks_of program f))
+        (λ u. (u.words ≤ t.words + asks_of program f)
+        × Waits program low have before i c.0.left (next_state program f x) (program.number + w) u) (OnTurn w base)
+        (Landing have before (next_state program f x) w base c.0.left)
+        (λ u o. record { same = o.same; filling = o.filling; asked = let z = o.asked in omega (arith, z, same) })
+        (λ u q. (let z = q.0 in omega (arith, z, same), (low, i, q.1))) c.0.steps t c.0.reach;
+  }
+
+  -- a step into a procedure that serves
+  pub serve_step : (c : LowState) (same_world : f.world ≡ c.world) (most : Spent) (low have before : ℕ)
+      (aim : Aim program.meaning program.setting program.l program.procs program.casts program.measured)
+      (lands : (focus : FlatFocus program.meaning.Cast) (frames : List (FlatFrame program.meaning.Cast))
+      (store : FlatStore program.meaning.Cast) (n left : ℕ) (t : LowState) → aim focus frames store n left t
+      → Lands program c.world.output n low have before left
+      (flat_state_at program.procs program.told focus frames store c.world) t)
+      (x : FlatAfter program.meaning.Cast) (w i : ℕ) (t te : LowState) → (N program).step t ≡ Go te
+      → te.words ≡ t.words → OnTurn w t.words t
+      → OnWay program.meaning program.setting program.l program.procs program.casts program.measured c te most 0
+      program.number program.number te
+      → After program.meaning program.setting program.l program.procs program.casts program.measured c most
+      (Goes program.meaning program.setting program.l program.procs program.casts program.measured c most aim i) x
+      (cost_of program f) 0 program.number w te
+      → SomeBy program.setting (OnTurn w t.words) (Landing have before (next_state program f x) w t.words) 0
+      (low_price program.setting.procs t + budget_of program f) t
+  serve_step c same_world most low have before aim lands x w i t te step words on begins a =
+      some_go program.setting (OnTurn w t.words) (Landing have before (next_state program f x) w t.words) 0
+      (budget_of program f) (low_price program.setting.procs t + budget_of program f) t te step
+      (le_refl (low_price program.setting.procs t + budget_of program f)) on
+      (landing x w low have before i t.words te (sym words)
+      (subst (λ z. Next program (Waits program low have before i) low (i ≡ 0) z.output (next_state program f x)
+      (asks_of program f) (budget_of program f) program.number (program.number + w) te) (sym same_world)
+      (next_more program (Waits program low have before i) low (i ≡ 0) c.world.output (next_state program f x)
+      (asks_of program f) (0 + (cost_of program f).budget) (budget_of program f) program.number (program.number + w) te
+      (omega arith)
+      (served_on program c most low have before aim lands i x (cost_of program f) 0 program.number w f same_world te
+      begins a).1)))
 
   module _ (places : List ℕ) (objects : List Object) (h : Heap)
       (filled : Filled program.meaning program.setting program.l program.number objects h)
@@ -86,47 +274,52 @@ module _ (program : Program) (typed : TypesStand program.l) (f : FlatState progr
     abbrev k : Code
     k = code_for program places objects s next
 
-    -- a call, behind which a code stands that comes to k
+    -- a call, behind which a code stands that comes to k; so much is left of the budgets for what comes behind it
     module _ (falls : ℕ) (kk : Code) (rr : List Code)
         (behind : Falls falls kk rr (code_for program places objects s next) rests) (new : Locals)
-        (touches : Touches s (word_for program places objects s next) words new) where
+        (touches : Touches s (word_for program places objects s next) words new) (leaves have before : ℕ)
+        (little : 28 + 10 * falls ≤ leaves)
+        (enough : 56 + 10 * falls + 10 * length rests + waiting_dues waiting + before ≤ leaves + have) where
       abbrev pub caller : LowState
       caller = at f.world h (waiting_for d size rr new kk ∷ waiting) size rr new kk
 
       -- so many branches end
       fall : (n : ℕ) (c : Code) (r : List Code) → Falls n c r (code_for program places objects s next) rests
-          → (P Q : LowState → Type 0) (world : WorldState) (h' : Heap) (locals : Locals)
-          → ((code : Code) (r' : List Code) → P (at world h' waiting size r' locals code))
-          → Q (at world h' waiting size rests locals (code_for program places objects s next))
-          → Comes program.setting P Q (at world h' waiting size r locals c)
-      fall zero c r b P Q world h' locals p q =
-          here program.setting P Q (at world h' waiting size r locals c)
-          (subst (λ x. Q (at world h' waiting size r locals x)) (sym b.0)
-          (subst (λ x. Q (at world h' waiting size x locals (code_for program places objects s next))) (sym b.1) q))
-      fall (suc n) c [] b P Q world h' locals p q = absurd b
-      fall (suc n) c (x ∷ r) b P Q world h' locals p q =
-          goes program.setting P Q (at world h' waiting size (x ∷ r) locals c) (at world h' waiting size r locals x)
+          → (P : LowState → Type 0) (H : ℕ → LowState → Type 0) (world : WorldState) (h' : Heap) (locals : Locals)
+          (credit : ℕ) → ((code : Code) (r' : List Code) → P (at world h' waiting size r' locals code))
+          → H credit (at world h' waiting size rests locals (code_for program places objects s next))
+          → By program.setting P H 0 (10 * n + credit) (at world h' waiting size r locals c)
+      fall zero c r b P H world h' locals credit p q =
+          by_more program.setting P H 0 credit (10 * 0 + credit) (at world h' waiting size r locals c) (omega arith)
+          (by_now program.setting P H 0 credit (at world h' waiting size r locals c) (omega arith)
+          (subst (λ x. H credit (at world h' waiting size r locals x)) (sym b.0)
+          (subst (λ x. H credit (at world h' waiting size x locals (code_for program places objects s next))) (sym b.1)
+          q)))
+      fall (suc n) c [] b P H world h' locals credit p q = absurd b
+      fall (suc n) c (x ∷ r) b P H world h' locals credit p q =
+          by_go program.setting P H 0 (10 * n + credit) (10 * suc n + credit)
+          (at world h' waiting size (x ∷ r) locals c)
+          (at world h' waiting size r locals x)
           (ap (λ z. code_step ending_of program.setting z (at world h' waiting size (x ∷ r) locals c)) b.0)
-          (p c (x ∷ r)) (fall n x r b.1 P Q world h' locals p q)
+          (let e = ap (step_price program.setting.procs size) b.0 in omega (arith, e))
+          (p c (x ∷ r)) (fall n x r b.1 P H world h' locals credit p q)
 
-      lands_at : (u : FlatValue program.meaning.Cast) (store : FlatStore program.meaning.Cast) (n : ℕ) (t : LowState)
-          → ReturnsAt program.meaning program.setting program.l program.procs program.casts caller places objects u
-          store n t
-          → Moves program.setting (OnServed program f.world.output n n)
-          (Settled (after_wraps program n)
-          (flat_state_at program.procs program.told (Return u) f.frames store f.world)) t
-      lands_at u store n t q =
-          moved program.setting P Q t last step (on t q.same refl) (subst (λ z. Comes program.setting P Q
-          (at z (heap_of t) waiting size rr (set_local d q.word new) kk)) (sym q.same)
-          (fall falls kk rr behind P Q f.world (heap_of t) (set_local d q.word new)
-          (λ code r'. on (at f.world (heap_of t) waiting size r' (set_local d q.word new) code) refl refl) settled))
+      lands_at : (u : FlatValue program.meaning.Cast) (store : FlatStore program.meaning.Cast) (n left : ℕ)
+          (t : LowState) → leaves ≤ left
+          → ReturnsAt program.meaning program.setting program.l program.procs program.casts program.measured caller
+          places objects u store n t
+          → Lands program f.world.output n 0 have before left
+          (flat_state_at program.procs program.told (Return u) f.frames store f.world) t
+      lands_at u store n left t le q = record { comes = came.0; some = inl came.1 }
         where
           P : LowState → Type 0
-          P = OnServed program f.world.output n n
+          P = OnServed program f.world.output n n t.words
 
-          Q : LowState → Type 0
-          Q = Settled (after_wraps program n)
-              (flat_state_at program.procs program.told (Return u) f.frames store f.world)
+          H : ℕ → LowState → Type 0
+          H left u' =
+              (u'.words ≤ t.words)
+              × SettledWith program have before left
+              (flat_state_at program.procs program.told (Return u) f.frames store f.world) n u'
 
           last : LowState
           last = at t.world (heap_of t) waiting size rr (set_local d q.word new) kk
@@ -146,9 +339,16 @@ module _ (program : Program) (typed : TypesStand program.l) (f : FlatState progr
               subst (λ y. Filled program.meaning program.setting program.l n (objects ++ q.more) y) (sym g)
                   q.here.filled,
             );
+            asked = let z = ap (λ y. y.words) g in omega (arith, z);
           }
 
-          settled : Q (at f.world (heap_of t) waiting size rests (set_local d q.word new) k)
+          -- what is left behind the return and the ends of branches
+          over : ℕ
+          over = left - (28 + 10 * falls)
+
+          settled : Settled (after_wraps program n) (flat_state_at program.procs program.told (Return u) f.frames store
+              f.world) (due_for program places objects next)
+              (at f.world (heap_of t) waiting size rests (set_local d q.word new) k)
           settled =
               let rest' = rest_grown program.setting program.l program.run program.procs program.answer program.meaning
               program.laws places (places ++ q.cells) (kept_in_front places q.cells) objects q.more
@@ -159,33 +359,89 @@ module _ (program : Program) (typed : TypesStand program.l) (f : FlatState progr
               waiting frames c) s count size group depth f.frames next rests words rest in
               returned (after_wraps program n) typed (places ++ q.cells) (objects ++ q.more) (heap_of t) f.world
               q.here.filled store f.frames q.here.cells u waiting size rests (set_local d q.word new) k
+              (due_for program places objects next)
               (given (after_wraps program n) (places ++ q.cells) (objects ++ q.more) waiting s count size group depth
               f.frames next rests words (set_local d q.word new) u q.word rest' q.carried (word_here d q.word new)
               (λ j ne side. word_other d q.word new j ne ∙ touches j ne side))
 
+          kept : (o : Option (Ending Verdict)) → zero_once_ended o (due_for program places objects next
+              + (due_of k rests + waiting_dues waiting)) + before ≤ left - (28 + 10 * falls) + have
+          kept None =
+              let z = due_most k rests in
+              let y = due_little program places objects next in omega (arith, enough, le, z, y)
+          kept (Some e) = omega (arith, enough, le)
+
+          came : SomeBy program.setting (OnServed program f.world.output n n t.words)
+              (λ left u'. (u'.words ≤ t.words)
+              × SettledWith program have before left
+              (flat_state_at program.procs program.told (Return u) f.frames store f.world) n u') 0 left t
+          came =
+              some_go program.setting P H 0 (10 * falls + over) left t last step
+              (let z = return_price program.setting.procs t.active.count q.source in
+              let e = ap (step_price program.setting.procs t.active.count) q.code in
+              spare e z)
+              (on t q.same refl) (subst (λ z. By program.setting P H 0 (10 * falls + over)
+              (at z (heap_of t) waiting size rr (set_local d q.word new) kk)) (sym q.same)
+              (fall falls kk rr behind P H f.world (heap_of t) (set_local d q.word new) over
+              (λ code r'. on (at f.world (heap_of t) waiting size r' (set_local d q.word new) code) refl refl) (
+                le_refl t.words,
+                (
+                  due_for program places objects next,
+                  settled,
+                  kept (flat_state_at program.procs program.told (Return u) f.frames store f.world).ended,
+                ),
+              )))
+            where
+              spare : low_price program.setting.procs t
+                  ≡ step_price program.setting.procs t.active.count (ReturnCode q.source)
+                  → step_price program.setting.procs t.active.count (ReturnCode q.source) ≤ 28
+                  → low_price program.setting.procs t + (10 * falls + (left - (28 + 10 * falls))) ≤ left
+              spare e z =
+                  let n = room le in omega (arith, e, z, n)
+                where
+                  room : leaves ≤ left → 28 + 10 * falls ≤ left
+                  room le = omega (arith, le, little)
+
       lands : (focus : FlatFocus program.meaning.Cast) (frames : List (FlatFrame program.meaning.Cast))
-          (store : FlatStore program.meaning.Cast) (n : ℕ) (t : LowState)
-          → Returns program.meaning program.setting program.l program.procs program.casts caller places objects f.frames
-          focus frames store n t
-          → Moves program.setting (OnServed program f.world.output n n)
-          (Settled (after_wraps program n) (flat_state_at program.procs program.told focus frames store f.world)) t
-      lands (Return u) frames store n t q =
-          subst (λ fs. Moves program.setting (OnServed program f.world.output n n)
-          (Settled (after_wraps program n) (flat_state_at program.procs program.told (Return u) fs store f.world)) t)
-          (sym q.0) (lands_at u store n t q.1)
-      lands (Own place) frames store n t q = absurd q
-      lands (Entering g done todo) frames store n t q = absurd q
+          (store : FlatStore program.meaning.Cast) (n left : ℕ) (t : LowState)
+          → Returns program.meaning program.setting program.l program.procs program.casts program.measured caller leaves
+          places objects f.frames focus frames store n left t
+          → Lands program f.world.output n 0 have before left
+          (flat_state_at program.procs program.told focus frames store f.world) t
+      lands (Return u) frames store n left t q =
+          subst (λ fs. Lands program f.world.output n 0 have before left
+          (flat_state_at program.procs program.told (Return u) fs store f.world) t)
+          (sym q.0) (lands_at u store n left t q.1 q.2)
+      lands (Own place) frames store n left t q = absurd q
+      lands (Entering g done todo) frames store n left t q = absurd q
 
       pub called : (x : FlatAfter program.meaning.Cast) (w number : ℕ) (args : List LowSource) (ws : List ℕ)
           (proc : LowProc) (params : ℕ) → words_of new args ≡ Some ws → StandsAs program.setting number proc params
           → length ws ≡ params → (most : Spent) (i : ℕ)
-          → After program.meaning program.setting program.l program.procs program.casts caller most
-          (Goes program.meaning program.setting program.l program.procs program.casts caller most
-          (Returns program.meaning program.setting program.l program.procs program.casts caller places objects f.frames)
-          i) x program.number w (entered caller proc ws)
-          → Served x w (at f.world h waiting size rr new (Call d number args kk))
-      called x w number args ws proc params are stands long most i a =
-          (q.0, moved program.setting P Q t te step on (landing x w i te q.1))
+          → After program.meaning program.setting program.l program.procs program.casts program.measured caller most
+          (Goes program.meaning program.setting program.l program.procs program.casts program.measured caller most
+          (Returns program.meaning program.setting program.l program.procs program.casts program.measured caller leaves
+          places objects f.frames) i) x (cost_of program f) 0 program.number w (entered caller proc ws)
+          → Calling (code_price program.setting.procs size kk + codes_price program.setting.procs size rr) have before
+          x w
+          (at f.world h waiting size rr new (Call d number args kk))
+      called x w number args ws proc params are stands long most i a = (
+        low_price program.setting.procs t,
+        step_behind program.setting size rr (Call d number args kk) kk,
+        serve_step caller refl most 0 have before
+            (Returns program.meaning program.setting program.l program.procs program.casts program.measured caller
+            leaves places objects f.frames) lands x w i t te step refl (record {
+              same = refl;
+              filling = inl (objects, filled);
+              asked = omega arith;
+            }) (record {
+              objects = objects;
+              filled = inl filled;
+              same = refl;
+              active = omega arith;
+              asked = omega arith;
+            }) a,
+      )
         where
           t : LowState
           t = at f.world h waiting size rr new (Call d number args kk)
@@ -193,35 +449,9 @@ module _ (program : Program) (typed : TypesStand program.l) (f : FlatState progr
           te : LowState
           te = entered caller proc ws
 
-          P : LowState → Type 0
-          P = OnServed program f.world.output program.number (program.number + w)
-
-          Q : LowState → Type 0
-          Q = Landed (next_state program f x) (program.number + w)
-
-          begins : OnWay program.meaning program.setting program.l program.procs program.casts caller most
-              program.number program.number (entered caller proc ws)
-          begins = record {
-            objects = objects;
-            filled = inl filled;
-            same = refl;
-            active = omega arith;
-            asked = omega arith;
-          }
-
-          q : ((next_state program f x).world.output ≡ f.world.output) × Left x w i (entered caller proc ws)
-          q = served_on program caller most 0
-              (Returns program.meaning program.setting program.l program.procs program.casts caller places objects
-              f.frames) (λ focus frames store n u q. lands_by program f.world.output n 0
-              (flat_state_at program.procs program.told focus frames store f.world) u (lands focus frames store n u q))
-              i x program.number w f refl (entered caller proc ws) begins a
-
           step : (N program).step (at f.world h waiting size rr new (Call d number args kk))
               ≡ Go (entered caller proc ws)
           step =
               let there = stands.there in
               let few = taken program.setting number params proc ws stands long in
               rw (are, there, few) refl
-
-          on : P (at f.world h waiting size rr new (Call d number args kk))
-          on = record { same = refl; filling = inl (objects, filled) }

@@ -28,12 +28,11 @@ use Rattle.lower.specs.RelatedStates.{Knows}
 use Rattle.lower.proofs.HeapFilled.{WordThere, header_there}
 use Rattle.lower.proofs.RelationKept.{word_here, word_other}
 use Rattle.lower.proofs.WordArithmetic.{header_is, kind_read}
-use Rattle.lower.proofs.WordSteps.{at, Comes, Moves, Calm, here, moves_later, loads_first, computes, if_false}
+use Rattle.lower.proofs.WordSteps.{at, Comes, Calm, Goal, loads_first, computes, if_false}
 use Rattle.lower.proofs.WordOperands.{fetch_all_reads, Changes, ChangesFrom}
-use Rattle.lower.proofs.SimulationWay.{Program, next_state}
-use Rattle.lower.proofs.SimulationServed.{OnServed}
-use Rattle.lower.proofs.SimulationServices.{Landed}
-use Rattle.lower.proofs.SimulationCasts.{serving_scene}
+use Rattle.lower.proofs.SimulationWay.{Program}
+use Rattle.lower.proofs.SimulationServices.{OnTurn, Calling, calling_goal, some_calls, later_calls, starts_now}
+use Rattle.lower.proofs.SimulationCasts.{serving_scene, as_it_was}
 
 -- what carries a value in wrappers is one
 pub wrapped_there : (program : Program) (places : List ℕ) (objects : List Object) (v : FlatValue program.meaning.Cast)
@@ -58,16 +57,18 @@ module _ (program : Program) (typed : TypesStand program.l) (f : FlatState progr
     (filled : Filled program.meaning program.setting program.l program.number objects h)
     (waiting : List LowWaiting) (size : ℕ) (rests : List Code) (s : Shape) (count depth : ℕ)
     (group : Group program.meaning.Cast) (locals : FlatLocals program.meaning.Cast) (room : s.params + 10 ≤ size)
-    (x : FlatAfter program.meaning.Cast) (w : ℕ) where
+    (x : FlatAfter program.meaning.Cast) (w floor have before : ℕ) where
   abbrev pub P : LowState → Type 0
-  P = OnServed program f.world.output program.number (program.number + w)
+  P = OnTurn program typed f w h.words
 
-  abbrev pub Q : LowState → Type 0
-  Q = Landed program typed f (next_state program f x) (program.number + w)
+  abbrev pub Q : Goal
+  Q = calling_goal program typed f floor have before x w h.words
 
-  calm : Calm program.setting (OnServed program f.world.output program.number (program.number + w))
-      (Landed program typed f (next_state program f x) (program.number + w)) f.world h
-  calm active waiting = record { same = refl; filling = inl (objects, filled) }
+  abbrev pub Calls : LowState → Type 0
+  Calls t = Calling program typed f floor have before x w t
+
+  calm : Calm program.setting P Q f.world h
+  calm active waiting = record { same = refl; filling = inl (objects, filled); asked = omega arith }
 
   -- the operands are fetched first
   pub after_fetching : (os : List Operand) (words : Locals) (k : Code)
@@ -78,32 +79,30 @@ module _ (program : Program) (typed : TypesStand program.l) (f : FlatState progr
       → AreCarried program.l program.setting.address program.procs program.meaning places objects
       (in_row (values locals group os)) ws → words_of new (found_all s 0 os) ≡ Some ws
       → ChangesFrom (operand_word s 0) (length os) words new
-      → Moves program.setting (OnServed program f.world.output program.number (program.number + w))
-      (Landed program typed f (next_state program f x) (program.number + w))
-      (at f.world h waiting size rests new k))
-      → Moves program.setting (OnServed program f.world.output program.number (program.number + w))
-      (Landed program typed f (next_state program f x) (program.number + w))
-      (at f.world h waiting size rests words (fetch_all s 0 os k))
+      → Calling program typed f floor have before x w (at f.world h waiting size rests new k))
+      → Calling program typed f floor have before x w (at f.world h waiting size rests words (fetch_all s 0 os k))
   after_fetching os words k bound few knows go =
-      let c = fetch_all_reads (serving_scene program typed f places x w) f.world refl h objects filled waiting size
+      later_calls program typed f floor have before x w (at f.world h waiting size rests words (fetch_all s 0 os k))
+      (fetch_all_reads (serving_scene program typed f places x w floor have before h.words) f.world h
+      (as_it_was program f h.words) objects filled waiting size
       rests s count group depth locals os 0 bound (omega (arith, few)) room words knows k
       (λ ws new carried are changed.
-      here program.setting P (Moves program.setting P Q) (at f.world h waiting size rests new k)
-      (go ws new carried are changed)) in
-      moves_later program.setting P Q c.steps (at f.world h waiting size rests words (fetch_all s 0 os k)) c.reach
+      starts_now program typed f floor have before x w (at f.world h waiting size rests new k)
+      (go ws new carried are changed)))
 
   -- the kind of a wrapper is none that code looks for
   pub not_of_kind : (o : LowSource) (y kind : ℕ) (one other k : Code) (now : Locals) → kind < 256
       → (kind ≡ 2 → ⊥) → (kind ≡ 25 → ⊥) → word_of now o ≡ Some y → IsWrapper program.l objects y
       → ((new : Locals) → Changes (test_word s) now new
-      → Comes program.setting (OnServed program f.world.output program.number (program.number + w))
-      (Landed program typed f (next_state program f x) (program.number + w))
+      → Comes program.setting (OnTurn program typed f w h.words)
+      (calling_goal program typed f floor have before x w h.words)
       (at f.world h waiting size (k ∷ rests) new other))
-      → Moves program.setting (OnServed program f.world.output program.number (program.number + w))
-      (Landed program typed f (next_state program f x) (program.number + w))
-      (at f.world h waiting size rests now (of_kind s o kind one other k))
+      → Calling program typed f floor have before x w (at f.world h waiting size rests now
+      (of_kind s o kind one other k))
   not_of_kind o y kind one other k now small not_proxy not_stacked e wrapper go =
-      loads_first program.setting P Q calm y head e
+      some_calls program typed f floor have before x w
+      (at f.world h waiting size rests now (of_kind s o kind one other k))
+      (loads_first program.setting P Q calm y head e
       (subst (λ n. may_load program.setting.top n ≡ true) none there.may)
       (subst (λ n. load_bytes 8 h.memory n ≡ head) none there.is) (let z = there.end in omega arith)
       (omega (arith, room))
@@ -111,7 +110,7 @@ module _ (program : Program) (typed : TypesStand program.l) (f : FlatState progr
       (kind_read wrapper.kind wrapper.count low) (omega (arith, room))
       (if_false program.setting P Q calm wrapper.kind (kind % 2 ^ 64) (word_here t wrapper.kind first) refl different
       (go (set_local t wrapper.kind first)
-      (λ j ne. word_other t wrapper.kind first j ne ∙ word_other t head now j ne))))
+      (λ j ne. word_other t wrapper.kind first j ne ∙ word_other t head now j ne)))))
     where
       t : ℕ
       t = test_word s

@@ -6,7 +6,7 @@ use Rattle.low_ir.specs.declared.code.WordOp.{WordOp}
 use Rattle.low_ir.specs.Operations.{compute}
 use Rattle.low_ir.specs.Procedures.{Code, Done, Compute}
 use Rattle.low_ir.specs.Steps.{Locals, set_local}
-use Rattle.low_ir.specs.Run.{Waiting as LowWaiting, LowState, word_of}
+use Rattle.low_ir.specs.Run.{Active, Waiting as LowWaiting, LowState, word_of}
 use Rattle.coercion_norm.specs.ValueSteps.{Own, Return, Entering}
 use Rattle.coercion_norm.specs.Held.{TypesStand}
 use Rattle.coercion_norm.specs.Objects.{Object}
@@ -16,15 +16,22 @@ use Rattle.lower.specs.declared.numbering.Shape.{Shape}
 use Rattle.rt_cast.specs.States.{Heap, heap_of}
 use Rattle.lower.specs.Storage.{Filled}
 use Rattle.lower.specs.Emit.{Then}
-use Rattle.lower.specs.SchemeLaws.{Here, OnWay, After, Goes, GivesInPlace, nothing}
+use Rattle.lower.specs.SchemeLaws.{Here, OnWay, After, Goes, GivesInPlace, nothing, cast_leaves}
 use Rattle.lower.proofs.RelationKept.{word_here, word_other}
-use Rattle.lower.proofs.WordSteps.{at, Comes, Moves, Calm, here, moved, falls_through, lt_true}
+use Rattle.lower.proofs.WordSteps.{at, lt_true}
+use Rattle.lower.proofs.WordCredits.{By, SomeBy, by_now, by_go, some_go}
+use Rattle.low_ir.specs.Prices.{step_price}
+use Rattle.std.proofs.Common.{◌≤◌, ◌*◌, length, Option, None, le_refl}
+use Rattle.std.specs.Prelude.{◌-◌}
+use Rattle.run_laws.specs.Runs.{Ending}
+use Rattle.grift_base.specs.declared.verdicts.Verdict.{Verdict}
 use Rattle.lower.proofs.WordOperations.{Touches}
-use Rattle.lower.proofs.SimulationWay.{Program, after_wraps, N, Settled, next_state}
-use Rattle.lower.proofs.SimulationGives.{CarriedHere, RestHere, given, word_for, code_for}
-use Rattle.lower.proofs.SimulationOperations.{returned}
-use Rattle.lower.proofs.SimulationServed.{OnServed, served_on, lands_by}
-use Rattle.lower.proofs.SimulationServices.{Landed, Left, landing}
+use Rattle.lower.proofs.SimulationWay.{Program, after_wraps, N, Settled, next_state, asks_of, budget_of, cost_of}
+use Rattle.lower.proofs.SimulationWay.{due_of, due_most, waiting_dues, zero_once_ended}
+use Rattle.lower.proofs.SimulationGives.{CarriedHere, RestHere, given, word_for, code_for, due_for}
+use Rattle.lower.proofs.SimulationOperations.{returned, due_little}
+use Rattle.lower.proofs.SimulationServed.{OnServed, Waits, Lands, SettledWith, served_on, next_more}
+use Rattle.lower.proofs.SimulationServices.{OnTurn, Landing, landing}
 
 module _ (program : Program) (typed : TypesStand program.l) (f : FlatState program.meaning.Cast) (places : List ℕ)
     (objects : List Object) (h : Heap)
@@ -35,7 +42,10 @@ module _ (program : Program) (typed : TypesStand program.l) (f : FlatState progr
     (less : word_for program places objects s next < size)
     (op : WordOp) (a b : LowSource) (new : Locals) (touches : Touches s (word_for program places objects s next) words
     new) (y z word : ℕ) (first : word_of new a ≡ Some y) (second : word_of new b ≡ Some z)
-    (made : compute op y z ≡ word) where
+    (made : compute op y z ≡ word) (have before : ℕ)
+    (cheap : step_price program.setting.procs size
+    (Compute op (word_for program places objects s next) a b Done) ≤ 29)
+    (enough : 67 + 10 * length rests + waiting_dues waiting + before ≤ cast_leaves + have) where
   abbrev d : ℕ
   d = word_for program places objects s next
 
@@ -50,57 +60,83 @@ module _ (program : Program) (typed : TypesStand program.l) (f : FlatState progr
   last = set_local d word new
 
   abbrev Aimed : FlatFocus program.meaning.Cast → List (FlatFrame program.meaning.Cast)
-      → FlatStore program.meaning.Cast → ℕ → LowState → Type 0
-  Aimed = GivesInPlace program.meaning program.setting program.l program.procs program.casts maker places objects f.frames word
+      → FlatStore program.meaning.Cast → ℕ → ℕ → LowState → Type 0
+  Aimed = GivesInPlace program.meaning program.setting program.l program.procs program.casts program.measured maker
+      places objects f.frames word
 
-  lands_at : (u : FlatValue program.meaning.Cast) (store : FlatStore program.meaning.Cast) (n : ℕ)
-      → Here program.meaning program.setting program.l program.procs program.casts places objects store n
-      (heap_of maker) → CarriedHere program places objects u word
-      → Moves program.setting (OnServed program f.world.output n n)
-      (Settled (after_wraps program n) (flat_state_at program.procs program.told (Return u) f.frames store f.world))
-      maker
-  lands_at u store n stands carried =
-      moved program.setting P Q maker (at f.world h waiting size (k ∷ rests) last Done) step
-      (record { same = refl; filling = inl (objects, stands.filled) })
-      (falls_through program.setting P Q calm (here program.setting P Q (at f.world h waiting size rests last k) settled))
+  lands_at : (u : FlatValue program.meaning.Cast) (store : FlatStore program.meaning.Cast) (n left : ℕ)
+      → cast_leaves ≤ left
+      → Here program.meaning program.setting program.l program.procs program.casts program.measured places objects store
+      n (heap_of maker) → CarriedHere program places objects u word
+      → Lands program f.world.output n 0 have before left
+      (flat_state_at program.procs program.told (Return u) f.frames store f.world) maker
+  lands_at u store n left le stands carried = record { comes = came.0; some = inl came.1 }
     where
       P : LowState → Type 0
-      P = OnServed program f.world.output n n
+      P = OnServed program f.world.output n n maker.words
 
-      Q : LowState → Type 0
-      Q = Settled (after_wraps program n) (flat_state_at program.procs program.told (Return u) f.frames store f.world)
+      H : ℕ → LowState → Type 0
+      H left v =
+          (v.words ≤ maker.words)
+          × SettledWith program have before left
+          (flat_state_at program.procs program.told (Return u) f.frames store f.world) n v
 
-      calm : Calm program.setting (OnServed program f.world.output n n)
-          (Settled (after_wraps program n)
-          (flat_state_at program.procs program.told (Return u) f.frames store f.world)) f.world h
-      calm active waiting = record { same = refl; filling = inl (objects, stands.filled) }
+      on : (active : Active) → P (record maker { active = active })
+      on active = record { same = refl; filling = inl (objects, stands.filled); asked = le_refl h.words }
 
       step : (N program).step maker ≡ Go (at f.world h waiting size (k ∷ rests) last Done)
       step = let lt = lt_true d size less in rw (first, second, made, lt) refl
 
-      settled : Q (at f.world h waiting size rests last k)
+      settled : Settled (after_wraps program n) (flat_state_at program.procs program.told (Return u) f.frames store
+          f.world) (due_for program places objects next) (at f.world h waiting size rests last k)
       settled =
           returned (after_wraps program n) typed places objects h f.world stands.filled store f.frames stands.cells u
-          waiting size rests last k
+          waiting size rests last k (due_for program places objects next)
           (given (after_wraps program n) places objects waiting s count size group depth f.frames next rests words last
           u word rest carried (word_here d word new) (λ j ne side. word_other d word new j ne ∙ touches j ne side))
 
-  lands : (focus : FlatFocus program.meaning.Cast) (frames : List (FlatFrame program.meaning.Cast))
-      (store : FlatStore program.meaning.Cast) (n : ℕ) (t : LowState) → Aimed focus frames store n t
-      → Moves program.setting (OnServed program f.world.output n n)
-      (Settled (after_wraps program n) (flat_state_at program.procs program.told focus frames store f.world)) t
-  lands (Return u) frames store n t q =
-      subst (λ fs. Moves program.setting (OnServed program f.world.output n n)
-      (Settled (after_wraps program n) (flat_state_at program.procs program.told (Return u) fs store f.world)) t)
-      (sym q.1)
-      (subst (λ v. Moves program.setting (OnServed program f.world.output n n)
-      (Settled (after_wraps program n) (flat_state_at program.procs program.told (Return u) f.frames store f.world)) v)
-      (sym q.0) (lands_at u store n q.2 q.3))
-  lands (Own place) frames store n t q = absurd q
-  lands (Entering g done todo) frames store n t q = absurd q
+      kept : (o : Option (Ending Verdict)) → zero_once_ended o (due_for program places objects next
+          + (due_of k rests + waiting_dues waiting)) + before ≤ left - 39 + have
+      kept None =
+          let z = due_most k rests in
+          let y = due_little program places objects next in omega (arith, enough, le, z, y)
+      kept (Some e) = omega (arith, enough, le)
 
-  begins : OnWay program.meaning program.setting program.l program.procs program.casts maker nothing program.number
-      program.number maker
+      came : SomeBy program.setting (OnServed program f.world.output n n maker.words)
+          (λ left v. (v.words ≤ maker.words)
+          × SettledWith program have before left
+          (flat_state_at program.procs program.told (Return u) f.frames store f.world) n v) 0 left maker
+      came =
+          some_go program.setting P H 0 (10 + (left - 39)) left maker (at f.world h waiting size (k ∷ rests) last Done)
+          step (omega (arith, cheap, le)) (on maker.active)
+          (by_go program.setting P H 0 (left - 39) (10 + (left - 39)) (at f.world h waiting size (k ∷ rests) last Done)
+          (at f.world h waiting size rests last k) refl (le_refl (10 + (left - 39)))
+          (on (record { count = size; locals = last; code = Done; rests = k ∷ rests }))
+          (by_now program.setting P H 0 (left - 39) (at f.world h waiting size rests last k) (omega arith) (
+            le_refl h.words,
+            (
+              due_for program places objects next,
+              settled,
+              kept (flat_state_at program.procs program.told (Return u) f.frames store f.world).ended,
+            ),
+          )))
+
+  lands : (focus : FlatFocus program.meaning.Cast) (frames : List (FlatFrame program.meaning.Cast))
+      (store : FlatStore program.meaning.Cast) (n left : ℕ) (t : LowState) → Aimed focus frames store n left t
+      → Lands program f.world.output n 0 have before left
+      (flat_state_at program.procs program.told focus frames store f.world) t
+  lands (Return u) frames store n left t q =
+      subst (λ fs. Lands program f.world.output n 0 have before left
+      (flat_state_at program.procs program.told (Return u) fs store f.world) t)
+      (sym q.1)
+      (subst (λ v. Lands program f.world.output n 0 have before left
+      (flat_state_at program.procs program.told (Return u) f.frames store f.world) v)
+      (sym q.0) (lands_at u store n left q.2 q.3 q.4))
+  lands (Own place) frames store n left t q = absurd q
+  lands (Entering g done todo) frames store n left t q = absurd q
+
+  begins : OnWay program.meaning program.setting program.l program.procs program.casts program.measured maker maker
+      nothing 0 program.number program.number maker
   begins = record {
     objects = objects;
     filled = inl filled;
@@ -111,16 +147,17 @@ module _ (program : Program) (typed : TypesStand program.l) (f : FlatState progr
 
   -- so the turns of a cast that is made in place are gone along
   pub put_in_place : (x : FlatAfter program.meaning.Cast) (w i : ℕ)
-      → After program.meaning program.setting program.l program.procs program.casts maker nothing
-      (Goes program.meaning program.setting program.l program.procs program.casts maker nothing
-      (GivesInPlace program.meaning program.setting program.l program.procs program.casts maker places objects f.frames word)
-      i) x program.number w maker
-      → Comes program.setting (OnServed program f.world.output program.number (program.number + w))
-      (Landed program typed f (next_state program f x) (program.number + w)) maker
+      → After program.meaning program.setting program.l program.procs program.casts program.measured maker nothing
+      (Goes program.meaning program.setting program.l program.procs program.casts program.measured maker nothing
+      (GivesInPlace program.meaning program.setting program.l program.procs program.casts program.measured maker places
+      objects f.frames word)
+      i) x (cost_of program f) 0 program.number w maker
+      → By program.setting (OnTurn program typed f w h.words)
+      (Landing program typed f have before (next_state program f x) w h.words) 0 (budget_of program f) maker
   put_in_place x w i law =
-      let q : ((next_state program f x).world.output ≡ f.world.output) × Left program typed f x w i maker =
-      served_on program maker nothing 0 Aimed
-      (λ focus frames store n u q. lands_by program f.world.output n 0
-      (flat_state_at program.procs program.told focus frames store f.world) u (lands focus frames store n u q)) i x
-      program.number w f refl maker begins law in
-      landing program typed f x w i maker q.1
+      landing program typed f x w 0 have before i h.words maker refl
+      (next_more program (Waits program 0 have before i) 0 (i ≡ 0) f.world.output (next_state program f x)
+      (asks_of program f) (0 + (cost_of program f).budget) (budget_of program f) program.number (program.number + w)
+      maker (omega arith)
+      (served_on program maker nothing 0 have before Aimed lands i x (cost_of program f) 0 program.number w f refl maker
+      begins law).1)

@@ -49,7 +49,9 @@ use Rattle.lower.proofs.WordOperands.{and_true}
 use Rattle.lower.proofs.SimulationWay.{mode_of}
 use Rattle.lower.proofs.SimulationWay.{Program, R, Seen, Stopping, Way}
 use Rattle.lower.proofs.SimulationWay.{size_of, Live, Over, Settled, after_wraps}
-use Rattle.lower.proofs.SimulationTurns.{Does, st, runs_body, gave, gives, call_turn}
+use Rattle.lower.proofs.SimulationTurns.{Does, DoesDue, st, runs_body, gave, gives, call_turn}
+use Rattle.lower.proofs.SimulationServices.{OnTurn, Landing}
+use Rattle.lower.proofs.SimulationWay.{Quietly, turn_aim, dues, asks_of, budget_of}
 
 module _ (program : Program) (typed : TypesStand program.l) where
   -- a turn of the numbered procedures, from a state that goes with one over words
@@ -58,57 +60,82 @@ module _ (program : Program) (typed : TypesStand program.l) where
       (world : WorldState) (places : List ℕ) (objects : List Object) (h : Heap)
       → Filled program.meaning program.setting program.l program.number objects h
       → CellsHeld program.l program.setting.address program.procs program.meaning places objects h.memory places store
-      → (waiting : List LowWaiting) (size : ℕ) (rests : List Code) (words : Locals) (code : Code)
-      → Goes program.setting program.l program.run program.procs program.answer program.meaning places objects focus
+      → (waiting : List LowWaiting) (size : ℕ) (rests : List Code) (words : Locals) (code : Code) (due : ℕ)
+      → Goes program.setting program.l program.run program.procs program.answer program.meaning places objects due focus
       frames
       (record { count = size; locals = words; code = code; rests = rests }) waiting
-      → Does program typed (st program typed focus frames store world)
+      → (own : ℕ) × (own ≤ due) × DoesDue program typed (st program typed focus frames store world)
       (flat_turn program.procs (mode_of program) store world focus frames)
-      (flat_turn_wraps program.procs (mode_of program) focus frames) (at world h waiting size rests words code)
+      (flat_turn_wraps program.procs (mode_of program) focus frames) own (at world h waiting size rests words code)
   turn_from (Own (Inside body locals group)) frames store world places objects h filled cells waiting size rests words
-      code r =
-      subst (λ c. Does program typed (st program typed (Own (Inside body locals group)) frames store world)
-      (flat_turn program.procs (mode_of program) store world (Own (Inside body locals group)) frames)
-      (flat_turn_wraps program.procs (mode_of program) (Own (Inside body locals group)) frames)
-      (at world h waiting size rests words c)) (sym r.is)
-      (runs_body program typed frames store world places objects h filled cells waiting size rests words locals group
-      r.s r.count r.depth r.next body r.fits r.rest)
-  turn_from (Return v) frames store world places objects h filled cells waiting size rests words code (inl g) =
-      gave program typed frames store world places objects h filled cells waiting size rests words v code g
-  turn_from (Return v) frames store world places objects h filled cells waiting size rests words code (inr g) =
-      subst (λ c. Does program typed (st program typed (Return v) frames store world)
-      (flat_turn program.procs (mode_of program) store world (Return v) frames)
-      (flat_turn_wraps program.procs (mode_of program) (Return v) frames) (at world h waiting size rests words c))
-      (sym g.code)
-      (gives program typed frames store world places objects h filled cells waiting size rests words v g.source g.w
-      g.is g.carried g.callers)
-  turn_from (Entering v done todo) frames store world places objects h filled cells waiting size rests words code e =
-      subst (λ c. Does program typed (st program typed (Entering v done todo) frames store world)
-      (flat_turn program.procs (mode_of program) store world (Entering v done todo) frames) 0
-      (at world h waiting size rests words c)) (sym e.runs.is)
-      (call_turn program typed frames store world places objects h filled cells waiting size rests words e.operand
-      e.operands e.locals e.group e.runs.s e.runs.count e.runs.depth e.runs.next e.runs.fits e.runs.rest v done todo
-      e.function e.arguments e.plain)
+      code due r = (
+        0,
+        omega arith,
+        subst (λ c. Does program typed (st program typed (Own (Inside body locals group)) frames store world)
+            (flat_turn program.procs (mode_of program) store world (Own (Inside body locals group)) frames)
+            (flat_turn_wraps program.procs (mode_of program) (Own (Inside body locals group)) frames)
+            (at world h waiting size rests words c)) (sym r.is)
+            (runs_body program typed frames store world places objects h filled cells waiting size rests words locals
+            group
+            r.s r.count r.depth r.next body r.fits r.rest),
+      )
+  turn_from (Return v) frames store world places objects h filled cells waiting size rests words code due (inl g) = (
+    0,
+    omega arith,
+    gave program typed frames store world places objects h filled cells waiting size rests words v code
+        g,
+  )
+  turn_from (Return v) frames store world places objects h filled cells waiting size rests words code due
+      (inr (g, le)) = (
+        28,
+        le,
+        subst (λ c. DoesDue program typed (st program typed (Return v) frames store world)
+            (flat_turn program.procs (mode_of program) store world (Return v) frames)
+            (flat_turn_wraps program.procs (mode_of program) (Return v) frames) 28
+            (at world h waiting size rests words c))
+            (sym g.code)
+            (gives program typed frames store world places objects h filled cells waiting size rests words v g.source
+            g.w
+            g.is g.carried g.callers),
+      )
+  turn_from (Entering v done todo) frames store world places objects h filled cells waiting size rests words code due
+      e = (
+        0,
+        omega arith,
+        subst (λ c. Does program typed (st program typed (Entering v done todo) frames store world)
+            (flat_turn program.procs (mode_of program) store world (Entering v done todo) frames) 0
+            (at world h waiting size rests words c)) (sym e.runs.is)
+            (call_turn program typed frames store world places objects h filled cells waiting size rests words e.operand
+            e.operands e.locals e.group e.runs.s e.runs.count e.runs.depth e.runs.next e.runs.fits e.runs.rest v done
+            todo
+            e.function e.arguments e.plain),
+      )
 
-  turn : (f : FlatState program.meaning.Cast) (t : LowState) → f.ended ≡ None
-      → Related program.setting program.l program.run program.procs program.answer program.meaning f program.number t
-      → Does program typed f (flat_turn program.procs (mode_of program) f.store f.world f.focus f.frames)
-      (flat_turn_wraps program.procs (mode_of program) f.focus f.frames) t
-  turn f t live r =
-      subst (λ e. Does program typed (record {
+  -- by what is due for a return
+  abbrev DoesSome : FlatState program.meaning.Cast → ℕ → LowState → Type 0
+  DoesSome f due t =
+      (own : ℕ) × (own ≤ due)
+      × DoesDue program typed f (flat_turn program.procs (mode_of program) f.store f.world f.focus f.frames)
+      (flat_turn_wraps program.procs (mode_of program) f.focus f.frames) own t
+
+  pub turn : (f : FlatState program.meaning.Cast) (due : ℕ) (t : LowState) → f.ended ≡ None
+      → Related program.setting program.l program.run program.procs program.answer program.meaning f program.number due
+      t
+      → (own : ℕ) × (own ≤ due)
+      × DoesDue program typed f (flat_turn program.procs (mode_of program) f.store f.world f.focus f.frames)
+      (flat_turn_wraps program.procs (mode_of program) f.focus f.frames) own t
+  turn f due t live r =
+      subst (λ e. DoesSome (record {
         focus = f.focus;
         frames = f.frames;
         store = f.store;
         world = f.world;
         ended = e;
-      }) (flat_turn program.procs (mode_of program) f.store f.world f.focus f.frames)
-      (flat_turn_wraps program.procs (mode_of program) f.focus f.frames) t) (sym live)
-      (subst (λ w. Does program typed (st program typed f.focus f.frames f.store f.world)
-      (flat_turn program.procs (mode_of program) f.store f.world f.focus f.frames)
-      (flat_turn_wraps program.procs (mode_of program) f.focus f.frames)
+      }) due t) (sym live)
+      (subst (λ w. DoesSome (st program typed f.focus f.frames f.store f.world) due
       (at w (heap_of t) t.waiting t.active.count t.active.rests t.active.locals t.active.code)) (sym r.world)
       (turn_from f.focus f.frames f.store f.world r.places r.objects (heap_of t) r.filled r.cells t.waiting
-      t.active.count t.active.rests t.active.locals t.active.code r.goes))
+      t.active.count t.active.rests t.active.locals t.active.code due r.goes))
 
 module _ (program : Program) (typed : TypesStand program.l) where
   -- ---- the simulation
@@ -131,9 +158,10 @@ module _ (program : Program) (typed : TypesStand program.l) where
 
   abbrev Rel : ℕ → FlatCounted program.meaning.Cast → LowState → Type 0
   Rel j s t =
-      (Live (after_wraps program s.wraps) s.state t × (j ≡ size_of s.state))
+      (((due : ℕ) × Live (after_wraps program s.wraps) s.state due t) × (j ≡ size_of s.state))
       ⊎ (Over (after_wraps program s.wraps) s.state t
-      ⊎ ((low : ℕ) × (i : ℕ) × (j ≡ suc (i + low)) × Waits program low (suc i) s.state s.wraps t))
+      ⊎ ((low : ℕ) × (i : ℕ) × (j ≡ suc (i + low)) × (have before left : ℕ)
+      × Waits program low have before (suc i) left s.state s.wraps t))
 
   abbrev SomeRel : FlatCounted program.meaning.Cast → LowState → Type 0
   SomeRel s t = (j : ℕ) × Rel j s t
@@ -149,52 +177,48 @@ module _ (program : Program) (typed : TypesStand program.l) where
   seen_alike s t e filling = record { output = e; shown = filling }
 
   -- a turn in place
-  on_way : (s : FlatCounted program.meaning.Cast) → wraps_in s ≡ 0 → (t : LowState)
-      → Way (after_wraps program s.wraps) s.state (stepped s).state t → OnTheWay K Any M N s (stepped s) t
-  on_way s none t (inl e, filling) = (inl (seen_alike s t e filling), tt)
-  on_way s none t (inr e, filling) =
+  on_way : (s : FlatCounted program.meaning.Cast) → wraps_in s ≡ 0 → (base : ℕ) (t : LowState)
+      → Way (after_wraps program s.wraps) s.state (stepped s).state base t → OnTheWay K Any M N s (stepped s) t
+  on_way s none base t (inl e, filling) = (inl (seen_alike s t e.0 filling), tt)
+  on_way s none base t (inr e, filling) =
       let more : s.wraps ≡ s.wraps + wraps_in s = omega (arith, none) in
-      (inr (seen_alike (stepped s) t e (subst (λ n. FillingAt program n t) more filling)), tt)
+      (inr (seen_alike (stepped s) t e.0 (subst (λ n. FillingAt program n t) more filling)), tt)
 
-  lands_in : (s : FlatCounted program.meaning.Cast) → wraps_in s ≡ 0 → (t : LowState)
-      → R (after_wraps program s.wraps) (stepped s).state t → Rel (size_of (stepped s).state) (stepped s) t
-  lands_in s none t r =
+  lands_in : (s : FlatCounted program.meaning.Cast) → wraps_in s ≡ 0 → (due : ℕ) (t : LowState)
+      → R (after_wraps program s.wraps) (stepped s).state due t → Rel (size_of (stepped s).state) (stepped s) t
+  lands_in s none due t r =
       let more : s.wraps ≡ s.wraps + wraps_in s = omega (arith, none) in by_way more r
     where
-      by_way : s.wraps ≡ s.wraps + wraps_in s → R (after_wraps program s.wraps) (stepped s).state t
+      by_way : s.wraps ≡ s.wraps + wraps_in s → R (after_wraps program s.wraps) (stepped s).state due t
           → Rel (size_of (stepped s).state) (stepped s) t
       by_way more (inl l) =
-          inl (subst (λ n. Live (after_wraps program n) (stepped s).state t) more l, refl)
+          inl ((due, subst (λ n. Live (after_wraps program n) (stepped s).state due t) more l), refl)
       by_way more (inr (inl o)) =
           inr (inl (subst (λ n. Over (after_wraps program n) (stepped s).state t) more o))
       by_way more (inr (inr z)) = absurd z
 
   -- a turn in which a procedure serves
   on_served : (s : FlatCounted program.meaning.Cast) → (stepped s).state.world.output ≡ s.state.world.output
-      → (t : LowState) → OnServed program s.state.world.output s.wraps (s.wraps + wraps_in s) t
+      → (limit : ℕ) (t : LowState)
+      → OnServed program s.state.world.output s.wraps (s.wraps + wraps_in s) limit t
       → OnTheWay K Any M N s (stepped s) t
-  on_served s silent t o = by_filling o.filling
+  on_served s silent limit t o = by_filling o.filling
     where
       by_filling : FillingAt program s.wraps t ⊎ FillingAt program (s.wraps + wraps_in s) t
           → OnTheWay K Any M N s (stepped s) t
       by_filling (inl x) = (inl (seen_alike s t o.same x), tt)
       by_filling (inr x) = (inr (seen_alike (stepped s) t (o.same ∙ sym silent) x), tt)
 
-  settled_in : (s : FlatCounted program.meaning.Cast) (t : LowState)
-      → Settled (after_wraps program s.wraps) s.state t → SomeRel s t
-  settled_in s t (inl l) = (size_of s.state, inl (l, refl))
-  settled_in s t (inr o) = (0, inr (inl o))
+  settled_in : (s : FlatCounted program.meaning.Cast) (due : ℕ) (t : LowState)
+      → Settled (after_wraps program s.wraps) s.state due t → SomeRel s t
+  settled_in s due t (inl l) = (size_of s.state, inl ((due, l), refl))
+  settled_in s due t (inr o) = (0, inr (inl o))
 
-  landed_in : (s : FlatCounted program.meaning.Cast) (t : LowState)
-      → Settled (after_wraps program s.wraps) s.state t
-      ⊎ ((low : ℕ) × (i : ℕ) × Waits program low (suc i) s.state s.wraps t) → SomeRel s t
-  landed_in s t (inl x) = settled_in s t x
-  landed_in s t (inr x) = (suc (x.1 + x.0), inr (inr (x.0, x.1, refl, x.2)))
-
-  waits_in : (s : FlatCounted program.meaning.Cast) (t : LowState) (low i : ℕ)
-      → Waits program low i s.state s.wraps t → SomeRel s t
-  waits_in s t low zero x = settled_in s t x
-  waits_in s t low (suc i) x = (suc (i + low), inr (inr (low, i, refl, x)))
+  waits_in : (s : FlatCounted program.meaning.Cast) (t : LowState) (low have before i left : ℕ)
+      → Waits program low have before i left s.state s.wraps t → SomeRel s t
+  waits_in s t low have before zero left (inl o) = (0, inr (inl o.0))
+  waits_in s t low have before zero left (inr x) = settled_in s x.0 t x.1
+  waits_in s t low have before (suc i) left x = (suc (i + low), inr (inr (low, i, refl, have, before, left, x)))
 
   abbrev Goes_on : ℕ → FlatCounted program.meaning.Cast → LowState → Type 0
   Goes_on j s t =
@@ -210,53 +234,67 @@ module _ (program : Program) (typed : TypesStand program.l) where
   by_count s P Q p q j (suc k) t r none =
       inr (k, reaches_weaken N P Q (OnTheWay K Any M N s (stepped s)) (SomeRel (stepped s)) p q (suc k) t r)
 
-  from_live : (s : FlatCounted program.meaning.Cast) (t : LowState) (w : ℕ) → wraps_in s ≡ w
-      → Does (after_wraps program s.wraps) typed s.state
-      (flat_turn program.procs (mode_of program) s.state.store s.state.world s.state.focus s.state.frames) w t
+  from_live : (s : FlatCounted program.meaning.Cast) (t : LowState) (w own : ℕ) → wraps_in s ≡ w
+      → DoesDue (after_wraps program s.wraps) typed s.state
+      (flat_turn program.procs (mode_of program) s.state.store s.state.world s.state.focus s.state.frames) w own t
       → Goes_on (size_of s.state) s t
-  from_live s t w e (inl (z, inl c)) =
+  from_live s t w own e (inl (z, inl c)) =
       let none : wraps_in s ≡ 0 = e ∙ z in
-      by_count s (Way (after_wraps program s.wraps) s.state (stepped s).state)
-      (R (after_wraps program s.wraps) (stepped s).state) (λ u q. on_way s none u q)
-      (λ u q. (size_of (stepped s).state, lands_in s none u q)) (size_of s.state) c.0.steps t c.0.reach
-      (λ k q. (size_of (stepped s).state, c.1, lands_in s none t q))
-  from_live s t w e (inl (z, inr m)) =
+      by_count s (Way (after_wraps program s.wraps) s.state (stepped s).state t.words)
+      (turn_aim (after_wraps program s.wraps) s.state (stepped s).state own c.0.0 t c.0.1.left)
+      (λ u q. on_way s none t.words u q)
+      (λ u q. (size_of (stepped s).state, lands_in s none q.0 u q.1)) (size_of s.state) c.0.1.steps t c.0.1.reach
+      (λ k q. (size_of (stepped s).state, c.1, lands_in s none q.0 t q.1))
+  from_live s t w own e (inl (z, inr m)) =
       let none : wraps_in s ≡ 0 = e ∙ z in
-      by_count s (Way (after_wraps program s.wraps) s.state (stepped s).state)
-      (R (after_wraps program s.wraps) (stepped s).state) (λ u q. on_way s none u q)
-      (λ u q. (size_of (stepped s).state, lands_in s none u q)) (size_of s.state) m.steps t m.reach
-      (λ k q. absurd (let y = m.some in omega (arith, y, k)))
-  from_live s t w e (inr served) =
-      by_count s (OnServed program s.state.world.output s.wraps (s.wraps + wraps_in s))
-      (λ u. Settled (after_wraps program (s.wraps + wraps_in s)) (stepped s).state u
-      ⊎ ((low : ℕ) × (i : ℕ) × Waits program low (suc i) (stepped s).state (s.wraps + wraps_in s) u))
-      (λ u q. on_served s served.0 u q) (λ u q. landed_in (stepped s) u q) (size_of s.state) served.1.steps t
-      (subst (λ n. Reaches N (OnServed program s.state.world.output s.wraps (s.wraps + n))
-      (λ u. Settled (after_wraps program (s.wraps + n)) (stepped s).state u
-      ⊎ ((low : ℕ) × (i : ℕ) × Waits program low (suc i) (stepped s).state (s.wraps + n) u)) served.1.steps t) (sym e)
-      served.1.reach) (λ k q. absurd (let y = served.1.some in omega (arith, y, k)))
+      by_count s (Way (after_wraps program s.wraps) s.state (stepped s).state t.words)
+      (turn_aim (after_wraps program s.wraps) s.state (stepped s).state own m.0 t m.1.0.left)
+      (λ u q. on_way s none t.words u q)
+      (λ u q. (size_of (stepped s).state, lands_in s none q.0 u q.1)) (size_of s.state) m.1.0.steps t m.1.0.reach
+      (λ k q. absurd (let y = m.1.1 in omega (arith, y, k)))
+  from_live s t w own e (inr served) =
+      by_count s (OnTurn (after_wraps program s.wraps) typed s.state w t.words)
+      (Landing (after_wraps program s.wraps) typed s.state (own + dues t) served.1 (stepped s).state w t.words
+      served.3.0.left)
+      (λ u q. on_served s served.0 (t.words + asks_of program s.state) u
+      (subst (λ n. OnServed program s.state.world.output s.wraps (s.wraps + n) (t.words + asks_of program s.state) u)
+      (sym e) q))
+      (λ u q. waits_in (stepped s) u q.1.0 (own + dues t) served.1 q.1.1 served.3.0.left
+      (subst (λ n. Waits program q.1.0 (own + dues t) served.1 q.1.1 served.3.0.left (stepped s).state (s.wraps + n) u)
+      (sym e) q.1.2)) (size_of s.state) served.3.0.steps t served.3.0.reach
+      (λ k q. absurd (let y = served.3.1 in omega (arith, y, k)))
 
-  from_waits : (s : FlatCounted program.meaning.Cast) (t : LowState) (low i : ℕ)
+  from_waits : (s : FlatCounted program.meaning.Cast) (t : LowState) (low have before i left : ℕ)
       → (next_of program s.state).world.output ≡ s.state.world.output
-      → Next program (Waits program low i) low (i ≡ 0) s.state.world.output (next_of program s.state) s.wraps
+      → Next program (Waits program low have before i) low (i ≡ 0) s.state.world.output (next_of program s.state)
+      (asks_of program s.state) (left + budget_of program s.state) s.wraps
       (s.wraps + wraps_in s) t → Goes_on (suc (i + low)) s t
-  from_waits s t low i silent (inl o) = inl (0, omega arith, inr (inl o))
-  from_waits s t low zero silent (inr r) =
-      by_count s (OnServed program s.state.world.output s.wraps (s.wraps + wraps_in s))
-      (Waits program low 0 (stepped s).state (s.wraps + wraps_in s)) (λ u q. on_served s silent u q)
-      (λ u q. waits_in (stepped s) u low 0 q) (suc (0 + low)) r.0 t r.2 (λ k q. by_size k (r.1 refl) q)
+  from_waits s t low have before i left silent (inl o) = inl (0, omega arith, inr (inl o.0))
+  from_waits s t low have before zero left silent (inr c) =
+      by_count s (OnServed program s.state.world.output s.wraps (s.wraps + wraps_in s)
+      (t.words + asks_of program s.state))
+      (λ u. (u.words ≤ t.words + asks_of program s.state)
+      × Waits program low have before 0 c.0.left (stepped s).state (s.wraps + wraps_in s) u)
+      (λ u q. on_served s silent (t.words + asks_of program s.state) u q)
+      (λ u q. waits_in (stepped s) u low have before 0 c.0.left q.1) (suc (0 + low)) c.0.steps t c.0.reach
+      (λ k q. by_size k (c.1 refl) q.1)
     where
-      by_size : r.0 ≡ 0 → (0 < r.0) ⊎ (size_of (next_of program s.state) ≤ low)
-          → Settled (after_wraps program (s.wraps + wraps_in s)) (stepped s).state t
+      by_size : c.0.steps ≡ 0 → (0 < c.0.steps) ⊎ (size_of (next_of program s.state) ≤ low)
+          → Waits program low have before 0 c.0.left (stepped s).state (s.wraps + wraps_in s) t
           → (j' : ℕ) × (j' < suc (0 + low)) × Rel j' (stepped s) t
       by_size k (inl lt) q = absurd (omega (arith, lt, k))
-      by_size k (inr le) (inl l) = (size_of (stepped s).state, omega (arith, le), inl (l, refl))
-      by_size k (inr le) (inr o) = (0, omega arith, inr (inl o))
-  from_waits s t low (suc i) silent (inr r) =
-      by_count s (OnServed program s.state.world.output s.wraps (s.wraps + wraps_in s))
-      (Waits program low (suc i) (stepped s).state (s.wraps + wraps_in s)) (λ u q. on_served s silent u q)
-      (λ u q. waits_in (stepped s) u low (suc i) q) (suc (suc i + low)) r.0 t r.2
-      (λ k q. (suc (i + low), omega arith, inr (inr (low, i, refl, q))))
+      by_size k (inr le) (inl o) = (0, omega arith, inr (inl o.0))
+      by_size k (inr le) (inr (due, inl l, paid)) =
+          (size_of (stepped s).state, omega (arith, le), inl ((due, l), refl))
+      by_size k (inr le) (inr (due, inr o, paid)) = (0, omega arith, inr (inl o))
+  from_waits s t low have before (suc i) left silent (inr c) =
+      by_count s (OnServed program s.state.world.output s.wraps (s.wraps + wraps_in s)
+      (t.words + asks_of program s.state))
+      (λ u. (u.words ≤ t.words + asks_of program s.state)
+      × Waits program low have before (suc i) c.0.left (stepped s).state (s.wraps + wraps_in s) u)
+      (λ u q. on_served s silent (t.words + asks_of program s.state) u q)
+      (λ u q. waits_in (stepped s) u low have before (suc i) c.0.left q.1) (suc (suc i + low)) c.0.steps t c.0.reach
+      (λ k q. (suc (i + low), omega arith, inr (inr (low, i, refl, have, before, c.0.left, q.1))))
 
   over_does : (j : ℕ) (s : FlatCounted program.meaning.Cast) (t : LowState)
       → Over (after_wraps program s.wraps) s.state t → DoesAt K Any M N Rel j s t (M.step s)
@@ -265,34 +303,37 @@ module _ (program : Program) (typed : TypesStand program.l) where
       (unless_wrong_map o.e
       (λ ends. (
         ends.steps,
-        reaches_weaken N (Seen (after_wraps program s.wraps) s.state)
-            (Stopping (after_wraps program s.wraps) s.state o.e) (OnTheWay K Any M N s s) (StopsAt K Any M N s s o.e)
-            (λ u q. (inl (seen_alike s u q.output q.filling), tt))
+        reaches_weaken N (Quietly (after_wraps program s.wraps) (Seen (after_wraps program s.wraps) s.state) t.words)
+            (Quietly (after_wraps program s.wraps) (Stopping (after_wraps program s.wraps) s.state o.e) t.words)
+            (OnTheWay K Any M N s s) (StopsAt K Any M N s s o.e)
+            (λ u q. (inl (seen_alike s u q.0.output q.0.filling), tt))
             (λ u q. (
-              (inl (seen_alike s u q.now.output q.now.filling), tt),
-              (q.last, q.stops, seen_alike s q.last q.seen.output q.seen.filling, tt),
+              (inl (seen_alike s u q.0.now.output q.0.now.filling), tt),
+              (q.0.last, q.0.stops, seen_alike s q.0.last q.0.seen.output q.0.seen.filling, tt),
             )) ends.steps t ends.reach,
       )) o.ends)
 
   does : (j : ℕ) (s : FlatCounted program.meaning.Cast) (t : LowState) → Rel j s t
       → DoesAt K Any M N Rel j s t (M.step s)
-  does j s t (inl l) =
-      subst (λ o. DoesAt K Any M N Rel j s t (go_or_stop o stepped s)) (sym l.0.is)
-      (subst (λ n. Goes_on n s t) (sym l.1)
-      (from_live s t (wraps_in s) refl (turn (after_wraps program s.wraps) typed s.state t l.0.is l.0.related)))
+  does j s t (inl ((due, l), e)) =
+      subst (λ o. DoesAt K Any M N Rel j s t (go_or_stop o stepped s)) (sym l.is)
+      (subst (λ n. Goes_on n s t) (sym e)
+      (let d = turn (after_wraps program s.wraps) typed s.state due t l.is l.related in
+      from_live s t (wraps_in s) d.0 refl d.2))
   does j s t (inr (inl o)) = over_does j s t o
-  does j s t (inr (inr (low, i, e, inl o))) = over_does j s t o
-  does j s t (inr (inr (low, i, e, inr x))) =
+  does j s t (inr (inr (low, i, e, have, before, left, inl o))) = over_does j s t o.0
+  does j s t (inr (inr (low, i, e, have, before, left, inr x))) =
       subst (λ o. DoesAt K Any M N Rel j s t (go_or_stop o stepped s)) (sym x.0)
-      (subst (λ n. Goes_on n s t) (sym e) (from_waits s t low i x.2 x.3))
+      (subst (λ n. Goes_on n s t) (sym e) (from_waits s t low have before i left x.2 x.3))
 
   alike : (j : ℕ) (s : FlatCounted program.meaning.Cast) (t : LowState) → Rel j s t
       → Alike K M N s t × Any (N.shown t) (M.shown s)
-  alike j s t (inl l) =
-      (seen_alike s t (ap (λ w. w.output) l.0.related.world) (l.0.related.objects, l.0.related.filled), tt)
+  alike j s t (inl ((due, l), e)) =
+      (seen_alike s t (ap (λ w. w.output) l.related.world) (l.related.objects, l.related.filled), tt)
   alike j s t (inr (inl o)) = (seen_alike s t o.seen.output o.seen.filling, tt)
-  alike j s t (inr (inr (low, i, e, inl o))) = (seen_alike s t o.seen.output o.seen.filling, tt)
-  alike j s t (inr (inr (low, i, e, inr x))) = (seen_alike s t x.1.output x.1.filling, tt)
+  alike j s t (inr (inr (low, i, e, have, before, left, inl o))) =
+      (seen_alike s t o.0.seen.output o.0.seen.filling, tt)
+  alike j s t (inr (inr (low, i, e, have, before, left, inr x))) = (seen_alike s t x.1.output x.1.filling, tt)
 
   simulation : IndexedSimulation K Any M N Rel
   simulation = record { alike = alike; does = does; still_allowed = λ b s h. tt }
@@ -337,7 +378,7 @@ module _ (program : Program) (typed : TypesStand program.l) where
         (subst (λ o. SomeRel (flat_uncounted (flat_state_at program.procs program.told
         (Own (Inside (entry_body o) (λ level. RunUnit) (new_group 0 []))) [] [] (first_world input))) t1) (sym there)
         (settled_in (flat_uncounted (flat_state_at program.procs program.told
-        (Own (Inside p.body (λ level. RunUnit) (new_group 0 []))) [] [] (first_world input))) t1 (inl (record {
+        (Own (Inside p.body (λ level. RunUnit) (new_group 0 []))) [] [] (first_world input))) 0 t1 (inl (record {
           is = refl;
           related = record {
             places = [];
@@ -355,6 +396,7 @@ module _ (program : Program) (typed : TypesStand program.l) where
                 bound = c.bound;
                 covered = covered_at program.procs program.procs entry p program.covered there;
                 params = le_refl p.params;
+                few = c.params;
                 room = le_refl (levels p.params p.body + 10);
                 knows = record {
                   own = 0;

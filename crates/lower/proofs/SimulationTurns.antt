@@ -12,7 +12,7 @@ use Rattle.grift_base.specs.declared.operators.PrimOp.TheVariants.{Unbox, BoxSet
 use Rattle.grift_base.specs.declared.operators.PrimOp.TheVariants.{VectorLength}
 use Rattle.low_ir.specs.Procedures.{Code, Return as ReturnCode}
 use Rattle.low_ir.specs.Steps.{Locals, set_local}
-use Rattle.low_ir.specs.Run.{Active, Waiting as LowWaiting, LowState, word_of}
+use Rattle.low_ir.specs.Run.{Waiting as LowWaiting, LowState, word_of}
 use Rattle.coercion_norm.specs.RunValues.{RunTuple, RunWrap, RunInt, RunBool, RunUnit, RunFun, RunLoc, RunInject}
 use Rattle.coercion_norm.specs.RunValues.{Pending}
 use Rattle.coercion_norm.specs.RunValues.{all_plain, row_list}
@@ -48,16 +48,25 @@ use Rattle.lower.specs.Storage.{Filled}
 use Rattle.lower.specs.declared.numbering.Shape.{Shape}
 use Rattle.lower.specs.Emit.{Then, ToCaller, Into, emit, give, perform}
 use Rattle.lower.specs.CarriedValues.{CellsHeld}
-use Rattle.lower.specs.RelatedStates.{Fits, Gave, Goes, NoCasts, pending_values}
+use Rattle.lower.specs.RelatedStates.{Fits, Gave, NoCasts, pending_values}
 use Rattle.lower.proofs.RelationKept.{word_here, word_other}
-use Rattle.lower.proofs.WordSteps.{at, Moves, here, comes_back}
+use Rattle.lower.proofs.WordCredits.{SomeBy, by_go, some_more}
+use Rattle.lower.proofs.WordServices.{return_price}
+use Rattle.lower.proofs.WordSteps.{at, Moves, left_of, lt_true}
+use Rattle.core_calc.specs.Account.{Measures, StepKind, Wraps, Casts, Makes, MakesVector, Multiplies, Acts}
+use Rattle.coer_core.specs.Tally.{kind_budget}
+use Rattle.flat_ir.specs.Counts.{tuple_words}
+use Rattle.flat_ir.specs.FlatTally.{operator_kind, cast_cost}
 use Rattle.lower.proofs.WordOperands.{and_true, value_carried}
 use Rattle.lower.proofs.SimulationWay.{mode_of}
-use Rattle.lower.proofs.SimulationWay.{Program, R, Follows, next_state, Way, scene_for, size_of}
+use Rattle.lower.proofs.SimulationWay.{Program, Live, Follows, FollowsBy, next_state, Way, scene_for, size_of}
+use Rattle.lower.proofs.SimulationWay.{prices_of}
+use Rattle.lower.proofs.SimulationWay.{turn_goal, turn_aim, floor_of, arrives, kept_here, by_follows, at_start}
+use Rattle.lower.proofs.SimulationWay.{asks_of, budget_of}
 use Rattle.lower.proofs.SimulationWay.{frames_weight}
 use Rattle.lower.proofs.SimulationGives.{CarriedHere, RestHere, CallersHere, put_in, word_fits, word_for, code_for}
-use Rattle.lower.proofs.SimulationOperations.{goes_wrong, move_turns, tuple_turns, part_turns}
-use Rattle.flat_ir.specs.Machine.{flat_cast}
+use Rattle.lower.proofs.SimulationOperations.{wrong_by, move_turns, tuple_turns, part_turns}
+use Rattle.flat_ir.specs.Machine.{flat_cast, set_group, new_group}
 use Rattle.coercion_norm.specs.ValueSteps.{casts_onto, decision_wraps, run_enter_wrapped}
 use Rattle.flat_ir.specs.Counts.{decision_at, flat_turn_wraps}
 use Rattle.lower.proofs.SimulationServices.{Served}
@@ -70,12 +79,8 @@ use Rattle.lower.proofs.SimulationCells.{box_written}
 use Rattle.lower.proofs.SimulationBoxes.{box_made, box_read_here, box_written_here}
 use Rattle.lower.proofs.SimulationOperators.{one_operand, two_operands}
 use Rattle.coercion_norm.specs.ValueSteps.{run_unbox_cell, run_writes_cell}
-use Rattle.low_ir.specs.declared.code.LowSource.TheVariants.{Number}
-use Rattle.low_ir.specs.Procedures.{Done, Call as CallOf}
-use Rattle.lower.specs.Numbering.{operand_word}
-use Rattle.lower.specs.Emit.{found}
-use Rattle.std.specs.Prelude.{slice_set, ◌++◌, nat_lt}
-use Rattle.lower.proofs.SimulationOperators.{is_plain, operator_turns}
+use Rattle.std.specs.Prelude.{slice_set, ◌++◌, nat_lt, nat_le, ◌*◌, ◌≤◌}
+use Rattle.lower.proofs.SimulationOperators.{is_plain, operator_turns, needed as needed_of}
 use Rattle.lower.proofs.SimulationBodies.{branch_turns, let_turns, group_turns, gave_turns}
 use Rattle.lower.proofs.SimulationCalls.{call_goes}
 use Rattle.lower.proofs.SimulationAnswers.{true_false}
@@ -114,14 +119,64 @@ module _ (program : Program) (typed : TypesStand program.l) where
       record { focus = focus; frames = frames; store = store; world = world; ended = None }
 
   -- what the run over words does for a turn: some steps, or any where the measure falls
+  abbrev pub TurnDue : FlatState program.meaning.Cast → FlatAfter program.meaning.Cast → ℕ → LowState → Type 0
+  TurnDue f x own t =
+      (FollowsBy program f x own t × (size_of (next_state program f x) < size_of f))
+      ⊎ ((credit : ℕ)
+      × SomeBy program.setting (Way program f (next_state program f x) t.words)
+      (turn_aim program f (next_state program f x) own credit t) (floor_of program f own credit t) credit t)
+
   abbrev pub Turn : FlatState program.meaning.Cast → FlatAfter program.meaning.Cast → LowState → Type 0
-  Turn f x t =
-      (Follows program f x t × (size_of (next_state program f x) < size_of f))
-      ⊎ Moves program.setting (Way program f (next_state program f x)) (R program (next_state program f x)) t
+  Turn f x t = TurnDue f x 0 t
 
   -- or what a procedure of the scheme does for one with so many wrap steps
+  abbrev pub DoesDue : FlatState program.meaning.Cast → FlatAfter program.meaning.Cast → ℕ → ℕ → LowState → Type 0
+  DoesDue f x w own t = ((w ≡ 0) × TurnDue f x own t) ⊎ Served program typed f x w own t
+
   abbrev pub Does : FlatState program.meaning.Cast → FlatAfter program.meaning.Cast → ℕ → LowState → Type 0
-  Does f x w t = ((w ≡ 0) × Turn f x t) ⊎ Served program typed f x w t
+  Does f x w t = DoesDue f x w 0 t
+
+  followed : (f : FlatState program.meaning.Cast) (x : FlatAfter program.meaning.Cast) (t : LowState)
+      → Follows program f x t → FollowsBy program f x 0 t
+  followed f x t c = by_follows program f x t c
+
+  -- nothing is done, and both go on
+  goes_as_it_is : (f : FlatState program.meaning.Cast) (x : FlatAfter program.meaning.Cast) (t : LowState)
+      → Live program (next_state program f x) 0 t → FollowsBy program f x 0 t
+  goes_as_it_is f x t live = (
+    left_of program.setting t,
+    arrives program f (next_state program f x) t.words 0 (left_of program.setting t) t (left_of program.setting t) t
+        (0, inl live, kept_here program f (next_state program f x) 0 0 t (omega arith)),
+  )
+
+  moving : (f f' : FlatState program.meaning.Cast) (t : LowState)
+      → Moves program.setting (Way program f f' t.words) (turn_goal program f f' t) t
+      → (credit : ℕ) × SomeBy program.setting (Way program f f' t.words) (turn_aim program f f' 0 credit t)
+      (floor_of program f 0 credit t) credit t
+  moving f f' t m = (
+    left_of program.setting t,
+    some_more program.setting (Way program f f' t.words) (turn_aim program f f' 0 (left_of program.setting t) t)
+        (floor_of program f 0 (left_of program.setting t) t) (left_of program.setting t + 0)
+        (left_of program.setting t) t
+        (omega arith) (m.comes, m.some),
+  )
+
+  -- ---- budgets
+
+  some_budget : (m : Measures) (kind : StepKind) (functions : ℕ) → 896 ≤ kind_budget m (Some kind) functions
+  some_budget m Wraps functions = omega arith
+  some_budget m Casts functions = omega arith
+  some_budget m Makes functions = omega arith
+  some_budget m (MakesVector k) functions = omega arith
+  some_budget m Multiplies functions = omega arith
+  some_budget m Acts functions = omega arith
+
+  other_budget : (kind : StepKind) (made functions : ℕ)
+      → 896 ≤ ((prices_of program).other (Some kind) made functions).budget
+  other_budget kind made functions =
+      let a = some_budget program.measured kind functions in
+      let b = program.laws.budgets program.l.types program.casts program.measured kind made functions in
+      omega (arith, a, b)
 
   -- ---- where the measure falls
 
@@ -273,12 +328,6 @@ module _ (program : Program) (typed : TypesStand program.l) where
       (cells : CellsHeld program.l program.setting.address program.procs program.meaning places objects h.memory places
       store)
     where
-      abbrev GoesHere : FlatFocus program.meaning.Cast → Active → List LowWaiting → Type 0
-      GoesHere focus active waiting =
-          Goes program.setting program.l program.run program.procs program.answer program.meaning
-          places
-          objects focus frames active waiting
-
       abbrev FitsHere : Shape → ℕ → ℕ → Group program.meaning.Cast → ℕ → FlatLocals program.meaning.Cast → Locals → Body
           → Type 0
       FitsHere s count size group depth locals words body = Fits program.setting program.l program.run program.procs
@@ -320,24 +369,40 @@ module _ (program : Program) (typed : TypesStand program.l) where
           give_as (Proj o i) (Into d k) other = refl
           give_as (ProjDyn o i label) (Into d k) other = refl
 
+          plain_budget : (op : PrimOp) (os : List Operand)
+              → needed_of op ≤ budget_of program (fl (Give (Prim op os)))
+          plain_budget Mul os =
+              let b = program.laws.budgets program.l.types program.casts program.measured Multiplies 0 0 in
+              omega (arith, b)
+          plain_budget Quot os =
+              let b = program.laws.budgets program.l.types program.casts program.measured Multiplies 0 0 in
+              omega (arith, b)
+          plain_budget Rem os =
+              let b = program.laws.budgets program.l.types program.casts program.measured Multiplies 0 0 in
+              omega (arith, b)
+          plain_budget op os = omega arith
+
           runs_plain : (op : PrimOp) (os : List Operand) → is_plain op ≡ true → Run (Give (Prim op os))
           runs_plain op os c fits rest =
               inl (
                 refl,
                 inl (
-                  subst (λ c. Follows program (fl (Give (Prim op os)))
+                  subst (λ c. FollowsBy program (fl (Give (Prim op os)))
                       (flat_turn program.procs (mode_of program) store world
-                      (Own (Inside (Give (Prim op os)) locals group)) frames)
+                      (Own (Inside (Give (Prim op os)) locals group)) frames) 0
                       (At c)) (sym (give_as (Prim op os) next (λ o e. absurd (let z : ⊥ = cc in z))))
                       (operator_turns program typed (fl (Give (Prim op os))) places objects h filled cells waiting size
-                      rests words s count depth group locals op os next fits rest op c),
+                      rests words s count depth group locals op os next fits rest fits.few
+                      (let z : nat_le (length os) 8 ≡ true = fits.covered in grind (arith, z))
+                      (let z = other_budget (operator_kind op (values locals group os)) 0 0 in omega (arith, z)) op c
+                      (plain_budget op os)),
                   operator_falls (Prim op os) locals group frames store world op c (values locals group os),
                 ),
               )
 
           as_served : (op : PrimOp) (os : List Operand)
               → Served program typed (fl (Give (Prim op os)))
-              (flat_operate program.procs (mode_of program) store world op (values locals group os) frames) 0
+              (flat_operate program.procs (mode_of program) store world op (values locals group os) frames) 0 0
               (At (perform program.run s (word_for program places objects s next) (Prim op os)
               (code_for program places objects s next)))
               → Does (fl (Give (Prim op os)))
@@ -345,7 +410,7 @@ module _ (program : Program) (typed : TypesStand program.l) where
               frames) 0 (At (give program.run s (Prim op os) next))
           as_served op os x =
               inr (subst (λ c. Served program typed (fl (Give (Prim op os)))
-              (flat_operate program.procs (mode_of program) store world op (values locals group os) frames) 0 (At c))
+              (flat_operate program.procs (mode_of program) store world op (values locals group os) frames) 0 0 (At c))
               (sym (give_as (Prim op os) next (λ o e. absurd (let z : ⊥ = cc in z)))) x)
 
           -- an operator in place
@@ -361,8 +426,9 @@ module _ (program : Program) (typed : TypesStand program.l) where
               inl (
                 refl,
                 inl (
-                  subst (λ z. Follows program (fl (Give (Prim op os))) x (At z))
-                      (sym (give_as (Prim op os) next (λ o e. absurd (let z : ⊥ = cc in z)))) c,
+                  followed (fl (Give (Prim op os))) x (At (give program.run s (Prim op os) next))
+                      (subst (λ z. Follows program (fl (Give (Prim op os))) x (At z))
+                      (sym (give_as (Prim op os) next (λ o e. absurd (let z : ⊥ = cc in z)))) c),
                   falls,
                 ),
               )
@@ -372,7 +438,7 @@ module _ (program : Program) (typed : TypesStand program.l) where
               inl (
                 refl,
                 inl (
-                  goes_wrong program (fl (Give (Prim op os))) places objects h filled waiting size rests words
+                  wrong_by program (fl (Give (Prim op os))) 0 places objects h filled waiting size rests words
                       (give program.run s (Prim op os) next),
                   wrong_falls (Prim op os) locals group frames store world,
                 ),
@@ -386,7 +452,9 @@ module _ (program : Program) (typed : TypesStand program.l) where
               (store ++ (value locals group o ∷ []) ∷ []) world)
               (box_made program typed (fl (Give (Prim MakeBox (o ∷ [])))) places objects h filled cells waiting size
               rests
-              words s count depth group locals (Prim MakeBox (o ∷ [])) next fits rest o fits.bound)
+              words s count depth group locals (Prim MakeBox (o ∷ [])) next fits rest fits.few
+              (let z = other_budget (operator_kind MakeBox (values locals group (o ∷ []))) 0 0 in omega (arith, z))
+              o fits.bound (program.laws.boxes program.l.types program.casts program.measured))
               (returns_less' (RunLoc (length store) false) (store ++ (value locals group o ∷ []) ∷ []))
             where
               returns_less' : (v : FlatValue program.meaning.Cast) (store' : FlatStore program.meaning.Cast)
@@ -407,7 +475,8 @@ module _ (program : Program) (typed : TypesStand program.l) where
                   frames))
                   e (as_served Unbox os (box_read program typed (fl (Give (Prim Unbox os))) places objects h filled
                   cells
-                  waiting size rests words s count depth group locals Unbox os next fits rest u c others e))
+                  waiting size rests words s count depth group locals Unbox os next fits rest fits.few u c others e
+                  refl))
               by_values (RunLoc cell false ∷ []) e = by_content (slice_get store cell) refl
                 where
                   one : (o : Operand) × (os ≡ o ∷ []) × (value locals group o ≡ RunLoc cell false)
@@ -427,10 +496,11 @@ module _ (program : Program) (typed : TypesStand program.l) where
                       (code_for program places objects s next)))) (sym one.1)
                       (box_read_here program typed (fl (Give (Prim Unbox os))) places objects h filled cells waiting
                       size
-                      rests words s count depth group locals (Prim Unbox os) next fits rest one.0
-                      (subst (λ os'. operands_bound s.captured count depth os' ≡ true) one.1 fits.bound) cell one.2 v is
-                      (CallOf (word_for program places objects s next) program.run.read
-                      (Number 0 ∷ found s (operand_word s 0) one.0 ∷ Number 0 ∷ []) Done)))
+                      rests words s count depth group locals (Prim Unbox os) next fits rest fits.few
+                      (let z = other_budget (operator_kind Unbox (values locals group os)) 0 0 in omega (arith, z))
+                      one.0
+                      (subst (λ os'. operands_bound s.captured count depth os' ≡ true) one.1 fits.bound) cell one.2 v
+                      is))
                       (given_falls (Prim Unbox os) locals group frames store world v world)
               by_values vs e = wrongly Unbox os
 
@@ -445,7 +515,8 @@ module _ (program : Program) (typed : TypesStand program.l) where
                   subst (λ vs. Placed BoxSet os (flat_operate program.procs (mode_of program) store world BoxSet vs
                   frames))
                   e (as_served BoxSet os (box_written program typed (fl (Give (Prim BoxSet os))) places objects h filled
-                  cells waiting size rests words s count depth group locals BoxSet os next fits rest u c others e))
+                  cells waiting size rests words s count depth group locals BoxSet os next fits rest fits.few u c
+                  others e refl))
               by_values (RunLoc cell false ∷ v ∷ []) e = by_content (slice_get store cell) refl
                 where
                   two : (o p : Operand) × (os ≡ o ∷ p ∷ []) × (value locals group o ≡ RunLoc cell false)
@@ -466,23 +537,33 @@ module _ (program : Program) (typed : TypesStand program.l) where
                       (At (perform program.run s (word_for program places objects s next) (Prim BoxSet os')
                       (code_for program places objects s next)))) (sym two.2)
                       (box_written_here program typed (fl (Give (Prim BoxSet os))) places objects h filled cells waiting
-                      size rests words s count depth group locals (Prim BoxSet os) next fits rest two.0 two.1
+                      size rests words s count depth group locals (Prim BoxSet os) next fits rest fits.few
+                      (let z = other_budget (operator_kind BoxSet (values locals group os)) 0 0 in omega (arith, z))
+                      two.0
+                      two.1
                       (subst (λ os'. operands_bound s.captured count depth os' ≡ true) two.2 fits.bound) cell two.3 old
-                      is
-                      (CallOf (word_for program places objects s next) program.run.write
-                      (Number 0 ∷ found s (operand_word s 0) two.0 ∷ Number 0 ∷ found s (operand_word s 1) two.1 ∷ [])
-                      Done)))
+                      is))
                       (let z = returns_less RunUnit frames (slice_set store cell (value locals group two.1 ∷ [])) world
                       (frames_weight frames) (omega arith) in omega (arith, z)))
               by_values vs e = wrongly BoxSet os
+
+          tuple_asked : (os : List Operand) → nat_le 1 (length os) ≡ true
+              → suc (length os) ≤ asks_of program (fl (Give (Tuple os)))
+          tuple_asked [] some = absurd (let z : ⊥ = cc in z)
+          tuple_asked (o ∷ os) some =
+              let z = program.laws.makes program.l.types program.casts program.measured (tuple_words (o ∷ os)) 0 in
+              omega (arith, z)
 
           runs_operation : (op : Operation) → Run (Give op)
           runs_operation (Move o) fits rest =
               inl (
                 refl,
                 inl (
-                  move_turns program typed (fl (Give (Move o))) places objects h filled cells waiting size rests words s
-                      count depth group locals (Move o) next fits rest o fits.bound,
+                  followed (fl (Give (Move o))) (On (Return (value locals group o)) frames store world)
+                      (At (give program.run s (Move o) next))
+                      (move_turns program typed (fl (Give (Move o))) places objects h filled cells waiting size rests
+                      words s
+                      count depth group locals (Move o) next fits rest o fits.bound fits.few (omega arith)),
                   given_falls (Move o) locals group frames store world (value locals group o) world,
                 ),
               )
@@ -490,12 +571,18 @@ module _ (program : Program) (typed : TypesStand program.l) where
               inl (
                 refl,
                 inl (
-                  subst (λ c. Follows program (fl (Give (Tuple os)))
+                  followed (fl (Give (Tuple os))) (flat_turn program.procs (mode_of program) store world
+                      (Own (Inside (Give (Tuple os)) locals group)) frames) (At (give program.run s (Tuple os) next))
+                      (subst (λ c. Follows program (fl (Give (Tuple os)))
                       (flat_turn program.procs (mode_of program) store world
                       (Own (Inside (Give (Tuple os)) locals group)) frames)
                       (At c)) (sym (give_as (Tuple os) next (λ o e. absurd (let z : ⊥ = cc in z))))
                       (tuple_turns program typed (fl (Give (Tuple os))) places objects h filled cells waiting size rests
-                      words s count depth group locals (Tuple os) next fits rest os fits.bound),
+                      words s count depth group locals (Tuple os) next fits rest os fits.bound fits.few
+                      (let z = other_budget Makes (tuple_words os) 0 in omega (arith, z))
+                      (tuple_asked os (and_true (nat_le 1 (length os)) (nat_le (length os) 8)
+                      (and_true (operands_bound s.captured count depth os)
+                      (nat_le 1 (length os) && nat_le (length os) 8) fits.bound).1).0))),
                   given_falls (Tuple os) locals group frames store world (RunTuple (in_row (values locals group os)))
                       world,
                 ),
@@ -518,12 +605,15 @@ module _ (program : Program) (typed : TypesStand program.l) where
                   inl (
                     refl,
                     inl (
-                      subst (λ c. Follows program (fl (Give (Proj o i)))
+                      followed (fl (Give (Proj o i))) (flat_turn program.procs (mode_of program) store world
+                          (Own (Inside (Give (Proj o i)) locals group)) frames)
+                          (At (give program.run s (Proj o i) next)) (subst (λ c. Follows program (fl (Give (Proj o i)))
                           (flat_turn program.procs (mode_of program) store world
                           (Own (Inside (Give (Proj o i)) locals group)) frames) (At c)) (sym same_code)
                           (part_turns program typed (fl (Give (Proj o i))) places objects h filled cells waiting size
-                          rests words s count depth group locals (Proj o i) next fits rest o i fits.bound
-                          (no_wrapper (value locals group o) e)),
+                          rests words s count depth group locals (Proj o i) next fits rest o i fits.bound fits.few
+                          (let z = other_budget Acts 0 0 in omega (arith, z))
+                          (no_wrapper (value locals group o) e))),
                       proj_falls (Proj o i) locals group frames store world (value locals group o) i,
                     ),
                   )
@@ -536,9 +626,9 @@ module _ (program : Program) (typed : TypesStand program.l) where
               by_value (RunWrap u cast) e =
                   inr (subst (λ c. Served program typed (fl (Give (Proj o i)))
                   (flat_turn program.procs (mode_of program) store world
-                  (Own (Inside (Give (Proj o i)) locals group)) frames) 0 (At c)) (sym same_code)
+                  (Own (Inside (Give (Proj o i)) locals group)) frames) 0 0 (At c)) (sym same_code)
                   (part_served program typed (fl (Give (Proj o i))) places objects h filled cells waiting size rests
-                  words s count depth group locals (Proj o i) o next fits rest fits.bound i u cast e))
+                  words s count depth group locals (Proj o i) o next fits rest fits.bound fits.few i u cast e refl))
               by_value (RunInt n) e = in_place (ap is_wrapped e)
               by_value (RunBool b) e = in_place (ap is_wrapped e)
               by_value RunUnit e = in_place (ap is_wrapped e)
@@ -563,18 +653,19 @@ module _ (program : Program) (typed : TypesStand program.l) where
           runs_operation (Prim MakeVector os) fits rest =
               as_served MakeVector os (vector_made program typed (fl (Give (Prim MakeVector os))) places objects h
               filled
-              cells waiting size rests words s count depth group locals MakeVector os next fits rest)
+              cells waiting size rests words s count depth group locals MakeVector os next fits rest fits.few refl)
           runs_operation (Prim VectorRef os) fits rest =
               as_served VectorRef os (vector_read program typed (fl (Give (Prim VectorRef os))) places objects h filled
-              cells waiting size rests words s count depth group locals VectorRef os next fits rest)
+              cells waiting size rests words s count depth group locals VectorRef os next fits rest fits.few refl)
           runs_operation (Prim VectorSet os) fits rest =
               as_served VectorSet os (vector_written program typed (fl (Give (Prim VectorSet os))) places objects h
               filled
-              cells waiting size rests words s count depth group locals VectorSet os next fits rest)
+              cells waiting size rests words s count depth group locals VectorSet os next fits rest fits.few refl)
           runs_operation (Prim VectorLength os) fits rest =
               as_served VectorLength os (vector_measured program typed (fl (Give (Prim VectorLength os))) places objects
               h
-              filled cells waiting size rests words s count depth group locals VectorLength os next fits rest)
+              filled cells waiting size rests words s count depth group locals VectorLength os next fits rest fits.few
+              refl)
           runs_operation (Prim MakeBox os) fits rest = makes_box os fits rest
           runs_operation (Prim Unbox os) fits rest = reads_box os fits rest
           runs_operation (Prim BoxSet os) fits rest = writes_box os fits rest
@@ -602,7 +693,7 @@ module _ (program : Program) (typed : TypesStand program.l) where
                   subst Goes_by (sym e) (inl (
                     refl,
                     inl (
-                      goes_wrong program (fl (Give (Cast o number))) places objects h filled waiting size rests words
+                      wrong_by program (fl (Give (Cast o number))) 0 places objects h filled waiting size rests words
                           (give program.run s (Cast o number) next),
                       wrong_falls (Cast o number) locals group frames store world,
                     ),
@@ -610,21 +701,23 @@ module _ (program : Program) (typed : TypesStand program.l) where
               by_row (Some cast) e =
                   subst Goes_by (sym e) (inr (subst (λ c. Served program typed (fl (Give (Cast o number)))
                   (flat_cast program.procs (mode_of program) store world (value locals group o) cast frames)
-                  (decision_wraps (decision_at program.procs (mode_of program) (Some cast) (value locals group o)))
+                  (decision_wraps (decision_at program.procs (mode_of program) (Some cast) (value locals group o))) 0
                   (At c))
                   (sym same_code) (cast_served program typed (fl (Give (Cast o number))) places objects h filled cells
-                  waiting size rests words s count depth group locals o number next fits rest cast e)))
+                  waiting size rests words s count depth group locals o number next fits rest fits.few cast e
+                  (ap (λ row. cast_cost program.procs (mode_of program) (prices_of program) row
+                  (value locals group o)) e))))
           runs_operation (ProjDyn o i label) fits rest =
               let both = and_true (nat_lt label.0 4294967296) (int_eq (int_wrap w64 i) i) fits.covered in
               let small : label.0 < 4294967296 = let z = both.0 in grind (arith, z) in
               let in_range : int_wrap w64 i ≡ i = let z = both.1 in grind (arith, z) in
               inr (subst (λ c. Served program typed (fl (Give (ProjDyn o i label)))
               (flat_turn program.procs (mode_of program) store world
-              (Own (Inside (Give (ProjDyn o i label)) locals group)) frames) 0 (At c))
+              (Own (Inside (Give (ProjDyn o i label)) locals group)) frames) 0 0 (At c))
               (sym (give_as (ProjDyn o i label) next (λ o e. absurd (let z : ⊥ = cc in z))))
               (dyn_part_served program typed (fl (Give (ProjDyn o i label))) places objects h filled cells waiting size
-              rests words s count depth group locals (ProjDyn o i label) o next fits rest fits.bound i label.0
-              (omega (arith, small)) in_range))
+              rests words s count depth group locals (ProjDyn o i label) o next fits rest fits.bound fits.few i label.0
+              (omega (arith, small)) in_range refl))
 
           chosen_less : (v : FlatValue program.meaning.Cast) (o : Operand) (a b : Body)
               → FallsAt (fl (Choose o a b))
@@ -642,43 +735,40 @@ module _ (program : Program) (typed : TypesStand program.l) where
           pub runs_body : (body : Body) → Run body
           runs_body (Give op) fits rest = runs_operation op fits rest
           runs_body (Call f os) fits rest =
+              let x = Entering (value locals group f) [] (all_plain (values locals group os)) in
+              let f' = st x frames store world in
+              let t = At (emit program.run s (Call f os) next) in
               inl (
                 refl,
                 inl (
-                  here program.setting
-                      (Way program (fl (Call f os)) (st (Entering (value locals group f) []
-                      (all_plain (values locals group
-                      os))) frames store world))
-                      (R program (st (Entering (value locals group f) [] (all_plain (values locals group os))) frames
-                      store
-                      world)) (At (emit program.run s (Call f os) next)) (inl (record {
-                        is = refl;
-                        related = record {
-                          places = places;
-                          objects = objects;
-                          filled = filled;
-                          cells = cells;
-                          world = refl;
-                          goes = record {
-                            operand = f;
-                            operands = os;
-                            locals = locals;
-                            group = group;
-                            runs = record {
-                              s = s;
-                              count = count;
-                              depth = depth;
-                              next = next;
-                              is = refl;
-                              fits = fits;
-                              rest = rest;
-                            };
-                            function = refl;
-                            arguments = plain_values (values locals group os);
-                            plain = plain_casts (values locals group os);
-                          };
+                  goes_as_it_is (fl (Call f os)) (On x frames store world) t (record {
+                    is = refl;
+                    related = record {
+                      places = places;
+                      objects = objects;
+                      filled = filled;
+                      cells = cells;
+                      world = refl;
+                      goes = record {
+                        operand = f;
+                        operands = os;
+                        locals = locals;
+                        group = group;
+                        runs = record {
+                          s = s;
+                          count = count;
+                          depth = depth;
+                          next = next;
+                          is = refl;
+                          fits = fits;
+                          rest = rest;
                         };
-                      })),
+                        function = refl;
+                        arguments = plain_values (values locals group os);
+                        plain = plain_casts (values locals group os);
+                      };
+                    };
+                  }),
                   (let a = plain_long (values locals group os) in let b = values_long locals group os in omega
                       (arith, a, b)),
                 ),
@@ -687,9 +777,13 @@ module _ (program : Program) (typed : TypesStand program.l) where
               inl (
                 refl,
                 inl (
-                  branch_turns program typed (fl (Choose o a b)) places objects h filled cells waiting size rests words
-                      s
-                      count depth group locals next rest o a b fits,
+                  followed (fl (Choose o a b))
+                      (flat_choose program.procs (mode_of program) store world (value locals group o) a b locals group
+                      frames) (At (emit program.run s (Choose o a b) next))
+                      (branch_turns program typed (fl (Choose o a b)) places objects h filled cells waiting size rests
+                      words s
+                      count depth group locals next rest o a b fits fits.few
+                      (let z = other_budget Acts 0 0 in omega (arith, z))),
                   chosen_less (value locals group o) o a b,
                 ),
               )
@@ -697,9 +791,12 @@ module _ (program : Program) (typed : TypesStand program.l) where
               inl (
                 refl,
                 inl (
-                  let_turns program typed (fl (LetBody slot inner body)) places objects h filled cells waiting size
+                  followed (fl (LetBody slot inner body))
+                      (On (Own (Inside inner locals group)) (OwnFrame (Waiting slot body locals group) ∷ frames) store
+                      world) (At (emit program.run s (LetBody slot inner body) next))
+                      (let_turns program typed (fl (LetBody slot inner body)) places objects h filled cells waiting size
                       rests
-                      words s count depth group locals next rest slot inner body fits,
+                      words s count depth group locals next rest slot inner body fits),
                   omega arith,
                 ),
               )
@@ -707,8 +804,18 @@ module _ (program : Program) (typed : TypesStand program.l) where
               inl (
                 refl,
                 inl (
-                  group_turns program typed (fl (LetGroup slot first many captured body)) places objects h filled cells
-                      waiting size rests words s count depth group locals next rest slot first many captured body fits,
+                  followed (fl (LetGroup slot first many captured body))
+                      (On (Own (Inside body (set_group locals slot many (new_group first
+                      (values locals group captured))) group)) frames store world)
+                      (At (emit program.run s (LetGroup slot first many captured body) next))
+                      (group_turns program typed (fl (LetGroup slot first many captured body)) places objects h filled
+                      cells
+                      waiting size rests words s count depth group locals next rest slot first many captured body fits
+                      fits.few
+                      (let z = program.laws.budgets program.l.types program.casts program.measured Makes
+                      (2 * many + length captured) (2 * many + length captured) in omega (arith, z))
+                      (program.laws.makes program.l.types program.casts program.measured (2 * many + length captured)
+                      (2 * many + length captured))),
                   omega arith,
                 ),
               )
@@ -736,10 +843,12 @@ module _ (program : Program) (typed : TypesStand program.l) where
                 inl (
                   refl,
                   inl (
-                    gave_turns program typed (st (Return v) (OwnFrame (Waiting slot body locals group) ∷ fs) store
+                    let x = gave_turns program typed (st (Return v) (OwnFrame (Waiting slot body locals group) ∷ fs)
+                        store
                         world)
                         places objects h filled cells waiting size slot body locals group fs v
-                        (record { count = size; locals = words; code = code; rests = rests }) g refl,
+                        (record { count = size; locals = words; code = code; rests = rests }) g refl in
+                        (10 * x.0, x.1 0 (10 * x.0) (At code) refl (omega arith)),
                     omega arith,
                   ),
                 )
@@ -750,8 +859,8 @@ module _ (program : Program) (typed : TypesStand program.l) where
 
         pub gives : (v : FlatValue program.meaning.Cast) (source : LowSource) (w : ℕ) → word_of words source ≡ Some w
             → CarriedHere program places objects v w → CallersHere program places objects waiting frames
-            → Does (value_at v) (flat_turn program.procs (mode_of program) store world (Return v) frames)
-            (flat_turn_wraps program.procs (mode_of program) (Return v) frames) (At (ReturnCode source))
+            → DoesDue (value_at v) (flat_turn program.procs (mode_of program) store world (Return v) frames)
+            (flat_turn_wraps program.procs (mode_of program) (Return v) frames) 28 (At (ReturnCode source))
         gives v source w is carried callers = by_callers waiting frames callers
           where
             no_frames : (x : FlatFrame program.meaning.Cast) (xs : List (FlatFrame program.meaning.Cast))
@@ -760,9 +869,9 @@ module _ (program : Program) (typed : TypesStand program.l) where
 
             Here : List LowWaiting → List (FlatFrame program.meaning.Cast) → Type 0
             Here us fs =
-                Does (st (Return v) fs store world)
+                DoesDue (st (Return v) fs store world)
                 (flat_turn program.procs (mode_of program) store world (Return v) fs)
-                (flat_turn_wraps program.procs (mode_of program) (Return v) fs)
+                (flat_turn_wraps program.procs (mode_of program) (Return v) fs) 28
                 (at world h us size rests words (ReturnCode source))
 
             by_resumed : (u : LowWaiting) (us : List LowWaiting) (fs : List (FlatFrame program.meaning.Cast))
@@ -782,7 +891,7 @@ module _ (program : Program) (typed : TypesStand program.l) where
                 inl (
                   refl,
                   inl (
-                    goes_wrong program (st (Return v) [] store world) places objects h filled (u ∷ us) size rests words
+                    wrong_by program (st (Return v) [] store world) 28 places objects h filled (u ∷ us) size rests words
                         (ReturnCode source),
                     omega arith,
                   ),
@@ -810,15 +919,27 @@ module _ (program : Program) (typed : TypesStand program.l) where
                 inl (
                   refl,
                   inl (
-                    comes_back program.setting (Way program fr f') (R program f')
-                        (λ active waiting. (inl refl, (objects, filled))) w is
-                        (word_fits program places objects us r.0 r.1 u.rest.count r.2 r.3
-                        (OwnFrame (Waiting slot body locals group) ∷ fs) u.answer u.rest.code u.rest.rests u.rest.locals
-                        r.4)
-                        (gave_turns program typed fr places objects h filled cells us u.rest.count slot body locals
+                    let t = at world h (u ∷ us) size rests words (ReturnCode source) in
+                        let back = at world h us u.rest.count u.rest.rests now u.rest.code in
+                        let x = gave_turns program typed fr places objects h filled cells us u.rest.count slot body
+                        locals
                         group fs
                         v (record { count = u.rest.count; locals = now; code = u.rest.code; rests = u.rest.rests }) g
-                        refl),
+                        refl in
+                        let less = lt_true u.answer u.rest.count (word_fits program places objects us r.0 r.1
+                        u.rest.count
+                        r.2 r.3
+                        (OwnFrame (Waiting slot body locals group) ∷ fs) u.answer u.rest.code u.rest.rests u.rest.locals
+                        r.4) in (
+                          28 + 10 * x.0,
+                          by_go program.setting (Way program fr f' h.words)
+                              (turn_aim program fr f' 28 (28 + 10 * x.0) t)
+                              (floor_of program fr 28 (28 + 10 * x.0) t) (10 * x.0)
+                              (28 + 10 * x.0) t back (rw (is, less) refl)
+                              (let z = return_price program.setting.procs size source in omega (arith, z))
+                              (at_start program fr f' world h.words refl, (objects, filled))
+                              (x.1 28 (28 + 10 * x.0) t refl (omega arith)),
+                        ),
                     omega arith,
                   ),
                 )
@@ -851,8 +972,8 @@ module _ (program : Program) (typed : TypesStand program.l) where
           argument v done p todo function arguments plain (cast ∷ casts) e = absurd (let z : ⊥ = cc in z)
           argument v done p todo function arguments plain [] e =
               inl (
-                here program.setting (Way program (entering v done (p ∷ todo)) (entering v (p.value ∷ done) todo))
-                    (R program (entering v (p.value ∷ done) todo)) (At code) (inl (record {
+                goes_as_it_is (entering v done (p ∷ todo)) (On (Entering v (p.value ∷ done) todo) frames store world)
+                    (At code) (record {
                       is = refl;
                       related = record {
                         places = places;
@@ -879,7 +1000,7 @@ module _ (program : Program) (typed : TypesStand program.l) where
                           plain = plain;
                         };
                       };
-                    })),
+                    }),
                 omega arith,
               )
 
@@ -894,7 +1015,7 @@ module _ (program : Program) (typed : TypesStand program.l) where
               (λ place. On (Own place) frames store world)) (At code)
           applied first place captured vs function are done eq None there =
               inl (
-                goes_wrong program (entering (RunFun (record { first = first; place = place }) captured) done []) places
+                wrong_by program (entering (RunFun (record { first = first; place = place }) captured) done []) 0 places
                     objects h filled waiting size rests words code,
                 omega arith,
               )
@@ -907,30 +1028,38 @@ module _ (program : Program) (typed : TypesStand program.l) where
                   else None) (λ place. On (Own place) frames store world)) (At code)
               by_long false e =
                   inl (
-                    goes_wrong program (entering (RunFun (record { first = first; place = place }) captured) done [])
+                    wrong_by program (entering (RunFun (record { first = first; place = place }) captured) done []) 0
                         places objects h filled waiting size rests words code,
                     omega arith,
                   )
               by_long true e =
                   let long : length (values locals group os) ≡ p.params =
                   ap length (sym are) ∙ eqb-true (length vs) p.params e in
-                  inr (subst (λ us. Moves program.setting
+                  inr (subst (λ us. (credit : ℕ) × SomeBy program.setting
                   (Way program (entering (RunFun (record { first = first; place = place }) captured) done [])
                   (st (Own (Inside p.body (locals_of us) (record { first = first; captured = captured }))) frames
-                  store world))
-                  (R program (st (Own (Inside p.body (locals_of us) (record { first = first; captured = captured })))
-                  frames store world)) (At code)) (sym are)
+                  store world) h.words)
+                  (turn_aim program (entering (RunFun (record { first = first; place = place }) captured) done [])
+                  (st (Own (Inside p.body (locals_of us) (record { first = first; captured = captured }))) frames
+                  store world) 0 credit (At code))
+                  (floor_of program (entering (RunFun (record { first = first; place = place }) captured) done []) 0
+                  credit (At code)) credit (At code)) (sym are)
+                  (moving (entering (RunFun (record { first = first; place = place }) captured) done [])
+                  (st (Own (Inside p.body (locals_of (values locals group os))
+                  (record { first = first; captured = captured }))) frames store world) (At code)
                   (call_goes program (entering (RunFun (record { first = first; place = place }) captured) done [])
                   places
-                  objects h filled cells waiting size rests words s count depth group locals next rest fo os fits first
-                  place captured p function there long))
+                  objects h filled cells waiting size rests words s count depth group locals next rest fo os fits
+                  fits.few
+                  (let z = other_budget Acts 0 0 in omega (arith, z)) first
+                  place captured p function there long)))
 
           -- what is no function isn't called
           wrong_call : (v : FlatValue program.meaning.Cast) (done : List (FlatValue program.meaning.Cast))
               → Turn (entering v done []) NoNext (At code)
           wrong_call v done =
               inl (
-                goes_wrong program (entering v done []) places objects h filled waiting size rests words code,
+                wrong_by program (entering v done []) 0 places objects h filled waiting size rests words code,
                 omega arith,
               )
 
@@ -984,8 +1113,10 @@ module _ (program : Program) (typed : TypesStand program.l) where
               carried u e =
                   let x = and_true (operand_bound s.captured count depth fo)
                   (operands_bound s.captured count depth os && nat_le (length os) 6) fits.bound in
-                  let c = value_carried (scene_for program (entering v done todo) (entering v done todo)
-                  (R program (entering v done todo)) places) world (inl refl) h objects filled waiting size rests s
+                  let c = value_carried (scene_for program (entering v done todo) (entering v done todo) h.words
+                  (turn_goal program (entering v done todo) (entering v done todo) (At code)) places) world h
+                  (at_start program (entering v done todo) (entering v done todo) world h.words refl) objects filled
+                  waiting size rests s
                   count
                   group depth locals fo x.0 words fits.knows in
                   subst (λ u. (w : ℕ) × CarriedHere program places objects u w) e c
@@ -1005,12 +1136,12 @@ module _ (program : Program) (typed : TypesStand program.l) where
               by_wrapped (RunWrap u c) e =
                   inr (subst (λ ps. Served program typed (entering (RunWrap u c) done todo)
                   (on_some ((mode_of program).calling c) (λ casts. run_enter_wrapped (mode_of program)
-                  (flat_arity program.procs) (flat_entered program.procs) store world u casts ps frames)) 0 (At code))
+                  (flat_arity program.procs) (flat_entered program.procs) store world u casts ps frames)) 0 0 (At code))
                   (sym (all_plain_onto done todo plain ∙ ap all_plain arguments))
                   (call_served program typed (entering (RunWrap u c) done todo) places objects h filled cells waiting
                   size
                   rests words s count depth group locals fo os next fits rest
-                  (let x = fits.params in let y = fits.room in omega (arith, x, y)) u c e))
+                  (let x = fits.params in let y = fits.room in omega (arith, x, y)) u c e fits.few refl))
               by_wrapped (RunInt n) e = in_place (RunInt n) refl e
               by_wrapped (RunBool b) e = in_place (RunBool b) refl e
               by_wrapped RunUnit e = in_place RunUnit refl e

@@ -1,4 +1,5 @@
 -- A group of functions is made: its words are stored behind the objects, and the allocation word moves past them.
+use Rattle.low_ir.specs.Prices.{code_price, codes_price, step_price}
 use Rattle.std.proofs.Common.{◌≡◌, ◌≢◌, inl, ℕ, zero, suc, ◌+◌, ◌*◌, ◌^◌, ◌%◌, ◌<◌, ◌≤◌, Bool, true, false}
 use Rattle.std.proofs.Common.{List, [], ◌∷◌, ◌++◌, length, Some, refl, sym, ap, ap₂, ◌∙◌, subst, arith}
 use Rattle.std.proofs.Common.{append-nil, append_assoc, length-append, mod-eq_of_lt, ◌-◌, cond}
@@ -52,12 +53,13 @@ even_bytes (o ∷ os) =
     size (Fixed header words) = (1 + length words, omega arith)
     size (Cell header count) = (1 + count, omega arith)
 
-module _ (scene : Scene) (world : WorldState) (allowed : scene.allowed world) (h : Heap) (objects : List Object)
+module _ (scene : Scene) (world : WorldState) (h : Heap) (allowed : scene.allowed world h.words)
+    (objects : List Object)
     (filled : Filled scene.meaning scene.setting scene.l scene.number objects h) (waiting : List Waiting) (size : ℕ)
     (rests : List Code)
     (s : Shape) (count : ℕ) (group : Group scene.meaning.Cast) (slot : ℕ) (locals : FlatLocals scene.meaning.Cast)
     (params : s.params ≤ slot) (room : slot + 10 < size) (words : Locals)
-    (knows : KnowsHere scene world allowed h objects filled waiting size rests s count group slot locals words) where
+    (knows : KnowsHere scene world h allowed objects filled waiting size rests s count group slot locals words) where
   abbrev d : ℕ
   d = local_word s slot
 
@@ -192,7 +194,7 @@ module _ (scene : Scene) (world : WorldState) (allowed : scene.allowed world) (h
       let both = and_true (operand_bound s.captured count slot o) (operands_bound s.captured count slot os) bound in
       let x = operand_word s 0 in
       let hm : Heap = record h { memory = m } in
-      fetch_reads scene world allowed hm objects (filled_by m ws st) waiting size rests s count group slot locals o x
+      fetch_reads scene world hm allowed objects (filled_by m ws st) waiting size rests s count group slot locals o x
       both.0 (omega (arith, room, params)) new
       (knows_same scene.setting scene.l scene.run scene.procs scene.answer scene.meaning scene.laws scene.places objects
       s count
@@ -207,7 +209,7 @@ module _ (scene : Scene) (world : WorldState) (allowed : scene.allowed world) (h
       } in
       stores_far (found s x o) w (captured_offset i) m ws now (store_captured s (local_word s slot) (suc i) os k)
       (λ last changed'.
-      found_same scene world allowed hm objects (filled_by m ws st) waiting size rests s count group slot locals o x
+      found_same scene world hm allowed objects (filled_by m ws st) waiting size rests s count group slot locals o x
       both.0 now last (λ j named. changed' j (free_other s slot (test_word s) j t_free named))
       (changed' x (λ e. omega (arith, e))) ∙ is)
       (carried_small scene.l scene.setting.address scene.procs scene.meaning scene.laws scene.places objects
@@ -325,7 +327,8 @@ module _ (scene : Scene) (world : WorldState) (allowed : scene.allowed world) (h
       → (p : Proc) × (slice_get scene.setting.procs (first + j) ≡ Some p))
       (small : (j : ℕ) (p : Proc) → slice_get scene.setting.procs j ≡ Some p → scene.setting.address j < 2 ^ 64)
       (members : (place : ℕ) → place < suc others
-      → IsMember scene.procs first (suc others) (length captured) place) where
+      → IsMember scene.procs first (suc others) (length captured) place)
+      (room_asked : scene.allowed world (h.words + group_words (length captured) others)) where
     abbrev made : Group scene.meaning.Cast
     made = new_group first (values locals group captured)
 
@@ -335,6 +338,7 @@ module _ (scene : Scene) (world : WorldState) (allowed : scene.allowed world) (h
     -- a group was made: its functions have their local names
     pub record MadeGroup (cs : List ℕ) (h' : Heap) (now : Locals) : Type 0 where
       pub all_filled : Filled scene.meaning scene.setting scene.l scene.number (bigger cs) h'
+      pub asked : scene.allowed world h'.words
       pub below : (i : ℕ) → i < h.alloc → h'.memory i ≡ h.memory i
       pub same : SameNamed s slot words now
       pub local : (i : ℕ) → i < slot + suc others → (w : ℕ) × (now (local_word s i) ≡ Some w)
@@ -472,14 +476,15 @@ module _ (scene : Scene) (world : WorldState) (allowed : scene.allowed world) (h
         (group_kept scene.meaning scene.laws scene.l scene.number scene.setting.address objects first others cs
         filled.keeps) (omega (arith, bytes, size_is)) fits in
         takes scene.setting scene.P scene.Q
-        (λ w. scene.calm world (record { memory = m; alloc = h.alloc; words = w }) objects
-        (filled_above scene.meaning scene.setting scene.l scene.placed objects h m w filled st.below) allowed) total
+        (calm_by m (header 1 0 (suc (length captured)) ∷ scene.setting.address first
+        ∷ (cs ++ other_words scene.setting.address first 0 others)) st) total
         (ap Some fits_word) fits
-        (others_named h' (scene.calm world h' (bigger cs) all allowed) (length captured) 0 others new k ing.place
+        (others_named h' (scene.calm world h' (bigger cs) all room_asked) (length captured) 0 others new k ing.place
         (omega (arith, deep))
         (omega (arith, fits, scene.placed.top))
         (λ now low high. go cs h' now (record {
           all_filled = all;
+          asked = room_asked;
           below = st.below;
           same = λ j named. low j (below_place j named) ∙ ing.same j named;
           local = names_made cs carried new now ing.same ing.place low (λ j lt.
@@ -493,14 +498,17 @@ module _ (scene : Scene) (world : WorldState) (allowed : scene.allowed world) (h
         below_place x (LowName p q) = omega (arith, q, params)
         below_place x (HighName p q) = omega (arith, q)
 
-    pub makes_group : (k : Code) → Makes k
+    pub makes_group : (k : Code)
+        → scene.Q.floor ≤ code_price scene.setting.procs size (make_group s slot first others captured k)
+        - step_price scene.setting.procs size (make_group s slot first others captured k)
+        + codes_price scene.setting.procs size rests → Makes k
         → Arrives scene (at world h waiting size rests words (make_group s slot first others captured k))
-    makes_group k go =
-        let calm : (w : ℕ) → Calm scene.setting scene.P scene.Q world (record h { words = w }) =
-        λ w. scene.calm world (record h { words = w }) objects
-        (filled_above scene.meaning scene.setting scene.l scene.placed objects h h.memory w filled (λ i l. refl))
-        allowed in
-        requests scene.setting scene.P scene.Q calm total (ap Some fits_word) d_less
+    makes_group k enough go =
+        requests scene.setting scene.P scene.Q (scene.calm world h objects filled allowed) total (ap Some fits_word)
+        d_less
+        (scene.calm world (record h { words = h.words + total }) objects
+        (filled_above scene.meaning scene.setting scene.l scene.placed objects h h.memory (h.words + total) filled
+        (λ i l. refl)) room_asked) (omega (arith, enough))
         (λ fits. heads fits (set_local (local_word s slot) h.alloc words)
         (record { held = tt; below = λ i lt. refl }) (record {
           same = set_named s slot (local_word s slot) h.alloc words d_free;

@@ -88,7 +88,8 @@ behind : (d j n low : ℕ) → low ≡ suc d → (j < d) ⊎ (d + suc n ≤ j) �
 behind d j n low e (inl p) = inl (omega (arith, p, e))
 behind d j n low e (inr p) = inr (omega (arith, p, e))
 
-module _ (scene : Scene) (world : WorldState) (allowed : scene.allowed world) (h : Heap) (objects : List Object)
+module _ (scene : Scene) (world : WorldState) (h : Heap) (allowed : scene.allowed world h.words)
+    (objects : List Object)
     (filled : Filled scene.meaning scene.setting scene.l scene.number objects h) (waiting : List Waiting) (size : ℕ)
     (rests : List Code) where
   abbrev pub On : Locals → Code → Type 0

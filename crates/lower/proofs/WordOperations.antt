@@ -1,4 +1,5 @@
 -- The operations of a body: moves, tuples and their parts.
+use Rattle.low_ir.specs.Prices.{code_price, codes_price}
 use Rattle.std.proofs.Common.{◌≡◌, ◌≢◌, ◌⊎◌, inl, inr, ℕ, suc, ◌+◌, ◌*◌, ◌^◌, ◌%◌, ◌<◌, ◌≤◌, true}
 use Rattle.std.proofs.Common.{List, [], ◌∷◌, ◌++◌, length, Some, refl, sym, ap, ap₂, ◌∙◌, subst, arith, cond}
 use Rattle.std.proofs.Common.{eq-eqb, pos}
@@ -62,12 +63,13 @@ added_there region objects o rest at e =
     ∙ ap (λ b. cond b (Some o) (object_at rest (region + bytes_of_all objects + bytes_of o) at))
     (eq-eqb at (region + bytes_of_all objects) e)
 
-module _ (scene : Scene) (world : WorldState) (allowed : scene.allowed world) (h : Heap) (objects : List Object)
+module _ (scene : Scene) (world : WorldState) (h : Heap) (allowed : scene.allowed world h.words)
+    (objects : List Object)
     (filled : Filled scene.meaning scene.setting scene.l scene.number objects h) (waiting : List Waiting) (size : ℕ)
     (rests : List Code)
     (s : Shape) (count : ℕ) (group : Group scene.meaning.Cast) (depth : ℕ) (locals : FlatLocals scene.meaning.Cast)
     (room : s.params + 10 ≤ size) (words : Locals)
-    (knows : KnowsHere scene world allowed h objects filled waiting size rests s count group depth locals words) where
+    (knows : KnowsHere scene world h allowed objects filled waiting size rests s count group depth locals words) where
   abbrev calm : Calm scene.setting scene.P scene.Q world h
   calm = scene.calm world h objects filled allowed
 
@@ -81,7 +83,7 @@ module _ (scene : Scene) (world : WorldState) (allowed : scene.allowed world) (h
   abbrev pub PutsMore : ℕ → FlatValue scene.meaning.Cast → Code → Type 0
   PutsMore d v k =
       (more : List Object) (h' : Heap) → Filled scene.meaning scene.setting scene.l scene.number (objects ++ more) h'
-      → ((i : ℕ) → i < h.alloc → h'.memory i ≡ h.memory i) → (w : ℕ) (new : Locals)
+      → ((i : ℕ) → i < h.alloc → h'.memory i ≡ h.memory i) → scene.allowed world h'.words → (w : ℕ) (new : Locals)
       → Carries scene (objects ++ more) v w → new d ≡ Some w → Touches s d words new
       → Arrives scene (at world h' waiting size rests new k)
 
@@ -90,22 +92,24 @@ module _ (scene : Scene) (world : WorldState) (allowed : scene.allowed world) (h
       → Arrives scene (at world h waiting size rests words (perform scene.run s d (Move o) k))
   moves o d bound lt k go =
       let t = operand_word s 0 in
-      fetch_reads scene world allowed h objects filled waiting size rests s count group depth locals o t bound
+      fetch_reads scene world h allowed objects filled waiting size rests s count group depth locals o t bound
       (omega (arith, room)) words knows (Set d (found s t o) k)
       (λ w new carried is changed. sets_word scene.setting scene.P scene.Q calm w is lt
       (go w (set_local d w new) carried (word_here d w new)
       (λ j ne side. word_other d w new j ne ∙ changed j (not_computed s t j (omega arith) (omega arith) side))))
 
   pub makes_tuple : (os : List Operand) (d : ℕ) → operation_bound s.captured count depth (Tuple os) ≡ true → d < size
-      → (k : Code) → PutsMore d (RunTuple (in_row (values locals group os))) k
+      → (k : Code) → scene.allowed world (h.words + suc (length os))
+      → scene.Q.floor ≤ code_price scene.setting.procs size k + codes_price scene.setting.procs size rests
+      → PutsMore d (RunTuple (in_row (values locals group os))) k
       → Arrives scene (at world h waiting size rests words (perform scene.run s d (Tuple os) k))
-  makes_tuple os d bound lt k go =
+  makes_tuple os d bound lt k room_asked enough go =
       let parts = and_true (operands_bound s.captured count depth os) (nat_le 1 (length os) && nat_le (length os) 8)
       bound in
       let sizes = and_true (nat_le 1 (length os)) (nat_le (length os) 8) parts.1 in
       let least : 1 ≤ length os = grind (arith, sizes.0) in
       let most : length os ≤ 8 = grind (arith, sizes.1) in
-      fetch_all_reads scene world allowed h objects filled waiting size rests s count group depth locals os 0 parts.0
+      fetch_all_reads scene world h allowed objects filled waiting size rests s count group depth locals os 0 parts.0
       (omega (arith, most)) room words knows (Build d (Number (word_header 4 (length os)) ∷ found_all s 0 os) k)
       (λ ws new carried are changed. made parts.0 least most ws new carried are changed)
     where
@@ -127,11 +131,13 @@ module _ (scene : Scene) (world : WorldState) (allowed : scene.allowed world) (h
           let o : Object = Fixed (header 4 0 (length ws)) ws in
           let small = all_small scene.l scene.setting.address scene.procs scene.meaning scene.laws scene.places objects
           scene.setting scene.placed h filled (in_row (values locals group os)) ws carried in
-          builds scene.setting scene.P scene.Q
-          (λ n. scene.calm world (record h { words = n }) objects
-          (filled_above scene.meaning scene.setting scene.l scene.placed objects h h.memory n filled (λ i l. refl))
-          allowed)
+          let asked : scene.allowed world (h.words + suc (length ws)) =
+          subst (λ n. scene.allowed world (h.words + suc n)) (sym long) room_asked in
+          builds scene.setting scene.P scene.Q calm
           (header 4 0 (length ws) ∷ ws) (ap₂ and_more (ap Some head) are) (omega (arith, long, most)) lt
+          (scene.calm world (record h { words = h.words + suc (length ws) }) objects
+          (filled_above scene.meaning scene.setting scene.l scene.placed objects h h.memory (h.words + suc (length ws))
+          filled (λ i l. refl)) asked) enough
           (λ fits. go (o ∷ []) (record {
             memory = store_words (header 4 0 (length ws) ∷ ws) h.alloc h.memory;
             alloc = h.alloc + 8 * length (header 4 0 (length ws) ∷ ws);
@@ -151,6 +157,7 @@ module _ (scene : Scene) (world : WorldState) (allowed : scene.allowed world) (h
             free = refl;
             allowed = within (length ws) (omega (arith, long, least)) (omega (arith, long, most));
           }) filled.keeps) (omega arith) fits) (λ i l. bytes_below (header 4 0 (length ws) ∷ ws) h.alloc h.memory i l)
+          asked
           h.alloc
           (set_local d h.alloc new) (
             ws,
@@ -209,7 +216,7 @@ module _ (scene : Scene) (world : WorldState) (allowed : scene.allowed world) (h
   takes_part o i d bound lt k vs v is get go =
       let t = operand_word s 0 in
       let a = found s t o in
-      fetch_reads scene world allowed h objects filled waiting size rests s count group depth locals o t bound
+      fetch_reads scene world h allowed objects filled waiting size rests s count group depth locals o t bound
       (omega (arith, room)) words knows (part scene.run s d a (pos i) k)
       (λ x new carried found_is changed.
       taken x new (subst (λ u. Carries scene objects u x) is carried) found_is changed)
@@ -253,7 +260,7 @@ module _ (scene : Scene) (world : WorldState) (allowed : scene.allowed world) (h
           (λ last changed'.
           let same : SameNamed s depth new last = λ j named. changed' j (not_test j named) in
           let kept : last t ≡ new t = changed' t (λ e. omega (arith, e)) in
-          let still = found_same scene world allowed h objects filled waiting size rests s count group depth locals o t
+          let still = found_same scene world h allowed objects filled waiting size rests s count group depth locals o t
           bound new last same kept in
           loads scene.setting scene.P scene.Q calm x p.0 (still ∙ found_is) there.may there.is
           (let z = there.end in omega arith) lt

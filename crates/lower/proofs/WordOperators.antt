@@ -41,14 +41,16 @@ use Rattle.run_laws.specs.Machines.{Stop}
 use Rattle.rv_machine.specs.Mach.{ending_of}
 use Rattle.low_ir.specs.Procedures.{Call}
 use Rattle.low_ir.specs.Run.{LowState}
-use Rattle.rt_refs.specs.Answering.{Answers, TrapsNext}
+use Rattle.rt_refs.specs.Answering.{AnswersFor, TrapsNext}
 use Rattle.lower.specs.SimulationServices.{AnswerProducts}
 use Rattle.lower.proofs.WordArithmetic.{word_small, product_made, quotient_wraps, remainder_wraps, no_divisor}
 use Rattle.lower.proofs.WordArithmetic.{some_divisor}
 use Rattle.lower.proofs.WordServices.{answered_by, traps_by}
 use Rattle.lower.proofs.WordSteps.{waiting_for}
 use Rattle.lower.proofs.WordSteps.{lt_true, at, Calm, sets_word, computes, environment_goes, if_true, if_false}
-use Rattle.lower.proofs.WordSteps.{falls_through}
+use Rattle.lower.proofs.WordSteps.{falls_through, Comes, plain}
+use Rattle.low_ir.specs.Prices.{code_price, codes_price}
+use Rattle.lower.specs.SimulationServices.{product_price}
 use Rattle.lower.proofs.WordScene.{Scene, Carries, CarryAll, Arrives}
 use Rattle.lower.proofs.RelationKept.{word_here, word_other}
 use Rattle.lower.proofs.WordOperands.{ChangesFrom, KnowsHere, fetch_all_reads, both_words}
@@ -99,12 +101,13 @@ input_stops setting world h waiting size rests words t lt =
     let less = lt_true t size lt in
     let called = traps_input (length setting.labels) world in rw (less, called) refl
 
-module _ (scene : Scene) (world : WorldState) (allowed : scene.allowed world) (h : Heap) (objects : List Object)
+module _ (scene : Scene) (world : WorldState) (h : Heap) (allowed : scene.allowed world h.words)
+    (objects : List Object)
     (filled : Filled scene.meaning scene.setting scene.l scene.number objects h) (waiting : List Waiting) (size : ℕ)
     (rests : List Code)
     (s : Shape) (count : ℕ) (group : Group scene.meaning.Cast) (depth : ℕ) (locals : FlatLocals scene.meaning.Cast)
     (room : s.params + 10 ≤ size) (words : Locals)
-    (knows : KnowsHere scene world allowed h objects filled waiting size rests s count group depth locals words) where
+    (knows : KnowsHere scene world h allowed objects filled waiting size rests s count group depth locals words) where
   abbrev calm : Calm scene.setting scene.P scene.Q world h
   calm = scene.calm world h objects filled allowed
 
@@ -112,7 +115,7 @@ module _ (scene : Scene) (world : WorldState) (allowed : scene.allowed world) (h
   On new code = Arrives scene (at world h waiting size rests new code)
 
   abbrev PutsHere : ℕ → FlatValue scene.meaning.Cast → Code → Type 0
-  PutsHere d v k = Puts scene world allowed h objects filled waiting size rests s count group depth locals room words
+  PutsHere d v k = Puts scene world h allowed objects filled waiting size rests s count group depth locals room words
       knows d v k
 
   -- two operands that are integers
@@ -123,7 +126,7 @@ module _ (scene : Scene) (world : WorldState) (allowed : scene.allowed world) (h
       → int_wrap w64 b ≡ b → ChangesFrom (operand_word s 0) 2 words new → On new k)
       → On words (fetch_all s 0 (o ∷ p ∷ []) k)
   ints_read o p a b ea eb bound k go =
-      fetch_all_reads scene world allowed h objects filled waiting size rests s count group depth locals (o ∷ p ∷ []) 0
+      fetch_all_reads scene world h allowed objects filled waiting size rests s count group depth locals (o ∷ p ∷ []) 0
       bound (omega arith) room words knows k (λ ws new carried are changed. by_words ws new carried are changed)
     where
       by_words : (ws : List ℕ) (new : Locals)
@@ -146,7 +149,7 @@ module _ (scene : Scene) (world : WorldState) (allowed : scene.allowed world) (h
       → word_of new (found s (operand_word s 0) o) ≡ Some x → ChangesFrom (operand_word s 0) 1 words new → On new k)
       → On words (fetch_all s 0 (o ∷ []) k)
   one_read o bound k go =
-      fetch_all_reads scene world allowed h objects filled waiting size rests s count group depth locals (o ∷ []) 0
+      fetch_all_reads scene world h allowed objects filled waiting size rests s count group depth locals (o ∷ []) 0
       bound (omega arith) room words knows k (λ ws new carried are changed. by_words ws new carried are changed)
     where
       by_words : (ws : List ℕ) (new : Locals) → CarryAll scene objects (in_row (values locals group (o ∷ []))) ws
@@ -266,7 +269,7 @@ module _ (scene : Scene) (world : WorldState) (allowed : scene.allowed world) (h
       (new : Locals) → new d ≡ Some 0 → Touches s d words new
       → Arrives scene (at world' h waiting size rests new k)
 
-  set_unit : (world' : WorldState) → scene.allowed world' → (d a0 a1 n : ℕ) (k : Code) (new : Locals) → n ≤ 8
+  set_unit : (world' : WorldState) → scene.allowed world' h.words → (d a0 a1 n : ℕ) (k : Code) (new : Locals) → n ≤ 8
       → ChangesFrom (operand_word s 0) n words new → d < size → PutsIn world' d k
       → Arrives scene (at world' h waiting size rests
       (set_local (test_word s) a1 (set_local (test_word s) a0 new)) (Set d (Number 0) k))
@@ -282,7 +285,7 @@ module _ (scene : Scene) (world : WorldState) (allowed : scene.allowed world) (h
 
   pub prints_int : (o : Operand) (a : ℤ) (d : ℕ) → value locals group o ≡ RunInt a
       → operands_bound s.captured count depth (o ∷ []) ≡ true → d < size → (k : Code)
-      → scene.allowed (printing (signed_decimal a) world) → PutsIn (printing (signed_decimal a) world) d k
+      → scene.allowed (printing (signed_decimal a) world) h.words → PutsIn (printing (signed_decimal a) world) d k
       → On words (fetch_all s 0 (o ∷ [])
       (Environment 1 (found s (operand_word s 0) o) (Number 0) (test_word s) (test_word s) (Set d (Number 0) k)))
   prints_int o a d e bound lt k allowed' go =
@@ -297,7 +300,7 @@ module _ (scene : Scene) (world : WorldState) (allowed : scene.allowed world) (h
       (omega (arith, room)) (omega (arith, room))
       (set_unit (printing (signed_decimal a) world) allowed' d x 0 1 k new (omega arith) changed lt go))
 
-  pub prints_newline : (d : ℕ) → d < size → (k : Code) → scene.allowed (printing (codes "\n") world)
+  pub prints_newline : (d : ℕ) → d < size → (k : Code) → scene.allowed (printing (codes "\n") world) h.words
       → PutsIn (printing (codes "\n") world) d k
       → On words (Environment 2 (Number 10) (Number 0) (test_word s) (test_word s) (Set d (Number 0) k))
   prints_newline d lt k allowed' go =
@@ -324,7 +327,7 @@ module _ (scene : Scene) (world : WorldState) (allowed : scene.allowed world) (h
       ∙ word_here (operand_word s 0) x words
 
   pub reads_int : (a : ℤ) (d : ℕ) → next_number world ≡ Some a → d < size → (k : Code)
-      → scene.allowed (past_run world) → PutsNumberIn (past_run world) a d k → On words (read_number s d k)
+      → scene.allowed (past_run world) h.words → PutsNumberIn (past_run world) a d k → On words (read_number s d k)
   reads_int a d e lt k allowed' go =
       let x = cast_unsigned w64 a in
       let t = test_word s in
@@ -342,7 +345,7 @@ module _ (scene : Scene) (world : WorldState) (allowed : scene.allowed world) (h
       ∙ word_other o x words j (not_computed s o j (omega arith) (omega arith) side)))))))
 
   -- without a number it comes to the call that traps
-  pub reads_none : (d : ℕ) → next_number world ≡ None → (k : Code) → scene.allowed (past_white world)
+  pub reads_none : (d : ℕ) → next_number world ≡ None → (k : Code) → scene.allowed (past_white world) h.words
       → Arrives scene (at (past_white world) h waiting size (Set d (Word (operand_word s 0)) k ∷ rests)
       (called_back 0 1) (Environment 4 (Number 4) (Number 0) (test_word s) (test_word s) Done))
       → On words (read_number s d k)
@@ -358,8 +361,15 @@ module _ (scene : Scene) (world : WorldState) (allowed : scene.allowed world) (h
 
   module _ (products : AnswerProducts scene.setting scene.run) (o p : Operand) (a b : ℤ)
       (ea : value locals group o ≡ RunInt a) (eb : value locals group p ≡ RunInt b)
-      (bound : operands_bound s.captured count depth (o ∷ p ∷ []) ≡ true) (d : ℕ) (k : Code) where
-    pub multiplies : d < size → PutsHere d (RunInt (int_wrap w64 (a *ℤ b))) k
+      (bound : operands_bound s.captured count depth (o ∷ p ∷ []) ≡ true) (d : ℕ) (k : Code)
+      (spare : product_price + 28 ≤ scene.Q.extra) where
+    -- what comes behind may cost what is left to pay alone
+    abbrev pub PutsPlain : FlatValue scene.meaning.Cast → Type 0
+    PutsPlain v =
+        (w : ℕ) (new : Locals) → Carries scene objects v w → new d ≡ Some w → Touches s d words new
+        → Comes scene.setting scene.P (plain scene.Q) (at world h waiting size rests new k)
+
+    pub multiplies : d < size → PutsPlain (RunInt (int_wrap w64 (a *ℤ b)))
         → On words (fetch_all s 0 (o ∷ p ∷ []) (Call d scene.run.multiply
         (found s (operand_word s 0) o ∷ found s (operand_word s 1) p ∷ []) k))
     multiplies lt go =
@@ -370,14 +380,15 @@ module _ (scene : Scene) (world : WorldState) (allowed : scene.allowed world) (h
         let q = products.products (at world h (waiting_for d size rests new k ∷ waiting) size rests new k)
         (cast_unsigned w64 a) (cast_unsigned w64 b) (word_small a fa) (word_small b fb) in
         answered_by scene.setting scene.P scene.Q calm 2 (cast_unsigned w64 a ∷ cast_unsigned w64 b ∷ [])
-        products.multiply w q.0 (rw (xa, yb) refl) products.multiply_stands refl lt
-        (subst (λ n. Answers ending_of scene.setting
+        products.multiply w q.0 product_price (rw (xa, yb) refl) products.multiply_stands refl lt
+        (subst (λ n. AnswersFor ending_of scene.setting
         (at world h (waiting_for d size rests new k ∷ waiting) size rests new k) products.multiply
-        (cast_unsigned w64 a ∷ cast_unsigned w64 b ∷ []) n q.0) (product_made a b fa fb) q.1)
+        (cast_unsigned w64 a ∷ cast_unsigned w64 b ∷ []) n q.0 product_price) (product_made a b fa fb) q.1)
+        spare
         (go w (set_local d w new) (refl, wraps_once (a *ℤ b)) (word_here d w new)
         (touched d 2 new w (omega arith) changed)))
 
-    pub divides : int_eq b (pos 0) ≡ false → d < size → PutsHere d (RunInt (int_wrapping_div w64 a b)) k
+    pub divides : int_eq b (pos 0) ≡ false → d < size → PutsPlain (RunInt (int_wrapping_div w64 a b))
         → On words (fetch_all s 0 (o ∷ p ∷ []) (Call d scene.run.divide
         (found s (operand_word s 0) o ∷ found s (operand_word s 1) p ∷ Number 0 ∷ []) k))
     divides some lt go =
@@ -388,15 +399,15 @@ module _ (scene : Scene) (world : WorldState) (allowed : scene.allowed world) (h
         let q = products.quotients (at world h (waiting_for d size rests new k ∷ waiting) size rests new k)
         (cast_unsigned w64 a) (cast_unsigned w64 b) (word_small a fa) (word_small b fb) (some_divisor b fb some) in
         answered_by scene.setting scene.P scene.Q calm 3 (cast_unsigned w64 a ∷ cast_unsigned w64 b ∷ 0 ∷ [])
-        products.divide w q.0 (rw (xa, yb) refl) products.divide_stands refl lt
-        (subst (λ n. Answers ending_of scene.setting
+        products.divide w q.0 product_price (rw (xa, yb) refl) products.divide_stands refl lt
+        (subst (λ n. AnswersFor ending_of scene.setting
         (at world h (waiting_for d size rests new k ∷ waiting) size rests new k) products.divide
-        (cast_unsigned w64 a ∷ cast_unsigned w64 b ∷ 0 ∷ []) n q.0)
-        (ap₂ (λ x y. cast_unsigned w64 (int_wrapping_div w64 x y)) (word_read a fa) (word_read b fb)) q.1)
+        (cast_unsigned w64 a ∷ cast_unsigned w64 b ∷ 0 ∷ []) n q.0 product_price)
+        (ap₂ (λ x y. cast_unsigned w64 (int_wrapping_div w64 x y)) (word_read a fa) (word_read b fb)) q.1) spare
         (go w (set_local d w new) (refl, quotient_wraps a b) (word_here d w new)
         (touched d 2 new w (omega arith) changed)))
 
-    pub leaves : int_eq b (pos 0) ≡ false → d < size → PutsHere d (RunInt (int_rem a b)) k
+    pub leaves : int_eq b (pos 0) ≡ false → d < size → PutsPlain (RunInt (int_rem a b))
         → On words (fetch_all s 0 (o ∷ p ∷ []) (Call d scene.run.divide
         (found s (operand_word s 0) o ∷ found s (operand_word s 1) p ∷ Number 1 ∷ []) k))
     leaves some lt go =
@@ -407,22 +418,24 @@ module _ (scene : Scene) (world : WorldState) (allowed : scene.allowed world) (h
         let q = products.remainders (at world h (waiting_for d size rests new k ∷ waiting) size rests new k)
         (cast_unsigned w64 a) (cast_unsigned w64 b) (word_small a fa) (word_small b fb) (some_divisor b fb some) in
         answered_by scene.setting scene.P scene.Q calm 3 (cast_unsigned w64 a ∷ cast_unsigned w64 b ∷ 1 ∷ [])
-        products.divide w q.0 (rw (xa, yb) refl) products.divide_stands refl lt
-        (subst (λ n. Answers ending_of scene.setting
+        products.divide w q.0 product_price (rw (xa, yb) refl) products.divide_stands refl lt
+        (subst (λ n. AnswersFor ending_of scene.setting
         (at world h (waiting_for d size rests new k ∷ waiting) size rests new k) products.divide
-        (cast_unsigned w64 a ∷ cast_unsigned w64 b ∷ 1 ∷ []) n q.0)
-        (ap₂ (λ x y. cast_unsigned w64 (int_rem x y)) (word_read a fa) (word_read b fb)) q.1)
+        (cast_unsigned w64 a ∷ cast_unsigned w64 b ∷ 1 ∷ []) n q.0 product_price)
+        (ap₂ (λ x y. cast_unsigned w64 (int_rem x y)) (word_read a fa) (word_read b fb)) q.1) spare
         (go w (set_local d w new) (refl, remainder_wraps a b fb some) (word_here d w new)
         (touched d 2 new w (omega arith) changed)))
 
     -- a divisor 0 traps, where that is what the run is to come to
     pub traps : (which : ℕ) → which < 2 ^ 64 → int_eq b (pos 0) ≡ true
+        → scene.Q.floor ≤ code_price scene.setting.procs size k + codes_price scene.setting.procs size rests
         → ((new : Locals) (t : LowState)
         → TrapsNext ending_of scene.setting ZeroDivisor
-        (at world h (waiting_for d size rests new k ∷ waiting) size rests new k) t → scene.Q t)
+        (at world h (waiting_for d size rests new k ∷ waiting) size rests new k) t
+        → scene.Q.holds (code_price scene.setting.procs size k + codes_price scene.setting.procs size rests) t)
         → On words (fetch_all s 0 (o ∷ p ∷ []) (Call d scene.run.divide
         (found s (operand_word s 0) o ∷ found s (operand_word s 1) p ∷ Number which ∷ []) k))
-    traps which small none go =
+    traps which small none least go =
         ints_read o p a b ea eb bound (Call d scene.run.divide
         (found s (operand_word s 0) o ∷ found s (operand_word s 1) p ∷ Number which ∷ []) k)
         (λ new xa yb fa fb changed.
@@ -431,8 +444,12 @@ module _ (scene : Scene) (world : WorldState) (allowed : scene.allowed world) (h
         let q = products.zero_divisors (at world h (waiting_for d size rests new k ∷ waiting) size rests new k)
         (cast_unsigned w64 a) which in
         traps_by scene.setting scene.P scene.Q calm 3 (cast_unsigned w64 a ∷ 0 ∷ which ∷ []) products.divide ZeroDivisor
-        q.0
+        q.0 product_price
         (both_words (word_of new (found s (operand_word s 0) o))
         (words_of new (found s (operand_word s 1) p ∷ Number which ∷ [])) (cast_unsigned w64 a) (0 ∷ which ∷ []) xa
         (both_words (word_of new (found s (operand_word s 1) p)) (words_of new (Number which ∷ [])) 0 (which ∷ [])
-        zeroth (ap (λ x. and_more x (Some [])) third))) products.divide_stands refl q.1 (λ t r. go new t r))
+        zeroth (ap (λ x. and_more x (Some [])) third))) products.divide_stands refl q.1 (less_spare spare) least
+        (λ t r. go new t r))
+      where
+        less_spare : product_price + 28 ≤ scene.Q.extra → product_price ≤ scene.Q.extra
+        less_spare le = omega (arith, le)

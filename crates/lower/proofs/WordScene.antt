@@ -12,10 +12,11 @@ use Rattle.rt_cast.specs.States.{Heap}
 use Rattle.lower.specs.Storage.{Filled}
 use Rattle.lower.specs.declared.served.Served.{Served}
 use Rattle.lower.specs.CarriedValues.{IsCarried, AreCarried}
-use Rattle.lower.proofs.WordSteps.{Comes, Calm}
+use Rattle.lower.proofs.WordSteps.{Comes, Calm, Goal}
 use Rattle.lower.specs.Meanings.{Meaning, MeaningLaws}
 
--- the run, where things stand in it, what is to hold on the way and at the end, in which worlds
+-- the run, where things stand in it, what is to hold on the way and at the end, in which worlds and after how many
+-- words
 pub record Scene : Type 1 where
   pub meaning : Meaning
   pub laws : MeaningLaws meaning
@@ -29,10 +30,10 @@ pub record Scene : Type 1 where
   pub answer : TypeRow
   pub places : List ℕ
   pub P : LowState → Type 0
-  pub Q : LowState → Type 0
-  pub allowed : WorldState → Type 0
+  pub Q : Goal
+  pub allowed : WorldState → ℕ → Type 0
   pub calm : (world : WorldState) (h : Heap) (objects : List Object) → Filled meaning setting l number objects h
-      → allowed world
+      → allowed world h.words
       → Calm setting P Q world h
 
 module _ (scene : Scene) where

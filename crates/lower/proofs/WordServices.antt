@@ -1,19 +1,23 @@
 -- Calls of procedures that serve: their words come back.
 use Rattle.std.proofs.Common.{◌≡◌, ℕ, ◌<◌, ◌≤◌, true, List, [], ◌∷◌, length}
 use Rattle.std.proofs.Common.{Some, refl}
-use Rattle.std.proofs.Common.{sym, ◌∙◌, subst, arith}
-use Rattle.std.specs.Prelude.{◌==◌, ◌&&◌, nat_le}
+use Rattle.std.proofs.Common.{sym, ap, ◌∙◌, ◌+◌, subst, arith, Bool, false}
+use Rattle.std.specs.Prelude.{◌==◌, ◌&&◌, nat_le, nat_lt, if◌then◌else◌}
 use Rattle.grift_base.specs.World.{WorldState}
 use Rattle.rv_machine.specs.Mach.{ending_of}
+use Rattle.run_laws.specs.Machines.{Go}
 use Rattle.low_ir.specs.declared.code.LowSource.{LowSource}
+use Rattle.low_ir.specs.declared.code.LowSource.TheVariants.{Word, Number}
+use Rattle.low_ir.specs.Prices.{step_price, code_price, codes_price, low_price}
 use Rattle.low_ir.specs.Procedures.{Code, Call, Return, Proc}
 use Rattle.low_ir.specs.Steps.{Locals, no_locals, set_local}
-use Rattle.low_ir.specs.Run.{Setting, Waiting, LowState, word_of, words_of, bind}
-use Rattle.rt_refs.specs.Answering.{Quiet, Returns, Answers, Traps, TrapsNext}
+use Rattle.low_ir.specs.Run.{Setting, Waiting, LowState, word_of, words_of, bind, code_step}
+use Rattle.rt_refs.specs.Answering.{Quiet, Returns, AnswersFor, TrapsFor, TrapsNext}
 use Rattle.grift_base.specs.declared.verdicts.Trap.{Trap}
 use Rattle.rt_cast.specs.States.{Heap, heap_of}
 use Rattle.lower.specs.SimulationServices.{StandsAs}
-use Rattle.lower.proofs.WordSteps.{at, Comes, Calm, calls, comes_back, then_comes, waiting_for, here}
+use Rattle.lower.proofs.WordCredits.{By, by_now, by_go, by_then}
+use Rattle.lower.proofs.WordSteps.{at, Comes, Calm, Goal, N, plain, left_of, behind, waiting_for, lt_true}
 
 -- the words that a procedure takes are as many as it has
 pub taken : (setting : Setting) (number n : ℕ) (p : Proc) (ws : List ℕ) → StandsAs setting number p n
@@ -28,7 +32,24 @@ pub heap_same : (t : LowState) (h : Heap) → t.memory ≡ h.memory → t.alloc 
     → heap_of t ≡ h
 heap_same t h m a n = rw (m, a, n) refl
 
-module _ (setting : Setting) (P Q : LowState → Type 0) where
+-- a return costs no more
+pub return_price : (procs : List Proc) (count : ℕ) (a : LowSource) → step_price procs count (Return a) ≤ 28
+return_price procs count (Word i) = by_size (nat_lt i 255) (nat_lt count 255)
+  where
+    by_size : (b c : Bool) → (if b then 1 else 13) + 2 + (if c then 3 else 13) ≤ 28
+    by_size true true = omega arith
+    by_size true false = omega arith
+    by_size false true = omega arith
+    by_size false false = omega arith
+return_price procs count (Number n) = by_size (nat_lt n 2048) (nat_lt count 255)
+  where
+    by_size : (b c : Bool) → (if b then 2 else 12) + 2 + (if c then 3 else 13) ≤ 28
+    by_size true true = omega arith
+    by_size true false = omega arith
+    by_size false true = omega arith
+    by_size false false = omega arith
+
+module _ (setting : Setting) (P : LowState → Type 0) (Q : Goal) where
   -- a state that is calm but for what is active
   quiet_calm : (world : WorldState) (h : Heap) → Calm setting P Q world h → (t : LowState) → t.memory ≡ h.memory
       → t.alloc ≡ h.alloc → t.words ≡ h.words → t.world ≡ world → P t
@@ -41,55 +62,96 @@ module _ (setting : Setting) (P Q : LowState → Type 0) where
 
   -- a procedure returns to the one that called it
   pub returns_to : (world : WorldState) (t : LowState) (waiting : List Waiting) (d size : ℕ) (rests : List Code)
-      (words : Locals) (k : Code) (source : LowSource) (w : ℕ) → Calm setting P Q world (heap_of t)
+      (words : Locals) (k : Code) (source : LowSource) (w credit : ℕ) → Calm setting P Q world (heap_of t)
       → t.world ≡ world → t.waiting ≡ waiting_for d size rests words k ∷ waiting → t.active.code ≡ Return source
       → word_of t.active.locals source ≡ Some w → d < size
-      → Comes setting P Q (at world (heap_of t) waiting size rests (set_local d w words) k) → Comes setting P Q t
-  returns_to world t waiting d size rests words k source w calm same waits code is lt c =
-      subst (λ x. Comes setting P Q (record t { world = x })) (sym same)
-      (subst (λ x. Comes setting P Q (record t { world = world; waiting = x })) (sym waits)
-      (subst (λ x. Comes setting P Q (record t {
-        world = world;
-        waiting = waiting_for d size rests words k ∷ waiting;
-        active = record t.active { code = x };
-      })) (sym code)
-      (comes_back setting P Q calm w is lt c)))
+      → By setting P Q.holds Q.floor credit (at world (heap_of t) waiting size rests (set_local d w words) k)
+      → By setting P Q.holds Q.floor (28 + credit) t
+  returns_to world t waiting d size rests words k source w credit calm same waits code is lt c =
+      by_go setting P Q.holds Q.floor credit (28 + credit) t (at world (heap_of t) waiting size rests
+      (set_local d w words) k)
+      step
+      (let le = return_price setting.procs t.active.count source in
+      let e : low_price setting.procs t ≡ step_price setting.procs t.active.count (Return source) =
+      ap (step_price setting.procs t.active.count) code in
+      omega (arith, le, e))
+      (subst (λ x. P (record t { world = x })) (sym same) (calm t.active t.waiting)) c
+    where
+      step : (N setting P Q).step t ≡ Go (at world (heap_of t) waiting size rests (set_local d w words) k)
+      step =
+          let less = lt_true d size lt in
+          ap (λ z. code_step ending_of setting z t) code
+          ∙ (rw (is, waits, less) refl
+          ∙ ap (λ x. Go (at x (heap_of t) waiting size rests (set_local d w words) k)) same)
 
   module _ {world : WorldState} {h : Heap} (calm : Calm setting P Q world h) {waiting : List Waiting} {size : ℕ}
       {rests : List Code} {locals : Locals} where
     -- a procedure that changes nothing answers a word
-    pub answered_by : {d number : ℕ} {args : List LowSource} {k : Code} (n : ℕ) (ws : List ℕ) (p : Proc) (w most : ℕ)
+    pub answered_by : {d number : ℕ} {args : List LowSource} {k : Code} (n : ℕ) (ws : List ℕ) (p : Proc)
+        (w most price : ℕ)
         → words_of locals args ≡ Some ws → StandsAs setting number p n → length ws ≡ n → d < size
-        → Answers ending_of setting (at world h (waiting_for d size rests locals k ∷ waiting) size rests locals k) p
-        ws w
-        most
-        → Comes setting P Q (at world h waiting size rests (set_local d w locals) k)
+        → AnswersFor ending_of setting (at world h (waiting_for d size rests locals k ∷ waiting) size rests locals k) p
+        ws w most price → price + 28 ≤ Q.extra
+        → Comes setting P (plain Q) (at world h waiting size rests (set_local d w locals) k)
         → Comes setting P Q (at world h waiting size rests locals (Call d number args k))
-    answered_by {d = d} {number = number} {args = args} {k = k} n ws p w most e stands long lt answers c =
+    answered_by {d = d} {number = number} {args = args} {k = k} n ws p w most price e stands long lt answers le c =
         let s = at world h (waiting_for d size rests locals k ∷ waiting) size rests locals k in
-        calls setting P Q calm ws p e stands.there (taken setting number n p ws stands long)
-        (then_comes setting P Q (Quiet s) (Returns w s)
-        (λ t q. quiet_calm world h calm t q.memory q.alloc q.words q.world) answers.0
-        (at world h (waiting_for d size rests locals k ∷ waiting) p.words [] (bind 0 ws no_locals) p.code) answers.2
+        let after = left_of setting (at world h waiting size rests (set_local d w locals) k) in
+        let first = behind setting size rests (Call d number args k) k in
+        by_go setting P Q.holds Q.floor (price + (28 + (after + 0)))
+        (left_of setting (at world h waiting size rests locals (Call d number args k)) + Q.extra)
+        (at world h waiting size rests locals (Call d number args k))
+        (at world h (waiting_for d size rests locals k ∷ waiting) p.words [] (bind 0 ws no_locals) p.code)
+        (let there = stands.there in
+        let few = taken setting number n p ws stands long in
+        rw (e, there, few) refl) (enough (step_price setting.procs size (Call d number args k))
+        (left_of setting (at world h waiting size rests locals (Call d number args k))) Q.extra after price le first)
+        (calm (record { count = size; locals = locals; code = Call d number args k; rests = rests }) waiting)
+        (by_then setting P Q.holds Q.floor (Quiet s) (Returns w s)
+        (λ t q. quiet_calm world h calm t q.memory q.alloc q.words q.world) answers.0 price (28 + (after + 0))
+        (at world h (waiting_for d size rests locals k ∷ waiting) p.words [] (bind 0 ws no_locals) p.code)
+        (let x = c.within in let y = c.least in omega (arith, x, y)) answers.3
+        answers.2
         (λ t r.
         let same = heap_same t h r.quiet.memory r.quiet.alloc r.quiet.words in
-        returns_to world t waiting d size rests locals k r.source w
+        returns_to world t waiting d size rests locals k r.source w (after + 0)
         (subst (λ x. Calm setting P Q world x) (sym same) calm) r.quiet.world r.quiet.waiting r.code r.is lt
-        (subst (λ x. Comes setting P Q (at world x waiting size rests (set_local d w locals) k)) (sym same) c)))
+        (subst (λ x. By setting P Q.holds Q.floor (after + 0) (at world x waiting size rests (set_local d w locals) k))
+        (sym same) c)))
+      where
+        enough : (first start extra after cost : ℕ) → cost + 28 ≤ extra → first + after ≤ start
+            → first + (cost + (28 + (after + 0))) ≤ start + extra
+        enough first start extra after cost p q = omega (arith, p, q)
 
     -- a procedure that changes nothing traps
     pub traps_by : {d number : ℕ} {args : List LowSource} {k : Code} (n : ℕ) (ws : List ℕ) (p : Proc) (trap : Trap)
-        (most : ℕ) → words_of locals args ≡ Some ws → StandsAs setting number p n → length ws ≡ n
-        → Traps ending_of setting (at world h (waiting_for d size rests locals k ∷ waiting) size rests locals k) p ws
-        trap most
+        (most price : ℕ) → words_of locals args ≡ Some ws → StandsAs setting number p n → length ws ≡ n
+        → TrapsFor ending_of setting (at world h (waiting_for d size rests locals k ∷ waiting) size rests locals k) p ws
+        trap most price → price ≤ Q.extra
+        → Q.floor ≤ code_price setting.procs size k + codes_price setting.procs size rests
         → ((t : LowState)
         → TrapsNext ending_of setting trap
-        (at world h (waiting_for d size rests locals k ∷ waiting) size rests locals k) t → Q t)
+        (at world h (waiting_for d size rests locals k ∷ waiting) size rests locals k) t
+        → Q.holds (code_price setting.procs size k + codes_price setting.procs size rests) t)
         → Comes setting P Q (at world h waiting size rests locals (Call d number args k))
-    traps_by {d = d} {number = number} {args = args} {k = k} n ws p trap most e stands long traps go =
+    traps_by {d = d} {number = number} {args = args} {k = k} n ws p trap most price e stands long traps le least go =
         let s = at world h (waiting_for d size rests locals k ∷ waiting) size rests locals k in
-        calls setting P Q calm ws p e stands.there (taken setting number n p ws stands long)
-        (then_comes setting P Q (Quiet s) (TrapsNext ending_of setting trap s)
-        (λ t q. quiet_calm world h calm t q.memory q.alloc q.words q.world) traps.0
-        (at world h (waiting_for d size rests locals k ∷ waiting) p.words [] (bind 0 ws no_locals) p.code) traps.2
-        (λ t r. here setting P Q t (go t r)))
+        let after = code_price setting.procs size k + codes_price setting.procs size rests in
+        let first = behind setting size rests (Call d number args k) k in
+        by_go setting P Q.holds Q.floor (price + after)
+        (left_of setting (at world h waiting size rests locals (Call d number args k)) + Q.extra)
+        (at world h waiting size rests locals (Call d number args k))
+        (at world h (waiting_for d size rests locals k ∷ waiting) p.words [] (bind 0 ws no_locals) p.code)
+        (let there = stands.there in
+        let few = taken setting number n p ws stands long in
+        rw (e, there, few) refl) (enough (step_price setting.procs size (Call d number args k))
+        (left_of setting (at world h waiting size rests locals (Call d number args k))) Q.extra after price le first)
+        (calm (record { count = size; locals = locals; code = Call d number args k; rests = rests }) waiting)
+        (by_then setting P Q.holds Q.floor (Quiet s) (TrapsNext ending_of setting trap s)
+        (λ t q. quiet_calm world h calm t q.memory q.alloc q.words q.world) traps.0 price after
+        (at world h (waiting_for d size rests locals k ∷ waiting) p.words [] (bind 0 ws no_locals) p.code) least traps.3
+        traps.2 (λ t r. by_now setting P Q.holds Q.floor after t least (go t r)))
+      where
+        enough : (first start extra after cost : ℕ) → cost ≤ extra → first + after ≤ start
+            → first + (cost + after) ≤ start + extra
+        enough first start extra after cost p q = omega (arith, p, q)

@@ -13,5 +13,6 @@ pub mod RelatedStates
 pub mod SimulationServices
 pub mod SchemeLaws
 pub mod SimulationClaims
+pub mod Keeping
 pub mod Following
 pub mod MergedMeaning

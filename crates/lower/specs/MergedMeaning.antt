@@ -10,6 +10,7 @@ use Rattle.coercion_norm.specs.Modes.{TypeCast}
 use Rattle.coercion_norm.specs.Objects.{Object, Fixed, Cell}
 use Rattle.coercion_norm.specs.Held.{Layout, There, Held, height_in}
 use Rattle.coercion_norm.specs.ObjectsOfRows.{header}
+use Rattle.flat_ir.specs.FlatTally.{merged_prices}
 use Rattle.rt_cast.specs.Carried.{IsLow}
 use Rattle.rt_cast.specs.Procs.{Stand}
 use Rattle.rt_cast.specs.WholeObjects.{Wholes}
@@ -56,6 +57,7 @@ abbrev pub merged_meaning : Meaning
 merged_meaning = record {
   Cast = Coercion;
   mode = λ types casts. merging types casts;
+  prices = λ types casts m. merged_prices types (merging types casts) m;
   Wraps = λ l objects casts target w. merged_wraps l objects casts target w;
   MayKeep = λ l kept. height_in l kept ≤ l.tallest;
   CastWords = λ l casts words. MergedCasts l casts words;

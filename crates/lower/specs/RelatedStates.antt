@@ -82,6 +82,7 @@ module _ (setting : Setting) (l : Layout) (run : Served) (procs : List Proc) (an
       pub bound : body_bound procs s.captured count depth body ≡ true
       pub covered : covers body ≡ true
       pub params : s.params ≤ depth
+      pub few : s.params ≤ 6
       pub room : levels depth body + 10 ≤ size
       pub knows : Knows s count group depth locals words
 
@@ -89,6 +90,7 @@ module _ (setting : Setting) (l : Layout) (run : Served) (procs : List Proc) (an
     pub record Waits (s : Shape) (count size : ℕ) (group : Group meaning.Cast) (depth slot : ℕ) (rest : Body)
         (locals : FlatLocals meaning.Cast) (other : Group meaning.Cast) (d : ℕ) (words : Locals) : Type 0 where
       pub params : s.params ≤ slot
+      pub few : s.params ≤ 6
       pub deep : slot ≤ depth
       pub word : d ≡ local_word s slot
       pub same : other ≡ group
@@ -173,16 +175,18 @@ module _ (setting : Setting) (l : Layout) (run : Served) (procs : List Proc) (an
       pub arguments : onto done (pending_values todo) ≡ values locals group operands
       pub plain : NoCasts todo
 
-    abbrev pub Goes : FlatFocus meaning.Cast → List (FlatFrame meaning.Cast) → Active → List LowWaiting → Type 0
-    Goes (Own (Inside body locals group)) frames active waiting = Runs body locals group frames active waiting
-    Goes (Return v) frames active waiting = Gave v frames active waiting ⊎ Gives v frames active waiting
-    Goes (Entering f done todo) frames active waiting = Enters f done todo frames active waiting
+    -- of a return that is next so much is still to be paid
+    abbrev pub Goes : ℕ → FlatFocus meaning.Cast → List (FlatFrame meaning.Cast) → Active → List LowWaiting → Type 0
+    Goes due (Own (Inside body locals group)) frames active waiting = Runs body locals group frames active waiting
+    Goes due (Return v) frames active waiting =
+        Gave v frames active waiting ⊎ (Gives v frames active waiting × (28 ≤ due))
+    Goes due (Entering f done todo) frames active waiting = Enters f done todo frames active waiting
 
-  -- two states that both go on, after so many wrap steps
-  pub record Related (f : FlatState meaning.Cast) (number : ℕ) (t : LowState) : Type 0 where
+  -- two states that both go on, after so many wrap steps, where so much is due for a return
+  pub record Related (f : FlatState meaning.Cast) (number due : ℕ) (t : LowState) : Type 0 where
     pub places : List ℕ
     pub objects : List Object
     pub filled : Filled meaning setting l number objects (heap_of t)
     pub cells : CellsHeld l setting.address procs meaning places objects t.memory places f.store
     pub world : t.world ≡ f.world
-    pub goes : Goes places objects f.focus f.frames t.active t.waiting
+    pub goes : Goes places objects due f.focus f.frames t.active t.waiting

@@ -1,5 +1,7 @@
 -- What is asked of a scheme: each of its procedures makes some turns of the numbered procedures, in the scheme's mode,
 -- in the words that carry their values, and so does what code makes of a word in place, where no procedure is entered.
+-- It keeps within what these turns may cost: words are asked for in a turn that asks for as many, and the budget that a
+-- turn leaves is a credit for later turns and, at the end, for the code that called.
 use Rattle.std.specs.Prelude.{◌≡◌, ◌⊎◌, ℕ, zero, suc, ◌+◌, ◌%◌, ◌^◌, ◌<◌, ◌≤◌, ℤ, List, [], ◌∷◌, ◌++◌, length}
 use Rattle.std.specs.Prelude.{Some, slice_get}
 use Rattle.std.specs.Int.{w64, cast_unsigned, int_wrap}
@@ -15,6 +17,9 @@ use Rattle.rv_machine.specs.Mach.{ending_of}
 use Rattle.low_ir.specs.declared.code.LowSource.{LowSource}
 use Rattle.low_ir.specs.Procedures.{Code, Proc as LowProc, Return as ReturnCode, CallAt}
 use Rattle.low_ir.specs.Run.{Setting, Waiting, LowState, low_machine, with_local, word_of, words_of}
+use Rattle.low_ir.specs.Prices.{CostsAtMost}
+use Rattle.core_calc.specs.Account.{Measures}
+use Rattle.flat_ir.specs.FlatTally.{Cost, Prices, flat_cost, act_cost, cast_cost, operator_cost}
 use Rattle.coercion_norm.specs.Modes.{Mode, TypeCast}
 use Rattle.coercion_norm.specs.RunValues.{RunFun, RunWrap, in_row, all_plain}
 use Rattle.coercion_norm.specs.ValueSteps.{CastFrame, Own, Return, Entering, On, BlameOf, TrapOf, NoNext, casts_onto}
@@ -37,22 +42,46 @@ use Rattle.lower.specs.Storage.{Filled}
 use Rattle.lower.specs.CarriedValues.{IsCarried, AreCarried, CellsHeld}
 use Rattle.lower.specs.SimulationServices.{StandsAs}
 
--- how many procedures more are active, and how many words more were asked for
+-- how many procedures more are active
 pub record Spent : Type 0 where
   pub frames : ℕ
-  pub words : ℕ
 
--- none of both
 abbrev pub nothing : Spent
-nothing = record { frames = 0; words = 0 }
+nothing = record { frames = 0 }
+
+-- ---- what is left of the budgets at the end, for the code that called and for the return, in instructions
+
+-- of a cast, by the procedure or in place
+abbrev pub cast_leaves : ℕ
+cast_leaves = 244
+
+-- of an operator on boxes and vectors
+abbrev pub operator_leaves : ℕ
+operator_leaves = 560
+
+-- of a part of a tuple, or of what is in Dyn
+abbrev pub part_leaves : ℕ
+part_leaves = 300
+
+-- of a call through wrappers, where the function is about to be entered
+abbrev pub call_leaves : ℕ
+call_leaves = 800
+
+-- where a procedure of the scheme has gone on with what a function gave
+abbrev pub resumed_leaves : ℕ
+resumed_leaves = 100
 
 -- the word at a place, 0 where there is none
 abbrev pub at_or_zero : List ℕ → ℕ → ℕ
 at_or_zero ws i = cast_word (slice_get ws i)
 
-module _ (meaning : Meaning) (setting : Setting) (l : Layout) (procs : List Proc) (casts : List TypeCast) where
+module _ (meaning : Meaning) (setting : Setting) (l : Layout) (procs : List Proc) (casts : List TypeCast)
+    (m : Measures) where
   abbrev pub mode_here : Mode meaning.Cast
   mode_here = meaning.mode l.types casts
+
+  abbrev pub prices_here : Prices meaning.Cast
+  prices_here = meaning.prices l.types casts m
 
   abbrev pub CarriedAt : List ℕ → List Object → FlatValue meaning.Cast → ℕ → Type 0
   CarriedAt places objects v w = IsCarried l setting.address procs meaning places objects v w
@@ -66,14 +95,15 @@ module _ (meaning : Meaning) (setting : Setting) (l : Layout) (procs : List Proc
     pub filled : Filled meaning setting l number objects h
     pub cells : CellsHeld l setting.address procs meaning places objects h.memory places store
 
-  -- on the way of a procedure that was entered from s, where the number is one of both
-  pub record OnWay (s : LowState) (most : Spent) (before after : ℕ) (t : LowState) : Type 0 where
+  -- on the way of a procedure that was entered from s, in a turn that began in t and asks for so many words, where the
+  -- number is one of both
+  pub record OnWay (s t : LowState) (most : Spent) (asks before after : ℕ) (u : LowState) : Type 0 where
     pub objects : List Object
-    pub filled : Filled meaning setting l before objects (heap_of t) ⊎ Filled meaning setting l after objects
-        (heap_of t)
-    pub same : t.world ≡ s.world
-    pub active : length t.waiting ≤ length s.waiting + most.frames
-    pub asked : t.words ≤ s.words + most.words
+    pub filled : Filled meaning setting l before objects (heap_of u) ⊎ Filled meaning setting l after objects
+        (heap_of u)
+    pub same : u.world ≡ s.world
+    pub active : length u.waiting ≤ length s.waiting + most.frames
+    pub asked : u.words ≤ t.words + asks
 
   -- the next step stops so
   pub record StopsNow (s : LowState) (number : ℕ) (e : Ending Verdict) (t : LowState) : Type 0 where
@@ -84,26 +114,36 @@ module _ (meaning : Meaning) (setting : Setting) (l : Layout) (procs : List Proc
     pub same : t.world ≡ s.world
     pub same_after : last.world ≡ s.world
 
-  -- what the numbered procedures come to: where they go on, with these frames, this store and so many wrap steps
+  -- what the numbered procedures come to: where they go on, with these frames, this store and so many wrap steps, and
+  -- what is left of the budgets of their turns
   abbrev pub Aim : Type 1
-  Aim = FlatFocus meaning.Cast → List (FlatFrame meaning.Cast) → FlatStore meaning.Cast → ℕ → LowState → Type 0
+  Aim = FlatFocus meaning.Cast → List (FlatFrame meaning.Cast) → FlatStore meaning.Cast → ℕ → ℕ → LowState → Type 0
 
   module _ (s : LowState) (most : Spent) where
-    abbrev pub Walks : ℕ → ℕ → (LowState → Type 0) → LowState → Type 0
-    Walks before after Q t =
-        (k : ℕ) × Reaches (low_machine ending_of setting) (OnWay s most before after) Q k t
+    -- in a turn that begins here and asks for so many words, some steps that cost no more than a credit, to where Q
+    -- holds of what is left of it
+    abbrev pub Walks : ℕ → ℕ → ℕ → ℕ → (ℕ → LowState → Type 0) → LowState → Type 0
+    Walks asks credit before after Q t =
+        (k price left : ℕ) × (price + left ≤ credit) × CostsAtMost ending_of setting k t price
+        × Reaches (low_machine ending_of setting) (OnWay s t most asks before after)
+        (λ u. (u.words ≤ t.words + asks) × Q left u) k t
 
-    -- a turn that came to this, with so many wrap steps; nothing is asked where the numbered procedures go wrong
-    abbrev pub After : Aim → FlatAfter meaning.Cast → ℕ → ℕ → LowState → Type 0
-    After aim (On focus frames store world) number wraps t =
-        (world ≡ s.world) × Walks number (number + wraps) (aim focus frames store (number + wraps)) t
-    After aim (BlameOf label) number wraps t =
+    -- a turn at this cost that came to this, with so much credit before and so many wrap steps; nothing is asked where
+    -- the numbered procedures go wrong
+    abbrev pub After : Aim → FlatAfter meaning.Cast → Cost → ℕ → ℕ → ℕ → LowState → Type 0
+    After aim (On focus frames store world) cost credit number wraps t =
+        (world ≡ s.world)
+        × Walks cost.asks (credit + cost.budget) number (number + wraps) (aim focus frames store (number + wraps)) t
+    After aim (BlameOf label) cost credit number wraps t =
         (wraps ≡ 0)
         × ((place : Pos) → slice_get setting.labels label ≡ Some place
-        → Walks number number (StopsNow s number (EndsWith (Blame place))) t)
-    After aim (TrapOf trap world) number wraps t =
-        (wraps ≡ 0) × (world ≡ s.world) × Walks number number (StopsNow s number (EndsWith (TrapVerdict trap))) t
-    After aim NoNext number wraps t = wraps ≡ 0
+        → Walks cost.asks (credit + cost.budget) number number
+        (λ left. StopsNow s number (EndsWith (Blame place))) t)
+    After aim (TrapOf trap world) cost credit number wraps t =
+        (wraps ≡ 0) × (world ≡ s.world)
+        × Walks cost.asks (credit + cost.budget) number number
+        (λ left. StopsNow s number (EndsWith (TrapVerdict trap))) t
+    After aim NoNext cost credit number wraps t = wraps ≡ 0
 
     -- the numbered procedures haven't come to an answer
     abbrev pub IsPending : FlatFocus meaning.Cast → List (FlatFrame meaning.Cast) → Type 0
@@ -112,15 +152,16 @@ module _ (meaning : Meaning) (setting : Setting) (l : Layout) (procs : List Proc
 
     -- so many turns more, each with some steps of the procedure or none
     abbrev pub Goes : Aim → ℕ → Aim
-    Goes aim zero focus frames store number t = aim focus frames store number t
-    Goes aim (suc i) focus frames store number t =
-        IsPending focus frames × OnWay s most number number t
-        × After (Goes aim i) (flat_turn procs mode_here store s.world focus frames) number
+    Goes aim zero focus frames store number credit t = aim focus frames store number credit t
+    Goes aim (suc i) focus frames store number credit t =
+        IsPending focus frames × OnWay s t most 0 number number t
+        × After (Goes aim i) (flat_turn procs mode_here store s.world focus frames)
+        (flat_cost procs mode_here prices_here focus frames) credit number
         (flat_turn_wraps procs mode_here focus frames) t
 
-    -- a turn that came to this, and some turns more
-    abbrev pub Serves : Aim → FlatAfter meaning.Cast → ℕ → ℕ → LowState → Type 0
-    Serves aim x number wraps t = (i : ℕ) × After (Goes aim i) x number wraps t
+    -- a turn at this cost that came to this, with no credit before, and some turns more
+    abbrev pub Serves : Aim → FlatAfter meaning.Cast → Cost → ℕ → ℕ → LowState → Type 0
+    Serves aim x cost number wraps t = (i : ℕ) × After (Goes aim i) x cost 0 number wraps t
 
   -- a return of a word that carries the value, with objects and cells only added, and with the same procedures waiting
   pub record ReturnsAt (s : LowState) (places : List ℕ) (objects : List Object) (u : FlatValue meaning.Cast)
@@ -136,16 +177,18 @@ module _ (meaning : Meaning) (setting : Setting) (l : Layout) (procs : List Proc
     pub waits : t.waiting ≡ s.waiting
     pub same : t.world ≡ s.world
 
-  abbrev pub Returns : LowState → List ℕ → List Object → List (FlatFrame meaning.Cast) → Aim
-  Returns s places objects base (Return u) frames store number t =
-      (frames ≡ base) × ReturnsAt s places objects u store number t
-  Returns s places objects base _ frames store number t = ⊥
+  -- so much is left
+  abbrev pub Returns : LowState → ℕ → List ℕ → List Object → List (FlatFrame meaning.Cast) → Aim
+  Returns s leaves places objects base (Return u) frames store number left t =
+      (frames ≡ base) × (leaves ≤ left) × ReturnsAt s places objects u store number t
+  Returns s leaves places objects base _ frames store number left t = ⊥
 
   -- the state is as it was: a value comes back that this word carries, where the same objects stand
   abbrev pub GivesInPlace : LowState → List ℕ → List Object → List (FlatFrame meaning.Cast) → ℕ → Aim
-  GivesInPlace s places objects base word (Return u) frames store number t =
-      (t ≡ s) × (frames ≡ base) × Here places objects store number (heap_of s) × CarriedAt places objects u word
-  GivesInPlace s places objects base word _ frames store number t = ⊥
+  GivesInPlace s places objects base word (Return u) frames store number left t =
+      (t ≡ s) × (frames ≡ base) × (cast_leaves ≤ left) × Here places objects store number (heap_of s)
+      × CarriedAt places objects u word
+  GivesInPlace s places objects base word _ frames store number left t = ⊥
 
   -- a function without wrappers is about to be entered with these values, and one more procedure waits, which makes
   -- these casts of what it gives
@@ -178,21 +221,21 @@ module _ (meaning : Meaning) (setting : Setting) (l : Layout) (procs : List Proc
 
   -- in the turn in which its body is entered
   abbrev pub Calls : LowState → List ℕ → List Object → List (FlatFrame meaning.Cast) → Aim
-  Calls s places objects base (Own (Inside body locals group)) frames store number t =
+  Calls s places objects base (Own (Inside body locals group)) frames store number left t =
       (code : FlatCode) × (captured : FlatValues meaning.Cast) × (values : List (FlatValue meaning.Cast)) × (p : Proc)
       × (slice_get procs (code.first + code.place) ≡ Some p) × (length values ≡ p.params) × (body ≡ p.body)
       × (locals ≡ locals_of values) × (group ≡ record { first = code.first; captured = captured })
-      × CallsAt s places objects code captured values base frames store number t
-  Calls s places objects base (Return v) frames store number t = ⊥
-  Calls s places objects base (Entering f done todo) frames store number t = ⊥
+      × (call_leaves ≤ left) × CallsAt s places objects code captured values base frames store number t
+  Calls s places objects base (Return v) frames store number left t = ⊥
+  Calls s places objects base (Entering f done todo) frames store number left t = ⊥
 
   -- ---- what each procedure is asked for, entered with these words from any state
 
-  -- for a turn that came to this
-  abbrev pub Answers : LowState → Spent → List ℕ → List Object → List (FlatFrame meaning.Cast)
-      → FlatAfter meaning.Cast → ℕ → ℕ → LowState → Type 0
-  Answers s most places objects base x number wraps t =
-      Serves s most (Returns s places objects base) x number wraps t
+  -- for a turn at this cost that came to this; so much is left at the end
+  abbrev pub Answers : LowState → Spent → ℕ → List ℕ → List Object → List (FlatFrame meaning.Cast)
+      → FlatAfter meaning.Cast → Cost → ℕ → ℕ → LowState → Type 0
+  Answers s most leaves places objects base x cost number wraps t =
+      Serves s most (Returns s leaves places objects base) x cost number wraps t
 
   module _ (run : Served) where
     pub record CastsMade : Type 0 where
@@ -202,8 +245,10 @@ module _ (meaning : Meaning) (setting : Setting) (l : Layout) (procs : List Proc
           (store : FlatStore meaning.Cast) → Here places objects store number (heap_of s)
           → (base : List (FlatFrame meaning.Cast)) (row : ℕ) (cast : meaning.Cast) → mode_here.row row ≡ Some cast
           → (v : FlatValue meaning.Cast) (w : ℕ) → CarriedAt places objects v w
-          → (most : Spent) × Answers s most places objects base (flat_cast procs mode_here store s.world v cast base)
-          number (decision_wraps (decision_at procs mode_here (Some cast) v))
+          → (most : Spent) × Answers s most cast_leaves places objects base
+          (flat_cast procs mode_here store s.world v cast base)
+          (cast_cost procs mode_here prices_here (Some cast) v) number
+          (decision_wraps (decision_at procs mode_here (Some cast) v))
           (entered s proc (w ∷ cast_word (slice_get run.cast_at row) ∷ []))
 
     -- what is handed on for each cast is below 2^64
@@ -219,7 +264,8 @@ module _ (meaning : Meaning) (setting : Setting) (l : Layout) (procs : List Proc
         → Here places objects store number (heap_of s) → (base : List (FlatFrame meaning.Cast)) (row : ℕ)
         (cast : meaning.Cast) → mode_here.row row ≡ Some cast → (v : FlatValue meaning.Cast) (w : ℕ)
         → CarriedAt places objects v w → (word : ℕ) → in_place (way_at (slice_get run.ways row)) w ≡ Some word
-        → Serves s nothing (GivesInPlace s places objects base word) (flat_cast procs mode_here store s.world v cast base)
+        → Serves s nothing (GivesInPlace s places objects base word)
+        (flat_cast procs mode_here store s.world v cast base) (cast_cost procs mode_here prices_here (Some cast) v)
         number (decision_wraps (decision_at procs mode_here (Some cast) v)) s
 
     -- parts of tuples, in wrappers or not, and of values in Dyn
@@ -230,15 +276,17 @@ module _ (meaning : Meaning) (setting : Setting) (l : Layout) (procs : List Proc
           (store : FlatStore meaning.Cast) → Here places objects store number (heap_of s)
           → (base : List (FlatFrame meaning.Cast)) (v : FlatValue meaning.Cast) (cast : meaning.Cast) (w : ℕ)
           → CarriedAt places objects (RunWrap v cast) w → (part : ℤ) (label : ℕ)
-          → (most : Spent) × Answers s most places objects base
+          → (most : Spent) × Answers s most part_leaves places objects base
           (flat_proj procs mode_here store s.world (RunWrap v cast) part base)
-          number 0 (entered s proc (w ∷ cast_unsigned w64 part % 2 ^ 64 ∷ 1 ∷ label ∷ []))
+          (act_cost procs mode_here prices_here) number 0 (entered s proc
+          (w ∷ cast_unsigned w64 part % 2 ^ 64 ∷ 1 ∷ label ∷ []))
       pub gives_dyn : (s : LowState) (number : ℕ) (places : List ℕ) (objects : List Object)
           (store : FlatStore meaning.Cast) → Here places objects store number (heap_of s)
           → (base : List (FlatFrame meaning.Cast)) (v : FlatValue meaning.Cast) (w : ℕ) → CarriedAt places objects v w
           → (part : ℤ) (label : ℕ) → label < 2 ^ 64 → int_wrap w64 part ≡ part
-          → (most : Spent) × Answers s most places objects base
-          (run_proj_dyn mode_here (flat_arity procs) (flat_entered procs) store s.world v part label base) number 0
+          → (most : Spent) × Answers s most part_leaves places objects base
+          (run_proj_dyn mode_here (flat_arity procs) (flat_entered procs) store s.world v part label base)
+          prices_here.part number 0
           (entered s proc (w ∷ cast_unsigned w64 part % 2 ^ 64 ∷ 0 ∷ label ∷ []))
 
     -- of an operator on boxes only those in wrappers are handed on
@@ -257,8 +305,9 @@ module _ (meaning : Meaning) (setting : Setting) (l : Layout) (procs : List Proc
           (store : FlatStore meaning.Cast) → Here places objects store number (heap_of s)
           → (base : List (FlatFrame meaning.Cast)) (vs : List (FlatValue meaning.Cast)) (ws : List ℕ)
           → AllCarriedAt places objects (in_row vs) ws → IsHandedOn operator vs
-          → (most : Spent) × Answers s most places objects base
-          (flat_operate procs mode_here store s.world operator vs base) number 0 (entered s proc (handed ws))
+          → (most : Spent) × Answers s most operator_leaves places objects base
+          (flat_operate procs mode_here store s.world operator vs base)
+          (operator_cost procs mode_here prices_here operator vs) number 0 (entered s proc (handed ws))
 
     pub record CellsServed : Type 0 where
       pub read : LowProc
@@ -285,7 +334,8 @@ module _ (meaning : Meaning) (setting : Setting) (l : Layout) (procs : List Proc
           → CarriedAt places objects (RunWrap v cast) w → (vs : List (FlatValue meaning.Cast)) (ws : List ℕ)
           → AllCarriedAt places objects (in_row vs) ws → length vs ≤ 6
           → (most : Spent) × Serves s most (Calls s places objects base)
-          (flat_turn procs mode_here store s.world (Entering (RunWrap v cast) [] (all_plain vs)) base) number 0
+          (flat_turn procs mode_here store s.world (Entering (RunWrap v cast) [] (all_plain vs)) base)
+          (act_cost procs mode_here prices_here) number 0
           (entered s proc (w ∷ at_or_zero ws 0 ∷ at_or_zero ws 1 ∷ at_or_zero ws 2 ∷ at_or_zero ws 3
           ∷ at_or_zero ws 4 ∷ at_or_zero ws 5 ∷ length ws ∷ []))
       -- the word that comes back is in its place; s is what was there before it came
@@ -295,7 +345,8 @@ module _ (meaning : Meaning) (setting : Setting) (l : Layout) (procs : List Proc
           (results : List meaning.Cast) → meaning.Resumes setting l objects waiting (cast ∷ results)
           → (v : FlatValue meaning.Cast) (w : ℕ) → CarriedAt places objects v w
           → (waiting.answer < waiting.rest.count)
-          × (most : Spent) × Answers s most places objects base
-          (flat_cast procs mode_here store s.world v cast (casts_onto results base)) number
+          × (most : Spent) × Answers s most resumed_leaves places objects base
+          (flat_cast procs mode_here store s.world v cast (casts_onto results base))
+          (cast_cost procs mode_here prices_here (Some cast) v) number
           (decision_wraps (decision_at procs mode_here (Some cast) v))
           (record s { active = with_local waiting.answer w waiting.rest })

@@ -139,9 +139,9 @@ pub fn lower_over<S: Scheme>(
     })
 }
 
-/// The program over words of a flat program, whose casts are made as the scheme says where they aren't made in place: the
-/// procedures that the definition gives, behind them those of the scheme, and what stands in memory for its casts. It is
-/// closed where the flat program is, and no operator has more operands than there are words for.
+/// The program over words of a flat program, whose casts are made as the scheme says where they aren't made in
+/// place: the procedures that the definition gives, behind them those of the scheme, and what stands in memory for its
+/// casts. It is closed where the flat program is, and no operator has more operands than there are words for.
 pub fn lower_with<S: Scheme>(
     alloc: Global,
     flat: &FlatProgram,
