@@ -1,12 +1,16 @@
--- The merged scheme serves, and the run over words of its programs follows the merged mode.
+-- The merged scheme serves, and the run over words of its programs follows the merged mode, within its account.
 use Rattle.std.proofs.Common.{◌≡◌, ℕ, suc, ◌^◌, ◌<◌, true, List, length, Some, refl}
 use Rattle.grift_base.specs.Types.{TypeRow, row_at}
+use Rattle.run_laws.specs.Accounts.{FollowsWithin}
 use Rattle.run_laws.specs.Machines.{run}
+use Rattle.run_laws.specs.Meters.{metered, unspent}
 use Rattle.run_laws.specs.Runs.{Any, FollowsBy, NeverWrong}
 use Rattle.run_laws.proofs.Public.{follows_by_weaken}
 use Rattle.rv_machine.specs.Mach.{ending_of}
 use Rattle.rv_machine.specs.Memory.{Memory}
+use Rattle.low_ir.specs.Prices.{low_price}
 use Rattle.low_ir.specs.Run.{Setting, low_machine, low_start}
+use Rattle.core_calc.specs.Account.{Measures}
 use Rattle.coercion_norm.specs.AnswerTypes.{Told}
 use Rattle.coercion_norm.specs.Held.{Layout, TypesStand}
 use Rattle.coercion_norm.specs.MergedMode.{merging}
@@ -14,11 +18,13 @@ use Rattle.coercion_norm.specs.Modes.{TypeCast}
 use Rattle.flat_ir.specs.Bodies.{Proc}
 use Rattle.flat_ir.specs.Closed.{is_closed}
 use Rattle.flat_ir.specs.Counts.{flat_run_in}
+use Rattle.flat_ir.specs.FlatTally.{flat_tally_in, merged_prices}
 use Rattle.flat_ir.specs.Machine.{first_world}
 use Rattle.rt_cast.proofs.Public.{objects_fill_the_region}
 use Rattle.lower.specs.CastWays.{cast_ways}
 use Rattle.lower.specs.CoveredPrograms.{all_covered}
 use Rattle.lower.specs.Following.{ServesEverywhere}
+use Rattle.lower.specs.Keeping.{FitsMeasures, KeepsFlat, PaysFlat}
 use Rattle.lower.specs.Lowered.{entry_proc}
 use Rattle.lower.specs.MergedMeaning.{merged_meaning, MergedCasts}
 use Rattle.lower.specs.Sets.{merged_numbers, merged_procs, with_casts}
@@ -31,7 +37,7 @@ use Rattle.lower.proofs.MergedTags.{merged_casts_in_place}
 use Rattle.lower.proofs.MergedLaws.{merged_laws}
 use Rattle.lower.proofs.MergedParts.{merged_parts_given}
 use Rattle.lower.proofs.MergedProducts.{merged_products}
-use Rattle.lower.proofs.SimulationProgram.{words_follow_by}
+use Rattle.lower.proofs.SimulationProgram.{words_follow_by, words_keep_by}
 
 pub merged_procedures_serve : ServesEverywhere merged_meaning merged_procs merged_numbers
 merged_procedures_serve = λ setting l procs casts m first words measured placed begins small types held stand.
@@ -88,3 +94,19 @@ module _ (setting : Setting) (l : Layout) (words : List ℕ) (procs : List Proc)
       (λ shown counts x. objects_fill_the_region setting l x.0
       (record { memory = shown.memory; alloc = shown.alloc; words = shown.words }) is.placed typed held.tallest x.1)
       (λ shown counts x. tt) words_follow_procedures-storage
+
+-- within the account of the procedures
+pub words_keep_the_account : (setting : Setting) (l : Layout) (words : List ℕ) (procs : List Proc) (entry : ℕ)
+    (answer : TypeRow) (memory : Memory) (told : Told) (casts : List TypeCast) (m : Measures) (input : List ℕ)
+    → IsLowered setting l (with_casts (merged_numbers (suc (length procs))) words (cast_ways l.types casts)) procs
+    entry answer (merged_procs (suc (length procs))) memory → setting.top < 2 ^ 34 → setting.labels ≡ told.labels
+    → row_at told.types told.answer ≡ Some answer → told.types ≡ l.types → TypesStand l → FitsMeasures l m
+    → MergedCasts l casts words → is_closed procs entry ≡ true → all_covered procs ≡ true → AreNarrow procs
+    → NeverWrong (flat_run_in procs entry (merging told.types casts) told input)
+    → FollowsWithin (KeepsFlat setting) PaysFlat
+    (run (metered (low_price setting.procs) (low_machine ending_of setting))
+    (unspent (low_start setting (entry_proc entry answer) memory (first_world input))))
+    (flat_tally_in procs entry (merging told.types casts) (merged_prices told.types (merging told.types casts) m) told
+    input)
+words_keep_the_account =
+    words_keep_by merged_meaning merged_laws merged_procs merged_numbers merged_procedures_serve

@@ -2,14 +2,17 @@
 use Rattle.core_calc.specs.Account.{Measures}
 use Rattle.std.specs.Prelude.{max}
 use Rattle.std.proofs.Common.{le_refl, arith}
-use Rattle.lower.specs.Keeping.{FitsMeasures}
+use Rattle.lower.specs.Keeping.{FitsMeasures, KeepsFlat, PaysFlat}
 use Rattle.std.proofs.Common.{◌≡◌, ℕ, zero, suc, List, [], ◌∷◌, ◌++◌, length, Some, true, sym, ap, ◌∙◌, subst}
 use Rattle.std.proofs.Common.{slice_get, map}
 use Rattle.grift_base.specs.Types.{TypeRow, row_at}
+use Rattle.run_laws.specs.Accounts.{FollowsWithin}
 use Rattle.run_laws.specs.Runs.{Any, FollowsBy, NeverWrong}
 use Rattle.run_laws.specs.Machines.{run}
+use Rattle.run_laws.specs.Meters.{metered, unspent}
 use Rattle.rv_machine.specs.Mach.{ending_of}
 use Rattle.rv_machine.specs.Memory.{Memory}
+use Rattle.low_ir.specs.Prices.{low_price}
 use Rattle.low_ir.specs.Procedures.{Proc as LowProc}
 use Rattle.low_ir.specs.Run.{Setting, low_machine, low_start}
 use Rattle.coercion_norm.specs.AnswerTypes.{Told}
@@ -17,6 +20,7 @@ use Rattle.coercion_norm.specs.Modes.{TypeCast}
 use Rattle.flat_ir.specs.Bodies.{Proc}
 use Rattle.flat_ir.specs.Closed.{is_closed, takes_nothing, each_closed}
 use Rattle.flat_ir.specs.Counts.{flat_run_in}
+use Rattle.flat_ir.specs.FlatTally.{flat_tally_in}
 use Rattle.flat_ir.specs.Machine.{first_world}
 use Rattle.coercion_norm.specs.Held.{Layout, TypesStand}
 use Rattle.lower.specs.declared.served.Served.{Served}
@@ -26,11 +30,12 @@ use Rattle.lower.specs.CoveredPrograms.{all_covered}
 use Rattle.lower.specs.Meanings.{Meaning, MeaningLaws}
 use Rattle.lower.specs.Storage.{Passes}
 use Rattle.lower.specs.Sets.{StandFrom, with_casts}
-use Rattle.lower.specs.Following.{Serving, ServesEverywhere, WordsFollow}
+use Rattle.lower.specs.Following.{Serving, ServesEverywhere, WordsFollow, WordsKeep}
 use Rattle.lower.specs.SimulationClaims.{AreNarrow, IsLowered}
 use Rattle.lower.proofs.ClosingSets.{stand_behind}
 use Rattle.lower.proofs.HeapObjects.{none_some, same_some}
 use Rattle.lower.proofs.WordOperands.{and_true}
+use Rattle.lower.proofs.SimulationAccount.{words_keep}
 use Rattle.lower.proofs.SimulationWay.{Program}
 use Rattle.lower.proofs.SimulationTheorem.{words_follow}
 
@@ -92,6 +97,15 @@ module _ (meaning : Meaning) (laws : MeaningLaws meaning) (setting : Setting) (l
   unfolding program
   by_layout typed input never = words_follow program typed entry both.0 memory is.statics is.fits input never
 
+  keeps_by_layout : TypesStand l → (input : List ℕ)
+      → NeverWrong (flat_run_in procs entry (meaning.mode l.types casts) told input)
+      → FollowsWithin (KeepsFlat setting) PaysFlat
+      (run (metered (low_price setting.procs) (low_machine ending_of setting))
+      (unspent (low_start setting (entry_proc entry answer) memory (first_world input))))
+      (flat_tally_in procs entry (meaning.mode l.types casts) (meaning.prices l.types casts m) told input)
+  unfolding program
+  keeps_by_layout typed input never = words_keep program typed entry both.0 memory is.statics is.fits input never
+
 -- measures that fit a layout
 fitting : Layout → Measures
 fitting l = record { size = 0; height = l.tallest; width = max 2 l.width }
@@ -116,6 +130,25 @@ words_follow_by meaning laws procs_from numbers_from serves = λ setting l words
     (flat_run_in procs entry (meaning.mode rows casts) told input)) (sym types)
     (by_layout meaning laws setting l run_by procs entry answer (procs_from first) memory told casts is labels row
     closed covered narrow types (fitting l)
-    (serves setting l procs casts (fitting l) first words (it_fits l) is.placed is.begins small typed held stand)
-    typed input
+    (serves setting l procs casts (fitting l) first words (it_fits l) is.placed is.begins small typed held stand) typed
+    input
+    (subst (λ rows. NeverWrong (flat_run_in procs entry (meaning.mode rows casts) told input)) types never))
+
+pub words_keep_by : (meaning : Meaning) → MeaningLaws meaning → (procs_from : ℕ → List LowProc)
+    (numbers_from : ℕ → Served) → ServesEverywhere meaning procs_from numbers_from
+    → WordsKeep meaning procs_from numbers_from
+words_keep_by meaning laws procs_from numbers_from serves = λ setting l words procs entry answer memory told casts m
+    input is small labels row types typed fits held closed covered narrow never.
+    let first = suc (length procs) in
+    let run_by = with_casts (numbers_from first) words (cast_ways l.types casts) in
+    let stand : StandFrom setting.procs first (procs_from first) =
+    subst (λ ps. StandFrom ps first (procs_from first)) (sym is.procs_are)
+    (stand_behind run_by procs entry answer (procs_from first)) in
+    subst (λ rows. FollowsWithin (KeepsFlat setting) PaysFlat
+    (run (metered (low_price setting.procs) (low_machine ending_of setting))
+    (unspent (low_start setting (entry_proc entry answer) memory (first_world input))))
+    (flat_tally_in procs entry (meaning.mode rows casts) (meaning.prices rows casts m) told input)) (sym types)
+    (keeps_by_layout meaning laws setting l run_by procs entry answer (procs_from first) memory told casts is labels row
+    closed covered narrow types m
+    (serves setting l procs casts m first words fits is.placed is.begins small typed held stand) typed input
     (subst (λ rows. NeverWrong (flat_run_in procs entry (meaning.mode rows casts) told input)) types never))

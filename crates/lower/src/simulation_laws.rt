@@ -1,5 +1,5 @@
-//! The run over words follows the run of numbered procedures. A function here does nothing: its contract is a
-//! law, proved for all programs.
+//! The run over words follows the run of numbered procedures, and keeps within its account. A function here does
+//! nothing: its contract is a law, proved for all programs.
 
 ghost use Rattle.std.specs.Prelude.{◌≡◌, ◌<◌, ◌^◌, ℕ, suc, List, Some, length, true};
 ghost use Rattle.grift_base.specs.Types.{TypeRow, row_at};
@@ -18,7 +18,7 @@ ghost use Rattle.flat_ir.specs.Counts.{flat_run_in};
 ghost use Rattle.flat_ir.specs.Machine.{first_world};
 ghost use Rattle.lower.specs.CastWays.{cast_ways};
 ghost use Rattle.lower.specs.CoveredPrograms.{all_covered};
-ghost use Rattle.lower.specs.Following.{WordsFollow};
+ghost use Rattle.lower.specs.Following.{WordsFollow, WordsKeep};
 ghost use Rattle.lower.specs.Lowered.{entry_proc};
 ghost use Rattle.lower.specs.MergedMeaning.{MergedCasts};
 ghost use Rattle.lower.specs.Sets.{merged_numbers, merged_procs, with_casts};
@@ -32,6 +32,15 @@ use crate::schemes::Scheme;
 /// that fill the region up to the allocation word, and of the number of wrap steps at the moment that corresponds.
 pub fn words_follow<S: Scheme>(scheme: &S)
     ensures { WordsFollow (S.meaning scheme.now) (S.procs_from scheme.now) (S.numbers_from scheme.now) }
+{
+    scheme.serves();
+}
+
+/// It keeps within the account of that run, told any measures that fit the layout: at each moment it has asked for no
+/// more words than the numbered procedures had asked for when a turn began, and that turn asks for; and wherever it has
+/// come to what they have come to, or is exhausted on the way there, the prices of its steps are within their budgets.
+pub fn words_keep_the_account<S: Scheme>(scheme: &S)
+    ensures { WordsKeep (S.meaning scheme.now) (S.procs_from scheme.now) (S.numbers_from scheme.now) }
 {
     scheme.serves();
 }
