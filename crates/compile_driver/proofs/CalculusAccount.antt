@@ -1,13 +1,40 @@
 -- The run of an account is that of the calculus, and what one step adds to an account.
-use Rattle.std.proofs.Common.{◌≡◌, ℕ, zero, suc, ◌+◌, ◌<◌, ◌≤◌, List, Option, Some, None, refl, sym, ap, ◌∙◌, subst, arith, max}
+use Rattle.std.proofs.Common.{
+  ◌≡◌,
+  ℕ,
+  zero,
+  suc,
+  ◌+◌,
+  ◌<◌,
+  ◌≤◌,
+  List,
+  Option,
+  Some,
+  None,
+  refl,
+  sym,
+  ap,
+  ◌∙◌,
+  subst,
+  arith,
+}
 use Rattle.std.specs.Prelude.{option_map}
 use Rattle.grift_base.specs.Types.{TypeRows}
 use Rattle.grift_base.specs.declared.places.Pos.{Pos}
 use Rattle.grift_base.specs.declared.verdicts.Verdict.{Verdict}
 use Rattle.run_laws.specs.Runs.{Ending}
 use Rattle.run_laws.specs.Reductions.{Reduction, state_after, unless_ended}
-use Rattle.core_calc.specs.Account.{Account, Accounted, Measures, accounting, account, account_of, charge, first_account}
-use Rattle.core_calc.specs.Account.{kind_of_step, measures_of, next_account}
+use Rattle.core_calc.specs.Account.{
+  Account,
+  Accounted,
+  Measures,
+  accounting,
+  account,
+  account_of,
+  charge,
+  first_account,
+}
+use Rattle.core_calc.specs.Account.{kind_of_step, measures_of}
 use Rattle.core_calc.specs.Calculus.{CalcEnd, CalcState, Program, calculus, calc, start, ending_of}
 use Rattle.core_calc.specs.Redex.{where_some}
 

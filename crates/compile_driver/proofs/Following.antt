@@ -1,21 +1,44 @@
 -- An image follows the program that its source is, and whole objects fill its region at each moment.
-use Rattle.std.proofs.Common.{◌≡◌, ℕ, zero, suc, ◌+◌, ◌<◌, ◌≤◌, ◌^◌, true, List, [], ◌∷◌, ◌++◌, length, map, Some, refl, sym, ◌∙◌}
+use Rattle.std.proofs.Common.{
+  ◌≡◌,
+  ℕ,
+  zero,
+  suc,
+  ◌+◌,
+  ◌<◌,
+  ◌≤◌,
+  ◌^◌,
+  true,
+  List,
+  [],
+  ◌∷◌,
+  ◌++◌,
+  length,
+  map,
+  Some,
+  refl,
+  sym,
+  ◌∙◌,
+}
 use Rattle.std.proofs.Common.{ap, subst}
-use Rattle.std.proofs.Common.{slice_get, arith}
+use Rattle.std.proofs.Common.{slice_get, arith, le_refl}
 use Rattle.std.specs.Prelude.{All}
 use Rattle.std.proofs.lemmas.List.{length-map}
 use Rattle.std.proofs.lemmas.List.Elements.{All-nil, All-cons, All-head, All-tail}
 use Rattle.grift_base.specs.Types.{TypeRow, TypeRows, row_at}
 use Rattle.grift_base.specs.declared.words.Statics.{Statics}
 use Rattle.grift_base.specs.declared.verdicts.Verdict.{Verdict}
+use Rattle.run_laws.specs.Accounts.{FollowsWithin}
 use Rattle.run_laws.specs.Machines.{run}
-use Rattle.run_laws.specs.Runs.{Any, Follows, FollowsBy, NeverWrong, Run}
+use Rattle.run_laws.specs.Meters.{metered, unspent}
+use Rattle.run_laws.specs.Runs.{Any, Ending, Exhausted, Follows, FollowsBy, NeverWrong, Run}
 use Rattle.run_laws.proofs.Public.{follows_is_transitive, follows_of, follower_never_goes_wrong}
 use Rattle.rv_machine.specs.Memory.{first_address}
 use Rattle.rv_machine.specs.Image.{statics_len, code_len}
 use Rattle.rv_machine.specs.Mach.{ending_of, mach}
 use Rattle.rv_machine.specs.Start.{IsRegionSize, IsStackSize, fresh_world, start_of}
-use Rattle.rv_machine.specs.State.{State}
+use Rattle.rv_machine.specs.State.{State, Halt, Lacks, Stack}
+use Rattle.core_calc.specs.Account.{measures_of}
 use Rattle.core_calc.specs.Calculus.{Program, calc}
 use Rattle.core_calc.specs.Typing.{ProgramTermHasType}
 use Rattle.coercion_norm.specs.MergedMode.{merging}
@@ -37,6 +60,8 @@ use Rattle.closure_convert.specs.Conversion.{converted, made}
 use Rattle.closure_convert.specs.Programs.{HasNoFreeNames}
 use Rattle.closure_convert.proofs.Public.{procedures_follow_their_term-merged}
 use Rattle.closure_convert.proofs.Public.{procedures_of_program_terms_are_closed-names}
+use Rattle.flat_ir.specs.FlatTally.{flat_tally_in, merged_prices}
+use Rattle.low_ir.specs.Prices.{low_price}
 use Rattle.low_ir.specs.Procedures.{Proc}
 use Rattle.low_ir.specs.Run.{LowShown, Setting, low_machine, low_start}
 use Rattle.coercion_norm.specs.Held.{Layout}
@@ -45,11 +70,12 @@ use Rattle.lower.specs.declared.served.Served.{Served}
 use Rattle.lower.specs.CastWays.{cast_ways}
 use Rattle.lower.specs.CoveredPrograms.{all_covered}
 use Rattle.lower.specs.Lowered.{low_proc, entry_proc, lowered}
-use Rattle.lower.specs.SimulationClaims.{AreNarrow, StorageIsWhole}
+use Rattle.lower.specs.Keeping.{KeepsFlat, PaysFlat}
+use Rattle.lower.specs.SimulationClaims.{AreNarrow, IsLowered, StorageIsWhole}
 use Rattle.lower.specs.Serving.{all_narrow}
 use Rattle.lower.specs.Sets.{merged_numbers, merged_procs, with_casts}
-use Rattle.lower.proofs.Public.{words_follow_procedures-storage, procedures_are_narrow}
-use Rattle.reg_assign.specs.Images.{HasRegionOf, IsImageOfWords}
+use Rattle.lower.proofs.Public.{words_follow_procedures-storage, words_keep_the_account, procedures_are_narrow}
+use Rattle.reg_assign.specs.Images.{FollowsWords, HasRegionOf, IsImageOfWords}
 use Rattle.compile_driver.specs.Compiling.{FollowsProgram}
 use Rattle.compile_driver.specs.Space.{KeepsSpace, KeepsStorage}
 use Rattle.compile_driver.proofs.HeldCasts.{casts_held, tallest_low, width_of}
@@ -111,7 +137,7 @@ casts_within types nodes (row ∷ rows) h =
 -- ---- from numbered procedures to an image
 
 -- the procedure to begin with stands behind the flat ones
-entry_there : (xs : List Proc) (p : Proc) (rest : List Proc) (n : ℕ) → length xs ≡ n
+pub entry_there : (xs : List Proc) (p : Proc) (rest : List Proc) (n : ℕ) → length xs ≡ n
     → slice_get (xs ++ p ∷ rest) n ≡ Some p
 entry_there [] p rest zero e = refl
 entry_there [] p rest (suc n) e = cc
@@ -163,11 +189,11 @@ module _ {program : Program} {rows : List CastRow} {term : RowTerm} {answer : �
       tallest_low program.types types.heights types.low (row_casts rows)
 
   module _ (region stack : ℕ) (input : List ℕ) (r : IsRegionSize region) (s : IsStackSize stack) where
-    abbrev begin : State
+    abbrev pub begin : State
     begin = start_of image region stack (fresh_world input)
 
     -- what the run over words is told, where the machine is in its start state
-    abbrev set : Setting
+    abbrev pub set : Setting
     set = setting made_so.image_is made_so.statics_are made_so.words region stack r s (fresh_world input)
 
     abbrev l : Layout
@@ -180,6 +206,23 @@ module _ {program : Program} {rows : List CastRow} {term : RowTerm} {answer : �
     flat_run =
         flat_run_in (converted term) (made term) (merging program.types (row_casts rows)) (told_of program answer) input
 
+    -- the procedures that are lowered, where the program stands
+    lowered_here : IsLowered set l (with_casts (merged_numbers (suc (length (converted term)))) statics.cast_at
+        (cast_ways program.types (row_casts rows))) (converted term) (made term) row (serving (converted term))
+        begin.memory
+    lowered_here =
+        let is = made_so.image_is in
+        let at = made_so.statics_are in
+        let world = fresh_world input in
+        record {
+          procs_are = refl;
+          addresses = code_addresses is at made_so.words region stack r s world;
+          placed = are_placed is at made_so.words region stack r s world tallest;
+          begins = refl;
+          fits = omega arith;
+          statics = statics_hold is at made_so.words region stack r s world tallest;
+        }
+
     -- it follows the procedures, with whole objects in its region
     words_follow : FollowsBy (StorageIsWhole set l) Any words_run flat_run
     words_follow =
@@ -187,23 +230,41 @@ module _ {program : Program} {rows : List CastRow} {term : RowTerm} {answer : �
         let at = made_so.statics_are in
         let world = fresh_world input in
         words_follow_procedures-storage set l statics.cast_at (converted term) (made term) row begin.memory
-        (told_of program answer) (row_casts rows) input
-        (record {
-          procs_are = refl;
-          addresses = code_addresses is at made_so.words region stack r s world;
-          placed = are_placed is at made_so.words region stack r s world tallest;
-          begins = refl;
-          fits = omega arith;
-          statics = statics_hold is at made_so.words region stack r s world tallest;
-        })
+        (told_of program answer) (row_casts rows) input lowered_here
         (top_low is at made_so.words region stack r s world made_so.short) is.is_image.labels_are row_is refl
         (at.types_stand [] begin.layout.region tallest (width_of program.types) (no_wider program.types))
         (casts_held at made_so.coercions made_so.cast_words begin.layout.region low) made_so.closed made_so.covered
         made_so.narrow (follower_never_goes_wrong (flat_follows passed input))
 
-    -- and the machine follows it, with the same region
-    machine_follows : FollowsBy (HasRegionOf (begin.regs 25)) Any (mach image region stack input) words_run
-    machine_follows =
+    pub words_never_wrong : NeverWrong words_run
+    words_never_wrong = follower_never_goes_wrong (follows_of words_follow)
+
+    -- and within their account, where coercions are no higher than types
+    pub words_keep : tallest ≤ (measures_of program).height → FollowsWithin (KeepsFlat set) PaysFlat
+        (run (metered (low_price set.procs) (low_machine ending_of set))
+        (unspent (low_start set (entry_proc (made term) row) begin.memory begin.world)))
+        (flat_tally_in (converted term) (made term) (merging program.types (row_casts rows))
+        (merged_prices program.types (merging program.types (row_casts rows)) (measures_of program))
+        (told_of program answer) input)
+    words_keep tall =
+        let is = made_so.image_is in
+        let at = made_so.statics_are in
+        let world = fresh_world input in
+        words_keep_the_account set l statics.cast_at (converted term) (made term) row begin.memory
+        (told_of program answer) (row_casts rows) (measures_of program) input lowered_here
+        (top_low is at made_so.words region stack r s world made_so.short) is.is_image.labels_are row_is refl
+        (at.types_stand [] begin.layout.region tallest (width_of program.types) (no_wider program.types))
+        (record { wide = le_refl (width_of program.types); some = omega arith; tall = tall })
+        (casts_held at made_so.coercions made_so.cast_words begin.layout.region low) made_so.closed made_so.covered
+        made_so.narrow (follower_never_goes_wrong (flat_follows passed input))
+
+    -- the machine follows the run over words under each reading of stops by which want of stack is exhausted
+    pub image_runs : (reading : Halt → Ending Verdict) → reading (Lacks Stack) ≡ Exhausted
+        → NeverWrong (run (low_machine reading set)
+        (low_start set (entry_proc (made term) row) begin.memory begin.world))
+        → FollowsWords reading set.procs (low_machine reading set)
+        (low_start set (entry_proc (made term) row) begin.memory begin.world) begin
+    image_runs reading lacks never =
         let is = made_so.image_is in
         let at = made_so.statics_are in
         let world = fresh_world input in
@@ -212,10 +273,12 @@ module _ {program : Program} {rows : List CastRow} {term : RowTerm} {answer : �
         let served = run_by procs statics (cast_ways program.types (row_casts rows)) in
         let there = entry_there (map (low_proc served) procs) first (serving procs) (length procs)
         (length-map procs (low_proc served)) in
-        let words = is.runs ending_of refl first (told is at made_so.words region stack r s world) region stack world
-        (runs_in is at made_so.words region stack r s world first there)
-        (follower_never_goes_wrong (follows_of words_follow)) in
-        words.follows
+        is.runs reading lacks first (told is at made_so.words region stack r s world) region stack world
+        (runs_in is at made_so.words region stack r s world first there) never
+
+    -- with the same region
+    machine_follows : FollowsBy (HasRegionOf (begin.regs 25)) Any (mach image region stack input) words_run
+    machine_follows = (image_runs ending_of refl words_never_wrong).follows
 
     pub follows : Follows (mach image region stack input) (calc program input)
     follows =

@@ -67,7 +67,8 @@ module _ {image : List ℕ} {procs : List Proc} {entry : ℕ} {statics : Statics
   abbrev l : Layout
   l = layout is placed words region stack region_size stack_size (fresh_world input) tallest
 
-  module _ (s : State) (shown : LowShown) (lays : s.layout ≡ begin.layout) (shares : HasRegionOf (begin.regs 25) s shown)
+  module _ (s : State) (shown : LowShown) (lays : s.layout ≡ begin.layout)
+      (shares : HasRegionOf (begin.regs 25) s shown)
     where
       -- the machine's memory tells the words of the region and of the statics
       says : (at w : ℕ) → at % 8 ≡ 0 → 65536 ≤ at → at + 8 ≤ shown.alloc → HasWord shown.memory at w
@@ -80,7 +81,8 @@ module _ {image : List ℕ} {procs : List Proc} {entry : ℕ} {statics : Statics
           let test : ((at % 8 == 0) && (nat_le first_address at && nat_le (at + 8) s.layout.end)) ≡ true
           = grind (arith, even, above, fits) in
           ap (λ b. if b then Some (load_bytes 8 s.memory at) else None) test
-          ∙ ap Some (load_same 8 s.memory shown.memory at at (λ i less. shares.memory (at + i) (omega (arith, less, le)))
+          ∙ ap Some (load_same 8 s.memory shown.memory at at (λ i less. shares.memory (at + i)
+          (omega (arith, less, le)))
           ∙ h.is)
 
       pub kept : (objects : List Object)

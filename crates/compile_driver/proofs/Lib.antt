@@ -13,4 +13,5 @@ mod CalculusAccount
 mod Raised
 mod Stopping
 pub mod Following
+pub mod ImageAccount
 mod Compiled

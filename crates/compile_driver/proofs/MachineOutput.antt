@@ -1,14 +1,30 @@
 -- The machine never takes output back, and its stops are told alike by every reading.
-use Rattle.std.proofs.Common.{◌≡◌, ℕ, ℤ, zero, suc, ◌+◌, ◌%◌, ◌==◌, ◌&&◌, Bool, true, false, List, [], ◌++◌, Option, Some, option_map}
-use Rattle.std.proofs.Common.{if◌then◌else◌, None, length, refl, sym, ap, ◌∙◌, subst, append-nil, nat_le, nat_lt, slice_get, pos}
-use Rattle.grift_base.specs.EnvironmentCall.{environment_call, Called, ends, traps, reads}
+use Rattle.std.proofs.Common.{
+  ◌≡◌,
+  ℕ,
+  ℤ,
+  zero,
+  suc,
+  ◌+◌,
+  ◌%◌,
+  ◌==◌,
+  ◌&&◌,
+  Bool,
+  true,
+  false,
+  List,
+  Option,
+  Some,
+  option_map,
+}
+use Rattle.std.proofs.Common.{if◌then◌else◌, None, length, refl, ap, nat_le, nat_lt, slice_get}
+use Rattle.grift_base.specs.EnvironmentCall.{environment_call, Called}
 use Rattle.grift_base.specs.Reading.{next_number, after_reading}
 use Rattle.grift_base.specs.World.{WorldState}
 use Rattle.grift_base.specs.declared.places.Pos.{Pos}
 use Rattle.grift_base.specs.declared.worlds.EnvEffect.{EnvEffect}
 use Rattle.grift_base.specs.declared.worlds.EnvEffect.TheVariants.{Next as GoesOn, Ended as Answers, Blamed, Trapped}
 use Rattle.grift_base.specs.declared.worlds.EnvEffect.TheVariants.{RegionOut, StackOut, Refused, OutOfMemory}
-use Rattle.grift_base.specs.declared.verdicts.Verdict.{Verdict as Outcome}
 use Rattle.run_laws.specs.Runs.{Ending, IsPrefix}
 use Rattle.run_laws.specs.Machines.{Go, Stop, OnlyAddsOutput, run, seen, and_then, steps}
 use Rattle.run_laws.proofs.Public.{prefix_refl}

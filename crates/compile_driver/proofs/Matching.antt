@@ -125,7 +125,8 @@ module _ (types : TypeRows) (type_at : ℕ → ℕ) (nodes : List Node) (coercio
   pub statics_fit : Fit (static_objects types type_at nodes coercion_at (length nodes)) (static_headers types nodes)
   statics_fit =
       fit_append (up_to (λ type. object_of_type types type_at type ∷ []) (length types))
-      (up_to (objects_of_place types type_at nodes coercion_at) (length nodes)) (up_to (type_headers types) (length types))
+      (up_to (objects_of_place types type_at nodes coercion_at) (length nodes))
+      (up_to (type_headers types) (length types))
       (up_to (λ c. coercion_headers types (tree_of nodes c)) (length nodes))
       (fit_up_to (λ type. object_of_type types type_at type ∷ []) (type_headers types) (length types)
       (λ type. (length-map (parts_of (rows_of types type)) type_at, tt)))

@@ -1,7 +1,7 @@
 -- A run with a meter that has begun higher shows as much more, and following within accounts with a meter on each side.
-use Rattle.std.proofs.Common.{◌≡◌, ◌≢◌, ◌⊎◌, inl, inr, ℕ, zero, suc, ◌+◌, ◌*◌, ◌≤◌, Option, Some, None, refl, sym, ap}
-use Rattle.std.proofs.Common.{◌∙◌, subst, arith}
-use Rattle.run_laws.specs.Accounts.{FollowsWithin, KeepsBudget, ComesWithin}
+use Rattle.std.proofs.Common.{◌≡◌, ◌≢◌, ◌⊎◌, inl, inr, ℕ, zero, suc, ◌+◌, ◌≤◌, Option, Some, None, refl, sym}
+use Rattle.std.proofs.Common.{subst, arith}
+use Rattle.run_laws.specs.Accounts.{FollowsWithin, ComesWithin}
 use Rattle.run_laws.specs.Runs.{Ending, Verdict, Exhausted, Wrong, Moment, Run, NeverWrong, Any, EndsAs, HasVerdictOf}
 use Rattle.run_laws.specs.Runs.{FollowsBy, Through}
 use Rattle.run_laws.specs.Machines.{Next, Go, Stop, Machine, and_then, steps, seen, run, OnlyAddsOutput}
@@ -66,10 +66,18 @@ module _ {S A V : Type 0} (work : S → ℕ) (M : Machine S A V) (extra : ℕ) w
   raised_follows m never = record {
     back = λ n. let a = raised_at n m in (
       n,
-      (record { output = a.output; shown = a.rest }, ends_so _ _ (metered_never_wrong M work (raised m) never n) a.ending),
+      (
+        record { output = a.output; shown = a.rest },
+        ends_so _ _ (metered_never_wrong M work (raised m) never n)
+            a.ending,
+      ),
     );
-    forth = λ n. let a = raised_at n m in (n, a.spent, meets n a (reached_so _ _
-        (metered_never_wrong M work (raised m) never n) a.ending));
+    forth = λ n. let a = raised_at n m in (
+      n,
+      a.spent,
+      meets n a (reached_so _ _
+          (metered_never_wrong M work (raised m) never n) a.ending),
+    );
   }
     where
       meets : (n : ℕ) → Raised (run (metered work M) (raised m) n) (run (metered work M) m n)

@@ -1,6 +1,24 @@
 -- A run over words is the same however stops are read, but for how it has ended.
-use Rattle.std.proofs.Common.{◌≡◌, ◌≢◌, ◌⊎◌, ℕ, zero, suc, ◌+◌, ◌*◌, Bool, true, false, List, [], ◌∷◌, length, Option, Some, None}
-use Rattle.std.proofs.Common.{refl, sym, ap, ◌∙◌, subst, slice_get}
+use Rattle.std.proofs.Common.{
+  ◌≡◌,
+  ◌≢◌,
+  ℕ,
+  zero,
+  suc,
+  ◌+◌,
+  ◌*◌,
+  Bool,
+  true,
+  false,
+  List,
+  [],
+  ◌∷◌,
+  length,
+  Option,
+  Some,
+  None,
+}
+use Rattle.std.proofs.Common.{refl, ap, subst, slice_get}
 use Rattle.std.specs.Prelude.{nat_le, nat_lt, ◌==◌, ◌&&◌, if◌then◌else◌, ◌%◌, ◌^◌, pos}
 use Rattle.grift_base.specs.EnvironmentCall.{environment_call}
 use Rattle.grift_base.specs.declared.verdicts.Verdict.{Verdict as Outcome}
@@ -12,15 +30,13 @@ use Rattle.run_laws.specs.Runs.{Ending, Wrong, NeverWrong, Moment}
 use Rattle.run_laws.specs.Machines.{Next, Go, Stop, and_then, steps, seen, run}
 use Rattle.rv_machine.specs.State.{Halt, Ended, Lacks, Room, Region}
 use Rattle.rv_machine.specs.Turn.{plus}
-use Rattle.rv_machine.specs.Real.{holds}
-use Rattle.low_ir.specs.declared.code.LowSource.{LowSource}
 use Rattle.low_ir.specs.Operations.{compute}
 use Rattle.low_ir.specs.Procedures.{Code, Done, Set, Compute, Load, Store, CodeOf, Build, Request, Take, Environment}
 use Rattle.low_ir.specs.Procedures.{Call, CallAt, If, Return, TailCall, TailCallAt, Proc}
 use Rattle.low_ir.specs.Steps.{given, only_if, settle, Effect, Goes, Halts, Lost, blame_of, effect_of, may_load}
 use Rattle.low_ir.specs.Steps.{may_store}
 use Rattle.low_ir.specs.Run.{Setting, Waiting, LowState, LowShown, word_of, words_of, proc_from, goes_on, low_machine}
-use Rattle.low_ir.specs.Run.{sets, enter, enter_some, waits, answers, falls, load, store, request, take_words, build}
+use Rattle.low_ir.specs.Run.{sets, enter, enter_some, waits, answers, falls, build}
 use Rattle.low_ir.specs.Run.{call_environment, code_step, set_both}
 
 module _ {V V' : Type 0} (one : Halt → Ending V) (other : Halt → Ending V')
@@ -48,7 +64,8 @@ module _ {V V' : Type 0} (one : Halt → Ending V) (other : Halt → Ending V')
 
   enter_same : (ws : List ℕ) (s : LowState) (p : Proc)
       → SameNext (enter one setting ws s p) (enter other setting ws s p)
-  enter_same ws s p = only_if_same s ((length ws == p.params) && (nat_le p.params 8 && nat_le p.params p.words)) _ _ refl
+  enter_same ws s p = only_if_same s ((length ws == p.params) && (nat_le p.params 8 && nat_le p.params p.words)) _ _
+      refl
 
   enter_some_same : (p : Option Proc) (ws : List ℕ) (s : LowState)
       → SameNext (enter_some one setting p ws s) (enter_some other setting p ws s)
@@ -124,7 +141,8 @@ module _ {V V' : Type 0} (one : Halt → Ending V) (other : Halt → Ending V')
       only_if_same (goes_on rest s.active.rests s) (may_store setting.region setting.top (plus x (pos offset))) _ _
       refl))
   step_same (CodeOf d k rest) s =
-      given_same s (slice_get setting.procs k) _ _ (λ p. sets_same d (setting.address k) (goes_on rest s.active.rests s))
+      given_same s (slice_get setting.procs k) _ _ (λ p. sets_same d (setting.address k)
+      (goes_on rest s.active.rests s))
   step_same (Build d args rest) s =
       given_same s (words_of s.active.locals args) _ _ (λ ws. build_same d ws (goes_on rest s.active.rests s))
   step_same (Request d a rest) s =

@@ -1,5 +1,5 @@
 -- Where the machine has stopped for want of region, the account that the run over words keeps within says why.
-use Rattle.std.proofs.Common.{◌≡◌, ◌≢◌, ℕ, ◌≤◌, false, List, Option, Some, refl, sym, ap, ◌∙◌, subst, slice_get}
+use Rattle.std.proofs.Common.{◌≡◌, ◌≢◌, ℕ, ◌≤◌, false, List, Some, sym, ◌∙◌, subst, slice_get}
 use Rattle.grift_base.specs.World.{WorldState}
 use Rattle.grift_base.specs.declared.verdicts.Verdict.{Verdict as Outcome}
 use Rattle.run_laws.specs.Accounts.{FollowsWithin}
@@ -48,7 +48,8 @@ module _ {A B C : Type 0} (reading : Halt → Ending Outcome)
   reason wanting want ordered there quiet f g h m stops =
       let a = f.back m in
       let n = a.0 in
-      let ends = subst (λ e. Rattle.run_laws.specs.Runs.EndsAs e (run (low_machine reading setting) start n).ending) stops
+      let ends = subst (λ e. Rattle.run_laws.specs.Runs.EndsAs e (run (low_machine reading setting) start n).ending)
+      stops
       a.1.1 in
       let counts = words_are_counted_where_they_are_taken reading setting entry p memory world n ordered there in
       let agree = readings_agree reading ending_of answered lacking setting n start in

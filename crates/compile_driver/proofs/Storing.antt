@@ -454,7 +454,8 @@ module _ (setting : Setting) (l : Layout) (objects : List Object) (heap : Heap) 
           let lt = word_low l first wg y word in
           let tall = types.low type in
           let one = both (begin + 8) wg (omega (arith, even)) (omega (arith, above)) (omega (arith, le)) w.0.1.0 in
-          let two = both (begin + 8 + 8) wt (omega (arith, even)) (omega (arith, above)) (omega (arith, le)) w.0.1.1.0 in
+          let two = both (begin + 8 + 8) wt (omega (arith, even)) (omega (arith, above))
+          (omega (arith, le)) w.0.1.1.0 in
           plain begin o InjectObject (max y (height_in l type)) 2 (ap header_of e) (omega (arith, lt, tall))
           (record { no_dyn = λ z. cc; no_proxy = λ z. cc }) (
             coercion_leads first (o ∷ rest) is (begin + 8) wg y one word,
@@ -482,7 +483,8 @@ module _ (setting : Setting) (l : Layout) (objects : List Object) (heap : Heap) 
           let w = words_here (header 2 0 2) (wa ∷ wc ∷ []) e in
           let le = w.1 in
           let one = both (begin + 8) wa (omega (arith, even)) (omega (arith, above)) (omega (arith, le)) w.0.1.0 in
-          let two = both (begin + 8 + 8) wc (omega (arith, even)) (omega (arith, above)) (omega (arith, le)) w.0.1.1.0 in
+          let two = both (begin + 8 + 8) wc (omega (arith, even)) (omega (arith, above))
+          (omega (arith, le)) w.0.1.1.0 in
           let target = stands first (o ∷ rest) is wa solid.object solid.there in
           let middle = Fixed (header (kind_number kind) y (length ws)) ws in
           let coercion = stands first (o ∷ rest) is wc middle there in

@@ -17,7 +17,8 @@ use Rattle.coer_core.specs.Programs.{tallest_of}
 use Rattle.front_end.specs.Texts.{ElaboratesTo, HasOutcome, IsProgramOf}
 use Rattle.compile_driver.specs.declared.compiling.Compiled.{Compiled}
 
--- the program of the calculus that the text is: it elaborates to this term, over these types and labels, and the term is
+-- the program of the calculus that the text is: it elaborates to this term, over these types and labels, and the term
+-- is
 -- a program term
 pub record HasProgram (text : List ℕ) (program : Program) : Type 0 where
   pub type : ℕ

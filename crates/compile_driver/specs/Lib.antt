@@ -2,3 +2,4 @@ pub mod Parts
 pub mod Compiling
 pub mod Space
 pub mod Words
+pub mod Bounds

@@ -49,7 +49,8 @@ module _ (stored : Stored) where
     pub kind_is : kind_of header.kind ≡ Some kind
     pub type : is_type kind ≡ true
 
-  -- where a word leads that has to be this: a target begins an object, and so does a proxy's coercion, which is never 0;
+  -- where a word leads that has to be this: a target begins an object, and so does a proxy's coercion, which is never
+  -- 0;
   -- each other coercion begins one or is 0, and the address of a type begins a type of the statics
   abbrev pub Leads : Wanted → ℕ → Type 0
   Leads Anything word = Unit {0}
@@ -65,7 +66,8 @@ module _ (stored : Stored) where
     LeadFrom at (wanted ∷ rest) =
         ((word : ℕ) → memory at ≡ Some word → Leads wanted word) × LeadFrom (at + 8) rest
 
-    -- Told where the statics and the objects of the region end: both are rows of whole objects, and those of the statics
+    -- Told where the statics and the objects of the region end: both are rows of whole objects, and those of the
+    -- statics
     -- are of types and coercions. Of an object of the region the words lead to objects. A value in Dyn keeps a type of
     -- the statics. No proxy has a proxy as its target, nor a coercion that is higher than the tallest.
     pub record IsStored (types : TypeRows) (tallest statics_end filled_end : ℕ) : Type 0 where

@@ -8,6 +8,7 @@ ghost use Rattle.core_calc.specs.Views.{term_of};
 ghost use Rattle.cast_insert.specs.Views.{entries_of, entry_of};
 ghost use Rattle.front_end.specs.Placed.{IsPlaced, any_operator};
 ghost use Rattle.front_end.specs.Texts.{IsFault};
+ghost use Rattle.compile_driver.specs.Bounds.{KeepsAccount};
 ghost use Rattle.compile_driver.specs.Compiling.{FollowsProgram, HasProgram, IsTold, program_of};
 ghost use Rattle.compile_driver.specs.Compiling.{program_over, tallest_in};
 ghost use Rattle.compile_driver.specs.Parts.{HasWords};
@@ -118,6 +119,7 @@ fn made_of(alloc: Global, types: &TypeTable, elab: &Elab) -> Result<Made, OutOfM
     ensures tallest { IfOk result (λ made. made.tallest ≡ tallest_in (program_over types.now elab.now)) }
     ensures follows { IfOk result (λ made. FollowsProgram made.image (program_over types.now elab.now)) }
     ensures space { IfOk result (λ made. KeepsSpace made.image types.now made.tallest) }
+    ensures account { IfOk result (λ made. KeepsAccount made.image (program_over types.now elab.now)) }
 {
     let words = words_over(alloc, types, elab)?;
     let image = image_of(alloc, &words.low, &elab.labels)?;
@@ -146,7 +148,9 @@ pub fn words_of(alloc: Global, text: &[u8]) -> Result<LowProgram, FrontFault>
 /// Compiles a source: it is read, parsed and elaborated, casts become coercions, functions become procedures, and these
 /// become words and instructions. The image follows the source's program, for every region, stack and input, and after
 /// each instruction whole objects fill the region, no proxy stands on a proxy, and no proxy's coercion is higher than
-/// the tallest of the casts. A source is refused exactly as it is read, parsed or elaborated.
+/// the tallest of the casts. It lacks region only where the account of the program has more words than the region, and
+/// within 64 instructions for each unit of the account's work it comes to what the program comes to, or is exhausted. A
+/// source is refused exactly as it is read, parsed or elaborated.
 pub fn compile(alloc: Global, text: &[u8]) -> Result<Compiled, FrontFault>
     requires { length text.now ≤ source_limit }
     ensures source { IfOk result (λ compiled. HasProgram text.now (program_of compiled)) }
@@ -154,6 +158,7 @@ pub fn compile(alloc: Global, text: &[u8]) -> Result<Compiled, FrontFault>
     ensures whole { IfOk result (λ compiled. IsImage compiled.image) }
     ensures follows { IfOk result (λ compiled. FollowsProgram compiled.image (program_of compiled)) }
     ensures space { IfOk result (λ compiled. KeepsSpace compiled.image compiled.types compiled.tallest) }
+    ensures account { IfOk result (λ compiled. KeepsAccount compiled.image (program_of compiled)) }
     ensures refused { IfErr result (IsFault text.now) }
 {
     let done = elaborate_text(alloc, text)?;

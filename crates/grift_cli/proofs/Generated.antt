@@ -18,6 +18,7 @@ use Rattle.cast_insert.specs.Views.{entries_of, entry_of}
 use Rattle.cast_insert.specs.declared.casts.CastEntry.{CastEntry}
 use Rattle.front_end.specs.Texts.{HasOutcome, IsFault}
 use Rattle.front_end.proofs.Public.{a_text_has_one_outcome-one}
+use Rattle.compile_driver.specs.Bounds.{KeepsAccount}
 use Rattle.compile_driver.specs.Compiling.{FollowsProgram, HasProgram, IsTold, program_of}
 use Rattle.compile_driver.specs.declared.compiling.Compiled.{Compiled}
 use Rattle.grift_gen.specs.Family.{family_text}
@@ -59,13 +60,15 @@ told_program text compiled source told = record {
 -- the program of a number was compiled
 abbrev is_generated : (number : ℕ) (compiled : Compiled) → HasProgram (family_text number) (program_of compiled)
     → IsTold (family_text number) compiled → IsImage compiled.image
-    → FollowsProgram compiled.image (program_of compiled) → IsGenerated number compiled.image
-is_generated number compiled source told whole follows = record {
+    → FollowsProgram compiled.image (program_of compiled) → KeepsAccount compiled.image (program_of compiled)
+    → IsGenerated number compiled.image
+is_generated number compiled source told whole follows account = record {
   compiled = record {
     program = program_of compiled;
     source = told_program (family_text number) compiled source told;
     whole = whole;
     follows = follows;
+    account = account;
   };
   expression = told.source;
   forms = compiled.forms;
@@ -84,34 +87,36 @@ same_numbers source forms casts entries output bytes e f = λ k. numbers_text so
 run_generated : (number : ℕ) (compiled : Compiled) (out : SinkSeen) (report : Report)
     → HasProgram (family_text number) (program_of compiled) → IsTold (family_text number) compiled
     → IsImage compiled.image → FollowsProgram compiled.image (program_of compiled)
+    → KeepsAccount compiled.image (program_of compiled)
     → PutsNumbers compiled.image (numbers_text (length (family_text number)) compiled.forms
     (length (entries_of compiled.elab.casts))) out report
     → Generates number out report
-run_generated number compiled out (HasVerdict verdict) source told whole follows x = record {
+run_generated number compiled out (HasVerdict verdict) source told whole follows account x = record {
   image = compiled.image;
-  generated = is_generated number compiled source told whole follows;
+  generated = is_generated number compiled source told whole follows account;
   verdict_is = x.0;
   meant = comes_to default_limits compiled.image [] (program_of compiled) verdict default_region default_stack follows
       x.0;
   lines_put = x.1;
 }
-run_generated number compiled out PutFailed source told whole follows x = record {
+run_generated number compiled out PutFailed source told whole follows account x = record {
   image = compiled.image;
-  generated = is_generated number compiled source told whole follows;
+  generated = is_generated number compiled source told whole follows account;
   fails = x;
 }
-run_generated number compiled out NoMemory source told whole follows x = x
-run_generated number compiled out report source told whole follows x = absurd x
+run_generated number compiled out NoMemory source told whole follows account x = x
+run_generated number compiled out report source told whole follows account x = absurd x
 
 pub generates : (number size : ℕ) (text : List ℕ) (compiled : Compiled) (out : SinkSeen) (report : Report)
     → text ≡ family_text number → size ≡ length text → HasProgram text (program_of compiled) → IsTold text compiled
     → IsImage compiled.image → FollowsProgram compiled.image (program_of compiled)
+    → KeepsAccount compiled.image (program_of compiled)
     → PutsNumbers compiled.image (numbers_text size compiled.forms (length (entries_of compiled.elab.casts))) out report
     → Generates number out report
-generates number size text compiled out report e l source told whole follows x =
+generates number size text compiled out report e l source told whole follows account x =
     run_generated number compiled out report
     (subst (λ (xs : List ℕ). HasProgram xs (program_of compiled)) e source)
-    (subst (λ (xs : List ℕ). IsTold xs compiled) e told) whole follows
+    (subst (λ (xs : List ℕ). IsTold xs compiled) e told) whole follows account
     (subst (λ (n : ℕ). PutsNumbers compiled.image (numbers_text n compiled.forms
     (length (entries_of compiled.elab.casts))) out report) (l ∙ ap length e) x)
 

@@ -26,6 +26,7 @@ use Rattle.rv_machine.specs.Mach.{mach, moment_of}
 use Rattle.rv_machine.proofs.Public.{run_is_its_turns-states}
 use Rattle.front_end.specs.Texts.{IsFault}
 use Rattle.cast_insert.specs.Making.{Entry}
+use Rattle.compile_driver.specs.Bounds.{KeepsAccount}
 use Rattle.compile_driver.specs.Compiling.{FollowsProgram, HasProgram, IsTold, program_of, tallest_in}
 use Rattle.compile_driver.specs.Space.{KeepsSpace}
 use Rattle.compile_driver.specs.declared.compiling.Compiled.{Compiled}
@@ -165,9 +166,9 @@ abbrev pub is_compiled : (call : CallSeen) (file : List ℕ) (limits : Limits) (
     (space : Bool) (name : Option (List ℕ)) (text input : List ℕ) (compiled : Compiled)
     → HasLoaded call (Run file limits input_name space name) text input → HasProgram text (program_of compiled)
     → IsTold text compiled → IsImage compiled.image → FollowsProgram compiled.image (program_of compiled)
-    → KeepsSpace compiled.image compiled.types compiled.tallest
+    → KeepsSpace compiled.image compiled.types compiled.tallest → KeepsAccount compiled.image (program_of compiled)
     → IsCompiled call limits space compiled.image input
-is_compiled call file limits input_name space name text input compiled l source told whole follows keeps = record {
+is_compiled call file limits input_name space name text input compiled l source told whole follows keeps account = record {
   file = file;
   input_name = input_name;
   name = name;
@@ -178,6 +179,7 @@ is_compiled call file limits input_name space name text input compiled l source 
   whole = whole;
   follows = follows;
   keeps = subst (KeepsSpace compiled.image compiled.types) told.tallest keeps;
+  account = account;
 }
 
 -- the image of the source is run

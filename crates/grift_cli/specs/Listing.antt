@@ -9,6 +9,7 @@ use Rattle.core_calc.specs.Terms.{Term}
 use Rattle.cast_insert.specs.Making.{Entry}
 use Rattle.cast_insert.specs.Outcomes.{Elaborates}
 use Rattle.front_end.specs.Texts.{HasOutcome}
+use Rattle.compile_driver.specs.Bounds.{KeepsAccount}
 use Rattle.compile_driver.specs.Compiling.{HasProgram, FollowsProgram}
 use Rattle.listing.specs.CastLines.{cast_listing}
 use Rattle.listing.specs.CodeLines.{code_listing}
@@ -31,12 +32,14 @@ pub record ListsCasts (text lines : List ℕ) : Type 0 where
   pub elaborated : HasOutcome text (Elaborates term type types labels casts)
   pub lines_are : lines ≡ cast_listing types labels casts
 
--- the text is the source of a program, whose term is a program term, and which this image follows
+-- the text is the source of a program, whose term is a program term, and which this image follows, within the
+-- program's account
 pub record IsImageOf (text image : List ℕ) : Type 0 where
   pub program : Program
   pub source : HasProgram text program
   pub whole : IsImage image
   pub follows : FollowsProgram image program
+  pub account : KeepsAccount image program
 
 -- what is seen of an image: the listing of its code, or its bytes
 abbrev pub seen_by : View → List ℕ → List ℕ

@@ -9,6 +9,7 @@ use Rattle.core_calc.specs.Calculus.{Program}
 use Rattle.assembler.specs.Faults.{IsFirstFault}
 use Rattle.cast_insert.specs.Outcomes.{IsRefused as IsRefusedText}
 use Rattle.front_end.specs.Texts.{HasOutcome}
+use Rattle.compile_driver.specs.Bounds.{KeepsAccount}
 use Rattle.compile_driver.specs.Compiling.{HasProgram, FollowsProgram, tallest_in}
 use Rattle.compile_driver.specs.Space.{KeepsSpace}
 use Rattle.grift_cli.specs.Runs.{run_within, printed, printed_after, verdict_of_run, fault_of_run, ComesTo}
@@ -75,7 +76,8 @@ pub record IsRefused (call : CallSeen) (refusal : Refusal) : Type 0 where
 -- ---- a source that is compiled and run
 
 -- the text is the source of a program, whose term is a program term, and which this image follows, with storage as it
--- has to be at each instruction; it is to be run within these limits on this input, with or without lines on storage
+-- has to be at each instruction, and within the program's account; it is to be run within these limits on this input,
+-- with or without lines on storage
 pub record IsCompiled (call : CallSeen) (limits : Limits) (space : Bool) (image input : List ℕ) : Type 0 where
   pub file : List ℕ
   pub input_name : Option (List ℕ)
@@ -87,6 +89,7 @@ pub record IsCompiled (call : CallSeen) (limits : Limits) (space : Bool) (image 
   pub whole : IsImage image
   pub follows : FollowsProgram image program
   pub keeps : KeepsSpace image program.types (tallest_in program)
+  pub account : KeepsAccount image program
 
 -- the image was put whole, the verdict of its run on the input is this one, which is what the program comes to on it,
 -- and what it prints was put whole

@@ -1,4 +1,4 @@
-use Rattle.std.proofs.Common.{◌≡◌, ◌+◌, ◌≤◌, ◌^◌, sym, subst, rules}
+use Rattle.std.proofs.Common.{◌+◌, ◌≤◌, ◌^◌, sym, subst, rules}
 use Rattle.rv_machine.specs.Image.{statics_len, code_len}
 use Rattle.compile_driver.specs.Space.{KeepsSpace}
 use Rattle.compile_driver.proofs.compiling.made_of.Goals as goal
@@ -19,3 +19,8 @@ returns-clause-space c =
     let short : statics_len c.in_ok-image.image + code_len c.in_ok-image.image ≤ 2 ^ 33 = search rules in
     subst (λ n. KeepsSpace c.in_ok-image.image c.args.types.now n) (sym c.in_ok-words.ensures.tallest)
     (c.in_ok-words.ensures.stands.images c.in_ok-image.image c.in_ok-image.ensures short).1
+
+pub returns-clause-account : goal.returns-clause-account
+returns-clause-account c =
+    let short : statics_len c.in_ok-image.image + code_len c.in_ok-image.image ≤ 2 ^ 33 = search rules in
+    (c.in_ok-words.ensures.stands.images c.in_ok-image.image c.in_ok-image.ensures short).2

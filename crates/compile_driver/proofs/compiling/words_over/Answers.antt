@@ -11,6 +11,13 @@ use Rattle.cast_insert.specs.Views.{entries_of}
 use Rattle.front_end.specs.Placed.{IsPlaced, any_operator}
 use Rattle.front_end.proofs.Public.{program_type_there}
 use Rattle.lower.specs.Serving.{all_have_words}
+use Rattle.run_laws.specs.Accounts.{FollowsWithin}
+use Rattle.core_calc.specs.Account.{account, measures_of}
+use Rattle.coercion_norm.specs.MergedMode.{merging}
+use Rattle.coer_core.specs.Counts.{told_of}
+use Rattle.flat_ir.specs.FlatTally.{FlatBelow, FlatPaidBelow, flat_tally_in, merged_prices}
+use Rattle.flat_ir.specs.Views.{procs_of as procs_of_flat}
+use Rattle.closure_convert.specs.Conversion.{made}
 use Rattle.low_ir.specs.Closed.{is_closed}
 use Rattle.low_ir.specs.Views.{procs_of}
 use Rattle.reg_assign.specs.Images.{IsImageOfWords}
@@ -27,6 +34,7 @@ use Rattle.compile_driver.specs.Space.{KeepsSpace}
 use Rattle.compile_driver.proofs.Covered.{covers_all, is_covered, words_for_all}
 use Rattle.compile_driver.proofs.Following.{HasPassed, are_made, casts_within, follows_program, keeps_space}
 use Rattle.compile_driver.proofs.Following.{no_names}
+use Rattle.compile_driver.proofs.ImageAccount.{IsMeasured, keeps_account}
 use Rattle.compile_driver.proofs.LabelsLow.{labels_low}
 use Rattle.compile_driver.proofs.UsesPass.{pass}
 use Rattle.compile_driver.proofs.compiling.words_over.Goals as goal
@@ -140,6 +148,38 @@ answers c image is short =
       });
     }
 
+-- and how high coercions are, and the account of the numbered procedures
+is_measured : (c : After-drop-coer-4) → IsMeasured (program_over c.args.types.now c.args.elab.now)
+    c.in_ok-coer.coer.casts
+    (row_term_of c.in_ok-coer.coer.body) c.in_ok-coer.coer.answer.0
+is_measured c =
+    let types = c.args.types.now in
+    let elab = c.args.elab.now in
+    let coer = c.in_ok-coer.coer in
+    let program = program_over types elab in
+    let term = row_term_of coer.body in
+    let labels = length elab.labels in
+    let low = labels_low types labels [] (term_of elab.core) [] elab.ty.0 c.requires.typed.3 in
+    let answer_typed = c.in_ok-coer.ensures.answer labels low in
+    let typed = subst (λ t. ProgramTermHasType types labels t coer.answer.0) (sym c.in_ok-coer.ensures.reads)
+    answer_typed in
+    let names = no_names (row_casts coer.casts) types labels term coer.answer.0 typed in
+    let mode = merging types (row_casts coer.casts) in
+    let prices = merged_prices types mode (measures_of program) in
+    record {
+      tall = subst (λ n. n ≤ (measures_of program).height) c.in_ok-coer.ensures.tallest c.in_ok-coer.ensures.height;
+      keeps = λ input.
+          subst (λ procs. FollowsWithin (FlatBelow 2) FlatPaidBelow
+          (flat_tally_in procs (made term) mode prices (told_of program coer.answer.0) input) (account program input))
+          (c.in_ok-flat.ensures.procs names)
+          (subst (λ entry. FollowsWithin (FlatBelow 2) FlatPaidBelow
+          (flat_tally_in (procs_of_flat c.in_ok-flat.flat.procs) entry mode prices
+          (told_of program coer.answer.0) input)
+          (account program input)) c.in_ok-flat.ensures.entry
+          (c.in_ok-flat.ensures.merged_account (row_casts coer.casts) program input coer.answer.0
+          (sym c.in_ok-coer.ensures.reads) answer_typed c.len.ensures.table));
+    }
+
 pub returns-clause-tallest : goal.returns-clause-tallest
 returns-clause-tallest c =
     c.in_ok-coer.ensures.tallest ∙ ap (tallest_of c.args.types.now) c.in_ok-coer.ensures.order
@@ -154,5 +194,6 @@ returns-clause-stands c = record {
         follows_program {program = program} a.passed a.row_is a.made_so,
         subst (λ n. KeepsSpace image c.args.types.now n) tallest
             (keeps_space {program = program} a.passed a.row_is a.made_so),
+        keeps_account {program = program} a.passed a.row_is a.made_so (is_measured c),
       );
 }

@@ -16,7 +16,7 @@ returns-in-Ok-compile g c =
     let made = c.in-Ok-compile.ensures in
     generates c.args.number c.len.result c.as_slice.result.now c.in-Ok-compile.compiled _ c.put_numbers.result
     (c.as_slice.ensures ∙ c.in-Ok.ensures.text) (c.len.ensures ∙ ap length (sym c.as_slice.ensures)) made.source
-    made.told made.whole made.follows c.put_numbers.ensures
+    made.told made.whole made.follows made.account c.put_numbers.ensures
 
 pub returns : goal.returns
 returns g c =

@@ -44,7 +44,8 @@ returns-then-space g c words name is =
     (is_compiled _ c.args.file.now c.args.limits (name_bytes c.args.input) true name c.as_slice.result.now loaded.input
     c.in-Ok-compile.compiled (has_loaded _ command _ c.as_slice.result.now loaded.input loaded.bytes loaded.input
     (subst (λ space. IsRun words c.args.file.now c.args.limits (name_bytes c.args.input) space name) c.if-space.true
-    is) refl c.in-Ok.ensures c.as_slice.ensures refl) done.source done.told done.whole done.follows done.space)
+    is) refl c.in-Ok.ensures c.as_slice.ensures refl) done.source done.told done.whole done.follows done.space
+    done.account)
     done.told.tallest c.run_in_space.ensures
 
 pub returns : goal.returns
@@ -57,5 +58,6 @@ returns g c words name is =
     (is_compiled _ c.args.file.now c.args.limits (name_bytes c.args.input) false name c.as_slice.result.now loaded.input
     c.in-Ok-compile.compiled (has_loaded _ command _ c.as_slice.result.now loaded.input loaded.bytes loaded.input
     (subst (λ space. IsRun words c.args.file.now c.args.limits (name_bytes c.args.input) space name) c.if-space.false
-    is) refl c.in-Ok.ensures c.as_slice.ensures refl) done.source done.told done.whole done.follows done.space)
+    is) refl c.in-Ok.ensures c.as_slice.ensures refl) done.source done.told done.whole done.follows done.space
+    done.account)
     c.run_image.ensures

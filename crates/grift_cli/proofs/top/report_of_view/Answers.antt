@@ -24,6 +24,7 @@ returns-in-Ok-compile g c words img is none =
         source = c.in-Ok-compile.ensures.source;
         whole = c.in-Ok-compile.ensures.whole;
         follows = c.in-Ok-compile.ensures.follows;
+        account = c.in-Ok-compile.ensures.account;
       });
       no_image = none;
     }) c.put_view.ensures
