@@ -1,6 +1,6 @@
 -- The account of a run of numbered procedures, in the words of the account of the term's run: what each turn asks for,
 -- and its budget in instructions. One definition serves both modes, over what casts cost there.
-use Rattle.std.specs.Prelude.{ℕ, pos, ◌+◌, ◌*◌, ◌≤◌, List, [], ◌∷◌, length, Option, Some, None}
+use Rattle.std.specs.Prelude.{ℕ, pos, ◌+◌, ◌*◌, ◌≤◌, max, List, [], ◌∷◌, length, Option, Some, None}
 use Rattle.run_laws.specs.Runs.{Run}
 use Rattle.run_laws.specs.Reductions.{Reduction, reduction_run}
 use Rattle.grift_base.specs.Types.{TypeRows}
@@ -141,25 +141,27 @@ flat_atoms _ = 0
 -- ---- runs
 
 -- what is shown: turns that make a step, bodies that are a name or a constant, the words asked for so far, the words
--- that the next turn asks for, the frames that are active, and the sum of the budgets so far
+-- that the next turn asks for, the frames that are active, the most that were so far, and the sum of the budgets so far
 pub record FlatTally : Type 0 where
   pub acts : ℕ
   pub atoms : ℕ
   pub words : ℕ
   pub asks : ℕ
   pub frames : ℕ
+  pub deepest : ℕ
   pub paid : ℕ
 
--- a state with what was added up so far
+-- a state with what was added up so far, and the most frames that were active before it
 pub record FlatTallied (C : Type 0) : Type 0 where
   pub acts : ℕ
   pub atoms : ℕ
   pub words : ℕ
+  pub deepest : ℕ
   pub paid : ℕ
   pub state : FlatState C
 
 abbrev pub flat_untallied : {C : Type 0} → FlatState C → FlatTallied C
-flat_untallied state = record { acts = 0; atoms = 0; words = 0; paid = 0; state = state }
+flat_untallied state = record { acts = 0; atoms = 0; words = 0; deepest = 0; paid = 0; state = state }
 
 module _ {C : Type 0} (procs : List Proc) (mode : Mode C) (prices : Prices C) where
   abbrev pub cost_of_turn : FlatState C → Cost
@@ -172,6 +174,7 @@ module _ {C : Type 0} (procs : List Proc) (mode : Mode C) (prices : Prices C) wh
     words = s.words;
     asks = where_some s.state.ended 0 (cost_of_turn s.state).asks;
     frames = length s.state.frames;
+    deepest = max s.deepest (length s.state.frames);
     paid = s.paid;
   }
 
@@ -181,6 +184,7 @@ module _ {C : Type 0} (procs : List Proc) (mode : Mode C) (prices : Prices C) wh
     acts = s.acts + (cost_of_turn s.state).acts;
     atoms = s.atoms + flat_atoms s.state.focus;
     words = s.words + (cost_of_turn s.state).asks;
+    deepest = max s.deepest (length s.state.frames);
     paid = s.paid + (cost_of_turn s.state).budget + 64 * flat_atoms s.state.focus;
     state = next;
   }
@@ -218,7 +222,7 @@ PaysTally flat tally = flat.paid ≤ tally.paid + 64 * (tally.acts + 1)
 
 -- ---- against the account of the calculus
 
--- with so many frames more than contexts are pending
+-- with so many frames more than contexts were pending at one time
 pub record FlatBelow (more : ℕ) (flat : FlatTally) (account : Account) : Type 0 where
   pub reach : flat_reach flat ≤ account.words + account.charge
   pub asks : flat.asks ≤ account.charge
