@@ -44,7 +44,7 @@ module _ {V : Type 0} (reading : Halt → Ending V) (setting : Setting) (l : Lay
       few = le_refl 0;
       cheap = omega arith;
       reach = λ spare. (
-        record { active = let p = spare.room in omega (arith, p); asked = let p = spare.left in omega (arith, p) },
+        record { room = let p = spare.room in omega (arith, p); asked = let p = spare.left in omega (arith, p) },
         subst (λ y. ComesTo l setting s IsHeld objects y (st (around s) count locals (Return a) rests s.waiting
             h'))
             q (record {
@@ -67,7 +67,7 @@ module _ {V : Type 0} (reading : Halt → Ending V) (setting : Setting) (l : Lay
           few = le_refl 0;
           cheap = omega arith;
           reach = λ spare. (
-            record { active = let p = spare.room in omega (arith, p); asked = let p = spare.left in omega (arith, p) },
+            record { room = let p = spare.room in omega (arith, p); asked = let p = spare.left in omega (arith, p) },
             subst (λ y. ComesTo l setting s IsHeld objects y
                 (st (around s) count locals (Environment 3 a b d e rest) rests waiting h')) q (record {
                   new = new;

@@ -39,7 +39,7 @@ use Rattle.rt_cast.specs.ComposeCodes.{compose_code}
 use Rattle.rt_cast.proofs.HeaderNumbers.{eq_true, eq_false, eq_cases, kind_read}
 use Rattle.rt_cast.proofs.Steps.{Budget, End, Out, Pay, More, return_price, at_most, WordThere, loads}
 use Rattle.rt_cast.proofs.Steps.{computes, if_true, if_false, builds, calls, tail_calls, comes_back, header_there}
-use Rattle.rt_cast.proofs.Steps.{loads_at}
+use Rattle.rt_cast.proofs.Steps.{loads_at, no_true, first_true, second_true}
 use Rattle.rt_cast.proofs.Small.{grows_not, grows_on, there_still, not_zero}
 use Rattle.rt_cast.proofs.Small.{numbers, ReachedIn}
 use Rattle.rt_cast.proofs.Middles.{held_still, held_small, added, one_more}
@@ -128,9 +128,6 @@ free_no_proxy TupleType e = refl
 free_no_proxy RefType e = refl
 free_no_proxy VecType e = refl
 
-no_true : false ≡ true → ⊥
-no_true e = cc
-
 -- a row has its own head
 own_head : (row : TypeRow) → same_head row row ≡ true
 own_head IntRow = refl
@@ -141,14 +138,6 @@ own_head (FunRow parameters answer) = eq_true (length parameters) (length parame
 own_head (TupleRow parts) = eq_true (length parts) (length parts) refl
 own_head (RefRow content) = refl
 own_head (VectRow content) = refl
-
-first_true : (b c : Bool) → (b && c) ≡ true → b ≡ true
-first_true true c e = refl
-first_true false c e = absurd (no_true e)
-
-second_true : (b c : Bool) → (b && c) ≡ true → c ≡ true
-second_true true c e = e
-second_true false c e = absurd (no_true e)
 
 zero_more : (n : ℕ) → n ≡ n + 0
 zero_more n = omega arith

@@ -2,7 +2,7 @@
 use Rattle.std.proofs.Common.{◌≡◌, ◌⊎◌, inl, inr, ℕ, zero, suc, ◌+◌, ◌*◌, ◌^◌, ◌%◌, ◌<◌, ◌≤◌, Bool, true}
 use Rattle.std.proofs.Common.{false, cond, List, [], ◌∷◌, ◌++◌, Some, None, refl, sym, ap, ap₂, ◌∙◌, subst}
 use Rattle.std.proofs.Common.{arith, le_refl, eq-eqb, nat_eq}
-use Rattle.std.specs.Prelude.{◌==◌, ◌&&◌, nat_le, if◌then◌else◌, slice_get, length, max}
+use Rattle.std.specs.Prelude.{◌==◌, ◌&&◌, if◌then◌else◌, slice_get, length, max}
 use Rattle.rt_cast.specs.States.{Heap, st, Fine, Grows}
 use Rattle.low_ir.specs.Operations.{compute}
 use Rattle.low_ir.specs.declared.code.WordOp.TheVariants.{Sll, Add, Sltu}
@@ -35,7 +35,7 @@ use Rattle.rt_cast.proofs.HeaderNumbers.{eq_true, eq_cases, lt_true}
 use Rattle.rt_cast.proofs.HeaderNumbers.{header_small}
 use Rattle.low_ir.specs.Prices.{slot_price, source_price, sources_price, entering}
 use Rattle.rt_cast.proofs.Steps.{Budget, Pay, More, return_price, at_most, sets_word, loads}
-use Rattle.rt_cast.proofs.Steps.{computes, if_true, if_false, builds, calls, comes_back}
+use Rattle.rt_cast.proofs.Steps.{computes, if_true, if_false, builds, calls, comes_back, serves}
 use Rattle.rt_cast.proofs.Small.{grows_not, grows_on, there_still, HasHeight, not_zero, raised, numbers}
 use Rattle.rt_cast.proofs.Small.{ReachedIn}
 use Rattle.rt_cast.proofs.Walks.{Walk}
@@ -328,8 +328,8 @@ module _ {V : Type 0} (walk : Walk V) where
   one_more objects o = record { more = o ∷ []; is = refl }
 
   module _ (raise part : ℕ) (p : Proc) (raise_stands : slice_get walk.setting.procs raise ≡ Some (proc 2 3 raise_code))
-      (part_stands : slice_get walk.setting.procs part ≡ Some p) (takes : ((6 == p.params) && (nat_le p.params 8 &&
-      nat_le p.params p.words)) ≡ true) (enters : entering p.words ≡ 15) where
+      (part_stands : slice_get walk.setting.procs part ≡ Some p) (takes : serves 6 p ≡ true)
+      (enters : entering p.words ≡ 15) where
     module _ (cost above asks price : ℕ) (offset : ℕ → ℕ) (total : ℕ) (few : total ≤ 8) (objects : List Object)
         (waiting : List
         Waiting) (kind : Kind) (wide : HasWidth walk.l kind total) (x y n extra : ℕ) (hx hy : ℕ) (xs ys : List ℕ)

@@ -1,5 +1,5 @@
 -- What the procedures come to, from a state in which whole objects fill the region.
-use Rattle.std.proofs.Common.{◌≡◌, ℕ, ◌+◌, ◌*◌, ◌<◌, ◌≤◌, ◌^◌, List, [], ◌∷◌, length, refl, le_refl, arith}
+use Rattle.std.proofs.Common.{◌≡◌, ℕ, ◌+◌, ◌*◌, ◌<◌, ◌≤◌, ◌^◌, List, [], ◌∷◌, refl, le_refl, arith}
 use Rattle.std.specs.Prelude.{max}
 use Rattle.run_laws.specs.Runs.{Ending, Exhausted}
 use Rattle.rv_machine.specs.State.{Halt, Lacks, Region}
@@ -11,6 +11,7 @@ use Rattle.coercion_norm.proofs.Public.{bound_from_height}
 use Rattle.rt_cast.specs.Costs.{coerce_cost, compose_cost, coerce_words, compose_words, coerce_price, compose_price}
 use Rattle.coercion_norm.specs.Objects.{Object}
 use Rattle.coercion_norm.specs.Held.{Layout, Held, HoldsType, rows_in, height_in}
+use Rattle.rt_cast.specs.Frames.{waiting_room}
 use Rattle.rt_cast.specs.Procs.{coerce_proc, compose_proc}
 use Rattle.rt_cast.specs.States.{Filled, Fine, OnTheWay, Within, HeldAt, IsReady, ComesToHeld, around, heap_of}
 use Rattle.rt_cast.proofs.Walks.{Walk}
@@ -34,11 +35,11 @@ module _ {V : Type 0} (reading : Halt → Ending V) (setting : Setting) (l : Lay
     around = around s;
     P = OnTheWay setting l s frames words;
     Q = λ t. Within s frames words t × Q t;
-    frames = length s.waiting + frames;
+    room = waiting_room s.waiting + 25 * (frames + 1);
     most = s.words + words;
     calm = λ active waiting h objects fine turns few asked. record {
       calm = record { objects = objects; fine = fine; same = refl };
-      active = few;
+      room = few;
       asked = asked;
       turns = turns;
     };
@@ -73,7 +74,7 @@ module _ {V : Type 0} (reading : Halt → Ending V) (setting : Setting) (l : Lay
         few = le_refl 0;
         cheap = omega arith;
         reach = λ spare. (
-          record { active = let q = spare.room in omega (arith, q); asked = let q = spare.left in omega (arith, q) },
+          record { room = let q = spare.room in omega (arith, q); asked = let q = spare.left in omega (arith, q) },
           record {
             new = new;
             grows = grows;
@@ -118,7 +119,7 @@ module _ {V : Type 0} (reading : Halt → Ending V) (setting : Setting) (l : Lay
         few = le_refl 0;
         cheap = omega arith;
         reach = λ spare. (
-          record { active = let q = spare.room in omega (arith, q); asked = let q = spare.left in omega (arith, q) },
+          record { room = let q = spare.room in omega (arith, q); asked = let q = spare.left in omega (arith, q) },
           record {
             new = new;
             grows = grows;

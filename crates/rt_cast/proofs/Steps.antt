@@ -3,6 +3,7 @@ use Rattle.std.proofs.Common.{◌≡◌, ◌⊎◌, inl, inr, ℕ, zero, suc, �
 use Rattle.std.proofs.Common.{false, cond, List, [], ◌∷◌, ◌++◌, Option, Some, None, refl, sym, ap, ◌∙◌}
 use Rattle.std.proofs.Common.{subst, arith, append-nil, append_assoc}
 use Rattle.std.specs.Prelude.{◌==◌, ◌&&◌, nat_lt, nat_le, slice_get, length, pos, max}
+use Rattle.rt_cast.specs.Frames.{frame_room, waiting_room, stack_room}
 use Rattle.rt_cast.specs.States.{Heap, st, Fine}
 use Rattle.run_laws.specs.Machines.{Go, Stop, Machine, Reaches, Onward}
 use Rattle.run_laws.proofs.Public.{by_step}
@@ -56,6 +57,17 @@ in_list [] i w e = none_some e
 in_list (x ∷ xs) zero w e = omega arith
 in_list (x ∷ xs) (suc i) w e = let h = in_list xs i w e in omega arith
 
+pub no_true : false ≡ true → ⊥
+no_true e = cc
+
+pub first_true : (b c : Bool) → (b && c) ≡ true → b ≡ true
+first_true true c e = refl
+first_true false c e = absurd (no_true e)
+
+pub second_true : (b c : Bool) → (b && c) ≡ true → c ≡ true
+second_true true c e = e
+second_true false c e = absurd (no_true e)
+
 abbrev le_cases : (b : Bool) → (b ≡ true) ⊎ (b ≡ false)
 le_cases true = inl refl
 le_cases false = inr refl
@@ -78,13 +90,27 @@ as_long locals (a ∷ args) ws e = by_first (word_of locals a) e (λ xs h. as_lo
     by_first None f ih = absurd (let z : ⊥ = cc in z)
     by_first (Some x) f ih = by_both x (words_of locals args) ih f
 
+-- a procedure takes so many words
+abbrev takes : ℕ → Proc → Bool
+takes n p = (n == p.params) && (nat_le p.params 8 && nat_le p.params p.words)
+
+-- it takes them, and has no more words than procedures that serve may have
+abbrev pub serves : ℕ → Proc → Bool
+serves n p = takes n p && nat_le p.words 24
+
+serves_takes : (n : ℕ) (p : Proc) → serves n p ≡ true → takes n p ≡ true
+serves_takes n p e = first_true (takes n p) (nat_le p.words 24) e
+
+serves_small : (n : ℕ) (p : Proc) → serves n p ≡ true → p.words ≤ 24
+serves_small n p e = let z = second_true (takes n p) (nat_le p.words 24) e in grind (arith, z)
+
 -- the words that a procedure takes are few
 takes_few : (locals : Locals) (args : List LowSource) (ws : List ℕ) (p : Proc) → words_of locals args ≡ Some ws
-    → ((length ws == p.params) && (nat_le p.params 8 && nat_le p.params p.words)) ≡ true → 1 + length args ≤ 10
+    → takes (length ws) p ≡ true → 1 + length args ≤ 10
 takes_few locals args ws p e g = let z = as_long locals args ws e in grind (arith, z, g)
 
 -- steps in the order in which they are made: single ones, calls, returns, what they cost and the words that they ask
--- for, and so many at once, with so many procedures active above, so many words and this price
+-- for, and so many at once, with so many procedures above, so many words and this price
 pub data Budget : Type 0 where
   End : Budget
   One : Budget → Budget
@@ -104,7 +130,7 @@ total (Pay p b) = total b
 total (Ask w b) = total b
 total (More n d w p b) = n + total b
 
--- how many procedures are active above, at most
+-- how many procedures are above, at most; each has 24 words at most, so its frame takes 25 words of room
 abbrev pub deep : Budget → ℕ
 deep End = 0
 deep (One b) = deep b
@@ -243,9 +269,9 @@ module _ {V : Type 0} (walk : Walk V) where
         end = omega (arith, z.high, f.filled.ends, f.filled.fits, r, walk.placed.top);
       }
 
-  -- a budget is left where so many procedures wait and so many words were asked for
-  pub record Spare (B : Budget) (frames words : ℕ) : Type 0 where
-    pub room : frames + deep B ≤ walk.frames
+  -- a budget is left where frames take so much room and so many words were asked for
+  pub record Spare (B : Budget) (taken words : ℕ) : Type 0 where
+    pub room : taken + 25 * deep B ≤ walk.room
     pub left : words + asked B ≤ walk.most
 
   -- the machine comes to where Q holds, or is exhausted
@@ -253,11 +279,11 @@ module _ {V : Type 0} (walk : Walk V) where
     pub steps : ℕ
     pub few : steps ≤ total B
     pub cheap : CostsAtMost walk.reading walk.setting steps t (priced B)
-    pub reach : Spare B (length t.waiting) t.words → Reaches N walk.P walk.Q steps t
+    pub reach : Spare B (stack_room t) t.words → Reaches N walk.P walk.Q steps t
 
   pub goes : {B C : Budget} (t t' : LowState) → N.step t ≡ Go t'
-      → (Spare C (length t.waiting) t.words → walk.P t)
-      → (Spare C (length t.waiting) t.words → Spare B (length t'.waiting) t'.words)
+      → (Spare C (stack_room t) t.words → walk.P t)
+      → (Spare C (stack_room t) t.words → Spare B (stack_room t') t'.words)
       → total C ≡ suc (total B) → low_price walk.setting.procs t + priced B ≤ priced C → Comes B t' → Comes C t
   goes {B = B} {C = C} t t' e p spare long dear c = record {
     steps = suc c.steps;
@@ -280,23 +306,31 @@ module _ {V : Type 0} (walk : Walk V) where
 
   here_at : (count : ℕ) (locals : Locals) (rests : List Code) (waiting : List Waiting) (h : Heap)
       (objects : List Object) → Fi objects h → (code : Code) → code_turns code ≤ 10 → {B : Budget}
-      → Spare B (length waiting) h.words → walk.P (St count locals code rests waiting h)
+      → Spare B (frame_room count + waiting_room waiting) h.words → walk.P (St count locals code rests waiting h)
   here_at count locals rests waiting h objects fine code few s =
       walk.calm (record { count = count; locals = locals; code = code; rests = rests }) waiting h objects fine few
       (let r = s.room in omega arith) (let r = s.left in omega arith)
 
   -- one step is gone
-  pub one_less : {B : Budget} {frames words : ℕ} → Spare (One B) frames words → Spare B frames words
+  pub one_less : {B : Budget} {taken words : ℕ} → Spare (One B) taken words → Spare B taken words
   one_less s = record { room = s.room; left = s.left }
 
-  one_in : {B : Budget} {frames words : ℕ} → Spare (In B) frames words → Spare B (suc frames) words
-  one_in s = record { room = let r = s.room in omega arith; left = s.left }
+  -- a procedure of so few words is entered, above the others or in place of one
+  one_in : {B : Budget} {taken words : ℕ} (callee : ℕ) → callee ≤ 24 → Spare (In B) taken words
+      → Spare B (frame_room callee + taken) words
+  one_in callee small s = record { room = let r = s.room in omega (arith, r, small); left = s.left }
 
-  one_out : {B : Budget} {frames words : ℕ} → Spare (Out B) (suc frames) words → Spare B frames words
-  one_out s = record { room = let r = s.room in omega arith; left = s.left }
+  one_instead : {B : Budget} {words : ℕ} (taken caller callee : ℕ) → callee ≤ 24
+      → Spare (One B) (frame_room caller + taken) words → Spare B (frame_room callee + taken) words
+  one_instead taken caller callee small s = record { room = let r = s.room in omega (arith, r, small); left = s.left }
+
+  -- and one is left, of however many words
+  one_out : {B : Budget} {taken words : ℕ} (callee : ℕ) → Spare (Out B) (frame_room callee + taken) words
+      → Spare B taken words
+  one_out callee s = record { room = let r = s.room in omega (arith, r); left = s.left }
 
   -- what it costs is no step, and asks for nothing
-  pub paid_for : {p : ℕ} {B : Budget} {frames words : ℕ} → Spare (Pay p B) frames words → Spare B frames words
+  pub paid_for : {p : ℕ} {B : Budget} {taken words : ℕ} → Spare (Pay p B) taken words → Spare B taken words
   paid_for s = record { room = s.room; left = s.left }
 
   module _ {B : Budget} {count : ℕ} {locals : Locals} {rests : List Code} {waiting : List Waiting} {h : Heap}
@@ -463,8 +497,7 @@ module _ {V : Type 0} (walk : Walk V) where
 
     -- a procedure is called, or goes on for this one
     pub calls : {d k : ℕ} {args : List LowSource} {rest : Code} (ws : List ℕ) (p : Proc)
-        → words_of locals args ≡ Some ws → slice_get walk.setting.procs k ≡ Some p
-        → ((length ws == p.params) && (nat_le p.params 8 && nat_le p.params p.words)) ≡ true
+        → words_of locals args ≡ Some ws → slice_get walk.setting.procs k ≡ Some p → serves (length ws) p ≡ true
         → Comes B (St p.words (bind 0 ws no_locals) p.code [] (record {
           rest = record { count = count; locals = locals; code = rest; rests = rests };
           answer = d;
@@ -475,20 +508,23 @@ module _ {V : Type 0} (walk : Walk V) where
         (record {
           rest = record { count = count; locals = locals; code = rest; rests = rests };
           answer = d;
-        } ∷ waiting) h) (rw (e, f, g) refl)
-        (λ s. here_at count locals rests waiting h objects fine (Call d k args rest) (takes_few locals args ws p e g) s)
-        (λ s. one_in (paid_for s)) refl (let y = ap entering_some f in omega (arith, y)) c
+        } ∷ waiting) h) (let z = serves_takes (length ws) p g in rw (e, f, z) refl)
+        (λ s. here_at count locals rests waiting h objects fine (Call d k args rest) (takes_few locals args ws p e
+        (serves_takes (length ws) p g)) s)
+        (λ s. one_in p.words (serves_small (length ws) p g) (paid_for s)) refl
+        (let y = ap entering_some f in omega (arith, y)) c
 
     pub tail_calls : {k : ℕ} {args : List LowSource} (ws : List ℕ) (p : Proc) → words_of locals args ≡ Some ws
-        → slice_get walk.setting.procs k ≡ Some p
-        → ((length ws == p.params) && (nat_le p.params 8 && nat_le p.params p.words)) ≡ true
+        → slice_get walk.setting.procs k ≡ Some p → serves (length ws) p ≡ true
         → Comes B (St p.words (bind 0 ws no_locals) p.code [] waiting h)
         → Comes (Pay (leave_price count args p) (One B)) (St count locals (TailCall k args) rests waiting h)
     tail_calls {k = k} {args = args} ws p e f g c =
         goes (St count locals (TailCall k args) rests waiting h) (St p.words (bind 0 ws no_locals) p.code [] waiting h)
-        (rw (e, f, g) refl)
-        (λ s. here_at count locals rests waiting h objects fine (TailCall k args) (takes_few locals args ws p e g) s)
-        (λ s. one_less (paid_for s)) refl (let y = ap entering_some f in omega (arith, y)) c
+        (let z = serves_takes (length ws) p g in rw (e, f, z) refl)
+        (λ s. here_at count locals rests waiting h objects fine (TailCall k args) (takes_few locals args ws p e
+        (serves_takes (length ws) p g)) s)
+        (λ s. one_instead (waiting_room waiting) count p.words (serves_small (length ws) p g) (paid_for s)) refl
+        (let y = ap entering_some f in omega (arith, y)) c
 
   -- a call comes back
   pub comes_back : {B : Budget} {count : ℕ} {locals : Locals} {rests : List Code} {a : LowSource} {d : ℕ}
@@ -502,4 +538,4 @@ module _ {V : Type 0} (walk : Walk V) where
       goes (St count locals (Return a) rests (record { rest = rest; answer = d } ∷ waiting) h)
       (St rest.count (set_local d w rest.locals) rest.code rest.rests waiting h) (rw (e, lt) refl)
       (λ s. here_at count locals rests (record { rest = rest; answer = d } ∷ waiting) h objects fine (Return a)
-      (omega arith) s) (λ s. one_out (paid_for s)) refl (omega arith) c
+      (omega arith) s) (λ s. one_out count (paid_for s)) refl (omega arith) c

@@ -1,10 +1,11 @@
 -- What all lemmas on the run of a procedure are told.
-use Rattle.std.proofs.Common.{◌≡◌, ℕ, ◌≤◌, List, length}
+use Rattle.std.proofs.Common.{◌≡◌, ℕ, ◌+◌, ◌≤◌, List}
 use Rattle.run_laws.specs.Runs.{Ending, Exhausted}
 use Rattle.rv_machine.specs.State.{Halt, Lacks, Region}
 use Rattle.low_ir.specs.Run.{Setting, Active, Waiting, LowState, code_turns}
 use Rattle.coercion_norm.specs.Objects.{Object}
 use Rattle.coercion_norm.specs.Held.{Layout, TypesStand}
+use Rattle.rt_cast.specs.Frames.{frame_room, waiting_room}
 use Rattle.rt_cast.specs.Procs.{Stand}
 use Rattle.rt_cast.specs.States.{Heap, Around, Fine, Placed}
 
@@ -17,11 +18,12 @@ pub record Walk (V : Type 0) : Type 1 where
   pub around : Around
   pub P : LowState → Type 0
   pub Q : LowState → Type 0
-  -- how many procedures may be active, and how many words may have been asked for
-  pub frames : ℕ
+  -- how much room frames may take, and how many words may have been asked for
+  pub room : ℕ
   pub most : ℕ
   pub calm : (active : Active) (waiting : List Waiting) (h : Heap) (objects : List Object)
-      → Fine setting l around objects h → code_turns active.code ≤ 10 → length waiting ≤ frames → h.words ≤ most
+      → Fine setting l around objects h → code_turns active.code ≤ 10
+      → frame_room active.count + waiting_room waiting ≤ room → h.words ≤ most
       → P (record {
         active = active;
         waiting = waiting;

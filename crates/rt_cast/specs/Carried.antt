@@ -99,8 +99,8 @@ module _ (l : Layout) where
     ComesTo (Gives u) t = GivesAt u t
     ComesTo (Blames label) t = BlamesAt label t
 
--- Entered with these words the procedure comes to the outcome, within so many steps, with so many procedures active
--- above it, for so many words and at this price, or the region is exhausted before.
+-- Entered with these words the procedure comes to the outcome, within so many steps, in the room of its frame and of so
+-- many above it, for so many words and at this price, or the region is exhausted before.
 abbrev pub ComesToOutcome : {V A : Type 0} → (Halt → Ending V) → Setting → (l : Layout) → LowState
     → (List Object → A → ℕ → Type 0) → List Object → Proc → List ℕ → Outcome A → ℕ → ℕ → ℕ → ℕ → Type 0
 ComesToOutcome reading setting l s IsHeld objects p given outcome most frames words price =

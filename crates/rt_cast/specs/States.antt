@@ -1,5 +1,5 @@
 -- States of a run over words in which whole objects fill the region.
-use Rattle.std.specs.Prelude.{◌≡◌, ℕ, ◌+◌, ◌%◌, ◌^◌, ◌<◌, ◌≤◌, List, [], ◌++◌, length, Some}
+use Rattle.std.specs.Prelude.{◌≡◌, ℕ, ◌+◌, ◌*◌, ◌%◌, ◌^◌, ◌<◌, ◌≤◌, List, [], ◌++◌, Some}
 use Rattle.grift_base.specs.World.{WorldState}
 use Rattle.run_laws.specs.Runs.{Ending}
 use Rattle.run_laws.specs.Machines.{Reaches}
@@ -12,6 +12,7 @@ use Rattle.low_ir.specs.Prices.{CostsAtMost}
 use Rattle.low_ir.specs.Run.{Setting, Waiting, LowState, bind, word_of, low_machine, low_turns}
 use Rattle.coercion_norm.specs.Coercions.{Coercion}
 use Rattle.coercion_norm.specs.Objects.{Object, bytes_of_all}
+use Rattle.rt_cast.specs.Frames.{stack_room, waiting_room}
 use Rattle.rt_cast.specs.Objects.{Holds}
 use Rattle.coercion_norm.specs.Held.{Layout, Held, TypesStand}
 use Rattle.rt_cast.specs.WholeObjects.{Wholes}
@@ -106,21 +107,22 @@ pub record IsReady (setting : Setting) (l : Layout) (first : ℕ) : Type 0 where
   pub types : TypesStand l
 
 -- On the way of a procedure that was entered from s: whole objects fill the region, nothing that was there has changed,
--- so many procedures more are active at most, so many words more were asked for at most, and the next step takes ten
--- turns at most.
+-- frames take no more room than those of the procedures that wait, its own and so many more, each of 24 words at most,
+-- so many words more were asked for at most, and the next step takes ten turns at most.
 pub record OnTheWay (setting : Setting) (l : Layout) (s : LowState) (frames words : ℕ) (t : LowState) : Type 0 where
   pub calm : Calm setting l (around s) t
-  pub active : length t.waiting ≤ length s.waiting + frames
+  pub room : stack_room t ≤ waiting_room s.waiting + 25 * (frames + 1)
   pub asked : t.words ≤ s.words + words
   pub turns : low_turns t ≤ 10
 
--- where it ends, no more procedures are active either, and no more words were asked for
+-- where it ends, frames take no more room either, and no more words were asked for
 pub record Within (s : LowState) (frames words : ℕ) (t : LowState) : Type 0 where
-  pub active : length t.waiting ≤ length s.waiting + frames
+  pub room : stack_room t ≤ waiting_room s.waiting + 25 * (frames + 1)
   pub asked : t.words ≤ s.words + words
 
 -- Entered with these words the procedure comes to a return of a word that holds the coercion, within so many steps,
--- with so many procedures active above it, for so many words and at this price, or the region is exhausted before.
+-- in the room of its frame and of so many above it, for so many words and at this price, or the region is exhausted
+-- before.
 abbrev pub ComesToHeld : {V : Type 0} → (Halt → Ending V) → Setting → Layout → LowState → List Object → Proc → List ℕ
     → Coercion → ℕ → ℕ → ℕ → ℕ → Type 0
 ComesToHeld reading setting l s objects p given c most frames words price =

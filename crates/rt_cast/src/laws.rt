@@ -33,7 +33,7 @@ ghost use Rattle.rt_cast.specs.ToldRows.{IsFilled};
 
 /// In any storage of whole objects that holds two coercions, and whatever waits, compose comes to a return of a word
 /// that holds their composition, or the region is exhausted. Nothing that was there changes, whole objects fill the
-/// region at every state on the way, with no proxy on a proxy, and steps, words, price and active procedures are
+/// region at every state on the way, with no proxy on a proxy, and steps, words, price and the room of frames are
 /// bounded by the higher of the two.
 pub fn compositions_are_held<V>()
     ensures { (reading : Halt → Ending V) (setting : Setting) (l : Layout) (first : ℕ) (s : LowState)
@@ -64,7 +64,7 @@ pub fn coercions_of_casts_are_held<V>()
 /// Whatever the decisions of the merged mode make of a value, cast makes of the word that carries it: it comes to a
 /// return of a word that carries the value that is made, or to the call that blames the label, or the region is
 /// exhausted. What stands under a proxy stays the very object that it was. A cast that the mode has no decision for
-/// isn't spoken of. Steps, words, price and active procedures are bounded by the height of the tallest coercion.
+/// isn't spoken of. Steps, words, price and the room of frames are bounded by the height of the tallest coercion.
 pub fn casts_are_made<V>()
     ensures { (reading : Halt → Ending V) (setting : Setting) (l : Layout) (first : ℕ) (s : LowState)
         → reading (Lacks Region) ≡ Exhausted → IsReady setting l first → l.tallest ≤ MOST_HEIGHT
@@ -77,8 +77,8 @@ pub fn casts_are_made<V>()
 {}
 
 /// A cast that is light, since no middle meets its value and none is made for it, or since it comes out of Dyn between
-/// different heads, takes 77 steps at most, with one procedure active above it, and words and a price that don't depend
-/// on heights.
+/// different heads, takes 77 steps at most, in the room of its frame and of one above it, and words and a price that
+/// don't depend on heights.
 pub fn light_casts_are_cheap<V>()
     ensures { (reading : Halt → Ending V) (setting : Setting) (l : Layout) (first : ℕ) (s : LowState)
         → reading (Lacks Region) ≡ Exhausted → IsReady setting l first → l.tallest ≤ MOST_HEIGHT

@@ -126,7 +126,7 @@ module _ {V : Type 0} (reading : Halt → Ending V) (setting : Setting) (l : Lay
             cheap = omega arith;
             reach = λ spare. (
               record {
-                active = let q = spare.room in omega (arith, q);
+                room = let q = spare.room in omega (arith, q);
                 asked = let q = spare.left in omega (arith, q);
               },
               refl,

@@ -19,13 +19,12 @@ use Rattle.coercion_norm.specs.Held.{Layout, Held, AreHeld, rows_in, height_in}
 use Rattle.rt_cast.specs.WholeObjects.{IsSolid}
 use Rattle.rt_cast.specs.Costs.{cast_cost}
 use Rattle.rt_cast.specs.LightCasts.{cast_words_of, cast_price_of}
-use Rattle.rt_cast.specs.ComposeCodes.{cast}
 use Rattle.rt_cast.specs.CastCodes.{cast_code}
 use Rattle.rt_cast.specs.States.{Grows, Heap, Fine, st}
 use Rattle.rt_cast.specs.MergedValues.{Merged, Outcome, Stuck, Gives, Blames, cast_value}
 use Rattle.rt_cast.specs.Carried.{CarriedBy, AreCarried, IsLow}
 use Rattle.rt_cast.proofs.Public.{Walk, none_some, same_some, eq_true, eq_false, Budget, End, Out, More}
-use Rattle.rt_cast.proofs.Public.{calls, comes_back, ReachedIn}
+use Rattle.rt_cast.proofs.Public.{comes_back, ReachedIn}
 use Rattle.rt_cast.proofs.Public.{GoesOn, whole_above, no_higher, carried_still, by_either}
 use Rattle.rt_cast.proofs.Public.{low_of, decided_cast}
 use Rattle.rt_refs.specs.CallCodes.{argument_words}

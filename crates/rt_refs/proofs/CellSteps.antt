@@ -14,6 +14,7 @@ use Rattle.low_ir.specs.Run.{Waiting, LowState, word_of, store, code_turns}
 use Rattle.coercion_norm.specs.Objects.{Object, Fixed, Cell, bytes_of, bytes_of_all, object_at}
 use Rattle.coercion_norm.specs.Held.{There}
 use Rattle.coercion_norm.proofs.Public.{found_within}
+use Rattle.rt_cast.specs.Frames.{frame_room, waiting_room}
 use Rattle.rt_cast.specs.Objects.{HasWord, HoldsWords, HoldsObject, Holds}
 use Rattle.rt_cast.specs.States.{Heap, Fine, st}
 use Rattle.low_ir.specs.Prices.{source_price}
@@ -116,7 +117,7 @@ module _ {V : Type 0} (walk : Walk V) where
 
   pub here_at : (count : ℕ) (locals : Locals) (rests : List Code) (waiting : List Waiting) (h : Heap)
       (objects : List Object) → Fi objects h → (code : Code) → code_turns code ≤ 10 → {B : Budget}
-      → Spare walk B (length waiting) h.words → walk.P (St count locals code rests waiting h)
+      → Spare walk B (frame_room count + waiting_room waiting) h.words → walk.P (St count locals code rests waiting h)
   here_at count locals rests waiting h objects fine code few s =
       walk.calm (record { count = count; locals = locals; code = code; rests = rests }) waiting h objects fine few
       (let r = s.room in omega arith) (let r = s.left in omega arith)

@@ -1,6 +1,6 @@
 -- What fill comes to, from a state in which whole objects fill the region.
 use Rattle.std.proofs.Common.{◌≡◌, ◌⊎◌, inl, inr, ℕ, zero, suc, ◌+◌, ◌*◌, ◌%◌, ◌^◌, ◌<◌, ◌≤◌, Bool, true, false}
-use Rattle.std.proofs.Common.{List, [], ◌∷◌, ◌++◌, length, Some, refl, sym, ap, ◌∙◌, subst, arith}
+use Rattle.std.proofs.Common.{List, [], ◌∷◌, ◌++◌, Some, refl, sym, ap, ◌∙◌, subst, arith}
 use Rattle.std.proofs.Common.{le_refl}
 use Rattle.std.specs.Prelude.{◌==◌, not, nat_lt, nat_le, slice_get, pos, replicate}
 use Rattle.grift_base.specs.EnvironmentCall.{environment_call}
@@ -31,6 +31,7 @@ use Rattle.coercion_norm.specs.Objects.{Object, Fixed, Cell, bytes_of_all}
 use Rattle.coercion_norm.specs.ObjectsOfRows.{header}
 use Rattle.coercion_norm.specs.Held.{Layout}
 use Rattle.coercion_norm.proofs.Public.{bytes_append, last_stands}
+use Rattle.rt_cast.specs.Frames.{frame_room, waiting_room}
 use Rattle.rt_cast.specs.Objects.{HasWord, HoldsWords}
 use Rattle.rt_cast.specs.States.{Heap, Fine, Filled, Placed, OnTheWay, Within as IsWithin, around, heap_of, st}
 use Rattle.rt_cast.specs.WholeObjects.{WholeOther}
@@ -145,18 +146,18 @@ module _ {V : Type 0} (reading : Halt → Ending V) (setting : Setting) (l : Lay
   }
 
   way : (count : ℕ) (locals : Locals) (code : Code) (rests : List Code) (waiting : List Waiting) (m : Memory)
-      (words : ℕ) → Below m → code_turns code ≤ 10 → length waiting ≤ length s.waiting + 1
-      → words ≤ s.words + (n + 1)
+      (words : ℕ) → Below m → code_turns code ≤ 10
+      → frame_room count + waiting_room waiting ≤ waiting_room s.waiting + 25 * (1 + 1) → words ≤ s.words + (n + 1)
       → P (St count locals code rests waiting (record { memory = m; alloc = s.alloc; words = words }))
-  way count locals code rests waiting m words same turns active asked = record {
+  way count locals code rests waiting m words same turns room asked = record {
     calm = record { objects = objects; fine = fine_at m words same; same = refl };
-    active = active;
+    room = room;
     asked = asked;
     turns = turns;
   }
 
   module _ {b price : ℕ} {count : ℕ} {locals : Locals} {rests : List Code} {waiting : List Waiting} (m : Memory)
-      (same : Below m) (active : length waiting ≤ length s.waiting + 1) where
+      (same : Below m) (room : frame_room count + waiting_room waiting ≤ waiting_room s.waiting + 25 * (1 + 1)) where
     computes : {op : WordOp} {d : ℕ} {x y : LowSource} {rest : Code} (u v z : ℕ) → word_of locals x ≡ Some u
         → word_of locals y ≡ Some v → compute op u v ≡ z → nat_lt d count ≡ true
         → Within b price (St count (set_local d z locals) rest rests waiting (heap m))
@@ -165,7 +166,7 @@ module _ {V : Type 0} (reading : Halt → Ending V) (setting : Setting) (l : Lay
     computes {op = op} {d = d} {x = x} {y = y} {rest = rest} u v z e f g lt c =
         step (St count locals (Compute op d x y rest) rests waiting (heap m))
         (St count (set_local d z locals) rest rests waiting (heap m)) (rw (e, f, g, lt) refl)
-        (way count locals (Compute op d x y rest) rests waiting m s.words same (omega arith) active (omega arith))
+        (way count locals (Compute op d x y rest) rests waiting m s.words same (omega arith) room (omega arith))
         (omega arith) c
 
     if_true : {cond : Cond} {x y : LowSource} {one other rest : Code} (u v : ℕ) → word_of locals x ≡ Some u
@@ -176,7 +177,7 @@ module _ {V : Type 0} (reading : Halt → Ending V) (setting : Setting) (l : Lay
     if_true {cond = cond} {x = x} {y = y} {one = one} {other = other} {rest = rest} u v e f g c =
         step (St count locals (If cond x y one other rest) rests waiting (heap m))
         (St count locals one (rest ∷ rests) waiting (heap m)) (rw (e, f, g) refl)
-        (way count locals (If cond x y one other rest) rests waiting m s.words same (omega arith) active (omega arith))
+        (way count locals (If cond x y one other rest) rests waiting m s.words same (omega arith) room (omega arith))
         (omega arith) c
 
     if_false : {cond : Cond} {x y : LowSource} {one other rest : Code} (u v : ℕ) → word_of locals x ≡ Some u
@@ -187,7 +188,7 @@ module _ {V : Type 0} (reading : Halt → Ending V) (setting : Setting) (l : Lay
     if_false {cond = cond} {x = x} {y = y} {one = one} {other = other} {rest = rest} u v e f g c =
         step (St count locals (If cond x y one other rest) rests waiting (heap m))
         (St count locals other (rest ∷ rests) waiting (heap m)) (rw (e, f, g) refl)
-        (way count locals (If cond x y one other rest) rests waiting m s.words same (omega arith) active (omega arith))
+        (way count locals (If cond x y one other rest) rests waiting m s.words same (omega arith) room (omega arith))
         (omega arith) c
 
     stores : {x y : LowSource} {rest : Code} (u v : ℕ) → word_of locals x ≡ Some v → word_of locals y ≡ Some u
@@ -206,7 +207,7 @@ module _ {V : Type 0} (reading : Halt → Ending V) (setting : Setting) (l : Lay
         ∙ (ap (λ z. given t z (λ y. store reading setting (plus u (pos 0)) y next)) e
         ∙ (ap (λ q. store reading setting q v next) p
         ∙ ap (λ o. only_if next o (Go t')) may)))
-        (way count locals (Store x y 0 rest) rests waiting m s.words same (omega arith) active (omega arith))
+        (way count locals (Store x y 0 rest) rests waiting m s.words same (omega arith) room (omega arith))
         (omega arith) c
 
   -- so many elements are stored
@@ -252,6 +253,7 @@ module _ {V : Type 0} (reading : Halt → Ending V) (setting : Setting) (l : Lay
 
     -- the loop, called by a procedure that goes on
     looped : {b price : ℕ} (count : ℕ) (locals : Locals) (rest : Code) (rests : List Code) → nat_lt 4 count ≡ true
+        → count ≤ 24
         → ((m : Memory) → Wrote n m → Within b price (St count (set_local 4 0 locals) rest rests s.waiting (heap m)))
         → (k i : ℕ) → i + k ≡ n → (m : Memory) → Wrote i m
         → Within (4 * k + 2 + b) (61 * k + 20 + price)
@@ -260,7 +262,7 @@ module _ {V : Type 0} (reading : Halt → Ending V) (setting : Setting) (l : Lay
           rest = record { count = count; locals = locals; code = rest; rests = rests };
           answer = 4;
         } ∷ s.waiting) (heap m))
-    looped {b = b} {price = price} count locals rest rests lt go zero i sum m h =
+    looped {b = b} {price = price} count locals rest rests lt low go zero i sum m h =
         let same : s.alloc + 8 + 8 * i ≡ s.alloc + 8 + 8 * n = omega (arith, sum) in
         let is : i ≡ n = omega (arith, sum) in
         let waiting : List Waiting = record {
@@ -275,7 +277,7 @@ module _ {V : Type 0} (reading : Halt → Ending V) (setting : Setting) (l : Lay
         (St count (set_local 4 0 locals) rest rests s.waiting (heap m)) (rw (lt) refl)
         (way 3 asks (Return (Number 0)) (Done ∷ []) waiting m s.words h.below (omega arith) (omega arith) (omega arith))
         (le_refl (7 + price)) (go m (subst (λ k. Wrote k m) is h)))) (omega arith) (omega arith)
-    looped {b = b} {price = price} count locals rest rests lt go (suc k) i sum m h =
+    looped {b = b} {price = price} count locals rest rests lt low go (suc k) i sum m h =
         let inside : i < n = omega (arith, sum) in
         let waiting : List Waiting = record {
           rest = record { count = count; locals = locals; code = rest; rests = rests };
@@ -305,7 +307,7 @@ module _ {V : Type 0} (reading : Halt → Ending V) (setting : Setting) (l : Lay
         (omega arith) (omega arith) (omega arith))
         (let y : 40 + (61 * k + 20 + price) ≤ 40 + (61 * k + 20 + price) = le_refl _ in
         let z = ap entering_some there in omega (arith, y, z))
-        (looped {b = b} {price = price} count locals rest rests lt go k (suc i) (omega (arith, sum)) m' h')))))
+        (looped {b = b} {price = price} count locals rest rests lt low go k (suc i) (omega (arith, sum)) m' h')))))
         (omega arith) (omega arith)
 
     -- the header is stored, and nothing else yet
@@ -365,6 +367,7 @@ module _ {V : Type 0} (reading : Halt → Ending V) (setting : Setting) (l : Lay
           source = Word 3;
           code = refl;
           is = e3;
+          small = omega arith;
           waits = refl;
           same = refl;
         }
@@ -418,7 +421,7 @@ module _ {V : Type 0} (reading : Halt → Ending V) (setting : Setting) (l : Lay
         (subst (λ p. Within (4 * n + 2 + 1) (61 * n + 20 + 3) (St 3 (bind 0 (p ∷
         (s.alloc + 8 + 8 * n) ∷ w ∷ []) no_locals) loop_code []
         waiting (heap m1))) none
-        (looped 6 last (Take (Word 2) (Return (Word 3))) rests refl
+        (looped 6 last (Take (Word 2) (Return (Word 3))) rests refl (omega arith)
         (λ m h. made m h (set_local 4 0 last) refl refl rests) n 0 (omega arith) m1 h1)))))))))
         (omega arith) (omega arith)
 
@@ -525,7 +528,7 @@ module _ {V : Type 0} (reading : Halt → Ending V) (setting : Setting) (l : Lay
     1,
     le_refl 1,
     by_step N P' Q' 0 t0 (Go t1) (let e = below (signed n fits) in rw (e) refl) calm (
-      record { active = omega arith; asked = omega arith },
+      record { room = omega arith; asked = omega arith },
       record {
         objects = objects;
         fine = fine_at s.memory s.words (λ j lt. refl);
@@ -558,7 +561,7 @@ module _ {V : Type 0} (reading : Halt → Ending V) (setting : Setting) (l : Lay
       calm : P' t0
       calm = record {
         calm = record { objects = objects; fine = fine_at s.memory s.words (λ j lt. refl); same = refl };
-        active = omega arith;
+        room = omega arith;
         asked = omega arith;
         turns = omega arith;
       }

@@ -144,7 +144,7 @@ module _ {V : Type 0} (reading : Halt → Ending V) (setting : Setting) (l : Lay
             cheap = omega arith;
             reach = λ spare. (
               record {
-                active = let q = spare.room in omega (arith, q);
+                room = let q = spare.room in omega (arith, q);
                 asked = let q = spare.left in omega (arith, q);
               },
               record {
@@ -175,6 +175,7 @@ module _ {V : Type 0} (reading : Halt → Ending V) (setting : Setting) (l : Lay
                   held = p.2;
                   low = part_low w low A IsHeld still is_solid FunKind parts number result whole at_end;
                   room = omega arith;
+                  small = omega arith;
                 };
                 waits = refl;
                 same = same;
@@ -186,9 +187,9 @@ module _ {V : Type 0} (reading : Halt → Ending V) (setting : Setting) (l : Lay
           (omega arith, omega arith, omega arith, omega arith)
 
       -- from where all are cast
-      ends : (t : LowState) (pre : List (Merged A)) → t.waiting ≡ s.waiting
+      ends : (t : LowState) (pre : List (Merged A)) → t.waiting ≡ s.waiting → t.active.count ≤ 24
           → ReachedIn (from t (Calls pre) 0) (More 2 0 0 17 End) t → Stretch reading setting l t 2 deep 0 17 (Calls pre)
-      ends t pre waits z = (
+      ends t pre waits small z = (
         z.steps,
         (let g = z.few in omega (arith, g)),
         z.reach (record { room = omega arith; left = omega arith }),
@@ -262,7 +263,7 @@ module _ {V : Type 0} (reading : Halt → Ending V) (setting : Setting) (l : Lay
             cheap = omega arith;
             reach = λ spare. (
               record {
-                active = let q = spare.room in omega (arith, q);
+                room = let q = spare.room in omega (arith, q);
                 asked = let q = spare.left in omega (arith, q);
               },
               inl (record {
@@ -287,7 +288,7 @@ module _ {V : Type 0} (reading : Halt → Ending V) (setting : Setting) (l : Lay
             cheap = omega arith;
             reach = λ spare. (
               record {
-                active = let q = spare.room in omega (arith, q);
+                room = let q = spare.room in omega (arith, q);
                 asked = let q = spare.left in omega (arith, q);
               },
               inr (
@@ -392,7 +393,7 @@ module _ {V : Type 0} (reading : Halt → Ending V) (setting : Setting) (l : Lay
           let t : LowState = top locals rests zero k h in
           let w = from t (Calls pre) 0 in (
             here_at locals rests zero k objects h fine,
-            ends t pre refl
+            ends t pre refl (omega arith)
                 (at_most w
                 (subst (λ m. ReachedIn w (More 1 0 0 3 End) (at locals (call_function (cast first) m) rests h)) same
                 (called t pre done (long ∙ sym same) objects h fine (from_here t objects fine) grows refl locals rests
@@ -405,7 +406,7 @@ module _ {V : Type 0} (reading : Halt → Ending V) (setting : Setting) (l : Lay
           let t : LowState = top locals rests (suc j) k h in
           let w = from t (Calls pre) 0 in (
             here_at locals rests (suc j) k objects h fine,
-            ends t pre refl
+            ends t pre refl (omega arith)
                 (at_most w
                 (if_true w objects (from_here t objects fine) number k found.number_is
                 (ap Some (small_number k (omega (arith, sum)))) (eq_true number k same)

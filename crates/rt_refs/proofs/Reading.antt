@@ -146,7 +146,7 @@ module _ {V : Type 0} (reading : Halt → Ending V) (setting : Setting) (l : Lay
             cheap = omega arith;
             reach = λ spare. (
               record {
-                active = let p = spare.room in omega (arith, p);
+                room = let p = spare.room in omega (arith, p);
                 asked = let p = spare.left in omega (arith, p);
               },
               record {
@@ -192,7 +192,7 @@ module _ {V : Type 0} (reading : Halt → Ending V) (setting : Setting) (l : Lay
         cheap = omega arith;
         reach = λ spare. (
           record {
-            active = let p = spare.room in omega (arith, p);
+            room = let p = spare.room in omega (arith, p);
             asked = let p = spare.left in omega (arith, p);
           },
           record { fine = fine_here; source = Word 4; code = refl; is = refl; waits = refl; same = refl },

@@ -19,6 +19,7 @@ use Rattle.rt_cast.specs.WholeObjects.{IsSolid}
 use Rattle.rt_cast.specs.Costs.{cast_cost}
 use Rattle.rt_cast.specs.LightCasts.{cast_words_of, cast_price_of}
 use Rattle.rt_cast.specs.ComposeCodes.{cast}
+use Rattle.rt_cast.specs.Frames.{waiting_room}
 use Rattle.rt_cast.specs.Procs.{cast_proc}
 use Rattle.rt_cast.specs.States.{Grows, Heap, Fine, Filled, IsReady, Within, around, heap_of, st}
 use Rattle.rt_cast.specs.MergedValues.{Merged, Outcome, Stuck, Gives, Blames, cast_value}
@@ -70,13 +71,13 @@ module _ {V : Type 0} (reading : Halt → Ending V) (setting : Setting) (l : Lay
     around = around s;
     P = OnTheWayWriting setting l s (4 * l.tallest + 7) asks;
     Q = λ t. Within s (4 * l.tallest + 7) asks t × Q t;
-    frames = length s.waiting + (4 * l.tallest + 7);
+    room = waiting_room s.waiting + 25 * (4 * l.tallest + 7 + 1);
     most = s.words + asks;
     calm = λ active waiting h objects fine turns few asked. record {
       objects = objects;
       filled = fine.filled;
       same = refl;
-      active = few;
+      room = few;
       asked = asked;
       turns = turns;
     };
@@ -130,7 +131,7 @@ module _ {V : Type 0} (reading : Halt → Ending V) (setting : Setting) (l : Lay
       cheap = omega arith;
       reach = λ spare. (
         record {
-          active = let p = spare.room in omega (arith, p);
+          room = let p = spare.room in omega (arith, p);
           asked = let p = spare.left in omega (arith, p);
         },
         subst (λ z. WriteComes setting l s IsHeld objects a i z
@@ -206,7 +207,7 @@ module _ {V : Type 0} (reading : Halt → Ending V) (setting : Setting) (l : Lay
       cheap = omega arith;
       reach = λ spare. (
         record {
-          active = let p = spare.room in omega (arith, p);
+          room = let p = spare.room in omega (arith, p);
           asked = let p = spare.left in omega (arith, p);
         },
         subst (λ y. WriteComes setting l s IsHeld objects a i y
@@ -359,7 +360,7 @@ module _ {V : Type 0} (reading : Halt → Ending V) (setting : Setting) (l : Lay
             cheap = omega arith;
             reach = λ spare. (
               record {
-                active = let p = spare.room in omega (arith, p);
+                room = let p = spare.room in omega (arith, p);
                 asked = let p = spare.left in omega (arith, p);
               },
               record {
