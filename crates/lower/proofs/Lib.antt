@@ -69,5 +69,6 @@ mod MergedArguments
 mod MergedCalls
 mod MergedProducts
 mod MergedServing
+mod SizedStates
 mod SimulationAccount
 mod RoomCalls

@@ -94,27 +94,27 @@ module _ (l : Layout) (m : Measures) (fits : FitsMeasures l m) where
   half = half_charge m
 
   by_power : 160 * power ≤ half
-  by_power = half_is m.width power fits.some
+  by_power = half_is m.width power fits.two
 
   pub half_is_much : 160 ≤ half
   half_is_much =
-      let a = by_power in let b = some_power m.width m.height fits.some in omega (arith, a, b)
+      let a = by_power in let b = some_power m.width m.height fits.two in omega (arith, a, b)
 
   -- a cast that makes a proxy or a coercion, with 9 words and 1000 instructions to spare
   pub heavy_words : cast_words l.width l.tallest + 9 ≤ half
   heavy_words =
       let a = compose_words_grow l.width m.width l.tallest m.height fits.wide fits.tall in
-      let b = (bounds_have_closed_forms-words m.width m.height fits.some).1 in
+      let b = (bounds_have_closed_forms-words m.width m.height fits.two).1 in
       let c = by_power in
-      let d = some_power m.width m.height fits.some in
+      let d = some_power m.width m.height fits.two in
       omega (arith, a, b, c, d)
 
   pub heavy_price : cast_price l.width l.tallest + 1000 ≤ 896 + 64 * half
   heavy_price =
       let a = compose_price_grows l.width m.width l.tallest m.height fits.wide fits.tall in
-      let b = (bounds_have_closed_forms-prices m.width m.height fits.some).1 in
+      let b = (bounds_have_closed_forms-prices m.width m.height fits.two).1 in
       let c = by_power in
-      let d = some_power m.width m.height fits.some in
+      let d = some_power m.width m.height fits.two in
       omega (arith, a, b, c, d)
 
   -- an opening may ask for 13 words at least, and has 896 instructions at least

@@ -43,8 +43,8 @@ use Rattle.lower.specs.declared.served.Served.{Served}
 use Rattle.lower.specs.CarriedValues.{CarriedIn, AreCarried}
 use Rattle.lower.specs.Keeping.{FitsMeasures}
 use Rattle.lower.specs.MergedMeaning.{merged_meaning, merged_resumes, WrapsKind}
-use Rattle.lower.specs.SchemeLaws.{Spent, Here, StopsNow, Aim, After, Goes, Serves, Answers, Calls, CallsAt, CallsMade}
-use Rattle.lower.specs.SchemeLaws.{nothing, call_leaves, resumed_leaves}
+use Rattle.lower.specs.SchemeLaws.{Here, StopsNow, Aim, After, Goes, Serves, Answers, Calls, CallsAt, CallsMade}
+use Rattle.lower.specs.SchemeLaws.{call_leaves, resumed_leaves}
 use Rattle.lower.proofs.CarriedLater.{later, cells_later, cells_below}
 use Rattle.lower.proofs.MergedArguments.{AllNormal, of_function, pendings, all_cast, onto_before, handed_is, AllLike}
 use Rattle.lower.proofs.MergedArguments.{onto_like, all_back, CodeAt, all_like, called}
@@ -53,8 +53,8 @@ use Rattle.lower.proofs.MergedChains.{Comes as ChainComes, comes_stands as chain
 use Rattle.lower.proofs.MergedChains.{stuck_or_not, gives_some, blames_some}
 use Rattle.lower.proofs.MergedLaws.{merged_laws}
 use Rattle.lower.proofs.MergedLike.{Like, solid_head, head_at, like_of, like_wrapped}
-use Rattle.lower.proofs.MergedStages.{Calm, Stands, Stage, Settled, at_end, begun, settled_calm, calm_as, stays}
-use Rattle.lower.proofs.MergedStages.{lands_from, by_law, by_stretch}
+use Rattle.lower.proofs.MergedStages.{HasRoom, Calm, Stands, Stage, Settled, at_end, begun, settled_calm, calm_as}
+use Rattle.lower.proofs.MergedStages.{stays, lands_from, by_law, by_stretch}
 use Rattle.lower.proofs.MergedStates.{filled_of, filled_as, blame_stops}
 use Rattle.lower.proofs.MergedTurns.{Ends, ends_cast}
 
@@ -103,21 +103,18 @@ module _ (setting : Setting) (l : Layout) (procs : List Proc) (casts : List Type
   -- ---- a call of what stands at a, with all these arguments, which are cast one after another
 
   module _ (a : ℕ) (e : Coercion) (all : List (FlatValue Coercion)) (address : ℕ) where
-    abbrev most : Spent
-    most = record { frames = 4 * l.tallest + 7 }
-
     abbrev aim : Aim merged_meaning setting l procs casts m
     aim focus frames store' n left t =
         Calls merged_meaning setting l procs casts m s places objects base focus frames store' n left t
 
     abbrev GoesOn : ℕ → FlatFocus Coercion → List (FlatFrame Coercion) → ℕ → ℕ → LowState → Type 0
     GoesOn i focus frames n credit t =
-        Goes merged_meaning setting l procs casts m s most aim i focus frames store n credit t
+        Goes merged_meaning setting l procs casts m s aim i focus frames store n credit t
 
     abbrev Turned : ℕ → FlatAfter Coercion → Cost → ℕ → ℕ → LowState → Type 0
     Turned i x cost credit n t =
-        After merged_meaning setting l procs casts m s most (Goes merged_meaning setting l procs casts m s most aim i) x
-        cost credit n 0 t
+        After merged_meaning setting l procs casts m s (Goes merged_meaning setting l procs casts m s aim i) x cost
+        credit n 0 t
 
     -- the casts of arguments look at values with these heads
     abbrev heads : ℕ → ℕ → TypeHead
@@ -127,13 +124,13 @@ module _ (setting : Setting) (l : Layout) (procs : List Proc) (casts : List Type
     InTurn k ds xs done t =
         CastInTurn l setting first s (IsVery l) objects ending_of heads a address e k ds xs done t
 
-    stands_at : (t : LowState) → AtArgument l setting first s (IsVery l) objects t
-        → Stands setting l procs casts m s most t
-    stands_at t x = record {
+    stands_at : (t : LowState) → HasRoom setting l procs casts m s t → AtArgument l setting first s (IsVery l) objects t
+        → Stands setting l procs casts m s t
+    stands_at t room x = record {
       objects = x.new;
       filled = x.fine.filled;
       same = x.same;
-      active = let b = ap length x.waits in omega (arith, b);
+      room = room;
     }
 
     -- where the numbers of casts and of arguments are the same, the run is at an argument
@@ -216,11 +213,11 @@ module _ (setting : Setting) (l : Layout) (procs : List Proc) (casts : List Type
           0,
           λ t x n credit. (
             refl,
-            lands_from setting l procs casts m s most (4 * l.tallest + 7) 0 17 call_leaves (omega arith) t x.0.waits
-                x.0.same (RtCallsAt l setting first s (IsVery l) objects a address xs e) x.1.0 x.1.2 x.1.3 acting credit
+            lands_from setting l procs casts m s (4 * l.tallest + 7) 0 17 call_leaves (omega arith) t x.0.waits x.0.same
+                (RtCallsAt l setting first s (IsVery l) objects a address xs e) x.1.0 x.1.2 x.1.3 acting credit
                 (omega arith) (omega arith) n (n + 0)
                 (λ left u. aim (Own (Inside p.body (locals_of values) group)) (CastFrame e ∷ base) store (n + 0) left u)
-                (λ u g. (
+                (λ u room g. (
                   code,
                   captured,
                   values,
@@ -304,14 +301,15 @@ module _ (setting : Setting) (l : Layout) (procs : List Proc) (casts : List Type
 
     -- one turn at a call whose function has no wrapper
     one_turn : (f : FlatValue Coercion) → L f (Solid a) → (done : List (FlatValue Coercion))
-        (todo : List (Pending Coercion FlatCode)) (i : ℕ) (t : LowState) → Stands setting l procs casts m s most t
+        (todo : List (Pending Coercion FlatCode)) (i : ℕ) (t : LowState) → Stands setting l procs casts m s t
         → (n credit : ℕ)
         → Turned i (plainly f done todo) (plain_cost procs (merging l.types casts) prices todo) credit n t
         → GoesOn (suc i) (Entering f done todo) (CastFrame e ∷ base) n credit t
     one_turn f k done todo i t stands n credit r = (
       tt,
-      calm_as setting l procs casts m s most t stands n,
-      subst (λ c. Turned i (turned f done todo) c credit n t) (sym (bare_cost f k todo))
+      calm_as setting l procs casts m s t stands n,
+      subst
+          (λ c. Turned i (turned f done todo) c credit n t) (sym (bare_cost f k todo))
           (subst (λ x. Turned i x (plain_cost procs (merging l.types casts) prices todo) credit n t)
           (sym (bare_turn f k done todo)) r),
     )
@@ -328,31 +326,31 @@ module _ (setting : Setting) (l : Layout) (procs : List Proc) (casts : List Type
           where_comes total (λ y. InTurn (suc k) ds xs (done ++ y ∷ []) t)
           (λ label. BlamesAt l setting s (IsVery l) objects label t)
 
-      comes_stands : (t : LowState) → Comes t → length t.waiting ≤ length s.waiting + most.frames
-          → Stands setting l procs casts m s most t
+      comes_stands : (t : LowState) → Comes t → HasRoom setting l procs casts m s t
+          → Stands setting l procs casts m s t
       comes_stands t c few = by total c
         where
           by : (r : Outcome ℕ)
               → where_comes r (λ y. InTurn (suc k) ds xs (done ++ y ∷ []) t)
               (λ label. BlamesAt l setting s (IsVery l) objects label t)
-              → Stands setting l procs casts m s most t
+              → Stands setting l procs casts m s t
           by Stuck c = absurd c
-          by (Gives y) c = stands_at t (at_argument (suc k) ds xs (done ++ y ∷ []) long t c)
-          by (Blames label) c = record { objects = c.new; filled = c.fine.filled; same = c.same; active = few }
+          by (Gives y) c = stands_at t few (at_argument (suc k) ds xs (done ++ y ∷ []) long t c)
+          by (Blames label) c = record { objects = c.new; filled = c.fine.filled; same = c.same; room = few }
 
       abbrev Done : LowState → Type 0
-      Done = Settled setting l procs casts m s most (total ≡ Stuck) (stuck_or_not total) Comes comes_stands
+      Done = Settled setting l procs casts m s (total ≡ Stuck) (stuck_or_not total) Comes comes_stands
 
-      calm : (t : LowState) → Done t → Calm setting l procs casts m s most t
-      calm t x = settled_calm setting l procs casts m s most (total ≡ Stuck) (stuck_or_not total) Comes comes_stands t x
+      calm : (t : LowState) → Done t → Calm setting l procs casts m s t
+      calm t x = settled_calm setting l procs casts m s (total ≡ Stuck) (stuck_or_not total) Comes comes_stands t x
 
-      abbrev walk : Stage setting l procs casts m s most Done
+      abbrev walk : Stage setting l procs casts m s Done
       walk =
-          begun setting l procs casts m s most (total ≡ Stuck) (stuck_or_not total) Comes comes_stands
+          begun setting l procs casts m s (total ≡ Stuck) (stuck_or_not total) Comes comes_stands
           (cast_words_of l d x) (cast_price_of l d x + 52)
 
-      abbrev ended : Stage setting l procs casts m s most Done
-      ended = at_end setting l procs casts m s most Done calm
+      abbrev ended : Stage setting l procs casts m s Done
+      ended = at_end setting l procs casts m s Done calm
 
       comes_so : (r : Outcome ℕ) → total ≡ r → (r ≡ Stuck → ⊥) → (t : LowState) → Done t
           → where_comes r (λ y. InTurn (suc k) ds xs (done ++ y ∷ []) t)
@@ -369,27 +367,28 @@ module _ (setting : Setting) (l : Layout) (procs : List Proc) (casts : List Type
           (comes_so (Blames label) q (blames_some label (Blames label) refl) t x)
 
       -- from where the run is at it
-      begins : (t : LowState) → InTurn k (d ∷ ds) (x ∷ xs) done t → walk.Ready t
-      begins t y =
-          by_stretch setting l procs casts m s most (total ≡ Stuck) (stuck_or_not total) Comes comes_stands
-          (4 * l.tallest + 7) (cast_words_of l d x) (cast_price_of l d x + 52) (omega arith) t (stands_at t y.0)
+      begins : (t : LowState) → Stands setting l procs casts m s t → InTurn k (d ∷ ds) (x ∷ xs) done t → walk.Ready t
+      begins t stands y =
+          by_stretch setting l procs casts m s (total ≡ Stuck) (stuck_or_not total) Comes comes_stands
+          (4 * l.tallest + 7) (cast_words_of l d x) (cast_price_of l d x + 52) (omega arith) t stands
           y.0.waits y.0.same (λ some. let z = y.1 some in (z.0, z.2, let c = z.3 in omega (arith, c)))
 
       abbrev Later : List (FlatFrame Coercion) → Type 0
       Later frames =
-          Ends setting l procs casts m measured s places objects store most aim (heads k 0) total Done calm stops_so
-          ended (λ y credit. 0 ≤ credit) frames (λ o. o)
+          Ends setting l procs casts m measured s places objects store aim (heads k 0) total Done calm stops_so ended
+          (λ y credit. 0 ≤ credit) frames (λ o. o)
 
       -- the turns of its cast
       argument_cast : IsNormal (rows_of l.types) d → (frames : List (FlatFrame Coercion)) → Later frames
           → (v : FlatValue Coercion) → L v x → solid_head setting l procs places objects v ≡ heads k 0
-          → (i : ℕ) × ((t : LowState) → InTurn k (d ∷ ds) (x ∷ xs) done t → (n credit : ℕ)
+          → (i : ℕ) × ((t : LowState) → Stands setting l procs casts m s t → InTurn k (d ∷ ds) (x ∷ xs) done t
+          → (n credit : ℕ)
           → GoesOn i (Return v) (CastFrame d ∷ frames) n credit t)
       argument_cast normal frames later v like head =
-          let r = ends_cast setting l procs casts m measured s places objects store most aim (heads k 0) total Done calm
+          let r = ends_cast setting l procs casts m measured s places objects store aim (heads k 0) total Done calm
           stops_so walk 0 d normal frames (λ o. o) (λ label. refl) later v x like head refl in (
             r.0,
-            λ t y n credit. r.1 t (begins t y) n credit
+            λ t stands y n credit. r.1 t (begins t stands y) n credit
                 (cast_fits l m measured 52 0 d x credit (omega arith) (omega arith)),
           )
 
@@ -399,12 +398,13 @@ module _ (setting : Setting) (l : Layout) (procs : List Proc) (casts : List Type
         → AllNormal (rows_of l.types) ds → length ds ≡ length vs → length xs ≡ length vs
         → ((i : ℕ) → slice_get vs i ≡ slice_get all (k + i)) → (done : List (FlatValue Coercion))
         (pre : List (Merged ℕ)) → Ls done pre
-        → (i : ℕ) × ((t : LowState) → InTurn k ds xs (onto pre []) t → (n credit : ℕ)
+        → (i : ℕ) × ((t : LowState) → Stands setting l procs casts m s t → InTurn k ds xs (onto pre []) t
+        → (n credit : ℕ)
         → GoesOn i (Entering f done (pendings vs ds)) (CastFrame e ∷ base) n credit t)
     arguments f like at [] [] [] k likes normal long many same done pre before =
         let r = all_given f like at (onto done []) (onto pre [])
         (onto_like setting l procs places objects done pre [] [] before tt) in
-        (suc r.0, λ t x n credit. one_turn f like done [] r.0 t (stands_at t x.0) n credit (r.1 t x n credit))
+        (suc r.0, λ t stands x n credit. one_turn f like done [] r.0 t stands n credit (r.1 t x n credit))
     arguments f like at [] [] (d ∷ ds) k likes normal long many same done pre before = absurd (omega (arith, long))
     arguments f like at [] (x ∷ xs) ds k likes normal long many same done pre before = absurd likes
     arguments f like at (v ∷ vs) [] ds k likes normal long many same done pre before = absurd likes
@@ -423,22 +423,22 @@ module _ (setting : Setting) (l : Layout) (procs : List Proc) (casts : List Type
             calm k d ds x xs (onto pre []) few t settled n,
             (
               refl,
-              stays setting l procs casts m s most (Done k d ds x xs (onto pre []) few)
+              stays setting l procs casts m s (Done k d ds x xs (onto pre []) few)
                   (λ left w. GoesOn r.0 (Entering f (u ∷ done) (pendings vs ds)) (CastFrame e ∷ base) (n + 0) left w)
-                  no_cost credit n (n + 0) t
-                  (r.1 t (subst (λ ys. InTurn (suc k) ds xs ys t) (sym (onto_before pre (y ∷ [])))
+                  no_cost credit n (n + 0) t (calm k d ds x xs (onto pre []) few t settled)
+                  (r.1 t settled.stands (subst (λ ys. InTurn (suc k) ds xs ys t) (sym (onto_before pre (y ∷ [])))
                   (comes_so k d ds x xs (onto pre []) few (Gives y) q (gives_some y) t settled)) (n + 0) (credit + 0)),
             ),
           ),
         )) v likes.0
         (ap (λ o. head_at setting l procs places objects o) (same 0 ∙ ap (slice_get all) no_more)) in (
           suc r.0,
-          λ t turn n credit.
-              one_turn f like done (pendings (v ∷ vs) (d ∷ ds)) r.0 t (stands_at t turn.0) n credit (
+          λ t stands turn n credit.
+              one_turn f like done (pendings (v ∷ vs) (d ∷ ds)) r.0 t stands n credit (
                 refl,
-                stays setting l procs casts m s most (Done k d ds x xs (onto pre []) few)
+                stays setting l procs casts m s (Done k d ds x xs (onto pre []) few)
                     (λ left w. GoesOn r.0 (Return v) (CastFrame d ∷ frames) (n + 0) left w) no_cost credit n (n + 0) t
-                    (r.1 t turn (n + 0) (credit + 0)),
+                    (calm_as setting l procs casts m s t stands) (r.1 t stands turn (n + 0) (credit + 0)),
               ),
         )
       where
@@ -458,8 +458,7 @@ module _ (setting : Setting) (l : Layout) (procs : List Proc) (casts : List Type
 
   abbrev Called : FlatAfter Coercion → LowState → Type 0
   Called x te =
-      (most : Spent)
-      × Serves merged_meaning setting l procs casts m s most
+      Serves merged_meaning setting l procs casts m s
       (Calls merged_meaning setting l procs casts m s places objects base) x acting number 0 te
 
   -- told the casts of its arguments and of its answer
@@ -493,18 +492,16 @@ module _ (setting : Setting) (l : Layout) (procs : List Proc) (casts : List Type
         (let q = given.3 in omega (arith, q, long)) closure.0 closure.1 closure.2 closure.3 in
         let r = arguments seen.0 e vs closure.1 v seen.1 closure.4 vs given.0 ds 0 given.1 parts.0 long given.3
         (λ i. let z : i ≡ 0 + i = omega arith in ap (slice_get vs) z) [] [] tt in (
-          record { frames = 4 * l.tallest + 7 },
+          r.0,
           (
-            r.0,
-            (
-              refl,
-              lands_from setting l procs casts m s (record { frames = 4 * l.tallest + 7 }) (4 * l.tallest + 7) 0 9 0
-                  (omega arith) (called_with w ws) refl refl
-                  (InTurn seen.0 e vs closure.1 0 ds given.0 []) z.0 z.2 z.3 acting 0 (omega arith) (omega arith) number
-                  (number + 0)
-                  (λ left u. GoesOn seen.0 e vs closure.1 r.0 (Entering v [] (pendings vs ds)) (CastFrame e ∷ base)
-                  (number + 0) left u) (λ u x. r.1 u x (number + 0) 0),
-            ),
+            refl,
+            lands_from setting l procs casts m s (4 * l.tallest + 7) 0 9 0
+                (omega arith) (called_with w ws) refl refl
+                (InTurn seen.0 e vs closure.1 0 ds given.0 []) z.0 z.2 z.3 acting 0 (omega arith) (omega arith) number
+                (number + 0)
+                (λ left u. GoesOn seen.0 e vs closure.1 r.0 (Entering v [] (pendings vs ds)) (CastFrame e ∷ base)
+                (number + 0) left u) (λ u room x. r.1 u (stands_at seen.0 e vs closure.1 u room
+                (at_argument seen.0 e vs closure.1 0 ds given.0 [] (long ∙ sym given.3) u x)) x (number + 0) 0),
           ),
         )
 
@@ -524,7 +521,7 @@ module _ (setting : Setting) (l : Layout) (procs : List Proc) (casts : List Type
           (λ todo. On (Entering v [] todo) (CastFrame e ∷ base) store s.world)) (called_with w ws)
       by_casts ds e split (inl none) =
           subst (λ o. Called (on_some o (λ todo. On (Entering v [] todo) (CastFrame e ∷ base) store s.world))
-          (called_with w ws)) (sym none) (nothing, (0, refl))
+          (called_with w ws)) (sym none) (0, refl)
       by_casts ds e split (inr some) =
           subst (λ o. Called (on_some o (λ todo. On (Entering v [] todo) (CastFrame e ∷ base) store s.world))
           (called_with w ws)) (sym some.0) (call_made v cast w c vs ws cs few ds e split some.1)
@@ -532,7 +529,7 @@ module _ (setting : Setting) (l : Layout) (procs : List Proc) (casts : List Type
       by_parts : (o : Option (List Coercion × Coercion)) → function_parts cast ≡ o
           → Called (on_some o (λ parts. on_some (cast_all (all_plain vs) parts.0)
           (λ todo. On (Entering v [] todo) (CastFrame parts.1 ∷ base) store s.world))) (called_with w ws)
-      by_parts None split = (nothing, (0, refl))
+      by_parts None split = (0, refl)
       by_parts (Some parts) split = by_casts parts.0 parts.1 split (all_cast vs parts.0)
 
   -- the procedure that waits goes on with the word of an answer
@@ -550,37 +547,31 @@ module _ (setting : Setting) (l : Layout) (procs : List Proc) (casts : List Type
     abbrev answer_of : Outcome ℕ
     answer_of = cast_value (λ b. answer_head) l.types c answer.0
 
-    abbrev enough : Spent
-    enough = record { frames = 4 * l.tallest + 6 }
-
-    answer_begins : Walking setting l procs casts m measured placed s places objects store number here base enough
+    answer_begins : Walking setting l procs casts m measured placed s places objects store number here base
         resumed_leaves answer_head answer_of (cast_words_of l c answer.0) (cast_price_of l c answer.0 + 70) resumed
     answer_begins =
-        by_law setting l procs casts m s enough (answer_of ≡ Stuck) (stuck_or_not answer_of)
-        (ChainComes setting l procs casts m measured placed s places objects store number here base enough
-        resumed_leaves
+        by_law setting l procs casts m s (answer_of ≡ Stuck) (stuck_or_not answer_of)
+        (ChainComes setting l procs casts m measured placed s places objects store number here base resumed_leaves
         answer_head answer_of)
-        (chain_stands setting l procs casts m measured placed s places objects store number here base enough
-        resumed_leaves answer_head answer_of) (4 * l.tallest + 6) (cast_words_of l c answer.0)
+        (chain_stands setting l procs casts m measured placed s places objects store number here base resumed_leaves
+        answer_head answer_of) (4 * l.tallest + 6) (cast_words_of l c answer.0)
         (cast_price_of l c answer.0 + 70) (omega arith) resumed
-        (record { objects = objects; filled = rt_filled; same = refl; active = omega arith }) refl
+        (record { objects = objects; filled = rt_filled; same = refl; room = omega arith }) refl
         (λ some.
         let z = answers_are_cast ending_of setting l waits.0 s refl
         (record { placed = placed; stand = waits.1; types = types }) tallest objects rt_filled (λ b. answer_head)
         waiting c waits.2 answer.0 w answer.2 answer_of refl some in
         (z.0, z.2, z.3))
 
-    answer_cast : (most : Spent) × Answers merged_meaning setting l procs casts m s most resumed_leaves places objects
-        base (flat_cast procs (merging l.types casts) store s.world v c base)
+    answer_cast : Answers merged_meaning setting l procs casts m s resumed_leaves places objects base
+        (flat_cast procs (merging l.types casts) store s.world v c base)
         (cast_cost procs (merging l.types casts) prices (Some c) v) number
         (decision_wraps (decision_at procs (merging l.types casts) (Some c) v)) resumed
-    answer_cast = (
-      enough,
-      cast_answers setting l procs casts m measured placed s places objects store number here base enough resumed_leaves
-          answer_head answer_of (cast_words_of l c answer.0) (cast_price_of l c answer.0 + 70) c waits.2.low.normal v
-          answer.0 answer.1 refl refl resumed answer_begins
-          (cast_fits l m measured 70 resumed_leaves c answer.0 0 (omega arith) (omega arith)) number,
-    )
+    answer_cast =
+        cast_answers setting l procs casts m measured placed s places objects store number here base resumed_leaves
+        answer_head answer_of (cast_words_of l c answer.0) (cast_price_of l c answer.0 + 70) c waits.2.low.normal v
+        answer.0 answer.1 refl refl resumed answer_begins
+        (cast_fits l m measured 70 resumed_leaves c answer.0 0 (omega arith) (omega arith)) number
 
 -- Calls of functions through proxies are made by apply, and what they give is cast, wherever the procedures stand.
 pub merged_calls_made : (setting : Setting) (l : Layout) (procs : List Proc) (casts : List TypeCast) (m : Measures)
@@ -596,9 +587,10 @@ merged_calls_made setting l procs casts m first run_by measured placed types tal
     takes = refl;
     few = omega arith;
     room = omega arith;
+    small = omega arith;
   };
   calls = λ s number places objects store here base v cast w c vs ws cs few.
-      subst (λ words. (most : Spent) × Serves merged_meaning setting l procs casts m s most
+      subst (λ words. Serves merged_meaning setting l procs casts m s
       (Calls merged_meaning setting l procs casts m s places objects base)
       (flat_turn procs (merging l.types casts) store s.world (Entering (RunWrap v cast) [] (all_plain vs)) base)
       (act_cost procs (merging l.types casts) (merged_prices l.types (merging l.types casts) m)) number
@@ -615,7 +607,7 @@ merged_calls_made setting l procs casts m first run_by measured placed types tal
         → merged_resumes setting l objects waiting (cast ∷ results) → (v : FlatValue Coercion) (w : ℕ)
         → CarriedIn l setting.address procs merged_meaning places objects v [] w
         → (waiting.answer < waiting.rest.count)
-        × (most : Spent) × Answers merged_meaning setting l procs casts m s most resumed_leaves places objects base
+        × Answers merged_meaning setting l procs casts m s resumed_leaves places objects base
         (flat_cast procs (merging l.types casts) store s.world v cast (casts_onto results base))
         (cast_cost procs (merging l.types casts) (merged_prices l.types (merging l.types casts) m) (Some cast) v) number
         (decision_wraps (decision_at procs (merging l.types casts) (Some cast) v))
@@ -624,4 +616,4 @@ merged_calls_made setting l procs casts m first run_by measured placed types tal
     answered s number places objects store here base waiting cast [] resumes v w c =
         let z = answer_cast setting l procs casts m measured first placed types tallest ready s number places objects
         store here base waiting cast resumes v w c in
-        (resumes.2.room, z.0, z.1)
+        (resumes.2.room, z)

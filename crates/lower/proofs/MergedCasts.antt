@@ -1,6 +1,6 @@
 -- The procedure for casts of the merged scheme makes the turns of casts between any types, of any values.
 use Rattle.std.proofs.Common.{◌≡◌, ℕ, ◌+◌, ◌*◌, ◌^◌, ◌<◌, ◌≤◌, List, [], ◌∷◌, Some, None}
-use Rattle.std.proofs.Common.{Bool, true, false, Option, refl, sym, ap, ◌∙◌, subst, arith, le_refl, slice_get}
+use Rattle.std.proofs.Common.{Bool, true, false, Option, refl, sym, ap, ◌∙◌, subst, arith, slice_get}
 use Rattle.std.specs.Prelude.{if◌then◌else◌, option_map}
 use Rattle.grift_base.specs.Types.{TypeHead}
 use Rattle.run_laws.specs.Machines.{Reaches}
@@ -32,7 +32,7 @@ use Rattle.lower.specs.CarriedValues.{CarriedIn}
 use Rattle.lower.specs.Emit.{cast_word}
 use Rattle.lower.specs.Keeping.{FitsMeasures}
 use Rattle.lower.specs.MergedMeaning.{merged_meaning, MergedCasts}
-use Rattle.lower.specs.SchemeLaws.{Spent, Here, Answers, CastsMade, CastsHaveWords, cast_leaves}
+use Rattle.lower.specs.SchemeLaws.{Here, Answers, CastsMade, CastsHaveWords, cast_leaves}
 use Rattle.lower.proofs.HeapObjects.{none_some, same_some}
 use Rattle.lower.proofs.MergedBounds.{cast_fits}
 use Rattle.lower.proofs.MergedChains.{Comes, comes_stands, Walking, cast_answers, stuck_or_not}
@@ -41,7 +41,7 @@ use Rattle.lower.proofs.MergedLike.{Like, solid_head, like_of}
 use Rattle.lower.proofs.MergedStages.{by_law}
 use Rattle.lower.proofs.MergedStates.{filled_of}
 
--- more procedures may be active
+-- there may be room for more frames
 fewer : (setting : Setting) (l : Layout) (s : LowState) (few many words : ℕ) → few ≤ many → (Q : LowState → Type 0)
     (k : ℕ) (t : LowState)
     → Reaches (low_machine ending_of setting) (OnTheWay setting l s few words) (λ u. Within s few words u × Q u) k t
@@ -51,10 +51,10 @@ fewer setting l s few many words le Q k t r =
     (OnTheWay setting l s many words) (λ u. Within s many words u × Q u)
     (λ t o. record {
       calm = o.calm;
-      active = let a = o.active in omega (arith, a, le);
+      room = let a = o.room in omega (arith, a, le);
       asked = o.asked;
       turns = o.turns;
-    }) (λ t q. (record { active = let a = q.0.active in omega (arith, a, le); asked = q.0.asked }, q.1)) k t r
+    }) (λ t q. (record { room = let a = q.0.room in omega (arith, a, le); asked = q.0.asked }, q.1)) k t r
 
 -- ---- the procedure
 
@@ -83,9 +83,6 @@ module _ (setting : Setting) (l : Layout) (procs : List Proc) (casts : List Type
 
   abbrev deep : ℕ
   deep = 4 * l.tallest + 6
-
-  abbrev most : Spent
-  most = record { frames = deep }
 
   is_ready : IsReady setting l first
   is_ready = record { placed = placed; stand = ready; types = types }
@@ -125,26 +122,24 @@ module _ (setting : Setting) (l : Layout) (procs : List Proc) (casts : List Type
           (λ a. H) c low like.0 total refl some w (cast_word (slice_get words row)) like.2 hc in
           (z.0, z.2, z.3))
 
-  begins : Walking setting l procs casts m measured placed s places objects store number here base most cast_leaves H
+  begins : Walking setting l procs casts m measured placed s places objects store number here base cast_leaves H
       total (cast_words_of l c like.0) (cast_price_of l c like.0 + 0) te
   begins =
-      by_law setting l procs casts m s most (total ≡ Stuck) (stuck_or_not total)
-      (Comes setting l procs casts m measured placed s places objects store number here base most cast_leaves H total)
-      (comes_stands setting l procs casts m measured placed s places objects store number here base most cast_leaves H
-      total) deep (cast_words_of l c like.0) (cast_price_of l c like.0 + 0) (le_refl deep) te
-      (record { objects = objects; filled = rt_filled; same = refl; active = omega arith }) refl
+      by_law setting l procs casts m s (total ≡ Stuck) (stuck_or_not total)
+      (Comes setting l procs casts m measured placed s places objects store number here base cast_leaves H total)
+      (comes_stands setting l procs casts m measured placed s places objects store number here base cast_leaves H
+      total) deep (cast_words_of l c like.0) (cast_price_of l c like.0 + 0) (omega arith) te
+      (record { objects = objects; filled = rt_filled; same = refl; room = omega arith }) refl
       (λ some. let z = law some in (z.0, z.1, let a = z.2 in omega (arith, a)))
 
-  pub made_by : (most : Spent) × Answers merged_meaning setting l procs casts m s most cast_leaves places objects base
+  pub made_by : Answers merged_meaning setting l procs casts m s cast_leaves places objects base
       (flat_cast procs (merging l.types casts) store s.world v c base)
       (cast_cost procs (merging l.types casts) (merged_prices l.types (merging l.types casts) m) (Some c) v) number
       (decision_wraps (decision_at procs (merging l.types casts) (Some c) v)) te
-  made_by = (
-    most,
-    cast_answers setting l procs casts m measured placed s places objects store number here base most cast_leaves H
-        total (cast_words_of l c like.0) (cast_price_of l c like.0 + 0) c low.normal v like.0 like.1 refl refl te begins
-        (cast_fits l m measured 0 cast_leaves c like.0 0 (omega arith) (omega arith)) number,
-  )
+  made_by =
+      cast_answers setting l procs casts m measured placed s places objects store number here base cast_leaves H
+      total (cast_words_of l c like.0) (cast_price_of l c like.0 + 0) c low.normal v like.0 like.1 refl refl te begins
+      (cast_fits l m measured 0 cast_leaves c like.0 0 (omega arith) (omega arith)) number
 
 -- the row of a number
 pub row_of : (types : Rattle.grift_base.specs.Types.TypeRows) (o : Option TypeCast) (c : Coercion)
@@ -167,12 +162,12 @@ merged_casts_made setting l procs casts m words first run_by measured placed typ
         takes = refl;
         few = omega arith;
         room = omega arith;
+        small = omega arith;
       };
       makes = λ s number places objects store here base row c e v w carried.
           let r = row_of l.types (slice_get casts row) c e in
           let z = held.hold row r.0 r.1 in
-          subst (λ ws. (most : Spent) × Answers merged_meaning setting l procs casts m s most cast_leaves places
-          objects base
+          subst (λ ws. Answers merged_meaning setting l procs casts m s cast_leaves places objects base
           (flat_cast procs (merging l.types casts) store s.world v c base)
           (cast_cost procs (merging l.types casts) (merged_prices l.types (merging l.types casts) m) (Some c) v) number
           (decision_wraps (decision_at procs (merging l.types casts) (Some c) v))

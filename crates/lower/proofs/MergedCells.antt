@@ -40,6 +40,7 @@ module _ (setting : Setting) (l : Layout) (procs : List Proc) (casts : List Type
       takes = refl;
       few = omega arith;
       room = omega arith;
+      small = omega arith;
     };
     unboxes = merged_unboxes setting l procs casts m measured first run placed types held.tallest ready;
     reads = merged_reads setting l procs casts m measured first run placed types held.tallest ready;
@@ -50,6 +51,7 @@ module _ (setting : Setting) (l : Layout) (procs : List Proc) (casts : List Type
       takes = refl;
       few = omega arith;
       room = omega arith;
+      small = omega arith;
     };
     sets = merged_sets setting l procs casts m measured first run placed types held.tallest ready region;
     writes = merged_writes setting l procs casts m measured first run placed types held.tallest ready region;
@@ -59,6 +61,7 @@ module _ (setting : Setting) (l : Layout) (procs : List Proc) (casts : List Type
       takes = refl;
       few = omega arith;
       room = omega arith;
+      small = omega arith;
     };
     fills = merged_fills setting l procs casts m placed region narrow (4 + (27 + first)) (stands_at 4 (4 + (27 + first))
         _ refl refl) run;

@@ -1,6 +1,6 @@
 -- What casts of values and parts of tuples come to in the merged mode, in a procedure that comes to the same and
 -- returns it.
-use Rattle.std.proofs.Common.{◌≡◌, ◌⊎◌, inl, inr, ℕ, ◌+◌, ◌≤◌, List, [], ◌∷◌, ◌++◌, length, Some, slice_get}
+use Rattle.std.proofs.Common.{◌≡◌, ◌⊎◌, inl, inr, ℕ, ◌+◌, ◌≤◌, List, [], ◌∷◌, ◌++◌, Some, slice_get}
 use Rattle.std.proofs.Common.{refl, sym, ◌∙◌, subst, append-nil, pos}
 use Rattle.grift_base.specs.Types.{TypeHead}
 use Rattle.grift_base.specs.declared.places.Pos.{Pos}
@@ -26,12 +26,12 @@ use Rattle.rt_cast.specs.States.{Placed, Filled as RtFilled, heap_of}
 use Rattle.lower.specs.CarriedValues.{CarriedIn}
 use Rattle.lower.specs.Keeping.{FitsMeasures}
 use Rattle.lower.specs.MergedMeaning.{merged_meaning}
-use Rattle.lower.specs.SchemeLaws.{Spent, Here, StopsNow, After, Goes, Returns, ReturnsAt, Aim}
+use Rattle.lower.specs.SchemeLaws.{Here, StopsNow, After, Goes, Returns, ReturnsAt, Aim}
 use Rattle.lower.proofs.CarriedLater.{cells_later, cells_below}
 use Rattle.lower.proofs.MergedBounds.{Fits}
 use Rattle.lower.proofs.MergedLaws.{merged_laws}
 use Rattle.lower.proofs.MergedLike.{Like, solid_head, like_back, KnownUnder}
-use Rattle.lower.proofs.MergedStages.{Calm, Stands, Stage, at_end, Settled, settled_calm, Begun, begun}
+use Rattle.lower.proofs.MergedStages.{HasRoom, Calm, Stands, Stage, at_end, Settled, settled_calm, Begun, begun}
 use Rattle.lower.proofs.MergedStates.{blame_stops, filled_as}
 use Rattle.lower.proofs.MergedTurns.{Ends as EndsBy, IsStrict, Made as MadeBy, PartFits as PartFitsBy}
 use Rattle.lower.proofs.MergedTurns.{cast_made as cast_made_by, ends_cast as ends_cast_by}
@@ -56,7 +56,7 @@ module _ (setting : Setting) (l : Layout) (procs : List Proc) (casts : List Type
     (measured : FitsMeasures l m) (placed : Placed setting l) (s : LowState) (places : List ℕ) (objects : List Object)
     (store : FlatStore Coercion) (at_first : ℕ)
     (here : Here merged_meaning setting l procs casts m places objects store at_first (heap_of s))
-    (base : List (FlatFrame Coercion)) (most : Spent) (leaves : ℕ) (H : TypeHead) (total : Outcome ℕ) where
+    (base : List (FlatFrame Coercion)) (leaves : ℕ) (H : TypeHead) (total : Outcome ℕ) where
   abbrev pub aim : Aim merged_meaning setting l procs casts m
   aim focus frames store' n left t =
       Returns merged_meaning setting l procs casts m s leaves places objects base focus frames store' n left t
@@ -65,35 +65,35 @@ module _ (setting : Setting) (l : Layout) (procs : List Proc) (casts : List Type
   Comes t = ComesTo l setting s (IsVery l) objects total t
 
   stands_so : (r : Outcome ℕ) (t : LowState) → ComesTo l setting s (IsVery l) objects r t
-      → length t.waiting ≤ length s.waiting + most.frames → Stands setting l procs casts m s most t
+      → HasRoom setting l procs casts m s t → Stands setting l procs casts m s t
   stands_so Stuck t c few = absurd c
   stands_so (Gives x) t c few =
-      record { objects = c.new; filled = c.fine.filled; same = c.same; active = few }
+      record { objects = c.new; filled = c.fine.filled; same = c.same; room = few }
   stands_so (Blames label) t c few =
-      record { objects = c.new; filled = c.fine.filled; same = c.same; active = few }
+      record { objects = c.new; filled = c.fine.filled; same = c.same; room = few }
 
-  pub comes_stands : (t : LowState) → Comes t → length t.waiting ≤ length s.waiting + most.frames
-      → Stands setting l procs casts m s most t
+  pub comes_stands : (t : LowState) → Comes t → HasRoom setting l procs casts m s t
+      → Stands setting l procs casts m s t
   comes_stands t c few = stands_so total t c few
 
   abbrev pub Done : LowState → Type 0
-  Done = Settled setting l procs casts m s most (total ≡ Stuck) (stuck_or_not total) Comes comes_stands
+  Done = Settled setting l procs casts m s (total ≡ Stuck) (stuck_or_not total) Comes comes_stands
 
-  pub calm : (t : LowState) → Done t → Calm setting l procs casts m s most t
+  pub calm : (t : LowState) → Done t → Calm setting l procs casts m s t
   calm t done =
-      settled_calm setting l procs casts m s most (total ≡ Stuck) (stuck_or_not total) Comes comes_stands t done
+      settled_calm setting l procs casts m s (total ≡ Stuck) (stuck_or_not total) Comes comes_stands t done
 
   -- the walk of a law, for so many words and at this price
-  abbrev pub walk : ℕ → ℕ → Stage setting l procs casts m s most Done
-  walk words price = begun setting l procs casts m s most (total ≡ Stuck) (stuck_or_not total) Comes comes_stands words
+  abbrev pub walk : ℕ → ℕ → Stage setting l procs casts m s Done
+  walk words price = begun setting l procs casts m s (total ≡ Stuck) (stuck_or_not total) Comes comes_stands words
       price
 
   abbrev pub Walking : ℕ → ℕ → LowState → Type 0
   Walking words price t =
-      Begun setting l procs casts m s most (total ≡ Stuck) (stuck_or_not total) Comes comes_stands words price t
+      Begun setting l procs casts m s (total ≡ Stuck) (stuck_or_not total) Comes comes_stands words price t
 
-  abbrev pub ended : Stage setting l procs casts m s most Done
-  ended = at_end setting l procs casts m s most Done calm
+  abbrev pub ended : Stage setting l procs casts m s Done
+  ended = at_end setting l procs casts m s Done calm
 
   comes_so : (r : Outcome ℕ) → total ≡ r → (r ≡ Stuck → ⊥) → (t : LowState) → Done t
       → ComesTo l setting s (IsVery l) objects r t
@@ -139,11 +139,10 @@ module _ (setting : Setting) (l : Layout) (procs : List Proc) (casts : List Type
 
   -- ---- the turns of casts, with this law
 
-  abbrev pub Ends : Stage setting l procs casts m s most Done → (Merged ℕ → ℕ → Type 0) → List (FlatFrame Coercion)
+  abbrev pub Ends : Stage setting l procs casts m s Done → (Merged ℕ → ℕ → Type 0) → List (FlatFrame Coercion)
       → (Outcome ℕ → Outcome ℕ) → Type 0
   Ends g Fit frames after =
-      EndsBy setting l procs casts m measured s places objects store most aim H total Done calm blamed g Fit frames
-      after
+      EndsBy setting l procs casts m measured s places objects store aim H total Done calm blamed g Fit frames after
 
   abbrev pub Later : ℕ → List (FlatFrame Coercion) → (Outcome ℕ → Outcome ℕ) → Type 0
   Later need frames after = Ends ended (λ x credit. need ≤ credit) frames after
@@ -154,41 +153,40 @@ module _ (setting : Setting) (l : Layout) (procs : List Proc) (casts : List Type
 
   abbrev pub Turned : ℕ → FlatAfter Coercion → Cost → ℕ → ℕ → ℕ → LowState → Type 0
   Turned i x cost credit n wraps t =
-      After merged_meaning setting l procs casts m s most (Goes merged_meaning setting l procs casts m s most aim i) x
-      cost credit n wraps t
+      After merged_meaning setting l procs casts m s (Goes merged_meaning setting l procs casts m s aim i) x cost
+      credit n wraps t
 
-  abbrev pub Made : Stage setting l procs casts m s most Done → ℕ → Coercion → FlatValue Coercion → Merged ℕ
+  abbrev pub Made : Stage setting l procs casts m s Done → ℕ → Coercion → FlatValue Coercion → Merged ℕ
       → List (FlatFrame Coercion) → Type 0
   Made g need z u x frames =
-      MadeBy setting l procs casts m measured s places objects store most aim H total Done calm blamed g need z u x
-      frames
+      MadeBy setting l procs casts m measured s places objects store aim H total Done calm blamed g need z u x frames
 
   -- every cast
-  pub cast_made : (g : Stage setting l procs casts m s most Done) (need : ℕ) (z : Coercion)
+  pub cast_made : (g : Stage setting l procs casts m s Done) (need : ℕ) (z : Coercion)
       → IsNormal (rows_of l.types) z
       → (frames : List (FlatFrame Coercion)) (after : Outcome ℕ → Outcome ℕ) → IsStrict after
       → Later need frames after → (u : FlatValue Coercion) (x : Merged ℕ) → Like setting l procs places objects u x
       → solid_head setting l procs places objects u ≡ H → total ≡ after (cast_value (λ a. H) l.types z x)
       → Made g need z u x frames
   cast_made =
-      cast_made_by setting l procs casts m measured s places objects store most aim H total Done calm blamed
+      cast_made_by setting l procs casts m measured s places objects store aim H total Done calm blamed
 
   -- a cast that waits
-  pub ends_cast : (g : Stage setting l procs casts m s most Done) (need : ℕ) (z : Coercion)
+  pub ends_cast : (g : Stage setting l procs casts m s Done) (need : ℕ) (z : Coercion)
       → IsNormal (rows_of l.types) z
       → (frames : List (FlatFrame Coercion)) (after : Outcome ℕ → Outcome ℕ) → IsStrict after
       → Later need frames after
       → Ends g (λ x credit. Fits (rows_of l.types) m g.words g.price need z x credit) (CastFrame z ∷ frames)
       (λ o. after (then_outcome o (cast_value (λ a. H) l.types z)))
   ends_cast =
-      ends_cast_by setting l procs casts m measured s places objects store most aim H total Done calm blamed
+      ends_cast_by setting l procs casts m measured s places objects store aim H total Done calm blamed
 
   pub ends_cast_later : (need : ℕ) (z : Coercion) → IsNormal (rows_of l.types) z
       → (frames : List (FlatFrame Coercion)) (after : Outcome ℕ → Outcome ℕ) → IsStrict after
       → Later need frames after
       → Later need (CastFrame z ∷ frames) (λ o. after (then_outcome o (cast_value (λ a. H) l.types z)))
   ends_cast_later =
-      ends_cast_later_by setting l procs casts m measured s places objects store most aim H total Done calm blamed
+      ends_cast_later_by setting l procs casts m measured s places objects store aim H total Done calm blamed
 
   -- a cast whose walk is done at this price and for so many words, in one of its turns
   pub cast_answers : (words price : ℕ) (z : Coercion) → IsNormal (rows_of l.types) z → (u : FlatValue Coercion)
@@ -209,7 +207,7 @@ module _ (setting : Setting) (l : Layout) (procs : List Proc) (casts : List Type
       → price + leaves ≤ credit + cost.budget → (n : ℕ)
       → (i : ℕ) × Turned i (On (Return u) base store s.world) cost credit n 0 te
   returned_now words price cost u x k h e te ready few credit cheap n =
-      let r = takes_it_by setting l procs casts m measured s places objects store most aim H total Done calm blamed
+      let r = takes_it_by setting l procs casts m measured s places objects store aim H total Done calm blamed
       (walk words price) cost leaves base (λ o. o) ends_here u x k h e in
       (r.0, r.1 te ready n credit 0 (few, cheap))
 
@@ -221,7 +219,7 @@ module _ (setting : Setting) (l : Layout) (procs : List Proc) (casts : List Type
       → Fits (rows_of l.types) m words price leaves z x (credit + cost.budget) → (n : ℕ)
       → (i : ℕ) × Turned i (On (Return u) (CastFrame z ∷ base) store s.world) cost credit n 0 te
   cast_next words price cost z normal u x k h e te ready credit fits n =
-      let r = skips_by setting l procs casts m measured s places objects store most aim H total Done calm blamed
+      let r = skips_by setting l procs casts m measured s places objects store aim H total Done calm blamed
       (walk words price) cost (λ y c. Fits (rows_of l.types) m words price leaves z y c) (CastFrame z ∷ base)
       (λ o. then_outcome o (cast_value (λ a. H) l.types z))
       (ends_cast (walk words price) leaves z normal base (λ o. o) (λ label. refl) ends_here) u x k h e in
@@ -232,17 +230,17 @@ module _ (setting : Setting) (l : Layout) (procs : List Proc) (casts : List Type
       → Walking words price te → words ≤ cost.asks → price ≤ 0 + cost.budget → (n : ℕ)
       → Turned 0 (BlameOf label) cost 0 n 0 te
   blames words price cost label e te ready few cheap n =
-      blames_now_by setting l procs casts m measured s places objects store most aim H total Done calm blamed
+      blames_now_by setting l procs casts m measured s places objects store aim H total Done calm blamed
       (walk words price) cost label e te ready n 0 few cheap
 
   -- parts of tuples, told the parts of what stands at an address
   module _ (parts : ℕ → List (Merged ℕ)) (k : ℕ) where
-    abbrev pub PartFits : Stage setting l procs casts m s most Done → ℕ → Merged ℕ → ℕ → Type 0
+    abbrev pub PartFits : Stage setting l procs casts m s Done → ℕ → Merged ℕ → ℕ → Type 0
     PartFits g need x credit =
-        PartFitsBy setting l procs casts m measured s places objects store most aim H total Done calm blamed parts k g
+        PartFitsBy setting l procs casts m measured s places objects store aim H total Done calm blamed parts k g
         need x credit
 
-    pub value_part : (g : Stage setting l procs casts m s most Done) (need : ℕ) (u : FlatValue Coercion) (x : Merged ℕ)
+    pub value_part : (g : Stage setting l procs casts m s Done) (need : ℕ) (u : FlatValue Coercion) (x : Merged ℕ)
         → Like setting l procs places objects u x → KnownUnder setting l procs places objects H parts k u x
         → (frames : List (FlatFrame Coercion)) (after : Outcome ℕ → Outcome ℕ) → IsStrict after
         → Later need frames after → total ≡ after (part_value (λ a. H) parts l.types k x)
@@ -250,19 +248,17 @@ module _ (setting : Setting) (l : Layout) (procs : List Proc) (casts : List Type
         → Turned i (flat_proj procs (merging l.types casts) store s.world u (pos k) frames)
         (act_cost procs (merging l.types casts) (merged_prices l.types (merging l.types casts) m)) credit n 0 t)
     value_part =
-        value_part_by setting l procs casts m measured s places objects store most aim H total Done calm blamed parts k
+        value_part_by setting l procs casts m measured s places objects store aim H total Done calm blamed parts k
 
     -- and while it waits
-    pub waits_for_part : (g : Stage setting l procs casts m s most Done) (need : ℕ) (u : FlatValue Coercion)
+    pub waits_for_part : (g : Stage setting l procs casts m s Done) (need : ℕ) (u : FlatValue Coercion)
         (x : Merged ℕ) → Like setting l procs places objects u x
         → KnownUnder setting l procs places objects H parts k u x → (frames : List (FlatFrame Coercion))
         (after : Outcome ℕ → Outcome ℕ) → IsStrict after → Later need frames after
         → total ≡ after (part_value (λ a. H) parts l.types k x)
         → (i : ℕ) × ((t : LowState) → g.Ready t → (n credit : ℕ) → PartFits g need x credit
-        → Goes merged_meaning setting l procs casts m s most aim i (Return u) (ProjFrame (pos k) ∷ frames) store n
-        credit
+        → Goes merged_meaning setting l procs casts m s aim i (Return u) (ProjFrame (pos k) ∷ frames) store n credit
         t)
     waits_for_part =
-        waits_for_part_by setting l procs casts m measured s places objects store most aim H total Done calm blamed
-        parts
+        waits_for_part_by setting l procs casts m measured s places objects store aim H total Done calm blamed parts
         k

@@ -19,6 +19,7 @@ use Rattle.coercion_norm.specs.Held.{Layout}
 use Rattle.flat_ir.specs.Bodies.{Proc}
 use Rattle.flat_ir.specs.FlatTally.{Cost, merged_prices, operator_cost}
 use Rattle.flat_ir.specs.Machine.{FlatValue, FlatFrame, FlatStore, FlatAfter, flat_operate}
+use Rattle.rt_cast.specs.Frames.{stack_room, waiting_room}
 use Rattle.rt_cast.specs.States.{Placed, Filled as RtFilled, OnTheWay, entered, heap_of}
 use Rattle.rt_refs.specs.FillCodes.{fill_loop, fill_proc}
 use Rattle.rt_refs.specs.FillLaws.{MadeAt}
@@ -26,8 +27,8 @@ use Rattle.rt_refs.proofs.Public.{vectors_are_made, lengths_below_zero_trap}
 use Rattle.lower.specs.declared.served.Served.{Served}
 use Rattle.lower.specs.MergedMeaning.{merged_meaning}
 use Rattle.lower.specs.CarriedValues.{AreCarried}
-use Rattle.lower.specs.SchemeLaws.{Spent, Here, OnWay, Goes, Returns, ReturnsAt, Answers, OperatorDone}
-use Rattle.lower.specs.SchemeLaws.{at_or_zero, nothing, operator_leaves}
+use Rattle.lower.specs.SchemeLaws.{Here, OnWay, Goes, Returns, ReturnsAt, Answers, OperatorDone}
+use Rattle.lower.specs.SchemeLaws.{at_or_zero, operator_leaves}
 use Rattle.lower.proofs.MergedStages.{on_way, trapped_at}
 use Rattle.lower.proofs.CarriedLater.{grown, cells_grown, cells_below, carried_small}
 use Rattle.lower.proofs.HeapCells.{as_many_cells, cells_append, cells_end}
@@ -124,8 +125,7 @@ module _ (setting : Setting) (l : Layout) (procs : List Proc) (casts : List Type
 
     abbrev Says : FlatAfter Coercion → Cost → LowState → Type 0
     Says x c te =
-        (most : Spent) × Answers merged_meaning setting l procs casts m s most operator_leaves places objects base x c
-        number 0 te
+        Answers merged_meaning setting l procs casts m s operator_leaves places objects base x c number 0 te
 
     made : (n w wn : ℕ) (v : FlatValue Coercion) → wn ≡ n → n < 2 ^ 63
         → (cv : AreCarried l setting.address procs merged_meaning places objects (in_row (v ∷ [])) (w ∷ []))
@@ -137,38 +137,35 @@ module _ (setting : Setting) (l : Layout) (procs : List Proc) (casts : List Type
         let z = vectors_are_made ending_of setting l s refl placed begins (omega (arith, narrow)) own there objects
         rt_filled n w small lt in
         let te : LowState = entered s (fill_proc own) (n ∷ w ∷ []) in
-        let most : Spent = record { frames = 1 } in
         subst (λ k. Says (On (Return (RunLoc (length store) true)) base (store ++ replicate n v ∷ []) s.world)
         (cost (RunInt (pos n) ∷ v ∷ [])) (entered s (fill_proc own) (k ∷ w ∷ []))) (sym is) (
-          most,
+          0,
           (
-            0,
+            refl,
             (
-              refl,
-              (
-                z.0,
-                61 * n + 124,
-                operator_leaves,
-                omega arith,
-                z.3,
-                reaches_weaken (low_machine ending_of setting) (OnTheWay setting l s 1 (n + 1)) (MadeAt setting l s
-                    objects
-                    n w) (OnWay merged_meaning setting l procs casts m s te most (n + 1) number (number + 0))
-                    (λ u. (u.words ≤ te.words + (n + 1))
-                    × Returns merged_meaning setting l procs casts m s operator_leaves places objects base
-                    (Return (RunLoc (length store) true)) base (store ++ replicate n v ∷ []) (number + 0)
-                    operator_leaves u)
-                    (λ u x. on_way setting l procs casts m s most te u (n + 1) number (number + 0) (record {
-                      objects = x.calm.objects;
-                      filled = x.calm.fine.filled;
-                      same = x.calm.same;
-                      active = x.active;
-                    }) x.asked)
-                    (λ u g. (
-                      (let a = g.taken in omega (arith, a)),
-                      (refl, le_refl operator_leaves, returned n w v cv u g),
-                    )) z.0 te z.2,
-              ),
+              z.0,
+              61 * n + 124,
+              operator_leaves,
+              omega arith,
+              z.3,
+              reaches_weaken (low_machine ending_of setting) (OnTheWay setting l s 1 (n + 1)) (MadeAt setting l s
+                  objects
+                  n w) (OnWay merged_meaning setting l procs casts m s te (n + 1) number (number + 0))
+                  (λ u. (u.words ≤ te.words + (n + 1)) × (stack_room u ≤ stack_room s + 25 * (1 + (4 * l.tallest + 7)))
+                  × Returns merged_meaning setting l procs casts m s operator_leaves places objects base
+                  (Return (RunLoc (length store) true)) base (store ++ replicate n v ∷ []) (number + 0)
+                  operator_leaves u)
+                  (λ u x. on_way setting l procs casts m s te u (n + 1) number (number + 0) (record {
+                    objects = x.calm.objects;
+                    filled = x.calm.fine.filled;
+                    same = x.calm.same;
+                    room = let a = x.room in omega (arith, a);
+                  }) x.asked)
+                  (λ u g. (
+                    (let a = g.taken in omega (arith, a)),
+                    (let a = g.small in let b = ap waiting_room g.waits in omega (arith, a, b)),
+                    (refl, le_refl operator_leaves, returned n w v cv u g),
+                  )) z.0 te z.2,
             ),
           ),
         )
@@ -179,32 +176,29 @@ module _ (setting : Setting) (l : Layout) (procs : List Proc) (casts : List Type
         let z = lengths_below_zero_trap ending_of setting l s refl placed begins (omega (arith, narrow)) own there
         objects rt_filled n w small ge lt in
         let te : LowState = entered s (fill_proc own) (n ∷ w ∷ []) in (
-          nothing,
-          (
-            0,
-            trapped_at setting l procs casts m s nothing
-                (Goes merged_meaning setting l procs casts m s nothing
-                (Returns merged_meaning setting l procs casts m s operator_leaves places objects base) 0) Length 0 14
-                (omega arith) te refl z.0 z.2 z.3 c 0 (omega (arith, enough)) number,
-          ),
+          0,
+          trapped_at setting l procs casts m s
+              (Goes merged_meaning setting l procs casts m s
+              (Returns merged_meaning setting l procs casts m s operator_leaves places objects base) 0) Length 0 14
+              (omega arith) te refl z.0 z.2 z.3 c 0 (omega (arith, enough)) number,
         )
 
     does_for : (vs : List (FlatValue Coercion)) (ws : List ℕ)
         → AreCarried l setting.address procs merged_meaning places objects (in_row vs) ws
         → Says (flat_operate procs (merging l.types casts) store s.world MakeVector vs base) (cost vs)
         (entered s (fill_proc own) (at_or_zero ws 0 ∷ at_or_zero ws 1 ∷ []))
-    does_for [] ws c = (nothing, (0, refl))
-    does_for (RunBool b ∷ vs) ws c = (nothing, (0, refl))
-    does_for (RunUnit ∷ vs) ws c = (nothing, (0, refl))
-    does_for (RunFun code captured ∷ vs) ws c = (nothing, (0, refl))
-    does_for (RunTuple values ∷ vs) ws c = (nothing, (0, refl))
-    does_for (RunLoc cell is_vector ∷ vs) ws c = (nothing, (0, refl))
-    does_for (RunWrap v d ∷ vs) ws c = (nothing, (0, refl))
-    does_for (RunInject v kept ∷ vs) ws c = (nothing, (0, refl))
-    does_for (RunInt (pos n) ∷ []) ws c = (nothing, (0, refl))
-    does_for (RunInt (negsuc n) ∷ []) ws c = (nothing, (0, refl))
-    does_for (RunInt (pos n) ∷ v ∷ x ∷ vs) ws c = (nothing, (0, refl))
-    does_for (RunInt (negsuc n) ∷ v ∷ x ∷ vs) ws c = (nothing, (0, refl))
+    does_for [] ws c = (0, refl)
+    does_for (RunBool b ∷ vs) ws c = (0, refl)
+    does_for (RunUnit ∷ vs) ws c = (0, refl)
+    does_for (RunFun code captured ∷ vs) ws c = (0, refl)
+    does_for (RunTuple values ∷ vs) ws c = (0, refl)
+    does_for (RunLoc cell is_vector ∷ vs) ws c = (0, refl)
+    does_for (RunWrap v d ∷ vs) ws c = (0, refl)
+    does_for (RunInject v kept ∷ vs) ws c = (0, refl)
+    does_for (RunInt (pos n) ∷ []) ws c = (0, refl)
+    does_for (RunInt (negsuc n) ∷ []) ws c = (0, refl)
+    does_for (RunInt (pos n) ∷ v ∷ x ∷ vs) ws c = (0, refl)
+    does_for (RunInt (negsuc n) ∷ v ∷ x ∷ vs) ws c = (0, refl)
     does_for (RunInt (pos n) ∷ v ∷ []) [] c = absurd c
     does_for (RunInt (pos n) ∷ v ∷ []) (wn ∷ []) c = absurd c.1
     does_for (RunInt (pos n) ∷ v ∷ []) (wn ∷ w ∷ x ∷ ws) c = absurd c.1.1

@@ -87,6 +87,7 @@ resumes_later setting l objects more waiting (c ∷ []) h = (
     held = held_later l objects more c h.2.word h.2.held;
     low = h.2.low;
     room = h.2.room;
+    small = h.2.small;
   },
 )
 

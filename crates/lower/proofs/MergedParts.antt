@@ -1,7 +1,7 @@
 -- The procedure for parts of the merged scheme gives them: those of tuples in wrappers, and those of values in Dyn.
 use Rattle.std.proofs.Common.{◌≡◌, ◌⊎◌, inl, inr, ℕ, ℤ, zero, suc, ◌+◌, ◌*◌, ◌^◌, ◌<◌, ◌≤◌, List, [], ◌∷◌, length}
 use Rattle.std.proofs.Common.{Some, None, Bool, true, false, Option, refl, sym, ap, ◌∙◌, subst, arith, slice_get}
-use Rattle.std.proofs.Common.{pos, negsuc, ◌%◌, mod-eq_of_lt, nat_lt, ltb-false, ltb-true, le_refl}
+use Rattle.std.proofs.Common.{pos, negsuc, ◌%◌, mod-eq_of_lt, nat_lt, ltb-false, ltb-true}
 use Rattle.std.specs.Int.{w64, cast_unsigned, int_wrap}
 use Rattle.std.specs.Prelude.{max, FitsSigned}
 use Rattle.std.proofs.lemmas.Int.{SFits-int_wrap}
@@ -42,7 +42,7 @@ use Rattle.lower.specs.declared.served.Served.{Served}
 use Rattle.lower.specs.CarriedValues.{CarriedIn}
 use Rattle.lower.specs.Keeping.{FitsMeasures}
 use Rattle.lower.specs.MergedMeaning.{merged_meaning}
-use Rattle.lower.specs.SchemeLaws.{Spent, Here, Answers, Goes, PartsGiven, part_leaves, nothing}
+use Rattle.lower.specs.SchemeLaws.{Here, Answers, Goes, PartsGiven, part_leaves}
 use Rattle.lower.proofs.HeapObjects.{none_some, same_some}
 use Rattle.lower.proofs.MergedBounds.{Fits, cast_fits, nothing_fits, dyn_fits}
 use Rattle.lower.proofs.MergedChains.{Comes, comes_stands, Done, Walking, Later, PartFits, aim, ended, walk, blames}
@@ -138,12 +138,9 @@ module _ (setting : Setting) (l : Layout) (procs : List Proc) (casts : List Type
   abbrev opening : Cost
   opening = effort_cost m Opens
 
-  abbrev most_of : ℕ → Spent
-  most_of deep = record { frames = deep }
-
-  stands_at : (deep : ℕ) (words : List ℕ)
-      → Stands setting l procs casts m s (most_of deep) (entered s (project_proc first) words)
-  stands_at deep words = record { objects = objects; filled = rt_filled; same = refl; active = omega arith }
+  stands_at : (words : List ℕ)
+      → Stands setting l procs casts m s (entered s (project_proc first) words)
+  stands_at words = record { objects = objects; filled = rt_filled; same = refl; room = omega arith }
 
   is_ready : IsReady setting l first
   is_ready = record { placed = placed; stand = ready; types = types }
@@ -205,22 +202,22 @@ module _ (setting : Setting) (l : Layout) (procs : List Proc) (casts : List Type
             × CostsAtMost ending_of setting steps (entered s (project_proc first) (w ∷ n ∷ 1 ∷ label ∷ [])) dear in
             subst Says (sym e) (z.0, z.2, z.3)
 
-    begins : Walking setting l procs casts m measured placed s places objects store number here base (most_of deep)
-        part_leaves H total wide dear te
+    begins : Walking setting l procs casts m measured placed s places objects store number here base part_leaves
+        H total wide dear te
     begins =
-        by_law setting l procs casts m s (most_of deep) (total ≡ Stuck) (stuck_or_not total)
-        (Comes setting l procs casts m measured placed s places objects store number here base (most_of deep)
-        part_leaves H total)
-        (comes_stands setting l procs casts m measured placed s places objects store number here base (most_of deep)
-        part_leaves H total) deep wide dear (le_refl deep) te (stands_at deep (w ∷ k % 2 ^ 64 ∷ 1 ∷ label ∷ [])) refl
+        by_law setting l procs casts m s (total ≡ Stuck) (stuck_or_not total)
+        (Comes setting l procs casts m measured placed s places objects store number here base part_leaves H
+        total)
+        (comes_stands setting l procs casts m measured placed s places objects store number here base part_leaves
+        H total) deep wide dear (omega arith) te (stands_at (w ∷ k % 2 ^ 64 ∷ 1 ∷ label ∷ [])) refl
         law
 
     -- the walk fits the turns of the part
     fits_for : (y : Merged ℕ)
-        → PartFits setting l procs casts m measured placed s places objects store number here base (most_of deep)
-        part_leaves H total prep.0 k
-        (walk setting l procs casts m measured placed s places objects store number here base (most_of deep)
-        part_leaves H total (tuple_part_words prep.0 l k y) (tuple_part_price prep.0 l k y)) part_leaves y 0
+        → PartFits setting l procs casts m measured placed s places objects store number here base part_leaves H
+        total prep.0 k
+        (walk setting l procs casts m measured placed s places objects store number here base part_leaves H total
+        (tuple_part_words prep.0 l k y) (tuple_part_price prep.0 l k y)) part_leaves y 0
     fits_for (Base head n) = tt
     fits_for (Solid a) = (omega arith, omega arith)
     fits_for (InDyn kept y) = tt
@@ -231,29 +228,28 @@ module _ (setting : Setting) (l : Layout) (procs : List Proc) (casts : List Type
         (of_cast (cast_price_of l) (Some d) o + 97) part_leaves d y 1792) (sym f)
         (cast_fits l m measured 97 part_leaves d y 1792 (omega arith) (omega arith)))
 
-    pub given : (most : Spent) × Answers merged_meaning setting l procs casts m s most part_leaves places objects base
+    pub given : Answers merged_meaning setting l procs casts m s part_leaves places objects base
         (flat_proj procs (merging l.types casts) store s.world u (pos k) base) acting number 0 te
     given =
-        let r = value_part setting l procs casts m measured placed s places objects store number here base (most_of
-        deep)
-        part_leaves H total prep.0 k
-        (walk setting l procs casts m measured placed s places objects store number here base (most_of deep) part_leaves
-        H total wide dear) part_leaves u x like (prep.3 k H heads_are) base (λ o. o) (λ label. refl)
-        (ends_here setting l procs casts m measured placed s places objects store number here base (most_of deep)
-        part_leaves H total) refl in
-        (most_of deep, (r.0, r.1 te begins number 0 (fits_for x)))
+        let r = value_part setting l procs casts m measured placed s places objects store number here base part_leaves
+        H total prep.0 k
+        (walk setting l procs casts m measured placed s places objects store number here base part_leaves H total
+        wide dear) part_leaves u x like (prep.3 k H heads_are) base (λ o. o) (λ label. refl)
+        (ends_here setting l procs casts m measured placed s places objects store number here base part_leaves H
+        total) refl in
+        (r.0, r.1 te begins number 0 (fits_for x))
 
   nothing_below : (v : FlatValue Coercion) (cast : Coercion) (n : ℕ) (te : LowState)
-      → (most : Spent) × Answers merged_meaning setting l procs casts m s most part_leaves places objects base
+      → Answers merged_meaning setting l procs casts m s part_leaves places objects base
       (flat_proj procs (merging l.types casts) store s.world (RunWrap v cast) (negsuc n) base) acting number 0 te
   nothing_below v cast n te =
-      subst (λ o. (most : Spent) × Answers merged_meaning setting l procs casts m s most part_leaves places objects base
+      subst (λ o. Answers merged_meaning setting l procs casts m s part_leaves places objects base
       (on_some o (λ d. On (Return v) (ProjFrame (negsuc n) ∷ CastFrame d ∷ base) store s.world)) acting number 0 te)
-      (sym (no_part_below cast n)) (nothing, (0, refl))
+      (sym (no_part_below cast n)) (0, refl)
 
   pub gives : (v : FlatValue Coercion) (cast : Coercion) (w : ℕ)
       → CarriedIn l setting.address procs merged_meaning places objects (RunWrap v cast) [] w → (part : ℤ) (label : ℕ)
-      → (most : Spent) × Answers merged_meaning setting l procs casts m s most part_leaves places objects base
+      → Answers merged_meaning setting l procs casts m s part_leaves places objects base
       (flat_proj procs (merging l.types casts) store s.world (RunWrap v cast) part base) acting number 0
       (entered s (project_proc first) (w ∷ cast_unsigned w64 part % 2 ^ 64 ∷ 1 ∷ label ∷ []))
   gives v cast w c (pos k) label =
@@ -298,24 +294,19 @@ module _ (setting : Setting) (l : Layout) (procs : List Proc) (casts : List Type
         × CostsAtMost ending_of setting steps (entered s (project_proc first) (w ∷ n ∷ 0 ∷ label ∷ [])) dear_dyn in
         subst Says (sym word_is) (z.0, z.2, z.3)
 
-    abbrev most_dyn : Spent
-    most_dyn = most_of deep_dyn
-
-    begins_dyn : Walking setting l procs casts m measured placed s places objects store number here base most_dyn
-        part_leaves head total_dyn wide_dyn dear_dyn te_dyn
+    begins_dyn : Walking setting l procs casts m measured placed s places objects store number here base part_leaves
+        head total_dyn wide_dyn dear_dyn te_dyn
     begins_dyn =
-        by_law setting l procs casts m s most_dyn (total_dyn ≡ Stuck) (stuck_or_not total_dyn)
-        (Comes setting l procs casts m measured placed s places objects store number here base most_dyn part_leaves head
+        by_law setting l procs casts m s (total_dyn ≡ Stuck) (stuck_or_not total_dyn)
+        (Comes setting l procs casts m measured placed s places objects store number here base part_leaves head
         total_dyn)
-        (comes_stands setting l procs casts m measured placed s places objects store number here base most_dyn
-        part_leaves head total_dyn) deep_dyn wide_dyn dear_dyn (le_refl deep_dyn) te_dyn
-        (stands_at deep_dyn (w ∷ part_word ∷ 0 ∷ label ∷ [])) refl law_dyn
+        (comes_stands setting l procs casts m measured placed s places objects store number here base part_leaves
+        head total_dyn) deep_dyn wide_dyn dear_dyn (omega arith) te_dyn
+        (stands_at (w ∷ part_word ∷ 0 ∷ label ∷ [])) refl law_dyn
 
     abbrev Given : FlatAfter Coercion → Type 0
     Given y =
-        (most : Spent)
-        × Answers merged_meaning setting l procs casts m s most part_leaves places objects base y opening number 0
-        te_dyn
+        Answers merged_meaning setting l procs casts m s part_leaves places objects base y opening number 0 te_dyn
 
   -- where the label is blamed, no part is cast
   no_parts : (objects : List Object) → Rattle.rt_cast.specs.Carried.HaveParts l (IsVery l) objects (λ b. [])
@@ -334,24 +325,19 @@ module _ (setting : Setting) (l : Layout) (procs : List Proc) (casts : List Type
   pub blamed : (kept : ℕ) (x : Merged ℕ) (w : ℕ) → Carries l objects (InDyn kept x) w → (k label part_word : ℕ)
       → part_word ≡ k
       → kept_part (λ from p to. cast_of l.types from to p) l.types (row_at l.types kept) (pos k) label ≡ NoPart
-      → (most : Spent)
-      × Answers merged_meaning setting l procs casts m s most part_leaves places objects base (BlameOf label) opening
+      → Answers merged_meaning setting l procs casts m s part_leaves places objects base (BlameOf label) opening
       number 0 (entered s (project_proc first) (w ∷ part_word ∷ 0 ∷ label ∷ []))
   blamed kept x w whole k label part_word word_is e = (
-    most_of (4 * l.tallest + 7),
-    (
-      0,
-      blames setting l procs casts m measured placed s places objects store number here base (most_of (4 * l.tallest +
-          7))
-          part_leaves IntHead (total_dyn kept x w whole k label part_word word_is (λ b. []) (no_parts objects) IntHead)
-          (wide_dyn kept x w whole k label part_word word_is (λ b. []) (no_parts objects) IntHead)
-          (dear_dyn kept x w whole k label part_word word_is (λ b. []) (no_parts objects) IntHead) opening label
-          (ap (λ o. dyn_part_by (λ a. IntHead) (λ b. []) l.types o k label x) e)
-          (entered s (project_proc first) (w ∷ part_word ∷ 0 ∷ label ∷ []))
-          (begins_dyn kept x w whole k label part_word word_is (λ b. []) (no_parts objects) IntHead)
-          (let a = none_cast x k (cast_words_of l) in omega (arith, a))
-          (let a = none_cast x k (cast_price_of l) in omega (arith, a)) number,
-    ),
+    0,
+    blames setting l procs casts m measured placed s places objects store number here base part_leaves IntHead
+        (total_dyn kept x w whole k label part_word word_is (λ b. []) (no_parts objects) IntHead)
+        (wide_dyn kept x w whole k label part_word word_is (λ b. []) (no_parts objects) IntHead)
+        (dear_dyn kept x w whole k label part_word word_is (λ b. []) (no_parts objects) IntHead) opening label
+        (ap (λ o. dyn_part_by (λ a. IntHead) (λ b. []) l.types o k label x) e)
+        (entered s (project_proc first) (w ∷ part_word ∷ 0 ∷ label ∷ []))
+        (begins_dyn kept x w whole k label part_word word_is (λ b. []) (no_parts objects) IntHead)
+        (let a = none_cast x k (cast_words_of l) in omega (arith, a))
+        (let a = none_cast x k (cast_price_of l) in omega (arith, a)) number,
   )
 
   module _ (u : FlatValue Coercion) (kept : ℕ) (x : Merged ℕ) (w wx : ℕ)
@@ -375,16 +361,12 @@ module _ (setting : Setting) (l : Layout) (procs : List Proc) (casts : List Type
     abbrev total_of : Outcome ℕ
     total_of = total_dyn kept x w whole k label part_word word_is prep_dyn.0 prep_dyn.1 head_dyn
 
-    abbrev most_here : Spent
-    most_here = most_of (4 * l.tallest + 7)
-
     abbrev state : LowState
     state = entered s (project_proc first) (w ∷ part_word ∷ 0 ∷ label ∷ [])
 
     abbrev Serves_so : FlatAfter Coercion → Type 0
     Serves_so y =
-        (most : Spent)
-        × Answers merged_meaning setting l procs casts m s most part_leaves places objects base y opening number 0 state
+        Answers merged_meaning setting l procs casts m s part_leaves places objects base y opening number 0 state
 
     -- where there is such a part, and its cast to Dyn
     module _ (d : Coercion) (normal : IsNormal (rows_of l.types) d)
@@ -393,34 +375,34 @@ module _ (setting : Setting) (l : Layout) (procs : List Proc) (casts : List Type
       abbrev after : Outcome ℕ → Outcome ℕ
       after o = then_outcome o (cast_value (λ a. head_dyn) l.types d)
 
-      abbrev walks : ℕ → ℕ → Stage setting l procs casts m s most_here
-          (Done setting l procs casts m measured placed s places objects store number here base most_here part_leaves
-          head_dyn total_of)
+      abbrev walks : ℕ → ℕ → Stage setting l procs casts m s
+          (Done setting l procs casts m measured placed s places objects store number here base part_leaves head_dyn
+          total_of)
       walks words price =
-          walk setting l procs casts m measured placed s places objects store number here base most_here part_leaves
-          head_dyn total_of words price
+          walk setting l procs casts m measured placed s places objects store number here base part_leaves head_dyn
+          total_of words price
 
       abbrev Later_frames : ℕ → Type 0
       Later_frames need =
-          Later setting l procs casts m measured placed s places objects store number here base most_here part_leaves
-          head_dyn total_of need (CastFrame d ∷ base) after
+          Later setting l procs casts m measured placed s places objects store number here base part_leaves head_dyn
+          total_of need (CastFrame d ∷ base) after
 
       to_dyn : Later_frames part_leaves
       to_dyn =
-          ends_cast_later setting l procs casts m measured placed s places objects store number here base most_here
-          part_leaves head_dyn total_of part_leaves d normal base (λ o. o) (λ z. refl)
-          (ends_here setting l procs casts m measured placed s places objects store number here base most_here
-          part_leaves head_dyn total_of)
+          ends_cast_later setting l procs casts m measured placed s places objects store number here base part_leaves
+          head_dyn total_of part_leaves d normal base (λ o. o) (λ z. refl)
+          (ends_here setting l procs casts m measured placed s places objects store number here base part_leaves
+          head_dyn total_of)
 
       is_total : total_of ≡ after (part_value (λ a. head_dyn) prep_dyn.0 l.types k x)
       is_total = ap (λ o. dyn_part_by (λ a. head_dyn) prep_dyn.0 l.types o k label x) e
 
-      abbrev Fitting : Stage setting l procs casts m s most_here
-          (Done setting l procs casts m measured placed s places objects store number here base most_here part_leaves
-          head_dyn total_of) → ℕ → Merged ℕ → ℕ → Type 0
+      abbrev Fitting : Stage setting l procs casts m s
+          (Done setting l procs casts m measured placed s places objects store number here base part_leaves head_dyn
+          total_of) → ℕ → Merged ℕ → ℕ → Type 0
       Fitting g need y credit =
-          PartFits setting l procs casts m measured placed s places objects store number here base most_here part_leaves
-          head_dyn total_of prep_dyn.0 k g need y credit
+          PartFits setting l procs casts m measured placed s places objects store number here base part_leaves head_dyn
+          total_of prep_dyn.0 k g need y credit
 
       abbrev words : ℕ
       words = of_part prep_dyn.0 (cast_words_of l) k x + 3
@@ -428,8 +410,8 @@ module _ (setting : Setting) (l : Layout) (procs : List Proc) (casts : List Type
       abbrev price : ℕ
       price = of_part prep_dyn.0 (cast_price_of l) k x + 337
 
-      begun_here : Walking setting l procs casts m measured placed s places objects store number here base most_here
-          part_leaves head_dyn total_of words price state
+      begun_here : Walking setting l procs casts m measured placed s places objects store number here base part_leaves
+          head_dyn total_of words price state
       begun_here = begins_dyn kept x w whole k label part_word word_is prep_dyn.0 prep_dyn.1 head_dyn
 
       -- the walk is done in a turn of the cast of the part
@@ -437,22 +419,19 @@ module _ (setting : Setting) (l : Layout) (procs : List Proc) (casts : List Type
           → Serves_so (On (Return u) (ProjFrame (pos k) ∷ CastFrame d ∷ base) store s.world)
       in_cast fit =
           let r = waits_for_part setting l procs casts m measured placed s places objects store number here base
-          most_here part_leaves head_dyn total_of prep_dyn.0 k (walks words price) part_leaves u x like
+          part_leaves head_dyn total_of prep_dyn.0 k (walks words price) part_leaves u x like
           (prep_dyn.3 k head_dyn heads_dyn) (CastFrame d ∷ base) after (λ z. refl) to_dyn is_total in (
-            most_here,
+            r.0,
             (
-              r.0,
-              (
-                refl,
-                stays setting l procs casts m s most_here
-                    (Done setting l procs casts m measured placed s places objects store number here base most_here
-                    part_leaves head_dyn total_of)
-                    (λ left v. Goes merged_meaning setting l procs casts m s most_here
-                    (aim setting l procs casts m measured placed s places objects store number here base most_here
-                    part_leaves head_dyn total_of) r.0 (Return u) (ProjFrame (pos k) ∷ CastFrame d ∷ base) store
-                    (number + 0) left v) opening 0 number (number + 0) state
-                    (r.1 state begun_here (number + 0) 896 fit),
-              ),
+              refl,
+              stays setting l procs casts m s
+                  (Done setting l procs casts m measured placed s places objects store number here base part_leaves
+                  head_dyn total_of)
+                  (λ left v. Goes merged_meaning setting l procs casts m s
+                  (aim setting l procs casts m measured placed s places objects store number here base part_leaves
+                  head_dyn total_of) r.0 (Return u) (ProjFrame (pos k) ∷ CastFrame d ∷ base) store
+                  (number + 0) left v) opening 0 number (number + 0) state
+                  ((walks words price).calm state begun_here) (r.1 state begun_here (number + 0) 896 fit),
             ),
           )
 
@@ -461,29 +440,26 @@ module _ (setting : Setting) (l : Layout) (procs : List Proc) (casts : List Type
           → Serves_so (On (Return u) (ProjFrame (pos k) ∷ CastFrame d ∷ base) store s.world)
       at_once few cheap =
           let r = waits_for_part setting l procs casts m measured placed s places objects store number here base
-          most_here part_leaves head_dyn total_of prep_dyn.0 k
-          (ended setting l procs casts m measured placed s places objects store number here base most_here part_leaves
-          head_dyn total_of) part_leaves u x like
+          part_leaves head_dyn total_of prep_dyn.0 k
+          (ended setting l procs casts m measured placed s places objects store number here base part_leaves head_dyn
+          total_of) part_leaves u x like
           (prep_dyn.3 k head_dyn heads_dyn) (CastFrame d ∷ base) after (λ z. refl) to_dyn is_total in (
-            most_here,
+            r.0,
             (
-              r.0,
-              (
-                refl,
-                takes setting l procs casts m s most_here
-                    (Done setting l procs casts m measured placed s places objects store number here base most_here
-                    part_leaves head_dyn total_of) (walks words price)
-                    (λ left v. Goes merged_meaning setting l procs casts m s most_here
-                    (aim setting l procs casts m measured placed s places objects store number here base most_here
-                    part_leaves head_dyn total_of) r.0 (Return u) (ProjFrame (pos k) ∷ CastFrame d ∷ base) store
-                    (number + 0) left v) opening 0 0 number (number + 0) state begun_here few (omega (arith, cheap))
-                    (λ v done. r.1 v done (number + 0) 0 (nothing_left x)),
-              ),
+              refl,
+              takes setting l procs casts m s
+                  (Done setting l procs casts m measured placed s places objects store number here base part_leaves
+                  head_dyn total_of) (walks words price)
+                  (λ left v. Goes merged_meaning setting l procs casts m s
+                  (aim setting l procs casts m measured placed s places objects store number here base part_leaves
+                  head_dyn total_of) r.0 (Return u) (ProjFrame (pos k) ∷ CastFrame d ∷ base) store
+                  (number + 0) left v) opening 0 0 number (number + 0) state begun_here few (omega (arith, cheap))
+                  (λ v done. r.1 v done (number + 0) 0 (nothing_left x)),
             ),
           )
         where
           nothing_left : (y : Merged ℕ)
-              → Fitting (ended setting l procs casts m measured placed s places objects store number here base most_here
+              → Fitting (ended setting l procs casts m measured placed s places objects store number here base
               part_leaves head_dyn total_of) part_leaves y 0
           nothing_left (Base head n) = tt
           nothing_left (Solid a) = (omega arith, omega arith)
@@ -513,7 +489,7 @@ module _ (setting : Setting) (l : Layout) (procs : List Proc) (casts : List Type
         (pos k) label base)
     by_part (PartCast d) e = part_given d (dyn_part_normal l.types (row_at l.types kept) (pos k) label d e) e
     by_part NoPart e = blamed kept x w whole k label part_word word_is e
-    by_part NoType e = (most_here, (0, refl))
+    by_part NoType e = (0, refl)
 
   -- a part below 0, which no type has
   module _ (u : FlatValue Coercion) (kept : ℕ) (x : Merged ℕ) (w : ℕ)
@@ -553,14 +529,13 @@ module _ (setting : Setting) (l : Layout) (procs : List Proc) (casts : List Type
     below_none (TupleRow parts) = refl
 
     pub by_row : (o : Option Rattle.grift_base.specs.Types.TypeRow) → row_at l.types kept ≡ o
-        → (most : Spent) × Answers merged_meaning setting l procs casts m s most part_leaves places objects base
+        → Answers merged_meaning setting l procs casts m s part_leaves places objects base
         (blame_or_proj (merging l.types casts) (flat_arity procs) (flat_entered procs) store s.world
         (kept_part (λ from p to. cast_of l.types from to p) l.types o (negsuc n) label) u (negsuc n) label base) opening
         number 0 (entered s (project_proc first) (w ∷ word ∷ 0 ∷ label ∷ []))
-    by_row None e = (nothing, (0, refl))
+    by_row None e = (0, refl)
     by_row (Some row) e =
-        subst (λ o. (most : Spent) × Answers merged_meaning setting l procs casts m s most part_leaves places objects
-        base
+        subst (λ o. Answers merged_meaning setting l procs casts m s part_leaves places objects base
         (blame_or_proj (merging l.types casts) (flat_arity procs) (flat_entered procs) store s.world
         (part_to_dyn (λ from p to. cast_of l.types from to p) l.types o label) u (negsuc n) label base) opening number 0
         (entered s (project_proc first) (w ∷ word ∷ 0 ∷ label ∷ []))) (sym (below_none row))
@@ -571,7 +546,7 @@ module _ (setting : Setting) (l : Layout) (procs : List Proc) (casts : List Type
   pub gives_dyn : (v : FlatValue Coercion) (w : ℕ)
       → CarriedIn l setting.address procs merged_meaning places objects v [] w → (part : ℤ) (label : ℕ)
       → int_wrap w64 part ≡ part
-      → (most : Spent) × Answers merged_meaning setting l procs casts m s most part_leaves places objects base
+      → Answers merged_meaning setting l procs casts m s part_leaves places objects base
       (run_proj_dyn (merging l.types casts) (flat_arity procs) (flat_entered procs) store s.world v part label base)
       opening number 0 (entered s (project_proc first) (w ∷ cast_unsigned w64 part % 2 ^ 64 ∷ 0 ∷ label ∷ []))
   gives_dyn (RunInject u kept) w c part label fits = by_sign part fits
@@ -583,7 +558,7 @@ module _ (setting : Setting) (l : Layout) (procs : List Proc) (casts : List Type
       whole = subst (λ x. Carries l objects x w) z.1.1 z.2
 
       by_sign : (part : ℤ) → int_wrap w64 part ≡ part
-          → (most : Spent) × Answers merged_meaning setting l procs casts m s most part_leaves places objects base
+          → Answers merged_meaning setting l procs casts m s part_leaves places objects base
           (run_proj_dyn (merging l.types casts) (flat_arity procs) (flat_entered procs) store s.world (RunInject u kept)
           part label base) opening number 0
           (entered s (project_proc first) (w ∷ cast_unsigned w64 part % 2 ^ 64 ∷ 0 ∷ label ∷ []))
@@ -593,13 +568,13 @@ module _ (setting : Setting) (l : Layout) (procs : List Proc) (casts : List Type
           (kept_part (λ from p to. cast_of l.types from to p) l.types (row_at l.types kept) (pos k) label) refl
       by_sign (negsuc n) fits =
           by_row u kept z.1.0 w whole n label fits (row_at l.types kept) refl
-  gives_dyn (RunWrap v cast) w c part label fits = (nothing, (0, refl))
-  gives_dyn (RunInt n) w c part label fits = (nothing, (0, refl))
-  gives_dyn (RunBool b) w c part label fits = (nothing, (0, refl))
-  gives_dyn RunUnit w c part label fits = (nothing, (0, refl))
-  gives_dyn (RunFun code captured) w c part label fits = (nothing, (0, refl))
-  gives_dyn (RunTuple values) w c part label fits = (nothing, (0, refl))
-  gives_dyn (RunLoc cell is_vector) w c part label fits = (nothing, (0, refl))
+  gives_dyn (RunWrap v cast) w c part label fits = (0, refl)
+  gives_dyn (RunInt n) w c part label fits = (0, refl)
+  gives_dyn (RunBool b) w c part label fits = (0, refl)
+  gives_dyn RunUnit w c part label fits = (0, refl)
+  gives_dyn (RunFun code captured) w c part label fits = (0, refl)
+  gives_dyn (RunTuple values) w c part label fits = (0, refl)
+  gives_dyn (RunLoc cell is_vector) w c part label fits = (0, refl)
 
 -- The procedure for parts of the merged scheme gives them, wherever the procedures stand.
 pub merged_parts_given : (setting : Setting) (l : Layout) (procs : List Proc) (casts : List TypeCast) (m : Measures)
@@ -612,6 +587,7 @@ merged_parts_given setting l procs casts m first run_by measured placed types ta
     takes = refl;
     few = omega arith;
     room = omega arith;
+    small = omega arith;
   };
   gives = λ s number places objects store here base v cast w c part label.
       gives setting l procs casts m measured first placed types tallest ready s number places objects store here base v

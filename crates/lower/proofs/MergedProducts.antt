@@ -33,6 +33,7 @@ module _ (setting : Setting) (first : ℕ) (words : List ℕ) (ways : List CastW
       takes = refl;
       few = omega arith;
       room = omega arith;
+      small = omega arith;
     };
     products = λ s a b small few.
         let z = products_are_answered ending_of setting s (32 + first) a b product_there small few in
@@ -43,6 +44,7 @@ module _ (setting : Setting) (first : ℕ) (words : List ℕ) (ways : List CastW
       takes = refl;
       few = omega arith;
       room = omega arith;
+      small = omega arith;
     };
     quotients = λ s n d small few some.
         let z = quotients_are_answered ending_of setting s (33 + first) n d quotient_there small few some in

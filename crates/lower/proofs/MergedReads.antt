@@ -38,7 +38,7 @@ use Rattle.lower.specs.declared.served.Served.{Served}
 use Rattle.lower.specs.Keeping.{FitsMeasures}
 use Rattle.lower.specs.MergedMeaning.{merged_meaning}
 use Rattle.lower.specs.CarriedValues.{CarriedIn, AreCarried, CellHeld}
-use Rattle.lower.specs.SchemeLaws.{Spent, Here, After, Goes, Returns, ReturnsAt, Answers, OperatorDone, Aim, IsPending}
+use Rattle.lower.specs.SchemeLaws.{Here, After, Goes, Returns, ReturnsAt, Answers, OperatorDone, Aim, IsPending}
 use Rattle.lower.specs.SchemeLaws.{at_or_zero, operator_leaves}
 use Rattle.lower.proofs.CarriedLater.{cells_below}
 use Rattle.lower.proofs.MergedBounds.{cast_fits}
@@ -79,9 +79,6 @@ module _ (setting : Setting) (l : Layout) (procs : List Proc) (casts : List Type
   abbrev deep : ℕ
   deep = 4 * l.tallest + 6
 
-  abbrev most : Spent
-  most = record { frames = deep }
-
   abbrev acting : Cost
   acting = act_cost procs (merging l.types casts) (merged_prices l.types (merging l.types casts) m)
 
@@ -93,19 +90,19 @@ module _ (setting : Setting) (l : Layout) (procs : List Proc) (casts : List Type
   abbrev Does : LowState → FlatAfter Coercion → ℕ → ℕ → Type 0
   Does te x credit n =
       (j : ℕ)
-      × After merged_meaning setting l procs casts m s most (Goes merged_meaning setting l procs casts m s most aim j) x
-      acting credit n 0 te
+      × After merged_meaning setting l procs casts m s (Goes merged_meaning setting l procs casts m s aim j) x acting
+      credit n 0 te
 
   -- entered to read what a number tells
   abbrev reads_at : ℕ → ℕ → ℕ → LowState
   reads_at which wv wi = entered s (read_proc (cast first)) (which ∷ wv ∷ wi ∷ [])
 
-  stands_at : (which wv wi : ℕ) → Stands setting l procs casts m s most (reads_at which wv wi)
-  stands_at which wv wi = record { objects = objects; filled = rt_filled; same = refl; active = omega arith }
+  stands_at : (which wv wi : ℕ) → Stands setting l procs casts m s (reads_at which wv wi)
+  stands_at which wv wi = record { objects = objects; filled = rt_filled; same = refl; room = omega arith }
 
   -- a turn without a step, and the others behind it
   goes_on : (which wv wi : ℕ) (focus : FlatFocus Coercion) (frames : List (FlatFrame Coercion))
-      → IsPending merged_meaning setting l procs casts m s most focus frames
+      → IsPending merged_meaning setting l procs casts m s focus frames
       → flat_cost procs (merging l.types casts) (merged_prices l.types (merging l.types casts) m) focus frames ≡ acting
       → flat_turn_wraps procs (merging l.types casts) focus frames ≡ 0 → (n : ℕ)
       → Does (reads_at which wv wi) (flat_turn procs (merging l.types casts) store s.world focus frames) 896 (n + 0)
@@ -114,17 +111,19 @@ module _ (setting : Setting) (l : Layout) (procs : List Proc) (casts : List Type
     suc r.0,
     (
       refl,
-      stays setting l procs casts m s most (λ t. Unit {0})
-          (λ left v. Goes merged_meaning setting l procs casts m s most aim (suc r.0) focus frames store (n + 0) left v)
-          acting 0 n (n + 0) (reads_at which wv wi) (
+      stays setting l procs casts m s (λ t. Unit {0})
+          (λ left v. Goes merged_meaning setting l procs casts m s aim (suc r.0) focus frames store (n + 0) left v)
+          acting 0 n (n + 0) (reads_at which wv wi)
+          (calm_as setting l procs casts m s (reads_at which wv wi) (stands_at which wv wi)) (
             pending,
-            calm_as setting l procs casts m s most (reads_at which wv wi) (stands_at which wv wi) (n + 0),
-            subst (λ c. After merged_meaning setting l procs casts m s most
-                (Goes merged_meaning setting l procs casts m s most aim r.0)
+            calm_as setting l procs casts m s (reads_at which wv wi) (stands_at which wv wi) (n + 0),
+            subst
+                (λ c. After merged_meaning setting l procs casts m s
+                (Goes merged_meaning setting l procs casts m s aim r.0)
                 (flat_turn procs (merging l.types casts) store s.world focus frames) c 896 (n + 0)
                 (flat_turn_wraps procs (merging l.types casts) focus frames) (reads_at which wv wi)) (sym cost)
-                (subst (λ w. After merged_meaning setting l procs casts m s most
-                (Goes merged_meaning setting l procs casts m s most aim r.0)
+                (subst (λ w. After merged_meaning setting l procs casts m s
+                (Goes merged_meaning setting l procs casts m s aim r.0)
                 (flat_turn procs (merging l.types casts) store s.world focus frames) acting 896 (n + 0) w
                 (reads_at which wv wi)) (sym wraps) r.1),
           ),
@@ -174,8 +173,7 @@ module _ (setting : Setting) (l : Layout) (procs : List Proc) (casts : List Type
         let z = indices_outside_trap ending_of setting l first s refl is_ready tallest objects rt_filled x wv hv a
         stands cell_words stands_here which i other (omega (arith, p, q)) in (
           0,
-          trapped_at setting l procs casts m s most (Goes merged_meaning setting l procs casts m s most aim 0) Index 0
-              73
+          trapped_at setting l procs casts m s (Goes merged_meaning setting l procs casts m s aim 0) Index 0 73
               (omega arith) (reads_at which wv i) refl z.0 z.2 z.3 acting credit (omega arith) n,
         )
 
@@ -203,14 +201,14 @@ module _ (setting : Setting) (l : Layout) (procs : List Proc) (casts : List Type
       abbrev dear : ℕ
       dear = cast_price_of l d like.0 + 148
 
-      begins : Walking setting l procs casts m measured placed s places objects store number here base most
-          operator_leaves H total wide dear te
+      begins : Walking setting l procs casts m measured placed s places objects store number here base operator_leaves
+          H total wide dear te
       begins =
-          by_law setting l procs casts m s most (total ≡ Stuck) (stuck_or_not total)
-          (Comes setting l procs casts m measured placed s places objects store number here base most operator_leaves H
+          by_law setting l procs casts m s (total ≡ Stuck) (stuck_or_not total)
+          (Comes setting l procs casts m measured placed s places objects store number here base operator_leaves H
           total)
-          (comes_stands setting l procs casts m measured placed s places objects store number here base most
-          operator_leaves H total) deep wide dear (le_refl deep) te (stands_at which wv i) refl
+          (comes_stands setting l procs casts m measured placed s places objects store number here base operator_leaves
+          H total) deep wide dear (omega arith) te (stands_at which wv i) refl
           (λ some.
           let z = elements_are_read ending_of setting l first s refl is_ready tallest objects rt_filled (λ b. H) x wv
           hv a d behind cell_words stands_here which i word.0 other word.1 like.0 like.2 total refl some in
@@ -218,7 +216,7 @@ module _ (setting : Setting) (l : Layout) (procs : List Proc) (casts : List Type
 
       cast_after : (credit n : ℕ) → Does te (On (Return v) (CastFrame d ∷ base) store s.world) credit n
       cast_after credit n =
-          cast_next setting l procs casts m measured placed s places objects store number here base most operator_leaves
+          cast_next setting l procs casts m measured placed s places objects store number here base operator_leaves
           H total wide dear acting d normal v like.0 like.1 refl refl te begins credit
           (cast_fits l m measured 148 operator_leaves d like.0 (credit + acting.budget) (omega arith) (omega arith)) n
 
@@ -226,8 +224,8 @@ module _ (setting : Setting) (l : Layout) (procs : List Proc) (casts : List Type
       bare_after : total ≡ Gives like.0 → wide ≤ 0 → dear ≤ 300 → (credit n : ℕ)
           → Does te (On (Return v) base store s.world) credit n
       bare_after same few cheap credit n =
-          returned_now setting l procs casts m measured placed s places objects store number here base most
-          operator_leaves H total wide dear acting v like.0 like.1 refl same te begins few credit
+          returned_now setting l procs casts m measured placed s places objects store number here base operator_leaves
+          H total wide dear acting v like.0 like.1 refl same te begins few credit
           (omega (arith, cheap)) n
 
   -- ---- elements of vectors
@@ -484,7 +482,7 @@ module _ (setting : Setting) (l : Layout) (procs : List Proc) (casts : List Type
           0,
           (
             refl,
-            lands setting l procs casts m s most 0 0 57 operator_leaves (omega arith) (reads_at 2 wv 0) refl
+            lands setting l procs casts m s 0 0 57 operator_leaves (omega arith) (reads_at 2 wv 0) refl
                 (TellsAt setting l s objects k) z.0 z.2 z.3 acting credit (omega arith) (omega arith) n (n + 0)
                 (λ left u. aim (Return (RunInt (pos k))) base store (n + 0) left u)
                 (λ u g. (refl, le_refl operator_leaves, tells (n + 0) k u (few true cell values e a c x wv hv) g)),
@@ -545,39 +543,28 @@ module _ (setting : Setting) (l : Layout) (procs : List Proc) (casts : List Type
   pub merged_reads : OperatorDone merged_meaning setting l procs casts m run VectorRef (read_proc (cast first))
       (λ ws. 1 ∷ at_or_zero ws 0 ∷ at_or_zero ws 1 ∷ [])
   merged_reads = record {
-    does = λ s number places objects store here base vs ws c handed. (
-      most setting l procs casts m measured first placed types tallest ready s number places objects store here base,
-      reads_for setting l procs casts m measured first placed types tallest ready s number places objects store here
-          base vs ws c,
-    );
+    does = λ s number places objects store here base vs ws c handed.
+        reads_for setting l procs casts m measured first placed types tallest ready s number places objects store here
+        base vs ws c;
   }
 
   pub merged_unboxes : OperatorDone merged_meaning setting l procs casts m run Unbox (read_proc (cast first))
       (λ ws. 0 ∷ at_or_zero ws 0 ∷ 0 ∷ [])
   merged_unboxes = record {
     does = λ s number places objects store here base vs ws c handed.
-        subst (λ xs. (most : Spent) × Answers merged_meaning setting l procs casts m s most operator_leaves places
-        objects base
+        subst (λ xs. Answers merged_meaning setting l procs casts m s operator_leaves places objects base
         (flat_operate procs (merging l.types casts) store s.world Unbox xs base)
         (act_cost procs (merging l.types casts) (merged_prices l.types (merging l.types casts) m)) number 0
-        (entered s (read_proc (cast first)) (0 ∷ at_or_zero ws 0 ∷ 0 ∷ []))) (sym handed.3) (
-          most setting l procs casts m measured first placed types tallest ready s number places objects store here
-              base,
-          unboxes_for setting l procs casts m measured first placed types tallest ready s number places objects store
-              here base
-              handed.0 handed.1 handed.2 ws
-              (subst (λ xs. AreCarried l setting.address procs merged_meaning places objects (in_row xs) ws) handed.3
-              c),
-        );
+        (entered s (read_proc (cast first)) (0 ∷ at_or_zero ws 0 ∷ 0 ∷ []))) (sym handed.3)
+        (unboxes_for setting l procs casts m measured first placed types tallest ready s number places objects store
+        here base handed.0 handed.1 handed.2 ws
+        (subst (λ xs. AreCarried l setting.address procs merged_meaning places objects (in_row xs) ws) handed.3 c));
   }
 
   pub merged_measures : OperatorDone merged_meaning setting l procs casts m run VectorLength (read_proc (cast first))
       (λ ws. 2 ∷ at_or_zero ws 0 ∷ 0 ∷ [])
   merged_measures = record {
-    does = λ s number places objects store here base vs ws c handed. (
-      most setting l procs casts m measured first placed types tallest ready s number places objects store here base,
-      measures_for setting l procs casts m measured first placed types tallest ready s number places objects store here
-          base vs
-          ws c,
-    );
+    does = λ s number places objects store here base vs ws c handed.
+        measures_for setting l procs casts m measured first placed types tallest ready s number places objects store
+        here base vs ws c;
   }

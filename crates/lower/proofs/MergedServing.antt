@@ -1,5 +1,6 @@
 -- The merged scheme serves, and the run over words of its programs follows the merged mode, within its account.
-use Rattle.std.proofs.Common.{◌≡◌, ℕ, suc, ◌^◌, ◌<◌, true, List, length, Some, refl}
+use Rattle.std.proofs.Common.{◌≡◌, ℕ, suc, ◌+◌, ◌*◌, ◌^◌, ◌<◌, ◌≤◌, true, List, length, Some, refl}
+use Rattle.std.specs.Prelude.{All}
 use Rattle.grift_base.specs.Types.{TypeRow, row_at}
 use Rattle.run_laws.specs.Accounts.{FollowsWithin}
 use Rattle.run_laws.specs.Machines.{run}
@@ -9,6 +10,7 @@ use Rattle.run_laws.proofs.Public.{follows_by_weaken}
 use Rattle.rv_machine.specs.Mach.{ending_of}
 use Rattle.rv_machine.specs.Memory.{Memory}
 use Rattle.low_ir.specs.Prices.{low_price}
+use Rattle.low_ir.specs.Procedures.{Proc as LowProc}
 use Rattle.low_ir.specs.Run.{Setting, low_machine, low_start}
 use Rattle.core_calc.specs.Account.{Measures}
 use Rattle.coercion_norm.specs.AnswerTypes.{Told}
@@ -95,15 +97,17 @@ module _ (setting : Setting) (l : Layout) (words : List ℕ) (procs : List Proc)
       (record { memory = shown.memory; alloc = shown.alloc; words = shown.words }) is.placed typed held.tallest x.1)
       (λ shown counts x. tt) words_follow_procedures-storage
 
--- within the account of the procedures
+-- within the account of the procedures, in words asked for, in frames and in prices
 pub words_keep_the_account : (setting : Setting) (l : Layout) (words : List ℕ) (procs : List Proc) (entry : ℕ)
-    (answer : TypeRow) (memory : Memory) (told : Told) (casts : List TypeCast) (m : Measures) (input : List ℕ)
+    (answer : TypeRow) (memory : Memory) (told : Told) (casts : List TypeCast) (m : Measures) (most : ℕ)
+    (input : List ℕ)
     → IsLowered setting l (with_casts (merged_numbers (suc (length procs))) words (cast_ways l.types casts)) procs
     entry answer (merged_procs (suc (length procs))) memory → setting.top < 2 ^ 34 → setting.labels ≡ told.labels
     → row_at told.types told.answer ≡ Some answer → told.types ≡ l.types → TypesStand l → FitsMeasures l m
     → MergedCasts l casts words → is_closed procs entry ≡ true → all_covered procs ≡ true → AreNarrow procs
+    → All (λ (p : LowProc). p.words ≤ most) setting.procs
     → NeverWrong (flat_run_in procs entry (merging told.types casts) told input)
-    → FollowsWithin (KeepsFlat setting) PaysFlat
+    → FollowsWithin (KeepsFlat setting (4 * l.tallest + 7) most) PaysFlat
     (run (metered (low_price setting.procs) (low_machine ending_of setting))
     (unspent (low_start setting (entry_proc entry answer) memory (first_world input))))
     (flat_tally_in procs entry (merging told.types casts) (merged_prices told.types (merging told.types casts) m) told

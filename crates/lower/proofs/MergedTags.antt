@@ -43,7 +43,7 @@ use Rattle.lower.specs.CarriedValues.{CarriedIn}
 use Rattle.lower.specs.Emit.{cast_word}
 use Rattle.lower.specs.MergedMeaning.{merged_meaning, MergedCasts}
 use Rattle.lower.specs.Keeping.{FitsMeasures}
-use Rattle.lower.specs.SchemeLaws.{Here, OnWay, After, Serves, GivesInPlace, CastsInPlace, Aim, nothing}
+use Rattle.lower.specs.SchemeLaws.{Here, OnWay, After, Serves, GivesInPlace, CastsInPlace, Aim}
 use Rattle.lower.proofs.HeapObjects.{none_some, same_some, found_within}
 use Rattle.lower.proofs.MergedCasts.{row_of}
 use Rattle.lower.proofs.WordArithmetic.{tag_some}
@@ -177,7 +177,7 @@ module _ (setting : Setting) (l : Layout) (procs : List Proc) (casts : List Type
 
   abbrev Made : FlatValue Coercion → Coercion → ℕ → Type 0
   Made v c word =
-      Serves merged_meaning setting l procs casts m s nothing (aim word)
+      Serves merged_meaning setting l procs casts m s (aim word)
       (flat_cast procs (merging l.types casts) store s.world v c base) (costs c v) number
       (decision_wraps (decision_at procs (merging l.types casts) (Some c) v)) s
 
@@ -194,12 +194,12 @@ module _ (setting : Setting) (l : Layout) (procs : List Proc) (casts : List Type
     cells = here.cells;
   }
 
-  on_way : (n : ℕ) → OnWay merged_meaning setting l procs casts m s s nothing 0 n n s
+  on_way : (n : ℕ) → OnWay merged_meaning setting l procs casts m s s 0 n n s
   on_way n = record {
     objects = objects;
     filled = inl (here_after n).filled;
     same = refl;
-    active = omega arith;
+    room = omega arith;
     asked = omega arith;
   }
 
@@ -222,7 +222,7 @@ module _ (setting : Setting) (l : Layout) (procs : List Proc) (casts : List Type
       dyn = subst (λ o. IsDynBy l objects o from w (tagged (tag_number tag) w)) (sym small) (refl, known)
 
       by : (b : Bool)
-          → Serves merged_meaning setting l procs casts m s nothing (aim (tagged (tag_number tag) w))
+          → Serves merged_meaning setting l procs casts m s (aim (tagged (tag_number tag) w))
           (make (merging l.types casts) (flat_arity procs) (flat_entered procs) store s.world
           (if b then Injecting from else NoCast) v base)
           (effort_cost m (effort l.types (Inject Id from) (shape_of (flat_arity procs) v)
@@ -239,6 +239,7 @@ module _ (setting : Setting) (l : Layout) (procs : List Proc) (casts : List Type
             omega arith,
             omega arith,
             (
+              omega arith,
               omega arith,
               (
                 refl,
@@ -293,7 +294,7 @@ module _ (setting : Setting) (l : Layout) (procs : List Proc) (casts : List Type
         0 + open_cost.budget,
         omega arith,
         omega arith,
-        (omega arith, (tt, on_way (number + 0), subst After_by (sym none) kept_so)),
+        (omega arith, omega arith, (tt, on_way (number + 0), subst After_by (sym none) kept_so)),
       ),
     ),
   )
@@ -309,7 +310,7 @@ module _ (setting : Setting) (l : Layout) (procs : List Proc) (casts : List Type
 
       After_by : Coercion → Type 0
       After_by inner =
-          After merged_meaning setting l procs casts m s nothing (aim (compute Sra w 3))
+          After merged_meaning setting l procs casts m s (aim (compute Sra w 3))
           (flat_turn procs (merging l.types casts) store s.world (Return u) (CastFrame inner ∷ base)) (costs inner u)
           (0 + open_cost.budget) (number + 0)
           (flat_turn_wraps procs (merging l.types casts) (Return u) (CastFrame inner ∷ base)) s
@@ -324,6 +325,7 @@ module _ (setting : Setting) (l : Layout) (procs : List Proc) (casts : List Type
           omega arith,
           omega arith,
           (
+            omega arith,
             omega arith,
             (
               refl,
@@ -391,7 +393,7 @@ merged_casts_in_place setting l procs casts m words run_by measured placed held 
     let way : way_at (slice_get run_by.ways row) ≡ cast_way l.types r.0 =
     ap (λ ws. way_at (slice_get ws row)) ways_are ∙ (ap way_at (slice_get-map (cast_way l.types) casts row)
     ∙ ap (λ o. way_at (option_map (cast_way l.types) o)) r.1) in
-    subst (λ c. Serves merged_meaning setting l procs casts m s nothing
+    subst (λ c. Serves merged_meaning setting l procs casts m s
     (GivesInPlace merged_meaning setting l procs casts m s places objects base word)
     (flat_cast procs (merging l.types casts) store s.world v c base)
     (cast_cost procs (merging l.types casts) (merged_prices l.types (merging l.types casts) m) (Some c) v) number

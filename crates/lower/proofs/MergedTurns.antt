@@ -28,7 +28,7 @@ use Rattle.lower.specs.CarriedValues.{CarriedIn, IsGroup}
 use Rattle.lower.specs.Numbering.{function_offset}
 use Rattle.lower.specs.MergedMeaning.{merged_meaning, WrapsKind}
 use Rattle.lower.specs.Keeping.{FitsMeasures}
-use Rattle.lower.specs.SchemeLaws.{Spent, StopsNow, After, Goes, Aim}
+use Rattle.lower.specs.SchemeLaws.{StopsNow, After, Goes, Aim}
 use Rattle.lower.proofs.MergedOpened.{opened, no_int, no_bool, no_unit, no_dyn}
 use Rattle.lower.proofs.HeapObjects.{none_some, same_some}
 use Rattle.std.proofs.Common.{pos}
@@ -546,9 +546,9 @@ module _ (setting : Setting) (l : Layout) (procs : List Proc) (casts : List Type
 -- The walk comes to where Done holds. What it comes to is an outcome: total.
 module _ (setting : Setting) (l : Layout) (procs : List Proc) (casts : List TypeCast) (m : Measures)
     (measured : FitsMeasures l m) (s : LowState) (places : List ℕ) (objects : List Object)
-    (store : FlatStore Coercion) (most : Spent) (aim : Aim merged_meaning setting l procs casts m) (H : TypeHead)
+    (store : FlatStore Coercion) (aim : Aim merged_meaning setting l procs casts m) (H : TypeHead)
     (total : Outcome ℕ) (Done : LowState → Type 0)
-    (calm : (t : LowState) → Done t → Calm setting l procs casts m s most t)
+    (calm : (t : LowState) → Done t → Calm setting l procs casts m s t)
     (blamed : (label : ℕ) → total ≡ Blames label → (t : LowState) → Done t → (n : ℕ) (place : Pos)
     → slice_get setting.labels label ≡ Some place
     → StopsNow merged_meaning setting l procs casts m s n (EndsWith (Blame place)) t) where
@@ -565,20 +565,20 @@ module _ (setting : Setting) (l : Layout) (procs : List Proc) (casts : List Type
   R = rows_of l.types
 
   abbrev Walking : Type 1
-  Walking = Stage setting l procs casts m s most Done
+  Walking = Stage setting l procs casts m s Done
 
   abbrev ended : Walking
-  ended = at_end setting l procs casts m s most Done calm
+  ended = at_end setting l procs casts m s Done calm
 
   abbrev pub GoesOn : ℕ → FlatFocus Coercion → List (FlatFrame Coercion) → ℕ → ℕ → LowState → Type 0
   GoesOn i focus frames n credit t =
-      Goes merged_meaning setting l procs casts m s most aim i focus frames store n credit t
+      Goes merged_meaning setting l procs casts m s aim i focus frames store n credit t
 
   -- a turn at this cost that came to this, and so many more
   abbrev pub Turned : ℕ → FlatAfter Coercion → Cost → ℕ → ℕ → ℕ → LowState → Type 0
   Turned i x cost credit n wraps t =
-      After merged_meaning setting l procs casts m s most (Goes merged_meaning setting l procs casts m s most aim i) x
-      cost credit n wraps t
+      After merged_meaning setting l procs casts m s (Goes merged_meaning setting l procs casts m s aim i) x cost
+      credit n wraps t
 
   -- from frames on, told what the value before them comes to, the aim is reached from each state of a stage, where the
   -- credit fits
@@ -607,8 +607,8 @@ module _ (setting : Setting) (l : Layout) (procs : List Proc) (casts : List Type
         r.0,
         λ t ready n credit wraps fit. (
           refl,
-          stays setting l procs casts m s most Done (λ left v. GoesOn r.0 (Return u) frames (n + wraps) left v) cost
-              credit n (n + wraps) t (r.1 t ready (n + wraps) (credit + cost.budget) fit),
+          stays setting l procs casts m s Done (λ left v. GoesOn r.0 (Return u) frames (n + wraps) left v) cost credit
+              n (n + wraps) t (g.calm t ready) (r.1 t ready (n + wraps) (credit + cost.budget) fit),
         ),
       )
 
@@ -621,7 +621,7 @@ module _ (setting : Setting) (l : Layout) (procs : List Proc) (casts : List Type
         r.0,
         λ t ready n credit wraps fit. (
           refl,
-          takes setting l procs casts m s most Done g
+          takes setting l procs casts m s Done g
               (λ left v. GoesOn r.0 (Return u) frames (n + wraps) left v) cost need credit n (n + wraps) t ready fit.0
               fit.1 (λ v done. r.1 v done (n + wraps) need (le_refl need)),
         ),
@@ -634,7 +634,7 @@ module _ (setting : Setting) (l : Layout) (procs : List Proc) (casts : List Type
   blames_now g cost label e t ready n credit few cheap = (
     refl,
     λ place found_it.
-        takes setting l procs casts m s most Done g
+        takes setting l procs casts m s Done g
         (λ left v. StopsNow merged_meaning setting l procs casts m s n (EndsWith (Blame place)) v) cost 0 credit n n
         t ready few (omega (arith, cheap)) (λ v done. blamed label e v done n place found_it),
   )
@@ -780,9 +780,9 @@ module _ (setting : Setting) (l : Layout) (procs : List Proc) (casts : List Type
         suc r.0,
         λ t ready n credit fits. (
           refl,
-          stays setting l procs casts m s most Done
+          stays setting l procs casts m s Done
               (λ left v. GoesOn (suc r.0) (Return u) (CastFrame (Middle kind cs) ∷ CastFrame (Inject Id kept) ∷ frames)
-              (n + 0) left v) (effort_cost m Splits) credit n (n + 0) t (
+              (n + 0) left v) (effort_cost m Splits) credit n (n + 0) t (g.calm t ready) (
                 tt,
                 g.calm t ready (n + 0),
                 r.1 t ready (n + 0) (credit + 0)
@@ -826,7 +826,7 @@ module _ (setting : Setting) (l : Layout) (procs : List Proc) (casts : List Type
             suc r.0,
             λ t ready n credit few cheap. (
               refl,
-              takes setting l procs casts m s most Done g
+              takes setting l procs casts m s Done g
                   (λ left v. GoesOn (suc r.0) (Return u) opened_frames (n + 0) left v) open_cost need credit n (n + 0) t
                   ready few cheap
                   (λ v done. (
@@ -848,8 +848,9 @@ module _ (setting : Setting) (l : Layout) (procs : List Proc) (casts : List Type
             suc r.0,
             λ t ready n credit fit. (
               refl,
-              stays setting l procs casts m s most Done
-                  (λ left v. GoesOn (suc r.0) (Return u) opened_frames (n + 0) left v) open_cost credit n (n + 0) t (
+              stays setting l procs casts m s Done
+                  (λ left v. GoesOn (suc r.0) (Return u) opened_frames (n + 0) left v) open_cost credit n (n + 0) t
+                  (g.calm t ready) (
                     tt,
                     g.calm t ready (n + 0),
                     r.1 t ready (n + 0) (credit + open_cost.budget) (record {
@@ -1035,9 +1036,9 @@ module _ (setting : Setting) (l : Layout) (procs : List Proc) (casts : List Type
               suc r.0,
               λ t ready n credit fit. (
                 refl,
-                stays setting l procs casts m s most Done
+                stays setting l procs casts m s Done
                     (λ left v. GoesOn (suc r.0) (Return u) (ProjFrame (pos k) ∷ CastFrame d ∷ frames) (n + 0) left v)
-                    Acting credit n (n + 0) t (
+                    Acting credit n (n + 0) t (g.calm t ready) (
                       tt,
                       g.calm t ready (n + 0),
                       r.1 t ready (n + 0) (credit + Acting.budget)

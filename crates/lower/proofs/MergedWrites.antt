@@ -50,7 +50,7 @@ use Rattle.lower.specs.MergedMeaning.{merged_meaning, WrapsKind}
 use Rattle.lower.specs.Storage.{Filled}
 use Rattle.lower.specs.CarriedValues.{CarriedIn, AreCarried, CellsHeld, CellHeld}
 use Rattle.lower.specs.Keeping.{FitsMeasures}
-use Rattle.lower.specs.SchemeLaws.{Spent, Here, StopsNow, After, Goes, Returns, ReturnsAt, Answers}
+use Rattle.lower.specs.SchemeLaws.{Here, StopsNow, After, Goes, Returns, ReturnsAt, Answers}
 use Rattle.lower.specs.SchemeLaws.{OperatorDone, Aim, at_or_zero, operator_leaves}
 use Rattle.lower.proofs.CarriedLater.{cells_later, cells_below, carried_small, all_later, function_there}
 use Rattle.lower.proofs.HeapCells.{cells_stored, as_many_cells, there_is}
@@ -60,8 +60,8 @@ use Rattle.lower.proofs.MergedLike.{Like, solid_head, like_of, like_back, solid}
 use Rattle.lower.proofs.MergedReads.{no_proxy, solid_same}
 use Rattle.lower.proofs.MergedBounds.{Fits, cast_fits}
 use Rattle.lower.proofs.MergedChains.{stuck_or_not, gives_some, blames_some}
-use Rattle.lower.proofs.MergedStages.{Calm, Stands, Stage, Settled, Begun, at_end, begun, settled_calm, calm_as, stays}
-use Rattle.lower.proofs.MergedStages.{takes, trapped_at, by_writing_law}
+use Rattle.lower.proofs.MergedStages.{HasRoom, Calm, Stands, Stage, Settled, Begun, at_end, begun, settled_calm}
+use Rattle.lower.proofs.MergedStages.{calm_as, stays, takes, trapped_at, by_writing_law}
 use Rattle.lower.proofs.MergedTurns.{cell_part_normal, Ends, ends_cast, skips}
 use Rattle.lower.proofs.MergedStates.{positive_is, negative_is, element_past, past_element, as_many, element}
 use Rattle.lower.proofs.MergedStates.{blame_stops}
@@ -135,9 +135,6 @@ module _ (setting : Setting) (l : Layout) (procs : List Proc) (casts : List Type
   abbrev deep : ℕ
   deep = 4 * l.tallest + 7
 
-  abbrev most : Spent
-  most = record { frames = deep }
-
   abbrev acting : Cost
   acting = act_cost procs (merging l.types casts) (merged_prices l.types (merging l.types casts) m)
 
@@ -147,8 +144,8 @@ module _ (setting : Setting) (l : Layout) (procs : List Proc) (casts : List Type
 
   abbrev Turned : LowState → ℕ → FlatAfter Coercion → ℕ → ℕ → Type 0
   Turned te j x credit n =
-      After merged_meaning setting l procs casts m s most (Goes merged_meaning setting l procs casts m s most aim j) x
-      acting credit n 0 te
+      After merged_meaning setting l procs casts m s (Goes merged_meaning setting l procs casts m s aim j) x acting
+      credit n 0 te
 
   -- the turns go to a return, behind one that is an act
   abbrev Does : LowState → FlatAfter Coercion → ℕ → Type 0
@@ -157,8 +154,8 @@ module _ (setting : Setting) (l : Layout) (procs : List Proc) (casts : List Type
   abbrev writes_at : ℕ → ℕ → ℕ → ℕ → LowState
   writes_at which wv wi w = entered s (write_proc (cast first)) (which ∷ wv ∷ wi ∷ w ∷ [])
 
-  stands_at : (which wv wi w : ℕ) → Stands setting l procs casts m s most (writes_at which wv wi w)
-  stands_at which wv wi w = record { objects = objects; filled = rt_filled; same = refl; active = omega arith }
+  stands_at : (which wv wi w : ℕ) → Stands setting l procs casts m s (writes_at which wv wi w)
+  stands_at which wv wi w = record { objects = objects; filled = rt_filled; same = refl; room = omega arith }
 
   abbrev turn : List (FlatValue Coercion) → List (FlatFrame Coercion) → FlatAfter Coercion
   turn vs frames = flat_operate procs (merging l.types casts) store s.world VectorSet vs frames
@@ -174,30 +171,30 @@ module _ (setting : Setting) (l : Layout) (procs : List Proc) (casts : List Type
     Comes t = WriteComes setting l s (IsVery l) objects a i total t
 
     stands_so : (r : Outcome ℕ) (t : LowState) → WriteComes setting l s (IsVery l) objects a i r t
-        → length t.waiting ≤ length s.waiting + most.frames → Stands setting l procs casts m s most t
+        → HasRoom setting l procs casts m s t → Stands setting l procs casts m s t
     stands_so Stuck t c few = absurd c
-    stands_so (Gives x) t c few = record { objects = c.new; filled = c.filled; same = c.same; active = few }
+    stands_so (Gives x) t c few = record { objects = c.new; filled = c.filled; same = c.same; room = few }
     stands_so (Blames label) t c few =
-        record { objects = c.new; filled = c.fine.filled; same = c.same; active = few }
+        record { objects = c.new; filled = c.fine.filled; same = c.same; room = few }
 
-    comes_stands : (t : LowState) → Comes t → length t.waiting ≤ length s.waiting + most.frames
-        → Stands setting l procs casts m s most t
+    comes_stands : (t : LowState) → Comes t → HasRoom setting l procs casts m s t
+        → Stands setting l procs casts m s t
     comes_stands t c few = stands_so total t c few
 
     abbrev Done : LowState → Type 0
-    Done = Settled setting l procs casts m s most Nothing decided Comes comes_stands
+    Done = Settled setting l procs casts m s Nothing decided Comes comes_stands
 
-    calm : (t : LowState) → Done t → Calm setting l procs casts m s most t
-    calm t done = settled_calm setting l procs casts m s most Nothing decided Comes comes_stands t done
+    calm : (t : LowState) → Done t → Calm setting l procs casts m s t
+    calm t done = settled_calm setting l procs casts m s Nothing decided Comes comes_stands t done
 
-    abbrev ended : Stage setting l procs casts m s most Done
-    ended = at_end setting l procs casts m s most Done calm
+    abbrev ended : Stage setting l procs casts m s Done
+    ended = at_end setting l procs casts m s Done calm
 
-    abbrev walk : ℕ → ℕ → Stage setting l procs casts m s most Done
-    walk words price = begun setting l procs casts m s most Nothing decided Comes comes_stands words price
+    abbrev walk : ℕ → ℕ → Stage setting l procs casts m s Done
+    walk words price = begun setting l procs casts m s Nothing decided Comes comes_stands words price
 
     abbrev Walking : ℕ → ℕ → LowState → Type 0
-    Walking words price t = Begun setting l procs casts m s most Nothing decided Comes comes_stands words price t
+    Walking words price t = Begun setting l procs casts m s Nothing decided Comes comes_stands words price t
 
     comes_so : (r : Outcome ℕ) → total ≡ r → (Nothing → ⊥) → (t : LowState) → Done t
         → WriteComes setting l s (IsVery l) objects a i r t
@@ -213,7 +210,7 @@ module _ (setting : Setting) (l : Layout) (procs : List Proc) (casts : List Type
 
     abbrev Later : ℕ → List (FlatFrame Coercion) → Type 0
     Later need frames =
-        Ends setting l procs casts m measured s places objects store most aim H total Done calm stops_so ended
+        Ends setting l procs casts m measured s places objects store aim H total Done calm stops_so ended
         (λ x credit. need ≤ credit) frames (λ o. o)
 
     -- the value is cast first, and the walk is done in a turn of that cast
@@ -223,10 +220,10 @@ module _ (setting : Setting) (l : Layout) (procs : List Proc) (casts : List Type
         → Walking words price te → Fits (rows_of l.types) m words price 0 d x 896 → (n : ℕ)
         → Does te (On (Return v) (CastFrame d ∷ frames) store s.world) n
     cast_by words price d normal frames ends v x k h e te ready fits n =
-        let r = skips setting l procs casts m measured s places objects store most aim H total Done calm stops_so
+        let r = skips setting l procs casts m measured s places objects store aim H total Done calm stops_so
         (walk words price) acting (λ y c. Fits (rows_of l.types) m words price 0 d y c) (CastFrame d ∷ frames)
         (λ o. then_outcome o (cast_value (λ b. H) l.types d))
-        (ends_cast setting l procs casts m measured s places objects store most aim H total Done calm stops_so
+        (ends_cast setting l procs casts m measured s places objects store aim H total Done calm stops_so
         (walk words price) 0 d normal frames (λ o. o) (λ label. refl) ends) v x k h e in
         (r.0, r.1 te ready n 0 0 fits)
 
@@ -285,8 +282,7 @@ module _ (setting : Setting) (l : Layout) (procs : List Proc) (casts : List Type
         let z = writes_outside_trap ending_of setting l first s refl is_ready tallest objects rt_filled x wv hv a below
         cell_words stands_here 1 i w refl (omega (arith, p, q)) in (
           0,
-          trapped_at setting l procs casts m s most (Goes merged_meaning setting l procs casts m s most aim 0) Index 0
-              73
+          trapped_at setting l procs casts m s (Goes merged_meaning setting l procs casts m s aim 0) Index 0 73
               (omega arith) (writes_at 1 wv i w) refl z.0 z.2 z.3 acting 0 (omega arith) n,
         )
 
@@ -323,9 +319,9 @@ module _ (setting : Setting) (l : Layout) (procs : List Proc) (casts : List Type
 
       begins : Walking a i head_of_it what (what ≡ Stuck) (stuck_or_not what) some_blame wide dear te
       begins =
-          by_writing_law setting l procs casts m s most (what ≡ Stuck) (stuck_or_not what)
+          by_writing_law setting l procs casts m s (what ≡ Stuck) (stuck_or_not what)
           (Comes a i head_of_it what (what ≡ Stuck) (stuck_or_not what) some_blame)
-          (comes_stands a i head_of_it what (what ≡ Stuck) (stuck_or_not what) some_blame) deep wide dear (le_refl deep)
+          (comes_stands a i head_of_it what (what ≡ Stuck) (stuck_or_not what) some_blame) deep wide dear (omega arith)
           te (stands_at which wv i w) refl
           (λ some.
           let z = elements_are_written ending_of setting l first s refl is_ready tallest objects rt_filled region
@@ -441,9 +437,10 @@ module _ (setting : Setting) (l : Layout) (procs : List Proc) (casts : List Type
           → Turned t 0 (On (Return RunUnit) base (slice_set store cell (slice_set values i u)) s.world) credit n
       wrote u y like_u e n credit t done = (
         refl,
-        stays setting l procs casts m s most DoneHere
+        stays setting l procs casts m s DoneHere
             (λ left v. aim (Return RunUnit) base (slice_set store cell (slice_set values i u)) (n + 0) left v) acting
             credit n (n + 0) t
+            (calm a i head_of_it what (what ≡ Stuck) (stuck_or_not what) some_blame t done)
             (written u y like_u e (n + 0) (credit + acting.budget) (omega arith) t done),
       )
 
@@ -454,7 +451,7 @@ module _ (setting : Setting) (l : Layout) (procs : List Proc) (casts : List Type
         0,
         (
           refl,
-          takes setting l procs casts m s most DoneHere
+          takes setting l procs casts m s DoneHere
               (walk a i head_of_it what (what ≡ Stuck) (stuck_or_not what) some_blame wide dear)
               (λ left u. aim (Return RunUnit) base (slice_set store cell (slice_set values i v)) (n + 0) left u) acting
               operator_leaves 0 n (n + 0) te begins few (omega (arith, cheap))
@@ -560,8 +557,9 @@ module _ (setting : Setting) (l : Layout) (procs : List Proc) (casts : List Type
           1,
           λ t done n credit le. (
             tt,
-            calm_as setting l procs casts m s most t done.stands n,
-            last b u y like_u is n credit t done,
+            calm_as setting l procs casts m s t done.stands n,
+            last b u y like_u is n credit t
+                done,
           ),
         )) number
       where
@@ -661,8 +659,9 @@ module _ (setting : Setting) (l : Layout) (procs : List Proc) (casts : List Type
           1,
           λ t done n credit le. (
             tt,
-            calm_as setting l procs casts m s most t done.stands n,
-            last b u y like_u is n credit t done,
+            calm_as setting l procs casts m s t done.stands n,
+            last b u y like_u is n credit t
+                done,
           ),
         )) number
       where
@@ -747,10 +746,10 @@ module _ (setting : Setting) (l : Layout) (procs : List Proc) (casts : List Type
       begins_box : Walking a 0 head_in_box comes_to Silent choice sure_of_it (cast_words_of l d like_it.0)
           (cast_price_of l d like_it.0 + 147) box_te
       begins_box =
-          by_writing_law setting l procs casts m s most Silent choice
+          by_writing_law setting l procs casts m s Silent choice
           (Comes a 0 head_in_box comes_to Silent choice sure_of_it)
           (comes_stands a 0 head_in_box comes_to Silent choice sure_of_it) deep (cast_words_of l d like_it.0)
-          (cast_price_of l d like_it.0 + 147) (le_refl deep) box_te (stands_at 0 wv 0 w) refl blame_law
+          (cast_price_of l d like_it.0 + 147) (omega arith) box_te (stands_at 0 wv 0 w) refl blame_law
 
       vector_cast : Does box_te (On (Return v) (CastFrame d ∷ PrimFrame BoxSet (RunLoc cell true ∷ []) ∷ base) store
           s.world)
@@ -760,7 +759,7 @@ module _ (setting : Setting) (l : Layout) (procs : List Proc) (casts : List Type
           (cast_price_of l d like_it.0 + 147) d b.1 (PrimFrame BoxSet (RunLoc cell true ∷ []) ∷ base)
           (λ u y like_u head is. (
             1,
-            λ t done n credit le. (tt, calm_as setting l procs casts m s most t done.stands n, refl),
+            λ t done n credit le. (tt, calm_as setting l procs casts m s t done.stands n, refl),
           )) v like_it.0 like_it.1 refl refl box_te begins_box
           (cast_fits l m measured 147 0 d like_it.0 896 (omega arith) (omega arith)) number
 
@@ -925,31 +924,20 @@ module _ (setting : Setting) (l : Layout) (procs : List Proc) (casts : List Type
   pub merged_writes : OperatorDone merged_meaning setting l procs casts m run VectorSet (write_proc (cast first))
       (λ ws. 1 ∷ at_or_zero ws 0 ∷ at_or_zero ws 1 ∷ at_or_zero ws 2 ∷ [])
   merged_writes = record {
-    does = λ s number places objects store here base vs ws c handed. (
-      most setting l procs casts m measured first placed types tallest ready region s number places objects store here
-          base,
-      writes_for setting l procs casts m measured first placed types tallest ready region s number places objects store
-          here base
-          vs
-          ws c,
-    );
+    does = λ s number places objects store here base vs ws c handed.
+        writes_for setting l procs casts m measured first placed types tallest ready region s number places objects
+        store here base vs ws c;
   }
 
   pub merged_sets : OperatorDone merged_meaning setting l procs casts m run BoxSet (write_proc (cast first))
       (λ ws. 0 ∷ at_or_zero ws 0 ∷ 0 ∷ at_or_zero ws 1 ∷ [])
   merged_sets = record {
     does = λ s number places objects store here base vs ws c handed.
-        subst (λ xs. (most : Spent) × Answers merged_meaning setting l procs casts m s most operator_leaves places
-        objects base
+        subst (λ xs. Answers merged_meaning setting l procs casts m s operator_leaves places objects base
         (flat_operate procs (merging l.types casts) store s.world BoxSet xs base)
         (act_cost procs (merging l.types casts) (merged_prices l.types (merging l.types casts) m)) number 0
-        (entered s (write_proc (cast first)) (0 ∷ at_or_zero ws 0 ∷ 0 ∷ at_or_zero ws 1 ∷ []))) (sym handed.3) (
-          most setting l procs casts m measured first placed types tallest ready region s number places objects store
-              here base,
-          sets_for setting l procs casts m measured first placed types tallest ready region s number places objects
-              store here base
-              handed.0 handed.1 handed.2 ws
-              (subst (λ xs. AreCarried l setting.address procs merged_meaning places objects (in_row xs) ws) handed.3
-              c),
-        );
+        (entered s (write_proc (cast first)) (0 ∷ at_or_zero ws 0 ∷ 0 ∷ at_or_zero ws 1 ∷ []))) (sym handed.3)
+        (sets_for setting l procs casts m measured first placed types tallest ready region s number places objects store
+        here base handed.0 handed.1 handed.2 ws
+        (subst (λ xs. AreCarried l setting.address procs merged_meaning places objects (in_row xs) ws) handed.3 c));
   }

@@ -6,3 +6,4 @@ pub use Rattle.lower.proofs.MergedProducts.{procedures_are_narrow}
 pub use Rattle.lower.proofs.MergedServing.{words_follow_procedures-storage, words_follow_procedures-rows}
 pub use Rattle.lower.proofs.MergedServing.{words_keep_the_account}
 pub use Rattle.lower.proofs.RoomCalls.{programs_want_no_room}
+pub use Rattle.lower.proofs.WordStops.{AreSized, numbered_words}

@@ -49,6 +49,7 @@ use Rattle.low_ir.specs.Procedures.{Proc}
 use Rattle.std.proofs.Common.{le_refl}
 use Rattle.lower.proofs.RelationKept.{word_other}
 use Rattle.coercion_norm.specs.Objects.{Object, Fixed}
+use Rattle.rt_cast.specs.Frames.{frame_room, waiting_room}
 use Rattle.rt_cast.specs.States.{Heap}
 use Rattle.lower.specs.Storage.{Filled}
 use Rattle.lower.specs.Lowered.{show_by, ends}
@@ -92,7 +93,7 @@ row_head (x ∷ types) (suc type) head e = row_head types type head e
 module _ (program : Program) (typed : TypesStand program.l) (places : List ℕ) (objects : List Object) (h : Heap)
     (world : WorldState)
     (filled : Filled program.meaning program.setting program.l program.number objects h)
-    (store : FlatStore program.meaning.Cast) (v : FlatValue program.meaning.Cast) where
+    (store : FlatStore program.meaning.Cast) (v : FlatValue program.meaning.Cast) (size : ℕ) where
   abbrev f : FlatState program.meaning.Cast
   f = flat_state_at program.procs program.told (Return v) [] store world
 
@@ -122,15 +123,23 @@ module _ (program : Program) (typed : TypesStand program.l) (places : List ℕ) 
       cheap source kind =
           let x = source_most source in let y = number_most kind in omega (arith, x, y)
 
-  -- no words are asked for meanwhile
+  -- the room of a procedure of so many words above the one that the program begins with
+  abbrev last_room : ℕ
+  last_room = frame_room size + waiting_room (entry_waiting program.answer ∷ [])
+
+  -- which is enough for that one by itself
+  alone : frame_room 3 + waiting_room [] ≤ last_room
+  alone = omega arith
+
+  -- no words are asked for meanwhile, and no more room
   abbrev Showing : LowState → Type 0
-  Showing = Quietly program (Seen program f) h.words
+  Showing = Quietly program (Seen program f) h.words last_room
 
   abbrev stops_at : AnAnswer → Goal
   stops_at a = record {
     extra = 0;
     floor = 0;
-    holds = λ left. Quietly program (Stopping program f (EndsWith (AnswerVerdict a))) h.words;
+    holds = λ left. Quietly program (Stopping program f (EndsWith (AnswerVerdict a))) h.words last_room;
     least = λ left t q. omega arith;
   }
 
@@ -140,14 +149,18 @@ module _ (program : Program) (typed : TypesStand program.l) (places : List ℕ) 
         Comes program.setting Showing (stops_at a)
         (at world h [] 3 rests words code)
 
-    abbrev calm : Calm program.setting Showing (stops_at a) world h
-    calm active waiting = (record { output = refl; filling = (objects, filled) }, le_refl h.words)
+    abbrev calm : Calm program.setting Showing (stops_at a) 3 [] world h
+    calm rests words code = (record { output = refl; filling = (objects, filled) }, le_refl h.words, alone)
 
     ended : (kind : ℕ) (source : LowSource) (x : ℕ) (words : Locals) (rests : List Code) → word_of words source ≡ Some x
         → ends_call (kind % 2 ^ 64) x ≡ Answers a → Shows rests words (ends kind source)
     ended kind source x words rests e is =
         here program.setting Showing (stops_at a)
-        (at world h [] 3 rests words (ends kind source)) (ends_so kind source x a words rests e is, le_refl h.words)
+        (at world h [] 3 rests words (ends kind source)) (
+          ends_so kind source x a words rests e is,
+          le_refl h.words,
+          alone,
+        )
 
     -- the kind of the type is this one, or another
     takes : (n : ℕ) (one rest : Code) (words : Locals) → words 1 ≡ Some n → holds Eq n (n % 2 ^ 64) ≡ true
@@ -271,7 +284,7 @@ module _ (program : Program) (typed : TypesStand program.l) (places : List ℕ) 
       a = shown u
 
       P : LowState → Type 0
-      P = Quietly program (Seen program f) h.words
+      P = Quietly program (Seen program f) h.words last_room
 
       Q : Goal
       Q = stops_at (shown u)
@@ -403,11 +416,11 @@ module _ (program : Program) (typed : TypesStand program.l) (places : List ℕ) 
   shows answer (RunLoc cell false) casts w c e words is = true_false e
   shows answer v casts w c e words is = true_false e
 
-  pub answered : (size : ℕ) (rests : List Code) (words : Locals) (source : LowSource) (w : ℕ)
+  pub answered : (rests : List Code) (words : Locals) (source : LowSource) (w : ℕ)
       → word_of words source ≡ Some w → CarriedHere program places objects v w
       → (due : ℕ) → Settled program f due (at world h (entry_waiting program.answer ∷ []) size rests words
       (ReturnCode source))
-  answered size rests words source w is c due =
+  answered rests words source w is c due =
       by_test (fits_type (flat_arity program.procs) program.told.types v program.told.answer) refl
     where
       t : LowState
@@ -497,7 +510,7 @@ module _ (program : Program) (typed : TypesStand program.l) (places : List ℕ) 
           (28 + (left_of program.setting (at world h [] 3 [] (set_local 0 w no_locals) (show_by program.answer)) + 0)) t
           (at world h [] 3 [] (set_local 0 w no_locals) (show_by program.answer)) (rw is refl)
           (let le = return_price program.setting.procs size source in omega (arith, le))
-          (record { output = refl; filling = (objects, filled) }, le_refl h.words) s in
+          (record { output = refl; filling = (objects, filled) }, le_refl h.words, le_refl last_room) s in
           inr (record {
             seen = seen t refl (objects, filled);
             e = EndsWith (AnswerVerdict (shown v));

@@ -21,6 +21,7 @@ use Rattle.flat_ir.specs.Machine.{FlatCode, FlatValue, FlatAfter, FlatState, Gro
 use Rattle.flat_ir.specs.Machine.{value, values, flat_turn}
 use Rattle.flat_ir.specs.Machine.{Locals as FlatLocals}
 use Rattle.lower.specs.declared.numbering.Shape.{Shape}
+use Rattle.rt_cast.specs.Frames.{frame_room, waiting_room}
 use Rattle.rt_cast.specs.States.{Heap, entered}
 use Rattle.lower.specs.Storage.{Filled}
 use Rattle.lower.specs.Numbering.{operand_word, test_word}
@@ -28,7 +29,7 @@ use Rattle.lower.specs.Emit.{Then, ToCaller, Into, emit, call, call_by, is_sibli
 use Rattle.lower.specs.Emit.{source_at}
 use Rattle.lower.specs.CarriedValues.{AreCarried, CellsHeld}
 use Rattle.lower.specs.RelatedStates.{Fits, NoCasts, pending_values}
-use Rattle.lower.specs.SchemeLaws.{Spent, Goes, Calls, Serves, at_or_zero, call_leaves}
+use Rattle.lower.specs.SchemeLaws.{Goes, Calls, Serves, at_or_zero, call_leaves}
 use Rattle.lower.proofs.HeapObjects.{none_some, same_some}
 use Rattle.lower.proofs.CarriedLater.{as_many}
 use Rattle.lower.proofs.RelationKept.{SameNamed, rest_same, rest_branch}
@@ -40,9 +41,11 @@ use Rattle.lower.proofs.EmitPrices.{call_price_all, call_body_begins, then_price
 use Rattle.lower.proofs.WordOperands.{ChangesFrom, and_true, both_words, found_all_same, same_besides, value_carried}
 use Rattle.lower.proofs.WordServices.{taken}
 use Rattle.lower.proofs.SimulationWay.{Program, N, mode_of, prices_of, next_state, cost_of, dues, due_is, waiting_dues}
+use Rattle.lower.proofs.SimulationWay.{room_over, turn_room, stays_in}
 use Rattle.lower.proofs.SimulationGives.{CarriedHere, RestHere, CallersHere}
 use Rattle.lower.proofs.SimulationServed.{silent_after}
 use Rattle.lower.proofs.SimulationServices.{OnTurn, Calling, Served, calling_goal, calls_now, is_served, serve_step}
+use Rattle.lower.proofs.SimulationServices.{entered_room}
 use Rattle.lower.proofs.SimulationCasts.{serving_scene, as_it_was}
 use Rattle.lower.proofs.SimulationServing.{after_fetching, not_of_kind, wrapped_there}
 use Rattle.lower.proofs.SimulationEntering.{enters}
@@ -147,8 +150,8 @@ module _ (program : Program) (typed : TypesStand program.l)
       → CarriedHere program places objects (RunWrap u cast) w
       → AreCarried program.l program.setting.address program.procs program.meaning places objects
       (in_row (values locals group os)) ws
-      → (most : Spent) × Serves program.meaning program.setting program.l program.procs program.casts program.measured
-      (at f.world h waits n rr now code) most
+      → Serves program.meaning program.setting program.l program.procs program.casts program.measured
+      (at f.world h waits n rr now code)
       (Calls program.meaning program.setting program.l program.procs program.casts program.measured
       (at f.world h waits n rr now code)
       places objects f.frames) entering (cost_of program f) program.number 0
@@ -156,8 +159,8 @@ module _ (program : Program) (typed : TypesStand program.l)
       (w ∷ at_or_zero ws 0 ∷ at_or_zero ws 1 ∷ at_or_zero ws 2 ∷ at_or_zero ws 3 ∷ at_or_zero ws 4 ∷ at_or_zero ws 5
       ∷ length ws ∷ []))
   law waits n rr now code w ws carried all =
-      subst (λ cost. (most : Spent) × Serves program.meaning program.setting program.l program.procs program.casts
-      program.measured (at f.world h waits n rr now code) most
+      subst (λ cost. Serves program.meaning program.setting program.l program.procs program.casts
+      program.measured (at f.world h waits n rr now code)
       (Calls program.meaning program.setting program.l program.procs program.casts program.measured
       (at f.world h waits n rr now code) places objects f.frames) entering cost program.number 0
       (entered (at f.world h waits n rr now code) program.calling.proc
@@ -212,9 +215,14 @@ module _ (program : Program) (typed : TypesStand program.l)
   abbrev M : ℕ → LowState → Type 0
   M floor t = Calling program typed f floor have 556 entering 0 t
 
-  on : (waits : List LowWaiting) (n : ℕ) (rr : List Code) (now : Locals) (code : Code)
-      → OnTurn program typed f 0 h.words (at f.world h waits n rr now code)
-  on waits n rr now code = record { same = refl; filling = inl (objects, filled); asked = omega arith }
+  on : (rr : List Code) (now : Locals) (code : Code)
+      → OnTurn program typed f 0 h.words (room_over program size waiting) (at f.world h waiting size rr now code)
+  on rr now code = record {
+    same = refl;
+    filling = inl (objects, filled);
+    asked = omega arith;
+    room = stays_in program size waiting;
+  }
 
   -- the procedure is entered from a state, for whose callers others wait
   enters_apply : (waits : List LowWaiting) (n : ℕ) (rr : List Code) (now : Locals) (code : Code) (w : ℕ) (ws : List ℕ)
@@ -222,28 +230,45 @@ module _ (program : Program) (typed : TypesStand program.l)
       → AreCarried program.l program.setting.address program.procs program.meaning places objects
       (in_row (values locals group os)) ws → CallersHere program places objects waits f.frames
       → 174 + waiting_dues waits + 556 ≤ call_leaves + have → (t : LowState) (floor : ℕ)
+      → frame_room n + waiting_room waits + 25 * (1 + program.meaning.serving program.l) ≤ turn_room program t
       → low_price program.setting.procs t + floor ≤ left_of program.setting t → t.words ≡ h.words
       → (N program).step t ≡ Go (entered (at f.world h waits n rr now code) program.calling.proc (handed w ws))
-      → OnTurn program typed f 0 t.words t → M floor t
-  enters_apply waits n rr now code w ws carried all callers enough t floor paid same step calm =
+      → OnTurn program typed f 0 t.words (turn_room program t) t → M floor t
+  enters_apply waits n rr now code w ws carried all callers enough t floor in_room paid same step calm =
       let c = at f.world h waits n rr now code in
       let z = law waits n rr now code w ws carried all in (
         low_price program.setting.procs t,
         paid,
-        serve_step program typed f c refl z.0 0 have 556
+        serve_step program typed f c refl (turn_room program t) 0 have 556 in_room
             (Calls program.meaning program.setting program.l program.procs program.casts program.measured c places
             objects
             f.frames)
-            (λ focus frames store m left v q. enters program typed f places objects c refl callers have 556 enough focus
-            frames store m left v q) entering 0 z.1.0 t
+            (λ focus frames store m left v fits q. enters program typed f places objects c refl callers
+            (turn_room program t) have 556 in_room enough focus frames store m left v fits q) entering 0 z.0 t
             (entered c program.calling.proc (handed w ws)) step (sym same) calm (record {
               objects = objects;
               filled = inl filled;
               same = refl;
-              active = omega arith;
+              room = entered_room c program.calling.proc (handed w ws)
+                  (25 * (1 + program.meaning.serving program.l)) program.calling.stands.small;
               asked = omega arith;
-            }) z.1.1,
+            }) z.1,
       )
+
+  -- what the procedures that serve take has room above this one, and above the same one again
+  enough_room : frame_room size + waiting_room waiting + 25 * (1 + program.meaning.serving program.l)
+      ≤ room_over program size waiting
+  enough_room = by (frame_room size) (waiting_room waiting) (25 * (1 + program.meaning.serving program.l))
+    where
+      by : (own waits serving : ℕ) → own + waits + serving ≤ own + waits + own + serving
+      by own waits serving = omega arith
+
+  enough_above : frame_room size + (frame_room size + waiting_room waiting)
+      + 25 * (1 + program.meaning.serving program.l) ≤ room_over program size waiting
+  enough_above = by (frame_room size) (waiting_room waiting) (25 * (1 + program.meaning.serving program.l))
+    where
+      by : (own waits serving : ℕ) → own + (own + waits) + serving ≤ own + waits + own + serving
+      by own waits serving = omega arith
 
   due_begun : 10 * length rests + waiting_dues waiting ≤ have
   due_begun =
@@ -265,24 +290,27 @@ module _ (program : Program) (typed : TypesStand program.l)
       (λ z. omega (arith, z)) (and_more_parts (word_of now a) (words_of now (found_all s 1 os)) w ws are).0
       (wrapped_there program places objects u cast [] w carried)
       (λ last more.
-      let still = found_all_same (serving_scene program typed f places entering 0 0 0 0 h.words) f.world h
+      let still = found_all_same (serving_scene program typed f places entering 0 0 0 0 h.words
+      (room_over program size waiting)) f.world h
       (as_it_was program f h.words) objects filled waiting
-      size rests s count group depth locals (fo ∷ os) 0 all_bound (omega (arith, few)) now last more ∙ are in
-      falls_through program.setting (OnTurn program typed f 0 h.words)
-      (calling_goal program typed f (floor_for ToCaller) have 556 entering 0 h.words)
-      (λ active waiting. record { same = refl; filling = inl (objects, filled); asked = omega arith })
+      size (stays_in program size waiting) rests s count group depth locals (fo ∷ os) 0 all_bound (omega (arith, few))
+      now last more ∙ are in
+      falls_through program.setting (OnTurn program typed f 0 h.words (room_over program size waiting))
+      (calling_goal program typed f (floor_for ToCaller) have 556 entering 0 h.words
+      (room_over program size waiting))
+      on
       (calls_now program typed f (floor_for ToCaller) have 556 entering 0
       (at f.world h waiting size rests last (TailCall program.run.apply (apply_words a (found_all s 1 os))))
       (enters_apply waiting size rests last (TailCall program.run.apply (apply_words a (found_all s 1 os))) w ws carried
       all r (omega (arith, due_begun)) (at f.world h waiting size rests last
       (TailCall program.run.apply (apply_words a (found_all s 1 os))))
-      (floor_for ToCaller) (omega arith) refl
+      (floor_for ToCaller) enough_room (omega arith) refl
       (let e = apply_handed last w ws all still in
       let there = program.calling.stands.there in
       let fine = taken program.setting program.run.apply 8 program.calling.proc (handed w ws) program.calling.stands
       refl
       in rw (e, there, fine) refl)
-      (on waiting size rests last (TailCall program.run.apply (apply_words a (found_all s 1 os)))))))
+      (on rests last (TailCall program.run.apply (apply_words a (found_all s 1 os)))))))
   by_next (Into d k) r w ws now carried all are same =
       not_of_kind program typed f places objects h filled waiting size rests s count depth group locals wide entering 0
       (floor_for (Into d k)) have 556 a w 1 (Load (test_word s) a 8 (CallAt d (Word (test_word s))
@@ -291,9 +319,11 @@ module _ (program : Program) (typed : TypesStand program.l)
       (λ z. omega (arith, z)) (and_more_parts (word_of now a) (words_of now (found_all s 1 os)) w ws are).0
       (wrapped_there program places objects u cast [] w carried)
       (λ last more.
-      let still = found_all_same (serving_scene program typed f places entering 0 0 0 0 h.words) f.world h
+      let still = found_all_same (serving_scene program typed f places entering 0 0 0 0 h.words
+      (room_over program size waiting)) f.world h
       (as_it_was program f h.words) objects filled waiting
-      size rests s count group depth locals (fo ∷ os) 0 all_bound (omega (arith, few)) now last more ∙ are in
+      size (stays_in program size waiting) rests s count group depth locals (fo ∷ os) 0 all_bound (omega (arith, few))
+      now last more ∙ are in
       let named : SameNamed s depth words last = λ j n. more j (not_test j n) ∙ same j n in
       calls_now program typed f (floor_for (Into d k)) have 556 entering 0
       (at f.world h waiting size (k ∷ rests) last
@@ -311,13 +341,14 @@ module _ (program : Program) (typed : TypesStand program.l)
             rests words last named r),
       ))) (omega (arith, due_begun))
       (at f.world h waiting size (k ∷ rests) last
-      (CallOf d program.run.apply (apply_words a (found_all s 1 os)) Done)) (floor_for (Into d k)) (omega arith) refl
+      (CallOf d program.run.apply (apply_words a (found_all s 1 os)) Done)) (floor_for (Into d k)) enough_above
+      (omega arith) refl
       (let e = apply_handed last w ws all still in
       let there = program.calling.stands.there in
       let fine = taken program.setting program.run.apply 8 program.calling.proc (handed w ws) program.calling.stands
       refl
       in rw (e, there, fine) refl)
-      (on waiting size (k ∷ rests) last (CallOf d program.run.apply (apply_words a (found_all s 1 os)) Done))))
+      (on (k ∷ rests) last (CallOf d program.run.apply (apply_words a (found_all s 1 os)) Done))))
 
   -- the function is none of the group, since those have no wrappers
   no_sibling : is_sibling fo ≡ false
@@ -353,9 +384,10 @@ module _ (program : Program) (typed : TypesStand program.l)
       by_operands [] b = ([], tt)
       by_operands (o ∷ os) b =
           let x = and_true (operand_bound s.captured count depth o) (operands_bound s.captured count depth os) b in
-          let c = value_carried (serving_scene program typed f places entering 0 0 0 0 h.words) f.world h
+          let c = value_carried (serving_scene program typed f places entering 0 0 0 0 h.words
+          (room_over program size waiting)) f.world h
           (as_it_was program f h.words) objects filled waiting
-          size rests s count group depth locals o x.0 words fits.knows in
+          size (stays_in program size waiting) rests s count group depth locals o x.0 words fits.knows in
           let cs = by_operands os x.1 in
           (c.0 ∷ cs.0, (c.1, cs.1))
 
@@ -373,18 +405,19 @@ module _ (program : Program) (typed : TypesStand program.l)
       silent : (next_state program f entering).world.output ≡ f.world.output
       silent =
           let t = at f.world h waiting size rests words (emit program.run s (Call fo os) next) in
-          let c = value_carried (serving_scene program typed f places entering 0 0 0 0 h.words) f.world h
+          let c = value_carried (serving_scene program typed f places entering 0 0 0 0 h.words
+          (room_over program size waiting)) f.world h
           (as_it_was program f h.words) objects filled waiting
-          size rests s count group depth locals fo parts.0 words fits.knows in
+          size (stays_in program size waiting) rests s count group depth locals fo parts.0 words fits.knows in
           let own = subst (λ v. CarriedHere program places objects v c.0) function c.1 in
           let cs = carried_all in
           let z = law waiting size rests words (emit program.run s (Call fo os) next) c.0 cs.0 own cs.1 in
-          silent_after program t z.0 (Goes program.meaning program.setting program.l program.procs program.casts
-          program.measured t z.0
+          silent_after program t (Goes program.meaning program.setting program.l program.procs program.casts
+          program.measured t
           (Calls program.meaning program.setting program.l program.procs program.casts program.measured t places objects
           f.frames)
-          z.1.0) f refl entering (cost_of program f) 0 program.number 0
-          (entered t program.calling.proc (handed c.0 cs.0)) z.1.1
+          z.0) f refl entering (cost_of program f) 0 program.number 0
+          (entered t program.calling.proc (handed c.0 cs.0)) z.1
 
       fetched : (all : List ℕ) (now : Locals)
           → AreCarried program.l program.setting.address program.procs program.meaning places objects

@@ -16,6 +16,7 @@ use Rattle.flat_ir.specs.Machine.{set_local as set_flat}
 use Rattle.flat_ir.specs.Levels.{levels}
 use Rattle.coercion_norm.specs.Held.{TypesStand}
 use Rattle.coercion_norm.specs.Objects.{Object}
+use Rattle.rt_cast.specs.Frames.{frame_room, waiting_room}
 use Rattle.rt_cast.specs.States.{Heap}
 use Rattle.lower.specs.Storage.{Filled}
 use Rattle.lower.specs.declared.numbering.Shape.{Shape}
@@ -43,6 +44,7 @@ use Rattle.lower.proofs.WordScene.{Scene}
 use Rattle.lower.proofs.WordOperands.{fetch_reads, value_carried, and_true, Changes}
 use Rattle.lower.proofs.WordGroups.{makes_group}
 use Rattle.lower.proofs.SimulationGroups.{begins_so, all_members}
+use Rattle.lower.proofs.SimulationWay.{room_over, turn_room, stays_in}
 use Rattle.lower.proofs.SimulationWay.{mode_of}
 use Rattle.lower.proofs.SimulationWay.{Program, Follows, Live, Kept, next_state, Way, scene_for, turn_goal, turn_aim}
 use Rattle.lower.proofs.SimulationWay.{kept_by, kept_with, kept_here, at_start, asks_of, budget_of, dues, due_of}
@@ -105,16 +107,22 @@ module _ (program : Program) where
         goal_of body = turn_goal program f (next_state program f (after body)) start
 
         abbrev scene_of : Body → Scene
-        scene_of body = scene_for program f (next_state program f (after body)) h.words (goal_of body) places
+        scene_of body =
+            scene_for program f (next_state program f (after body)) h.words (room_over program size waiting)
+            (goal_of body) places
 
         as_before : (body : Body) → (scene_of body).allowed f.world h.words
         as_before body = at_start program f (next_state program f (after body)) f.world h.words refl
 
         abbrev calm_of : (body : Body)
-            → Calm program.setting (Way program f (next_state program f (after body)) h.words)
-            (goal_of body) f.world h
-        calm_of body active waiting =
-            (at_start program f (next_state program f (after body)) f.world h.words refl, (objects, filled))
+            → Calm program.setting (Way program f (next_state program f (after body)) h.words
+            (room_over program size waiting))
+            (goal_of body) size waiting f.world h
+        calm_of body rests locals code = (
+          at_start program f (next_state program f (after body)) f.world h.words refl,
+          (objects, filled),
+          stays_in program size waiting,
+        )
 
         parts : (operand_bound s.captured count depth o ≡ true)
             × (body_bound program.procs s.captured count depth a ≡ true)
@@ -192,7 +200,8 @@ module _ (program : Program) where
         -- from the test on
         abbrev Tests : Then → Body → Locals → Type 0
         Tests next body new =
-            By program.setting (Way program f (next_state program f (after body)) h.words) (Aimed next body)
+            By program.setting (Way program f (next_state program f (after body)) h.words
+            (room_over program size waiting)) (Aimed next body)
             (floor_of program f 0 (left_of program.setting (starting next)) (starting next))
             (left_of program.setting (at f.world h waiting size rests new (testing next)) + 0)
             (at f.world h waiting size rests new (testing next))
@@ -226,16 +235,16 @@ module _ (program : Program) where
             let one = emit program.run s a ToCaller in
             let k = emit program.run s b ToCaller in
             let u = at f.world h waiting size (k ∷ rests) new one in
-            by_go program.setting (Way program f (next_state program f (after a)) h.words) (Aimed ToCaller a)
+            by_go program.setting (Way program f (next_state program f (after a)) h.words
+            (room_over program size waiting)) (Aimed ToCaller a)
             (least_of ToCaller)
             (behind_test one Done k) (left_of program.setting (at f.world h waiting size rests new (testing ToCaller))
             + 0)
             (at f.world h waiting size rests new (testing ToCaller)) u (rw is refl)
             (test_paid (step_price program.setting.procs size (testing ToCaller))
             (code_price program.setting.procs size one) 10 (code_price program.setting.procs size k)
-            (codes_price program.setting.procs size rests))
-            (at_start program f (next_state program f (after a)) f.world h.words refl, (objects, filled))
-            (arrives program f (next_state program f (after a)) h.words 0
+            (codes_price program.setting.procs size rests)) (calm_of a rests new (testing ToCaller))
+            (arrives program f (next_state program f (after a)) h.words (room_over program size waiting) 0
             (left_of program.setting (starting ToCaller)) (starting ToCaller)
             (behind_test one Done k) u (
               0,
@@ -248,16 +257,17 @@ module _ (program : Program) where
             let one = emit program.run s a (Into d Done) in
             let other = emit program.run s b (Into d Done) in
             let u = at f.world h waiting size (k ∷ rests) new one in
-            by_go program.setting (Way program f (next_state program f (after a)) h.words) (Aimed (Into d k) a)
+            by_go program.setting (Way program f (next_state program f (after a)) h.words
+            (room_over program size waiting)) (Aimed (Into d k) a)
             (least_of (Into d k))
             (behind_test one other k) (left_of program.setting (at f.world h waiting size rests new
             (testing (Into d k))) + 0)
             (at f.world h waiting size rests new (testing (Into d k))) u (rw is refl)
             (test_paid (step_price program.setting.procs size (testing (Into d k)))
             (code_price program.setting.procs size one) (code_price program.setting.procs size other)
-            (code_price program.setting.procs size k) (codes_price program.setting.procs size rests))
-            (at_start program f (next_state program f (after a)) f.world h.words refl, (objects, filled))
-            (arrives program f (next_state program f (after a)) h.words 0
+            (code_price program.setting.procs size k) (codes_price program.setting.procs size rests)) (calm_of a rests
+            new (testing (Into d k)))
+            (arrives program f (next_state program f (after a)) h.words (room_over program size waiting) 0
             (left_of program.setting (starting (Into d k))) (starting (Into d k))
             (behind_test one other k) u (
               0,
@@ -282,9 +292,10 @@ module _ (program : Program) where
             let u = at f.world h waiting size rests new k in
             let left = max (code_price program.setting.procs size one) 10 - 10
             + code_price program.setting.procs size k + codes_price program.setting.procs size rests in
-            let here : Way program f (next_state program f (after b)) h.words mid =
-            (at_start program f (next_state program f (after b)) f.world h.words refl, (objects, filled)) in
-            by_go program.setting (Way program f (next_state program f (after b)) h.words) (Aimed ToCaller b)
+            let here : Way program f (next_state program f (after b)) h.words (room_over program size waiting) mid =
+            calm_of b (k ∷ rests) new Done in
+            by_go program.setting (Way program f (next_state program f (after b)) h.words
+            (room_over program size waiting)) (Aimed ToCaller b)
             (least_of ToCaller)
             (behind_test one Done k) (left_of program.setting (at f.world h waiting size rests new (testing ToCaller))
             + 0)
@@ -292,12 +303,14 @@ module _ (program : Program) where
             (test_paid (step_price program.setting.procs size (testing ToCaller))
             (code_price program.setting.procs size one) 10 (code_price program.setting.procs size k)
             (codes_price program.setting.procs size rests)) here
-            (by_go program.setting (Way program f (next_state program f (after b)) h.words) (Aimed ToCaller b)
+            (by_go program.setting (Way program f (next_state program f (after b)) h.words
+            (room_over program size waiting)) (Aimed ToCaller b)
             (least_of ToCaller)
             left (behind_test one Done k) mid u refl
             (fallen (code_price program.setting.procs size one) (code_price program.setting.procs size k)
             (codes_price program.setting.procs size rests)) here
-            (arrives program f (next_state program f (after b)) h.words 0 (left_of program.setting (starting ToCaller))
+            (arrives program f (next_state program f (after b)) h.words (room_over program size waiting) 0
+            (left_of program.setting (starting ToCaller))
             (starting ToCaller) left u (
               0,
               inl (running places objects h f filled cells b locals group f.frames waiting size rests new s count depth
@@ -316,16 +329,17 @@ module _ (program : Program) where
             let one = emit program.run s a (Into d Done) in
             let other = emit program.run s b (Into d Done) in
             let u = at f.world h waiting size (k ∷ rests) new other in
-            by_go program.setting (Way program f (next_state program f (after b)) h.words) (Aimed (Into d k) b)
+            by_go program.setting (Way program f (next_state program f (after b)) h.words
+            (room_over program size waiting)) (Aimed (Into d k) b)
             (least_of (Into d k))
             (behind_test one other k) (left_of program.setting (at f.world h waiting size rests new
             (testing (Into d k))) + 0)
             (at f.world h waiting size rests new (testing (Into d k))) u (rw is refl)
             (test_paid (step_price program.setting.procs size (testing (Into d k)))
             (code_price program.setting.procs size one) (code_price program.setting.procs size other)
-            (code_price program.setting.procs size k) (codes_price program.setting.procs size rests))
-            (at_start program f (next_state program f (after b)) f.world h.words refl, (objects, filled))
-            (arrives program f (next_state program f (after b)) h.words 0
+            (code_price program.setting.procs size k) (codes_price program.setting.procs size rests)) (calm_of b rests
+            new (testing (Into d k)))
+            (arrives program f (next_state program f (after b)) h.words (room_over program size waiting) 0
             (left_of program.setting (starting (Into d k))) (starting (Into d k))
             (behind_test one other k) u (
               0,
@@ -347,8 +361,8 @@ module _ (program : Program) where
             (at f.world h waiting size rests words (emit program.run s (Choose o a b) next))
         branch_turns =
             by_value (value locals group o) refl
-            (value_carried (scene_of a) f.world h (as_before a) objects filled waiting size rests s count group depth
-            locals o parts.0 words fits.knows)
+            (value_carried (scene_of a) f.world h (as_before a) objects filled waiting size
+            (stays_in program size waiting) rests s count group depth locals o parts.0 words fits.knows)
           where
             lt : operand_word s 0 < size
             lt = let x = fits.params in let y = fits.room in let z = levels_above depth a in omega (arith, x, y, z)
@@ -359,15 +373,17 @@ module _ (program : Program) where
                 (flat_choose program.procs (mode_of program) f.store f.world v a b locals group f.frames)
                 (at f.world h waiting size rests words (emit program.run s (Choose o a b) next))
             by_value (RunBool true) is c =
-                fetch_reads (scene_of a) f.world h (as_before a) objects filled waiting size rests s count group depth
-                locals o (operand_word s 0) parts.0 lt words fits.knows
+                fetch_reads (scene_of a) f.world h (as_before a) objects filled waiting size
+                (stays_in program size waiting) rests s count group depth locals o (operand_word s 0) parts.0 lt words
+                fits.knows
                 (choose program.run (found s (operand_word s 0) o) (emit program.run s a) (emit program.run s b) next)
                 (λ w new carried found_is changed.
                 let one : w ≡ 1 = subst (λ v. CarriedHere program places objects v w) is carried in
                 takes_one next rest new changed (found_is ∙ ap Some one))
             by_value (RunBool false) is c =
-                fetch_reads (scene_of b) f.world h (as_before b) objects filled waiting size rests s count group depth
-                locals o (operand_word s 0) parts.0 lt words fits.knows
+                fetch_reads (scene_of b) f.world h (as_before b) objects filled waiting size
+                (stays_in program size waiting) rests s count group depth locals o (operand_word s 0) parts.0 lt words
+                fits.knows
                 (choose program.run (found s (operand_word s 0) o) (emit program.run s a) (emit program.run s b) next)
                 (λ w new carried found_is changed.
                 let none : w ≡ 0 = subst (λ v. CarriedHere program places objects v w) is carried in
@@ -404,7 +420,7 @@ module _ (program : Program) where
           let f' = flat_state_at program.procs program.told (Own (Inside inner locals group))
           (OwnFrame (Waiting slot body locals group) ∷ f.frames) f.store f.world in
           let t = at f.world h waiting size rests words (emit program.run s (LetBody slot inner body) next) in
-          here program.setting (Way program f f' h.words) (turn_goal program f f' t) t (
+          here program.setting (Way program f f' h.words (turn_room program t)) (turn_goal program f f' t) t (
             0,
             inl
                 (running places objects h f filled cells inner locals group
@@ -491,8 +507,9 @@ module _ (program : Program) where
           let start = at f.world h waiting size rests words code in
           let k = emit program.run s body next in
           let dear = group_price program.setting.procs size s six slot first (suc others) captured k in
-          makes_group (scene_for program f f' h.words (turn_goal program f f' start) places) f.world h
-          (at_start program f f' f.world h.words refl) objects filled waiting size
+          makes_group (scene_for program f f' h.words (room_over program size waiting) (turn_goal program f f' start)
+          places) f.world h
+          (at_start program f f' f.world h.words refl) objects filled waiting size (stays_in program size waiting)
           rests s count group slot locals (omega (arith, same, params)) (omega (arith, same, room, above)) words
           (subst (λ n. Knows program.setting program.l program.run program.procs program.answer program.meaning places
           objects s
@@ -511,7 +528,8 @@ module _ (program : Program) where
           let kn = knows_later program.setting program.l program.run program.procs program.answer program.meaning
           program.laws places objects
           more s count group depth locals words fits.knows in
-          here program.setting (Way program f f' h.words) (turn_goal program f f' start)
+          here program.setting (Way program f f' h.words (room_over program size waiting)) (turn_goal program f f'
+          start)
           (at f.world h' waiting size rests now k) (
             0,
             inl
@@ -569,14 +587,8 @@ module _ (program : Program) where
 
     -- the ends of branches are gone through, at 10 for each
     fall : (P : LowState → Type 0) (H : ℕ → LowState → Type 0) (floor : ℕ)
-        → ((active : Active) (waiting : List LowWaiting) → P (record {
-          active = active;
-          waiting = waiting;
-          memory = h.memory;
-          alloc = h.alloc;
-          world = f.world;
-          words = h.words;
-        })) → (n : ℕ) (k : Code) (rests : List Code)
+        → ((rests : List Code) (words : Locals) (code : Code) → P (at f.world h waiting size rests words code))
+        → (n : ℕ) (k : Code) (rests : List Code)
         (k' : Code) (rests' : List Code) (words : Locals) (credit : ℕ) → Falls n k rests k' rests'
         → By program.setting P H floor credit (at f.world h waiting size rests' words k')
         → By program.setting P H floor (10 * n + credit) (at f.world h waiting size rests words k)
@@ -591,7 +603,7 @@ module _ (program : Program) where
         (sym e.0)
         (by_go program.setting P H floor (10 * n + credit) (10 * suc n + credit)
         (at f.world h waiting size (r ∷ rests) words Done) (at f.world h waiting size rests words r) refl (omega arith)
-        (calm (record { count = size; locals = words; code = Done; rests = r ∷ rests }) waiting)
+        (calm (r ∷ rests) words Done)
         (fall P H floor calm n r rests k' rests' words credit e.1 c))
 
     -- as many branches as ends are gone through are around no more
@@ -624,10 +636,12 @@ module _ (program : Program) where
         → Gave program.setting program.l program.run program.procs program.answer program.meaning places objects v
         (OwnFrame (Waiting slot body locals group) ∷ frames) active waiting
         → active.count ≡ size
-        → (n : ℕ) × ((own whole : ℕ) (start : LowState) → start.words ≡ h.words
+        → (n : ℕ) × ((own whole room : ℕ) (start : LowState) → start.words ≡ h.words
+        → frame_room size + waiting_room waiting ≤ room
         → whole + dues (at f.world h waiting size active.rests active.locals active.code)
         ≤ 10 * n + budget_of program f + (own + dues start)
-        → By program.setting (Way program f (next_state program f (waited slot body locals group v frames)) start.words)
+        → By program.setting (Way program f (next_state program f (waited slot body locals group v frames)) start.words
+        room)
         (turn_aim program f (next_state program f (waited slot body locals group v frames)) own whole start)
         (floor_of program f own whole start) (10 * n)
         (at f.world h waiting size active.rests active.locals active.code))
@@ -666,18 +680,19 @@ module _ (program : Program) where
         (subst (λ x. RestHere program places objects waiting s g.count active.count x slot frames r.1 r.2 words)
         (sym r.0.same) r.5))) in (
           r.3,
-          λ own whole start same le.
-              let here : Way program f f' start.words (at f.world h waiting size active.rests active.locals
+          λ own whole room start same fits_room le.
+              let here : Way program f f' start.words room (at f.world h waiting size active.rests active.locals
               active.code) =
-              (inl (refl, omega (arith, same)), (objects, filled)) in
-              subst (λ c. By program.setting (Way program f f' start.words) (turn_aim program f f' own whole start)
+              (inl (refl, omega (arith, same)), (objects, filled), fits_room) in
+              subst (λ c. By program.setting (Way program f f' start.words room) (turn_aim program f f' own whole start)
               (floor_of program f own whole start) c
               (at f.world h waiting size active.rests active.locals active.code)) (omega arith)
-              (fall (Way program f f' start.words) (turn_aim program f f' own whole start)
+              (fall (Way program f f' start.words room) (turn_aim program f f' own whole start)
               (floor_of program f own whole start)
-              (λ active waiting. (inl (refl, omega (arith, same)), (objects, filled))) r.3 active.code active.rests
+              (λ rests locals code. (inl (refl, omega (arith, same)), (objects, filled), fits_room)) r.3 active.code
+              active.rests
               (emit program.run s body r.1) r.2 words 0 r.4
-              (arrives program f f' start.words own whole start 0 u (
+              (arrives program f f' start.words room own whole start 0 u (
                 0,
                 inl live,
                 record {

@@ -49,6 +49,7 @@ use Rattle.lower.proofs.WordScene.{Scene}
 use Rattle.lower.proofs.WordOperands.{fetch_all_reads, ChangesFrom, both_words, found_all_same}
 use Rattle.lower.proofs.WordOperations.{Touches, not_computed, is_of_kind, added_there}
 use Rattle.lower.proofs.WordGroups.{storable}
+use Rattle.lower.proofs.SimulationWay.{room_over, stays_in}
 use Rattle.lower.proofs.SimulationWay.{Program, Way, Follows, next_state, scene_for, turn_goal, kept_by, at_start}
 use Rattle.lower.proofs.SimulationWay.{asks_of, budget_of}
 use Rattle.lower.proofs.SimulationGives.{CarriedHere, RestHere, CallersHere, given, word_for, code_for}
@@ -126,7 +127,7 @@ module _ (program : Program) (typed : TypesStand program.l)
     box = Cell (header 5 0 1) 1
 
     abbrev scene : Scene
-    scene = scene_for program f (next_state program f made) h.words
+    scene = scene_for program f (next_state program f made) h.words (room_over program size waiting)
         (turn_goal program f (next_state program f made) (start_of MakeBox (o ∷ []))) places
 
     pub box_made : Follows program f made (at f.world h waiting size rests words (fetch_all s 0 (o ∷ [])
@@ -134,13 +135,13 @@ module _ (program : Program) (typed : TypesStand program.l)
         (Number (5 + 4294967296 * 1) ∷ found s (operand_word s 0) o ∷ []) (code_for program places objects s next))))
     box_made =
         fetch_all_reads scene f.world h (at_start program f (next_state program f made) f.world h.words refl) objects
-        filled waiting size rests s count group depth locals (o ∷ [])
+        filled waiting size (stays_in program size waiting) rests s count group depth locals (o ∷ [])
         0 bound (omega arith) wide words fits.knows
         (Build d (Number (5 + 4294967296 * 1) ∷ found s (operand_word s 0) o ∷ []) k)
         (λ ws new carried are changed. by_words ws new carried are changed)
       where
         P : LowState → Type 0
-        P = Way program f (next_state program f made) h.words
+        P = Way program f (next_state program f made) h.words (room_over program size waiting)
 
         Q : Goal
         Q = turn_goal program f (next_state program f made) (start_of MakeBox (o ∷ []))
@@ -153,7 +154,7 @@ module _ (program : Program) (typed : TypesStand program.l)
             → AreCarried program.l program.setting.address program.procs program.meaning places objects
             (in_row (values locals group (o ∷ []))) ws → words_of new (found_all s 0 (o ∷ [])) ≡ Some ws
             → ChangesFrom (operand_word s 0) 1 words new
-            → Comes program.setting (Way program f (next_state program f made) h.words)
+            → Comes program.setting (Way program f (next_state program f made) h.words (room_over program size waiting))
             (turn_goal program f (next_state program f made) (start_of MakeBox (o ∷ [])))
             (at f.world h waiting size rests new
             (Build d (Number (5 + 4294967296 * 1) ∷ found s (operand_word s 0) o ∷ []) k))
@@ -161,17 +162,22 @@ module _ (program : Program) (typed : TypesStand program.l)
         by_words (w ∷ x ∷ ws) new carried are changed = absurd carried.1
         by_words (w ∷ []) new carried are changed =
             builds program.setting P Q
-            (λ active waiting. (at_start program f (next_state program f made) f.world h.words refl, (objects, filled)))
+            (λ rests locals code. (
+              at_start program f (next_state program f made) f.world h.words refl,
+              (objects, filled),
+              stays_in program size waiting,
+            ))
             (header 5 0 1 ∷ w ∷ [])
             (both_words _ _ _ _ refl (both_words _ _ _ _ (one_word (word_of new (found s (operand_word s 0) o)) w are)
             refl)) (omega arith) less
-            (λ active waiting. (
+            (λ rests locals code. (
               inl (refl, omega (arith, asks)),
               (
                 objects,
                 filled_above program.meaning program.setting program.l
                     program.placed objects h h.memory (h.words + 2) filled (λ i lt. refl),
               ),
+              stays_in program size waiting,
             )) (let z = fit.paid in omega (arith, z)) (λ room. stored room)
           where
             m : Memory
@@ -198,7 +204,8 @@ module _ (program : Program) (typed : TypesStand program.l)
             kept = kept_in_front places (h.alloc ∷ [])
 
             stored : h.alloc + 8 * length (header 5 0 1 ∷ w ∷ []) ≤ program.setting.top
-                → Comes program.setting (Way program f (next_state program f made) h.words)
+                → Comes program.setting (Way program f (next_state program f made) h.words
+                (room_over program size waiting))
                 (turn_goal program f (next_state program f made) (start_of MakeBox (o ∷ [])))
                 (at f.world (record {
                   memory = store_words (header 5 0 1 ∷ w ∷ []) h.alloc h.memory;
@@ -308,7 +315,7 @@ module _ (program : Program) (typed : TypesStand program.l)
     read_after = On (Return v) f.frames f.store f.world
 
     abbrev read_scene : Scene
-    read_scene = scene_for program f (next_state program f read_after) h.words
+    read_scene = scene_for program f (next_state program f read_after) h.words (room_over program size waiting)
         (turn_goal program f (next_state program f read_after) (start_of Unbox (o ∷ []))) places
 
     abbrev a : LowSource
@@ -320,25 +327,29 @@ module _ (program : Program) (typed : TypesStand program.l)
         (code_for program places objects s next))))
     box_read_here =
         fetch_all_reads read_scene f.world h (at_start program f (next_state program f read_after) f.world h.words
-        refl) objects filled waiting size rests s count group depth locals
+        refl) objects filled waiting size (stays_in program size waiting) rests s count group depth locals
         (o ∷ []) 0 bound (omega arith) wide words fits.knows (of_kind s a 5 (Load d a 8 Done) other k)
         (λ ws new carried are changed. by_words ws new carried are changed)
       where
         P : LowState → Type 0
-        P = Way program f (next_state program f read_after) h.words
+        P = Way program f (next_state program f read_after) h.words (room_over program size waiting)
 
         Q : Goal
         Q = turn_goal program f (next_state program f read_after) (start_of Unbox (o ∷ []))
 
-        calm : Calm program.setting P Q f.world h
-        calm active waiting =
-            (at_start program f (next_state program f read_after) f.world h.words refl, (objects, filled))
+        calm : Calm program.setting P Q size waiting f.world h
+        calm rests locals code = (
+          at_start program f (next_state program f read_after) f.world h.words refl,
+          (objects, filled),
+          stays_in program size waiting,
+        )
 
         by_words : (ws : List ℕ) (new : Locals)
             → AreCarried program.l program.setting.address program.procs program.meaning places objects
             (in_row (values locals group (o ∷ []))) ws → words_of new (found_all s 0 (o ∷ [])) ≡ Some ws
             → ChangesFrom (operand_word s 0) 1 words new
-            → Comes program.setting (Way program f (next_state program f read_after) h.words)
+            → Comes program.setting (Way program f (next_state program f read_after) h.words
+            (room_over program size waiting))
             (turn_goal program f (next_state program f read_after) (start_of Unbox (o ∷ [])))
             (at f.world h waiting size rests new (of_kind s a 5 (Load d a 8 Done) other k))
         by_words [] new carried are changed = absurd carried
@@ -352,7 +363,8 @@ module _ (program : Program) (typed : TypesStand program.l)
 
             by_cell : (n : ℕ) → slice_get places cell ≡ Some w → There program.l objects w (Cell (header 5 0 n) n)
                 → (false ≡ false → n ≡ 1)
-                → Comes program.setting (Way program f (next_state program f read_after) h.words)
+                → Comes program.setting (Way program f (next_state program f read_after) h.words
+                (room_over program size waiting))
                 (turn_goal program f (next_state program f read_after) (start_of Unbox (o ∷ [])))
                 (at f.world h waiting size rests new (of_kind s a 5 (Load d a 8 Done) other k))
             by_cell n at_place there single =
@@ -370,7 +382,8 @@ module _ (program : Program) (typed : TypesStand program.l)
                     → HoldsWords h.memory (w + 8) xs
                     → AreCarried program.l program.setting.address program.procs program.meaning places objects
                     (in_row (v ∷ [])) xs
-                    → Comes program.setting (Way program f (next_state program f read_after) h.words)
+                    → Comes program.setting (Way program f (next_state program f read_after) h.words
+                    (room_over program size waiting))
                     (turn_goal program f (next_state program f read_after) (start_of Unbox (o ∷ [])))
                     (at f.world h waiting size rests new (of_kind s a 5 (Load d a 8 Done) other k))
                 by_held [] e held all = absurd all
@@ -380,15 +393,15 @@ module _ (program : Program) (typed : TypesStand program.l)
                     objects program.setting program.placed h filled w x [] head e held in
                     comes_on program.setting P Q (is_of_kind read_scene f.world h
                     (at_start program f (next_state program f read_after) f.world h.words refl) objects filled
-                    waiting size
+                    waiting size (stays_in program size waiting)
                     rests s count group depth locals wide words fits.knows a w 5 n (Load d a 8 Done) other k new
                     (omega arith) (one_word (word_of new a) w are)
                     (kind_there cell w n (v ∷ []) at_place there (single refl) in_store)
                     (λ last more.
                     let still = one_word (word_of last a) w
                     (found_all_same read_scene f.world h (at_start program f
-                    (next_state program f read_after) f.world h.words refl) objects filled waiting size rests s
-                    count group
+                    (next_state program f read_after) f.world h.words refl) objects filled waiting size
+                    (stays_in program size waiting) rests s count group
                     depth
                     locals (o ∷ []) 0 bound (omega arith) new last more ∙ are) in
                     loads program.setting P Q calm w x still word.may word.is (let z = word.end in omega arith) less
@@ -419,7 +432,7 @@ module _ (program : Program) (typed : TypesStand program.l)
 
     abbrev write_scene : Scene
     write_scene =
-        scene_for program f (next_state program f written_after) h.words
+        scene_for program f (next_state program f written_after) h.words (room_over program size waiting)
         (turn_goal program f (next_state program f written_after) (start_of BoxSet (b ∷ o ∷ []))) places
 
     as_written : Rattle.lower.proofs.SimulationWay.Allowed program f (next_state program f written_after) h.words
@@ -439,13 +452,14 @@ module _ (program : Program) (typed : TypesStand program.l)
         (Set (word_for program places objects s next) (Number 0) Done)) other'
         (code_for program places objects s next))))
     box_written_here =
-        fetch_all_reads write_scene f.world h as_written objects filled waiting size rests s count group depth locals
+        fetch_all_reads write_scene f.world h as_written objects filled waiting size (stays_in program size waiting)
+        rests s count group depth locals
         (b ∷ o ∷ []) 0 bound (omega arith) wide words fits.knows
         (of_kind s to 5 (Store from to 8 (Set d (Number 0) Done)) other' k)
         (λ ws new carried are changed. by_words ws new carried are changed)
       where
         P : LowState → Type 0
-        P = Way program f (next_state program f written_after) h.words
+        P = Way program f (next_state program f written_after) h.words (room_over program size waiting)
 
         Q : Goal
         Q = turn_goal program f (next_state program f written_after) (start_of BoxSet (b ∷ o ∷ []))
@@ -457,7 +471,8 @@ module _ (program : Program) (typed : TypesStand program.l)
             → AreCarried program.l program.setting.address program.procs program.meaning places objects
             (in_row (values locals group (b ∷ o ∷ []))) ws → words_of new (found_all s 0 (b ∷ o ∷ [])) ≡ Some ws
             → ChangesFrom (operand_word s 0) 2 words new
-            → Comes program.setting (Way program f (next_state program f written_after) h.words)
+            → Comes program.setting (Way program f (next_state program f written_after) h.words
+            (room_over program size waiting))
             (turn_goal program f (next_state program f written_after) (start_of BoxSet (b ∷ o ∷ [])))
             (at f.world h waiting size rests new (of_kind s to 5 (Store from to 8 (Set d (Number 0) Done)) other' k))
         by_words [] new carried are changed = absurd carried
@@ -475,24 +490,27 @@ module _ (program : Program) (typed : TypesStand program.l)
 
             by_cell : (n : ℕ) → slice_get places cell ≡ Some w → There program.l objects w (Cell (header 5 0 n) n)
                 → (false ≡ false → n ≡ 1)
-                → Comes program.setting (Way program f (next_state program f written_after) h.words)
+                → Comes program.setting (Way program f (next_state program f written_after) h.words
+                (room_over program size waiting))
                 (turn_goal program f (next_state program f written_after) (start_of BoxSet (b ∷ o ∷ [])))
                 (at f.world h waiting size rests new (of_kind s to 5 (Store from to 8 (Set d (Number 0) Done)) other'
                 k))
             by_cell n at_place there single =
                 comes_on program.setting P Q (is_of_kind write_scene f.world h as_written objects filled waiting size
-                rests s count group depth locals wide words fits.knows to w 5 n
+                (stays_in program size waiting) rests s count group depth locals wide words fits.knows to w 5 n
                 (Store from to 8 (Set d (Number 0) Done))
                 other' k new (omega arith) (and_more_parts (word_of new to) (words_of new (from ∷ [])) w (y ∷ []) are).0
                 (kind_there cell w n old at_place there (single refl) in_store)
                 (λ last more.
-                let still = found_all_same write_scene f.world h as_written objects filled waiting size rests s count
+                let still = found_all_same write_scene f.world h as_written objects filled waiting size
+                (stays_in program size waiting) rests s count
                 group depth locals (b ∷ o ∷ []) 0 bound (omega arith) new last more ∙ are in
                 let both = and_more_parts (word_of last to) (words_of last (from ∷ [])) w (y ∷ []) still in
                 stores program.setting P Q
-                (λ active waiting. (
+                (λ rests locals code. (
                   at_start program f (next_state program f written_after) f.world h.words refl,
                   (objects, filled),
+                  stays_in program size waiting,
                 )) w y
                 (one_word (word_of last from) y both.1) both.0 may (omega (arith, s1.high, filled.fits, top))
                 (sets_word program.setting P Q calm2 0 refl less
@@ -553,10 +571,13 @@ module _ (program : Program) (typed : TypesStand program.l)
                   keeps = filled.keeps;
                 }
 
-                calm2 : Calm program.setting P Q f.world
+                calm2 : Calm program.setting P Q size waiting f.world
                     (record h { memory = store_bytes 8 h.memory (w + 8) y })
-                calm2 active waiting =
-                    (at_start program f (next_state program f written_after) f.world h.words refl, (objects, filled2))
+                calm2 rests locals code = (
+                  at_start program f (next_state program f written_after) f.world h.words refl,
+                  (objects, filled2),
+                  stays_in program size waiting,
+                )
 
                 fit : Fitting program places objects f s size next (perform program.run s
                     (word_for program places objects s next) (Prim BoxSet (b ∷ o ∷ []))

@@ -43,6 +43,7 @@ use Rattle.lower.proofs.WordOperands.{fetch_all_reads, and_true, Changes, Change
 use Rattle.lower.proofs.WordOperands.{same_besides}
 use Rattle.lower.proofs.WordOperations.{is_of_kind}
 use Rattle.lower.proofs.SimulationGroups.{proc_is_closed, covered_at}
+use Rattle.lower.proofs.SimulationWay.{room_over, stays_in}
 use Rattle.lower.proofs.SimulationWay.{Program, next_state, Way, Allowed, scene_for, turn_goal, at_start, budget_of}
 use Rattle.lower.proofs.SimulationWay.{dues, due_most, due_is, waiting_dues}
 use Rattle.lower.proofs.EmitPrices.{call_price_all, call_body_begins, then_price}
@@ -222,7 +223,7 @@ module _ (program : Program) where
           start = at f.world h waiting size rests words (emit program.run s (Call fo os) next)
 
           abbrev P : LowState → Type 0
-          P = Way program f f' h.words
+          P = Way program f f' h.words (room_over program size waiting)
 
           abbrev Q : Goal
           Q = turn_goal program f f' start
@@ -231,7 +232,7 @@ module _ (program : Program) where
           as_before = at_start program f f' f.world h.words refl
 
           abbrev scene : Scene
-          scene = scene_for program f f' h.words Q places
+          scene = scene_for program f f' h.words (room_over program size waiting) Q places
 
           abbrev Going : LowState → Type 0
           Going t = Moves program.setting P Q t
@@ -242,8 +243,8 @@ module _ (program : Program) where
               code_price program.setting.procs size (emit program.run s (Call fo os) next)
               ≤ 556 + then_price program.setting.procs size s six next'
 
-          calm : Calm program.setting P Q f.world h
-          calm active waiting = (as_before, (objects, filled))
+          calm : Calm program.setting P Q size waiting f.world h
+          calm rests locals code = (as_before, (objects, filled), stays_in program size waiting)
 
           -- what stands at the address of the function
           module _ (w : ℕ) (ws : List ℕ) (now : Locals)
@@ -350,7 +351,8 @@ module _ (program : Program) where
             still : (last : Locals) → Changes (test_word s) now last
                 → words_of last (found s (operand_word s 0) fo ∷ found_all s 1 os) ≡ Some (w ∷ ws)
             still last changed =
-                found_all_same scene f.world h as_before objects filled waiting size rests s count group depth locals
+                found_all_same scene f.world h as_before objects filled waiting size (stays_in program size waiting)
+                rests s count group depth locals
                 (fo ∷ os) 0 both_bound (omega (arith, few)) now last changed
                 ∙ are
 
@@ -388,7 +390,8 @@ module _ (program : Program) where
                 → Going (at f.world h waiting size rests now
                 (of_kind s (found s (operand_word s 0) fo) 1 one other k))
             kind_tested one other k go =
-                is_of_kind scene f.world h as_before objects filled waiting size rests s count group depth locals room
+                is_of_kind scene f.world h as_before objects filled waiting size (stays_in program size waiting) rests
+                s count group depth locals room
                 words fits.knows (found s (operand_word s 0) fo) w 1 (suc (length stands.0)) one other k now
                 (omega arith)
                 (found_is now (λ j ne. refl)) head_there go
@@ -503,9 +506,10 @@ module _ (program : Program) where
 
           pub call_goes : Going (at f.world h waiting size rests words (emit program.run s (Call fo os) next))
           call_goes =
-              let m = fetch_all_reads (scene_for program f f' h.words (first_to program.setting P Q) places) f.world h
-              as_before objects filled waiting
-              size rests s count group depth locals (fo ∷ os) 0 bound_all (omega (arith, few)) room words fits.knows
+              let m = fetch_all_reads (scene_for program f f' h.words (room_over program size waiting)
+              (first_to program.setting P Q) places) f.world h as_before objects filled waiting
+              size (stays_in program size waiting) rests s count group depth locals (fo ∷ os) 0 bound_all
+              (omega (arith, few)) room words fits.knows
               (call_by program.run (is_sibling fo) s (found s (operand_word s 0) fo) (found_all s 1 os) next)
               (λ all now carried are changed. fetched all now carried are changed) in
               moves_later program.setting P Q

@@ -48,22 +48,23 @@ use Rattle.lower.proofs.WordOperands.{fetch_reads, value_carried, Changes, Chang
 use Rattle.lower.proofs.WordOperands.{same_besides}
 use Rattle.lower.proofs.WordOperations.{Touches, beside, not_computed}
 use Rattle.lower.proofs.SimulationWay.{Program, mode_of, prices_of, next_state, asks_of, budget_of, cost_of, dues}
-use Rattle.lower.proofs.SimulationWay.{due_is}
+use Rattle.lower.proofs.SimulationWay.{due_is, room_over, stays_in}
 use Rattle.lower.proofs.SimulationWay.{waiting_dues}
 use Rattle.lower.proofs.SimulationGives.{RestHere, word_for, code_for}
 use Rattle.lower.proofs.SimulationOperations.{room, word_less}
 use Rattle.lower.proofs.SimulationServed.{silent_after}
-use Rattle.lower.specs.SchemeLaws.{After, Goes, Returns, GivesInPlace, nothing, cast_leaves}
+use Rattle.lower.specs.SchemeLaws.{After, Goes, Returns, GivesInPlace, cast_leaves}
 use Rattle.lower.proofs.SimulationServices.{OnTurn, Landing, Calling, Served, calling_goal, starting_goal, some_calls}
 use Rattle.lower.proofs.SimulationServices.{later_calls}
 use Rattle.lower.proofs.SimulationServices.{is_served, lower_floor, calls_now, starts_now, called, caller}
 use Rattle.lower.proofs.SimulationTags.{put_in_place}
 use Rattle.lower.proofs.WordScene.{Carries}
 
--- what lemmas on code are told, where a procedure serves for a turn that came to x and began after so many words
+-- what lemmas on code are told, where a procedure serves for a turn that came to x and began after so many words, and
+-- frames have this room
 abbrev pub serving_scene : (program : Program) → TypesStand program.l → (f : FlatState program.meaning.Cast) → List ℕ
-    → FlatAfter program.meaning.Cast → ℕ → ℕ → ℕ → ℕ → ℕ → Scene
-serving_scene program typed f places x w floor have before base = record {
+    → FlatAfter program.meaning.Cast → ℕ → ℕ → ℕ → ℕ → ℕ → ℕ → Scene
+serving_scene program typed f places x w floor have before base room = record {
   meaning = program.meaning;
   laws = program.laws;
   number = program.number;
@@ -75,11 +76,12 @@ serving_scene program typed f places x w floor have before base = record {
   procs = program.procs;
   answer = program.answer;
   places = places;
-  P = OnTurn program typed f w base;
-  Q = starting_goal program typed f floor have before x w base;
+  P = OnTurn program typed f w base room;
+  Q = starting_goal program typed f floor have before x w base room;
   allowed = λ world words. (world.output ≡ f.world.output) × (words ≤ base + asks_of program f);
-  calm = λ world h objects filled ok active waiting.
-      record { same = ok.0; filling = inl (objects, filled); asked = ok.1 };
+  room = room;
+  calm = λ world h objects filled ok count waiting fits rests locals code.
+      record { same = ok.0; filling = inl (objects, filled); asked = ok.1; room = fits };
 }
 
 -- nothing has happened yet
@@ -150,15 +152,21 @@ module _ (program : Program) (typed : TypesStand program.l)
 
     abbrev scene : Scene
     scene = serving_scene program typed f places (casts_to (Some c)) w floor have 174 h.words
+        (room_over program size waiting)
 
     abbrev P : LowState → Type 0
-    P = OnTurn program typed f w h.words
+    P = OnTurn program typed f w h.words (room_over program size waiting)
 
     abbrev Q : Goal
-    Q = calling_goal program typed f floor have 174 (casts_to (Some c)) w h.words
+    Q = calling_goal program typed f floor have 174 (casts_to (Some c)) w h.words (room_over program size waiting)
 
-    calm : Calm program.setting P Q f.world h
-    calm active waiting = record { same = refl; filling = inl (objects, filled); asked = omega arith }
+    calm : Calm program.setting P Q size waiting f.world h
+    calm rr now code = record {
+      same = refl;
+      filling = inl (objects, filled);
+      asked = omega arith;
+      room = stays_in program size waiting;
+    }
 
     abbrev Calls : LowState → Type 0
     Calls t = Calling program typed f floor have 174 (casts_to (Some c)) w t
@@ -192,12 +200,12 @@ module _ (program : Program) (typed : TypesStand program.l)
           called program typed f places objects h filled cells waiting size rests words s count depth group next rest
           less falls behind rr fall new touched cast_leaves have 174 (omega (arith, one_at_most))
           (enough falls one_at_most) (casts_to (Some c)) w program.run.cast (a ∷ Number wc ∷ [])
-          (y ∷ wc ∷ []) program.casting.proc 2 handed program.casting.stands refl z.0 z.1.0
+          (y ∷ wc ∷ []) program.casting.proc 2 handed program.casting.stands refl z.0
           (subst (λ cost. After program.meaning program.setting program.l program.procs program.casts program.measured
-          here_now z.0 (Goes program.meaning program.setting program.l program.procs program.casts program.measured
-          here_now z.0 (Returns program.meaning program.setting program.l program.procs program.casts program.measured
-          here_now cast_leaves places objects f.frames) z.1.0) (casts_to (Some c)) cost 0 program.number w
-          (entered here_now program.casting.proc (y ∷ wc ∷ []))) (sym cost_is) z.1.1)
+          here_now (Goes program.meaning program.setting program.l program.procs program.casts program.measured
+          here_now (Returns program.meaning program.setting program.l program.procs program.casts program.measured
+          here_now cast_leaves places objects f.frames) z.0) (casts_to (Some c)) cost 0 program.number w
+          (entered here_now program.casting.proc (y ∷ wc ∷ []))) (sym cost_is) z.1)
 
     -- the word of the operand is there
     module _ (y : ℕ) (new : Locals) (carried : Carries scene objects v y) (is : word_of new a ≡ Some y)
@@ -213,7 +221,8 @@ module _ (program : Program) (typed : TypesStand program.l)
       module _ (last : Locals) (more : ChangesFrom (operand_word s 1) 8 new last) where
         stays : word_of last a ≡ Some y
         stays =
-            found_same scene f.world h (as_it_was program f h.words) objects filled waiting size rests s count group
+            found_same scene f.world h (as_it_was program f h.words) objects filled waiting size
+            (stays_in program size waiting) rests s count group
             depth locals o
             (operand_word s 0) fits.bound new last
             (same_besides s depth (operand_word s 1) 8 new last (omega arith) (omega arith) more)
@@ -247,16 +256,16 @@ module _ (program : Program) (typed : TypesStand program.l)
             (by_now program.setting P Q.holds floor (left_of program.setting t) t (omega arith) (
               0,
               omega arith,
-              by_more program.setting P (Landing program typed f have 174 (next_state program f (casts_to (Some c))) w
+              by_more program.setting P (Landing program typed f (room_over program size waiting) have 174
+                  (next_state program f (casts_to (Some c))) w
                   h.words) 0 (budget_of program f) (0 + budget_of program f) t (omega arith)
                   (put_in_place program typed f places objects h filled waiting size rests words s count depth group
                   next
-                  rest
-                  less op b b' last touches m n word first second made have 174 cheap
+                  rest less op b b' last touches m n word first second made have 174 cheap
                   enough_in_place (casts_to (Some c)) w z.0
                   (subst (λ cost. After program.meaning program.setting program.l program.procs program.casts
-                  program.measured t nothing (Goes program.meaning program.setting program.l program.procs program.casts
-                  program.measured t nothing (GivesInPlace program.meaning program.setting program.l program.procs
+                  program.measured t (Goes program.meaning program.setting program.l program.procs program.casts
+                  program.measured t (GivesInPlace program.meaning program.setting program.l program.procs
                   program.casts program.measured t places objects f.frames word) z.0) (casts_to (Some c)) cost 0
                   program.number w t) (sym cost_is) z.1)),
             ))
@@ -357,7 +366,8 @@ module _ (program : Program) (typed : TypesStand program.l)
     moves : Calls (at f.world h waiting size rests words code)
     moves =
         later_calls program typed f floor have 174 (casts_to (Some c)) w (at f.world h waiting size rests words code)
-        (fetch_reads scene f.world h (as_it_was program f h.words) objects filled waiting size rests s count group depth
+        (fetch_reads scene f.world h (as_it_was program f h.words) objects filled waiting size
+        (stays_in program size waiting) rests s count group depth
         locals o
         (operand_word s 0) fits.bound (omega (arith, wide)) words fits.knows (make_cast program.run s d a number way k)
         (λ y new carried is changed.
@@ -368,18 +378,19 @@ module _ (program : Program) (typed : TypesStand program.l)
     silent : (next_state program f (casts_to (Some c))).world.output ≡ f.world.output
     silent =
         let t = at f.world h waiting size rests words code in
-        let y = value_carried scene f.world h (as_it_was program f h.words) objects filled waiting size rests s count
+        let y = value_carried scene f.world h (as_it_was program f h.words) objects filled waiting size
+        (stays_in program size waiting) rests s count
         group depth locals o
         fits.bound words fits.knows in
         let z = program.casting.makes t program.number places objects f.store
         (record { filled = filled; cells = cells }) f.frames number c e v y.0 y.1 in
-        silent_after program t z.0 (Goes program.meaning program.setting program.l program.procs program.casts
-        program.measured t z.0
+        silent_after program t (Goes program.meaning program.setting program.l program.procs program.casts
+        program.measured t
         (Returns program.meaning program.setting program.l program.procs program.casts program.measured t cast_leaves
         places objects f.frames)
-        z.1.0) f refl (casts_to (Some c)) (cast_cost program.procs (mode_of program) (prices_of program) (Some c) v) 0
+        z.0) f refl (casts_to (Some c)) (cast_cost program.procs (mode_of program) (prices_of program) (Some c) v) 0
         program.number w
-        (entered t program.casting.proc (y.0 ∷ cast_word (slice_get program.run.cast_at number) ∷ [])) z.1.1
+        (entered t program.casting.proc (y.0 ∷ cast_word (slice_get program.run.cast_at number) ∷ [])) z.1
 
     pub cast_served : Served program typed f (casts_to (Some c))
         (decision_wraps (decision_at program.procs (mode_of program) (Some c) (value locals group o))) 0

@@ -37,6 +37,7 @@ use Rattle.lower.specs.Emit.{perform}
 use Rattle.lower.proofs.WordOperands.{value_carried, ChangesFrom, Changes, and_true, both_words, found_all_same}
 use Rattle.lower.proofs.WordOperations.{Touches, not_computed}
 use Rattle.lower.proofs.SimulationWay.{Program, mode_of, prices_of, next_state, cost_of, waiting_dues, due_same}
+use Rattle.lower.proofs.SimulationWay.{room_over, stays_in}
 use Rattle.lower.proofs.SimulationGives.{RestHere, word_for, code_for}
 use Rattle.lower.proofs.SimulationOperations.{room, word_less}
 use Rattle.lower.proofs.SimulationServed.{silent_after}
@@ -114,10 +115,11 @@ module _ (program : Program) (typed : TypesStand program.l)
       by_operands (o ∷ os) b =
           let x = and_true (operand_bound s.captured count depth o) (operands_bound s.captured count depth os) b in
           let c = value_carried (serving_scene program typed f places
-          (flat_operate program.procs (mode_of program) f.store f.world MakeVector [] f.frames) 0 0 0 0 h.words)
+          (flat_operate program.procs (mode_of program) f.store f.world MakeVector [] f.frames) 0 0 0 0 h.words
+          (room_over program size waiting))
           f.world h
           (as_it_was program f h.words) objects
-          filled waiting size rests s count group depth locals o x.0 words fits.knows in
+          filled waiting size (stays_in program size waiting) rests s count group depth locals o x.0 words fits.knows in
           let cs = by_operands os x.1 in
           (c.0 ∷ cs.0, (c.1, cs.1))
 
@@ -139,12 +141,12 @@ module _ (program : Program) (typed : TypesStand program.l)
         let t = at f.world h waiting size rests words k in
         let z = law.does t program.number places objects f.store (record { filled = filled; cells = cells }) f.frames
         (values locals group os) carried_all.0 carried_all.1 on in
-        silent_after program t z.0 (Goes program.meaning program.setting program.l program.procs program.casts
-        program.measured t z.0
+        silent_after program t (Goes program.meaning program.setting program.l program.procs program.casts
+        program.measured t
         (Returns program.meaning program.setting program.l program.procs program.casts program.measured t
         operator_leaves places objects f.frames)
-        z.1.0) f refl after (operator_cost program.procs (mode_of program) (prices_of program) op
-        (values locals group os)) 0 program.number 0 (entered t proc (handed carried_all.0)) z.1.1
+        z.0) f refl after (operator_cost program.procs (mode_of program) (prices_of program) op
+        (values locals group os)) 0 program.number 0 (entered t proc (handed carried_all.0)) z.1
 
     pub calls_for : (behind : Code) (rr : List Code) (falls : ℕ) → falls ≤ 1
         → Falls falls behind rr (code_for program places objects s next) rests
@@ -160,14 +162,13 @@ module _ (program : Program) (typed : TypesStand program.l)
         let z = law.does c program.number places objects f.store (record { filled = filled; cells = cells }) f.frames
         (values locals group os) ws carried on in
         called program typed f places objects h filled cells waiting size rests words s count depth group next rest
-        less
-        falls behind rr fall new touches operator_leaves have 446 (omega (arith, one)) (omega (arith, one)) after 0
-        number args (handed ws) proc params are stands (long ws) z.0 z.1.0
+        less falls behind rr fall new touches operator_leaves have 446 (omega (arith, one)) (omega (arith, one)) after 0
+        number args (handed ws) proc params are stands (long ws) z.0
         (subst (λ cost. After program.meaning program.setting program.l program.procs program.casts program.measured c
-        z.0 (Goes program.meaning program.setting program.l program.procs program.casts program.measured c z.0
+        (Goes program.meaning program.setting program.l program.procs program.casts program.measured c
         (Returns program.meaning program.setting program.l program.procs program.casts program.measured c
-        operator_leaves places objects f.frames) z.1.0) after cost 0 program.number 0 (entered c proc (handed ws)))
-        cost_is z.1.1)
+        operator_leaves places objects f.frames) z.0) after cost 0 program.number 0 (entered c proc (handed ws)))
+        cost_is z.1)
 
     pub serves_operator : ((new : Locals) (ws : List ℕ) → words_of new (found_all s 0 os) ≡ Some ws
         → words_of new args ≡ Some (handed ws))
@@ -307,8 +308,9 @@ module _ (program : Program) (typed : TypesStand program.l)
         (λ last more.
         let still = found_all_same (serving_scene program typed f places
         (flat_operate program.procs (mode_of program) f.store f.world op (values locals group os) f.frames) 0 0 0 0
-        h.words) f.world
-        h (as_it_was program f h.words) objects filled waiting size rests s count group depth locals os 0 fits.bound
+        h.words (room_over program size waiting)) f.world
+        h (as_it_was program f h.words) objects filled waiting size (stays_in program size waiting) rests s count group
+        depth locals os 0 fits.bound
         (omega (arith, few)) new
         last more ∙ are in
         let x = flat_operate program.procs (mode_of program) f.store f.world op (values locals group os) f.frames in

@@ -19,6 +19,7 @@ use Rattle.flat_ir.specs.Machine.{Inside}
 use Rattle.flat_ir.specs.Machine.{locals_of, flat_state_at}
 use Rattle.flat_ir.specs.Levels.{levels}
 use Rattle.lower.specs.Numbering.{function_offset}
+use Rattle.rt_cast.specs.Frames.{stack_room}
 use Rattle.rt_cast.specs.States.{heap_of}
 use Rattle.lower.specs.Lowered.{low_proc, shape_of}
 use Rattle.lower.specs.CarriedValues.{IsMember, IsGroup}
@@ -100,18 +101,19 @@ takes_all program k p there w ws long =
 
 module _ (program : Program) (typed : TypesStand program.l) (f : FlatState program.meaning.Cast) (places : List ℕ)
     (objects : List Object) (s : LowState) (same_world : s.world ≡ f.world)
-    (callers : CallersHere program places objects s.waiting f.frames) (have before : ℕ)
+    (callers : CallersHere program places objects s.waiting f.frames) (room have before : ℕ)
+    (in_room : stack_room s + 25 * (1 + program.meaning.serving program.l) ≤ room)
     (enough : 174 + waiting_dues s.waiting + before ≤ call_leaves + have) where
   enters_at : (code : FlatCode) (captured : FlatValues program.meaning.Cast)
       (vs : List (FlatValue program.meaning.Cast)) (p : Proc)
       → slice_get program.procs (code.first + code.place) ≡ Some p → length vs ≡ p.params
       → (frames : List (FlatFrame program.meaning.Cast)) (store : FlatStore program.meaning.Cast) (n left : ℕ)
-      (t : LowState) → call_leaves ≤ left
+      (t : LowState) → stack_room t ≤ stack_room s + 25 * (1 + program.meaning.serving program.l) → call_leaves ≤ left
       → CallsAt program.meaning program.setting program.l program.procs program.casts program.measured s places objects
       code captured vs f.frames frames store n t
-      → Lands program f.world.output n 0 have before left (flat_state_at program.procs program.told
+      → Lands program room f.world.output n 0 have before left (flat_state_at program.procs program.told
       (Own (Inside p.body (locals_of vs) (record { first = code.first; captured = captured }))) frames store f.world) t
-  enters_at code captured vs p there long frames store n left t le q =
+  enters_at code captured vs p there long frames store n left t fits le q =
       let came = some_go program.setting P H 0 (left - 174) left t last step spare on
       (by_now program.setting P H 0 (left - 174) last (omega arith) (
         le_refl t.words,
@@ -144,6 +146,7 @@ module _ (program : Program) (typed : TypesStand program.l) (f : FlatState progr
             };
           }),
           kept,
+          omega arith,
         ),
       )) in
       record { comes = came.0; some = inl came.1 }
@@ -156,10 +159,10 @@ module _ (program : Program) (typed : TypesStand program.l) (f : FlatState progr
           (Own (Inside p.body (locals_of vs) (record { first = code.first; captured = captured }))) frames store f.world
 
       P : LowState → Type 0
-      P = OnServed program f.world.output n n t.words
+      P = OnServed program f.world.output n n t.words room
 
       H : ℕ → LowState → Type 0
-      H left u = (u.words ≤ t.words) × SettledWith program have before left f* n u
+      H left u = (u.words ≤ t.words) × SettledWith program room have before left f* n u
 
       low : LowProc
       low = low_proc program.run p
@@ -176,6 +179,7 @@ module _ (program : Program) (typed : TypesStand program.l) (f : FlatState progr
         same = ap (λ w. w.output) (q.same ∙ same_world);
         filling = inl (objects ++ q.more, q.here.filled);
         asked = le_refl t.words;
+        room = omega (arith, fits, in_room);
       }
 
       -- seven words at most are handed on
@@ -214,20 +218,21 @@ module _ (program : Program) (typed : TypesStand program.l) (f : FlatState progr
 
   pub enters : (focus : FlatFocus program.meaning.Cast) (frames : List (FlatFrame program.meaning.Cast))
       (store : FlatStore program.meaning.Cast) (n left : ℕ) (t : LowState)
+      → stack_room t ≤ stack_room s + 25 * (1 + program.meaning.serving program.l)
       → Calls program.meaning program.setting program.l program.procs program.casts program.measured s places objects
       f.frames focus frames store n left t
-      → Lands program f.world.output n 0 have before left
+      → Lands program room f.world.output n 0 have before left
       (flat_state_at program.procs program.told focus frames store f.world) t
-  enters (Own (Inside body locals group)) frames store n left t q =
-      subst (λ b. Lands program f.world.output n 0 have before left
+  enters (Own (Inside body locals group)) frames store n left t fits q =
+      subst (λ b. Lands program room f.world.output n 0 have before left
       (flat_state_at program.procs program.told (Own (Inside b locals group)) frames
       store f.world) t) (sym q.6)
-      (subst (λ ls. Lands program f.world.output n 0 have before left
+      (subst (λ ls. Lands program room f.world.output n 0 have before left
       (flat_state_at program.procs program.told (Own (Inside q.3.body ls group)) frames
       store f.world) t) (sym q.7)
-      (subst (λ g. Lands program f.world.output n 0 have before left
+      (subst (λ g. Lands program room f.world.output n 0 have before left
       (flat_state_at program.procs program.told
       (Own (Inside q.3.body (locals_of q.2) g)) frames store f.world) t) (sym q.8)
-      (enters_at q.0 q.1 q.2 q.3 q.4 q.5 frames store n left t q.9 q.10)))
-  enters (Return v) frames store n left t q = absurd q
-  enters (Entering g done todo) frames store n left t q = absurd q
+      (enters_at q.0 q.1 q.2 q.3 q.4 q.5 frames store n left t fits q.9 q.10)))
+  enters (Return v) frames store n left t fits q = absurd q
+  enters (Entering g done todo) frames store n left t fits q = absurd q

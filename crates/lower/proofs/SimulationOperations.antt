@@ -41,6 +41,7 @@ use Rattle.flat_ir.specs.Closed.{operands_bound}
 use Rattle.std.proofs.Common.{le_refl, length, ◌≤◌, ◌&&◌, suc}
 use Rattle.std.specs.Prelude.{nat_le}
 use Rattle.lower.proofs.WordOperations.{Touches, moves, makes_tuple, takes_part}
+use Rattle.lower.proofs.SimulationWay.{room_over, stays_in}
 use Rattle.lower.proofs.SimulationWay.{Settled, settled}
 use Rattle.lower.proofs.SimulationWay.{mode_of}
 use Rattle.lower.proofs.SimulationWay.{Program, R, Follows, FollowsFrom, next_state, Way, turn_goal, Allowed}
@@ -79,7 +80,7 @@ pub goes_wrong : (program : Program) (f : FlatState program.meaning.Cast) (place
     (words : Locals) (code : Code) → Follows program f NoNext (at f.world h waiting size rests words code)
 goes_wrong program f places objects h filled waiting size rests words code =
     let t = at f.world h waiting size rests words code in
-    here program.setting (Way program f (next_state program f NoNext) h.words)
+    here program.setting (Way program f (next_state program f NoNext) h.words (room_over program size waiting))
     (turn_goal program f (next_state program f NoNext) t) t (
       0,
       inr (inl (record {
@@ -101,7 +102,7 @@ wrong_by program f own places objects h filled waiting size rests words code =
     let t = at f.world h waiting size rests words code in
     let f' = next_state program f NoNext in (
       left_of program.setting t,
-      arrives program f f' h.words own (left_of program.setting t) t
+      arrives program f f' h.words (room_over program size waiting) own (left_of program.setting t) t
           (left_of program.setting t) t (
             0,
             inr (inl (record {
@@ -222,7 +223,9 @@ module _ (program : Program) (typed : TypesStand program.l) where
     goal_of code v = turn_goal program f (next_state program f (after v)) (start_of code)
 
     abbrev pub scene_of : Code → FlatValue program.meaning.Cast → Scene
-    scene_of code v = scene_for program f (next_state program f (after v)) h.words (goal_of code v) places
+    scene_of code v =
+        scene_for program f (next_state program f (after v)) h.words (room_over program size waiting) (goal_of code v)
+        places
 
     abbrev pub FittingHere : Then → Code → Type 0
     FittingHere next code = Fitting program places objects f s size next code
@@ -234,7 +237,7 @@ module _ (program : Program) (typed : TypesStand program.l) where
         → FollowsFrom program f (after v) (at f.world h waiting size rests words code)
         (at f.world h waiting size rests new (code_for program places objects s next))
     put code fitting v w new c e touches =
-        here program.setting (Way program f (next_state program f (after v)) h.words)
+        here program.setting (Way program f (next_state program f (after v)) h.words (room_over program size waiting))
         (turn_goal program f (next_state program f (after v)) (at f.world h waiting size rests words code))
         (at f.world h waiting size rests new (code_for program places objects s next)) (
           due_for program places objects next,
@@ -274,10 +277,11 @@ module _ (program : Program) (typed : TypesStand program.l) where
             let dear = fetch_price program.setting.procs size s six (operand_word s 0)
             (computing_near program.setting.procs size s six 0 (omega arith)) o k in
             fetch_reads (scene_of code (value locals group o)) f.world h (as_before code (value locals group o))
-            objects filled waiting size rests s count
+            objects filled waiting size (stays_in program size waiting) rests s count
             group depth locals o (operand_word s 0) bound (omega (arith, room)) words fits.knows k
             (λ w new carried is changed.
-            here program.setting (Way program f (next_state program f (after (value locals group o))) h.words)
+            here program.setting (Way program f (next_state program f (after (value locals group o))) h.words
+            (room_over program size waiting))
             (goal_of code (value locals group o))
             (at f.world h waiting size rests new k) (
               28,
@@ -305,7 +309,7 @@ module _ (program : Program) (typed : TypesStand program.l) where
             let code = give program.run s (Move o) (Into d k) in
             let dear = move_price program.setting.procs size s six program.run d o k in
             moves (scene_of code (value locals group o)) f.world h (as_before code (value locals group o)) objects
-            filled waiting size rests s count group
+            filled waiting size (stays_in program size waiting) rests s count group
             depth locals room words fits.knows o d bound lt k
             (λ w new carried e touches. put code (record {
               begins = perform_begins program.run s d (Move o) k;
@@ -329,7 +333,8 @@ module _ (program : Program) (typed : TypesStand program.l) where
         let little = due_little program places objects next in
         makes_tuple (scene_of code (RunTuple (in_row (values locals group os)))) f.world h
         (as_before code (RunTuple (in_row (values locals group os)))) objects filled waiting
-        size rests s count group depth locals room words fits.knows os (word_for program places objects s next) bound
+        size (stays_in program size waiting) rests s count group depth locals room words fits.knows os
+        (word_for program places objects s next) bound
         word_less (code_for program places objects s next) (inl (refl, omega (arith, asked)))
         (omega (arith, dear, enough))
         (λ more h' filled' below still w new carried e touches.
@@ -345,7 +350,8 @@ module _ (program : Program) (typed : TypesStand program.l) where
         (λ frames c. callers_later program.setting program.l program.run program.procs program.answer program.meaning
         program.laws places
         objects more waiting frames c) s count size group depth f.frames next rests words rest in
-        here program.setting (Way program f (next_state program f (after v)) h.words) (goal_of code v)
+        here program.setting (Way program f (next_state program f (after v)) h.words (room_over program size waiting))
+        (goal_of code v)
         (at f.world h' waiting size rests new k) (
           due_for program places objects next,
           settle places (objects ++ more) h' f.world filled' f.store f.frames cells' v waiting size rests new k
@@ -369,7 +375,7 @@ module _ (program : Program) (typed : TypesStand program.l) where
     part_turns o i bound six enough bare =
         by_value (value locals group o) i refl (value_carried (scene_of (code i) RunUnit) f.world h
         (as_before (code i) RunUnit) objects filled
-        waiting size rests s count group depth locals o bound words fits.knows)
+        waiting size (stays_in program size waiting) rests s count group depth locals o bound words fits.knows)
       where
         code : ℤ → Code
         code i = perform program.run s (word_for program places objects s next) (Proj o i)
@@ -386,7 +392,7 @@ module _ (program : Program) (typed : TypesStand program.l) where
             let dear = proj_price program.setting.procs size s six program.run d o (pos i) k in
             let little = due_little program places objects next in
             takes_part (scene_of (code (pos i)) v) f.world h (as_before (code (pos i)) v) objects filled waiting size
-            rests s count group depth locals
+            (stays_in program size waiting) rests s count group depth locals
             room words fits.knows o i (word_for program places objects s next) bound word_less
             (code_for program places objects s next) vs v is e
             (λ w new carried e touches. put (code (pos i)) (record {

@@ -29,6 +29,7 @@ use Rattle.flat_ir.specs.Machine.{FlatValue, FlatState, FlatAfter, Group, Locals
 use Rattle.flat_ir.specs.Machine.{flat_arity, flat_entered, value, values, flat_operate}
 use Rattle.coercion_norm.specs.Held.{TypesStand}
 use Rattle.coercion_norm.specs.Objects.{Object}
+use Rattle.rt_cast.specs.Frames.{stack_room}
 use Rattle.rt_cast.specs.States.{Heap}
 use Rattle.lower.specs.Storage.{Filled}
 use Rattle.lower.specs.declared.numbering.Shape.{Shape}
@@ -56,6 +57,7 @@ use Rattle.grift_base.specs.World.{WorldState}
 use Rattle.lower.specs.SimulationServices.{product_price}
 use Rattle.lower.proofs.WordServices.{heap_same}
 use Rattle.lower.proofs.WordOperators.{multiplies, divides, leaves, traps}
+use Rattle.lower.proofs.SimulationWay.{room_over, stays_in, serves_in}
 use Rattle.lower.proofs.SimulationWay.{Seen, Stopping}
 use Rattle.lower.proofs.WordArithmetic.{le_turned}
 use Rattle.lower.proofs.WordOperations.{Touches}
@@ -228,7 +230,8 @@ module _ (program : Program) (typed : TypesStand program.l)
 
   abbrev scene_by : PrimOp → List Operand → FlatValue program.meaning.Cast → Scene
   scene_by op os v =
-      scene_for program f (valued v) h.words (turn_goal program f (valued v) (start_of op os)) places
+      scene_for program f (valued v) h.words (room_over program size waiting) (turn_goal program f (valued v)
+      (start_of op os)) places
 
   as_before : (f' : FlatState program.meaning.Cast) → Allowed program f f' h.words f.world h.words
   as_before f' = at_start program f f' f.world h.words refl
@@ -244,55 +247,55 @@ module _ (program : Program) (typed : TypesStand program.l)
   add : TwoInts Add (λ a b. On (Return (RunInt (int_wrap w64 (a +ℤ b)))) f.frames f.store f.world)
   add o p a b ea eb bound =
       adds (scene_by Add (o ∷ p ∷ []) (RunInt (int_wrap w64 (a +ℤ b)))) f.world h
-      (as_before (valued (RunInt (int_wrap w64 (a +ℤ b))))) objects filled waiting size rests s count group depth
-      locals wide
+      (as_before (valued (RunInt (int_wrap w64 (a +ℤ b))))) objects filled waiting size (stays_in program size waiting)
+      rests s count group depth locals wide
       words fits.knows o p a b ea eb bound d less_than_size k
       (λ w new c e touches. gives Add (o ∷ p ∷ []) (omega arith) (RunInt (int_wrap w64 (a +ℤ b))) w new c e touches)
 
   subtract : TwoInts Sub (λ a b. On (Return (RunInt (int_wrap w64 (a -ℤ b)))) f.frames f.store f.world)
   subtract o p a b ea eb bound =
       subtracts (scene_by Sub (o ∷ p ∷ []) (RunInt (int_wrap w64 (a -ℤ b)))) f.world h
-      (as_before (valued (RunInt (int_wrap w64 (a -ℤ b))))) objects filled waiting size rests s count group depth
-      locals wide
+      (as_before (valued (RunInt (int_wrap w64 (a -ℤ b))))) objects filled waiting size (stays_in program size waiting)
+      rests s count group depth locals wide
       words fits.knows o p a b ea eb bound d less_than_size k
       (λ w new c e touches. gives Sub (o ∷ p ∷ []) (omega arith) (RunInt (int_wrap w64 (a -ℤ b))) w new c e touches)
 
   less_than : TwoInts Lt (λ a b. On (Return (RunBool (int_lt a b))) f.frames f.store f.world)
   less_than o p a b ea eb bound =
       less (scene_by Lt (o ∷ p ∷ []) (RunBool (int_lt a b))) f.world h
-      (as_before (valued (RunBool (int_lt a b)))) objects filled waiting size rests s count group
-      depth locals wide
+      (as_before (valued (RunBool (int_lt a b)))) objects filled waiting size (stays_in program size waiting) rests s
+      count group depth locals wide
       words fits.knows o p a b ea eb bound d less_than_size k
       (λ w new c e touches. gives Lt (o ∷ p ∷ []) (omega arith) (RunBool (int_lt a b)) w new c e touches)
 
   greater_than : TwoInts Gt (λ a b. On (Return (RunBool (int_lt b a))) f.frames f.store f.world)
   greater_than o p a b ea eb bound =
       greater (scene_by Gt (o ∷ p ∷ []) (RunBool (int_lt b a))) f.world h
-      (as_before (valued (RunBool (int_lt b a)))) objects filled waiting size rests s count group depth locals wide
-      words fits.knows o p a b ea eb bound d less_than_size k
+      (as_before (valued (RunBool (int_lt b a)))) objects filled waiting size (stays_in program size waiting) rests s
+      count group depth locals wide words fits.knows o p a b ea eb bound d less_than_size k
       (λ w new c e touches. gives Gt (o ∷ p ∷ []) (omega arith) (RunBool (int_lt b a)) w new c e touches)
 
   not_above : TwoInts Le (λ a b. On (Return (RunBool (not (int_lt b a)))) f.frames f.store f.world)
   not_above o p a b ea eb bound =
       at_most (scene_by Le (o ∷ p ∷ []) (RunBool (not (int_lt b a)))) f.world h
-      (as_before (valued (RunBool (not (int_lt b a))))) objects filled waiting size rests s count group depth
-      locals wide
+      (as_before (valued (RunBool (not (int_lt b a))))) objects filled waiting size (stays_in program size waiting)
+      rests s count group depth locals wide
       words fits.knows o p a b ea eb bound d less_than_size k
       (λ w new c e touches. gives Le (o ∷ p ∷ []) (omega arith) (RunBool (not (int_lt b a))) w new c e touches)
 
   not_below : TwoInts Ge (λ a b. On (Return (RunBool (not (int_lt a b)))) f.frames f.store f.world)
   not_below o p a b ea eb bound =
       at_least (scene_by Ge (o ∷ p ∷ []) (RunBool (not (int_lt a b)))) f.world h
-      (as_before (valued (RunBool (not (int_lt a b))))) objects filled waiting size rests s count group depth
-      locals wide
+      (as_before (valued (RunBool (not (int_lt a b))))) objects filled waiting size (stays_in program size waiting)
+      rests s count group depth locals wide
       words fits.knows o p a b ea eb bound d less_than_size k
       (λ w new c e touches. gives Ge (o ∷ p ∷ []) (omega arith) (RunBool (not (int_lt a b))) w new c e touches)
 
   same_as : TwoInts Equal (λ a b. On (Return (RunBool (int_eq a b))) f.frames f.store f.world)
   same_as o p a b ea eb bound =
       equal (scene_by Equal (o ∷ p ∷ []) (RunBool (int_eq a b))) f.world h
-      (as_before (valued (RunBool (int_eq a b)))) objects filled waiting size rests s count group
-      depth locals wide
+      (as_before (valued (RunBool (int_eq a b)))) objects filled waiting size (stays_in program size waiting) rests s
+      count group depth locals wide
       words fits.knows o p a b ea eb bound d less_than_size k
       (λ w new c e touches. gives Equal (o ∷ p ∷ []) (omega arith) (RunBool (int_eq a b)) w new c e touches)
 
@@ -317,7 +320,7 @@ module _ (program : Program) (typed : TypesStand program.l)
       (λ b e. let t = one_operand locals group os (RunBool b) e in
       subst (λ l. Does Not l (On (Return (RunBool (not b))) f.frames f.store f.world)) (sym t.1)
       (negates (scene_by Not (t.0 ∷ []) (RunBool (not b))) f.world h (as_before (valued (RunBool (not b)))) objects
-      filled waiting size rests s count group depth
+      filled waiting size (stays_in program size waiting) rests s count group depth
       locals wide words fits.knows t.0 b d t.2 (bound_of (t.0 ∷ []) t.1) less_than_size k
       (λ w new c e touches. gives Not (t.0 ∷ []) (omega arith) (RunBool (not b)) w new c e touches)))
 
@@ -334,7 +337,8 @@ module _ (program : Program) (typed : TypesStand program.l)
   gives_in op os le v w world' new c e touches =
       let f' = next_state program f (On (Return v) f.frames f.store world') in
       let fit = fitting op os le in
-      here program.setting (Way program f f' h.words) (turn_goal program f f' (start_of op os))
+      here program.setting (Way program f f' h.words (room_over program size waiting)) (turn_goal program f f'
+      (start_of op os))
       (at world' h waiting size rests new k) (
         due_for program places objects next,
         settle program typed places objects h world' filled f.store f.frames cells v waiting
@@ -352,7 +356,8 @@ module _ (program : Program) (typed : TypesStand program.l)
   gives_unit op os le bytes new e touches = gives_in op os le RunUnit 0 (printing bytes f.world) new refl e touches
 
   abbrev scene_in : PrimOp → List Operand → FlatState program.meaning.Cast → Scene
-  scene_in op os f' = scene_for program f f' h.words (turn_goal program f f' (start_of op os)) places
+  scene_in op os f' =
+      scene_for program f f' h.words (room_over program size waiting) (turn_goal program f f' (start_of op os)) places
 
   turns_print : Does PrintInt os (run_on_int (mode_of program) (flat_arity program.procs) (flat_entered program.procs)
       f.store f.world (λ a. printed (signed_decimal a)) (values locals group os))
@@ -362,8 +367,8 @@ module _ (program : Program) (typed : TypesStand program.l)
       subst (λ l. Does PrintInt l (printed (signed_decimal a))) (sym t.1)
       (prints_int (scene_in PrintInt (t.0 ∷ []) (next_state program f (printed (signed_decimal a)))) f.world h
       (as_before (next_state program f (printed (signed_decimal a)))) objects filled
-      waiting size rests s count group depth locals wide words fits.knows t.0 a d t.2 (bound_of (t.0 ∷ []) t.1)
-      less_than_size k (inr (refl, le_refl h.words))
+      waiting size (stays_in program size waiting) rests s count group depth locals wide words fits.knows t.0 a d t.2
+      (bound_of (t.0 ∷ []) t.1) less_than_size k (inr (refl, le_refl h.words))
       (λ new e touches. gives_unit PrintInt (t.0 ∷ []) (omega arith) (signed_decimal a) new e touches)))
 
   turns_line : (vs : List (FlatValue program.meaning.Cast)) → values locals group os ≡ vs
@@ -374,7 +379,8 @@ module _ (program : Program) (typed : TypesStand program.l)
       subst (λ l. Does Newline l (printed (codes "\n"))) (sym (no_operand locals group os e))
       (prints_newline (scene_in Newline [] (next_state program f (printed (codes "\n")))) f.world h
       (as_before (next_state program f (printed (codes "\n")))) objects filled
-      waiting size rests s count group depth locals wide words fits.knows d less_than_size k
+      waiting size (stays_in program size waiting) rests s count group depth locals wide words fits.knows d
+      less_than_size k
       (inr (refl, le_refl h.words)) (λ new e touches. gives_unit Newline [] (omega arith) (codes "\n") new e touches))
 
   -- ---- reading
@@ -418,13 +424,16 @@ module _ (program : Program) (typed : TypesStand program.l)
   turns_read_by (Some n) e =
       reads_int (scene_in ReadInt [] (next_state program f (number_read n))) f.world h
       (as_before (next_state program f (number_read n))) objects filled
-      waiting size rests s count group depth locals wide words fits.knows n d e less_than_size k
+      waiting size (stays_in program size waiting) rests s count group depth locals wide words fits.knows n d e
+      less_than_size k
       (inr (refl, le_refl h.words))
       (λ new g touches. gives_number n (int_wrap_fits w64 n (next_number_fits f.world n e)) new g touches)
   turns_read_by None e =
-      reads_none (scene_in ReadInt [] no_number) f.world h (as_before no_number) objects filled waiting size rests s
+      reads_none (scene_in ReadInt [] no_number) f.world h (as_before no_number) objects filled waiting size
+      (stays_in program size waiting) rests s
       count group depth locals wide words fits.knows d e k (inl (refl, omega arith))
-      (here program.setting (Way program f no_number h.words) (turn_goal program f no_number (start_of ReadInt [])) _ (
+      (here program.setting (Way program f no_number h.words (room_over program size waiting)) (turn_goal program f
+      no_number (start_of ReadInt [])) _ (
         0,
         inr (inl (record {
           seen = record { output = refl; filling = (objects, filled) };
@@ -435,7 +444,7 @@ module _ (program : Program) (typed : TypesStand program.l)
             price = 0;
             small = omega arith;
             cheap = omega arith;
-            reach = (traps_input _ _, le_refl h.words);
+            reach = (traps_input _ _, le_refl h.words, le_refl _);
           };
         })),
         record {
@@ -468,18 +477,21 @@ module _ (program : Program) (typed : TypesStand program.l)
   }
 
   abbrev product_scene : PrimOp → List Operand → FlatState program.meaning.Cast → Scene
-  product_scene op os f' = scene_for program f f' h.words (product_goal op os f') places
+  product_scene op os f' =
+      scene_for program f f' h.words (room_over program size waiting) (product_goal op os f') places
 
   gives_product : (op : PrimOp) (o p : Operand) → 32768 ≤ budget_of program f
       → (v : FlatValue program.meaning.Cast) (w : ℕ) (new : Locals)
       → CarriedHere program places objects v w → new d ≡ Some w → Touches s d words new
-      → Comes program.setting (Way program f (valued v) h.words) (plain (product_goal op (o ∷ p ∷ []) (valued v)))
+      → Comes program.setting (Way program f (valued v) h.words (room_over program size waiting))
+      (plain (product_goal op (o ∷ p ∷ []) (valued v)))
       (at f.world h waiting size rests new k)
   gives_product op o p big v w new c e touches =
       let f' = valued v in
       let dear = prim_price program.setting.procs size s six program.run d op (o ∷ p ∷ []) (omega arith) k in
       let little = due_little program places objects next in
-      here program.setting (Way program f f' h.words) (plain (product_goal op (o ∷ p ∷ []) f'))
+      here program.setting (Way program f f' h.words (room_over program size waiting)) (plain (product_goal op
+      (o ∷ p ∷ []) f'))
       (at f.world h waiting size rests new k) (
         due_for program places objects next,
         settle program typed places objects h f.world filled f.store f.frames cells v waiting
@@ -493,7 +505,7 @@ module _ (program : Program) (typed : TypesStand program.l)
 
   -- a goal that is reached by what may be paid besides
   by_all : (op : PrimOp) (os : List Operand) (x : FlatAfter program.meaning.Cast)
-      → Comes program.setting (Way program f (next_state program f x) h.words)
+      → Comes program.setting (Way program f (next_state program f x) h.words (room_over program size waiting))
       (product_goal op os (next_state program f x)) (start_of op os) → FollowsBy program f x 0 (start_of op os)
   by_all op os x c = (left_of program.setting (start_of op os) + (product_price + 28), c)
 
@@ -505,9 +517,9 @@ module _ (program : Program) (typed : TypesStand program.l)
       let v = RunInt (int_wrap w64 (a *ℤ b)) in
       by_all Mul (o ∷ p ∷ []) (On (Return v) f.frames f.store f.world)
       (multiplies (product_scene Mul (o ∷ p ∷ []) (valued v)) f.world h (as_before (valued v)) objects filled waiting
-      size rests s
+      size (stays_in program size waiting) rests s
       count group depth locals wide words fits.knows program.products o p a b ea eb bound d k (omega arith)
-      less_than_size
+      (serves_in program size waiting) less_than_size
       (λ w new c e touches. gives_product Mul o p big v w new c e touches))
 
   -- ---- a divisor 0
@@ -558,6 +570,7 @@ module _ (program : Program) (typed : TypesStand program.l)
                 seen = quiet_seen s0 r.last r.stays refl filled;
               },
               le_refl t.words,
+              le_refl (stack_room t),
             );
           };
         })),
@@ -593,15 +606,16 @@ module _ (program : Program) (typed : TypesStand program.l)
       by_divisor true e =
           by_all Quot (o ∷ p ∷ []) (TrapOf ZeroDivisor f.world)
           (traps (product_scene Quot (o ∷ p ∷ []) trapped) f.world h (as_before trapped) objects filled waiting size
-          rests s count group depth locals wide words
-          fits.knows program.products o p a b ea eb bound d k (omega arith) 0 (omega arith) e (trap_floor Quot o p big)
+          (stays_in program size waiting) rests s count group depth locals wide words
+          fits.knows program.products o p a b ea eb bound d k (omega arith) (serves_in program size waiting) 0
+          (omega arith) e (trap_floor Quot o p big)
           (λ new t r. traps_here Quot o p big new t r))
       by_divisor false e =
           by_all Quot (o ∷ p ∷ []) (On (Return v) f.frames f.store f.world)
           (divides (product_scene Quot (o ∷ p ∷ []) (valued v)) f.world h (as_before (valued v)) objects filled waiting
-          size rests
-          s count group depth locals wide words fits.knows program.products o p a b ea eb bound d k (omega arith) e
-          less_than_size
+          size (stays_in program size waiting) rests
+          s count group depth locals wide words fits.knows program.products o p a b ea eb bound d k (omega arith)
+          (serves_in program size waiting) e less_than_size
           (λ w new c q touches. gives_product Quot o p big v w new c q touches))
 
   left_over : 32768 ≤ budget_of program f → (o p : Operand) (a b : ℤ) → value locals group o ≡ RunInt a
@@ -619,14 +633,16 @@ module _ (program : Program) (typed : TypesStand program.l)
       by_divisor true e =
           by_all Rem (o ∷ p ∷ []) (TrapOf ZeroDivisor f.world)
           (traps (product_scene Rem (o ∷ p ∷ []) trapped) f.world h (as_before trapped) objects filled waiting size
-          rests s count group depth locals wide words
-          fits.knows program.products o p a b ea eb bound d k (omega arith) 1 (omega arith) e (trap_floor Rem o p big)
+          (stays_in program size waiting) rests s count group depth locals wide words
+          fits.knows program.products o p a b ea eb bound d k (omega arith) (serves_in program size waiting) 1
+          (omega arith) e (trap_floor Rem o p big)
           (λ new t r. traps_here Rem o p big new t r))
       by_divisor false e =
           by_all Rem (o ∷ p ∷ []) (On (Return v) f.frames f.store f.world)
           (leaves (product_scene Rem (o ∷ p ∷ []) (valued v)) f.world h (as_before (valued v)) objects filled waiting
-          size rests s count group
-          depth locals wide words fits.knows program.products o p a b ea eb bound d k (omega arith) e less_than_size
+          size (stays_in program size waiting) rests s count group
+          depth locals wide words fits.knows program.products o p a b ea eb bound d k (omega arith)
+          (serves_in program size waiting) e less_than_size
           (λ w new c q touches. gives_product Rem o p big v w new c q touches))
 
   in_place : (op' : PrimOp) (x : FlatAfter program.meaning.Cast) → Does op' os x

@@ -27,7 +27,7 @@ use Rattle.lower.specs.Numbering.{operand_word, test_word}
 use Rattle.lower.specs.Emit.{Then, perform, part, found, fetch_all, found_all, of_kind}
 use Rattle.lower.specs.CarriedValues.{AreCarried, CellsHeld}
 use Rattle.lower.specs.RelatedStates.{Fits, Falls}
-use Rattle.lower.specs.SchemeLaws.{Spent, Goes, Returns, Answers, part_leaves}
+use Rattle.lower.specs.SchemeLaws.{Goes, Returns, Answers, part_leaves}
 use Rattle.lower.specs.Meanings.{IsWrapper}
 use Rattle.lower.proofs.HeapObjects.{none_some, same_some}
 use Rattle.lower.proofs.WordSteps.{at, waiting_for}
@@ -40,6 +40,7 @@ use Rattle.std.proofs.Common.{length}
 use Rattle.lower.proofs.WordOperands.{value_carried, Changes, ChangesFrom, both_words, found_all_same}
 use Rattle.lower.proofs.WordOperations.{Touches, not_computed}
 use Rattle.lower.proofs.SimulationWay.{Program, mode_of, prices_of, next_state, cost_of, waiting_dues, due_same}
+use Rattle.lower.proofs.SimulationWay.{room_over, stays_in}
 use Rattle.lower.proofs.SimulationGives.{CarriedHere, RestHere, word_for, code_for}
 use Rattle.lower.proofs.SimulationOperations.{room, word_less}
 use Rattle.lower.proofs.SimulationServed.{silent_after}
@@ -101,9 +102,9 @@ module _ (program : Program) (typed : TypesStand program.l)
   carried_now : (w : ℕ) × CarriedHere program places objects (value locals group o) w
   carried_now =
       value_carried (serving_scene program typed f places (flat_proj program.procs (mode_of program) f.store f.world
-      (value locals group o) (pos 0) f.frames) 0 0 0 0 h.words) f.world h
-      (as_it_was program f h.words) objects filled waiting size rests s count group depth
-      locals o bound words fits.knows
+      (value locals group o) (pos 0) f.frames) 0 0 0 0 h.words (room_over program size waiting)) f.world h
+      (as_it_was program f h.words) objects filled waiting size (stays_in program size waiting) rests s count group
+      depth locals o bound words fits.knows
 
   touched_all : (new : Locals) → ChangesFrom (operand_word s 0) 1 words new
       → Touches s (word_for program places objects s next) words new
@@ -127,20 +128,20 @@ module _ (program : Program) (typed : TypesStand program.l)
   Lawful x part_word which label =
       (waits : List LowWaiting) (n : ℕ) (rr : List Code) (now : Locals) (code : Code) (w : ℕ)
       → CarriedHere program places objects (value locals group o) w
-      → (most : Spent) × Answers program.meaning program.setting program.l program.procs program.casts program.measured
-      (at f.world h waits n rr now code) most part_leaves places objects f.frames x (cost_of program f) program.number 0
+      → Answers program.meaning program.setting program.l program.procs program.casts program.measured
+      (at f.world h waits n rr now code) part_leaves places objects f.frames x (cost_of program f) program.number 0
       (entered (at f.world h waits n rr now code) program.parts.proc (w ∷ part_word ∷ which ∷ label ∷ []))
 
   silent : (x : FlatAfter program.meaning.Cast) (part_word which label : ℕ) → Lawful x part_word which label
       → (next_state program f x).world.output ≡ f.world.output
   silent x part_word which label law =
       let z = law waiting size rests words (perform program.run s d operation k) carried_now.0 carried_now.1 in
-      silent_after program t0 z.0 (Goes program.meaning program.setting program.l program.procs program.casts
-      program.measured t0 z.0
+      silent_after program t0 (Goes program.meaning program.setting program.l program.procs program.casts
+      program.measured t0
       (Returns program.meaning program.setting program.l program.procs program.casts program.measured t0 part_leaves
       places objects f.frames)
-      z.1.0) f refl x (cost_of program f) 0 program.number 0
-      (entered t0 program.parts.proc (carried_now.0 ∷ part_word ∷ which ∷ label ∷ [])) z.1.1
+      z.0) f refl x (cost_of program f) 0 program.number 0
+      (entered t0 program.parts.proc (carried_now.0 ∷ part_word ∷ which ∷ label ∷ [])) z.1
 
   -- the call of the procedure, whatever stands behind it
   calls_part : (x : FlatAfter program.meaning.Cast) (part_word which label : ℕ) → Lawful x part_word which label
@@ -157,7 +158,7 @@ module _ (program : Program) (typed : TypesStand program.l)
       called program typed f places objects h filled cells waiting size rests words s count depth group next rest
       less falls behind rr fall new touches part_leaves have 194 (omega (arith, one)) (omega (arith, one)) x 0
       program.run.project args (w ∷ part_word ∷ which ∷ label ∷ [])
-      program.parts.proc 4 are program.parts.stands refl z.0 z.1.0 z.1.1
+      program.parts.proc 4 are program.parts.stands refl z.0 z.1
 
   -- the turn is served, where its code costs no more
   part_is_served : (x : FlatAfter program.meaning.Cast) (code : Code) → is_last code ≡ false
@@ -192,8 +193,8 @@ module _ (program : Program) (typed : TypesStand program.l)
 
     dyn_law : Lawful dyn_after (cast_unsigned w64 i % 2 ^ 64) 0 label
     dyn_law waits n rr now code w carried =
-        subst (λ cost. (most : Spent) × Answers program.meaning program.setting program.l program.procs program.casts
-        program.measured (at f.world h waits n rr now code) most part_leaves places objects f.frames dyn_after cost
+        subst (λ cost. Answers program.meaning program.setting program.l program.procs program.casts
+        program.measured (at f.world h waits n rr now code) part_leaves places objects f.frames dyn_after cost
         program.number 0 (entered (at f.world h waits n rr now code) program.parts.proc
         (w ∷ cast_unsigned w64 i % 2 ^ 64 ∷ 0 ∷ label ∷ []))) cost_is
         (program.parts.gives_dyn (at f.world h waits n rr now code) program.number places objects f.store
@@ -240,12 +241,12 @@ module _ (program : Program) (typed : TypesStand program.l)
 
     part_law : Lawful part_after (cast_unsigned w64 i % 2 ^ 64) 1 0
     part_law waits n rr now code w carried =
-        subst (λ cost. (most : Spent) × Answers program.meaning program.setting program.l program.procs program.casts
-        program.measured (at f.world h waits n rr now code) most part_leaves places objects f.frames part_after cost
+        subst (λ cost. Answers program.meaning program.setting program.l program.procs program.casts
+        program.measured (at f.world h waits n rr now code) part_leaves places objects f.frames part_after cost
         program.number 0 (entered (at f.world h waits n rr now code) program.parts.proc
         (w ∷ cast_unsigned w64 i % 2 ^ 64 ∷ 1 ∷ 0 ∷ []))) cost_is
-        (subst (λ v. (most : Spent) × Answers program.meaning program.setting program.l program.procs program.casts
-        program.measured (at f.world h waits n rr now code) most part_leaves places objects f.frames
+        (subst (λ v. Answers program.meaning program.setting program.l program.procs program.casts
+        program.measured (at f.world h waits n rr now code) part_leaves places objects f.frames
         (flat_proj program.procs (mode_of program) f.store f.world v i f.frames)
         (act_cost program.procs (mode_of program) (prices_of program)) program.number 0
         (entered (at f.world h waits n rr now code) program.parts.proc
@@ -298,9 +299,11 @@ module _ (program : Program) (typed : TypesStand program.l)
             (λ last more.
             let still : word_of last a ≡ Some w =
             one_word (word_of last a) w
-            (found_all_same (serving_scene program typed f places part_after 0 0 0 0 h.words) f.world h
+            (found_all_same (serving_scene program typed f places part_after 0 0 0 0 h.words
+            (room_over program size waiting)) f.world h
             (as_it_was program f h.words) objects filled waiting
-            size rests s count group depth locals (o ∷ []) 0 all_bound (omega arith) new last more ∙ are) in
+            size (stays_in program size waiting) rests s count group depth locals (o ∷ []) 0 all_bound (omega arith) new
+            last more ∙ are) in
             let part_word : n % 2 ^ 64 ≡ cast_unsigned w64 i % 2 ^ 64 = ap (λ z. cast_unsigned w64 z % 2 ^ 64) (sym e)
             in
             let t = at f.world h waiting size (k ∷ rests) last

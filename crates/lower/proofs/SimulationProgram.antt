@@ -1,6 +1,6 @@
 -- Lowered programs, as the simulation is told them.
 use Rattle.core_calc.specs.Account.{Measures}
-use Rattle.std.specs.Prelude.{max}
+use Rattle.std.specs.Prelude.{max, All, ◌≤◌}
 use Rattle.std.proofs.Common.{le_refl, arith}
 use Rattle.lower.specs.Keeping.{FitsMeasures, KeepsFlat, PaysFlat}
 use Rattle.std.proofs.Common.{◌≡◌, ℕ, zero, suc, List, [], ◌∷◌, ◌++◌, length, Some, true, sym, ap, ◌∙◌, subst}
@@ -97,14 +97,16 @@ module _ (meaning : Meaning) (laws : MeaningLaws meaning) (setting : Setting) (l
   unfolding program
   by_layout typed input never = words_follow program typed entry both.0 memory is.statics is.fits input never
 
-  keeps_by_layout : TypesStand l → (input : List ℕ)
+  keeps_by_layout : TypesStand l → (most : ℕ) → All (λ (p : LowProc). p.words ≤ most) setting.procs
+      → (input : List ℕ)
       → NeverWrong (flat_run_in procs entry (meaning.mode l.types casts) told input)
-      → FollowsWithin (KeepsFlat setting) PaysFlat
+      → FollowsWithin (KeepsFlat setting (meaning.serving l) most) PaysFlat
       (run (metered (low_price setting.procs) (low_machine ending_of setting))
       (unspent (low_start setting (entry_proc entry answer) memory (first_world input))))
       (flat_tally_in procs entry (meaning.mode l.types casts) (meaning.prices l.types casts m) told input)
   unfolding program
-  keeps_by_layout typed input never = words_keep program typed entry both.0 memory is.statics is.fits input never
+  keeps_by_layout typed most sized input never =
+      words_keep program typed most sized entry both.0 memory is.statics is.fits input never
 
 -- measures that fit a layout
 fitting : Layout → Measures
@@ -112,7 +114,7 @@ fitting l = record { size = 0; height = l.tallest; width = max 2 l.width }
 
 it_fits : (l : Layout) → FitsMeasures l (fitting l)
 unfolding fitting
-it_fits l = record { wide = grind arith; some = grind arith; tall = le_refl l.tallest }
+it_fits l = record { wide = grind arith; two = grind arith; tall = le_refl l.tallest }
 
 -- for every scheme that owes what the law asks of it
 pub words_follow_by : (meaning : Meaning) → MeaningLaws meaning → (procs_from : ℕ → List LowProc)
@@ -138,17 +140,18 @@ pub words_keep_by : (meaning : Meaning) → MeaningLaws meaning → (procs_from 
     (numbers_from : ℕ → Served) → ServesEverywhere meaning procs_from numbers_from
     → WordsKeep meaning procs_from numbers_from
 words_keep_by meaning laws procs_from numbers_from serves = λ setting l words procs entry answer memory told casts m
-    input is small labels row types typed fits held closed covered narrow never.
+    most input is small labels row types typed fits held closed covered narrow sized never.
     let first = suc (length procs) in
     let run_by = with_casts (numbers_from first) words (cast_ways l.types casts) in
     let stand : StandFrom setting.procs first (procs_from first) =
     subst (λ ps. StandFrom ps first (procs_from first)) (sym is.procs_are)
     (stand_behind run_by procs entry answer (procs_from first)) in
-    subst (λ rows. FollowsWithin (KeepsFlat setting) PaysFlat
+    subst (λ rows. FollowsWithin (KeepsFlat setting (meaning.serving l) most) PaysFlat
     (run (metered (low_price setting.procs) (low_machine ending_of setting))
     (unspent (low_start setting (entry_proc entry answer) memory (first_world input))))
     (flat_tally_in procs entry (meaning.mode rows casts) (meaning.prices rows casts m) told input)) (sym types)
     (keeps_by_layout meaning laws setting l run_by procs entry answer (procs_from first) memory told casts is labels row
     closed covered narrow types m
-    (serves setting l procs casts m first words fits is.placed is.begins small typed held stand) typed input
+    (serves setting l procs casts m first words fits is.placed is.begins small typed held stand) typed most sized
+    input
     (subst (λ rows. NeverWrong (flat_run_in procs entry (meaning.mode rows casts) told input)) types never))

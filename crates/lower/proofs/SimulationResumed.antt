@@ -13,10 +13,11 @@ use Rattle.coercion_norm.specs.Objects.{Object}
 use Rattle.flat_ir.specs.Counts.{decision_at}
 use Rattle.flat_ir.specs.Machine.{FlatValue, FlatFrame, FlatFocus, FlatAfter, FlatState, FlatStore, flat_cast}
 use Rattle.flat_ir.specs.Machine.{flat_state_at}
+use Rattle.rt_cast.specs.Frames.{frame_room, waiting_room, stack_room}
 use Rattle.rt_cast.specs.States.{Heap, heap_of}
 use Rattle.lower.specs.Storage.{Filled}
 use Rattle.lower.specs.CarriedValues.{CellsHeld}
-use Rattle.lower.specs.SchemeLaws.{Spent, Goes, Returns, ReturnsAt, Answers, resumed_leaves}
+use Rattle.lower.specs.SchemeLaws.{Goes, Returns, ReturnsAt, Answers, resumed_leaves}
 use Rattle.lower.proofs.RelationKept.{callers_grown}
 use Rattle.lower.proofs.WordCredits.{by_now, some_more}
 use Rattle.lower.proofs.WordSteps.{at, lt_true}
@@ -24,12 +25,13 @@ use Rattle.lower.proofs.WordServices.{return_price}
 use Rattle.low_ir.specs.Prices.{low_price}
 use Rattle.run_laws.specs.Runs.{Ending}
 use Rattle.grift_base.specs.declared.verdicts.Verdict.{Verdict}
-use Rattle.std.proofs.Common.{◌+◌, ap, Option, None, le_refl}
+use Rattle.std.proofs.Common.{◌+◌, ◌*◌, ap, Option, None, le_refl}
 use Rattle.lower.proofs.SimulationWay.{Program, N, mode_of, next_state, after_wraps, Settled, size_of, frames_weight}
-use Rattle.lower.proofs.SimulationWay.{cost_of, budget_of, dues, due_of, waiting_dues, zero_once_ended}
+use Rattle.lower.proofs.SimulationWay.{room_over, stays_in, cost_of, budget_of, dues, due_of, waiting_dues}
+use Rattle.lower.proofs.SimulationWay.{zero_once_ended}
 use Rattle.lower.proofs.SimulationGives.{CarriedHere, CallersHere}
 use Rattle.lower.proofs.SimulationOperations.{returned}
-use Rattle.lower.proofs.SimulationServed.{OnServed, Lands, SettledWith, silent_after}
+use Rattle.lower.proofs.SimulationServed.{OnServed, Lands, SettledWith, silent_after, until_ended}
 use Rattle.lower.proofs.SimulationServices.{Served, OnTurn, Landing, serve_step, kept_in_front}
 
 module _ (program : Program) (typed : TypesStand program.l) (store : FlatStore program.meaning.Cast)
@@ -52,8 +54,19 @@ module _ (program : Program) (typed : TypesStand program.l) (store : FlatStore p
   abbrev pub wraps : ℕ
   wraps = decision_wraps (decision_at program.procs (mode_of program) (Some cast) v)
 
+  -- the state before the word came in, with the procedure that waited for it
   abbrev c : LowState
-  c = at world h us size rests words (ReturnCode source)
+  c = at world h us u.rest.count u.rest.rests u.rest.locals u.rest.code
+
+  abbrev room : ℕ
+  room = room_over program size (u ∷ us)
+
+  enough : stack_room c + 25 * (1 + program.meaning.serving program.l) ≤ room
+  enough = by (frame_room size) (frame_room u.rest.count) (waiting_room us)
+      (25 * (1 + program.meaning.serving program.l))
+    where
+      by : (own other waits serving : ℕ) → other + waits + serving ≤ own + (other + waits) + own + serving
+      by own other waits serving = omega arith
 
   light : (x : FlatValue program.meaning.Cast) (k : List (FlatFrame program.meaning.Cast))
       (store' : FlatStore program.meaning.Cast)
@@ -65,18 +78,24 @@ module _ (program : Program) (typed : TypesStand program.l) (store : FlatStore p
   have = 28 + dues (at world h (u ∷ us) size rests words (ReturnCode source))
 
   lands_at : (x : FlatValue program.meaning.Cast) (store' : FlatStore program.meaning.Cast) (n left : ℕ) (t : LowState)
-      → resumed_leaves ≤ left
+      → stack_room t ≤ stack_room c + 25 * (1 + program.meaning.serving program.l) → resumed_leaves ≤ left
       → ReturnsAt program.meaning program.setting program.l program.procs program.casts program.measured c places
       objects
       x store' n t
-      → Lands program world.output n (suc (frames_weight base)) have 28 left
+      → Lands program room world.output n (suc (frames_weight base)) have 28 left
       (flat_state_at program.procs program.told (Return x) base store' world) t
-  lands_at x store' n left t le q = record {
-    comes = by_now program.setting (OnServed program world.output n n t.words)
-        (λ left u. (u.words ≤ t.words) × SettledWith program have 28 left
+  lands_at x store' n left t fits le q = record {
+    comes = by_now program.setting (OnServed program world.output n n t.words room)
+        (λ left u. (u.words ≤ t.words) × SettledWith program room have 28 left
         (flat_state_at program.procs program.told (Return x) base store' world) n u) 0 left t (omega arith) (
           le_refl t.words,
-          (28, settled, kept (flat_state_at program.procs program.told (Return x) base store' world).ended),
+          (
+            28,
+            settled,
+            kept (flat_state_at program.procs program.told (Return x) base store' world).ended,
+            until_ended (flat_state_at program.procs program.told (Return x) base store' world).ended (stack_room t)
+                room (omega (arith, fits, enough)),
+          ),
         );
     some = inr (light x base store');
   }
@@ -113,49 +132,55 @@ module _ (program : Program) (typed : TypesStand program.l) (store : FlatStore p
 
   lands : (focus : FlatFocus program.meaning.Cast) (frames : List (FlatFrame program.meaning.Cast))
       (store' : FlatStore program.meaning.Cast) (n left : ℕ) (t : LowState)
+      → stack_room t ≤ stack_room c + 25 * (1 + program.meaning.serving program.l)
       → Returns program.meaning program.setting program.l program.procs program.casts program.measured c resumed_leaves
       places objects base focus frames store' n left t
-      → Lands program world.output n (suc (frames_weight base)) have 28 left
+      → Lands program room world.output n (suc (frames_weight base)) have 28 left
       (flat_state_at program.procs program.told focus frames store' world) t
-  lands (Return x) frames store' n left t q =
-      subst (λ fs. Lands program world.output n (suc (frames_weight base)) have 28 left
+  lands (Return x) frames store' n left t fits q =
+      subst (λ fs. Lands program room world.output n (suc (frames_weight base)) have 28 left
       (flat_state_at program.procs program.told (Return x) fs store' world) t) (sym q.0)
-      (lands_at x store' n left t q.1 q.2)
-  lands (Own place) frames store' n left t q = absurd q
-  lands (Entering g done todo) frames store' n left t q = absurd q
+      (lands_at x store' n left t fits q.1 q.2)
+  lands (Own place) frames store' n left t fits q = absurd q
+  lands (Entering g done todo) frames store' n left t fits q = absurd q
 
   pub resumed : Served program typed f after wraps 28 (at world h (u ∷ us) size rests words (ReturnCode source))
   resumed = (
-    silent_after program c law.1 (Goes program.meaning program.setting program.l program.procs program.casts
-        program.measured c law.1
+    silent_after program c (Goes program.meaning program.setting program.l program.procs program.casts
+        program.measured c
         (Returns program.meaning program.setting program.l program.procs program.casts program.measured c resumed_leaves
-        places objects base) law.2.0)
+        places objects base) law.1.0)
         f refl after (cost_of program f) 0 program.number wraps
-        (record c { active = with_local u.answer w u.rest }) law.2.1,
+        (record c { active = with_local u.answer w u.rest }) law.1.1,
     28,
     omega arith,
-    some_more program.setting (OnTurn program typed f wraps h.words)
-        (Landing program typed f have 28 (next_state program f after) wraps h.words) 0
+    some_more program.setting (OnTurn program typed f wraps h.words room)
+        (Landing program typed f room have 28 (next_state program f after) wraps h.words) 0
         (low_price program.setting.procs (at world h (u ∷ us) size rests words (ReturnCode source)) + budget_of
         program f)
         (28 + budget_of program f) (at world h (u ∷ us) size rests words (ReturnCode source))
         (let z = return_price program.setting.procs size source in omega (arith, z))
-        (serve_step program typed f c refl law.1 (suc (frames_weight base)) have 28
+        (serve_step program typed f c refl room (suc (frames_weight base)) have 28 enough
         (Returns program.meaning program.setting program.l program.procs program.casts program.measured c resumed_leaves
         places objects base) lands
-        after wraps law.2.0 (at world h (u ∷ us) size rests words (ReturnCode source))
+        after wraps law.1.0 (at world h (u ∷ us) size rests words (ReturnCode source))
         (record c { active = with_local u.answer w u.rest }) step refl
-        (record { same = refl; filling = inl (objects, filled); asked = omega arith }) (record {
+        (record {
+          same = refl;
+          filling = inl (objects, filled);
+          asked = omega arith;
+          room = stays_in program size (u ∷ us);
+        }) (record {
           objects = objects;
           filled = inl filled;
           same = refl;
-          active = omega arith;
+          room = omega arith;
           asked = omega arith;
-        }) law.2.1),
+        }) law.1.1),
   )
     where
-      law : (u.answer < u.rest.count) × (most : Spent)
-          × Answers program.meaning program.setting program.l program.procs program.casts program.measured c most
+      law : (u.answer < u.rest.count)
+          × Answers program.meaning program.setting program.l program.procs program.casts program.measured c
           resumed_leaves places objects base after (cost_of program f)
           program.number wraps (record c { active = with_local u.answer w u.rest })
       law = program.calling.goes_on c program.number places objects store (record { filled = filled; cells = cells })

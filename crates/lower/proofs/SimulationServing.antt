@@ -30,7 +30,7 @@ use Rattle.lower.proofs.RelationKept.{word_here, word_other}
 use Rattle.lower.proofs.WordArithmetic.{header_is, kind_read}
 use Rattle.lower.proofs.WordSteps.{at, Comes, Calm, Goal, loads_first, computes, if_false}
 use Rattle.lower.proofs.WordOperands.{fetch_all_reads, Changes, ChangesFrom}
-use Rattle.lower.proofs.SimulationWay.{Program}
+use Rattle.lower.proofs.SimulationWay.{Program, room_over, stays_in}
 use Rattle.lower.proofs.SimulationServices.{OnTurn, Calling, calling_goal, some_calls, later_calls, starts_now}
 use Rattle.lower.proofs.SimulationCasts.{serving_scene, as_it_was}
 
@@ -59,16 +59,21 @@ module _ (program : Program) (typed : TypesStand program.l) (f : FlatState progr
     (group : Group program.meaning.Cast) (locals : FlatLocals program.meaning.Cast) (room : s.params + 10 ≤ size)
     (x : FlatAfter program.meaning.Cast) (w floor have before : ℕ) where
   abbrev pub P : LowState → Type 0
-  P = OnTurn program typed f w h.words
+  P = OnTurn program typed f w h.words (room_over program size waiting)
 
   abbrev pub Q : Goal
-  Q = calling_goal program typed f floor have before x w h.words
+  Q = calling_goal program typed f floor have before x w h.words (room_over program size waiting)
 
   abbrev pub Calls : LowState → Type 0
   Calls t = Calling program typed f floor have before x w t
 
-  calm : Calm program.setting P Q f.world h
-  calm active waiting = record { same = refl; filling = inl (objects, filled); asked = omega arith }
+  calm : Calm program.setting P Q size waiting f.world h
+  calm rr now code = record {
+    same = refl;
+    filling = inl (objects, filled);
+    asked = omega arith;
+    room = stays_in program size waiting;
+  }
 
   -- the operands are fetched first
   pub after_fetching : (os : List Operand) (words : Locals) (k : Code)
@@ -83,10 +88,11 @@ module _ (program : Program) (typed : TypesStand program.l) (f : FlatState progr
       → Calling program typed f floor have before x w (at f.world h waiting size rests words (fetch_all s 0 os k))
   after_fetching os words k bound few knows go =
       later_calls program typed f floor have before x w (at f.world h waiting size rests words (fetch_all s 0 os k))
-      (fetch_all_reads (serving_scene program typed f places x w floor have before h.words) f.world h
+      (fetch_all_reads (serving_scene program typed f places x w floor have before h.words
+      (room_over program size waiting)) f.world h
       (as_it_was program f h.words) objects filled waiting size
-      rests s count group depth locals os 0 bound (omega (arith, few)) room words knows k
-      (λ ws new carried are changed.
+      (stays_in program size waiting) rests s count group depth locals os 0 bound (omega (arith, few)) room words knows
+      k (λ ws new carried are changed.
       starts_now program typed f floor have before x w (at f.world h waiting size rests new k)
       (go ws new carried are changed)))
 
@@ -94,8 +100,8 @@ module _ (program : Program) (typed : TypesStand program.l) (f : FlatState progr
   pub not_of_kind : (o : LowSource) (y kind : ℕ) (one other k : Code) (now : Locals) → kind < 256
       → (kind ≡ 2 → ⊥) → (kind ≡ 25 → ⊥) → word_of now o ≡ Some y → IsWrapper program.l objects y
       → ((new : Locals) → Changes (test_word s) now new
-      → Comes program.setting (OnTurn program typed f w h.words)
-      (calling_goal program typed f floor have before x w h.words)
+      → Comes program.setting (OnTurn program typed f w h.words (room_over program size waiting))
+      (calling_goal program typed f floor have before x w h.words (room_over program size waiting))
       (at f.world h waiting size (k ∷ rests) new other))
       → Calling program typed f floor have before x w (at f.world h waiting size rests now
       (of_kind s o kind one other k))

@@ -35,6 +35,7 @@ use Rattle.lower.proofs.SimulationGroups.{proc_is_closed, covered_at}
 use Rattle.coercion_norm.specs.Held.{TypesStand}
 use Rattle.coercion_norm.specs.Objects.{Object}
 use Rattle.rt_cast.specs.Objects.{Holds}
+use Rattle.rt_cast.specs.Frames.{stack_room}
 use Rattle.rt_cast.specs.States.{Heap, heap_of}
 use Rattle.lower.specs.Storage.{Filled}
 use Rattle.lower.specs.Lowered.{low_proc, entry_proc, shape_of}
@@ -51,7 +52,7 @@ use Rattle.lower.proofs.SimulationWay.{Program, R, Seen, Stopping, Way}
 use Rattle.lower.proofs.SimulationWay.{size_of, Live, Over, Settled, after_wraps}
 use Rattle.lower.proofs.SimulationTurns.{Does, DoesDue, st, runs_body, gave, gives, call_turn}
 use Rattle.lower.proofs.SimulationServices.{OnTurn, Landing}
-use Rattle.lower.proofs.SimulationWay.{Quietly, turn_aim, dues, asks_of, budget_of}
+use Rattle.lower.proofs.SimulationWay.{Quietly, turn_room, turn_aim, dues, asks_of, budget_of}
 
 module _ (program : Program) (typed : TypesStand program.l) where
   -- a turn of the numbered procedures, from a state that goes with one over words
@@ -160,8 +161,8 @@ module _ (program : Program) (typed : TypesStand program.l) where
   Rel j s t =
       (((due : ℕ) × Live (after_wraps program s.wraps) s.state due t) × (j ≡ size_of s.state))
       ⊎ (Over (after_wraps program s.wraps) s.state t
-      ⊎ ((low : ℕ) × (i : ℕ) × (j ≡ suc (i + low)) × (have before left : ℕ)
-      × Waits program low have before (suc i) left s.state s.wraps t))
+      ⊎ ((low : ℕ) × (i : ℕ) × (j ≡ suc (i + low)) × (room have before left : ℕ)
+      × Waits program room low have before (suc i) left s.state s.wraps t))
 
   abbrev SomeRel : FlatCounted program.meaning.Cast → LowState → Type 0
   SomeRel s t = (j : ℕ) × Rel j s t
@@ -177,10 +178,10 @@ module _ (program : Program) (typed : TypesStand program.l) where
   seen_alike s t e filling = record { output = e; shown = filling }
 
   -- a turn in place
-  on_way : (s : FlatCounted program.meaning.Cast) → wraps_in s ≡ 0 → (base : ℕ) (t : LowState)
-      → Way (after_wraps program s.wraps) s.state (stepped s).state base t → OnTheWay K Any M N s (stepped s) t
-  on_way s none base t (inl e, filling) = (inl (seen_alike s t e.0 filling), tt)
-  on_way s none base t (inr e, filling) =
+  on_way : (s : FlatCounted program.meaning.Cast) → wraps_in s ≡ 0 → (base room : ℕ) (t : LowState)
+      → Way (after_wraps program s.wraps) s.state (stepped s).state base room t → OnTheWay K Any M N s (stepped s) t
+  on_way s none base room t (inl e, filling, fits) = (inl (seen_alike s t e.0 filling), tt)
+  on_way s none base room t (inr e, filling, fits) =
       let more : s.wraps ≡ s.wraps + wraps_in s = omega (arith, none) in
       (inr (seen_alike (stepped s) t e.0 (subst (λ n. FillingAt program n t) more filling)), tt)
 
@@ -199,10 +200,10 @@ module _ (program : Program) (typed : TypesStand program.l) where
 
   -- a turn in which a procedure serves
   on_served : (s : FlatCounted program.meaning.Cast) → (stepped s).state.world.output ≡ s.state.world.output
-      → (limit : ℕ) (t : LowState)
-      → OnServed program s.state.world.output s.wraps (s.wraps + wraps_in s) limit t
+      → (limit room : ℕ) (t : LowState)
+      → OnServed program s.state.world.output s.wraps (s.wraps + wraps_in s) limit room t
       → OnTheWay K Any M N s (stepped s) t
-  on_served s silent limit t o = by_filling o.filling
+  on_served s silent limit room t o = by_filling o.filling
     where
       by_filling : FillingAt program s.wraps t ⊎ FillingAt program (s.wraps + wraps_in s) t
           → OnTheWay K Any M N s (stepped s) t
@@ -214,11 +215,12 @@ module _ (program : Program) (typed : TypesStand program.l) where
   settled_in s due t (inl l) = (size_of s.state, inl ((due, l), refl))
   settled_in s due t (inr o) = (0, inr (inl o))
 
-  waits_in : (s : FlatCounted program.meaning.Cast) (t : LowState) (low have before i left : ℕ)
-      → Waits program low have before i left s.state s.wraps t → SomeRel s t
-  waits_in s t low have before zero left (inl o) = (0, inr (inl o.0))
-  waits_in s t low have before zero left (inr x) = settled_in s x.0 t x.1
-  waits_in s t low have before (suc i) left x = (suc (i + low), inr (inr (low, i, refl, have, before, left, x)))
+  waits_in : (s : FlatCounted program.meaning.Cast) (t : LowState) (room low have before i left : ℕ)
+      → Waits program room low have before i left s.state s.wraps t → SomeRel s t
+  waits_in s t room low have before zero left (inl o) = (0, inr (inl o.0))
+  waits_in s t room low have before zero left (inr x) = settled_in s x.0 t x.1
+  waits_in s t room low have before (suc i) left x =
+      (suc (i + low), inr (inr (low, i, refl, room, have, before, left, x)))
 
   abbrev Goes_on : ℕ → FlatCounted program.meaning.Cast → LowState → Type 0
   Goes_on j s t =
@@ -240,61 +242,65 @@ module _ (program : Program) (typed : TypesStand program.l) where
       → Goes_on (size_of s.state) s t
   from_live s t w own e (inl (z, inl c)) =
       let none : wraps_in s ≡ 0 = e ∙ z in
-      by_count s (Way (after_wraps program s.wraps) s.state (stepped s).state t.words)
+      by_count s (Way (after_wraps program s.wraps) s.state (stepped s).state t.words (turn_room program t))
       (turn_aim (after_wraps program s.wraps) s.state (stepped s).state own c.0.0 t c.0.1.left)
-      (λ u q. on_way s none t.words u q)
+      (λ u q. on_way s none t.words (turn_room program t) u q)
       (λ u q. (size_of (stepped s).state, lands_in s none q.0 u q.1)) (size_of s.state) c.0.1.steps t c.0.1.reach
       (λ k q. (size_of (stepped s).state, c.1, lands_in s none q.0 t q.1))
   from_live s t w own e (inl (z, inr m)) =
       let none : wraps_in s ≡ 0 = e ∙ z in
-      by_count s (Way (after_wraps program s.wraps) s.state (stepped s).state t.words)
+      by_count s (Way (after_wraps program s.wraps) s.state (stepped s).state t.words (turn_room program t))
       (turn_aim (after_wraps program s.wraps) s.state (stepped s).state own m.0 t m.1.0.left)
-      (λ u q. on_way s none t.words u q)
+      (λ u q. on_way s none t.words (turn_room program t) u q)
       (λ u q. (size_of (stepped s).state, lands_in s none q.0 u q.1)) (size_of s.state) m.1.0.steps t m.1.0.reach
       (λ k q. absurd (let y = m.1.1 in omega (arith, y, k)))
   from_live s t w own e (inr served) =
-      by_count s (OnTurn (after_wraps program s.wraps) typed s.state w t.words)
-      (Landing (after_wraps program s.wraps) typed s.state (own + dues t) served.1 (stepped s).state w t.words
-      served.3.0.left)
-      (λ u q. on_served s served.0 (t.words + asks_of program s.state) u
-      (subst (λ n. OnServed program s.state.world.output s.wraps (s.wraps + n) (t.words + asks_of program s.state) u)
+      by_count s (OnTurn (after_wraps program s.wraps) typed s.state w t.words (turn_room program t))
+      (Landing (after_wraps program s.wraps) typed s.state (turn_room program t) (own + dues t) served.1
+      (stepped s).state w t.words served.3.0.left)
+      (λ u q. on_served s served.0 (t.words + asks_of program s.state) (turn_room program t) u
+      (subst (λ n. OnServed program s.state.world.output s.wraps (s.wraps + n) (t.words + asks_of program s.state)
+      (turn_room program t) u)
       (sym e) q))
-      (λ u q. waits_in (stepped s) u q.1.0 (own + dues t) served.1 q.1.1 served.3.0.left
-      (subst (λ n. Waits program q.1.0 (own + dues t) served.1 q.1.1 served.3.0.left (stepped s).state (s.wraps + n) u)
+      (λ u q. waits_in (stepped s) u (turn_room program t) q.1.0 (own + dues t) served.1 q.1.1 served.3.0.left
+      (subst (λ n. Waits program (turn_room program t) q.1.0 (own + dues t) served.1 q.1.1 served.3.0.left
+      (stepped s).state (s.wraps + n) u)
       (sym e) q.1.2)) (size_of s.state) served.3.0.steps t served.3.0.reach
       (λ k q. absurd (let y = served.3.1 in omega (arith, y, k)))
 
-  from_waits : (s : FlatCounted program.meaning.Cast) (t : LowState) (low have before i left : ℕ)
+  from_waits : (s : FlatCounted program.meaning.Cast) (t : LowState) (room low have before i left : ℕ)
       → (next_of program s.state).world.output ≡ s.state.world.output
-      → Next program (Waits program low have before i) low (i ≡ 0) s.state.world.output (next_of program s.state)
+      → Next program (Waits program room low have before i) room low (i ≡ 0) s.state.world.output (next_of program
+      s.state)
       (asks_of program s.state) (left + budget_of program s.state) s.wraps
       (s.wraps + wraps_in s) t → Goes_on (suc (i + low)) s t
-  from_waits s t low have before i left silent (inl o) = inl (0, omega arith, inr (inl o.0))
-  from_waits s t low have before zero left silent (inr c) =
+  from_waits s t room low have before i left silent (inl o) = inl (0, omega arith, inr (inl o.0))
+  from_waits s t room low have before zero left silent (inr c) =
       by_count s (OnServed program s.state.world.output s.wraps (s.wraps + wraps_in s)
-      (t.words + asks_of program s.state))
+      (t.words + asks_of program s.state) room)
       (λ u. (u.words ≤ t.words + asks_of program s.state)
-      × Waits program low have before 0 c.0.left (stepped s).state (s.wraps + wraps_in s) u)
-      (λ u q. on_served s silent (t.words + asks_of program s.state) u q)
-      (λ u q. waits_in (stepped s) u low have before 0 c.0.left q.1) (suc (0 + low)) c.0.steps t c.0.reach
+      × Waits program room low have before 0 c.0.left (stepped s).state (s.wraps + wraps_in s) u)
+      (λ u q. on_served s silent (t.words + asks_of program s.state) room u q)
+      (λ u q. waits_in (stepped s) u room low have before 0 c.0.left q.1) (suc (0 + low)) c.0.steps t c.0.reach
       (λ k q. by_size k (c.1 refl) q.1)
     where
       by_size : c.0.steps ≡ 0 → (0 < c.0.steps) ⊎ (size_of (next_of program s.state) ≤ low)
-          → Waits program low have before 0 c.0.left (stepped s).state (s.wraps + wraps_in s) t
+          → Waits program room low have before 0 c.0.left (stepped s).state (s.wraps + wraps_in s) t
           → (j' : ℕ) × (j' < suc (0 + low)) × Rel j' (stepped s) t
       by_size k (inl lt) q = absurd (omega (arith, lt, k))
       by_size k (inr le) (inl o) = (0, omega arith, inr (inl o.0))
-      by_size k (inr le) (inr (due, inl l, paid)) =
+      by_size k (inr le) (inr (due, inl l, paid, fits)) =
           (size_of (stepped s).state, omega (arith, le), inl ((due, l), refl))
-      by_size k (inr le) (inr (due, inr o, paid)) = (0, omega arith, inr (inl o))
-  from_waits s t low have before (suc i) left silent (inr c) =
+      by_size k (inr le) (inr (due, inr o, paid, fits)) = (0, omega arith, inr (inl o))
+  from_waits s t room low have before (suc i) left silent (inr c) =
       by_count s (OnServed program s.state.world.output s.wraps (s.wraps + wraps_in s)
-      (t.words + asks_of program s.state))
+      (t.words + asks_of program s.state) room)
       (λ u. (u.words ≤ t.words + asks_of program s.state)
-      × Waits program low have before (suc i) c.0.left (stepped s).state (s.wraps + wraps_in s) u)
-      (λ u q. on_served s silent (t.words + asks_of program s.state) u q)
-      (λ u q. waits_in (stepped s) u low have before (suc i) c.0.left q.1) (suc (suc i + low)) c.0.steps t c.0.reach
-      (λ k q. (suc (i + low), omega arith, inr (inr (low, i, refl, have, before, c.0.left, q.1))))
+      × Waits program room low have before (suc i) c.0.left (stepped s).state (s.wraps + wraps_in s) u)
+      (λ u q. on_served s silent (t.words + asks_of program s.state) room u q)
+      (λ u q. waits_in (stepped s) u room low have before (suc i) c.0.left q.1) (suc (suc i + low)) c.0.steps t
+      c.0.reach
+      (λ k q. (suc (i + low), omega arith, inr (inr (low, i, refl, room, have, before, c.0.left, q.1))))
 
   over_does : (j : ℕ) (s : FlatCounted program.meaning.Cast) (t : LowState)
       → Over (after_wraps program s.wraps) s.state t → DoesAt K Any M N Rel j s t (M.step s)
@@ -303,8 +309,10 @@ module _ (program : Program) (typed : TypesStand program.l) where
       (unless_wrong_map o.e
       (λ ends. (
         ends.steps,
-        reaches_weaken N (Quietly (after_wraps program s.wraps) (Seen (after_wraps program s.wraps) s.state) t.words)
-            (Quietly (after_wraps program s.wraps) (Stopping (after_wraps program s.wraps) s.state o.e) t.words)
+        reaches_weaken N (Quietly (after_wraps program s.wraps) (Seen (after_wraps program s.wraps) s.state) t.words
+            (stack_room t))
+            (Quietly (after_wraps program s.wraps) (Stopping (after_wraps program s.wraps) s.state o.e) t.words
+            (stack_room t))
             (OnTheWay K Any M N s s) (StopsAt K Any M N s s o.e)
             (λ u q. (inl (seen_alike s u q.0.output q.0.filling), tt))
             (λ u q. (
@@ -321,19 +329,19 @@ module _ (program : Program) (typed : TypesStand program.l) where
       (let d = turn (after_wraps program s.wraps) typed s.state due t l.is l.related in
       from_live s t (wraps_in s) d.0 refl d.2))
   does j s t (inr (inl o)) = over_does j s t o
-  does j s t (inr (inr (low, i, e, have, before, left, inl o))) = over_does j s t o.0
-  does j s t (inr (inr (low, i, e, have, before, left, inr x))) =
+  does j s t (inr (inr (low, i, e, room, have, before, left, inl o))) = over_does j s t o.0
+  does j s t (inr (inr (low, i, e, room, have, before, left, inr x))) =
       subst (λ o. DoesAt K Any M N Rel j s t (go_or_stop o stepped s)) (sym x.0)
-      (subst (λ n. Goes_on n s t) (sym e) (from_waits s t low have before i left x.2 x.3))
+      (subst (λ n. Goes_on n s t) (sym e) (from_waits s t room low have before i left x.2 x.3))
 
   alike : (j : ℕ) (s : FlatCounted program.meaning.Cast) (t : LowState) → Rel j s t
       → Alike K M N s t × Any (N.shown t) (M.shown s)
   alike j s t (inl ((due, l), e)) =
       (seen_alike s t (ap (λ w. w.output) l.related.world) (l.related.objects, l.related.filled), tt)
   alike j s t (inr (inl o)) = (seen_alike s t o.seen.output o.seen.filling, tt)
-  alike j s t (inr (inr (low, i, e, have, before, left, inl o))) =
+  alike j s t (inr (inr (low, i, e, room, have, before, left, inl o))) =
       (seen_alike s t o.0.seen.output o.0.seen.filling, tt)
-  alike j s t (inr (inr (low, i, e, have, before, left, inr x))) = (seen_alike s t x.1.output x.1.filling, tt)
+  alike j s t (inr (inr (low, i, e, room, have, before, left, inr x))) = (seen_alike s t x.1.output x.1.filling, tt)
 
   simulation : IndexedSimulation K Any M N Rel
   simulation = record { alike = alike; does = does; still_allowed = λ b s h. tt }

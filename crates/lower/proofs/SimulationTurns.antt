@@ -58,6 +58,7 @@ use Rattle.coer_core.specs.Tally.{kind_budget}
 use Rattle.flat_ir.specs.Counts.{tuple_words}
 use Rattle.flat_ir.specs.FlatTally.{operator_kind, cast_cost}
 use Rattle.lower.proofs.WordOperands.{and_true, value_carried}
+use Rattle.lower.proofs.SimulationWay.{room_over, turn_room, stays_in, below_in}
 use Rattle.lower.proofs.SimulationWay.{mode_of}
 use Rattle.lower.proofs.SimulationWay.{Program, Live, Follows, FollowsBy, next_state, Way, scene_for, size_of}
 use Rattle.lower.proofs.SimulationWay.{prices_of}
@@ -123,7 +124,7 @@ module _ (program : Program) (typed : TypesStand program.l) where
   TurnDue f x own t =
       (FollowsBy program f x own t × (size_of (next_state program f x) < size_of f))
       ⊎ ((credit : ℕ)
-      × SomeBy program.setting (Way program f (next_state program f x) t.words)
+      × SomeBy program.setting (Way program f (next_state program f x) t.words (turn_room program t))
       (turn_aim program f (next_state program f x) own credit t) (floor_of program f own credit t) credit t)
 
   abbrev pub Turn : FlatState program.meaning.Cast → FlatAfter program.meaning.Cast → LowState → Type 0
@@ -145,17 +146,20 @@ module _ (program : Program) (typed : TypesStand program.l) where
       → Live program (next_state program f x) 0 t → FollowsBy program f x 0 t
   goes_as_it_is f x t live = (
     left_of program.setting t,
-    arrives program f (next_state program f x) t.words 0 (left_of program.setting t) t (left_of program.setting t) t
+    arrives program f (next_state program f x) t.words (turn_room program t) 0 (left_of program.setting t) t
+        (left_of program.setting t) t
         (0, inl live, kept_here program f (next_state program f x) 0 0 t (omega arith)),
   )
 
   moving : (f f' : FlatState program.meaning.Cast) (t : LowState)
-      → Moves program.setting (Way program f f' t.words) (turn_goal program f f' t) t
-      → (credit : ℕ) × SomeBy program.setting (Way program f f' t.words) (turn_aim program f f' 0 credit t)
+      → Moves program.setting (Way program f f' t.words (turn_room program t)) (turn_goal program f f' t) t
+      → (credit : ℕ) × SomeBy program.setting (Way program f f' t.words (turn_room program t)) (turn_aim program f f' 0
+      credit t)
       (floor_of program f 0 credit t) credit t
   moving f f' t m = (
     left_of program.setting t,
-    some_more program.setting (Way program f f' t.words) (turn_aim program f f' 0 (left_of program.setting t) t)
+    some_more program.setting (Way program f f' t.words (turn_room program t)) (turn_aim program f f' 0
+        (left_of program.setting t) t)
         (floor_of program f 0 (left_of program.setting t) t) (left_of program.setting t + 0)
         (left_of program.setting t) t
         (omega arith) (m.comes, m.some),
@@ -847,8 +851,11 @@ module _ (program : Program) (typed : TypesStand program.l) where
                         store
                         world)
                         places objects h filled cells waiting size slot body locals group fs v
-                        (record { count = size; locals = words; code = code; rests = rests }) g refl in
-                        (10 * x.0, x.1 0 (10 * x.0) (At code) refl (omega arith)),
+                        (record { count = size; locals = words; code = code; rests = rests }) g refl in (
+                          10 * x.0,
+                          x.1 0 (10 * x.0) (room_over program size waiting) (At code) refl
+                              (stays_in program size waiting) (omega arith),
+                        ),
                     omega arith,
                   ),
                 )
@@ -932,13 +939,17 @@ module _ (program : Program) (typed : TypesStand program.l) where
                         (OwnFrame (Waiting slot body locals group) ∷ fs) u.answer u.rest.code u.rest.rests u.rest.locals
                         r.4) in (
                           28 + 10 * x.0,
-                          by_go program.setting (Way program fr f' h.words)
+                          by_go program.setting (Way program fr f' h.words (room_over program size (u ∷ us)))
                               (turn_aim program fr f' 28 (28 + 10 * x.0) t)
                               (floor_of program fr 28 (28 + 10 * x.0) t) (10 * x.0)
                               (28 + 10 * x.0) t back (rw (is, less) refl)
-                              (let z = return_price program.setting.procs size source in omega (arith, z))
-                              (at_start program fr f' world h.words refl, (objects, filled))
-                              (x.1 28 (28 + 10 * x.0) t refl (omega arith)),
+                              (let z = return_price program.setting.procs size source in omega (arith, z)) (
+                                at_start program fr f' world h.words refl,
+                                (objects, filled),
+                                stays_in program size (u ∷ us),
+                              )
+                              (x.1 28 (28 + 10 * x.0) (room_over program size (u ∷ us)) t refl
+                              (below_in program size (u ∷ us)) (omega arith)),
                         ),
                     omega arith,
                   ),
@@ -1038,7 +1049,7 @@ module _ (program : Program) (typed : TypesStand program.l) where
                   inr (subst (λ us. (credit : ℕ) × SomeBy program.setting
                   (Way program (entering (RunFun (record { first = first; place = place }) captured) done [])
                   (st (Own (Inside p.body (locals_of us) (record { first = first; captured = captured }))) frames
-                  store world) h.words)
+                  store world) h.words (room_over program size waiting))
                   (turn_aim program (entering (RunFun (record { first = first; place = place }) captured) done [])
                   (st (Own (Inside p.body (locals_of us) (record { first = first; captured = captured }))) frames
                   store world) 0 credit (At code))
@@ -1114,9 +1125,10 @@ module _ (program : Program) (typed : TypesStand program.l) where
                   let x = and_true (operand_bound s.captured count depth fo)
                   (operands_bound s.captured count depth os && nat_le (length os) 6) fits.bound in
                   let c = value_carried (scene_for program (entering v done todo) (entering v done todo) h.words
+                  (room_over program size waiting)
                   (turn_goal program (entering v done todo) (entering v done todo) (At code)) places) world h
                   (at_start program (entering v done todo) (entering v done todo) world h.words refl) objects filled
-                  waiting size rests s
+                  waiting size (stays_in program size waiting) rests s
                   count
                   group depth locals fo x.0 words fits.knows in
                   subst (λ u. (w : ℕ) × CarriedHere program places objects u w) e c

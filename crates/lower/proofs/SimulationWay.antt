@@ -24,8 +24,8 @@ use Rattle.flat_ir.specs.FlatTally.{Cost, Prices, flat_cost, flat_atoms}
 use Rattle.flat_ir.specs.Machine.{FlatFrame, FlatFocus, FlatAfter, FlatState, Inside, Waiting, after_flat, flat_turn}
 use Rattle.coercion_norm.specs.Objects.{Object}
 use Rattle.coercion_norm.specs.Held.{Layout}
-use Rattle.rt_cast.specs.States.{Placed}
-use Rattle.rt_cast.specs.States.{Heap, heap_of}
+use Rattle.rt_cast.specs.Frames.{frame_room, waiting_room, stack_room}
+use Rattle.rt_cast.specs.States.{Placed, Heap, heap_of}
 use Rattle.lower.specs.Storage.{Filled}
 use Rattle.lower.specs.declared.served.Served.{Served}
 use Rattle.lower.specs.Lowered.{low_proc}
@@ -156,16 +156,17 @@ module _ (program : Program) where
     pub cheap : low_price program.setting.procs t ≤ 100
     pub seen : Seen f last
 
-  -- it is seen so, and no words were asked for
-  abbrev pub Quietly : (LowState → Type 0) → ℕ → LowState → Type 0
-  Quietly P words t = P t × (t.words ≤ words)
+  -- it is seen so, and neither words were asked for nor more room for frames
+  abbrev pub Quietly : (LowState → Type 0) → ℕ → ℕ → LowState → Type 0
+  Quietly P words room t = P t × (t.words ≤ words) × (stack_room t ≤ room)
 
   pub record Ends (f : FlatState program.meaning.Cast) (e : Ending Verdict) (t : LowState) : Type 0 where
     pub steps : ℕ
     pub price : ℕ
     pub small : price ≤ 400
     pub cheap : CostsAtMost ending_of program.setting steps t price
-    pub reach : Reaches N (Quietly (Seen f) t.words) (Quietly (Stopping f e) t.words) steps t
+    pub reach : Reaches N (Quietly (Seen f) t.words (stack_room t)) (Quietly (Stopping f e) t.words (stack_room t))
+        steps t
 
   -- a state that has ended, and one that comes to the same end
   pub record Over (f : FlatState program.meaning.Cast) (t : LowState) : Type 0 where
@@ -202,8 +203,42 @@ module _ (program : Program) where
       ((world.output ≡ f.world.output) × (words ≤ base + asks_of f))
       ⊎ ((world.output ≡ f'.world.output) × (words ≤ base))
 
-  abbrev pub Way : FlatState program.meaning.Cast → FlatState program.meaning.Cast → ℕ → LowState → Type 0
-  Way f f' base t = Allowed f f' base t.world t.words × Filling t
+  -- the room that frames may take in a turn that begins in a procedure of so many words above those that wait: its
+  -- own once more, for where it waits, and what the procedures that serve take
+  abbrev pub room_over : ℕ → List LowWaiting → ℕ
+  room_over size waiting =
+      frame_room size + waiting_room waiting + frame_room size + 25 * (1 + program.meaning.serving program.l)
+
+  -- of a turn that begins in this state
+  abbrev pub turn_room : LowState → ℕ
+  turn_room t = room_over t.active.count t.waiting
+
+  -- a procedure by itself is within that room
+  pub stays_in : (size : ℕ) (waiting : List LowWaiting)
+      → frame_room size + waiting_room waiting ≤ room_over size waiting
+  stays_in size waiting = by (frame_room size) (waiting_room waiting) (25 * (1 + program.meaning.serving program.l))
+    where
+      by : (own waits serving : ℕ) → own + waits ≤ own + waits + own + serving
+      by own waits serving = omega arith
+
+  -- and so are those that wait
+  pub below_in : (size : ℕ) (waiting : List LowWaiting) → waiting_room waiting ≤ room_over size waiting
+  below_in size waiting = by (frame_room size) (waiting_room waiting) (25 * (1 + program.meaning.serving program.l))
+    where
+      by : (own waits serving : ℕ) → waits ≤ own + waits + own + serving
+      by own waits serving = omega arith
+
+  -- and one that serves, above the procedure and what it waits with
+  pub serves_in : (size : ℕ) (waiting : List LowWaiting)
+      → 25 + (frame_room size + waiting_room waiting) ≤ room_over size waiting
+  serves_in size waiting = by (frame_room size) (waiting_room waiting) (program.meaning.serving program.l)
+    where
+      by : (own waits serving : ℕ) → 25 + (own + waits) ≤ own + waits + own + 25 * (1 + serving)
+      by own waits serving = omega arith
+
+  -- on the way of a turn, whose frames take no more than this room
+  abbrev pub Way : FlatState program.meaning.Cast → FlatState program.meaning.Cast → ℕ → ℕ → LowState → Type 0
+  Way f f' base room t = Allowed f f' base t.world t.words × Filling t × (stack_room t ≤ room)
 
   -- the state after a turn that came to this
   abbrev pub next_state : FlatState program.meaning.Cast → FlatAfter program.meaning.Cast
@@ -260,7 +295,8 @@ module _ (program : Program) where
   abbrev pub FollowsFrom : FlatState program.meaning.Cast → FlatAfter program.meaning.Cast → LowState → LowState
       → Type 0
   FollowsFrom f x start t =
-      Comes program.setting (Way f (next_state f x) start.words) (turn_goal f (next_state f x) start) t
+      Comes program.setting (Way f (next_state f x) start.words (turn_room start)) (turn_goal f (next_state f x) start)
+      t
 
   abbrev pub Follows : FlatState program.meaning.Cast → FlatAfter program.meaning.Cast → LowState → Type 0
   Follows f x t = FollowsFrom f x t t
@@ -269,22 +305,22 @@ module _ (program : Program) where
   abbrev pub FollowsBy : FlatState program.meaning.Cast → FlatAfter program.meaning.Cast → ℕ → LowState → Type 0
   FollowsBy f x own t =
       (credit : ℕ)
-      × By program.setting (Way f (next_state f x) t.words) (turn_aim f (next_state f x) own credit t)
+      × By program.setting (Way f (next_state f x) t.words (turn_room t)) (turn_aim f (next_state f x) own credit t)
       (floor_of f own credit t) credit t
 
   -- it has come there
-  pub arrives : (f f' : FlatState program.meaning.Cast) (base own whole : ℕ) (start : LowState) (left : ℕ)
+  pub arrives : (f f' : FlatState program.meaning.Cast) (base room own whole : ℕ) (start : LowState) (left : ℕ)
       (t : LowState) → turn_aim f f' own whole start left t
-      → By program.setting (Way f f' base) (turn_aim f f' own whole start) (floor_of f own whole start) left t
-  arrives f f' base own whole start left t q =
-      by_now program.setting (Way f f' base) (turn_aim f f' own whole start) (floor_of f own whole start) left t
+      → By program.setting (Way f f' base room) (turn_aim f f' own whole start) (floor_of f own whole start) left t
+  arrives f f' base room own whole start left t q =
+      by_now program.setting (Way f f' base room) (turn_aim f f' own whole start) (floor_of f own whole start) left t
       (above_floor f f' own whole start left t q) q
 
   pub by_follows : (f : FlatState program.meaning.Cast) (x : FlatAfter program.meaning.Cast) (t : LowState)
       → Follows f x t → FollowsBy f x 0 t
   by_follows f x t c = (
     left_of program.setting t,
-    by_more program.setting (Way f (next_state f x) t.words)
+    by_more program.setting (Way f (next_state f x) t.words (turn_room t))
         (turn_aim f (next_state f x) 0 (left_of program.setting t) t) (floor_of f 0 (left_of program.setting t) t)
         (left_of program.setting t + 0)
         (left_of program.setting t) t (omega arith) c,
@@ -294,10 +330,11 @@ module _ (program : Program) where
       → world.output ≡ f.world.output → Allowed f f' base world base
   at_start f f' world base e = inl (e, omega arith)
 
-  -- what lemmas on code are told, where a turn from f, which began after so many words, comes to f'
-  abbrev pub scene_for : FlatState program.meaning.Cast → FlatState program.meaning.Cast → ℕ → Goal → List ℕ
+  -- what lemmas on code are told, where a turn from f, which began after so many words, comes to f', and its frames
+  -- have this room
+  abbrev pub scene_for : FlatState program.meaning.Cast → FlatState program.meaning.Cast → ℕ → ℕ → Goal → List ℕ
       → Scene
-  scene_for f f' base Q places = record {
+  scene_for f f' base room Q places = record {
     meaning = program.meaning;
     laws = program.laws;
     number = program.number;
@@ -309,10 +346,11 @@ module _ (program : Program) where
     procs = program.procs;
     answer = program.answer;
     places = places;
-    P = Way f f' base;
+    P = Way f f' base room;
     Q = Q;
     allowed = Allowed f f' base;
-    calm = λ world h objects filled allowed active waiting. (allowed, (objects, filled));
+    room = room;
+    calm = λ world h objects filled allowed count waiting fits rests locals code. (allowed, (objects, filled), fits);
   }
 
 -- at the end of a stretch of code in one procedure

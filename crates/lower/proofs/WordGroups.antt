@@ -20,6 +20,7 @@ use Rattle.flat_ir.specs.Machine.{Group, Locals as FlatLocals, value, values, me
 use Rattle.coercion_norm.specs.Objects.{Object, Fixed, Cell, bytes_of, bytes_of_all}
 use Rattle.rt_cast.specs.Objects.{HoldsWords}
 use Rattle.coercion_norm.specs.ObjectsOfRows.{header}
+use Rattle.rt_cast.specs.Frames.{frame_room, waiting_room}
 use Rattle.rt_cast.specs.States.{Heap}
 use Rattle.lower.specs.Storage.{Filled}
 use Rattle.lower.specs.declared.numbering.Shape.{Shape}
@@ -56,10 +57,11 @@ even_bytes (o ∷ os) =
 module _ (scene : Scene) (world : WorldState) (h : Heap) (allowed : scene.allowed world h.words)
     (objects : List Object)
     (filled : Filled scene.meaning scene.setting scene.l scene.number objects h) (waiting : List Waiting) (size : ℕ)
-    (rests : List Code)
+    (frames_fit : frame_room size + waiting_room waiting ≤ scene.room) (rests : List Code)
     (s : Shape) (count : ℕ) (group : Group scene.meaning.Cast) (slot : ℕ) (locals : FlatLocals scene.meaning.Cast)
     (params : s.params ≤ slot) (room : slot + 10 < size) (words : Locals)
-    (knows : KnowsHere scene world h allowed objects filled waiting size rests s count group slot locals words) where
+    (knows : KnowsHere scene world h allowed objects filled waiting size frames_fit rests s count group slot locals
+    words) where
   abbrev d : ℕ
   d = local_word s slot
 
@@ -99,8 +101,9 @@ module _ (scene : Scene) (world : WorldState) (h : Heap) (allowed : scene.allowe
   filled_by m ws st = filled_above scene.meaning scene.setting scene.l scene.placed objects h m h.words filled st.below
 
   abbrev calm_by : (m : Memory) (ws : List ℕ) → Stored m ws
-      → Calm scene.setting scene.P scene.Q world (record h { memory = m })
-  calm_by m ws st = scene.calm world (record h { memory = m }) objects (filled_by m ws st) allowed
+      → Calm scene.setting scene.P scene.Q size waiting world (record h { memory = m })
+  calm_by m ws st =
+      scene.calm world (record h { memory = m }) objects (filled_by m ws st) allowed size waiting frames_fit
 
   -- a word that no name lies in is set
   storing_set : (x y : ℕ) (new : Locals) → IsFree s slot x → local_word s slot ≢ x → Storing new
@@ -194,8 +197,8 @@ module _ (scene : Scene) (world : WorldState) (h : Heap) (allowed : scene.allowe
       let both = and_true (operand_bound s.captured count slot o) (operands_bound s.captured count slot os) bound in
       let x = operand_word s 0 in
       let hm : Heap = record h { memory = m } in
-      fetch_reads scene world hm allowed objects (filled_by m ws st) waiting size rests s count group slot locals o x
-      both.0 (omega (arith, room, params)) new
+      fetch_reads scene world hm allowed objects (filled_by m ws st) waiting size frames_fit rests s count group slot
+      locals o x both.0 (omega (arith, room, params)) new
       (knows_same scene.setting scene.l scene.run scene.procs scene.answer scene.meaning scene.laws scene.places objects
       s count
       group slot locals words new ing.same knows)
@@ -209,8 +212,8 @@ module _ (scene : Scene) (world : WorldState) (h : Heap) (allowed : scene.allowe
       } in
       stores_far (found s x o) w (captured_offset i) m ws now (store_captured s (local_word s slot) (suc i) os k)
       (λ last changed'.
-      found_same scene world hm allowed objects (filled_by m ws st) waiting size rests s count group slot locals o x
-      both.0 now last (λ j named. changed' j (free_other s slot (test_word s) j t_free named))
+      found_same scene world hm allowed objects (filled_by m ws st) waiting size frames_fit rests s count group slot
+      locals o x both.0 now last (λ j named. changed' j (free_other s slot (test_word s) j t_free named))
       (changed' x (λ e. omega (arith, e))) ∙ is)
       (carried_small scene.l scene.setting.address scene.procs scene.meaning scene.laws scene.places objects
       scene.setting
@@ -274,7 +277,8 @@ module _ (scene : Scene) (world : WorldState) (h : Heap) (allowed : scene.allowe
 
   -- ---- the local names of the functions behind the first
 
-  pub others_named : (hm : Heap) → Calm scene.setting scene.P scene.Q world hm → (captured i n : ℕ) (new : Locals)
+  pub others_named : (hm : Heap) → Calm scene.setting scene.P scene.Q size waiting world hm → (captured i n : ℕ)
+      (new : Locals)
       (k : Code) → new (local_word s slot) ≡ Some h.alloc → slot + suc i + n + 10 ≤ size
       → h.alloc + 16 + 8 * captured + 16 * i + 16 * n < 2 ^ 64
       → ((now : Locals) → ((x : ℕ) → x < slot + suc i + 10 → now x ≡ new x)
@@ -479,7 +483,8 @@ module _ (scene : Scene) (world : WorldState) (h : Heap) (allowed : scene.allowe
         (calm_by m (header 1 0 (suc (length captured)) ∷ scene.setting.address first
         ∷ (cs ++ other_words scene.setting.address first 0 others)) st) total
         (ap Some fits_word) fits
-        (others_named h' (scene.calm world h' (bigger cs) all room_asked) (length captured) 0 others new k ing.place
+        (others_named h' (scene.calm world h' (bigger cs) all room_asked size waiting frames_fit) (length captured) 0
+        others new k ing.place
         (omega (arith, deep))
         (omega (arith, fits, scene.placed.top))
         (λ now low high. go cs h' now (record {
@@ -504,11 +509,11 @@ module _ (scene : Scene) (world : WorldState) (h : Heap) (allowed : scene.allowe
         + codes_price scene.setting.procs size rests → Makes k
         → Arrives scene (at world h waiting size rests words (make_group s slot first others captured k))
     makes_group k enough go =
-        requests scene.setting scene.P scene.Q (scene.calm world h objects filled allowed) total (ap Some fits_word)
-        d_less
+        requests scene.setting scene.P scene.Q (scene.calm world h objects filled allowed size waiting frames_fit)
+        total (ap Some fits_word) d_less
         (scene.calm world (record h { words = h.words + total }) objects
         (filled_above scene.meaning scene.setting scene.l scene.placed objects h h.memory (h.words + total) filled
-        (λ i l. refl)) room_asked) (omega (arith, enough))
+        (λ i l. refl)) room_asked size waiting frames_fit) (omega (arith, enough))
         (λ fits. heads fits (set_local (local_word s slot) h.alloc words)
         (record { held = tt; below = λ i lt. refl }) (record {
           same = set_named s slot (local_word s slot) h.alloc words d_free;

@@ -24,6 +24,7 @@ use Rattle.flat_ir.specs.declared.code.Operand.TheVariants.{Unit as UnitCase}
 use Rattle.flat_ir.specs.Closed.{operand_bound, operands_bound}
 use Rattle.flat_ir.specs.Machine.{Group, Locals as FlatLocals, value, values}
 use Rattle.coercion_norm.specs.Objects.{Object}
+use Rattle.rt_cast.specs.Frames.{frame_room, waiting_room}
 use Rattle.rt_cast.specs.States.{Heap}
 use Rattle.lower.specs.Storage.{Filled}
 use Rattle.lower.specs.declared.numbering.Shape.{Shape}
@@ -32,7 +33,7 @@ use Rattle.lower.specs.Emit.{load_far, leader_code, leader, fetch, found, fetch_
 use Rattle.lower.specs.RelatedStates.{OwnGroup, Knows}
 use Rattle.lower.proofs.HeapFilled.{WordThere, word_there}
 use Rattle.lower.proofs.CarriedLater.{carried_at, function_small}
-use Rattle.lower.proofs.WordSteps.{at, computes, loads}
+use Rattle.lower.proofs.WordSteps.{at, Calm, computes, loads}
 use Rattle.lower.proofs.WordScene.{Scene, Carries, CarryAll, Arrives}
 use Rattle.lower.proofs.RelationKept.{word_here, word_other, Named, OwnName, LowName, HighName, named_local, SameNamed}
 use Rattle.lower.proofs.RelationKept.{knows_same}
@@ -91,7 +92,10 @@ behind d j n low e (inr p) = inr (omega (arith, p, e))
 module _ (scene : Scene) (world : WorldState) (h : Heap) (allowed : scene.allowed world h.words)
     (objects : List Object)
     (filled : Filled scene.meaning scene.setting scene.l scene.number objects h) (waiting : List Waiting) (size : ℕ)
-    (rests : List Code) where
+    (frames_fit : frame_room size + waiting_room waiting ≤ scene.room) (rests : List Code) where
+  abbrev calm : Calm scene.setting scene.P scene.Q size waiting world h
+  calm = scene.calm world h objects filled allowed size waiting frames_fit
+
   abbrev pub On : Locals → Code → Type 0
   On words code = Arrives scene (at world h waiting size rests words code)
 
@@ -113,7 +117,7 @@ module _ (scene : Scene) (world : WorldState) (h : Heap) (allowed : scene.allowe
       by_size true q =
           subst (λ c. On words (if c then Load d base offset k
           else Compute Plus d base (Number offset) (Load d (Word d) 0 k))) (sym q)
-          (loads scene.setting scene.P scene.Q (scene.calm world h objects filled allowed) x w e there.may there.is
+          (loads scene.setting scene.P scene.Q calm x w e there.may there.is
           (let z = there.end in omega arith) lt
           (go (set_local d w words) (word_here d w words) (λ j ne. word_other d w words j ne)))
       by_size false q =
@@ -122,9 +126,9 @@ module _ (scene : Scene) (world : WorldState) (h : Heap) (allowed : scene.allowe
           let none : x + offset ≡ x + offset + 0 = omega arith in
           subst (λ c. On words (if c then Load d base offset k
           else Compute Plus d base (Number offset) (Load d (Word d) 0 k))) (sym q)
-          (computes scene.setting scene.P scene.Q (scene.calm world h objects filled allowed) x (offset % 2 ^ 64)
+          (computes scene.setting scene.P scene.Q calm x (offset % 2 ^ 64)
           (x + offset) e refl (added x offset fits) lt
-          (loads scene.setting scene.P scene.Q (scene.calm world h objects filled allowed) (x + offset) w
+          (loads scene.setting scene.P scene.Q calm (x + offset) w
           (word_here d (x + offset) words)
           (subst (λ n. may_load scene.setting.top n ≡ true) none there.may)
           (subst (λ n. load_bytes 8 h.memory n ≡ w) none there.is)
@@ -169,7 +173,7 @@ module _ (scene : Scene) (world : WorldState) (h : Heap) (allowed : scene.allowe
             (omega (arith, fits, offset_is)) in
             subst (λ c. On words (if c then k
             else Compute Minus d (Word own_word) (Number (function_offset s.captured s.place)) k)) (sym q)
-            (computes scene.setting scene.P scene.Q (scene.calm world h objects filled allowed) own
+            (computes scene.setting scene.P scene.Q calm own
             (function_offset s.captured s.place % 2 ^ 64) g.leader e refl back lt
             (go (set_local d g.leader words)
             (ap (λ c. word_of (set_local d g.leader words) (if c then Word own_word else Word d)) q
@@ -210,7 +214,7 @@ module _ (scene : Scene) (world : WorldState) (h : Heap) (allowed : scene.allowe
           added g.leader (function_offset s.captured i) (omega (arith, fits, offset_is))
           ∙ ap (λ n. g.leader + n) offset_is in
           leader_reads own g d (Compute Plus d (leader s d) (Number (function_offset s.captured i)) k) words e lt
-          (λ new is changed. computes scene.setting scene.P scene.Q (scene.calm world h objects filled allowed)
+          (λ new is changed. computes scene.setting scene.P scene.Q calm
           g.leader (function_offset s.captured i % 2 ^ 64) w is refl sum lt
           (go w (set_local d w new) (g.leader, count, g.words, refl, less, g.stands, g.carried) (word_here d w new)
           (λ j ne. word_other d w new j ne ∙ changed j ne)))

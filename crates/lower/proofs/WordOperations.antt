@@ -24,6 +24,7 @@ use Rattle.flat_ir.specs.Closed.{operand_bound, operands_bound, operation_bound}
 use Rattle.flat_ir.specs.Machine.{FlatValue, FlatValues, Group, Locals as FlatLocals, value, values}
 use Rattle.coercion_norm.specs.Objects.{Object, Fixed, bytes_of, bytes_of_all, object_at}
 use Rattle.coercion_norm.specs.ObjectsOfRows.{header}
+use Rattle.rt_cast.specs.Frames.{frame_room, waiting_room}
 use Rattle.rt_cast.specs.States.{Heap}
 use Rattle.lower.specs.Storage.{Filled}
 use Rattle.lower.specs.declared.numbering.Shape.{Shape}
@@ -66,12 +67,13 @@ added_there region objects o rest at e =
 module _ (scene : Scene) (world : WorldState) (h : Heap) (allowed : scene.allowed world h.words)
     (objects : List Object)
     (filled : Filled scene.meaning scene.setting scene.l scene.number objects h) (waiting : List Waiting) (size : ℕ)
-    (rests : List Code)
+    (frames_fit : frame_room size + waiting_room waiting ≤ scene.room) (rests : List Code)
     (s : Shape) (count : ℕ) (group : Group scene.meaning.Cast) (depth : ℕ) (locals : FlatLocals scene.meaning.Cast)
     (room : s.params + 10 ≤ size) (words : Locals)
-    (knows : KnowsHere scene world h allowed objects filled waiting size rests s count group depth locals words) where
-  abbrev calm : Calm scene.setting scene.P scene.Q world h
-  calm = scene.calm world h objects filled allowed
+    (knows : KnowsHere scene world h allowed objects filled waiting size frames_fit rests s count group depth locals
+    words) where
+  abbrev calm : Calm scene.setting scene.P scene.Q size waiting world h
+  calm = scene.calm world h objects filled allowed size waiting frames_fit
 
   -- a value is put into a word, and no object is added
   abbrev pub Puts : ℕ → FlatValue scene.meaning.Cast → Code → Type 0
@@ -92,7 +94,8 @@ module _ (scene : Scene) (world : WorldState) (h : Heap) (allowed : scene.allowe
       → Arrives scene (at world h waiting size rests words (perform scene.run s d (Move o) k))
   moves o d bound lt k go =
       let t = operand_word s 0 in
-      fetch_reads scene world h allowed objects filled waiting size rests s count group depth locals o t bound
+      fetch_reads scene world h allowed objects filled waiting size frames_fit rests s count group depth locals o t
+      bound
       (omega (arith, room)) words knows (Set d (found s t o) k)
       (λ w new carried is changed. sets_word scene.setting scene.P scene.Q calm w is lt
       (go w (set_local d w new) carried (word_here d w new)
@@ -109,7 +112,8 @@ module _ (scene : Scene) (world : WorldState) (h : Heap) (allowed : scene.allowe
       let sizes = and_true (nat_le 1 (length os)) (nat_le (length os) 8) parts.1 in
       let least : 1 ≤ length os = grind (arith, sizes.0) in
       let most : length os ≤ 8 = grind (arith, sizes.1) in
-      fetch_all_reads scene world h allowed objects filled waiting size rests s count group depth locals os 0 parts.0
+      fetch_all_reads scene world h allowed objects filled waiting size frames_fit rests s count group depth locals os
+      0 parts.0
       (omega (arith, most)) room words knows (Build d (Number (word_header 4 (length os)) ∷ found_all s 0 os) k)
       (λ ws new carried are changed. made parts.0 least most ws new carried are changed)
     where
@@ -137,7 +141,7 @@ module _ (scene : Scene) (world : WorldState) (h : Heap) (allowed : scene.allowe
           (header 4 0 (length ws) ∷ ws) (ap₂ and_more (ap Some head) are) (omega (arith, long, most)) lt
           (scene.calm world (record h { words = h.words + suc (length ws) }) objects
           (filled_above scene.meaning scene.setting scene.l scene.placed objects h h.memory (h.words + suc (length ws))
-          filled (λ i l. refl)) asked) enough
+          filled (λ i l. refl)) asked size waiting frames_fit) enough
           (λ fits. go (o ∷ []) (record {
             memory = store_words (header 4 0 (length ws) ∷ ws) h.alloc h.memory;
             alloc = h.alloc + 8 * length (header 4 0 (length ws) ∷ ws);
@@ -216,7 +220,8 @@ module _ (scene : Scene) (world : WorldState) (h : Heap) (allowed : scene.allowe
   takes_part o i d bound lt k vs v is get go =
       let t = operand_word s 0 in
       let a = found s t o in
-      fetch_reads scene world h allowed objects filled waiting size rests s count group depth locals o t bound
+      fetch_reads scene world h allowed objects filled waiting size frames_fit rests s count group depth locals o t
+      bound
       (omega (arith, room)) words knows (part scene.run s d a (pos i) k)
       (λ x new carried found_is changed.
       taken x new (subst (λ u. Carries scene objects u x) is carried) found_is changed)
@@ -260,8 +265,8 @@ module _ (scene : Scene) (world : WorldState) (h : Heap) (allowed : scene.allowe
           (λ last changed'.
           let same : SameNamed s depth new last = λ j named. changed' j (not_test j named) in
           let kept : last t ≡ new t = changed' t (λ e. omega (arith, e)) in
-          let still = found_same scene world h allowed objects filled waiting size rests s count group depth locals o t
-          bound new last same kept in
+          let still = found_same scene world h allowed objects filled waiting size frames_fit rests s count group depth
+          locals o t bound new last same kept in
           loads scene.setting scene.P scene.Q calm x p.0 (still ∙ found_is) there.may there.is
           (let z = there.end in omega arith) lt
           (falls_through scene.setting scene.P scene.Q calm (go p.0 (set_local d p.0 last) p.2 (word_here d p.0 last)

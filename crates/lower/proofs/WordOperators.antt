@@ -23,6 +23,7 @@ use Rattle.flat_ir.specs.declared.code.Operand.{Operand}
 use Rattle.flat_ir.specs.Closed.{operands_bound}
 use Rattle.flat_ir.specs.Machine.{FlatValue, Group, Locals as FlatLocals, value, values}
 use Rattle.coercion_norm.specs.Objects.{Object}
+use Rattle.rt_cast.specs.Frames.{frame_room, waiting_room}
 use Rattle.rt_cast.specs.States.{Heap}
 use Rattle.lower.specs.Storage.{Filled}
 use Rattle.lower.specs.declared.numbering.Shape.{Shape}
@@ -45,7 +46,7 @@ use Rattle.rt_refs.specs.Answering.{AnswersFor, TrapsNext}
 use Rattle.lower.specs.SimulationServices.{AnswerProducts}
 use Rattle.lower.proofs.WordArithmetic.{word_small, product_made, quotient_wraps, remainder_wraps, no_divisor}
 use Rattle.lower.proofs.WordArithmetic.{some_divisor}
-use Rattle.lower.proofs.WordServices.{answered_by, traps_by}
+use Rattle.lower.proofs.WordServices.{CalmServing, answered_by, traps_by}
 use Rattle.lower.proofs.WordSteps.{waiting_for}
 use Rattle.lower.proofs.WordSteps.{lt_true, at, Calm, sets_word, computes, environment_goes, if_true, if_false}
 use Rattle.lower.proofs.WordSteps.{falls_through, Comes, plain}
@@ -101,21 +102,27 @@ input_stops setting world h waiting size rests words t lt =
     let less = lt_true t size lt in
     let called = traps_input (length setting.labels) world in rw (less, called) refl
 
+-- the frame of a procedure that serves is the smallest one
+serving_frame : (count : ℕ) → count ≤ 24 → (below room : ℕ) → 25 + below ≤ room → frame_room count + below ≤ room
+serving_frame count few below room le = grind (arith, few, le)
+
 module _ (scene : Scene) (world : WorldState) (h : Heap) (allowed : scene.allowed world h.words)
     (objects : List Object)
     (filled : Filled scene.meaning scene.setting scene.l scene.number objects h) (waiting : List Waiting) (size : ℕ)
-    (rests : List Code)
+    (frames_fit : frame_room size + waiting_room waiting ≤ scene.room) (rests : List Code)
     (s : Shape) (count : ℕ) (group : Group scene.meaning.Cast) (depth : ℕ) (locals : FlatLocals scene.meaning.Cast)
     (room : s.params + 10 ≤ size) (words : Locals)
-    (knows : KnowsHere scene world h allowed objects filled waiting size rests s count group depth locals words) where
-  abbrev calm : Calm scene.setting scene.P scene.Q world h
-  calm = scene.calm world h objects filled allowed
+    (knows : KnowsHere scene world h allowed objects filled waiting size frames_fit rests s count group depth locals
+    words) where
+  abbrev calm : Calm scene.setting scene.P scene.Q size waiting world h
+  calm = scene.calm world h objects filled allowed size waiting frames_fit
 
   abbrev On : Locals → Code → Type 0
   On new code = Arrives scene (at world h waiting size rests new code)
 
   abbrev PutsHere : ℕ → FlatValue scene.meaning.Cast → Code → Type 0
-  PutsHere d v k = Puts scene world h allowed objects filled waiting size rests s count group depth locals room words
+  PutsHere d v k =
+      Puts scene world h allowed objects filled waiting size frames_fit rests s count group depth locals room words
       knows d v k
 
   -- two operands that are integers
@@ -126,7 +133,8 @@ module _ (scene : Scene) (world : WorldState) (h : Heap) (allowed : scene.allowe
       → int_wrap w64 b ≡ b → ChangesFrom (operand_word s 0) 2 words new → On new k)
       → On words (fetch_all s 0 (o ∷ p ∷ []) k)
   ints_read o p a b ea eb bound k go =
-      fetch_all_reads scene world h allowed objects filled waiting size rests s count group depth locals (o ∷ p ∷ []) 0
+      fetch_all_reads scene world h allowed objects filled waiting size frames_fit rests s count group depth locals
+      (o ∷ p ∷ []) 0
       bound (omega arith) room words knows k (λ ws new carried are changed. by_words ws new carried are changed)
     where
       by_words : (ws : List ℕ) (new : Locals)
@@ -149,7 +157,8 @@ module _ (scene : Scene) (world : WorldState) (h : Heap) (allowed : scene.allowe
       → word_of new (found s (operand_word s 0) o) ≡ Some x → ChangesFrom (operand_word s 0) 1 words new → On new k)
       → On words (fetch_all s 0 (o ∷ []) k)
   one_read o bound k go =
-      fetch_all_reads scene world h allowed objects filled waiting size rests s count group depth locals (o ∷ []) 0
+      fetch_all_reads scene world h allowed objects filled waiting size frames_fit rests s count group depth locals
+      (o ∷ []) 0
       bound (omega arith) room words knows k (λ ws new carried are changed. by_words ws new carried are changed)
     where
       by_words : (ws : List ℕ) (new : Locals) → CarryAll scene objects (in_row (values locals group (o ∷ []))) ws
@@ -276,7 +285,8 @@ module _ (scene : Scene) (world : WorldState) (h : Heap) (allowed : scene.allowe
   set_unit world' allowed' d a0 a1 n k new few changed lt go =
       let t = test_word s in
       let mid = set_local t a1 (set_local t a0 new) in
-      sets_word scene.setting scene.P scene.Q (scene.calm world' h objects filled allowed') 0 refl lt
+      sets_word scene.setting scene.P scene.Q (scene.calm world' h objects filled allowed' size waiting frames_fit) 0
+      refl lt
       (go (set_local d 0 mid) (word_here d 0 mid)
       (λ j ne side. word_other d 0 mid j ne
       ∙ (word_other t a1 (set_local t a0 new) j (not_computed s t j (omega arith) (omega arith) side)
@@ -332,7 +342,7 @@ module _ (scene : Scene) (world : WorldState) (h : Heap) (allowed : scene.allowe
       let x = cast_unsigned w64 a in
       let t = test_word s in
       let o = operand_word s 0 in
-      let calm' = scene.calm (past_run world) h objects filled allowed' in
+      let calm' = scene.calm (past_run world) h objects filled allowed' size waiting frames_fit in
       let new = called_back x 0 in
       environment_goes scene.setting scene.P scene.Q calm 0 0 x 0 (past_run world) refl refl
       (reads_next (length scene.setting.labels) world (Some a) e) (omega (arith, room)) (omega (arith, room))
@@ -352,7 +362,7 @@ module _ (scene : Scene) (world : WorldState) (h : Heap) (allowed : scene.allowe
   reads_none d e k allowed' c =
       let t = test_word s in
       let o = operand_word s 0 in
-      let calm' = scene.calm (past_white world) h objects filled allowed' in
+      let calm' = scene.calm (past_white world) h objects filled allowed' size waiting frames_fit in
       environment_goes scene.setting scene.P scene.Q calm 0 0 0 1 (past_white world) refl refl
       (reads_next (length scene.setting.labels) world None e) (omega (arith, room)) (omega (arith, room))
       (if_true scene.setting scene.P scene.Q calm' 1 0 (word_here t 1 (set_local o 0 words)) refl refl c)
@@ -362,7 +372,15 @@ module _ (scene : Scene) (world : WorldState) (h : Heap) (allowed : scene.allowe
   module _ (products : AnswerProducts scene.setting scene.run) (o p : Operand) (a b : ℤ)
       (ea : value locals group o ≡ RunInt a) (eb : value locals group p ≡ RunInt b)
       (bound : operands_bound s.captured count depth (o ∷ p ∷ []) ≡ true) (d : ℕ) (k : Code)
-      (spare : product_price + 28 ≤ scene.Q.extra) where
+      (spare : product_price + 28 ≤ scene.Q.extra)
+      (serves_fit : 25 + (frame_room size + waiting_room waiting) ≤ scene.room) where
+    -- on the way of the procedures that serve
+    serving : (new : Locals)
+        → CalmServing scene.setting scene.P scene.Q (waiting_for d size rests new k ∷ waiting) world h
+    serving new n few =
+        scene.calm world h objects filled allowed n (waiting_for d size rests new k ∷ waiting)
+        (serving_frame n few (frame_room size + waiting_room waiting) scene.room serves_fit)
+
     -- what comes behind may cost what is left to pay alone
     abbrev pub PutsPlain : FlatValue scene.meaning.Cast → Type 0
     PutsPlain v =
@@ -380,7 +398,7 @@ module _ (scene : Scene) (world : WorldState) (h : Heap) (allowed : scene.allowe
         let q = products.products (at world h (waiting_for d size rests new k ∷ waiting) size rests new k)
         (cast_unsigned w64 a) (cast_unsigned w64 b) (word_small a fa) (word_small b fb) in
         answered_by scene.setting scene.P scene.Q calm 2 (cast_unsigned w64 a ∷ cast_unsigned w64 b ∷ [])
-        products.multiply w q.0 product_price (rw (xa, yb) refl) products.multiply_stands refl lt
+        products.multiply w q.0 product_price (serving new) (rw (xa, yb) refl) products.multiply_stands refl lt
         (subst (λ n. AnswersFor ending_of scene.setting
         (at world h (waiting_for d size rests new k ∷ waiting) size rests new k) products.multiply
         (cast_unsigned w64 a ∷ cast_unsigned w64 b ∷ []) n q.0 product_price) (product_made a b fa fb) q.1)
@@ -399,7 +417,7 @@ module _ (scene : Scene) (world : WorldState) (h : Heap) (allowed : scene.allowe
         let q = products.quotients (at world h (waiting_for d size rests new k ∷ waiting) size rests new k)
         (cast_unsigned w64 a) (cast_unsigned w64 b) (word_small a fa) (word_small b fb) (some_divisor b fb some) in
         answered_by scene.setting scene.P scene.Q calm 3 (cast_unsigned w64 a ∷ cast_unsigned w64 b ∷ 0 ∷ [])
-        products.divide w q.0 product_price (rw (xa, yb) refl) products.divide_stands refl lt
+        products.divide w q.0 product_price (serving new) (rw (xa, yb) refl) products.divide_stands refl lt
         (subst (λ n. AnswersFor ending_of scene.setting
         (at world h (waiting_for d size rests new k ∷ waiting) size rests new k) products.divide
         (cast_unsigned w64 a ∷ cast_unsigned w64 b ∷ 0 ∷ []) n q.0 product_price)
@@ -418,7 +436,7 @@ module _ (scene : Scene) (world : WorldState) (h : Heap) (allowed : scene.allowe
         let q = products.remainders (at world h (waiting_for d size rests new k ∷ waiting) size rests new k)
         (cast_unsigned w64 a) (cast_unsigned w64 b) (word_small a fa) (word_small b fb) (some_divisor b fb some) in
         answered_by scene.setting scene.P scene.Q calm 3 (cast_unsigned w64 a ∷ cast_unsigned w64 b ∷ 1 ∷ [])
-        products.divide w q.0 product_price (rw (xa, yb) refl) products.divide_stands refl lt
+        products.divide w q.0 product_price (serving new) (rw (xa, yb) refl) products.divide_stands refl lt
         (subst (λ n. AnswersFor ending_of scene.setting
         (at world h (waiting_for d size rests new k ∷ waiting) size rests new k) products.divide
         (cast_unsigned w64 a ∷ cast_unsigned w64 b ∷ 1 ∷ []) n q.0 product_price)
@@ -444,7 +462,7 @@ module _ (scene : Scene) (world : WorldState) (h : Heap) (allowed : scene.allowe
         let q = products.zero_divisors (at world h (waiting_for d size rests new k ∷ waiting) size rests new k)
         (cast_unsigned w64 a) which in
         traps_by scene.setting scene.P scene.Q calm 3 (cast_unsigned w64 a ∷ 0 ∷ which ∷ []) products.divide ZeroDivisor
-        q.0 product_price
+        q.0 product_price (serving new)
         (both_words (word_of new (found s (operand_word s 0) o))
         (words_of new (found s (operand_word s 1) p ∷ Number which ∷ [])) (cast_unsigned w64 a) (0 ∷ which ∷ []) xa
         (both_words (word_of new (found s (operand_word s 1) p)) (words_of new (Number which ∷ [])) 0 (which ∷ [])

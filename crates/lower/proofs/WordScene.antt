@@ -1,14 +1,14 @@
 -- What all lemmas on the code of a body are told.
-use Rattle.std.proofs.Common.{◌≡◌, ℕ, List}
+use Rattle.std.proofs.Common.{◌≡◌, ℕ, ◌+◌, ◌≤◌, List}
 use Rattle.grift_base.specs.Types.{TypeRow}
 use Rattle.grift_base.specs.World.{WorldState}
-use Rattle.low_ir.specs.Run.{Setting, LowState}
+use Rattle.low_ir.specs.Run.{Setting, Waiting, LowState}
 use Rattle.flat_ir.specs.Bodies.{Proc}
 use Rattle.flat_ir.specs.Machine.{FlatValue, FlatValues}
 use Rattle.coercion_norm.specs.Objects.{Object}
 use Rattle.coercion_norm.specs.Held.{Layout}
-use Rattle.rt_cast.specs.States.{Placed}
-use Rattle.rt_cast.specs.States.{Heap}
+use Rattle.rt_cast.specs.Frames.{frame_room, waiting_room}
+use Rattle.rt_cast.specs.States.{Placed, Heap}
 use Rattle.lower.specs.Storage.{Filled}
 use Rattle.lower.specs.declared.served.Served.{Served}
 use Rattle.lower.specs.CarriedValues.{IsCarried, AreCarried}
@@ -16,7 +16,7 @@ use Rattle.lower.proofs.WordSteps.{Comes, Calm, Goal}
 use Rattle.lower.specs.Meanings.{Meaning, MeaningLaws}
 
 -- the run, where things stand in it, what is to hold on the way and at the end, in which worlds and after how many
--- words
+-- words, and how much room frames may take on the way
 pub record Scene : Type 1 where
   pub meaning : Meaning
   pub laws : MeaningLaws meaning
@@ -32,9 +32,10 @@ pub record Scene : Type 1 where
   pub P : LowState → Type 0
   pub Q : Goal
   pub allowed : WorldState → ℕ → Type 0
+  pub room : ℕ
   pub calm : (world : WorldState) (h : Heap) (objects : List Object) → Filled meaning setting l number objects h
-      → allowed world h.words
-      → Calm setting P Q world h
+      → allowed world h.words → (count : ℕ) (waiting : List Waiting) → frame_room count + waiting_room waiting ≤ room
+      → Calm setting P Q count waiting world h
 
 module _ (scene : Scene) where
   abbrev pub Carries : List Object → FlatValue scene.meaning.Cast → ℕ → Type 0

@@ -50,24 +50,32 @@ return_price procs count (Number n) = by_size (nat_lt n 2048) (nat_lt count 255)
     by_size false false = omega arith
 
 module _ (setting : Setting) (P : LowState → Type 0) (Q : Goal) where
-  -- a state that is calm but for what is active
-  quiet_calm : (world : WorldState) (h : Heap) → Calm setting P Q world h → (t : LowState) → t.memory ≡ h.memory
-      → t.alloc ≡ h.alloc → t.words ≡ h.words → t.world ≡ world → P t
-  quiet_calm world h calm t m a n w =
+  -- P holds in each procedure that serves, above those that wait
+  abbrev pub CalmServing : List Waiting → WorldState → Heap → Type 0
+  CalmServing waiting world h = (count : ℕ) → count ≤ 24 → Calm setting P Q count waiting world h
+
+  -- a state in which one is active, and all else is as before
+  quiet_calm : (world : WorldState) (h : Heap) (waiting : List Waiting) → CalmServing waiting world h → (t : LowState)
+      → t.waiting ≡ waiting → t.memory ≡ h.memory → t.alloc ≡ h.alloc → t.words ≡ h.words → t.world ≡ world
+      → t.active.count ≤ 24 → P t
+  quiet_calm world h waiting calm t v m a n w few =
       subst (λ x. P (record t { memory = x })) (sym m)
       (subst (λ x. P (record t { memory = h.memory; alloc = x })) (sym a)
       (subst (λ x. P (record t { memory = h.memory; alloc = h.alloc; words = x })) (sym n)
       (subst (λ x. P (record t { memory = h.memory; alloc = h.alloc; words = h.words; world = x })) (sym w)
-      (calm t.active t.waiting))))
+      (subst
+      (λ x. P (record t { memory = h.memory; alloc = h.alloc; words = h.words; world = world; waiting = x })) (sym v)
+      (calm t.active.count few t.active.rests t.active.locals t.active.code)))))
 
   -- a procedure returns to the one that called it
   pub returns_to : (world : WorldState) (t : LowState) (waiting : List Waiting) (d size : ℕ) (rests : List Code)
-      (words : Locals) (k : Code) (source : LowSource) (w credit : ℕ) → Calm setting P Q world (heap_of t)
+      (words : Locals) (k : Code) (source : LowSource) (w credit : ℕ)
+      → CalmServing (waiting_for d size rests words k ∷ waiting) world (heap_of t) → t.active.count ≤ 24
       → t.world ≡ world → t.waiting ≡ waiting_for d size rests words k ∷ waiting → t.active.code ≡ Return source
       → word_of t.active.locals source ≡ Some w → d < size
       → By setting P Q.holds Q.floor credit (at world (heap_of t) waiting size rests (set_local d w words) k)
       → By setting P Q.holds Q.floor (28 + credit) t
-  returns_to world t waiting d size rests words k source w credit calm same waits code is lt c =
+  returns_to world t waiting d size rests words k source w credit calm few same waits code is lt c =
       by_go setting P Q.holds Q.floor credit (28 + credit) t (at world (heap_of t) waiting size rests
       (set_local d w words) k)
       step
@@ -75,7 +83,7 @@ module _ (setting : Setting) (P : LowState → Type 0) (Q : Goal) where
       let e : low_price setting.procs t ≡ step_price setting.procs t.active.count (Return source) =
       ap (step_price setting.procs t.active.count) code in
       omega (arith, le, e))
-      (subst (λ x. P (record t { world = x })) (sym same) (calm t.active t.waiting)) c
+      (quiet_calm world (heap_of t) (waiting_for d size rests words k ∷ waiting) calm t waits refl refl refl same few) c
     where
       step : (N setting P Q).step t ≡ Go (at world (heap_of t) waiting size rests (set_local d w words) k)
       step =
@@ -84,17 +92,19 @@ module _ (setting : Setting) (P : LowState → Type 0) (Q : Goal) where
           ∙ (rw (is, waits, less) refl
           ∙ ap (λ x. Go (at x (heap_of t) waiting size rests (set_local d w words) k)) same)
 
-  module _ {world : WorldState} {h : Heap} (calm : Calm setting P Q world h) {waiting : List Waiting} {size : ℕ}
-      {rests : List Code} {locals : Locals} where
+  module _ {world : WorldState} {h : Heap} {waiting : List Waiting} {size : ℕ}
+      (calm : Calm setting P Q size waiting world h) {rests : List Code} {locals : Locals} where
     -- a procedure that changes nothing answers a word
     pub answered_by : {d number : ℕ} {args : List LowSource} {k : Code} (n : ℕ) (ws : List ℕ) (p : Proc)
         (w most price : ℕ)
-        → words_of locals args ≡ Some ws → StandsAs setting number p n → length ws ≡ n → d < size
+        → CalmServing (waiting_for d size rests locals k ∷ waiting) world h → words_of locals args ≡ Some ws
+        → StandsAs setting number p n → length ws ≡ n → d < size
         → AnswersFor ending_of setting (at world h (waiting_for d size rests locals k ∷ waiting) size rests locals k) p
         ws w most price → price + 28 ≤ Q.extra
         → Comes setting P (plain Q) (at world h waiting size rests (set_local d w locals) k)
         → Comes setting P Q (at world h waiting size rests locals (Call d number args k))
-    answered_by {d = d} {number = number} {args = args} {k = k} n ws p w most price e stands long lt answers le c =
+    answered_by {d = d} {number = number} {args = args} {k = k} n ws p w most price serving e stands long lt answers le
+        c =
         let s = at world h (waiting_for d size rests locals k ∷ waiting) size rests locals k in
         let after = left_of setting (at world h waiting size rests (set_local d w locals) k) in
         let first = behind setting size rests (Call d number args k) k in
@@ -106,16 +116,18 @@ module _ (setting : Setting) (P : LowState → Type 0) (Q : Goal) where
         let few = taken setting number n p ws stands long in
         rw (e, there, few) refl) (enough (step_price setting.procs size (Call d number args k))
         (left_of setting (at world h waiting size rests locals (Call d number args k))) Q.extra after price le first)
-        (calm (record { count = size; locals = locals; code = Call d number args k; rests = rests }) waiting)
+        (calm rests locals (Call d number args k))
         (by_then setting P Q.holds Q.floor (Quiet s) (Returns w s)
-        (λ t q. quiet_calm world h calm t q.memory q.alloc q.words q.world) answers.0 price (28 + (after + 0))
+        (λ t q. quiet_calm world h (waiting_for d size rests locals k ∷ waiting) serving t q.waiting q.memory q.alloc
+        q.words q.world q.small) answers.0 price (28 + (after + 0))
         (at world h (waiting_for d size rests locals k ∷ waiting) p.words [] (bind 0 ws no_locals) p.code)
         (let x = c.within in let y = c.least in omega (arith, x, y)) answers.3
         answers.2
         (λ t r.
         let same = heap_same t h r.quiet.memory r.quiet.alloc r.quiet.words in
         returns_to world t waiting d size rests locals k r.source w (after + 0)
-        (subst (λ x. Calm setting P Q world x) (sym same) calm) r.quiet.world r.quiet.waiting r.code r.is lt
+        (subst (λ x. CalmServing (waiting_for d size rests locals k ∷ waiting) world x) (sym same) serving)
+        r.quiet.small r.quiet.world r.quiet.waiting r.code r.is lt
         (subst (λ x. By setting P Q.holds Q.floor (after + 0) (at world x waiting size rests (set_local d w locals) k))
         (sym same) c)))
       where
@@ -125,7 +137,8 @@ module _ (setting : Setting) (P : LowState → Type 0) (Q : Goal) where
 
     -- a procedure that changes nothing traps
     pub traps_by : {d number : ℕ} {args : List LowSource} {k : Code} (n : ℕ) (ws : List ℕ) (p : Proc) (trap : Trap)
-        (most price : ℕ) → words_of locals args ≡ Some ws → StandsAs setting number p n → length ws ≡ n
+        (most price : ℕ) → CalmServing (waiting_for d size rests locals k ∷ waiting) world h
+        → words_of locals args ≡ Some ws → StandsAs setting number p n → length ws ≡ n
         → TrapsFor ending_of setting (at world h (waiting_for d size rests locals k ∷ waiting) size rests locals k) p ws
         trap most price → price ≤ Q.extra
         → Q.floor ≤ code_price setting.procs size k + codes_price setting.procs size rests
@@ -134,7 +147,8 @@ module _ (setting : Setting) (P : LowState → Type 0) (Q : Goal) where
         (at world h (waiting_for d size rests locals k ∷ waiting) size rests locals k) t
         → Q.holds (code_price setting.procs size k + codes_price setting.procs size rests) t)
         → Comes setting P Q (at world h waiting size rests locals (Call d number args k))
-    traps_by {d = d} {number = number} {args = args} {k = k} n ws p trap most price e stands long traps le least go =
+    traps_by {d = d} {number = number} {args = args} {k = k} n ws p trap most price serving e stands long traps le
+        least go =
         let s = at world h (waiting_for d size rests locals k ∷ waiting) size rests locals k in
         let after = code_price setting.procs size k + codes_price setting.procs size rests in
         let first = behind setting size rests (Call d number args k) k in
@@ -146,9 +160,10 @@ module _ (setting : Setting) (P : LowState → Type 0) (Q : Goal) where
         let few = taken setting number n p ws stands long in
         rw (e, there, few) refl) (enough (step_price setting.procs size (Call d number args k))
         (left_of setting (at world h waiting size rests locals (Call d number args k))) Q.extra after price le first)
-        (calm (record { count = size; locals = locals; code = Call d number args k; rests = rests }) waiting)
+        (calm rests locals (Call d number args k))
         (by_then setting P Q.holds Q.floor (Quiet s) (TrapsNext ending_of setting trap s)
-        (λ t q. quiet_calm world h calm t q.memory q.alloc q.words q.world) traps.0 price after
+        (λ t q. quiet_calm world h (waiting_for d size rests locals k ∷ waiting) serving t q.waiting q.memory q.alloc
+        q.words q.world q.small) traps.0 price after
         (at world h (waiting_for d size rests locals k ∷ waiting) p.words [] (bind 0 ws no_locals) p.code) least traps.3
         traps.2 (λ t r. by_now setting P Q.holds Q.floor after t least (go t r)))
       where

@@ -1,5 +1,5 @@
 -- What a scheme does for a program, by its procedures and in place, and what is shown of the run over words.
-use Rattle.std.specs.Prelude.{◌≡◌, ◌^◌, ◌<◌, ℕ, suc, true, List, length, Some}
+use Rattle.std.specs.Prelude.{◌≡◌, ◌^◌, ◌<◌, ◌≤◌, ℕ, suc, true, All, List, length, Some}
 use Rattle.grift_base.specs.Types.{TypeRow, row_at}
 use Rattle.run_laws.specs.Runs.{Any, FollowsBy, NeverWrong}
 use Rattle.run_laws.specs.Accounts.{FollowsWithin}
@@ -71,20 +71,22 @@ WordsFollow meaning procs_from numbers_from =
     (run (low_machine ending_of setting) (low_start setting (entry_proc entry answer) memory (first_world input)))
     (flat_run_in procs entry (meaning.mode told.types casts) told input)
 
--- It keeps within the account of that run, for all measures that fit: at each moment in words, and where it has come to
--- what that run has come to, in the prices of its steps.
+-- It keeps within the account of that run, for all measures that fit, where no procedure has more than so many words:
+-- at each moment in words asked for and in frames, and where it has come to what that run has come to, in the prices of
+-- its steps.
 abbrev pub WordsKeep : Meaning → (ℕ → List LowProc) → (ℕ → Served) → Type 0
 WordsKeep meaning procs_from numbers_from =
     (setting : Setting) (l : Layout) (words : List ℕ) (procs : List Proc) (entry : ℕ) (answer : TypeRow)
-    (memory : Memory) (told : Told) (casts : List TypeCast) (m : Measures) (input : List ℕ)
+    (memory : Memory) (told : Told) (casts : List TypeCast) (m : Measures) (most : ℕ) (input : List ℕ)
     → let first : ℕ = suc (length procs) in
     IsLowered setting l (with_casts (numbers_from first) words (cast_ways l.types casts)) procs entry answer
     (procs_from first) memory → setting.top < 2 ^ 34 → setting.labels ≡ told.labels
     → row_at told.types told.answer ≡ Some answer
     → told.types ≡ l.types → TypesStand l → FitsMeasures l m → meaning.CastWords l casts words
     → is_closed procs entry ≡ true → all_covered procs ≡ true → AreNarrow procs
+    → All (λ (p : LowProc). p.words ≤ most) setting.procs
     → NeverWrong (flat_run_in procs entry (meaning.mode told.types casts) told input)
-    → FollowsWithin (KeepsFlat setting) PaysFlat
+    → FollowsWithin (KeepsFlat setting (meaning.serving l) most) PaysFlat
     (run (metered (low_price setting.procs) (low_machine ending_of setting))
     (unspent (low_start setting (entry_proc entry answer) memory (first_world input))))
     (flat_tally_in procs entry (meaning.mode told.types casts) (meaning.prices told.types casts m) told input)

@@ -1,5 +1,5 @@
 -- The meaning of the merged scheme: a value in a wrapper is one proxy with one coercion.
-use Rattle.std.specs.Prelude.{◌≡◌, ℕ, suc, ◌^◌, ◌<◌, ◌≤◌, List, [], ◌∷◌, length, Some, slice_get}
+use Rattle.std.specs.Prelude.{◌≡◌, ℕ, suc, ◌+◌, ◌*◌, ◌^◌, ◌<◌, ◌≤◌, List, [], ◌∷◌, length, Some, slice_get}
 use Rattle.low_ir.specs.Run.{Setting, Waiting}
 use Rattle.type_graph.specs.declared.tables.TheConstants.{MOST_HEIGHT}
 use Rattle.coercion_norm.specs.Coercions.{Coercion, Id, Fail, Middle, Inject, Project}
@@ -63,4 +63,5 @@ merged_meaning = record {
   CastWords = λ l casts words. MergedCasts l casts words;
   Keeps = λ l objects number. Wholes l [] objects;
   Resumes = λ setting l objects waiting casts. merged_resumes setting l objects waiting casts;
+  serving = λ l. 4 * l.tallest + 7;
 }

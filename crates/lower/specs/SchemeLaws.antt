@@ -1,8 +1,9 @@
 -- What is asked of a scheme: each of its procedures makes some turns of the numbered procedures, in the scheme's mode,
 -- in the words that carry their values, and so does what code makes of a word in place, where no procedure is entered.
--- It keeps within what these turns may cost: words are asked for in a turn that asks for as many, and the budget that a
--- turn leaves is a credit for later turns and, at the end, for the code that called.
-use Rattle.std.specs.Prelude.{◌≡◌, ◌⊎◌, ℕ, zero, suc, ◌+◌, ◌%◌, ◌^◌, ◌<◌, ◌≤◌, ℤ, List, [], ◌∷◌, ◌++◌, length}
+-- It keeps within what these turns may cost: words are asked for in a turn that asks for as many, frames have the room
+-- that the scheme tells, and the budget that a turn leaves is a credit for later turns and, at the end, for the code
+-- that called.
+use Rattle.std.specs.Prelude.{◌≡◌, ◌⊎◌, ℕ, zero, suc, ◌+◌, ◌*◌, ◌%◌, ◌^◌, ◌<◌, ◌≤◌, ℤ, List, [], ◌∷◌, ◌++◌, length}
 use Rattle.std.specs.Prelude.{Some, slice_get}
 use Rattle.std.specs.Int.{w64, cast_unsigned, int_wrap}
 use Rattle.grift_base.specs.declared.places.Pos.{Pos}
@@ -37,17 +38,11 @@ use Rattle.lower.specs.declared.served.Served.{Served}
 use Rattle.lower.specs.CastWays.{way_at, in_place}
 use Rattle.lower.specs.Emit.{cast_word}
 use Rattle.lower.specs.Meanings.{Meaning}
+use Rattle.rt_cast.specs.Frames.{stack_room}
 use Rattle.rt_cast.specs.States.{Heap, heap_of}
 use Rattle.lower.specs.Storage.{Filled}
 use Rattle.lower.specs.CarriedValues.{IsCarried, AreCarried, CellsHeld}
 use Rattle.lower.specs.SimulationServices.{StandsAs}
-
--- how many procedures more are active
-pub record Spent : Type 0 where
-  pub frames : ℕ
-
-abbrev pub nothing : Spent
-nothing = record { frames = 0 }
 
 -- ---- what is left of the budgets at the end, for the code that called and for the return, in instructions
 
@@ -96,13 +91,14 @@ module _ (meaning : Meaning) (setting : Setting) (l : Layout) (procs : List Proc
     pub cells : CellsHeld l setting.address procs meaning places objects h.memory places store
 
   -- on the way of a procedure that was entered from s, in a turn that began in t and asks for so many words, where the
-  -- number is one of both
-  pub record OnWay (s t : LowState) (most : Spent) (asks before after : ℕ) (u : LowState) : Type 0 where
+  -- number is one of both; its frame and those above it take no more room than the scheme tells, beside that of s,
+  -- whose active procedure is counted too, though another may have its place
+  pub record OnWay (s t : LowState) (asks before after : ℕ) (u : LowState) : Type 0 where
     pub objects : List Object
     pub filled : Filled meaning setting l before objects (heap_of u) ⊎ Filled meaning setting l after objects
         (heap_of u)
     pub same : u.world ≡ s.world
-    pub active : length u.waiting ≤ length s.waiting + most.frames
+    pub room : stack_room u ≤ stack_room s + 25 * (1 + meaning.serving l)
     pub asked : u.words ≤ t.words + asks
 
   -- the next step stops so
@@ -119,14 +115,14 @@ module _ (meaning : Meaning) (setting : Setting) (l : Layout) (procs : List Proc
   abbrev pub Aim : Type 1
   Aim = FlatFocus meaning.Cast → List (FlatFrame meaning.Cast) → FlatStore meaning.Cast → ℕ → ℕ → LowState → Type 0
 
-  module _ (s : LowState) (most : Spent) where
+  module _ (s : LowState) where
     -- in a turn that begins here and asks for so many words, some steps that cost no more than a credit, to where Q
-    -- holds of what is left of it
+    -- holds of what is left of it; frames take no more room there either
     abbrev pub Walks : ℕ → ℕ → ℕ → ℕ → (ℕ → LowState → Type 0) → LowState → Type 0
     Walks asks credit before after Q t =
         (k price left : ℕ) × (price + left ≤ credit) × CostsAtMost ending_of setting k t price
-        × Reaches (low_machine ending_of setting) (OnWay s t most asks before after)
-        (λ u. (u.words ≤ t.words + asks) × Q left u) k t
+        × Reaches (low_machine ending_of setting) (OnWay s t asks before after)
+        (λ u. (u.words ≤ t.words + asks) × (stack_room u ≤ stack_room s + 25 * (1 + meaning.serving l)) × Q left u) k t
 
     -- a turn at this cost that came to this, with so much credit before and so many wrap steps; nothing is asked where
     -- the numbered procedures go wrong
@@ -154,7 +150,7 @@ module _ (meaning : Meaning) (setting : Setting) (l : Layout) (procs : List Proc
     abbrev pub Goes : Aim → ℕ → Aim
     Goes aim zero focus frames store number credit t = aim focus frames store number credit t
     Goes aim (suc i) focus frames store number credit t =
-        IsPending focus frames × OnWay s t most 0 number number t
+        IsPending focus frames × OnWay s t 0 number number t
         × After (Goes aim i) (flat_turn procs mode_here store s.world focus frames)
         (flat_cost procs mode_here prices_here focus frames) credit number
         (flat_turn_wraps procs mode_here focus frames) t
@@ -232,10 +228,10 @@ module _ (meaning : Meaning) (setting : Setting) (l : Layout) (procs : List Proc
   -- ---- what each procedure is asked for, entered with these words from any state
 
   -- for a turn at this cost that came to this; so much is left at the end
-  abbrev pub Answers : LowState → Spent → ℕ → List ℕ → List Object → List (FlatFrame meaning.Cast)
+  abbrev pub Answers : LowState → ℕ → List ℕ → List Object → List (FlatFrame meaning.Cast)
       → FlatAfter meaning.Cast → Cost → ℕ → ℕ → LowState → Type 0
-  Answers s most leaves places objects base x cost number wraps t =
-      Serves s most (Returns s leaves places objects base) x cost number wraps t
+  Answers s leaves places objects base x cost number wraps t =
+      Serves s (Returns s leaves places objects base) x cost number wraps t
 
   module _ (run : Served) where
     pub record CastsMade : Type 0 where
@@ -245,7 +241,7 @@ module _ (meaning : Meaning) (setting : Setting) (l : Layout) (procs : List Proc
           (store : FlatStore meaning.Cast) → Here places objects store number (heap_of s)
           → (base : List (FlatFrame meaning.Cast)) (row : ℕ) (cast : meaning.Cast) → mode_here.row row ≡ Some cast
           → (v : FlatValue meaning.Cast) (w : ℕ) → CarriedAt places objects v w
-          → (most : Spent) × Answers s most cast_leaves places objects base
+          → Answers s cast_leaves places objects base
           (flat_cast procs mode_here store s.world v cast base)
           (cast_cost procs mode_here prices_here (Some cast) v) number
           (decision_wraps (decision_at procs mode_here (Some cast) v))
@@ -264,7 +260,7 @@ module _ (meaning : Meaning) (setting : Setting) (l : Layout) (procs : List Proc
         → Here places objects store number (heap_of s) → (base : List (FlatFrame meaning.Cast)) (row : ℕ)
         (cast : meaning.Cast) → mode_here.row row ≡ Some cast → (v : FlatValue meaning.Cast) (w : ℕ)
         → CarriedAt places objects v w → (word : ℕ) → in_place (way_at (slice_get run.ways row)) w ≡ Some word
-        → Serves s nothing (GivesInPlace s places objects base word)
+        → Serves s (GivesInPlace s places objects base word)
         (flat_cast procs mode_here store s.world v cast base) (cast_cost procs mode_here prices_here (Some cast) v)
         number (decision_wraps (decision_at procs mode_here (Some cast) v)) s
 
@@ -276,7 +272,7 @@ module _ (meaning : Meaning) (setting : Setting) (l : Layout) (procs : List Proc
           (store : FlatStore meaning.Cast) → Here places objects store number (heap_of s)
           → (base : List (FlatFrame meaning.Cast)) (v : FlatValue meaning.Cast) (cast : meaning.Cast) (w : ℕ)
           → CarriedAt places objects (RunWrap v cast) w → (part : ℤ) (label : ℕ)
-          → (most : Spent) × Answers s most part_leaves places objects base
+          → Answers s part_leaves places objects base
           (flat_proj procs mode_here store s.world (RunWrap v cast) part base)
           (act_cost procs mode_here prices_here) number 0 (entered s proc
           (w ∷ cast_unsigned w64 part % 2 ^ 64 ∷ 1 ∷ label ∷ []))
@@ -284,7 +280,7 @@ module _ (meaning : Meaning) (setting : Setting) (l : Layout) (procs : List Proc
           (store : FlatStore meaning.Cast) → Here places objects store number (heap_of s)
           → (base : List (FlatFrame meaning.Cast)) (v : FlatValue meaning.Cast) (w : ℕ) → CarriedAt places objects v w
           → (part : ℤ) (label : ℕ) → label < 2 ^ 64 → int_wrap w64 part ≡ part
-          → (most : Spent) × Answers s most part_leaves places objects base
+          → Answers s part_leaves places objects base
           (run_proj_dyn mode_here (flat_arity procs) (flat_entered procs) store s.world v part label base)
           prices_here.part number 0
           (entered s proc (w ∷ cast_unsigned w64 part % 2 ^ 64 ∷ 0 ∷ label ∷ []))
@@ -305,7 +301,7 @@ module _ (meaning : Meaning) (setting : Setting) (l : Layout) (procs : List Proc
           (store : FlatStore meaning.Cast) → Here places objects store number (heap_of s)
           → (base : List (FlatFrame meaning.Cast)) (vs : List (FlatValue meaning.Cast)) (ws : List ℕ)
           → AllCarriedAt places objects (in_row vs) ws → IsHandedOn operator vs
-          → (most : Spent) × Answers s most operator_leaves places objects base
+          → Answers s operator_leaves places objects base
           (flat_operate procs mode_here store s.world operator vs base)
           (operator_cost procs mode_here prices_here operator vs) number 0 (entered s proc (handed ws))
 
@@ -333,7 +329,7 @@ module _ (meaning : Meaning) (setting : Setting) (l : Layout) (procs : List Proc
           → (base : List (FlatFrame meaning.Cast)) (v : FlatValue meaning.Cast) (cast : meaning.Cast) (w : ℕ)
           → CarriedAt places objects (RunWrap v cast) w → (vs : List (FlatValue meaning.Cast)) (ws : List ℕ)
           → AllCarriedAt places objects (in_row vs) ws → length vs ≤ 6
-          → (most : Spent) × Serves s most (Calls s places objects base)
+          → Serves s (Calls s places objects base)
           (flat_turn procs mode_here store s.world (Entering (RunWrap v cast) [] (all_plain vs)) base)
           (act_cost procs mode_here prices_here) number 0
           (entered s proc (w ∷ at_or_zero ws 0 ∷ at_or_zero ws 1 ∷ at_or_zero ws 2 ∷ at_or_zero ws 3
@@ -345,7 +341,7 @@ module _ (meaning : Meaning) (setting : Setting) (l : Layout) (procs : List Proc
           (results : List meaning.Cast) → meaning.Resumes setting l objects waiting (cast ∷ results)
           → (v : FlatValue meaning.Cast) (w : ℕ) → CarriedAt places objects v w
           → (waiting.answer < waiting.rest.count)
-          × (most : Spent) × Answers s most resumed_leaves places objects base
+          × Answers s resumed_leaves places objects base
           (flat_cast procs mode_here store s.world v cast (casts_onto results base))
           (cast_cost procs mode_here prices_here (Some cast) v) number
           (decision_wraps (decision_at procs mode_here (Some cast) v))

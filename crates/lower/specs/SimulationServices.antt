@@ -10,12 +10,13 @@ use Rattle.low_ir.specs.Run.{Setting, LowState}
 use Rattle.rt_refs.specs.Answering.{AnswersFor, TrapsFor}
 use Rattle.lower.specs.declared.served.Served.{Served}
 
--- a procedure has this number, and takes so many words
+-- a procedure has this number, takes so many words, and has no more than those that serve may have
 pub record StandsAs (setting : Setting) (number : ℕ) (p : Proc) (params : ℕ) : Type 0 where
   pub there : slice_get setting.procs number ≡ Some p
   pub takes : p.params ≡ params
   pub few : params ≤ 8
   pub room : params ≤ p.words
+  pub small : p.words ≤ 24
 
 -- what a product, quotient or remainder may cost: its budget, less what is left for the code that called
 abbrev pub product_price : ℕ

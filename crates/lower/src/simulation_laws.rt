@@ -36,9 +36,11 @@ pub fn words_follow<S: Scheme>(scheme: &S)
     scheme.serves();
 }
 
-/// It keeps within the account of that run, told any measures that fit the layout: at each moment it has asked for no
-/// more words than the numbered procedures had asked for when a turn began, and that turn asks for; and wherever it has
-/// come to what they have come to, or is exhausted on the way there, the prices of its steps are within their budgets.
+/// It keeps within the account of that run, told any measures that fit the layout, and how many words procedures have
+/// at most: at each moment it has asked for no more words than the numbered procedures had asked for when a turn began,
+/// and that turn asks for; its frames are no more than theirs at one time so far, and four, beside those of procedures
+/// that serve; and wherever it has come to what they have come to, or is exhausted on the way there, the prices of its
+/// steps are within their budgets.
 pub fn words_keep_the_account<S: Scheme>(scheme: &S)
     ensures { WordsKeep (S.meaning scheme.now) (S.procs_from scheme.now) (S.numbers_from scheme.now) }
 {
