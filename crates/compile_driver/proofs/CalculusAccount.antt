@@ -39,7 +39,7 @@ use Rattle.core_calc.specs.Calculus.{CalcEnd, CalcState, Program, calculus, calc
 use Rattle.core_calc.specs.Redex.{where_some}
 
 -- the last step
-last_step : {S A V : Type 0} (M : Reduction S A V) (n : ℕ) (s : S)
+pub last_step : {S A V : Type 0} (M : Reduction S A V) (n : ℕ) (s : S)
     → state_after M s (suc n) ≡ unless_ended (M.ending (state_after M s n)) M.step (state_after M s n)
 last_step M zero s = refl
 last_step M (suc n) s = last_step M n (unless_ended (M.ending s) M.step s)

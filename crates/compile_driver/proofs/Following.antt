@@ -5,10 +5,12 @@ use Rattle.std.proofs.Common.{
   zero,
   suc,
   ◌+◌,
+  ◌*◌,
   ◌<◌,
   ◌≤◌,
   ◌^◌,
   true,
+  false,
   List,
   [],
   ◌∷◌,
@@ -35,7 +37,7 @@ use Rattle.run_laws.specs.Runs.{Any, Ending, Exhausted, Follows, FollowsBy, Neve
 use Rattle.run_laws.proofs.Public.{follows_is_transitive, follows_of, follower_never_goes_wrong}
 use Rattle.rv_machine.specs.Memory.{first_address}
 use Rattle.rv_machine.specs.Image.{statics_len, code_len}
-use Rattle.rv_machine.specs.Mach.{ending_of, mach}
+use Rattle.rv_machine.specs.Mach.{IsReading, ending_of, mach, run_of}
 use Rattle.rv_machine.specs.Start.{IsRegionSize, IsStackSize, fresh_world, start_of}
 use Rattle.rv_machine.specs.State.{State, Halt, Lacks, Stack}
 use Rattle.core_calc.specs.Account.{measures_of}
@@ -61,6 +63,8 @@ use Rattle.closure_convert.specs.Programs.{HasNoFreeNames}
 use Rattle.closure_convert.proofs.Public.{procedures_follow_their_term-merged}
 use Rattle.closure_convert.proofs.Public.{procedures_of_program_terms_are_closed-names}
 use Rattle.flat_ir.specs.FlatTally.{flat_tally_in, merged_prices}
+use Rattle.flat_ir.specs.Levels.{HaveLevels}
+use Rattle.low_ir.specs.Counting.{any_calls}
 use Rattle.low_ir.specs.Prices.{low_price}
 use Rattle.low_ir.specs.Procedures.{Proc}
 use Rattle.low_ir.specs.Run.{LowShown, Setting, low_machine, low_start}
@@ -75,9 +79,12 @@ use Rattle.lower.specs.SimulationClaims.{AreNarrow, IsLowered, StorageIsWhole}
 use Rattle.lower.specs.Serving.{all_narrow}
 use Rattle.lower.specs.Sets.{merged_numbers, merged_procs, with_casts}
 use Rattle.lower.proofs.Public.{words_follow_procedures-storage, words_keep_the_account, procedures_are_narrow}
-use Rattle.reg_assign.specs.Images.{FollowsWords, HasRegionOf, IsImageOfWords}
+use Rattle.lower.proofs.Public.{AreSized}
+use Rattle.rv_slots.specs.Slotted.{room_in}
+use Rattle.reg_assign.specs.Images.{ExceedsStack, FollowsWords, HasRegionOf, IsImageOfWords}
 use Rattle.compile_driver.specs.Compiling.{FollowsProgram}
 use Rattle.compile_driver.specs.Space.{KeepsSpace, KeepsStorage}
+use Rattle.compile_driver.proofs.FewWords.{procedures_have_few_words}
 use Rattle.compile_driver.proofs.HeldCasts.{casts_held, tallest_low, width_of}
 use Rattle.compile_driver.proofs.Kept.{kept}
 use Rattle.compile_driver.proofs.Layouts.{layout_stays}
@@ -134,6 +141,14 @@ casts_within types nodes (row ∷ rows) h =
     All-cons (λ (r : CastRow). r.coercion.0 < length nodes) row rows first.within
     (casts_within types nodes rows (All-tail (HasCoercion types nodes) row rows h))
 
+-- the reading of stops by which want of room is exhausted
+reads_right : IsReading ending_of
+reads_right = record {
+  wrong = λ fault. refl;
+  ended = λ verdict e. absurd (let f : ⊥ = cc in f);
+  lacking = λ room e. absurd (let f : ⊥ = cc in f);
+}
+
 -- ---- from numbered procedures to an image
 
 -- the procedure to begin with stands behind the flat ones
@@ -164,6 +179,7 @@ pub record IsMade (program : Program) (nodes : List Node) (rows : List CastRow) 
   pub closed : is_closed procs entry ≡ true
   pub covered : all_covered procs ≡ true
   pub narrow : AreNarrow procs
+  pub levels : HaveLevels (measures_of program).size procs
   pub short : statics_len image + code_len image ≤ 8589934592
 
 -- what the passes have made of a program
@@ -239,8 +255,24 @@ module _ {program : Program} {rows : List CastRow} {term : RowTerm} {answer : �
     pub words_never_wrong : NeverWrong words_run
     words_never_wrong = follower_never_goes_wrong (follows_of words_follow)
 
+    -- the procedures over words have few words
+    pub few_words : AreSized ((measures_of program).size + 24) set.procs
+    few_words =
+        procedures_have_few_words (measures_of program).size
+        (run_by (converted term) statics (cast_ways program.types (row_casts rows))) (converted term) (made term) row
+        (suc (length (converted term))) made_so.levels
+
+    -- the procedure to begin with is where the image says
+    pub begins_there : slice_get set.procs (length (converted term)) ≡ Some (entry_proc (made term) row)
+    begins_there =
+        let procs = converted term in
+        let served = run_by procs statics (cast_ways program.types (row_casts rows)) in
+        entry_there (map (low_proc served) procs) (entry_proc (made term) row) (serving procs) (length procs)
+        (length-map procs (low_proc served))
+
     -- and within their account, where coercions are no higher than types
-    pub words_keep : tallest ≤ (measures_of program).height → FollowsWithin (KeepsFlat set) PaysFlat
+    pub words_keep : tallest ≤ (measures_of program).height
+        → FollowsWithin (KeepsFlat set (4 * tallest + 7) ((measures_of program).size + 24)) PaysFlat
         (run (metered (low_price set.procs) (low_machine ending_of set))
         (unspent (low_start set (entry_proc (made term) row) begin.memory begin.world)))
         (flat_tally_in (converted term) (made term) (merging program.types (row_casts rows))
@@ -251,12 +283,25 @@ module _ {program : Program} {rows : List CastRow} {term : RowTerm} {answer : �
         let at = made_so.statics_are in
         let world = fresh_world input in
         words_keep_the_account set l statics.cast_at (converted term) (made term) row begin.memory
-        (told_of program answer) (row_casts rows) (measures_of program) input lowered_here
+        (told_of program answer) (row_casts rows) (measures_of program) ((measures_of program).size + 24) input
+        lowered_here
         (top_low is at made_so.words region stack r s world made_so.short) is.is_image.labels_are row_is refl
         (at.types_stand [] begin.layout.region tallest (width_of program.types) (no_wider program.types))
-        (record { wide = le_refl (width_of program.types); some = omega arith; tall = tall })
+        (record { wide = le_refl (width_of program.types); two = omega arith; tall = tall })
         (casts_held at made_so.coercions made_so.cast_words begin.layout.region low) made_so.closed made_so.covered
-        made_so.narrow (follower_never_goes_wrong (flat_follows passed input))
+        made_so.narrow few_words (follower_never_goes_wrong (flat_follows passed input))
+
+    -- the machine lacks stack only where that run exceeds it
+    pub lacks_stack : any_calls 6 set.procs ≡ false → (m : ℕ) (t : State) → run_of m begin ≡ (t, Some (Lacks Stack))
+        → (n : ℕ) × (t.world.output ≡ (words_run n).output) × ExceedsStack set.procs (room_in begin) t
+        (words_run n).shown
+    lacks_stack quiet m t stops =
+        let is = made_so.image_is in
+        let at = made_so.statics_are in
+        let world = fresh_world input in
+        let first = entry_proc (made term) row in
+        is.lacks_stack ending_of reads_right quiet first (told is at made_so.words region stack r s world) region stack
+        world (runs_in is at made_so.words region stack r s world first begins_there) words_never_wrong m t stops
 
     -- the machine follows the run over words under each reading of stops by which want of stack is exhausted
     pub image_runs : (reading : Halt → Ending Verdict) → reading (Lacks Stack) ≡ Exhausted
@@ -268,13 +313,9 @@ module _ {program : Program} {rows : List CastRow} {term : RowTerm} {answer : �
         let is = made_so.image_is in
         let at = made_so.statics_are in
         let world = fresh_world input in
-        let procs = converted term in
         let first = entry_proc (made term) row in
-        let served = run_by procs statics (cast_ways program.types (row_casts rows)) in
-        let there = entry_there (map (low_proc served) procs) first (serving procs) (length procs)
-        (length-map procs (low_proc served)) in
         is.runs reading lacks first (told is at made_so.words region stack r s world) region stack world
-        (runs_in is at made_so.words region stack r s world first there) never
+        (runs_in is at made_so.words region stack r s world first begins_there) never
 
     -- with the same region
     machine_follows : FollowsBy (HasRegionOf (begin.regs 25)) Any (mach image region stack input) words_run
@@ -320,6 +361,7 @@ pub record Passes (program : Program) (nodes : List Node) (rows : List CastRow) 
   pub closed : is_closed procs entry ≡ true
   pub covered : all_covered (converted term) ≡ true
   pub narrow : all_narrow procs ≡ true
+  pub levels : HaveLevels (measures_of program).size procs
   pub short : statics_len image + code_len image ≤ 8589934592
 
 module _ {program : Program} {nodes : List Node} {rows : List CastRow} {term : RowTerm} {row : TypeRow}
@@ -354,5 +396,6 @@ module _ {program : Program} {nodes : List Node} {rows : List CastRow} {term : R
         (subst (λ ps. is_closed ps entry ≡ true) p.procs_are p.closed);
     covered = p.covered;
     narrow = procedures_are_narrow (converted term) (subst (λ ps. all_narrow ps ≡ true) p.procs_are p.narrow);
+    levels = subst (HaveLevels (measures_of program).size) p.procs_are p.levels;
     short = p.short;
   }

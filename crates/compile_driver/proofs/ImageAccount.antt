@@ -1,8 +1,7 @@
--- An image keeps within the account of its program: it lacks region only where the calculus asks for more, and comes in
--- time to what the calculus comes to.
-use Rattle.std.proofs.Common.{◌≡◌, ◌≢◌, ◌⊎◌, inl, ℕ, suc, ◌+◌, ◌*◌, ◌<◌, ◌≤◌, List, Some, refl, sym, ap}
-use Rattle.std.proofs.Common.{◌∙◌, subst, arith, length, slice_get, false, map}
-use Rattle.std.proofs.lemmas.List.{length-map}
+-- An image keeps within the account of its program: it lacks region only where the calculus asks for more, and stack
+-- only where the contexts of the calculus are many, and comes in time to what the calculus comes to.
+use Rattle.std.proofs.Common.{◌≡◌, ◌≢◌, ◌⊎◌, inl, inr, ℕ, suc, ◌+◌, ◌*◌, ◌<◌, ◌≤◌, List, Some, refl, sym, ap}
+use Rattle.std.proofs.Common.{◌∙◌, subst, arith, length, false}
 use Rattle.grift_base.specs.Types.{TypeRow, row_at}
 use Rattle.grift_base.specs.declared.words.Statics.{Statics}
 use Rattle.grift_base.specs.declared.verdicts.Verdict.{Verdict as Outcome}
@@ -21,9 +20,10 @@ use Rattle.run_laws.specs.Runs.{
   Run,
   IsExhausted,
   IsPrefix,
+  OutputGrows,
 }
 use Rattle.run_laws.specs.Runs.{HasVerdictOf}
-use Rattle.run_laws.proofs.Public.{within_trans}
+use Rattle.run_laws.proofs.Public.{within_trans, meter_changes_nothing_else-machines}
 use Rattle.rv_machine.specs.Mach.{ending_of, mach, machine, machine_by, run_of}
 use Rattle.rv_machine.specs.Start.{IsRegionSize, IsStackSize}
 use Rattle.rv_machine.specs.State.{State, Halt, Ended, Lacks, GoesWrong, Room, Region, Stack}
@@ -44,17 +44,20 @@ use Rattle.low_ir.specs.Procedures.{Proc}
 use Rattle.low_ir.specs.Run.{Setting, LowShown, LowState, low_machine, low_start}
 use Rattle.lower.specs.CastWays.{cast_ways}
 use Rattle.lower.specs.Keeping.{KeepsFlat, PaysFlat}
-use Rattle.lower.specs.Lowered.{entry_proc, low_proc, lowered}
-use Rattle.lower.proofs.Public.{programs_want_no_room}
+use Rattle.lower.specs.Lowered.{entry_proc}
+use Rattle.lower.proofs.Public.{programs_want_no_room, numbered_words}
 use Rattle.rv_select.specs.Prices.{start_price}
+use Rattle.rv_select.specs.Stacks.{frames_size}
+use Rattle.rv_slots.specs.Slotted.{room_in}
 use Rattle.reg_assign.specs.Images.{HasRegionOf}
-use Rattle.compile_driver.specs.Bounds.{KeepsAccount, RegionLacks, stop_after}
+use Rattle.compile_driver.specs.Bounds.{KeepsAccount, RegionLacks, StackLacks, stop_after}
 use Rattle.compile_driver.proofs.CalculusAccount.{live, one_step}
 use Rattle.compile_driver.proofs.Following.{IsPassed, IsMade, begin, set, words_keep, words_never_wrong, image_runs}
-use Rattle.compile_driver.proofs.Following.{entry_there, run_by, serving}
+use Rattle.compile_driver.proofs.Following.{begins_there, few_words, run_by, lacks_stack as lacks_in_words}
 use Rattle.compile_driver.proofs.MachineOutput.{machine_adds_output, prints_state, shows_state, stopped_so}
 use Rattle.compile_driver.proofs.Raised.{comes_in_time}
 use Rattle.compile_driver.proofs.Readings.{never_wrong_too}
+use Rattle.compile_driver.proofs.StackAccount.{is_deep, stack_lacks_by}
 use Rattle.compile_driver.proofs.Stopping.{Reason, reason}
 
 -- a reading of stops by which want of region is told apart from all others, and want of stack is exhausted
@@ -104,14 +107,18 @@ all_of region words charge later few is = omega (arith, few, is)
 free_of : (top alloc charge end at : ℕ) → end ≡ top → at ≡ alloc → top < alloc + 8 * charge → end < at + 8 * charge
 free_of top alloc charge end at e f few = omega (arith, e, f, few)
 
+within : {room stack bytes : ℕ} → room ≡ stack → room < bytes → stack < bytes
+within e few = omega (arith, e, few)
+
 time_numbers : (spent paid steps work start : ℕ) → start ≤ 60 → spent ≤ paid + 720
     → paid + 64 * steps + 960 ≤ 64 * work → start + spent ≤ 64 * work
 time_numbers spent paid steps work start few pays below = omega (arith, few, pays, below)
 
--- what is known of a made image beside its being made: the account of the numbered procedures, and how high coercions
--- are
+-- what is known of a made image beside its being made: the account of the numbered procedures, how high coercions are,
+-- and that the calculus takes no output back
 pub record IsMeasured (program : Program) (rows : List CastRow) (term : RowTerm) (answer : ℕ) : Type 0 where
   pub tall : tallest_of program.types (row_casts rows) ≤ (measures_of program).height
+  pub grows : (input : List ℕ) → OutputGrows (calc program input)
   pub keeps : (input : List ℕ) → let mode = merging program.types (row_casts rows) in
       FollowsWithin (FlatBelow 2) FlatPaidBelow
       (flat_tally_in (converted term) (made term) mode (merged_prices program.types mode (measures_of program))
@@ -135,23 +142,16 @@ module _ {program : Program} {rows : List CastRow} {term : RowTerm} {answer : �
   abbrev low : LowState
   low = low_start setting first start.memory start.world
 
-  abbrev served : List Proc
-  served = lowered (run_by (converted term) statics (cast_ways program.types (row_casts rows))) (converted term)
-      (made term) row (serving (converted term))
-
-  there : slice_get served (length (converted term)) ≡ Some first
-  there =
-      let run = run_by (converted term) statics (cast_ways program.types (row_casts rows)) in
-      entry_there (map (low_proc run) (converted term)) first (serving (converted term)) (length (converted term))
-      (length-map (converted term) (low_proc run))
-
   abbrev flat_run : Run FlatTally Outcome
   flat_run =
       flat_tally_in (converted term) (made term) (merging program.types (row_casts rows))
       (merged_prices program.types (merging program.types (row_casts rows)) (measures_of program))
       (told_of program answer) input
 
-  keeps : FollowsWithin (KeepsFlat setting) PaysFlat
+  abbrev Keeps : Metered LowShown → FlatTally → Type 0
+  Keeps = KeepsFlat setting (4 * tallest_of program.types (row_casts rows) + 7) ((measures_of program).size + 24)
+
+  keeps : FollowsWithin Keeps PaysFlat
       (run (metered (low_price setting.procs) (low_machine ending_of setting)) (unspent low)) flat_run
   keeps = words_keep passed row_is made_so region stack input r s measured.tall
 
@@ -184,7 +184,7 @@ module _ {program : Program} {rows : List CastRow} {term : RowTerm} {answer : �
 
   -- by what the run over words and the numbered procedures show at moments that correspond
   lacks_by : (last : State) (low : Metered LowShown) (tally : FlatTally) (n : ℕ)
-      → HasRegionOf (start.regs 25) last low.rest → Exceeds setting low.rest → KeepsFlat setting low tally
+      → HasRegionOf (start.regs 25) last low.rest → Exceeds setting low.rest → Keeps low tally
       → FlatBelow 2 tally (account program input n).shown → last.world.output ≡ (account program input n).output
       → RegionLacks program input region last
   lacks_by last low tally n holds exceeds words below same =
@@ -224,7 +224,8 @@ module _ {program : Program} {rows : List CastRow} {term : RowTerm} {answer : �
       subst (RegionLacks program input region) (sym (shows_state ending_of m start))
       (by (reason region_reading answers_right lacks_right setting (length (converted term)) first start.memory
       start.world (low_price setting.procs) (run (machine_by region_reading) start) flat_run (account program input)
-      (HasRegionOf (start.regs 25)) (KeepsFlat setting) (FlatBelow 2) RegionOut tells_region (omega arith) there quiet
+      (HasRegionOf (start.regs 25)) Keeps (FlatBelow 2) RegionOut tells_region (omega arith)
+      (begins_there passed row_is made_so region stack input r s) quiet
       (runs_by region_reading refl
       (never_wrong_too region_reading ending_of answers_right lacks_right setting low never)) keeps
       (measured.keeps input)
@@ -233,13 +234,37 @@ module _ {program : Program} {rows : List CastRow} {term : RowTerm} {answer : �
     where
       by : Reason region_reading answers_right lacks_right setting (length (converted term)) first start.memory
           start.world (low_price setting.procs) (run (machine_by region_reading) start) flat_run (account program input)
-          (HasRegionOf (start.regs 25)) (KeepsFlat setting) (FlatBelow 2)
+          (HasRegionOf (start.regs 25)) Keeps (FlatBelow 2)
           (run (machine_by region_reading) start m).shown (run (machine_by region_reading) start m).output
           → RegionLacks program input region (run_of m start).0
       by why =
           lacks_by (run_of m start).0 why.low why.tally why.n
           (subst (λ t. HasRegionOf (start.regs 25) t why.low.rest) (shows_state region_reading m start) why.machine)
           why.exceeds why.words why.account (sym (prints_state region_reading m start) ∙ why.same)
+
+  -- ---- stack
+
+  pub lacks_stack : (m : ℕ) → stop_after image region stack input m ≡ Some (Lacks Stack)
+      → StackLacks program input stack (mach image region stack input m).shown
+  lacks_stack m stops =
+      let last = (run_of m start).0 in
+      let calm = programs_want_no_room 6 (inr refl)
+      (run_by (converted term) statics (cast_ways program.types (row_casts rows))) (converted term) (made term) row
+      (suc (length (converted term))) in
+      let a = lacks_in_words passed row_is made_so region stack input r s calm m last (ap (λ o. (last, o)) stops) in
+      let meter = meter_changes_nothing_else-machines (low_machine ending_of setting) (low_price setting.procs) a.0
+      (unspent low) in
+      let b = keeps.back a.0 in
+      let deep = is_deep (converted term) (merging program.types (row_casts rows))
+      (merged_prices program.types (merging program.types (row_casts rows)) (measures_of program))
+      (told_of program answer) (made term) input program (measured.grows input) (measured.keeps input) b.0 in
+      let few = numbered_words ((measures_of program).size + 24) setting.procs a.2.number a.2.proc
+      (few_words passed row_is made_so region stack input r s) a.2.there in
+      let room : room_in start ≡ stack = omega arith in
+      subst (StackLacks program input stack) (sym (shows_state ending_of m start))
+      (stack_lacks_by program input stack last _ _ _ a.2.proc.words (tallest_of program.types (row_casts rows)) deep.n
+      (a.1 ∙ (sym meter.0 ∙ (b.1.0.output ∙ deep.output))) (within room (subst (λ (l : LowShown). room_in start <
+      frames_size l.frames l.held) (sym meter.2) a.2.exceeds)) b.1.0.shown.frames deep.depth measured.tall a.2.left few)
 
 module _ {program : Program} {rows : List CastRow} {term : RowTerm} {answer : ℕ} {nodes : List Node} {row : TypeRow}
     {statics : Statics} {image : List ℕ}
@@ -249,5 +274,6 @@ module _ {program : Program} {rows : List CastRow} {term : RowTerm} {answer : �
   pub keeps_account : KeepsAccount image program
   keeps_account = record {
     region = λ region stack input m r s. lacks_region passed row_is made_so measured region stack input r s m;
+    stack = λ region stack input m r s. lacks_stack passed row_is made_so measured region stack input r s m;
     steps = λ region stack input n m r s. comes passed row_is made_so measured region stack input r s n m;
   }

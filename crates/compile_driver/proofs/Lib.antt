@@ -10,6 +10,9 @@ pub mod Kept
 mod Readings
 mod MachineOutput
 mod CalculusAccount
+mod FlatOutput
+mod FewWords
+mod StackAccount
 mod Raised
 mod Stopping
 pub mod Following

@@ -20,6 +20,7 @@ use cast_insert::casts::CastEntry;
 use cast_insert::insertion::Elab;
 use closure_convert::program::convert;
 use coer_core::program::to_coercions;
+use core_calc::laws::output_only_grows;
 use front_end::elaborate_text;
 use grift_base::lists::OutOfMemory;
 use grift_base::refusals::FrontFault;
@@ -97,6 +98,7 @@ fn words_over(alloc: Global, types: &TypeTable, elab: &Elab) -> Result<Words, Ou
     ensures stands { IfOk result (λ words. StandsFor words.low (program_over types.now elab.now)) }
 {
     types.len();
+    output_only_grows();
     are_narrow(elab.casts.as_slice());
     let coer = to_coercions(alloc, &elab.core, types)?;
     let flat = convert(alloc, &coer)?;
@@ -148,9 +150,10 @@ pub fn words_of(alloc: Global, text: &[u8]) -> Result<LowProgram, FrontFault>
 /// Compiles a source: it is read, parsed and elaborated, casts become coercions, functions become procedures, and these
 /// become words and instructions. The image follows the source's program, for every region, stack and input, and after
 /// each instruction whole objects fill the region, no proxy stands on a proxy, and no proxy's coercion is higher than
-/// the tallest of the casts. It lacks region only where the account of the program has more words than the region, and
-/// within 64 instructions for each unit of the account's work it comes to what the program comes to, or is exhausted. A
-/// source is refused exactly as it is read, parsed or elaborated.
+/// the tallest of the casts. It lacks region only where the account of the program has more words than the region. It
+/// lacks stack only where the frames that the account allows have more bytes than the stack, and where fewer bytes of
+/// it are left than a frame may have and 4,096. Within 64 instructions for each unit of the account's work it comes to
+/// what the program comes to, or is exhausted. A source is refused exactly as it is read, parsed or elaborated.
 pub fn compile(alloc: Global, text: &[u8]) -> Result<Compiled, FrontFault>
     requires { length text.now ≤ source_limit }
     ensures source { IfOk result (λ compiled. HasProgram text.now (program_of compiled)) }

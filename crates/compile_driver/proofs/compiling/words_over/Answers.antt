@@ -1,4 +1,4 @@
-use Rattle.std.proofs.Common.{◌≡◌, ◌+◌, ◌<◌, ◌≤◌, ◌^◌, ℕ, List, true, ap, length, sym, ◌∙◌, subst, rules}
+use Rattle.std.proofs.Common.{◌≡◌, ◌+◌, ◌<◌, ◌≤◌, ◌^◌, ℕ, List, true, ap, arith, length, sym, ◌∙◌, subst, rules}
 use Rattle.std.specs.Prelude.{All, [], Some}
 use Rattle.std.proofs.lemmas.List.{length-map}
 use Rattle.grift_base.specs.Types.{row_at}
@@ -12,7 +12,7 @@ use Rattle.front_end.specs.Placed.{IsPlaced, any_operator}
 use Rattle.front_end.proofs.Public.{program_type_there}
 use Rattle.lower.specs.Serving.{all_have_words}
 use Rattle.run_laws.specs.Accounts.{FollowsWithin}
-use Rattle.core_calc.specs.Account.{account, measures_of}
+use Rattle.core_calc.specs.Account.{account, extent, measures_of}
 use Rattle.coercion_norm.specs.MergedMode.{merging}
 use Rattle.coer_core.specs.Counts.{told_of}
 use Rattle.flat_ir.specs.FlatTally.{FlatBelow, FlatPaidBelow, flat_tally_in, merged_prices}
@@ -23,6 +23,7 @@ use Rattle.low_ir.specs.Views.{procs_of}
 use Rattle.reg_assign.specs.Images.{IsImageOfWords}
 use Rattle.coercion_norm.specs.Modes.{row_cast, row_casts}
 use Rattle.coer_core.specs.Programs.{tallest_of}
+use Rattle.coer_core.specs.Terms.{core_of}
 use Rattle.coer_core.specs.Uses.{NumbersBelow}
 use Rattle.coer_core.specs.Views.{row_term_of}
 use Rattle.flat_ir.specs.Views.{proc_of as flat_proc_of}
@@ -32,6 +33,7 @@ use Rattle.compile_driver.specs.Compiling.{program_over}
 use Rattle.compile_driver.specs.Parts.{HasWords}
 use Rattle.compile_driver.specs.Space.{KeepsSpace}
 use Rattle.compile_driver.proofs.Covered.{covers_all, is_covered, words_for_all}
+use Rattle.compile_driver.proofs.FewWords.{levels_within}
 use Rattle.compile_driver.proofs.Following.{HasPassed, are_made, casts_within, follows_program, keeps_space}
 use Rattle.compile_driver.proofs.Following.{no_names}
 use Rattle.compile_driver.proofs.ImageAccount.{IsMeasured, keeps_account}
@@ -144,6 +146,11 @@ answers c image is short =
             (operators_have_few_operands (row_casts rows) types labels term coer.answer.0 c.len.ensures.table.widths
             typed);
         narrow = c.in_ok-low.ensures.narrow;
+        levels = levels_within (extent (core_of (row_casts rows) term)) (extent (term_of elab.core) + length types)
+            (procs_of_flat flat.procs)
+            (subst (λ t. extent t ≤ extent (term_of elab.core) + length types) (sym c.in_ok-coer.ensures.reads)
+            (omega arith))
+            (c.in_ok-flat.ensures.levels (row_casts rows) types labels coer.answer.0 typed);
         short = short;
       });
     }
@@ -168,6 +175,7 @@ is_measured c =
     let prices = merged_prices types mode (measures_of program) in
     record {
       tall = subst (λ n. n ≤ (measures_of program).height) c.in_ok-coer.ensures.tallest c.in_ok-coer.ensures.height;
+      grows = λ input. c.output_only_grows.ensures.runs program input;
       keeps = λ input.
           subst (λ procs. FollowsWithin (FlatBelow 2) FlatPaidBelow
           (flat_tally_in procs (made term) mode prices (told_of program coer.answer.0) input) (account program input))
