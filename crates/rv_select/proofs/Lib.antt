@@ -2,7 +2,6 @@ pub mod StackSizes
 pub mod WordCounts
 pub mod Spared
 pub mod Public
-mod Bounded
 mod Paying
 mod Pricing
 mod Stretches
