@@ -11,8 +11,7 @@ fn integers_have_values(rt: HostRuntime) {
         ("9223372036854775808", None),
     ] {
         let bytes = text.as_bytes();
-        assert!(rt; is_integer(bytes), "{text}");
-        assert!(rt; integer(bytes) == value, "{text}");
+        assert!(rt; is_integer(bytes) && integer(bytes) == value, "{text}");
     }
     for text in ["", "-", "+ 1", "1.", "--1", "0x1"] {
         assert!(rt; !is_integer(text.as_bytes()), "{text}");

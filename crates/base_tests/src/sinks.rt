@@ -3,9 +3,9 @@
 ghost use Rattle.std.specs.Prelude.{◌≡◌, ◌++◌, option_map, IsErrOf, OnOk};
 ghost use Rattle.grift_base.specs.Outside.{next_count};
 
-use grift_base::lists::CallList;
+use grift_base::lists::{CallList, OutOfMemory};
 use grift_base::sinks::{DropSink, MemSink, Sink, SinkFault};
-use std::test::Fail;
+use std::alloc::Global;
 
 // Puts the bytes twice, into any sink.
 fn put_twice<O: Sink>(sink: &mut O, bytes: &[u8]) -> Result<(), SinkFault>
@@ -17,22 +17,33 @@ fn put_twice<O: Sink>(sink: &mut O, bytes: &[u8]) -> Result<(), SinkFault>
     sink.put(bytes)
 }
 
-#[test]
-fn keeps_bytes(rt: HostRuntime) -> Result<(), Fail> {
-    let mut failing = CallList::new(rt.alloc());
-    failing.push(3)?;
-    let mut sink = MemSink::new(rt.alloc(), failing)?;
-    let rows: [(&[u8], Result<(), SinkFault>, u64); 2] = [
-        (b"ab", Ok(()), 0),
-        (b"c", Err(SinkFault::Failed), 1),
-    ];
-    for (bytes, wanted, faults) in rows {
-        let put = put_twice(&mut sink, bytes);
-        assert!(rt; (put, sink.faults()) == (wanted, faults));
+// Bytes that are put twice into a sink whose third put fails, one row after another: the answer, and how many puts
+// have failed then.
+const PUTS: &[(&[u8], Result<(), SinkFault>, u64)] = &[
+    (b"ab", Ok(()), 0),
+    (b"c", Err(SinkFault::Failed), 1),
+];
+
+// Whether a sink keeps what is put, and nothing of a put that fails.
+fn keeps(sink: &mut MemSink) -> bool {
+    let mut all = true;
+    for (bytes, wanted, faults) in PUTS {
+        let put = put_twice(sink, bytes);
+        all = all && (put, sink.faults()) == (*wanted, *faults);
     }
-    assert!(rt; sink.put(b"d") == Ok(()));
-    assert!(rt; sink.bytes() == b"ababcd".as_slice());
-    Ok(())
+    all && sink.put(b"d") == Ok(()) && sink.bytes() == b"ababcd".as_slice()
+}
+
+// The same of a new sink.
+fn new_sink_keeps(alloc: Global) -> Result<bool, OutOfMemory> {
+    let failing = CallList::from_slice(alloc, &[3])?;
+    let mut sink = MemSink::new(alloc, failing)?;
+    Ok(keeps(&mut sink))
+}
+
+#[test]
+fn keeps_bytes(rt: HostRuntime) {
+    assert!(rt; matches!(new_sink_keeps(rt.alloc()), Ok(true)));
 }
 
 #[test]

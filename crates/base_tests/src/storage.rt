@@ -1,12 +1,12 @@
 // Objects in storage, and walks over them.
 
+use grift_base::lists::OutOfMemory;
 use grift_base::words::{WordList, Words};
 use object_layout::headers::{Header, pack, unpack};
 use object_layout::kinds::Kind;
 use object_layout::walks::{SpaceReport, WalkFault, walk};
 use object_layout::wholes::{Area, whole_object};
 use std::alloc::Global;
-use std::test::Fail;
 
 // The first address of the memories here.
 const FIRST: u64 = 65_536;
@@ -34,10 +34,24 @@ impl Words for Storage {
     }
 }
 
-fn storage_of(alloc: Global, words: &[u64]) -> Result<Storage, Fail> {
-    Ok(Storage {
-        words: WordList::from_slice(alloc, words)?,
-    })
+// A word of a memory.
+#[derive(Clone, Copy)]
+enum Piece {
+    // a header with a kind, a height and a count
+    Header(Kind, u16, u32),
+    // one that has another bit besides
+    OddHeader(Kind, u16, u32),
+    Word(u64),
+}
+
+impl Piece {
+    fn word(self) -> u64 {
+        match self {
+            Piece::Header(kind, height, count) => header(kind, height, count),
+            Piece::OddHeader(kind, height, count) => header(kind, height, count) | 256,
+            Piece::Word(word) => word,
+        }
+    }
 }
 
 fn header(kind: Kind, height: u16, count: u32) -> u64 {
@@ -48,159 +62,212 @@ fn header(kind: Kind, height: u16, count: u32) -> u64 {
     })
 }
 
+// A memory of these words, of which the one at a place may be another.
+fn storage_of(
+    alloc: Global,
+    pieces: &[Piece],
+    change: Option<(usize, Piece)>,
+) -> Result<Storage, OutOfMemory> {
+    let mut words = WordList::new(alloc);
+    for (at, piece) in pieces.iter().enumerate() {
+        let piece = match change {
+            Some((place, other)) if place == at => other,
+            _ => *piece,
+        };
+        words.push(piece.word())?;
+    }
+    Ok(Storage { words })
+}
+
 // One type of each of two heights, and behind them, from 65,560 on, an object of each kind that may stand in a region.
-fn each_kind(alloc: Global) -> Result<Vec<u64>, Fail> {
-    Ok(vec![in alloc;
-        header(Kind::IntType, 0, 0),
-        header(Kind::RefType, 1, 1),
-        65_536,
-        header(Kind::Closure, 0, 1),
-        65_536,
-        header(Kind::Boxed, 0, 1),
-        7,
-        header(Kind::Fail, 0, 1),
-        0,
-        header(Kind::Fun, 1, 2),
-        0,
-        65_592,
-        header(Kind::Tup, 2, 1),
-        65_608,
-        header(Kind::Ref, 1, 2),
-        0,
-        0,
-        header(Kind::Vec, 1, 2),
-        0,
-        65_592,
-        header(Kind::Inject, 1, 2),
-        65_648,
-        65_544,
-        header(Kind::Project, 1, 3),
-        65_544,
-        3,
-        65_592,
-        header(Kind::Dyn, 0, 2),
-        65_536,
-        5,
-        header(Kind::Proxy, 0, 2),
+const EACH_KIND: &[Piece] = &[
+    Piece::Header(Kind::IntType, 0, 0),
+    Piece::Header(Kind::RefType, 1, 1),
+    Piece::Word(65_536),
+    Piece::Header(Kind::Closure, 0, 1),
+    Piece::Word(65_536),
+    Piece::Header(Kind::Boxed, 0, 1),
+    Piece::Word(7),
+    Piece::Header(Kind::Fail, 0, 1),
+    Piece::Word(0),
+    Piece::Header(Kind::Fun, 1, 2),
+    Piece::Word(0),
+    Piece::Word(65_592),
+    Piece::Header(Kind::Tup, 2, 1),
+    Piece::Word(65_608),
+    Piece::Header(Kind::Ref, 1, 2),
+    Piece::Word(0),
+    Piece::Word(0),
+    Piece::Header(Kind::Vec, 1, 2),
+    Piece::Word(0),
+    Piece::Word(65_592),
+    Piece::Header(Kind::Inject, 1, 2),
+    Piece::Word(65_648),
+    Piece::Word(65_544),
+    Piece::Header(Kind::Project, 1, 3),
+    Piece::Word(65_544),
+    Piece::Word(3),
+    Piece::Word(65_592),
+    Piece::Header(Kind::Dyn, 0, 2),
+    Piece::Word(65_536),
+    Piece::Word(5),
+    Piece::Header(Kind::Proxy, 0, 2),
+    Piece::Word(65_560),
+    Piece::Word(65_608),
+    Piece::Header(Kind::Proxy, 0, 2),
+    Piece::Word(65_776),
+    Piece::Word(65_632),
+    Piece::Header(Kind::Tuple, 0, 2),
+    Piece::Word(1),
+    Piece::Word(2),
+    Piece::Header(Kind::Vector, 0, 0),
+];
+
+// A box of one word.
+const BOX: &[Piece] = &[Piece::Header(Kind::Boxed, 0, 1), Piece::Word(42)];
+
+// What is walked in a memory of words of which one may be changed, from one address up to another. None where these
+// are in the wrong order, or no memory is left.
+fn walked(
+    alloc: Global,
+    pieces: &[Piece],
+    change: Option<(usize, Piece)>,
+    from: u64,
+    end: u64,
+) -> Option<Result<SpaceReport, WalkFault>> {
+    if end < from {
+        return None;
+    }
+    let memory = storage_of(alloc, pieces, change).ok()?;
+    Some(walk(&memory, from, end))
+}
+
+// The words of a memory, the first address, the last, and what is walked.
+const WALKS: &[(&[Piece], u64, u64, Result<SpaceReport, WalkFault>)] = &[
+    (
+        EACH_KIND,
         65_560,
-        65_608,
-        header(Kind::Proxy, 0, 2),
-        65_776,
-        65_632,
-        header(Kind::Tuple, 0, 2),
-        1,
-        2,
-        header(Kind::Vector, 0, 0),
-    ]?)
-}
+        65_856,
+        Ok(SpaceReport {
+            bytes: 296,
+            objects: 14,
+            proxies: 2,
+            stacked: 1,
+            highest: 2,
+        }),
+    ),
+    (EACH_KIND, 65_560, 65_840, Err(WalkFault::Torn(65_824))),
+    (
+        EACH_KIND,
+        65_560,
+        65_560,
+        Ok(SpaceReport {
+            bytes: 0,
+            objects: 0,
+            proxies: 0,
+            stacked: 0,
+            highest: 0,
+        }),
+    ),
+    (
+        BOX,
+        65_536,
+        65_552,
+        Ok(SpaceReport {
+            bytes: 16,
+            objects: 1,
+            proxies: 0,
+            stacked: 0,
+            highest: 0,
+        }),
+    ),
+    (BOX, 65_536, 65_544, Err(WalkFault::Torn(65_536))),
+];
 
 #[test]
-fn a_row_is_reported(rt: HostRuntime) -> Result<(), Fail> {
-    let words = each_kind(rt.alloc())?;
-    let memory = storage_of(rt.alloc(), words.as_slice())?;
-    let report = SpaceReport {
-        bytes: 296,
-        objects: 14,
-        proxies: 2,
-        stacked: 1,
-        highest: 2,
-    };
-    let empty = SpaceReport {
-        bytes: 0,
-        objects: 0,
-        proxies: 0,
-        stacked: 0,
-        highest: 0,
-    };
-    for (end, wanted) in [
-        (65_856, Ok(report)),
-        (65_840, Err(WalkFault::Torn(65_824))),
-        (65_560, Ok(empty)),
-    ] {
-        assert!(rt; 65_560 <= end);
-        assert!(rt; walk(&memory, 65_560, end) == wanted, "up to {end}");
+fn rows_are_reported(rt: HostRuntime) {
+    for (pieces, from, end, wanted) in WALKS {
+        assert!(rt;
+            walked(rt.alloc(), pieces, None, *from, *end) == Some(*wanted),
+            "up to {end}"
+        );
     }
-    Ok(())
 }
 
-// Each row has the place of a word among the words, what it becomes, and where the row is torn then.
+// The place of a word among those of `EACH_KIND`, what it becomes, and where the row is torn then.
+const CHANGES: &[(usize, Piece, u64)] = &[
+    (3, Piece::Header(Kind::IntType, 0, 0), 65_560),
+    (3, Piece::Header(Kind::Closure, 0, 0), 65_560),
+    (3, Piece::Word(7), 65_560),
+    (3, Piece::OddHeader(Kind::Closure, 0, 1), 65_560),
+    (9, Piece::Header(Kind::Fun, 0, 2), 65_608),
+    (11, Piece::Word(65_720), 65_608),
+    (11, Piece::Word(65_576), 65_608),
+    (12, Piece::Header(Kind::Tup, 2, 9), 65_632),
+    (21, Piece::Word(65_536), 65_696),
+    (22, Piece::Word(65_560), 65_696),
+    (24, Piece::Word(65_592), 65_720),
+    (26, Piece::Word(65_736), 65_720),
+    (31, Piece::Word(65_752), 65_776),
+    (31, Piece::Word(65_808), 65_776),
+    (32, Piece::Word(0), 65_776),
+    (32, Piece::Word(65_592), 65_776),
+    (36, Piece::Header(Kind::Tuple, 0, 4), 65_824),
+    (39, Piece::Header(Kind::Vector, 0, 1), 65_848),
+];
+
 #[test]
-fn each_condition_tears_where_it_breaks(rt: HostRuntime) -> Result<(), Fail> {
-    for (place, word, torn) in [
-        (3, header(Kind::IntType, 0, 0), 65_560),
-        (3, header(Kind::Closure, 0, 0), 65_560),
-        (3, 7, 65_560),
-        (3, header(Kind::Closure, 0, 1) | 256, 65_560),
-        (9, header(Kind::Fun, 0, 2), 65_608),
-        (11, 65_720, 65_608),
-        (11, 65_576, 65_608),
-        (12, header(Kind::Tup, 2, 9), 65_632),
-        (21, 65_536, 65_696),
-        (22, 65_560, 65_696),
-        (24, 65_592, 65_720),
-        (26, 65_736, 65_720),
-        (31, 65_752, 65_776),
-        (31, 65_808, 65_776),
-        (32, 0, 65_776),
-        (32, 65_592, 65_776),
-        (36, header(Kind::Tuple, 0, 4), 65_824),
-        (39, header(Kind::Vector, 0, 1), 65_848),
-    ] {
-        let mut words = each_kind(rt.alloc())?;
-        if let Some(changed) = words.get_mut(place) {
-            *changed = word;
-        }
-        let memory = storage_of(rt.alloc(), words.as_slice())?;
-        let answer = walk(&memory, 65_560, 65_856);
-        assert!(rt; answer == Err(WalkFault::Torn(torn)), "{place} {word}");
+fn each_condition_tears_where_it_breaks(rt: HostRuntime) {
+    for (place, piece, torn) in CHANGES {
+        let answer = walked(
+            rt.alloc(),
+            EACH_KIND,
+            Some((*place, *piece)),
+            65_560,
+            65_856,
+        );
+        assert!(rt;
+            answer == Some(Err(WalkFault::Torn(*torn))),
+            "{place} for {torn}"
+        );
     }
-    Ok(())
+}
+
+// A type of each kind.
+const TYPES: &[Piece] = &[
+    Piece::Header(Kind::IntType, 0, 0),
+    Piece::Header(Kind::BoolType, 0, 0),
+    Piece::Header(Kind::UnitType, 0, 0),
+    Piece::Header(Kind::DynType, 0, 0),
+    Piece::Header(Kind::FunType, 1, 2),
+    Piece::Word(65_536),
+    Piece::Word(65_544),
+    Piece::Header(Kind::TupleType, 1, 1),
+    Piece::Word(65_536),
+    Piece::Header(Kind::RefType, 1, 1),
+    Piece::Word(65_536),
+    Piece::Header(Kind::VecType, 1, 1),
+    Piece::Word(65_536),
+];
+
+// Whether a whole type stands at an address in statics, and none in a region.
+fn is_whole_in_statics_alone(alloc: Global, at: u64) -> Result<bool, OutOfMemory> {
+    let memory = storage_of(alloc, TYPES, None)?;
+    let in_statics = whole_object(&memory, Area::Statics, 65_640, at);
+    let in_region = whole_object(&memory, Area::Region, 65_640, at);
+    Ok(in_statics.is_some() && in_region.is_none())
 }
 
 #[test]
-fn types_are_whole_in_statics_alone(rt: HostRuntime) -> Result<(), Fail> {
-    let words = [
-        header(Kind::IntType, 0, 0),
-        header(Kind::BoolType, 0, 0),
-        header(Kind::UnitType, 0, 0),
-        header(Kind::DynType, 0, 0),
-        header(Kind::FunType, 1, 2),
-        65_536,
-        65_544,
-        header(Kind::TupleType, 1, 1),
-        65_536,
-        header(Kind::RefType, 1, 1),
-        65_536,
-        header(Kind::VecType, 1, 1),
-        65_536,
-    ];
-    let memory = storage_of(rt.alloc(), words.as_slice())?;
+fn types_are_whole_in_statics_alone(rt: HostRuntime) {
     for at in [
         65_536, 65_544, 65_552, 65_560, 65_568, 65_592, 65_608, 65_624,
     ] {
-        let end = 65_640;
-        let in_statics = whole_object(&memory, Area::Statics, end, at);
-        let in_region = whole_object(&memory, Area::Region, end, at);
-        assert!(rt; (in_statics.is_some(), in_region) == (true, None), "{at}");
+        assert!(rt;
+            matches!(is_whole_in_statics_alone(rt.alloc(), at), Ok(true)),
+            "{at}"
+        );
     }
-    Ok(())
-}
-
-#[test]
-fn a_box_of_two_words(rt: HostRuntime) -> Result<(), Fail> {
-    let memory = storage_of(rt.alloc(), &[header(Kind::Boxed, 0, 1), 42])?;
-    let report = SpaceReport {
-        bytes: 16,
-        objects: 1,
-        proxies: 0,
-        stacked: 0,
-        highest: 0,
-    };
-    for (end, wanted) in [(65_552, Ok(report)), (65_544, Err(WalkFault::Torn(65_536)))] {
-        assert!(rt; 65_536 <= end);
-        assert!(rt; walk(&memory, 65_536, end) == wanted, "up to {end}");
-    }
-    Ok(())
 }
 
 #[test]

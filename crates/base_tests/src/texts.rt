@@ -4,7 +4,7 @@ use grift_base::places::Pos;
 use grift_base::refusals::{FrontFault, Refusal, RefusalKind};
 use sexpr_reader::read;
 use sexpr_reader::sexps::{Sexp, SexpList, SexpNode};
-use std::alloc::Global;
+use std::alloc::{AllocError, Global};
 use std::fmt::Write;
 use std::test::Fail;
 
@@ -16,15 +16,15 @@ fn reading(alloc: Global, text: &[u8]) -> Result<SexpList, Fail> {
     Ok(read(alloc, text)?)
 }
 
-// The refusal of a text that is short enough, and none where it is read.
-fn refusal(alloc: Global, text: &[u8]) -> Result<Option<Refusal>, Fail> {
+// Whether a text that is short enough has this refusal, or is read where it has none.
+fn has_refusal(alloc: Global, text: &[u8], wanted: Option<Refusal>) -> bool {
     if text.len() > 262144 {
-        return Err(Fail::from("too long"));
+        return false;
     }
     match read(alloc, text) {
-        Ok(_) => Ok(None),
-        Err(FrontFault::Refused(refusal)) => Ok(Some(refusal)),
-        Err(FrontFault::OutOfMemory) => Err(Fail::from("no memory")),
+        Ok(_) => wanted.is_none(),
+        Err(FrontFault::Refused(refusal)) => wanted == Some(refusal),
+        Err(FrontFault::OutOfMemory) => false,
     }
 }
 
@@ -56,11 +56,12 @@ fn show(out: &mut String, sexp: &Sexp) -> Result<(), Fail> {
     Ok(())
 }
 
-fn shown(alloc: Global, text: &[u8]) -> Result<String, Fail> {
+// Whether this is shown of a text.
+fn is_shown(alloc: Global, text: &[u8], expected: &str) -> Result<bool, Fail> {
     let list = reading(alloc, text)?;
     let mut out = String::new(alloc);
     show_all(&mut out, &list)?;
-    Ok(out)
+    Ok(out.as_str() == expected)
 }
 
 // A text, and what is shown of it.
@@ -85,8 +86,7 @@ const READ: &[(&str, &str)] = &[
 #[test]
 fn texts_read(rt: HostRuntime) -> Result<(), Fail> {
     for (text, expected) in READ {
-        let out = shown(rt.alloc(), text.as_bytes())?;
-        assert!(rt; out.as_str() == *expected);
+        assert!(rt; is_shown(rt.alloc(), text.as_bytes(), expected)?, "{text}");
     }
     Ok(())
 }
@@ -124,67 +124,97 @@ const REFUSED: &[(&str, RefusalKind, u32, u32)] = &[
 ];
 
 #[test]
-fn texts_are_refused_where_they_first_fail(rt: HostRuntime) -> Result<(), Fail> {
+fn texts_are_refused_where_they_first_fail(rt: HostRuntime) {
     for (text, kind, line, col) in REFUSED {
-        let refused = Refusal {
-            kind: *kind,
-            pos: Pos {
-                line: *line,
-                col: *col,
-            },
+        let pos = Pos {
+            line: *line,
+            col: *col,
         };
-        assert!(rt; refusal(rt.alloc(), text.as_bytes())? == Some(refused));
+        let refused = Refusal { kind: *kind, pos };
+        assert!(rt;
+            has_refusal(rt.alloc(), text.as_bytes(), Some(refused)),
+            "{text}"
+        );
     }
-    Ok(())
+}
+
+// The refusal of this kind in the first line.
+fn refused_at(kind: RefusalKind, col: u32) -> Refusal {
+    let pos = Pos { line: 1, col };
+    Refusal { kind, pos }
+}
+
+// Whether a text of so many lists that are opened, and so many that are closed, has this refusal.
+fn nested_has_refusal(
+    alloc: Global,
+    opened: usize,
+    closed: usize,
+    wanted: Option<Refusal>,
+) -> Result<bool, AllocError> {
+    let mut text = vec![in alloc; b'('; opened]?;
+    for _ in 0..closed {
+        text.push(b')')?;
+    }
+    Ok(has_refusal(alloc, text.as_slice(), wanted))
 }
 
 #[test]
-fn lists_nest_two_hundred_deep(rt: HostRuntime) -> Result<(), Fail> {
+fn lists_nest_two_hundred_deep(rt: HostRuntime) {
     for (opened, closed, wanted) in [
-        (201, 0, Some((RefusalKind::TooDeep, 201))),
-        (200, 0, Some((RefusalKind::Unclosed, 200))),
+        (201, 0, Some(refused_at(RefusalKind::TooDeep, 201))),
+        (200, 0, Some(refused_at(RefusalKind::Unclosed, 200))),
         (200, 200, None),
     ] {
-        let mut text = vec![in rt.alloc(); b'('; opened]?;
-        let closing = vec![in rt.alloc(); b')'; closed]?;
-        text.extend_from_slice(closing.as_slice())?;
-        let refused = refusal(rt.alloc(), text.as_slice())?;
-        let wanted = wanted.map(|(kind, col)| Refusal {
-            kind,
-            pos: Pos { line: 1, col },
-        });
-        assert!(rt; refused == wanted, "{opened} opened, {closed} closed");
+        assert!(rt;
+            matches!(
+                nested_has_refusal(rt.alloc(), opened, closed, wanted),
+                Ok(true)
+            ),
+            "{opened} opened, {closed} closed"
+        );
     }
-    Ok(())
+}
+
+// A byte, and the kind and the column of the refusal of the longest text of it.
+const LARGE: &[(u8, RefusalKind, u32)] = &[
+    (b'(', RefusalKind::TooDeep, 201),
+    (b';', RefusalKind::Empty, 1),
+    (b'"', RefusalKind::NotInProfile, 1),
+    (b' ', RefusalKind::Empty, 1),
+    (b'1', RefusalKind::NumberRange, 1),
+];
+
+// Whether that text has this refusal.
+fn large_has_refusal(alloc: Global, byte: u8, refused: Refusal) -> Result<bool, AllocError> {
+    let text = vec![in alloc; byte; 262144]?;
+    Ok(has_refusal(alloc, text.as_slice(), Some(refused)))
 }
 
 #[test]
-fn large_texts_are_refused(rt: HostRuntime) -> Result<(), Fail> {
-    let table = [
-        (b'(', RefusalKind::TooDeep, 201),
-        (b';', RefusalKind::Empty, 1),
-        (b'"', RefusalKind::NotInProfile, 1),
-        (b' ', RefusalKind::Empty, 1),
-        (b'1', RefusalKind::NumberRange, 1),
-    ];
-    for (byte, kind, col) in table {
-        let text = vec![in rt.alloc(); byte; 262144]?;
-        let pos = Pos { line: 1, col };
-        assert!(rt; refusal(rt.alloc(), text.as_slice())? == Some(Refusal { kind, pos }));
+fn large_texts_are_refused(rt: HostRuntime) {
+    for (byte, kind, col) in LARGE {
+        let refused = refused_at(*kind, *col);
+        assert!(rt;
+            matches!(large_has_refusal(rt.alloc(), *byte, refused), Ok(true)),
+            "{byte}"
+        );
     }
-    Ok(())
 }
 
-#[test]
-fn long_lists_are_read_and_dropped(rt: HostRuntime) -> Result<(), Fail> {
-    let mut text = vec![in rt.alloc(); b'('; 1]?;
+// A list of 131,068 symbols.
+fn long_text(alloc: Global) -> Result<Vec<u8>, AllocError> {
+    let mut text = vec![in alloc; b'('; 1]?;
     for _ in 0..131068 {
         text.extend_from_slice(b"a ")?;
     }
     text.push(b')')?;
-    let list = reading(rt.alloc(), text.as_slice())?;
+    Ok(text)
+}
+
+// How many s-expressions there are in a list that is the first of others.
+fn length_of_first(list: &SexpList) -> u64 {
     let mut count = 0u64;
-    if let SexpList::Cons(first, _) = &list {
+    if let SexpList::Cons(first, _) = list {
         if let SexpNode::List(items) = &first.node {
             let mut rest = items;
             while let SexpList::Cons(_, others) = rest {
@@ -193,17 +223,34 @@ fn long_lists_are_read_and_dropped(rt: HostRuntime) -> Result<(), Fail> {
             }
         }
     }
-    assert!(rt; count == 131068);
-    Ok(())
+    count
+}
+
+// How many symbols of the long list are read.
+fn symbols_read(alloc: Global) -> Result<u64, Fail> {
+    let text = long_text(alloc)?;
+    let list = reading(alloc, text.as_slice())?;
+    Ok(length_of_first(&list))
 }
 
 #[test]
+fn long_lists_are_read_and_dropped(rt: HostRuntime) -> Result<(), Fail> {
+    assert!(rt; symbols_read(rt.alloc())? == 131068);
+    Ok(())
+}
+
+// Whether this is written of the s-expressions of a text.
+fn is_written(alloc: Global, text: &[u8], expected: &str) -> Result<bool, Fail> {
+    let list = reading(alloc, text)?;
+    let written = format!(in alloc; "{list:?}")?;
+    Ok(written.as_str() == expected)
+}
+
+const WRITTEN: &str = "[Sexp { pos: Pos { line: 1, col: 1 }, node: Bool(true) }, \
+    Sexp { pos: Pos { line: 1, col: 4 }, node: Bool(false) }]";
+
+#[test]
 fn s_expressions_are_written_for_debugging(rt: HostRuntime) -> Result<(), Fail> {
-    let truths = reading(rt.alloc(), b"#t #f")?;
-    let written = format!(in rt.alloc(); "{truths:?}")?;
-    let first = "Sexp { pos: Pos { line: 1, col: 1 }, node: Bool(true) }";
-    let second = "Sexp { pos: Pos { line: 1, col: 4 }, node: Bool(false) }";
-    let expected = format!(in rt.alloc(); "[{first}, {second}]")?;
-    assert!(rt; written.as_str() == expected.as_str());
+    assert!(rt; is_written(rt.alloc(), b"#t #f", WRITTEN)?);
     Ok(())
 }

@@ -4,7 +4,6 @@ use grift_base::lists::OutOfMemory;
 use grift_base::places::Pos;
 use grift_base::verdicts::{Answer, AnswerKind, Trap, Verdict, verdict_line};
 use std::alloc::Global;
-use std::test::Fail;
 
 #[test]
 fn traps_have_numbers_and_texts(rt: HostRuntime) {
@@ -117,9 +116,11 @@ fn is_line(alloc: Global, verdict: &Verdict, text: &str) -> Result<bool, OutOfMe
 }
 
 #[test]
-fn verdicts_have_lines(rt: HostRuntime) -> Result<(), Fail> {
+fn verdicts_have_lines(rt: HostRuntime) {
     for (verdict, text) in LINES {
-        assert!(rt; is_line(rt.alloc(), verdict, text)?, "{text}");
+        assert!(rt;
+            matches!(is_line(rt.alloc(), verdict, text), Ok(true)),
+            "{text}"
+        );
     }
-    Ok(())
 }

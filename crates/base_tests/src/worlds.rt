@@ -4,48 +4,69 @@ use grift_base::lists::{Bytes, OutOfMemory};
 use grift_base::verdicts::{Answer, AnswerKind, Trap};
 use grift_base::worlds::{EnvEffect, World};
 use std::alloc::Global;
-use std::test::Fail;
 
 fn quiet_world(alloc: Global) -> World {
     World::new(alloc, Bytes::new(alloc))
 }
 
-#[test]
-fn prints(rt: HostRuntime) -> Result<(), Fail> {
-    let mut world = quiet_world(rt.alloc());
+// Whether a world with nothing to read prints an integer and a byte one after the other.
+fn prints_both(alloc: Global) -> Result<bool, OutOfMemory> {
+    let mut world = quiet_world(alloc);
     world.print_int(-7)?;
     world.print_byte(b'\n')?;
-    assert!(rt; (world.output.as_slice(), world.place) == (b"-7\n".as_slice(), 0));
-    Ok(())
+    Ok(world.place == 0 && world.output.as_slice() == b"-7\n".as_slice())
 }
 
-// Of the words 0, 1 and 2 each kind takes the first so many.
+#[test]
+fn prints(rt: HostRuntime) {
+    assert!(rt; matches!(prints_both(rt.alloc()), Ok(true)));
+}
+
+// A number of a call, its two arguments and how many labels there are.
+type Call = (u64, u64, u64, u32);
+
+// Whether a call comes to this, and prints this.
+fn comes_to(alloc: Global, call: Call, effect: EnvEffect, text: &str) -> bool {
+    let mut world = quiet_world(alloc);
+    let (number, a0, a1, labels) = call;
+    world.env(number, a0, a1, labels) == effect && world.output.as_slice() == text.as_bytes()
+}
+
+// What call 0 comes to with a kind and a word, of which the kind takes the words below another.
+fn ending(kind: AnswerKind, word: u64, taken: u64) -> EnvEffect {
+    if word < taken {
+        EnvEffect::Ended(Answer {
+            kind,
+            word: word.cast_signed(),
+        })
+    } else {
+        EnvEffect::Refused
+    }
+}
+
+// The number of a kind, and how many of the words 0, 1 and 2 it takes.
+const ENDS: &[(u64, AnswerKind, u64)] = &[
+    (0, AnswerKind::Int, 3),
+    (1, AnswerKind::Bool, 2),
+    (2, AnswerKind::Unit, 1),
+    (3, AnswerKind::Function, 1),
+    (4, AnswerKind::Tuple, 1),
+    (5, AnswerKind::Boxed, 1),
+    (6, AnswerKind::Vector, 1),
+    (7, AnswerKind::Vector, 0),
+];
+
 #[test]
 fn ends_with_each_kind(rt: HostRuntime) {
-    let mut world = quiet_world(rt.alloc());
-    for (number, kind, taken) in [
-        (0, AnswerKind::Int, 3),
-        (1, AnswerKind::Bool, 2),
-        (2, AnswerKind::Unit, 1),
-        (3, AnswerKind::Function, 1),
-        (4, AnswerKind::Tuple, 1),
-        (5, AnswerKind::Boxed, 1),
-        (6, AnswerKind::Vector, 1),
-        (7, AnswerKind::Vector, 0),
-    ] {
-        for (word, signed) in [(0, 0), (1, 1), (2, 2)] {
-            let wanted = if word < taken {
-                EnvEffect::Ended(Answer { kind, word: signed })
-            } else {
-                EnvEffect::Refused
-            };
+    for (number, kind, taken) in ENDS {
+        for word in 0..3 {
+            let wanted = ending(*kind, word, *taken);
             assert!(rt;
-                world.env(0, number, word, 0) == wanted,
+                comes_to(rt.alloc(), (0, *number, word, 0), wanted, ""),
                 "kind {number}, word {word}"
             );
         }
     }
-    assert!(rt; world.output.is_empty());
 }
 
 // The number of a call, its argument, what it comes to in a program with two labels, and what it prints.
@@ -79,17 +100,11 @@ const CALLS: &[(u64, u64, EnvEffect, &str)] = &[
     (0xFFFF_FFFF_FFFF_FFFF, 0, EnvEffect::Refused, ""),
 ];
 
-// Whether a call comes to this, and prints this.
-fn comes_to(alloc: Global, number: u64, a0: u64, effect: EnvEffect, text: &str) -> bool {
-    let mut world = quiet_world(alloc);
-    world.env(number, a0, 9, 2) == effect && world.output.as_slice() == text.as_bytes()
-}
-
 #[test]
 fn makes_each_other_call(rt: HostRuntime) {
     for (number, a0, effect, text) in CALLS {
         assert!(rt;
-            comes_to(rt.alloc(), *number, *a0, *effect, text),
+            comes_to(rt.alloc(), (*number, *a0, 9, 2), *effect, text),
             "call {number} of {a0}"
         );
     }
@@ -135,25 +150,33 @@ fn is_read(
 }
 
 #[test]
-fn reads_numbers(rt: HostRuntime) -> Result<(), Fail> {
+fn reads_numbers(rt: HostRuntime) {
     for (input, answers) in INPUTS {
-        assert!(rt; is_read(rt.alloc(), input, answers)?, "in {input}");
+        assert!(rt;
+            matches!(is_read(rt.alloc(), input, answers), Ok(true)),
+            "in {input}"
+        );
     }
-    Ok(())
 }
 
-// Call 7 hands back each number as a word and 0, and where there is none 0 and 1.
-#[test]
-fn reads_by_call(rt: HostRuntime) -> Result<(), Fail> {
-    let input = b"5 -9223372036854775808 9223372036854775808";
-    let mut world = World::new(rt.alloc(), Bytes::from_slice(rt.alloc(), input)?);
-    for (effect, place) in [
+// Whether call 7 hands back each number as a word and 0, and where there is none 0 and 1.
+fn is_read_by_call(alloc: Global, input: &[u8]) -> Result<bool, OutOfMemory> {
+    let mut world = World::new(alloc, Bytes::from_slice(alloc, input)?);
+    let mut all = true;
+    for wanted in [
         (EnvEffect::Next(5, 0), 1),
         (EnvEffect::Next(0x8000_0000_0000_0000, 0), 22),
         (EnvEffect::Next(0, 1), 23),
         (EnvEffect::Next(0, 1), 23),
     ] {
-        assert!(rt; (world.env(7, 8, 9, 0), world.place) == (effect, place));
+        let effect = world.env(7, 8, 9, 0);
+        all = all && (effect, world.place) == wanted;
     }
-    Ok(())
+    Ok(all)
+}
+
+#[test]
+fn reads_by_call(rt: HostRuntime) {
+    let input = b"5 -9223372036854775808 9223372036854775808";
+    assert!(rt; matches!(is_read_by_call(rt.alloc(), input), Ok(true)));
 }

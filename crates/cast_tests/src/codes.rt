@@ -3,7 +3,7 @@
 use grift_base::lists::OutOfMemory;
 use grift_base::words::Statics;
 use low_ir::code::{LowCode, LowSource, LowSources, WordOp};
-use low_ir::programs::{LowProc, LowProgram};
+use low_ir::programs::{LowProc, LowProcs, LowProgram};
 use rt_cast::procs::cast_procs;
 use rv_isa::inst::Cond;
 use std::alloc::Global;
@@ -90,24 +90,24 @@ pub(crate) fn until(
     Ok(LowCode::If(Cond::Eq, word(0), last, one, other, rest))
 }
 
-// The program of the procedures of casts, one that goes round, and one that begins with code of so many words.
-pub(crate) fn program(
-    alloc: Global,
-    goes_round: LowProc,
-    words: u32,
-    code: LowCode,
-    statics: Statics,
-) -> Result<LowProgram, OutOfMemory> {
-    let mut procs = cast_procs(alloc, 0)?;
-    procs.push(goes_round)?;
-    procs.push(LowProc {
-        params: 0,
-        words,
-        code,
-    })?;
-    Ok(LowProgram {
+// A program with these procedures and statics, which begins with the procedure behind the one that goes round. Where
+// the procedures of casts are not 27 it isn't closed: then it begins with none, or with one that takes words.
+pub(crate) fn program(procs: LowProcs, statics: Statics) -> LowProgram {
+    LowProgram {
         procs,
         entry: ROUNDS_PROC + 1,
         statics,
-    })
+    }
+}
+
+// The procedures of casts, one that goes round, and one that begins.
+pub(crate) fn procs_with(
+    alloc: Global,
+    goes_round: LowProc,
+    begins: LowProc,
+) -> Result<LowProcs, OutOfMemory> {
+    let mut procs = cast_procs(alloc, 0)?;
+    procs.push(goes_round)?;
+    procs.push(begins)?;
+    Ok(procs)
 }

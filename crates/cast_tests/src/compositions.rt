@@ -1,13 +1,11 @@
 // Random pairs of coercions, composed on the emulator and in tables.
 
 use crate::codes::{COMPOSE, word};
-use crate::pools::Pool;
+use crate::pools::Setting;
 use crate::random::Random;
-use crate::rows::{Tally, answered, compared, push_row, told};
-use crate::samples::{Sample, random_types};
+use crate::rows::{Rows, Tally, answered, told};
 use coercion_norm::nodes::CoercionId;
 use grift_base::places::LabelId;
-use grift_base::words::{Statics, WordList};
 use std::alloc::Global;
 use std::test::Fail;
 
@@ -17,20 +15,14 @@ const PAIRS: u64 = 1_000;
 // How many programs there are.
 const PROGRAMS: u64 = 10;
 
-// Coercions of random casts.
-fn random_casts(
-    alloc: Global,
-    random: &mut Random,
-    sample: &Sample,
-    pool: &mut Pool,
-) -> Result<Vec<CoercionId>, Fail> {
-    let mut made = Vec::new(alloc);
+// Coercions of random casts are added to these.
+fn add_casts(alloc: Global, setting: &mut Setting, made: &mut Vec<CoercionId>) -> Result<(), Fail> {
     for _ in 0..40 {
-        let (from, to) = sample.pair(random)?;
-        let label = LabelId(random.below(1_000) as u32);
-        made.push(pool.cast(alloc, from, to, label)?)?;
+        let (from, to) = setting.sample.pair(&mut setting.random)?;
+        let label = LabelId(setting.random.below(1_000) as u32);
+        made.push(setting.pool.cast(alloc, from, to, label)?)?;
     }
-    Ok(made)
+    Ok(())
 }
 
 // One of these coercions.
@@ -48,77 +40,56 @@ fn one_of(random: &mut Random, made: &[CoercionId]) -> Result<CoercionId, Fail> 
 // Compositions of some of these coercions are added to them.
 fn add_compositions(
     alloc: Global,
-    random: &mut Random,
-    pool: &mut Pool,
+    setting: &mut Setting,
     made: &mut Vec<CoercionId>,
 ) -> Result<(), Fail> {
     for _ in 0..20 {
-        let c = one_of(random, made.as_slice())?;
-        let d = one_of(random, made.as_slice())?;
-        made.push(pool.compose(alloc, c, d)?)?;
+        let c = one_of(&mut setting.random, made.as_slice())?;
+        let d = one_of(&mut setting.random, made.as_slice())?;
+        made.push(setting.pool.compose(alloc, c, d)?)?;
     }
     Ok(())
 }
 
-// Random pairs of these coercions go behind the statics; their compositions in the table.
+// Coercions of random casts, and compositions of them.
+fn coercions(alloc: Global, setting: &mut Setting) -> Result<Vec<CoercionId>, Fail> {
+    let mut made = Vec::new(alloc);
+    add_casts(alloc, setting, &mut made)?;
+    add_compositions(alloc, setting, &mut made)?;
+    Ok(made)
+}
+
+// Random pairs of these coercions go behind the statics; their compositions in the table are wanted.
 fn push_pairs(
     alloc: Global,
-    random: &mut Random,
-    pool: &mut Pool,
+    setting: &mut Setting,
     made: &[CoercionId],
-    statics: &mut Statics,
-) -> Result<Vec<CoercionId>, Fail> {
-    let mut compositions = Vec::new(alloc);
+    rows: &mut Rows,
+) -> Result<(), Fail> {
     for _ in 0..PAIRS {
-        let c = one_of(random, made)?;
-        let d = one_of(random, made)?;
-        let first = told(statics.coercion_at.as_slice(), c.0)?;
-        let second = told(statics.coercion_at.as_slice(), d.0)?;
-        push_row(statics, [first, second, 0])?;
-        compositions.push(pool.compose(alloc, c, d)?)?;
+        let c = one_of(&mut setting.random, made)?;
+        let d = one_of(&mut setting.random, made)?;
+        let first = told(rows.statics.coercion_at.as_slice(), c.0)?;
+        let second = told(rows.statics.coercion_at.as_slice(), d.0)?;
+        rows.push([first, second, 0], setting.pool.compose(alloc, c, d)?)?;
     }
-    Ok(compositions)
+    Ok(())
 }
 
-// The compositions of random pairs of these coercions.
-fn tally_of_pairs(
-    alloc: Global,
-    random: &mut Random,
-    pool: &mut Pool,
-    made: &[CoercionId],
-) -> Result<Tally, Fail> {
-    let mut statics = pool.place(alloc)?;
-    let type_at = WordList::from_slice(alloc, statics.type_at.as_slice())?;
-    let compositions = push_pairs(alloc, random, pool, made, &mut statics)?;
-    let taken = [word(3), word(4)];
-    let ended = answered(alloc, COMPOSE, &taken, statics, PAIRS)?;
-    compared(
-        alloc,
-        &ended,
-        pool.table(),
-        type_at.as_slice(),
-        compositions.as_slice(),
-    )
+// Random pairs of coercions of a setting.
+fn pairs(alloc: Global, setting: &mut Setting) -> Result<Rows, Fail> {
+    let made = coercions(alloc, setting)?;
+    let mut rows = Rows::new(alloc, &setting.pool)?;
+    push_pairs(alloc, setting, made.as_slice(), &mut rows)?;
+    Ok(rows)
 }
 
-// Those of random coercions and of compositions of them.
-fn tally_of_coercions(
-    alloc: Global,
-    random: &mut Random,
-    sample: &Sample,
-    pool: &mut Pool,
-) -> Result<Tally, Fail> {
-    let mut made = random_casts(alloc, random, sample, pool)?;
-    add_compositions(alloc, random, pool, &mut made)?;
-    tally_of_pairs(alloc, random, pool, made.as_slice())
-}
-
-// Those of one program, between random types.
+// The answers of one program, between random types, against the compositions of these pairs.
 fn tally(alloc: Global, seed: u64) -> Result<Tally, Fail> {
-    let mut random = Random::new(seed);
-    let (types, sample) = random_types(alloc, &mut random)?;
-    let mut pool = Pool::new(alloc, types)?;
-    tally_of_coercions(alloc, &mut random, &sample, &mut pool)
+    let mut setting = Setting::new(alloc, seed)?;
+    let rows = pairs(alloc, &mut setting)?;
+    let taken = [word(3), word(4)];
+    answered(alloc, COMPOSE, &taken, rows, setting.pool.table(), 0)
 }
 
 // Those of all programs.

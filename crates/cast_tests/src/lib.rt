@@ -13,8 +13,6 @@ mod machines;
 #[cfg(test)]
 mod pools;
 #[cfg(test)]
-mod procs;
-#[cfg(test)]
 mod proxies;
 #[cfg(test)]
 mod random;

@@ -3,6 +3,7 @@
 ghost use Rattle.std.specs.Prelude.{◌≡◌};
 ghost use Rattle.rv_machine.specs.Start.{IsRegionSize, IsStackSize};
 
+use assembler::image::Image;
 use grift_base::lists::{Bytes, OutOfMemory};
 use grift_base::places::LabelTable;
 use grift_base::worlds::World;
@@ -30,17 +31,21 @@ pub(crate) struct Ended {
     pub report: SpaceReport,
 }
 
-// The program's machine at its start, and the address at which its region begins.
-fn started(alloc: Global, low: &LowProgram) -> Result<(Machine<FlatRam>, u64), Fail> {
+// The image of a program that is closed.
+fn image_for(alloc: Global, low: &LowProgram) -> Result<Image, Fail> {
     if !low.is_closed() {
         return Err(Fail::from("the program is not closed"));
     }
-    let image = image_of(alloc, low, &LabelTable::new(alloc))?;
-    let loaded = image.loaded().len() as u64;
-    let ram = FlatRam::new(alloc, loaded + REGION + STACK)?;
+    let made = image_of(alloc, low, &LabelTable::new(alloc));
+    Ok(made?)
+}
+
+// The machine of an image at its start.
+fn started(alloc: Global, image: &Image) -> Result<Machine<FlatRam>, OutOfMemory> {
+    let size = image.loaded().len() as u64 + REGION + STACK;
+    let ram = FlatRam::new(alloc, size)?;
     let world = World::new(alloc, Bytes::new(alloc));
-    let machine = Machine::load(alloc, &image, ram, REGION, STACK, world)?;
-    Ok((machine, FIRST_ADDRESS.wrapping_add(loaded)))
+    Machine::load(alloc, image, ram, REGION, STACK, world)
 }
 
 // The report of what stands from an address to the allocation word.
@@ -73,19 +78,33 @@ fn run_on(machine: &mut Machine<FlatRam>, from: u64, turns: u64) -> Result<Stop,
     Ok(Stop::StepsSpent)
 }
 
+// The answer of a machine, and what fills the region then.
+fn answer_of(
+    machine: &mut Machine<FlatRam>,
+    from: u64,
+    turns: u64,
+) -> Result<(u64, SpaceReport), Fail> {
+    let word = match run_on(machine, from, turns)? {
+        Stop::Ended(answer) => answer.word.cast_unsigned(),
+        _ => return Err(Fail::from("the program comes to no answer")),
+    };
+    Ok((word, report_from(machine, from)?))
+}
+
+// Runs a machine to its answer.
+fn end_of(machine: Machine<FlatRam>, from: u64, turns: u64) -> Result<Ended, Fail> {
+    let mut machine = machine;
+    let (word, report) = answer_of(&mut machine, from, turns)?;
+    Ok(Ended {
+        machine,
+        word,
+        report,
+    })
+}
+
 // Runs a program to its answer, looking at the region every so many turns, and at the end at all of it.
 pub(crate) fn runs(alloc: Global, low: &LowProgram, turns: u64) -> Result<Ended, Fail> {
-    let (mut machine, from) = started(alloc, low)?;
-    match run_on(&mut machine, from, turns)? {
-        Stop::Ended(answer) => {
-            let report = report_from(&machine, from)?;
-            let word = answer.word.cast_unsigned();
-            Ok(Ended {
-                machine,
-                word,
-                report,
-            })
-        }
-        _ => Err(Fail::from("the program comes to no answer")),
-    }
+    let image = image_for(alloc, low)?;
+    let from = FIRST_ADDRESS.wrapping_add(image.loaded().len() as u64);
+    end_of(started(alloc, &image)?, from, turns)
 }

@@ -2,6 +2,8 @@
 
 ghost use Rattle.std.specs.Prelude.{◌≡◌};
 
+use crate::random::Random;
+use crate::samples::{Sample, sample_of};
 use coercion_compose::compositions::compose;
 use coercion_norm::cast_rows::CastRows;
 use coercion_norm::casts::coerce;
@@ -89,5 +91,28 @@ impl Pool {
             &CastRows::new(alloc),
             FIRST_ADDRESS,
         )
+    }
+}
+
+// Random numbers, random types, and a pool of these.
+#[derive(Drop)]
+pub(crate) struct Setting {
+    pub random: Random,
+    pub sample: Sample,
+    pub pool: Pool,
+}
+
+impl Setting {
+    // The types of a seed, and no coercions but Id.
+    pub(crate) fn new(alloc: Global, seed: u64) -> Result<Setting, Fail> {
+        let mut random = Random::new(seed);
+        let mut types = TypeTable::new(alloc)?;
+        let sample = sample_of(alloc, &mut random, &mut types)?;
+        let pool = Pool::new(alloc, types)?;
+        Ok(Setting {
+            random,
+            sample,
+            pool,
+        })
     }
 }

@@ -1,15 +1,16 @@
 // A value that is cast there and back over and over.
 
-use crate::codes::{CAST, build, call, change, number, program, round, until, word};
+use crate::codes::{CAST, build, call, change, number, procs_with, program, round, until, word};
 use crate::machines::{Ended, runs};
 use crate::pools::Pool;
 use crate::rows::told;
 use crate::samples::put;
+use coercion_norm::nodes::CoercionId;
 use grift_base::lists::OutOfMemory;
 use grift_base::places::{LabelId, TypeId};
 use grift_base::words::{Statics, Words};
 use low_ir::code::WordOp;
-use low_ir::programs::{LowProc, LowProgram};
+use low_ir::programs::{LowProc, LowProcs, LowProgram};
 use object_layout::headers::{Header, pack};
 use object_layout::kinds::Kind;
 use object_layout::wholes::{header_at, kind_at};
@@ -35,15 +36,9 @@ fn casts(alloc: Global) -> Result<LowProc, OutOfMemory> {
     })
 }
 
-// A program that makes an object of a kind with one word, casts it by the coercions with these words 500 times over,
-// and then once more by the first.
-fn casting(
-    alloc: Global,
-    kind: Kind,
-    there: u64,
-    back: u64,
-    statics: Statics,
-) -> Result<LowProgram, OutOfMemory> {
+// Makes an object of a kind with one word, casts it by the coercions with these words 500 times over, and then once
+// more by the first.
+fn begins(alloc: Global, kind: Kind, there: u64, back: u64) -> Result<LowProc, OutOfMemory> {
     let header = pack(Header {
         kind: kind.number(),
         height: 0,
@@ -53,33 +48,77 @@ fn casting(
     let code = round(alloc, &words)?;
     let code = call(alloc, 1, CAST, &[word(0), number(there)], code)?;
     let code = build(alloc, 0, &[number(header), number(0)], code)?;
-    program(alloc, casts(alloc)?, 2, code, statics)
+    Ok(LowProc {
+        params: 0,
+        words: 2,
+        code,
+    })
 }
 
-// The type of functions from one type to another.
-fn function(
+// The procedures of a program that casts an object of a kind by the coercions with these words.
+fn casting(alloc: Global, kind: Kind, there: u64, back: u64) -> Result<LowProcs, OutOfMemory> {
+    let casts = casts(alloc)?;
+    let begins = begins(alloc, kind, there, back)?;
+    procs_with(alloc, casts, begins)
+}
+
+// Those of one that casts by two coercions of its statics.
+fn casting_by(
+    alloc: Global,
+    kind: Kind,
+    statics: &Statics,
+    there: CoercionId,
+    back: CoercionId,
+) -> Result<LowProcs, Fail> {
+    let there = told(statics.coercion_at.as_slice(), there.0)?;
+    let back = told(statics.coercion_at.as_slice(), back.0)?;
+    Ok(casting(alloc, kind, there, back)?)
+}
+
+// How two types become higher: to functions from each to the other, to functions from each to itself, or to boxes.
+#[derive(Clone, Copy)]
+enum Above {
+    Crossed,
+    Straight,
+    Boxes,
+}
+
+// The row of what stands above one of two types.
+fn row_above(alloc: Global, above: Above, one: TypeId, other: TypeId) -> Result<Row, OutOfMemory> {
+    let result = match above {
+        Above::Crossed => other,
+        Above::Straight => one,
+        Above::Boxes => return Ok(Row::Ref(one)),
+    };
+    Ok(Row::Fun(TypeIds::from_slice(alloc, &[one])?, result))
+}
+
+// Two types over Int and Dyn: the one has Int where the other has Dyn.
+fn opposites(
     alloc: Global,
     types: &mut TypeTable,
-    from: TypeId,
-    to: TypeId,
-) -> Result<TypeId, Fail> {
-    put(types, Row::Fun(TypeIds::from_slice(alloc, &[from])?, to))
-}
-
-// Two function types of a height: the one has Int where the other has Dyn.
-fn opposites(alloc: Global, types: &mut TypeTable, height: u32) -> Result<(TypeId, TypeId), Fail> {
+    heights: &[Above],
+) -> Result<(TypeId, TypeId), Fail> {
     let mut one = put(types, Row::Int)?;
     let mut other = put(types, Row::Dyn)?;
-    for _ in 0..height {
-        let (from, to) = (one, other);
-        one = function(alloc, types, from, to)?;
-        other = function(alloc, types, to, from)?;
+    for above in heights {
+        let higher = put(types, row_above(alloc, *above, one, other)?)?;
+        other = put(types, row_above(alloc, *above, other, one)?)?;
+        one = higher;
     }
     Ok((one, other))
 }
 
-// The program that casts an object of a kind between two types of a pool over and over, and the height of the cast's
-// coercion.
+// An object of a kind that is cast between two opposites, the height of the proxy that it ends as, and how many proxies
+// are left behind.
+struct Case {
+    kind: Kind,
+    heights: &'static [Above],
+    height: u32,
+    proxies: u64,
+}
+
+// The program that casts over and over, and the height of the cast's coercion.
 fn program_of_casts(
     alloc: Global,
     kind: Kind,
@@ -91,43 +130,36 @@ fn program_of_casts(
     let back = pool.cast(alloc, other, one, LabelId(1))?;
     let high = pool.height(there)?;
     let statics = pool.place(alloc)?;
-    let there_word = told(statics.coercion_at.as_slice(), there.0)?;
-    let back_word = told(statics.coercion_at.as_slice(), back.0)?;
-    let low = casting(alloc, kind, there_word, back_word, statics)?;
-    Ok((low, high))
+    let procs = casting_by(alloc, kind, &statics, there, back)?;
+    Ok((program(procs, statics), high))
 }
 
-// What it comes to, and that height.
-fn cast_over(
-    alloc: Global,
-    kind: Kind,
-    types: TypeTable,
-    one: TypeId,
-    other: TypeId,
-) -> Result<(Ended, u32), Fail> {
+// That of a case.
+fn program_of(alloc: Global, case: &Case) -> Result<(LowProgram, u32), Fail> {
+    let mut types = TypeTable::new(alloc)?;
+    let (one, other) = opposites(alloc, &mut types, case.heights)?;
     let mut pool = Pool::new(alloc, types)?;
-    let (low, high) = program_of_casts(alloc, kind, &mut pool, one, other)?;
-    Ok((runs(alloc, &low, 1_000)?, high))
+    program_of_casts(alloc, case.kind, &mut pool, one, other)
 }
 
-// Whether an object of a kind, cast between two types over and over, ends as one proxy of this height, which is that of
-// the cast's coercion and the greatest of all, and whether so many proxies are left behind.
-fn keeps_one_proxy(
-    alloc: Global,
-    kind: Kind,
-    types: TypeTable,
-    pair: (TypeId, TypeId),
-    height: u32,
-    proxies: u64,
-) -> Result<bool, Fail> {
-    let (one, other) = pair;
-    let (ended, high) = cast_over(alloc, kind, types, one, other)?;
-    Ok(
-        high == height
-            && is_proxy(&ended, kind, height)
-            && ended.report.highest == height
-            && ended.report.proxies == proxies,
-    )
+// Whether the object ends as one proxy of the case's height, which is that of the cast's coercion and the greatest of
+// all, and whether so many proxies are left behind.
+fn keeps_one_proxy(alloc: Global, case: &Case) -> Result<bool, Fail> {
+    let (low, high) = program_of(alloc, case)?;
+    Ok(high == case.height && ends_as_one_proxy(alloc, &low, case)?)
+}
+
+// Whether what a program comes to is such a proxy.
+fn ends_as_one_proxy(alloc: Global, low: &LowProgram, case: &Case) -> Result<bool, Fail> {
+    let ended = runs(alloc, low, 1_000)?;
+    Ok(is_one_proxy(&ended, case))
+}
+
+// Whether an answer is such a proxy.
+fn is_one_proxy(ended: &Ended, case: &Case) -> bool {
+    ended.report.highest == case.height
+        && ended.report.proxies == case.proxies
+        && is_proxy(ended, case.kind, case.height)
 }
 
 // Whether the answer is a proxy of an object of a kind, with a coercion of a height.
@@ -138,57 +170,45 @@ fn is_proxy(ended: &Ended, kind: Kind, high: u32) -> bool {
     let coercion = machine.word(at.wrapping_add(16));
     match (kind_at(machine, at), target, coercion) {
         (Some(Kind::Proxy), Some(target), Some(coercion)) => {
-            kind_at(machine, target) == Some(kind) && height_at(ended, coercion) == Some(high)
+            matches!(kind_at(machine, target), Some(found) if found == kind)
+                && matches!(header_at(machine, coercion), Some(h) if u32::from(h.height) == high)
         }
         _ => false,
     }
 }
 
-// The height that a header says.
-fn height_at(ended: &Ended, at: u64) -> Option<u32> {
-    let header = header_at(&ended.machine, at)?;
-    Some(u32::from(header.height))
-}
+const CASES: [Case; 3] = [
+    // a function: each cast leaves a proxy behind
+    Case {
+        kind: Kind::Closure,
+        heights: &[Above::Crossed, Above::Crossed],
+        height: 2,
+        proxies: 2 * ROUNDS + 1,
+    },
+    // a box of one: so it does here
+    Case {
+        kind: Kind::Boxed,
+        heights: &[Above::Crossed, Above::Crossed, Above::Boxes],
+        height: 3,
+        proxies: 2 * ROUNDS + 1,
+    },
+    // from Int to Dyn and back nothing is left to do, so every other cast leaves the bare function
+    Case {
+        kind: Kind::Closure,
+        heights: &[Above::Straight],
+        height: 1,
+        proxies: ROUNDS + 1,
+    },
+];
 
-// Each cast leaves a proxy behind.
 #[test]
-fn a_function_keeps_one_proxy(rt: HostRuntime) -> Result<(), Fail> {
-    let alloc = rt.alloc();
-    let mut types = TypeTable::new(alloc)?;
-    let pair = opposites(alloc, &mut types, 2)?;
-    assert!(rt; keeps_one_proxy(alloc, Kind::Closure, types, pair, 2, 2 * ROUNDS + 1)?);
-    Ok(())
-}
-
-// The types of boxes of two opposites.
-fn opposite_boxes(alloc: Global, types: &mut TypeTable) -> Result<(TypeId, TypeId), Fail> {
-    let (one, other) = opposites(alloc, types, 2)?;
-    Ok((put(types, Row::Ref(one))?, put(types, Row::Ref(other))?))
-}
-
-#[test]
-fn a_box_keeps_one_proxy(rt: HostRuntime) -> Result<(), Fail> {
-    let alloc = rt.alloc();
-    let mut types = TypeTable::new(alloc)?;
-    let pair = opposite_boxes(alloc, &mut types)?;
-    assert!(rt; keeps_one_proxy(alloc, Kind::Boxed, types, pair, 3, 2 * ROUNDS + 1)?);
-    Ok(())
-}
-
-// The types of functions of Int and of Dyn.
-fn loose_functions(alloc: Global, types: &mut TypeTable) -> Result<(TypeId, TypeId), Fail> {
-    let int = put(types, Row::Int)?;
-    let dynamic = put(types, Row::Dyn)?;
-    let one = function(alloc, types, int, int)?;
-    Ok((one, function(alloc, types, dynamic, dynamic)?))
-}
-
-// From Int to Dyn and back nothing is left to do, so every other cast leaves the bare function.
-#[test]
-fn casts_that_cancel_leave_no_proxy(rt: HostRuntime) -> Result<(), Fail> {
-    let alloc = rt.alloc();
-    let mut types = TypeTable::new(alloc)?;
-    let pair = loose_functions(alloc, &mut types)?;
-    assert!(rt; keeps_one_proxy(alloc, Kind::Closure, types, pair, 1, ROUNDS + 1)?);
+fn values_keep_one_proxy(rt: HostRuntime) -> Result<(), Fail> {
+    for case in &CASES {
+        assert!(rt;
+            keeps_one_proxy(rt.alloc(), case)?,
+            "height {}",
+            case.height
+        );
+    }
     Ok(())
 }

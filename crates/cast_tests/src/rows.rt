@@ -1,14 +1,15 @@
 // Procedures that are called for rows of words on the emulator, and their answers against coercions of a table.
 
-use crate::codes::{build, call, change, load, number, program, round, until, word};
-use crate::machines::{Ended, runs};
+use crate::codes::{build, call, change, load, number, procs_with, program, round, until, word};
+use crate::machines::runs;
+use crate::pools::Pool;
 use crate::trees::Reading;
 use coercion_norm::nodes::CoercionId;
 use coercion_norm::tables::CoercionTable;
 use grift_base::lists::OutOfMemory;
 use grift_base::words::Statics;
 use low_ir::code::{LowSource, WordOp};
-use low_ir::programs::{LowProc, LowProgram};
+use low_ir::programs::{LowProc, LowProcs, LowProgram};
 use object_layout::headers::{Header, pack};
 use object_layout::kinds::Kind;
 use rv_machine::FIRST_ADDRESS;
@@ -28,10 +29,10 @@ fn calls(alloc: Global, procedure: u32, taken: &[LowSource]) -> Result<LowProc, 
     });
     let code = round(alloc, &[word(0), word(1), word(2)])?;
     let code = build(alloc, 2, &[number(header), word(6), word(2)], code)?;
-    let code = call(alloc, 6, procedure, taken, code)?;
-    let code = load(alloc, 5, 16, code)?;
-    let code = load(alloc, 4, 8, code)?;
-    let code = load(alloc, 3, 0, code)?;
+    let mut code = call(alloc, 6, procedure, taken, code)?;
+    for (taken, offset) in [(5, 16), (4, 8), (3, 0)] {
+        code = load(alloc, taken, offset, code)?;
+    }
     let code = change(alloc, WordOp::Sub, 0, 24, code)?;
     let code = until(alloc, word(1), word(2), code)?;
     Ok(LowProc {
@@ -41,38 +42,51 @@ fn calls(alloc: Global, procedure: u32, taken: &[LowSource]) -> Result<LowProc, 
     })
 }
 
-// A program that calls the procedure with each of so many rows, which its statics end with.
+// Begins with the rows between two addresses.
+fn begins(alloc: Global, end: u64, from: u64) -> Result<LowProc, OutOfMemory> {
+    let code = round(alloc, &[number(end), number(from), number(0)])?;
+    Ok(LowProc {
+        params: 0,
+        words: 0,
+        code,
+    })
+}
+
+// Statics with rows of three words behind them, and the coercions that the rows are to be answered with.
+#[derive(Drop)]
+pub(crate) struct Rows {
+    pub statics: Statics,
+    pub wanted: Vec<CoercionId>,
+}
+
+impl Rows {
+    // No rows.
+    pub(crate) fn new(alloc: Global, pool: &Pool) -> Result<Rows, OutOfMemory> {
+        let statics = pool.place(alloc)?;
+        let wanted = Vec::new(alloc);
+        Ok(Rows { statics, wanted })
+    }
+
+    // One more row.
+    pub(crate) fn push(&mut self, row: [u64; 3], wanted: CoercionId) -> Result<(), OutOfMemory> {
+        self.statics.words.extend(&row)?;
+        self.wanted.push(wanted)?;
+        Ok(())
+    }
+}
+
+// The procedures of a program that calls one of them with each row behind its statics.
 fn calling(
     alloc: Global,
     procedure: u32,
     taken: &[LowSource],
-    statics: Statics,
-    many: u64,
-) -> Result<LowProgram, OutOfMemory> {
-    let end = FIRST_ADDRESS.wrapping_add(statics.words.len().wrapping_mul(8));
-    let from = end.wrapping_sub(many.wrapping_mul(24));
-    let code = round(alloc, &[number(end), number(from), number(0)])?;
-    program(alloc, calls(alloc, procedure, taken)?, 0, code, statics)
-}
-
-// What the machine answers for so many rows, which the statics end with. The rows may be called with two words or all.
-pub(crate) fn answered(
-    alloc: Global,
-    procedure: u32,
-    taken: &[LowSource],
-    statics: Statics,
-    many: u64,
-) -> Result<Ended, Fail> {
-    let low = calling(alloc, procedure, taken, statics, many)?;
-    runs(alloc, &low, TURNS)
-}
-
-// A row of three words goes behind the statics.
-pub(crate) fn push_row(statics: &mut Statics, row: [u64; 3]) -> Result<(), OutOfMemory> {
-    let [first, second, third] = row;
-    statics.words.push(first)?;
-    statics.words.push(second)?;
-    statics.words.push(third)
+    rows: &Rows,
+) -> Result<LowProcs, OutOfMemory> {
+    let end = FIRST_ADDRESS.wrapping_add(rows.statics.words.len().wrapping_mul(8));
+    let from = end.wrapping_sub((rows.wanted.len() as u64).wrapping_mul(24));
+    let goes_round = calls(alloc, procedure, taken)?;
+    let begins = begins(alloc, end, from)?;
+    procs_with(alloc, goes_round, begins)
 }
 
 // A word that is told for a place.
@@ -84,7 +98,7 @@ pub(crate) fn told(words: &[u64], place: u32) -> Result<u64, Fail> {
 }
 
 // How many answers hold what the table has, and how many of these have parts.
-#[derive(Clone, Copy, PartialEq, Eq, Debug)]
+#[derive(Clone, Copy)]
 pub(crate) struct Tally {
     pub alike: u64,
     pub high: u64,
@@ -101,48 +115,64 @@ impl Tally {
     }
 }
 
-// Whether an answer holds a coercion, and whether that has parts.
-fn tallied(
+// What the machine answers when a procedure takes these words of each row, against the coercions of a table that are
+// wanted. Where some are skipped, the first answer is held against the coercion behind those, and so on.
+pub(crate) fn answered(
     alloc: Global,
-    reading: &Reading,
-    c: CoercionId,
-    answer: u64,
-) -> Result<Tally, OutOfMemory> {
-    let alike = reading.holds(alloc, c, answer)?;
-    let high = c.0 < reading.table.len() && reading.table.height(c) != 0;
-    Ok(Tally {
-        alike: u64::from(alike),
-        high: u64::from(alike && high),
-    })
+    procedure: u32,
+    taken: &[LowSource],
+    rows: Rows,
+    table: &CoercionTable,
+    skipped: usize,
+) -> Result<Tally, Fail> {
+    let procs = calling(alloc, procedure, taken, &rows)?;
+    let Rows { statics, wanted } = rows;
+    let low = program(procs, statics);
+    compared(alloc, &low, table, wanted.as_slice(), skipped)
 }
 
-// The answers, the first one first, against these coercions.
-pub(crate) fn compared(
+// The answers of a program, the first one first, against these coercions, of which some are skipped.
+fn compared(
     alloc: Global,
-    ended: &Ended,
+    low: &LowProgram,
     table: &CoercionTable,
-    type_at: &[u64],
     coercions: &[CoercionId],
+    skipped: usize,
 ) -> Result<Tally, Fail> {
+    let ended = runs(alloc, low, TURNS)?;
     let reading = Reading {
         machine: &ended.machine,
         table,
-        type_at,
+        type_at: low.statics.type_at.as_slice(),
+    };
+    tallied(alloc, &reading, ended.word, coercions, skipped)
+}
+
+// The answers in a tuple and those behind it against these coercions, of which some are skipped.
+fn tallied(
+    alloc: Global,
+    reading: &Reading,
+    cell: u64,
+    coercions: &[CoercionId],
+    skipped: usize,
+) -> Result<Tally, Fail> {
+    let Some(coercions) = coercions.get(skipped..) else {
+        return Err(Fail::from("there are fewer coercions"));
     };
     let mut tally = Tally::NONE;
-    let mut cell = ended.word;
+    let mut cell = cell;
     for c in coercions {
-        let (answer, rest) = cell_at(&reading, cell)?;
-        tally = tally.and(tallied(alloc, &reading, *c, answer)?);
+        let (Some(answer), Some(rest)) = (reading.word(cell, 1), reading.word(cell, 2)) else {
+            return Err(Fail::from("an answer is missing"));
+        };
+        if reading.holds(alloc, *c, answer)? {
+            let high = c.0 < reading.table.len() && reading.table.height(*c) != 0;
+            tally = tally.and(Tally {
+                alike: 1,
+                high: u64::from(high),
+            });
+        }
         cell = rest;
     }
     Ok(tally)
-}
-
-// An answer, and the tuple of the one behind it.
-fn cell_at(reading: &Reading, cell: u64) -> Result<(u64, u64), Fail> {
-    match (reading.word(cell, 1), reading.word(cell, 2)) {
-        (Some(answer), Some(rest)) => Ok((answer, rest)),
-        _ => Err(Fail::from("an answer is missing")),
-    }
 }

@@ -16,7 +16,8 @@ const VARIANTS: u64 = 6;
 // How many types there are of a height.
 const LEVEL: u64 = 24;
 
-// The types of height 0, 1, 2 and 3 in order, each height by its classes; and Dyn.
+// The types of height 0, 1, 2 and 3 in order, each height by its classes; and Dyn. In a class of height 0 all types are
+// one.
 #[derive(Drop)]
 pub(crate) struct Sample {
     made: Vec<TypeId>,
@@ -31,86 +32,61 @@ pub(crate) fn put(types: &mut TypeTable, row: Row) -> Result<TypeId, Fail> {
     Ok(types.intern(row)?)
 }
 
-// Random types of a table, with the base types.
-fn sample_of(alloc: Global, random: &mut Random, types: &mut TypeTable) -> Result<Sample, Fail> {
+// Random types of a table.
+pub(crate) fn sample_of(
+    alloc: Global,
+    random: &mut Random,
+    types: &mut TypeTable,
+) -> Result<Sample, Fail> {
     let dynamic = put(types, Row::Dyn)?;
-    let int = put(types, Row::Int)?;
-    let truth = put(types, Row::Bool)?;
-    let unit = put(types, Row::Unit)?;
     let made = Vec::new(alloc);
     let mut sample = Sample { made, dynamic };
-    for base in [int, truth, unit, int] {
-        sample.add_same(base)?;
-    }
-    sample.add_heights(alloc, random, types)?;
+    sample.add_types(alloc, random, types)?;
     Ok(sample)
 }
 
-// Random types, in a table.
-pub(crate) fn random_types(
-    alloc: Global,
-    random: &mut Random,
-) -> Result<(TypeTable, Sample), Fail> {
-    let mut types = TypeTable::new(alloc)?;
-    let sample = sample_of(alloc, random, &mut types)?;
-    Ok((types, sample))
-}
-
 impl Sample {
-    // The types above the base types.
-    fn add_heights(
+    // Types of all heights and classes, one after the other.
+    fn add_types(
         &mut self,
         alloc: Global,
         random: &mut Random,
         types: &mut TypeTable,
     ) -> Result<(), Fail> {
-        for below in 0..3 {
-            self.add_height(alloc, random, types, below)?;
-        }
-        Ok(())
-    }
-
-    // A class of which all types are one.
-    fn add_same(&mut self, base: TypeId) -> Result<(), Fail> {
-        for _ in 0..VARIANTS {
-            self.made.push(base)?;
-        }
-        Ok(())
-    }
-
-    // The types above a height.
-    fn add_height(
-        &mut self,
-        alloc: Global,
-        random: &mut Random,
-        types: &mut TypeTable,
-        below: u64,
-    ) -> Result<(), Fail> {
-        for class in 0..CLASSES {
-            self.add_class(alloc, random, types, below, class)?;
-        }
-        Ok(())
-    }
-
-    // The types above a height of a class.
-    fn add_class(
-        &mut self,
-        alloc: Global,
-        random: &mut Random,
-        types: &mut TypeTable,
-        below: u64,
-        class: u64,
-    ) -> Result<(), Fail> {
-        for _ in 0..VARIANTS {
-            let row = self.row(alloc, random, below, class)?;
+        for place in 0..LEVEL * 4 {
+            let row = self.row(alloc, random, place / LEVEL, place % LEVEL / VARIANTS)?;
             self.made.push(put(types, row)?)?;
         }
         Ok(())
     }
 
+    // A row of a height and a class.
+    fn row(
+        &self,
+        alloc: Global,
+        random: &mut Random,
+        height: u64,
+        class: u64,
+    ) -> Result<Row, Fail> {
+        if height != 0 {
+            return self.high_row(alloc, random, height - 1, class);
+        }
+        Ok(match class {
+            1 => Row::Bool,
+            2 => Row::Unit,
+            _ => Row::Int,
+        })
+    }
+
     // A row of a class whose highest part is of a height. Rows of both have equally many parts: those of base types as
     // many as there may be, the others few.
-    fn row(&self, alloc: Global, random: &mut Random, below: u64, class: u64) -> Result<Row, Fail> {
+    fn high_row(
+        &self,
+        alloc: Global,
+        random: &mut Random,
+        below: u64,
+        class: u64,
+    ) -> Result<Row, Fail> {
         let (parameters, parts) = if below == 0 { (6, 8) } else { (1, 2) };
         match class {
             0 => {

@@ -3,9 +3,8 @@
 use coercion_norm::nodes::{CoercionId, CoercionNode};
 use coercion_norm::tables::CoercionTable;
 use grift_base::lists::OutOfMemory;
-use grift_base::places::TypeId;
+use grift_base::places::{LabelId, TypeId};
 use grift_base::words::Words;
-use object_layout::headers::Header;
 use object_layout::kinds::Kind;
 use object_layout::wholes::header_at;
 use rv_emulator::flat::FlatRam;
@@ -63,54 +62,70 @@ impl<'a> Reading<'a> {
         if here.coercion.0 >= self.table.len() {
             return Ok(false);
         }
+        let node = self.table.node(here.coercion);
         let high = self.table.height(here.coercion);
-        let at = here.word;
-        match self.table.node(here.coercion) {
-            CoercionNode::Id => Ok(at == 0),
-            CoercionNode::Fail(label) => {
-                Ok(self.begins(at, Kind::Fail, 0, 1) && self.says(at, 1, u64::from(label.0)))
-            }
-            CoercionNode::Inject(g, kept) => {
-                if !self.begins(at, Kind::Inject, high, 2) || !self.names(at, 2, *kept) {
-                    return Ok(false);
-                }
-                self.awaits(at, 1, *g, pending)
-            }
-            CoercionNode::Project(wanted, label, i) => {
-                if !self.begins(at, Kind::Project, high, 3)
-                    || !self.names(at, 1, *wanted)
-                    || !self.says(at, 2, u64::from(label.0))
-                {
-                    return Ok(false);
-                }
-                self.awaits(at, 3, *i, pending)
-            }
-            middle => self.agrees_with_parts(alloc, middle, high, at, pending),
+        if !self.stands(node, high, here.word) {
+            return Ok(false);
         }
+        self.awaits(alloc, node, here.word, pending)
     }
 
-    // The same for a middle.
-    fn agrees_with_parts(
+    // Whether an object has a node's header, and the type and the label that the node names.
+    fn stands(&self, node: &CoercionNode, high: u32, at: u64) -> bool {
+        let (kind, high, count, named, label) = match node {
+            CoercionNode::Id => return at == 0,
+            CoercionNode::Fail(label) => (Kind::Fail, 0, 1, None, Some((1, *label))),
+            CoercionNode::Fun(parameters, _) => {
+                (
+                    Kind::Fun,
+                    high,
+                    parameters.len().wrapping_add(1),
+                    None,
+                    None,
+                )
+            }
+            CoercionNode::Tup(parts) => (Kind::Tup, high, parts.len(), None, None),
+            CoercionNode::Ref(..) => (Kind::Ref, high, 2, None, None),
+            CoercionNode::Vec(..) => (Kind::Vec, high, 2, None, None),
+            CoercionNode::Inject(_, kept) => (Kind::Inject, high, 2, Some((2, *kept)), None),
+            CoercionNode::Project(wanted, label, _) => {
+                (
+                    Kind::Project,
+                    high,
+                    3,
+                    Some((1, *wanted)),
+                    Some((2, *label)),
+                )
+            }
+        };
+        self.begins(at, kind, high, count) && self.names(at, named) && self.blames(at, label)
+    }
+
+    // Whether there are words for a node's parts, which are then to hold these.
+    fn awaits(
         &self,
         alloc: Global,
-        middle: &CoercionNode,
-        high: u32,
+        node: &CoercionNode,
         at: u64,
         pending: &mut Vec<Pending>,
     ) -> Result<bool, OutOfMemory> {
-        let kind = match middle {
-            CoercionNode::Fun(..) => Kind::Fun,
-            CoercionNode::Tup(_) => Kind::Tup,
-            CoercionNode::Ref(..) => Kind::Ref,
-            _ => Kind::Vec,
+        let mut place = if matches!(node, CoercionNode::Project(..)) {
+            3
+        } else {
+            1
         };
-        let parts = middle.parts(alloc)?;
-        for (k, part) in parts.as_slice().iter().enumerate() {
-            if !self.awaits(at, (k as u64).wrapping_add(1), *part, pending)? {
+        let parts = node.parts(alloc)?;
+        for coercion in parts.as_slice() {
+            let Some(word) = self.word(at, place) else {
                 return Ok(false);
-            }
+            };
+            pending.push(Pending {
+                coercion: *coercion,
+                word,
+            })?;
+            place = place.wrapping_add(1);
         }
-        Ok(self.begins(at, kind, high, parts.len() as u64))
+        Ok(true)
     }
 
     // The word at a place behind a header; place 0 is the header.
@@ -130,33 +145,27 @@ impl<'a> Reading<'a> {
         }
     }
 
+    // Whether a word, where one is named, is the address of a type.
+    fn names(&self, at: u64, named: Option<(u64, TypeId)>) -> bool {
+        match named {
+            None => true,
+            Some((place, type_id)) => match self.type_at.get(type_id.0 as usize) {
+                None => false,
+                Some(address) => self.says(at, place, *address),
+            },
+        }
+    }
+
+    // Whether a word, where one is named, is the number of a label.
+    fn blames(&self, at: u64, label: Option<(u64, LabelId)>) -> bool {
+        match label {
+            None => true,
+            Some((place, label)) => self.says(at, place, u64::from(label.0)),
+        }
+    }
+
     // Whether a word is a number.
-    fn says(&self, at: u64, place: u64, word: u64) -> bool {
-        self.word(at, place) == Some(word)
-    }
-
-    // Whether a word is the address of a type.
-    fn names(&self, at: u64, place: u64, type_id: TypeId) -> bool {
-        match self.type_at.get(type_id.0 as usize) {
-            None => false,
-            Some(address) => self.says(at, place, *address),
-        }
-    }
-
-    // Whether there is a word, which is then to hold a coercion.
-    fn awaits(
-        &self,
-        at: u64,
-        place: u64,
-        coercion: CoercionId,
-        pending: &mut Vec<Pending>,
-    ) -> Result<bool, OutOfMemory> {
-        match self.word(at, place) {
-            None => Ok(false),
-            Some(word) => {
-                pending.push(Pending { coercion, word })?;
-                Ok(true)
-            }
-        }
+    fn says(&self, at: u64, place: u64, number: u64) -> bool {
+        matches!(self.word(at, place), Some(word) if word == number)
     }
 }

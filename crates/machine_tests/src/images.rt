@@ -4,7 +4,6 @@ use assembler::image::{Image, ImageFault, is_image, read_image};
 use grift_base::lists::{Bytes, OutOfMemory};
 use grift_base::places::Pos;
 use std::alloc::Global;
-use std::test::Fail;
 
 // The smallest image that answers 42, in groups of eight bytes, the first byte of a group the highest.
 pub(crate) const SMALLEST: [u64; 9] = [
@@ -45,14 +44,33 @@ pub(crate) fn bytes_of(alloc: Global, groups: &[u64]) -> Result<Bytes, OutOfMemo
     Ok(bytes)
 }
 
-// Whether bytes are an image, and the first fault of those that aren't.
-fn outcome(alloc: Global, bytes: &[u8]) -> (bool, Option<ImageFault>) {
-    (is_image(bytes), read_image(alloc, bytes).err())
+// Whether bytes are those of such groups.
+pub(crate) fn are_groups(alloc: Global, bytes: &[u8], groups: &[u64]) -> Result<bool, OutOfMemory> {
+    let wanted = bytes_of(alloc, groups)?;
+    Ok(bytes == wanted.as_slice())
+}
+
+// The image of such groups. None where they are no image, or no memory is left.
+pub(crate) fn image_of_groups(alloc: Global, groups: &[u64]) -> Option<Image> {
+    let bytes = bytes_of(alloc, groups).ok()?;
+    read_image(alloc, bytes.as_slice()).ok()
+}
+
+// Whether bytes have this first fault, or, where it is none, are an image.
+fn have_fault(alloc: Global, bytes: &[u8], fault: Option<ImageFault>) -> bool {
+    is_image(bytes) == fault.is_none() && read_image(alloc, bytes).err() == fault
+}
+
+// Whether the smallest image without these many bytes has this first fault.
+fn cut_has_fault(alloc: Global, cut: usize, fault: Option<ImageFault>) -> Option<bool> {
+    let bytes = bytes_of(alloc, &SMALLEST).ok()?;
+    let len = bytes.as_slice().get(cut..)?.len();
+    let first = bytes.as_slice().get(..len)?;
+    Some(have_fault(alloc, first, fault))
 }
 
 #[test]
-fn images_are_whole(rt: HostRuntime) -> Result<(), Fail> {
-    let bytes = bytes_of(rt.alloc(), &SMALLEST)?;
+fn images_are_whole(rt: HostRuntime) {
     for (cut, fault) in [
         (0, None),
         (1, Some(ImageFault::BadLength)),
@@ -60,18 +78,22 @@ fn images_are_whole(rt: HostRuntime) -> Result<(), Fail> {
         (65, Some(ImageFault::BadMagic)),
         (72, Some(ImageFault::BadMagic)),
     ] {
-        let left = bytes.as_slice().get(cut..).ok_or("too short")?;
-        let len = left.len();
-        let first = bytes.as_slice().get(..len).ok_or("too short")?;
-        assert_eq!(rt;
-            outcome(rt.alloc(), first),
-            (fault.is_none(), fault),
+        assert!(rt;
+            matches!(cut_has_fault(rt.alloc(), cut, fault), Some(true)),
             "without {cut} bytes"
         );
     }
-    let image = read_image(rt.alloc(), bytes.as_slice())?;
-    assert_eq!(rt; image.bytes(), bytes.as_slice());
-    Ok(())
+}
+
+// Whether the image of such groups has their bytes.
+fn keeps_bytes(alloc: Global, groups: &[u64]) -> Option<bool> {
+    let image = image_of_groups(alloc, groups)?;
+    are_groups(alloc, image.bytes(), groups).ok()
+}
+
+#[test]
+fn an_image_keeps_its_bytes(rt: HostRuntime) {
+    assert!(rt; matches!(keeps_bytes(rt.alloc(), &SMALLEST), Some(true)));
 }
 
 // The smallest image with these groups changed.
@@ -85,58 +107,80 @@ fn changed(alloc: Global, changes: &[(usize, u64)]) -> Result<Bytes, OutOfMemory
     bytes_of(alloc, &groups)
 }
 
-// The last row has sections whose sum wraps to the right length.
+// Whether it has this first fault.
+fn changed_has_fault(
+    alloc: Global,
+    changes: &[(usize, u64)],
+    fault: ImageFault,
+) -> Result<bool, OutOfMemory> {
+    let bytes = changed(alloc, changes)?;
+    Ok(have_fault(alloc, bytes.as_slice(), Some(fault)))
+}
+
+// Groups that are changed, and the fault. The last row has sections whose sum wraps to the right length.
+const CHANGES: [(&[(usize, u64)], ImageFault); 13] = [
+    (&[(0, 0x0052_4946_5452_5631)], ImageFault::BadMagic),
+    (&[(1, 0x4900_0000_0000_0000)], ImageFault::BadLength),
+    (&[(2, 0x0400_0000_0000_0000)], ImageFault::BadSection),
+    (&[(2, 0x0800_0000_0000_0000)], ImageFault::BadSection),
+    (&[(3, 0x0000_0000_0000_0000)], ImageFault::BadSection),
+    (&[(3, 0xf8ff_ffff_ffff_ffff)], ImageFault::BadSection),
+    (&[(4, 0xffff_ffff_0000_0000)], ImageFault::BadSection),
+    (&[(4, 0x0100_0000_0000_0000)], ImageFault::BadSection),
+    (&[(5, 0x0200_0000_0000_0000)], ImageFault::BadSection),
+    (&[(5, 0x0800_0000_0000_0000)], ImageFault::BadSection),
+    (&[(6, 0x0000_0000_0000_0001)], ImageFault::BadSection),
+    (&[(7, 0x0100_0000_0000_0000)], ImageFault::BadSection),
+    (
+        &[(2, 0x1000_0000_0000_0000), (3, 0xf8ff_ffff_ffff_ffff)],
+        ImageFault::BadSection,
+    ),
+];
+
 #[test]
-fn each_field_is_tested(rt: HostRuntime) -> Result<(), Fail> {
-    let rows: [(&[(usize, u64)], ImageFault); 13] = [
-        (&[(0, 0x0052_4946_5452_5631)], ImageFault::BadMagic),
-        (&[(1, 0x4900_0000_0000_0000)], ImageFault::BadLength),
-        (&[(2, 0x0400_0000_0000_0000)], ImageFault::BadSection),
-        (&[(2, 0x0800_0000_0000_0000)], ImageFault::BadSection),
-        (&[(3, 0x0000_0000_0000_0000)], ImageFault::BadSection),
-        (&[(3, 0xf8ff_ffff_ffff_ffff)], ImageFault::BadSection),
-        (&[(4, 0xffff_ffff_0000_0000)], ImageFault::BadSection),
-        (&[(4, 0x0100_0000_0000_0000)], ImageFault::BadSection),
-        (&[(5, 0x0200_0000_0000_0000)], ImageFault::BadSection),
-        (&[(5, 0x0800_0000_0000_0000)], ImageFault::BadSection),
-        (&[(6, 0x0000_0000_0000_0001)], ImageFault::BadSection),
-        (&[(7, 0x0100_0000_0000_0000)], ImageFault::BadSection),
-        (
-            &[(2, 0x1000_0000_0000_0000), (3, 0xf8ff_ffff_ffff_ffff)],
-            ImageFault::BadSection,
-        ),
-    ];
-    for (changes, fault) in rows {
-        let bytes = changed(rt.alloc(), changes)?;
-        assert_eq!(rt;
-            outcome(rt.alloc(), bytes.as_slice()),
-            (false, Some(fault)),
+fn each_field_is_tested(rt: HostRuntime) {
+    for (changes, fault) in &CHANGES {
+        assert!(rt;
+            matches!(changed_has_fault(rt.alloc(), changes, *fault), Ok(true)),
             "{changes:?}"
         );
     }
-    Ok(())
 }
 
-#[test]
-fn an_image_tells_its_parts(rt: HostRuntime) -> Result<(), Fail> {
-    let bytes = bytes_of(rt.alloc(), &LABELLED)?;
-    let image = read_image(rt.alloc(), bytes.as_slice())?;
-    let lengths = [
+// The labels of the second image.
+const FIRST: Pos = Pos { line: 3, col: 7 };
+
+const SECOND: Pos = Pos { line: 256, col: 2 };
+
+// The lengths of an image, of its statics and of its code, its entry, and how many labels it has.
+fn numbers_of(image: &Image) -> [u64; 5] {
+    [
         image.bytes().len() as u64,
         image.statics_len(),
         image.code_len(),
-    ];
-    assert_eq!(rt; (lengths, image.entry()), ([104, 8, 16], 4));
-    let loaded = bytes_of(rt.alloc(), &LABELLED[8..11])?;
-    assert_eq!(rt; image.loaded(), loaded.as_slice());
-    let first = Pos { line: 3, col: 7 };
-    let second = Pos { line: 256, col: 2 };
-    let told = [image.label(0), image.label(1), image.label(2)];
-    assert_eq!(rt;
-        (image.label_count(), told),
-        (2, [Some(first), Some(second), None])
-    );
-    let labels = image.labels(rt.alloc())?;
-    assert_eq!(rt; labels.as_slice(), [first, second].as_slice());
-    Ok(())
+        image.entry(),
+        u64::from(image.label_count()),
+    ]
+}
+
+// The numbers of the second image, and its labels 0, 1 and 2.
+fn told(alloc: Global) -> Option<([u64; 5], [Option<Pos>; 3])> {
+    let image = image_of_groups(alloc, &LABELLED)?;
+    let labels = [image.label(0), image.label(1), image.label(2)];
+    Some((numbers_of(&image), labels))
+}
+
+// Whether it is loaded as it should be, and has both labels.
+fn is_told(alloc: Global) -> Option<bool> {
+    let image = image_of_groups(alloc, &LABELLED)?;
+    let labels = image.labels(alloc).ok()?;
+    let is_loaded = are_groups(alloc, image.loaded(), &LABELLED[8..11]).ok()?;
+    Some(is_loaded && labels.as_slice() == [FIRST, SECOND].as_slice())
+}
+
+#[test]
+fn an_image_tells_its_parts(rt: HostRuntime) {
+    let labels = [Some(FIRST), Some(SECOND), None];
+    assert!(rt; told(rt.alloc()) == Some(([104, 8, 16, 4, 2], labels)));
+    assert!(rt; matches!(is_told(rt.alloc()), Some(true)));
 }

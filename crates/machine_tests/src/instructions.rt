@@ -7,90 +7,176 @@ use rv_isa::number::{Imm12, Imm13, Imm21, Reg, Shift5, Shift6, Upper};
 // is its number; the offset of a load or a store comes last.
 type Numbers = (i64, i64, i64);
 
-// The name of an instruction and its numbers.
-fn parts_of(inst: Inst) -> (&'static str, Numbers) {
-    match inst {
-        Inst::Lui(rd, upper) => ("lui", with_upper(rd, upper)),
-        Inst::Auipc(rd, upper) => ("auipc", with_upper(rd, upper)),
-        Inst::Jal(rd, offset) => ("jal", with_jump(rd, offset)),
-        Inst::Jalr(rd, rs1, immediate) => ("jalr", with_immediate(rd, rs1, immediate)),
-        Inst::Beq(rs1, rs2, offset) => ("beq", with_branch(rs1, rs2, offset)),
-        Inst::Bne(rs1, rs2, offset) => ("bne", with_branch(rs1, rs2, offset)),
-        Inst::Blt(rs1, rs2, offset) => ("blt", with_branch(rs1, rs2, offset)),
-        Inst::Bge(rs1, rs2, offset) => ("bge", with_branch(rs1, rs2, offset)),
-        Inst::Bltu(rs1, rs2, offset) => ("bltu", with_branch(rs1, rs2, offset)),
-        Inst::Bgeu(rs1, rs2, offset) => ("bgeu", with_branch(rs1, rs2, offset)),
-        Inst::Lb(rd, rs1, immediate) => ("lb", with_immediate(rd, rs1, immediate)),
-        Inst::Lh(rd, rs1, immediate) => ("lh", with_immediate(rd, rs1, immediate)),
-        Inst::Lw(rd, rs1, immediate) => ("lw", with_immediate(rd, rs1, immediate)),
-        Inst::Ld(rd, rs1, immediate) => ("ld", with_immediate(rd, rs1, immediate)),
-        Inst::Lbu(rd, rs1, immediate) => ("lbu", with_immediate(rd, rs1, immediate)),
-        Inst::Lhu(rd, rs1, immediate) => ("lhu", with_immediate(rd, rs1, immediate)),
-        Inst::Lwu(rd, rs1, immediate) => ("lwu", with_immediate(rd, rs1, immediate)),
-        Inst::Sb(rs2, rs1, offset) => ("sb", with_immediate(rs2, rs1, offset)),
-        Inst::Sh(rs2, rs1, offset) => ("sh", with_immediate(rs2, rs1, offset)),
-        Inst::Sw(rs2, rs1, offset) => ("sw", with_immediate(rs2, rs1, offset)),
-        Inst::Sd(rs2, rs1, offset) => ("sd", with_immediate(rs2, rs1, offset)),
-        Inst::Addi(rd, rs1, immediate) => ("addi", with_immediate(rd, rs1, immediate)),
-        Inst::Slti(rd, rs1, immediate) => ("slti", with_immediate(rd, rs1, immediate)),
-        Inst::Sltiu(rd, rs1, immediate) => ("sltiu", with_immediate(rd, rs1, immediate)),
-        Inst::Xori(rd, rs1, immediate) => ("xori", with_immediate(rd, rs1, immediate)),
-        Inst::Ori(rd, rs1, immediate) => ("ori", with_immediate(rd, rs1, immediate)),
-        Inst::Andi(rd, rs1, immediate) => ("andi", with_immediate(rd, rs1, immediate)),
-        Inst::Slli(rd, rs1, amount) => ("slli", with_shift(rd, rs1, amount)),
-        Inst::Srli(rd, rs1, amount) => ("srli", with_shift(rd, rs1, amount)),
-        Inst::Srai(rd, rs1, amount) => ("srai", with_shift(rd, rs1, amount)),
-        Inst::Add(rd, rs1, rs2) => ("add", with_registers(rd, rs1, rs2)),
-        Inst::Sub(rd, rs1, rs2) => ("sub", with_registers(rd, rs1, rs2)),
-        Inst::Sll(rd, rs1, rs2) => ("sll", with_registers(rd, rs1, rs2)),
-        Inst::Slt(rd, rs1, rs2) => ("slt", with_registers(rd, rs1, rs2)),
-        Inst::Sltu(rd, rs1, rs2) => ("sltu", with_registers(rd, rs1, rs2)),
-        Inst::Xor(rd, rs1, rs2) => ("xor", with_registers(rd, rs1, rs2)),
-        Inst::Srl(rd, rs1, rs2) => ("srl", with_registers(rd, rs1, rs2)),
-        Inst::Sra(rd, rs1, rs2) => ("sra", with_registers(rd, rs1, rs2)),
-        Inst::Or(rd, rs1, rs2) => ("or", with_registers(rd, rs1, rs2)),
-        Inst::And(rd, rs1, rs2) => ("and", with_registers(rd, rs1, rs2)),
-        Inst::Addiw(rd, rs1, immediate) => ("addiw", with_immediate(rd, rs1, immediate)),
-        Inst::Slliw(rd, rs1, amount) => ("slliw", with_word_shift(rd, rs1, amount)),
-        Inst::Srliw(rd, rs1, amount) => ("srliw", with_word_shift(rd, rs1, amount)),
-        Inst::Sraiw(rd, rs1, amount) => ("sraiw", with_word_shift(rd, rs1, amount)),
-        Inst::Addw(rd, rs1, rs2) => ("addw", with_registers(rd, rs1, rs2)),
-        Inst::Subw(rd, rs1, rs2) => ("subw", with_registers(rd, rs1, rs2)),
-        Inst::Sllw(rd, rs1, rs2) => ("sllw", with_registers(rd, rs1, rs2)),
-        Inst::Srlw(rd, rs1, rs2) => ("srlw", with_registers(rd, rs1, rs2)),
-        Inst::Sraw(rd, rs1, rs2) => ("sraw", with_registers(rd, rs1, rs2)),
-        Inst::Fence(rd, rs1, immediate) => ("fence", with_immediate(rd, rs1, immediate)),
-        Inst::Ecall => ("ecall", (0, 0, 0)),
-        Inst::Ebreak => ("ebreak", (0, 0, 0)),
+// The last of three operands.
+#[derive(Clone, Copy)]
+enum Last {
+    Register(Reg),
+    Immediate(Imm12),
+    Branch(Imm13),
+    Shift(Shift6),
+    WordShift(Shift5),
+}
+
+impl Last {
+    fn get(self) -> i64 {
+        match self {
+            Last::Register(register) => register.get(),
+            Last::Immediate(immediate) => immediate.get(),
+            Last::Branch(offset) => offset.get(),
+            Last::Shift(amount) => amount.get(),
+            Last::WordShift(amount) => amount.get(),
+        }
     }
 }
 
-fn with_upper(rd: Reg, upper: Upper) -> Numbers {
-    (rd.get(), upper.get(), 0)
+// The operands of an instruction in the order of its numbers.
+#[derive(Clone, Copy)]
+enum Operands {
+    None,
+    Upper(Reg, Upper),
+    Jump(Reg, Imm21),
+    Three(Reg, Reg, Last),
 }
 
-fn with_jump(rd: Reg, offset: Imm21) -> Numbers {
-    (rd.get(), offset.get(), 0)
+impl Operands {
+    fn numbers(self) -> Numbers {
+        match self {
+            Operands::None => (0, 0, 0),
+            Operands::Upper(rd, upper) => (rd.get(), upper.get(), 0),
+            Operands::Jump(rd, offset) => (rd.get(), offset.get(), 0),
+            Operands::Three(first, second, last) => (first.get(), second.get(), last.get()),
+        }
+    }
 }
 
-fn with_immediate(first: Reg, rs1: Reg, immediate: Imm12) -> Numbers {
-    (first.get(), rs1.get(), immediate.get())
+// The name of an instruction and its operands.
+fn parts_of(inst: Inst) -> (&'static str, Operands) {
+    match inst {
+        Inst::Lui(rd, upper) => ("lui", Operands::Upper(rd, upper)),
+        Inst::Auipc(rd, upper) => ("auipc", Operands::Upper(rd, upper)),
+        Inst::Jal(rd, offset) => ("jal", Operands::Jump(rd, offset)),
+        Inst::Beq(rs1, rs2, offset) => ("beq", Operands::Three(rs1, rs2, Last::Branch(offset))),
+        Inst::Bne(rs1, rs2, offset) => ("bne", Operands::Three(rs1, rs2, Last::Branch(offset))),
+        Inst::Blt(rs1, rs2, offset) => ("blt", Operands::Three(rs1, rs2, Last::Branch(offset))),
+        Inst::Bge(rs1, rs2, offset) => ("bge", Operands::Three(rs1, rs2, Last::Branch(offset))),
+        Inst::Bltu(rs1, rs2, offset) => ("bltu", Operands::Three(rs1, rs2, Last::Branch(offset))),
+        Inst::Bgeu(rs1, rs2, offset) => ("bgeu", Operands::Three(rs1, rs2, Last::Branch(offset))),
+        Inst::Slli(rd, rs1, amount) => ("slli", Operands::Three(rd, rs1, Last::Shift(amount))),
+        Inst::Srli(rd, rs1, amount) => ("srli", Operands::Three(rd, rs1, Last::Shift(amount))),
+        Inst::Srai(rd, rs1, amount) => ("srai", Operands::Three(rd, rs1, Last::Shift(amount))),
+        Inst::Slliw(rd, rs1, amount) => (
+            "slliw",
+            Operands::Three(rd, rs1, Last::WordShift(amount)),
+        ),
+        Inst::Srliw(rd, rs1, amount) => (
+            "srliw",
+            Operands::Three(rd, rs1, Last::WordShift(amount)),
+        ),
+        Inst::Sraiw(rd, rs1, amount) => (
+            "sraiw",
+            Operands::Three(rd, rs1, Last::WordShift(amount)),
+        ),
+        Inst::Ecall => ("ecall", Operands::None),
+        Inst::Ebreak => ("ebreak", Operands::None),
+        _ => parts_with_immediate(inst),
+    }
 }
 
-fn with_branch(rs1: Reg, rs2: Reg, offset: Imm13) -> Numbers {
-    (rs1.get(), rs2.get(), offset.get())
+// The same of one with an immediate of 12 bits, or of one on three registers.
+fn parts_with_immediate(inst: Inst) -> (&'static str, Operands) {
+    match inst {
+        Inst::Jalr(rd, rs1, immediate) => (
+            "jalr",
+            Operands::Three(rd, rs1, Last::Immediate(immediate)),
+        ),
+        Inst::Lb(rd, rs1, immediate) => (
+            "lb",
+            Operands::Three(rd, rs1, Last::Immediate(immediate)),
+        ),
+        Inst::Lh(rd, rs1, immediate) => (
+            "lh",
+            Operands::Three(rd, rs1, Last::Immediate(immediate)),
+        ),
+        Inst::Lw(rd, rs1, immediate) => (
+            "lw",
+            Operands::Three(rd, rs1, Last::Immediate(immediate)),
+        ),
+        Inst::Ld(rd, rs1, immediate) => (
+            "ld",
+            Operands::Three(rd, rs1, Last::Immediate(immediate)),
+        ),
+        Inst::Lbu(rd, rs1, immediate) => (
+            "lbu",
+            Operands::Three(rd, rs1, Last::Immediate(immediate)),
+        ),
+        Inst::Lhu(rd, rs1, immediate) => (
+            "lhu",
+            Operands::Three(rd, rs1, Last::Immediate(immediate)),
+        ),
+        Inst::Lwu(rd, rs1, immediate) => (
+            "lwu",
+            Operands::Three(rd, rs1, Last::Immediate(immediate)),
+        ),
+        Inst::Sb(rs2, rs1, offset) => ("sb", Operands::Three(rs2, rs1, Last::Immediate(offset))),
+        Inst::Sh(rs2, rs1, offset) => ("sh", Operands::Three(rs2, rs1, Last::Immediate(offset))),
+        Inst::Sw(rs2, rs1, offset) => ("sw", Operands::Three(rs2, rs1, Last::Immediate(offset))),
+        Inst::Sd(rs2, rs1, offset) => ("sd", Operands::Three(rs2, rs1, Last::Immediate(offset))),
+        Inst::Addi(rd, rs1, immediate) => (
+            "addi",
+            Operands::Three(rd, rs1, Last::Immediate(immediate)),
+        ),
+        Inst::Slti(rd, rs1, immediate) => (
+            "slti",
+            Operands::Three(rd, rs1, Last::Immediate(immediate)),
+        ),
+        Inst::Sltiu(rd, rs1, immediate) => (
+            "sltiu",
+            Operands::Three(rd, rs1, Last::Immediate(immediate)),
+        ),
+        Inst::Xori(rd, rs1, immediate) => (
+            "xori",
+            Operands::Three(rd, rs1, Last::Immediate(immediate)),
+        ),
+        Inst::Ori(rd, rs1, immediate) => (
+            "ori",
+            Operands::Three(rd, rs1, Last::Immediate(immediate)),
+        ),
+        Inst::Andi(rd, rs1, immediate) => (
+            "andi",
+            Operands::Three(rd, rs1, Last::Immediate(immediate)),
+        ),
+        Inst::Addiw(rd, rs1, immediate) => (
+            "addiw",
+            Operands::Three(rd, rs1, Last::Immediate(immediate)),
+        ),
+        Inst::Fence(rd, rs1, immediate) => (
+            "fence",
+            Operands::Three(rd, rs1, Last::Immediate(immediate)),
+        ),
+        _ => parts_with_registers(inst),
+    }
 }
 
-fn with_shift(rd: Reg, rs1: Reg, amount: Shift6) -> Numbers {
-    (rd.get(), rs1.get(), amount.get())
-}
-
-fn with_word_shift(rd: Reg, rs1: Reg, amount: Shift5) -> Numbers {
-    (rd.get(), rs1.get(), amount.get())
-}
-
-fn with_registers(rd: Reg, rs1: Reg, rs2: Reg) -> Numbers {
-    (rd.get(), rs1.get(), rs2.get())
+// The same of one on three registers; no other comes here.
+fn parts_with_registers(inst: Inst) -> (&'static str, Operands) {
+    match inst {
+        Inst::Add(rd, rs1, rs2) => ("add", Operands::Three(rd, rs1, Last::Register(rs2))),
+        Inst::Sub(rd, rs1, rs2) => ("sub", Operands::Three(rd, rs1, Last::Register(rs2))),
+        Inst::Sll(rd, rs1, rs2) => ("sll", Operands::Three(rd, rs1, Last::Register(rs2))),
+        Inst::Slt(rd, rs1, rs2) => ("slt", Operands::Three(rd, rs1, Last::Register(rs2))),
+        Inst::Sltu(rd, rs1, rs2) => ("sltu", Operands::Three(rd, rs1, Last::Register(rs2))),
+        Inst::Xor(rd, rs1, rs2) => ("xor", Operands::Three(rd, rs1, Last::Register(rs2))),
+        Inst::Srl(rd, rs1, rs2) => ("srl", Operands::Three(rd, rs1, Last::Register(rs2))),
+        Inst::Sra(rd, rs1, rs2) => ("sra", Operands::Three(rd, rs1, Last::Register(rs2))),
+        Inst::Or(rd, rs1, rs2) => ("or", Operands::Three(rd, rs1, Last::Register(rs2))),
+        Inst::And(rd, rs1, rs2) => ("and", Operands::Three(rd, rs1, Last::Register(rs2))),
+        Inst::Addw(rd, rs1, rs2) => ("addw", Operands::Three(rd, rs1, Last::Register(rs2))),
+        Inst::Subw(rd, rs1, rs2) => ("subw", Operands::Three(rd, rs1, Last::Register(rs2))),
+        Inst::Sllw(rd, rs1, rs2) => ("sllw", Operands::Three(rd, rs1, Last::Register(rs2))),
+        Inst::Srlw(rd, rs1, rs2) => ("srlw", Operands::Three(rd, rs1, Last::Register(rs2))),
+        Inst::Sraw(rd, rs1, rs2) => ("sraw", Operands::Three(rd, rs1, Last::Register(rs2))),
+        _ => ("", Operands::None),
+    }
 }
 
 // The words are those of GNU as and objdump, of Debian's binutils-riscv64-linux-gnu 2.40, at -march=rv64i.
@@ -625,43 +711,61 @@ static ASSEMBLED: [(&str, &[(Numbers, u32)]); 52] = [
     ("ebreak", &[((0, 0, 0), 0x00100073)]),
 ];
 
+// Whether a word decodes to the instruction with this name and these numbers.
+fn decodes_to(word: u32, name: &str, numbers: Numbers) -> bool {
+    match decode(word) {
+        None => false,
+        Some(inst) => {
+            let (found, operands) = parts_of(inst);
+            let found_numbers = operands.numbers();
+            found == name && found_numbers == numbers
+        }
+    }
+}
+
+// Whether what a word decodes to encodes to that word.
+fn encodes_back(word: u32) -> bool {
+    match decode(word) {
+        None => false,
+        Some(inst) => encode(inst) == word,
+    }
+}
+
 #[test]
 fn assembled_words_decode_and_encode(rt: HostRuntime) {
     for (name, rows) in &ASSEMBLED {
         for (numbers, word) in *rows {
-            assert_eq!(rt;
-                decode(*word).map(parts_of),
-                Some((*name, *numbers)),
-                "at {word:#010x}"
-            );
-            assert_eq!(rt; decode(*word).map(encode), Some(*word), "at {word:#010x}");
+            let decodes = decodes_to(*word, name, *numbers);
+            assert!(rt; decodes && encodes_back(*word), "at {word:#010x}");
         }
     }
 }
 
 // Words that stand in no row of the manual's table for RV64I.
+const OTHERS: [u32; 17] = [
+    0x00000000, // all zero
+    0xFFFFFFFF, // all one
+    0x44005013, // SRAI with bit 26 set
+    0x04001013, // SLLI with bit 26 set
+    0x0200501B, // SRLIW with bit 25 set
+    0x00001067, // JALR with funct3 1
+    0x00002063, // BRANCH with funct3 2
+    0x00007003, // LOAD with funct3 7
+    0x00004023, // STORE with funct3 4
+    0x02208033, // MUL of the extension M
+    0x0220803B, // MULW of the extension M
+    0x40001033, // SLL with funct7 0x20
+    0x0000100F, // FENCE.I
+    0x00001073, // CSRRW
+    0x000000F3, // ECALL with rd 1
+    0x00200073, // URET
+    0x00008082, // a compressed return
+];
+
 #[test]
 fn other_words_decode_to_none(rt: HostRuntime) {
-    for word in [
-        0x00000000, // all zero
-        0xFFFFFFFF, // all one
-        0x44005013, // SRAI with bit 26 set
-        0x04001013, // SLLI with bit 26 set
-        0x0200501B, // SRLIW with bit 25 set
-        0x00001067, // JALR with funct3 1
-        0x00002063, // BRANCH with funct3 2
-        0x00007003, // LOAD with funct3 7
-        0x00004023, // STORE with funct3 4
-        0x02208033, // MUL of the extension M
-        0x0220803B, // MULW of the extension M
-        0x40001033, // SLL with funct7 0x20
-        0x0000100F, // FENCE.I
-        0x00001073, // CSRRW
-        0x000000F3, // ECALL with rd 1
-        0x00200073, // URET
-        0x00008082, // a compressed return
-    ] {
-        assert_eq!(rt; decode(word), None, "at {word:#010x}");
+    for word in &OTHERS {
+        assert!(rt; decode(*word).is_none(), "at {word:#010x}");
     }
 }
 
@@ -671,54 +775,49 @@ fn numbers_are_kept(rt: HostRuntime) {
     let upper = Upper::new(1048575);
     let six = Shift6::new(63);
     let five = Shift5::new(31);
-    let small = [
+    let kept = [
         Imm12::new(-2048).get(),
         Imm13::new(-4096).get(),
         Imm21::new(1048574).get(),
+        register.get(),
+        upper.get(),
+        six.get(),
+        five.get(),
     ];
-    assert_eq!(rt; small, [-2048, -4096, 1048574]);
-    assert_eq!(rt;
-        [register.get(), upper.get(), six.get(), five.get()],
-        [31, 1048575, 63, 31]
-    );
-    assert_eq!(rt; register.index(), 31);
-    assert_eq!(rt; [upper.bits(), six.bits(), five.bits()], [1048575, 63, 31]);
+    assert!(rt; kept == [-2048, -4096, 1048574, 31, 1048575, 63, 31]);
+    let bits = [upper.bits(), six.bits(), five.bits()];
+    assert!(rt; register.index() == 31 && bits == [1048575, 63, 31]);
+}
+
+// Conditions, and the words of branches by them 8 bytes back.
+const BRANCHES: [(Cond, u32); 6] = [
+    (Cond::Eq, 0xFE208CE3),
+    (Cond::Ne, 0xFE209CE3),
+    (Cond::Lt, 0xFE20CCE3),
+    (Cond::Ge, 0xFE20DCE3),
+    (Cond::Ltu, 0xFE20ECE3),
+    (Cond::Geu, 0xFE20FCE3),
+];
+
+#[test]
+fn branches_encode(rt: HostRuntime) {
+    let (first, second, back) = (Reg::new(1), Reg::new(2), Imm13::new(-8));
+    for (cond, word) in &BRANCHES {
+        assert!(rt;
+            encode(Inst::branch(*cond, first, second, back)) == *word,
+            "at {word:#010x}"
+        );
+    }
 }
 
 #[test]
 fn instructions_encode(rt: HostRuntime) {
-    let zero = Reg::new(0);
-    let first = Reg::new(1);
-    let second = Reg::new(2);
+    let (zero, first, second) = (Reg::new(0), Reg::new(1), Reg::new(2));
     for (inst, word) in [
         (Inst::Addi(first, zero, Imm12::new(-1)), 0xFFF00093),
         (Inst::Jal(zero, Imm21::new(-4)), 0xFFDFF06F),
         (Inst::Sd(second, first, Imm12::new(8)), 0x0020B423),
-        (
-            Inst::branch(Cond::Eq, first, second, Imm13::new(-8)),
-            0xFE208CE3,
-        ),
-        (
-            Inst::branch(Cond::Ne, first, second, Imm13::new(-8)),
-            0xFE209CE3,
-        ),
-        (
-            Inst::branch(Cond::Lt, first, second, Imm13::new(-8)),
-            0xFE20CCE3,
-        ),
-        (
-            Inst::branch(Cond::Ge, first, second, Imm13::new(-8)),
-            0xFE20DCE3,
-        ),
-        (
-            Inst::branch(Cond::Ltu, first, second, Imm13::new(-8)),
-            0xFE20ECE3,
-        ),
-        (
-            Inst::branch(Cond::Geu, first, second, Imm13::new(-8)),
-            0xFE20FCE3,
-        ),
     ] {
-        assert_eq!(rt; encode(inst), word, "at {inst:?}");
+        assert!(rt; encode(inst) == word, "at {word:#010x}");
     }
 }

@@ -3,8 +3,8 @@
 
 ghost use Rattle.rv_machine.specs.Start.{IsRegionSize, IsStackSize};
 
-use crate::images::{SMALLEST, bytes_of};
-use assembler::image::{Image, is_image, read_image};
+use crate::images::{SMALLEST, image_of_groups};
+use assembler::image::{Image, is_image};
 use grift_base::lists::{Bytes, OutOfMemory};
 use grift_base::places::Pos;
 use grift_base::verdicts::{Answer, AnswerKind, Trap};
@@ -15,39 +15,52 @@ use rv_emulator::machine::Machine;
 use rv_emulator::stops::Stop;
 use rv_isa::number::Reg;
 use std::alloc::Global;
-use std::test::Fail;
 
-// Extends a list by the bytes of a word of the header.
-fn extend_by(bytes: &mut Bytes, word: u64) -> Result<(), OutOfMemory> {
-    bytes.extend(&word.to_le_bytes())
+// Adds a header of these words.
+fn put_header(bytes: &mut Bytes, words: &[u64]) -> Result<(), OutOfMemory> {
+    bytes.extend(b"GRIFTRV1")?;
+    for word in words {
+        bytes.extend(&word.to_le_bytes())?;
+    }
+    Ok(())
 }
 
-// An image of this code, with a word 0 where it needs one, and these labels.
-pub(crate) fn image_of(
-    alloc: Global,
-    code: &[u32],
-    labels: &[Pos],
-) -> Result<Option<Image>, OutOfMemory> {
-    let code_len = (code.len() as u64 % 4096).div_ceil(2) * 8;
-    let count = labels.len() as u64 % 4096;
-    let mut bytes = Bytes::from_slice(alloc, b"GRIFTRV1")?;
-    for word in [64 + code_len + 8 * count, 0, code_len, count, 0, 0, 0] {
-        extend_by(&mut bytes, word)?;
-    }
+// Adds this code, with a word 0 where it needs one.
+fn put_code(bytes: &mut Bytes, code: &[u32]) -> Result<(), OutOfMemory> {
     for word in code {
         bytes.extend(&word.to_le_bytes())?;
     }
     if code.len() % 2 == 1 {
         bytes.extend(&[0, 0, 0, 0])?;
     }
+    Ok(())
+}
+
+// Adds an image of this code and these labels.
+fn put_image(bytes: &mut Bytes, code: &[u32], labels: &[Pos]) -> Result<(), OutOfMemory> {
+    let code_len = (code.len() as u64).div_ceil(2).wrapping_mul(8);
+    let count = labels.len() as u64;
+    let len = count
+        .wrapping_mul(8)
+        .wrapping_add(code_len)
+        .wrapping_add(64);
+    put_header(bytes, &[len, 0, code_len, count, 0, 0, 0])?;
+    put_code(bytes, code)?;
     for label in labels {
         bytes.extend(&label.line.to_le_bytes())?;
         bytes.extend(&label.col.to_le_bytes())?;
     }
+    Ok(())
+}
+
+// An image of this code and these labels. None where there is no such image, or no memory.
+pub(crate) fn image_of(alloc: Global, code: &[u32], labels: &[Pos]) -> Option<Image> {
+    let mut bytes = Bytes::new(alloc);
+    put_image(&mut bytes, code, labels).ok()?;
     if is_image(bytes.as_slice()) {
-        Ok(Some(Image::new(bytes)))
+        Some(Image::new(bytes))
     } else {
-        Ok(None)
+        None
     }
 }
 
@@ -88,14 +101,28 @@ pub(crate) fn ended(kind: AnswerKind, word: i64) -> Stop {
 // The one label of small images.
 const LABEL: Pos = Pos { line: 3, col: 7 };
 
-// What this code, with one label, comes to within 100 steps, and whether it prints this text. None where there is no
+// A machine with this code and these labels, a region and a stack of these sizes and no input. None where there is no
 // such image, or no memory.
-fn comes_to(alloc: Global, code: &[u32], printed: &[u8]) -> Option<(Stop, bool)> {
-    let image = image_of(alloc, code, &[LABEL]).ok()??;
-    let mut machine = machine_of(alloc, &image, 16, 16).ok()?;
-    let stop = machine.run(100);
-    let same = machine.world().output.as_slice() == printed;
-    Some((stop, same))
+fn machine_for(
+    alloc: Global,
+    code: &[u32],
+    labels: &[Pos],
+    region: u64,
+    stack: u64,
+) -> Option<Machine<FlatRam>>
+    requires region { IsRegionSize region }
+    requires stack { IsStackSize stack }
+{
+    let image = image_of(alloc, code, labels)?;
+    machine_of(alloc, &image, region, stack).ok()
+}
+
+// Whether this code, with one label, comes to this stop within 100 steps, and prints this text. None where there is no
+// such machine.
+fn comes_to(alloc: Global, code: &[u32], stop: Stop, printed: &[u8]) -> Option<bool> {
+    let mut machine = machine_for(alloc, code, &[LABEL], 16, 16)?;
+    let came_to = machine.run(100);
+    Some(came_to == stop && machine.world().output.as_slice() == printed)
 }
 
 // A code, what it comes to, and what it prints.
@@ -317,73 +344,92 @@ const ARITHMETIC: [Row; 6] = [
 fn small_images_come_to_their_ends(rt: HostRuntime) {
     for rows in [ANSWERS.as_slice(), &CALLS, &STOPS, &ARITHMETIC] {
         for (code, stop, printed) in rows {
-            assert_eq!(rt;
-                comes_to(rt.alloc(), code, printed),
-                Some((*stop, true)),
+            assert!(rt;
+                matches!(comes_to(rt.alloc(), code, *stop, printed), Some(true)),
                 "{code:?}"
             );
         }
     }
 }
 
-// The smallest image, with the default region and stack: one step, and then the end; a run goes on where the one
-// before it came to.
-#[test]
-fn a_run_goes_on(rt: HostRuntime) -> Result<(), Fail> {
-    let bytes = bytes_of(rt.alloc(), &SMALLEST)?;
-    let image = read_image(rt.alloc(), bytes.as_slice())?;
-    let mut machine = machine_of(rt.alloc(), &image, 16777216, 1048576)?;
-    let answer = ended(AnswerKind::Int, 42);
-    for (steps, stop, pc, word) in [
-        (0, Stop::StepsSpent, 65536, 0),
-        (1, Stop::StepsSpent, 65540, 42),
-        (1, answer, 65540, 42),
-        (7, answer, 65540, 42),
-    ] {
-        let came_to = machine.run(steps);
-        assert_eq!(rt;
-            (came_to, machine.pc(), machine.reg(Reg::new(11))),
-            (stop, pc, word)
-        );
-    }
-    Ok(())
+// How a machine stops after these many steps, with the pc and the number in x11.
+fn after(machine: &mut Machine<FlatRam>, steps: u64) -> (Stop, u64, u64) {
+    let stop = machine.run(steps);
+    (stop, machine.pc(), machine.reg(Reg::new(11)))
 }
 
-// Each call 7 hands back a number and 0, or 0 and 1 where there is none, and leaves the number of the call as it is.
+// Whether the smallest image, with the default region and stack, goes on like this: one step, and then the end; a run
+// goes on where the one before it came to.
+fn goes_on(machine: &mut Machine<FlatRam>) -> bool {
+    let answer = ended(AnswerKind::Int, 42);
+    for (steps, wanted) in [
+        (0, (Stop::StepsSpent, 65536, 0)),
+        (1, (Stop::StepsSpent, 65540, 42)),
+        (1, (answer, 65540, 42)),
+        (7, (answer, 65540, 42)),
+    ] {
+        if after(machine, steps) != wanted {
+            return false;
+        }
+    }
+    true
+}
+
+// The same of a new machine. None where no memory is left.
+fn smallest_goes_on(alloc: Global) -> Option<bool> {
+    let image = image_of_groups(alloc, &SMALLEST)?;
+    let mut machine = machine_of(alloc, &image, 16777216, 1048576).ok()?;
+    Some(goes_on(&mut machine))
+}
+
 #[test]
-fn call_7_reads(rt: HostRuntime) -> Result<(), Fail> {
-    let alloc = rt.alloc();
-    // addi x17, x0, 7; ecall; ecall; ecall
-    let code = [0x00700893, 0x00000073, 0x00000073, 0x00000073];
-    let Some(image) = image_of(alloc, &code, &[])? else {
-        return Err(Fail::from("no image"));
-    };
-    let input = Bytes::from_slice(alloc, b"42 -1 x")?;
-    let mut machine = machine_on(alloc, &image, 0, 0, input)?;
+fn a_run_goes_on(rt: HostRuntime) {
+    assert!(rt; matches!(smallest_goes_on(rt.alloc()), Some(true)));
+}
+
+// Whether each call 7 hands back a number and 0, or 0 and 1 where there is none, leaves the number of the call as it
+// is, and the input read up to a place.
+fn reads(machine: &mut Machine<FlatRam>) -> bool {
     for (steps, number, none, place) in [
         (2, 42, 0, 2),
         (1, 0xFFFF_FFFF_FFFF_FFFF, 0, 5),
         (1, 0, 1, 6),
     ] {
-        assert!(rt; machine.run(steps) == Stop::StepsSpent);
-        let words = (
+        let stop = machine.run(steps);
+        let words = [
             machine.reg(Reg::new(10)),
             machine.reg(Reg::new(11)),
             machine.reg(Reg::new(17)),
-        );
-        assert!(rt; words == (number, none, 7));
-        assert!(rt; machine.world().input.place == place);
+            machine.world().input.place,
+        ];
+        if stop != Stop::StepsSpent || words != [number, none, 7, place] {
+            return false;
+        }
     }
-    Ok(())
+    true
+}
+
+// The same of a new machine. None where no memory is left.
+fn new_machine_reads(alloc: Global) -> Option<bool> {
+    // addi x17, x0, 7; ecall; ecall; ecall
+    let code = [0x00700893, 0x00000073, 0x00000073, 0x00000073];
+    let image = image_of(alloc, &code, &[])?;
+    let input = Bytes::from_slice(alloc, b"42 -1 x").ok()?;
+    let mut machine = machine_on(alloc, &image, 0, 0, input).ok()?;
+    Some(reads(&mut machine))
+}
+
+#[test]
+fn call_7_reads(rt: HostRuntime) {
+    assert!(rt; matches!(new_machine_reads(rt.alloc()), Some(true)));
 }
 
 // What a code comes to that writes the last word of a region of 64 MiB, reads it back and blames the label of that
-// number. None where there is no such image, or no memory.
+// number. None where there is no such machine.
 fn blames_from_a_large_region(alloc: Global, labels: &[Pos]) -> Option<Stop> {
     // addi x5, x0, 2; sd x5, -8(x27); ld x10, -8(x27); addi x17, x0, 3; ecall
     let code = [0x00200293, 0xfe5dbc23, 0xff8db503, 0x00300893, 0x00000073];
-    let image = image_of(alloc, &code, labels).ok()??;
-    let mut machine = machine_of(alloc, &image, 67_108_864, 1_048_576).ok()?;
+    let mut machine = machine_for(alloc, &code, labels, 67_108_864, 1_048_576)?;
     Some(machine.run(100))
 }
 
@@ -398,14 +444,13 @@ fn runs_with_several_labels_and_a_large_region(rt: HostRuntime) {
         (&[LABEL], Stop::Undefined(65552)),
     ];
     for (labels, stop) in rows {
-        assert_eq!(rt; blames_from_a_large_region(rt.alloc(), labels), Some(stop));
+        assert!(rt; blames_from_a_large_region(rt.alloc(), labels) == Some(stop));
     }
 }
 
-// The word that a machine with this code tells at an address. None where there is no such image, or no memory.
+// The word that a machine with this code tells at an address. None where there is no such machine.
 fn word_at(alloc: Global, code: &[u32], at: u64) -> Option<Option<u64>> {
-    let image = image_of(alloc, code, &[LABEL]).ok()??;
-    let machine = machine_of(alloc, &image, 16, 16).ok()?;
+    let machine = machine_for(alloc, code, &[LABEL], 16, 16)?;
     Some(machine.word(at))
 }
 
@@ -419,6 +464,6 @@ fn tells_words(rt: HostRuntime) {
         (65568, Some(0)),
         (65576, None),
     ] {
-        assert_eq!(rt; word_at(rt.alloc(), &code, at), Some(word), "{at}");
+        assert!(rt; word_at(rt.alloc(), &code, at) == Some(word), "{at}");
     }
 }

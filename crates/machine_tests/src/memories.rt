@@ -8,7 +8,6 @@ use grift_base::lists::OutOfMemory;
 use rv_emulator::flat::FlatRam;
 use rv_emulator::ram::{Ram, Width};
 use std::alloc::Global;
-use std::test::Fail;
 
 const WORD: u64 = 0x0123_4567_89AB_CDEF;
 
@@ -45,17 +44,19 @@ fn at_both_ends(alloc: Global, width: Width, last: u64) -> Result<[u64; 4], OutO
     Ok([first_loaded, last_loaded, low, high])
 }
 
-#[test]
-fn begins_with_zeros(rt: HostRuntime) -> Result<(), Fail> {
-    let ram = FlatRam::new(rt.alloc(), 16)?;
-    assert_eq!(rt; ram.size(), 16);
-    assert_eq!(rt; ram.load(0, Width::B8), 0);
-    assert_eq!(rt; ram.load(8, Width::B8), 0);
-    Ok(())
+// The size of a new memory of 16 bytes, and both halves of it.
+fn new_memory(alloc: Global) -> Result<[u64; 3], OutOfMemory> {
+    let ram = FlatRam::new(alloc, 16)?;
+    Ok([ram.size(), ram.load(0, Width::B8), ram.load(8, Width::B8)])
 }
 
 #[test]
-fn keeps_each_width(rt: HostRuntime) -> Result<(), Fail> {
+fn begins_with_zeros(rt: HostRuntime) {
+    assert!(rt; new_memory(rt.alloc()) == Ok([16, 0, 0]));
+}
+
+#[test]
+fn keeps_each_width(rt: HostRuntime) {
     for (width, last, wanted) in [
         (
             Width::B1,
@@ -79,8 +80,10 @@ fn keeps_each_width(rt: HostRuntime) -> Result<(), Fail> {
         ),
         (Width::B8, 8, [WORD, WORD, WORD, WORD]),
     ] {
-        assert!(rt; last == 16 - width.bytes());
-        assert_eq!(rt; at_both_ends(rt.alloc(), width, last)?, wanted, "{width:?}");
+        let is_last = last == 16 - width.bytes();
+        assert!(rt;
+            is_last && at_both_ends(rt.alloc(), width, last) == Ok(wanted),
+            "{last}"
+        );
     }
-    Ok(())
 }

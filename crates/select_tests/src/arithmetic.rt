@@ -1,16 +1,16 @@
 // Products, quotients and remainders against the host's arithmetic.
 
-use crate::machines::{answer, change, comes_to, load, number, procedure, sources, unless, word};
-use grift_base::lists::OutOfMemory;
+use crate::machines::{LABEL, answer, comes_to};
+use crate::programs::{End, Op, Proc, branches, procedure, push, sources, steps, with_arithmetic};
 use grift_base::verdicts::Trap;
-use grift_base::words::{Statics, WordList};
+use grift_base::words::WordList;
+use low_ir::code::LowSource::{Number, Word};
 use low_ir::code::{LowCode, WordOp};
-use low_ir::programs::{LowProc, LowProcs, LowProgram};
-use rt_refs::procs::arithmetic_procs;
+use low_ir::programs::{LowProc, LowProgram};
 use rv_emulator::stops::Stop;
 use rv_isa::inst::Cond;
 use std::alloc::Global;
-use std::test::Fail;
+use std::process::Abort;
 
 // Words near which arithmetic has its edges.
 const CORNERS: [u64; 30] = [
@@ -47,29 +47,27 @@ const CORNERS: [u64; 30] = [
 ];
 
 // Two words with their product, quotient and remainder, which are 0 where the second is 0.
-fn push_row(rows: &mut WordList, a: u64, b: u64) -> Result<(), OutOfMemory> {
-    rows.push(a)?;
-    rows.push(b)?;
-    rows.push(a.wrapping_mul(b))?;
+fn push_row(rt: &impl Abort, rows: &mut WordList, a: u64, b: u64) {
     let dividend = a.cast_signed();
     let divisor = b.cast_signed();
-    if divisor == 0 {
-        rows.push(0)?;
-        return rows.push(0);
+    let (mut quotient, mut remainder) = (0, 0);
+    if divisor != 0 {
+        quotient = dividend.wrapping_div(divisor).cast_unsigned();
+        remainder = dividend.wrapping_rem(divisor).cast_unsigned();
     }
-    rows.push(dividend.wrapping_div(divisor).cast_unsigned())?;
-    rows.push(dividend.wrapping_rem(divisor).cast_unsigned())
+    let row = [a, b, a.wrapping_mul(b), quotient, remainder];
+    rows.extend(&row).expect(rt, "memory");
 }
 
 // All pairs of corners.
-fn pairs_of_corners(alloc: Global) -> Result<WordList, OutOfMemory> {
+fn pairs_of_corners(rt: &impl Abort, alloc: Global) -> WordList {
     let mut rows = WordList::new(alloc);
-    for a in CORNERS {
-        for b in CORNERS {
-            push_row(&mut rows, a, b)?;
+    for a in &CORNERS {
+        for b in &CORNERS {
+            push_row(rt, &mut rows, *a, *b);
         }
     }
-    Ok(rows)
+    rows
 }
 
 // A word of up to 64 bits, fewer by a count, from the state of a generator.
@@ -85,124 +83,107 @@ fn next_state(state: u64) -> u64 {
 }
 
 // Pairs of random words of all lengths, where every other one has the sign turned.
-fn random_pairs(alloc: Global, count: u64) -> Result<WordList, OutOfMemory> {
+fn random_pairs(rt: &impl Abort, alloc: Global, count: u64) -> WordList {
     let mut rows = WordList::new(alloc);
     let mut state = 20_261_127;
     for i in 0..count {
-        let a = random_word(state, i);
+        let mut a = random_word(state, i);
         state = next_state(state);
         let b = random_word(state, i / 64);
         state = next_state(state);
-        if i % 2 == 0 {
-            push_row(&mut rows, a, b)?;
-        } else {
-            push_row(&mut rows, a.wrapping_neg(), b)?;
+        if i % 2 == 1 {
+            a = a.wrapping_neg();
         }
+        push_row(rt, &mut rows, a, b);
     }
-    Ok(rows)
+    rows
 }
 
-// Word 4 is set to what a procedure answers to these words, and compared with the word of the row at an offset: where
-// they differ the row's address is answered, and else this is done.
-fn compares(
-    alloc: Global,
-    k: u32,
-    third: Option<u64>,
-    offset: u32,
-    rest: LowCode,
-) -> Result<LowCode, OutOfMemory> {
-    let mut words = sources(alloc, &[word(2), word(3)])?;
-    if let Some(which) = third {
-        words.push(number(which))?;
-    }
-    let code = unless(alloc, Cond::Ne, word(4), word(5), word(0), rest)?;
-    let code = load(alloc, 5, 0, offset, code)?;
-    Ok(LowCode::Call(4, k, words, Box::new(alloc, code)?))
-}
+// Looks at the rows from the address in word 0 to that in word 1, each of 40 bytes. Word 4 is set to what a procedure
+// answers to the first two words of a row, and compared with another of its words: where they differ the row's address
+// is answered. Here are the products, which procedure 2 makes.
+const PRODUCTS: &[Op] = &[
+    Op::Unless(Cond::Eq, Word(0), Word(1), Number(0)),
+    Op::Load(2, Word(0), 0),
+    Op::Load(3, Word(0), 8),
+    Op::Call(4, 2, &[Word(2), Word(3)]),
+    Op::Load(5, Word(0), 16),
+    Op::Unless(Cond::Ne, Word(4), Word(5), Word(0)),
+];
 
-// Looks at the rows from the address in word 0 to that in word 1. It answers 0, or the address of the first row whose
-// words aren't what the procedures 2 and 3 answer.
-fn looks(alloc: Global) -> Result<LowProc, OutOfMemory> {
-    let code = LowCode::TailCall(5, sources(alloc, &[word(0), word(1)])?);
-    let code = change(alloc, WordOp::Add, 0, number(40), code)?;
-    let divided = compares(alloc, 3, Some(1), 32, LowCode::Done)?;
-    let divided = Box::new(alloc, compares(alloc, 3, Some(0), 24, divided)?)?;
-    let done = Box::new(alloc, LowCode::Done)?;
-    let code = LowCode::If(
-        Cond::Ne,
-        word(3),
-        number(0),
-        divided,
-        done,
-        Box::new(alloc, code)?,
-    );
-    let code = compares(alloc, 2, None, 16, code)?;
-    let code = load(alloc, 3, 0, 8, code)?;
-    let code = load(alloc, 2, 0, 0, code)?;
-    let code = unless(alloc, Cond::Eq, word(0), word(1), number(0), code)?;
-    Ok(procedure(2, 6, code))
+// Quotients and remainders are looked at where the divisor isn't 0. Procedure 3 makes both.
+const QUOTIENTS: &[Op] = &[
+    Op::Call(4, 3, &[Word(2), Word(3), Number(0)]),
+    Op::Load(5, Word(0), 24),
+    Op::Unless(Cond::Ne, Word(4), Word(5), Word(0)),
+    Op::Call(4, 3, &[Word(2), Word(3), Number(1)]),
+    Op::Load(5, Word(0), 32),
+    Op::Unless(Cond::Ne, Word(4), Word(5), Word(0)),
+];
+
+const NEXT_ROW: &[Op] = &[Op::Compute(WordOp::Add, 0, Word(0), Number(40))];
+
+// The procedure that looks at the rows, of number 5. It answers 0, or the address of the first row whose words aren't
+// what the procedures 2 and 3 answer.
+fn looks(rt: &impl Abort, alloc: Global) -> LowProc {
+    let again = LowCode::TailCall(5, sources(rt, alloc, &[Word(0), Word(1)]));
+    let next = steps(rt, alloc, NEXT_ROW, again);
+    let divided = steps(rt, alloc, QUOTIENTS, LowCode::Done);
+    let compared = [Word(3), Number(0)];
+    let code = branches(rt, alloc, Cond::Ne, compared, divided, LowCode::Done, next);
+    procedure(2, 6, steps(rt, alloc, PRODUCTS, code))
 }
 
 // A program that looks at these rows, which are its statics.
-fn looks_at(alloc: Global, rows: WordList) -> Result<LowProgram, OutOfMemory> {
+fn looks_at(rt: &impl Abort, alloc: Global, rows: WordList) -> LowProgram {
     let end = rows.len().wrapping_mul(8).wrapping_add(65_536);
-    let mut procs = arithmetic_procs(alloc, 0)?;
-    let words = sources(alloc, &[number(65_536), number(end)])?;
-    procs.push(procedure(0, 0, LowCode::TailCall(5, words)))?;
-    procs.push(looks(alloc)?)?;
-    let mut statics = Statics::new(alloc);
-    statics.words = rows;
-    Ok(LowProgram {
-        procs,
-        entry: 4,
-        statics,
-    })
+    let words = sources(rt, alloc, &[Number(65_536), Number(end)]);
+    let mut low = with_arithmetic(rt, alloc, &[]);
+    let begins = procedure(0, 0, LowCode::TailCall(5, words));
+    push(rt, &mut low.procs, Ok(begins));
+    push(rt, &mut low.procs, Ok(looks(rt, alloc)));
+    low.statics.words = rows;
+    low
+}
+
+// What such a program comes to.
+fn looked_at(rt: &impl Abort, alloc: Global, rows: WordList) -> Stop {
+    comes_to(rt, alloc, looks_at(rt, alloc, rows), &[LABEL], (0, 4096))
 }
 
 #[test]
-fn arithmetic_of_corners(rt: HostRuntime) -> Result<(), Fail> {
-    let alloc = rt.alloc();
-    let low = looks_at(alloc, pairs_of_corners(alloc)?)?;
-    assert!(rt; comes_to(alloc, &low, 0, 4096)? == answer(0));
-    Ok(())
+fn arithmetic_of_corners(rt: HostRuntime) {
+    let rows = pairs_of_corners(&rt, rt.alloc());
+    assert!(rt; looked_at(&rt, rt.alloc(), rows) == answer!(0));
 }
 
 #[test]
-fn arithmetic_of_random_words(rt: HostRuntime) -> Result<(), Fail> {
-    let alloc = rt.alloc();
-    let low = looks_at(alloc, random_pairs(alloc, 20_000)?)?;
-    assert!(rt; comes_to(alloc, &low, 0, 4096)? == answer(0));
-    Ok(())
+fn arithmetic_of_random_words(rt: HostRuntime) {
+    let rows = random_pairs(&rt, rt.alloc(), 20_000);
+    assert!(rt; looked_at(&rt, rt.alloc(), rows) == answer!(0));
 }
+
+// A right row, and one with a wrong product.
+const WRONG: &[u64] = &[6, 7, 42, 0, 6, 6, 7, 43, 0, 6];
 
 // A table with a wrong product is found.
 #[test]
-fn a_wrong_row_is_found(rt: HostRuntime) -> Result<(), Fail> {
-    let alloc = rt.alloc();
-    let mut rows = WordList::new(alloc);
-    push_row(&mut rows, 6, 7)?;
-    for wrong in [6, 7, 43, 0, 6] {
-        rows.push(wrong)?;
-    }
-    assert!(rt; comes_to(alloc, &looks_at(alloc, rows)?, 0, 4096)? == answer(65_576));
-    Ok(())
+fn a_wrong_row_is_found(rt: HostRuntime) {
+    let rows = WordList::from_slice(rt.alloc(), WRONG).expect(&rt, "memory");
+    assert!(rt; looked_at(&rt, rt.alloc(), rows) == answer!(65_576));
 }
 
-// The quotient of 5 and 0.
-fn divides_by_zero(alloc: Global) -> Result<LowProgram, OutOfMemory> {
-    let mut procs: LowProcs = arithmetic_procs(alloc, 0)?;
-    let words = sources(alloc, &[number(5), number(0), number(0)])?;
-    procs.push(procedure(0, 0, LowCode::TailCall(3, words)))?;
-    Ok(LowProgram {
-        procs,
-        entry: 4,
-        statics: Statics::new(alloc),
-    })
-}
+// The quotient of 5 and 0, behind the four procedures.
+const BY_ZERO: &[Proc] = &[Proc {
+    params: 0,
+    words: 0,
+    steps: &[],
+    end: End::TailCall(3, &[Number(5), Number(0), Number(0)]),
+}];
 
 #[test]
-fn a_divisor_zero_traps(rt: HostRuntime) -> Result<(), Fail> {
-    let low = divides_by_zero(rt.alloc())?;
-    assert!(rt; comes_to(rt.alloc(), &low, 0, 4096)? == Some(Stop::Trapped(Trap::ZeroDivisor)));
-    Ok(())
+fn a_divisor_zero_traps(rt: HostRuntime) {
+    let low = with_arithmetic(&rt, rt.alloc(), BY_ZERO);
+    let stop = comes_to(&rt, rt.alloc(), low, &[LABEL], (0, 4096));
+    assert!(rt; stop == Stop::Trapped(Trap::ZeroDivisor));
 }

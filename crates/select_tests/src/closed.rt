@@ -1,87 +1,111 @@
 // Programs that are closed, and programs that aren't.
 
-use crate::machines::{alone, number, set, sources, word};
-use grift_base::lists::OutOfMemory;
+use crate::programs::{End, Op, Proc, alone, program_of, repeated, with_arithmetic};
+use low_ir::code::LowSource::{Number, Word};
 use low_ir::code::{LowCode, WordOp};
+use low_ir::programs::LowProgram;
+use rt_refs::procs::{ARITHMETIC_PROCS, arithmetic_procs};
 use rv_isa::inst::Cond;
 use std::alloc::Global;
-use std::test::Fail;
+use std::process::Abort;
 
-#[derive(Clone, Copy, Debug)]
-enum Sample {
-    // The first word is set to a number, and then the second is returned.
-    Returns(u32, u32),
-    // Word 0 is set in the one branch and this one in the other; then word 0 is returned.
-    Branches(u32),
-    // A procedure goes on in place of this one, with no words or with one.
-    CallsWithNone(u32),
-    CallsWithOne(u32),
-    // Code without an end.
-    Ends,
-    // A word is loaded from this offset, and then returned.
-    Loads(u32),
-    // 200,000 sums, one after another.
-    Sums,
+// A procedure that takes no words and has two.
+macro_rules! of_two_words {
+    ($steps:expr, $end:expr) => {
+        &[Proc {
+            params: 0,
+            words: 2,
+            steps: $steps,
+            end: $end,
+        }]
+    };
 }
 
-fn code(alloc: Global, sample: Sample) -> Result<LowCode, OutOfMemory> {
-    match sample {
-        Sample::Returns(d, returned) => set(alloc, d, number(7), LowCode::Return(word(returned))),
-        Sample::Branches(other) => branches(alloc, other),
-        Sample::CallsWithNone(k) => Ok(LowCode::TailCall(k, sources(alloc, &[])?)),
-        Sample::CallsWithOne(k) => Ok(LowCode::TailCall(k, sources(alloc, &[number(3)])?)),
-        Sample::Ends => Ok(LowCode::Done),
-        Sample::Loads(offset) => {
-            let rest = Box::new(alloc, LowCode::Return(word(1)))?;
-            Ok(LowCode::Load(1, number(65536), offset, rest))
-        }
-        Sample::Sums => sums(alloc),
+// Word 0 is set in the one branch and this one in the other; then word 0 is returned.
+macro_rules! branches {
+    ($other:expr) => {
+        of_two_words!(
+            &[Op::SetEither(
+                Cond::Eq,
+                [Number(1), Number(1)],
+                (0, Number(1)),
+                ($other, Number(2)),
+            )],
+            End::Return(Word(0))
+        )
+    };
+}
+
+// Words are set before they are read, in both branches of what stands before; calls hand on as many words as are taken;
+// code leaves; offsets are small.
+const PROGRAMS: &[(&[Proc], bool)] = &[
+    (
+        of_two_words!(&[Op::Set(1, Number(7))], End::Return(Word(1))),
+        true,
+    ),
+    (
+        of_two_words!(&[Op::Set(1, Number(7))], End::Return(Word(0))),
+        false,
+    ),
+    (
+        of_two_words!(&[Op::Set(2, Number(7))], End::Return(Word(2))),
+        false,
+    ),
+    (branches!(0), true),
+    (branches!(1), false),
+    (of_two_words!(&[], End::TailCall(0, &[])), true),
+    (of_two_words!(&[], End::TailCall(1, &[])), false),
+    (of_two_words!(&[], End::TailCall(0, &[Number(3)])), false),
+    (of_two_words!(&[], End::Done), false),
+    (
+        of_two_words!(&[Op::Load(1, Number(65536), 2040)], End::Return(Word(1))),
+        true,
+    ),
+    (
+        of_two_words!(&[Op::Load(1, Number(65536), 2048)], End::Return(Word(1))),
+        false,
+    ),
+];
+
+// Whether a program is closed, which is taken, so that no caller keeps it.
+fn is_closed(low: LowProgram) -> bool {
+    low.is_closed()
+}
+
+// Each program is closed where its row says so.
+fn all_are_so(rt: &impl Abort, alloc: Global, rows: &[(&'static [Proc], bool)]) {
+    for (place, (program, closed)) in rows.iter().enumerate() {
+        let low = program_of(rt, alloc, program);
+        assert!(rt; is_closed(low) == *closed, "row {place}");
     }
 }
 
-fn branches(alloc: Global, other: u32) -> Result<LowCode, OutOfMemory> {
-    let one = set(alloc, 0, number(1), LowCode::Done)?;
-    let two = set(alloc, other, number(2), LowCode::Done)?;
-    Ok(LowCode::If(
-        Cond::Eq,
-        number(1),
-        number(1),
-        Box::new(alloc, one)?,
-        Box::new(alloc, two)?,
-        Box::new(alloc, LowCode::Return(word(0)))?,
-    ))
-}
-
-fn sums(alloc: Global) -> Result<LowCode, OutOfMemory> {
-    let mut code = LowCode::Return(word(1));
-    for _ in 0..200_000 {
-        let rest = Box::new(alloc, code)?;
-        code = LowCode::Compute(WordOp::Add, 1, number(1), number(2), rest);
-    }
-    Ok(code)
-}
-
-// Programs of one procedure that takes no words and has two. Words are set before they are read, in both branches of
-// what stands before; calls hand on as many words as are taken; code leaves; offsets are small. The last code is longer
-// than the process's stack is deep.
 #[test]
-fn words_and_procedures_are_there(rt: HostRuntime) -> Result<(), Fail> {
-    for (sample, closed) in [
-        (Sample::Returns(1, 1), true),
-        (Sample::Returns(1, 0), false),
-        (Sample::Returns(2, 2), false),
-        (Sample::Branches(0), true),
-        (Sample::Branches(1), false),
-        (Sample::CallsWithNone(0), true),
-        (Sample::CallsWithNone(1), false),
-        (Sample::CallsWithOne(0), false),
-        (Sample::Ends, false),
-        (Sample::Loads(2040), true),
-        (Sample::Loads(2048), false),
-        (Sample::Sums, true),
-    ] {
-        let low = alone(rt.alloc(), 2, code(rt.alloc(), sample)?)?;
-        assert!(rt; low.is_closed() == closed, "{sample:?}");
-    }
-    Ok(())
+fn words_and_procedures_are_there(rt: HostRuntime) {
+    all_are_so(&rt, rt.alloc(), PROGRAMS);
+}
+
+// 200,000 sums, one after another, are longer than the process's stack is deep.
+#[test]
+fn a_long_program_is_closed(rt: HostRuntime) {
+    let sum = Op::Compute(WordOp::Add, 1, Number(1), Number(2));
+    let code = repeated(&rt, rt.alloc(), &sum, 200_000, LowCode::Return(Word(1)));
+    let low = alone(&rt, rt.alloc(), 2, code);
+    assert!(rt; is_closed(low));
+}
+
+// Calls the procedure of products, of number 2 among the four that stand before it, in its place.
+const MULTIPLIES: &[Proc] = &[Proc {
+    params: 0,
+    words: 0,
+    steps: &[],
+    end: End::TailCall(2, &[Number(6), Number(7)]),
+}];
+
+#[test]
+fn a_program_with_the_procedures_of_arithmetic_is_closed(rt: HostRuntime) {
+    let procs = arithmetic_procs(rt.alloc(), 0).expect(&rt, "memory");
+    assert!(rt; procs.len() == ARITHMETIC_PROCS as u64);
+    let low = with_arithmetic(&rt, rt.alloc(), MULTIPLIES);
+    assert!(rt; is_closed(low));
 }

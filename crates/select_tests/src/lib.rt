@@ -9,9 +9,9 @@ mod calls;
 #[cfg(test)]
 mod closed;
 #[cfg(test)]
-mod division;
-#[cfg(test)]
 mod machines;
+#[cfg(test)]
+mod programs;
 #[cfg(test)]
 mod proxies;
 #[cfg(test)]

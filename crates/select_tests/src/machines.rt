@@ -1,196 +1,135 @@
 // What programs over words come to on the emulator.
 
-ghost use Rattle.std.specs.Prelude.{◌≡◌};
+ghost use Rattle.std.specs.Prelude.{◌≡◌, IsTrue};
 ghost use Rattle.rv_machine.specs.Start.{IsRegionSize, IsStackSize};
 
+use crate::programs::{Proc, program_of};
 use assembler::image::Image;
-use grift_base::lists::{Bytes, OutOfMemory};
+use grift_base::lists::Bytes;
 use grift_base::places::{LabelTable, Pos};
-use grift_base::verdicts::{Answer, AnswerKind};
-use grift_base::words::Statics;
 use grift_base::worlds::World;
-use low_ir::code::{LowCode, LowSource, LowSources, WordOp};
-use low_ir::programs::{LowProc, LowProcs, LowProgram};
+use low_ir::programs::LowProgram;
 use reg_assign::images::image_of;
 use rv_emulator::flat::FlatRam;
 use rv_emulator::machine::Machine;
 use rv_emulator::stops::Stop;
-use rv_isa::inst::Cond;
 use std::alloc::Global;
+use std::process::Abort;
 
-// The one label of the programs.
+// The label of programs that have one.
 pub(crate) const LABEL: Pos = Pos { line: 3, col: 7 };
 
-// A word of the procedure.
-pub(crate) fn word(number: u32) -> LowSource {
-    LowSource::Word(number)
+// The answer Int with a word.
+macro_rules! answer {
+    ($word:expr) => {
+        Stop::Ended(grift_base::verdicts::Answer {
+            kind: grift_base::verdicts::AnswerKind::Int,
+            word: $word,
+        })
+    };
 }
 
-// A number.
-pub(crate) fn number(n: u64) -> LowSource {
-    LowSource::Number(n)
-}
+pub(crate) use answer;
 
-// These sources.
-pub(crate) fn sources(alloc: Global, words: &[LowSource]) -> Result<LowSources, OutOfMemory> {
-    LowSources::from_slice(alloc, words)
-}
-
-// Word d is set to a source, and then this is done.
-pub(crate) fn set(
-    alloc: Global,
-    d: u32,
-    a: LowSource,
-    rest: LowCode,
-) -> Result<LowCode, OutOfMemory> {
-    Ok(LowCode::Set(d, a, Box::new(alloc, rest)?))
-}
-
-// Word d is set to what an operation gives of it and a source, and then this is done.
-pub(crate) fn change(
-    alloc: Global,
-    op: WordOp,
-    d: u32,
-    b: LowSource,
-    rest: LowCode,
-) -> Result<LowCode, OutOfMemory> {
-    let a = LowSource::Word(d);
-    Ok(LowCode::Compute(op, d, a, b, Box::new(alloc, rest)?))
-}
-
-// Word d is loaded from the address in a word and an offset, and then this is done.
-pub(crate) fn load(
-    alloc: Global,
-    d: u32,
-    from: u32,
-    offset: u32,
-    rest: LowCode,
-) -> Result<LowCode, OutOfMemory> {
-    let a = LowSource::Word(from);
-    Ok(LowCode::Load(d, a, offset, Box::new(alloc, rest)?))
-}
-
-// Word d is set to the answer of a procedure that takes these words, and then this is done.
-pub(crate) fn call(
-    alloc: Global,
-    d: u32,
-    k: u32,
-    words: &[LowSource],
-    rest: LowCode,
-) -> Result<LowCode, OutOfMemory> {
-    let words = sources(alloc, words)?;
-    Ok(LowCode::Call(d, k, words, Box::new(alloc, rest)?))
-}
-
-// A number is answered where the condition holds of two sources, and else this is done.
-pub(crate) fn unless(
-    alloc: Global,
-    cond: Cond,
-    a: LowSource,
-    b: LowSource,
-    answer: LowSource,
-    rest: LowCode,
-) -> Result<LowCode, OutOfMemory> {
-    let one = Box::new(alloc, LowCode::Return(answer))?;
-    let other = Box::new(alloc, LowCode::Done)?;
-    let rest = Box::new(alloc, rest)?;
-    Ok(LowCode::If(cond, a, b, one, other, rest))
-}
-
-// A procedure that takes so many words and has so many.
-pub(crate) fn procedure(params: u32, words: u32, code: LowCode) -> LowProc {
-    LowProc {
-        params,
-        words,
-        code,
+// A table of these labels.
+fn table_of(rt: &impl Abort, alloc: Global, labels: &[Pos]) -> LabelTable {
+    let mut table = LabelTable::new(alloc);
+    for label in labels {
+        table.intern(*label).expect(rt, "memory");
     }
+    table
 }
 
-// A program that begins with the first procedure.
-pub(crate) fn program(alloc: Global, procs: LowProcs) -> LowProgram {
-    LowProgram {
-        procs,
-        entry: 0,
-        statics: Statics::new(alloc),
-    }
+// The image of a program, which is closed, with these labels.
+fn image_with(rt: &impl Abort, alloc: Global, low: &LowProgram, labels: &[Pos]) -> Image {
+    assert!(rt; low.is_closed(), "the program is not closed");
+    let labels = table_of(rt, alloc, labels);
+    image_of(alloc, low, &labels).expect(rt, "memory")
 }
 
-// One of a lone procedure that takes no words.
-pub(crate) fn alone(alloc: Global, words: u32, code: LowCode) -> Result<LowProgram, OutOfMemory> {
-    let mut procs = LowProcs::new(alloc);
-    procs.push(procedure(0, words, code))?;
-    Ok(program(alloc, procs))
-}
-
-// The program's image; none where it isn't closed.
-pub(crate) fn assembled(alloc: Global, low: &LowProgram) -> Result<Option<Image>, OutOfMemory> {
-    if !low.is_closed() {
-        return Ok(None);
-    }
-    let mut labels = LabelTable::new(alloc);
-    labels.intern(LABEL)?;
-    let image = image_of(alloc, low, &labels)?;
-    Ok(Some(image))
+// The same of a program that is taken, so that no caller keeps it.
+pub(crate) fn assembled(rt: &impl Abort, alloc: Global, low: LowProgram, labels: &[Pos]) -> Image {
+    image_with(rt, alloc, &low, labels)
 }
 
 // A machine with this image, a region and a stack of these sizes and no input.
 pub(crate) fn machine_of(
+    rt: &impl Abort,
     alloc: Global,
     image: &Image,
     region: u64,
     stack: u64,
-) -> Result<Machine<FlatRam>, OutOfMemory>
+) -> Machine<FlatRam>
     requires region { IsRegionSize region }
     requires stack { IsStackSize stack }
 {
     let size = image.loaded().len() as u64 + region + stack;
-    let ram = FlatRam::new(alloc, size)?;
+    let ram = FlatRam::new(alloc, size).expect(rt, "memory");
     let world = World::new(alloc, Bytes::new(alloc));
-    Machine::load(alloc, image, ram, region, stack, world)
+    Machine::load(alloc, image, ram, region, stack, world).expect(rt, "memory")
 }
 
-// What the program comes to in a region and a stack of these sizes, and whether it prints this text; none where it is
-// not closed.
-pub(crate) fn prints(
-    alloc: Global,
-    low: &LowProgram,
-    region: u64,
-    stack: u64,
-    text: &[u8],
-) -> Result<Option<(Stop, bool)>, OutOfMemory>
-    requires region { IsRegionSize region }
-    requires stack { IsStackSize stack }
+// Whether a region and a stack may have these sizes.
+fn are_sizes(region: u64, stack: u64) -> bool
+    ensures { IsTrue result → IsRegionSize region × IsStackSize stack }
 {
-    match assembled(alloc, low)? {
-        None => Ok(None),
-        Some(image) => {
-            let mut machine = machine_of(alloc, &image, region, stack)?;
-            let stop = machine.run(1_000_000_000);
-            Ok(Some((stop, machine.world().output.as_slice() == text)))
-        }
-    }
+    region % 8 == 0 && region <= 1_073_741_824 && stack % 8 == 0 && stack <= 268_435_456
 }
 
-// What the program comes to, printing nothing.
+// What a machine comes to, and whether it has printed this text.
+fn stop_of(machine: &mut Machine<FlatRam>, text: &str) -> (Stop, bool) {
+    let stop = machine.run(1_000_000_000);
+    (stop, machine.world().output.as_slice() == text.as_bytes())
+}
+
+// What an image comes to in a region and a stack of these sizes, and whether it prints this text.
+fn run_of(
+    rt: &impl Abort,
+    alloc: Global,
+    image: &Image,
+    sizes: (u64, u64),
+    text: &str,
+) -> (Stop, bool) {
+    let (region, stack) = sizes;
+    assert!(rt;
+        are_sizes(region, stack),
+        "a region or a stack has no such size"
+    );
+    let mut machine = machine_of(rt, alloc, image, region, stack);
+    stop_of(&mut machine, text)
+}
+
+// What a program with these labels comes to in a region and a stack of these sizes, where it prints nothing.
 pub(crate) fn comes_to(
+    rt: &impl Abort,
     alloc: Global,
-    low: &LowProgram,
-    region: u64,
-    stack: u64,
-) -> Result<Option<Stop>, OutOfMemory>
-    requires region { IsRegionSize region }
-    requires stack { IsStackSize stack }
-{
-    match prints(alloc, low, region, stack, b"")? {
-        Some((stop, true)) => Ok(Some(stop)),
-        _ => Ok(None),
-    }
+    low: LowProgram,
+    labels: &[Pos],
+    sizes: (u64, u64),
+) -> Stop {
+    let image = assembled(rt, alloc, low, labels);
+    let (stop, prints_nothing) = run_of(rt, alloc, &image, sizes, "");
+    assert!(rt; prints_nothing, "the program prints");
+    stop
 }
 
-// The answer Int with this word.
-pub(crate) fn answer(word: i64) -> Option<Stop> {
-    Some(Stop::Ended(Answer {
-        kind: AnswerKind::Int,
-        word,
-    }))
+// A program, the sizes of its region and its stack, what it prints and what it comes to.
+pub(crate) struct Run {
+    pub(crate) program: &'static [Proc],
+    pub(crate) sizes: (u64, u64),
+    pub(crate) prints: &'static str,
+    pub(crate) stop: Stop,
+}
+
+// Whether a program comes to what its row says.
+fn is_so(rt: &impl Abort, alloc: Global, row: &Run) -> bool {
+    let image = assembled(rt, alloc, program_of(rt, alloc, row.program), &[LABEL]);
+    run_of(rt, alloc, &image, row.sizes, row.prints) == (row.stop, true)
+}
+
+// Each program comes to what its row says.
+pub(crate) fn all_are_so(rt: &impl Abort, alloc: Global, rows: &[Run]) {
+    for (place, row) in rows.iter().enumerate() {
+        assert!(rt; is_so(rt, alloc, row), "row {place}");
+    }
 }

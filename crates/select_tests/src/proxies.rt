@@ -1,19 +1,15 @@
 // Calls, reads, writes and vectors, through proxies and without.
 
-ghost use Rattle.std.specs.Prelude.{◌≡◌};
-ghost use Rattle.rv_machine.specs.Start.{IsRegionSize};
-
-use crate::machines::{
-    answer, call, change, load, machine_of, number, procedure, set, sources, word,
-};
-use assembler::image::Image;
-use grift_base::lists::OutOfMemory;
-use grift_base::places::{LabelTable, Pos};
+use crate::machines::{answer, comes_to};
+use crate::programs::Op::{Build, Call, CodeOf, Compute, Set};
+use crate::programs::{End, Op, Proc, boxed, procedure, program, push, push_procs, sources, step};
+use crate::proxies::Turn::{Cast, Does, InDyn};
+use grift_base::places::Pos;
 use grift_base::verdicts::Trap;
-use grift_base::words::{Statics, WordList};
+use grift_base::words::WordList;
+use low_ir::code::LowSource::{Number, Word};
 use low_ir::code::{LowCode, LowSource, WordOp};
-use low_ir::programs::{LowProcs, LowProgram};
-use reg_assign::images::image_of;
+use low_ir::programs::{LowProc, LowProcs, LowProgram};
 use rt_cast::procs::cast_procs;
 use rt_refs::calls::apply_proc;
 use rt_refs::cells::{read_proc, write_proc};
@@ -21,7 +17,7 @@ use rt_refs::fills::{fill_loop, fill_proc};
 use rt_refs::procs::ref_procs;
 use rv_emulator::stops::Stop;
 use std::alloc::Global;
-use std::test::Fail;
+use std::process::Abort;
 
 // The procedures by their numbers: those of casts, then those of this file, and two functions.
 const COERCE: u32 = 0;
@@ -91,375 +87,371 @@ const BOX: u64 = 22;
 
 const VECTOR: u64 = 23;
 
-// A type of a kind with these parts, all without parts of their own.
-fn push_type(words: &mut WordList, kind: u64, parts: &[u64]) -> Result<(), OutOfMemory> {
-    words.push(kind | 0x1_0000 | ((parts.len() as u64) << 32))?;
-    words.extend(parts)
-}
+// Kinds of types with their parts, which have no parts of their own, in the order of their addresses behind those of
+// the types without parts.
+const TYPES: &[(u64, &[u64])] = &[
+    (BOX, &[INT]),
+    (BOX, &[DYN]),
+    (VECTOR, &[INT]),
+    (VECTOR, &[DYN]),
+    (FUNCTION, &[INT, INT]),
+    (FUNCTION, &[DYN, INT]),
+    (FUNCTION, &[INT, INT, INT]),
+    (FUNCTION, &[DYN, INT, INT]),
+    (FUNCTION, &[DYN, DYN, INT]),
+];
 
 // The types at their addresses.
-fn types(alloc: Global) -> Result<Statics, OutOfMemory> {
-    let mut words = WordList::from_slice(alloc, &[16, 17, 19])?;
-    push_type(&mut words, BOX, &[INT])?;
-    push_type(&mut words, BOX, &[DYN])?;
-    push_type(&mut words, VECTOR, &[INT])?;
-    push_type(&mut words, VECTOR, &[DYN])?;
-    push_type(&mut words, FUNCTION, &[INT, INT])?;
-    push_type(&mut words, FUNCTION, &[DYN, INT])?;
-    push_type(&mut words, FUNCTION, &[INT, INT, INT])?;
-    push_type(&mut words, FUNCTION, &[DYN, INT, INT])?;
-    push_type(&mut words, FUNCTION, &[DYN, DYN, INT])?;
-    let mut statics = Statics::new(alloc);
-    statics.words = words;
-    Ok(statics)
+fn types(rt: &impl Abort, alloc: Global) -> WordList {
+    let mut words = WordList::from_slice(alloc, &[16, 17, 19]).expect(rt, "memory");
+    for (kind, parts) in TYPES {
+        let header = kind | 0x1_0000 | ((parts.len() as u64) << 32);
+        words.push(header).expect(rt, "memory");
+        words.extend(parts).expect(rt, "memory");
+    }
+    words
 }
 
 // The procedures that go through proxies.
-fn push_proxies(alloc: Global, procs: &mut LowProcs) -> Result<(), OutOfMemory> {
-    procs.push(apply_proc(alloc, CAST)?)?;
-    procs.push(read_proc(alloc, CAST)?)?;
-    procs.push(write_proc(alloc, CAST)?)?;
-    procs.push(fill_proc(alloc, FILL_LOOP)?)?;
-    procs.push(fill_loop(alloc, FILL_LOOP)?)
+fn push_proxies(rt: &impl Abort, alloc: Global, procs: &mut LowProcs) {
+    push(rt, procs, apply_proc(alloc, CAST));
+    push(rt, procs, read_proc(alloc, CAST));
+    push(rt, procs, write_proc(alloc, CAST));
+    push(rt, procs, fill_proc(alloc, FILL_LOOP));
+    push(rt, procs, fill_loop(alloc, FILL_LOOP));
 }
 
 // Two functions, of which each takes its own address first.
-fn push_functions(alloc: Global, procs: &mut LowProcs) -> Result<(), OutOfMemory> {
-    let next = change(alloc, WordOp::Add, 1, number(1), LowCode::Return(word(1)))?;
-    procs.push(procedure(2, 2, next))?;
-    let difference = change(alloc, WordOp::Sub, 1, word(2), LowCode::Return(word(1)))?;
-    procs.push(procedure(3, 3, difference))
-}
+const FUNCTIONS: &[Proc] = &[
+    Proc {
+        params: 2,
+        words: 2,
+        steps: &[Op::Compute(WordOp::Add, 1, Word(1), Number(1))],
+        end: End::Return(Word(1)),
+    },
+    Proc {
+        params: 3,
+        words: 3,
+        steps: &[Op::Compute(WordOp::Sub, 1, Word(1), Word(2))],
+        end: End::Return(Word(1)),
+    },
+];
 
-// All procedures but the one that a program begins with.
-fn serving(alloc: Global) -> Result<LowProcs, OutOfMemory> {
-    let mut procs = cast_procs(alloc, 0)?;
-    push_proxies(alloc, &mut procs)?;
-    push_functions(alloc, &mut procs)?;
-    Ok(procs)
-}
-
-// A program that begins with this code, of sixteen words, behind these procedures.
-fn program(alloc: Global, code: LowCode) -> Result<LowProgram, OutOfMemory> {
-    let mut procs = serving(alloc)?;
-    procs.push(procedure(0, 16, code))?;
-    Ok(LowProgram {
-        procs,
-        entry: ENTRY,
-        statics: types(alloc)?,
-    })
-}
-
-// The labels of the casts.
-fn labels(alloc: Global) -> Result<LabelTable, OutOfMemory> {
-    let mut labels = LabelTable::new(alloc);
-    for label in [FIRST, SECOND, TO_DYN] {
-        labels.intern(label)?;
-    }
-    Ok(labels)
-}
-
-// The program's image; none where it isn't closed.
-fn image(alloc: Global, low: &LowProgram) -> Result<Option<Image>, OutOfMemory> {
-    if !low.is_closed() {
-        return Ok(None);
-    }
-    let labels = labels(alloc)?;
-    Ok(Some(image_of(alloc, low, &labels)?))
-}
-
-// What an image comes to in a region of this size.
-fn stop(alloc: Global, image: &Image, region: u64) -> Result<Stop, OutOfMemory>
-    requires { IsRegionSize region }
-{
-    let mut machine = machine_of(alloc, image, region, 4_096)?;
-    Ok(machine.run(1_000_000))
-}
-
-// What such a program comes to in a region of this size; none where it isn't closed.
-fn ends(alloc: Global, code: LowCode, region: u64) -> Result<Option<Stop>, OutOfMemory>
-    requires { IsRegionSize region }
-{
-    let low = program(alloc, code)?;
-    match image(alloc, &low)? {
-        None => Ok(None),
-        Some(image) => Ok(Some(stop(alloc, &image, region)?)),
-    }
+// What the procedure that a program begins with does, in order.
+enum Turn {
+    // A step as any procedure has it.
+    Does(Op),
+    // A word is cast between two types under a label.
+    Cast(u32, (u64, u64), u64),
+    // A word becomes a value of a type, and is cast to Dyn.
+    InDyn(u32, (u64, u64)),
 }
 
 // Word d is cast between two types under a label, and then this is done.
 fn cast(
+    rt: &impl Abort,
     alloc: Global,
     d: u32,
     types: (u64, u64),
     label: u64,
     rest: LowCode,
-) -> Result<LowCode, OutOfMemory> {
-    let code = call(alloc, d, CAST, &[word(d), word(15)], rest)?;
-    let operands = [number(types.0), number(types.1), number(label)];
-    call(alloc, 15, COERCE, &operands, code)
+) -> LowCode {
+    let words = sources(rt, alloc, &[Word(d), Word(15)]);
+    let cast = LowCode::Call(d, CAST, words, boxed(rt, alloc, rest));
+    let (from, to) = types;
+    let words = sources(rt, alloc, &[Number(from), Number(to), Number(label)]);
+    LowCode::Call(15, COERCE, words, boxed(rt, alloc, cast))
 }
 
-// Word d becomes a value of a type in Dyn, and then this is done.
-fn in_dyn(alloc: Global, d: u32, value: (u64, u64), rest: LowCode) -> Result<LowCode, OutOfMemory> {
-    let code = cast(alloc, d, (value.0, DYN), 2, rest)?;
-    set(alloc, d, number(value.1), code)
+// A turn, and what is done next.
+fn turned(rt: &impl Abort, alloc: Global, turn: &Turn, rest: LowCode) -> LowCode {
+    match turn {
+        Turn::Does(op) => step(rt, alloc, op, rest),
+        Turn::Cast(d, types, label) => cast(rt, alloc, *d, *types, *label, rest),
+        Turn::InDyn(d, (from, word)) => {
+            let code = cast(rt, alloc, *d, (*from, DYN), 2, rest);
+            step(rt, alloc, &Op::Set(*d, Number(*word)), code)
+        }
+    }
 }
 
-// The integer of the Dyn in a word is answered, which stands above a tag of three bits.
-fn out_of_dyn(alloc: Global, d: u32) -> Result<LowCode, OutOfMemory> {
-    let rest = Box::new(alloc, LowCode::Return(word(d)))?;
-    Ok(LowCode::Compute(WordOp::Sra, d, word(d), number(3), rest))
+// A procedure of sixteen words that does these turns and answers a source.
+fn entry(rt: &impl Abort, alloc: Global, turns: &[Turn], answer: LowSource) -> LowProc {
+    let mut code = LowCode::Return(answer);
+    for each in turns.iter().rev() {
+        code = turned(rt, alloc, each, code);
+    }
+    procedure(0, 16, code)
 }
 
-// Word 0 becomes an object of a header and a word, and then this is done.
-fn object(
-    alloc: Global,
-    header: u64,
-    content: LowSource,
-    rest: LowCode,
-) -> Result<LowCode, OutOfMemory> {
-    let words = sources(alloc, &[number(header), content])?;
-    Ok(LowCode::Build(0, words, Box::new(alloc, rest)?))
+// What a program does first, what it answers, the size of its region, and what it comes to.
+struct Sample {
+    turns: &'static [Turn],
+    answer: LowSource,
+    region: u64,
+    stop: Stop,
 }
 
-// Word 0 becomes the function of a number, and then this is done.
-fn function(alloc: Global, k: u32, rest: LowCode) -> Result<LowCode, OutOfMemory> {
-    let code = object(alloc, CLOSURE_HEADER, word(1), rest)?;
-    Ok(LowCode::CodeOf(1, k, Box::new(alloc, code)?))
+// The program of a row, in which all other procedures stand before the one that it begins with.
+fn program_of(rt: &impl Abort, alloc: Global, row: &Sample) -> LowProgram {
+    let mut procs = cast_procs(alloc, 0).expect(rt, "memory");
+    push_proxies(rt, alloc, &mut procs);
+    push_procs(rt, alloc, &mut procs, FUNCTIONS);
+    push(rt, &mut procs, Ok(entry(rt, alloc, row.turns, row.answer)));
+    let mut low = program(alloc, procs, ENTRY);
+    low.statics.words = types(rt, alloc);
+    low
 }
 
-// The function in word 0 is applied to the words 2 and 3, or to word 2 alone, and its answer is answered.
-fn applied(alloc: Global, count: u64) -> Result<LowCode, OutOfMemory> {
-    let none = number(0);
-    let operands = [
-        word(0),
-        word(2),
-        word(3),
-        none,
-        none,
-        none,
-        none,
-        number(count),
-    ];
-    call(alloc, 4, APPLY, &operands, LowCode::Return(word(4)))
+// Whether the program of a row comes to what the row says.
+fn is_so(rt: &impl Abort, alloc: Global, row: &Sample) -> bool {
+    let low = program_of(rt, alloc, row);
+    let labels = [FIRST, SECOND, TO_DYN];
+    comes_to(rt, alloc, low, &labels, (row.region, 4_096)) == row.stop
+}
+
+// The program of each row comes to what the row says.
+fn all_are_so(rt: &impl Abort, alloc: Global, rows: &[Sample]) {
+    for (place, row) in rows.iter().enumerate() {
+        assert!(rt; is_so(rt, alloc, row), "row {place}");
+    }
+}
+
+// The function in word 0 is applied to the words 2 and 3, or to word 2 alone.
+macro_rules! applied {
+    ($count:expr) => {
+        &[
+            Word(0),
+            Word(2),
+            Word(3),
+            Number(0),
+            Number(0),
+            Number(0),
+            Number(0),
+            Number($count),
+        ]
+    };
 }
 
 // A function of one Int, cast so that it takes a Dyn, is applied to a value in Dyn.
-fn one_argument(alloc: Global, value: (u64, u64)) -> Result<Option<Stop>, OutOfMemory> {
-    let code = in_dyn(alloc, 2, value, applied(alloc, 1)?)?;
-    let code = cast(alloc, 0, (INT_TO_INT, DYN_TO_INT), 0, code)?;
-    let code = set(alloc, 3, number(0), code)?;
-    ends(alloc, function(alloc, NEXT, code)?, 65_536)
-}
-
-#[test]
-fn a_call_through_a_proxy(rt: HostRuntime) -> Result<(), Fail> {
-    let alloc = rt.alloc();
-    let rows = [
-        ((INT, 5), answer(6)),
-        ((BOOL, 1), Some(Stop::Blamed(FIRST))),
-    ];
-    for (value, wanted) in rows {
-        assert!(rt; one_argument(alloc, value)? == wanted);
-    }
-    Ok(())
+macro_rules! one_argument {
+    ($value:expr, $stop:expr) => {
+        Sample {
+            turns: &[
+                Does(CodeOf(1, NEXT)),
+                Does(Build(0, &[Number(CLOSURE_HEADER), Word(1)])),
+                Does(Set(3, Number(0))),
+                Cast(0, (INT_TO_INT, DYN_TO_INT), 0),
+                InDyn(2, $value),
+                Does(Call(4, APPLY, applied!(1))),
+            ],
+            answer: Word(4),
+            region: 65_536,
+            stop: $stop,
+        }
+    };
 }
 
 // A function of two Ints, cast so that it takes a Dyn first and then so that it takes two, under labels of their own.
-fn two_arguments(
-    alloc: Global,
-    first: (u64, u64),
-    second: (u64, u64),
-) -> Result<Option<Stop>, OutOfMemory> {
-    let code = in_dyn(alloc, 3, second, applied(alloc, 2)?)?;
-    let code = in_dyn(alloc, 2, first, code)?;
-    let code = cast(alloc, 0, (DYN_AND_INT_TO_INT, TWO_DYNS_TO_INT), 1, code)?;
-    let code = cast(alloc, 0, (TWO_INTS_TO_INT, DYN_AND_INT_TO_INT), 0, code)?;
-    ends(alloc, function(alloc, DIFFERENCE, code)?, 65_536)
+macro_rules! two_arguments {
+    ($first:expr, $second:expr, $stop:expr) => {
+        Sample {
+            turns: &[
+                Does(CodeOf(1, DIFFERENCE)),
+                Does(Build(0, &[Number(CLOSURE_HEADER), Word(1)])),
+                Cast(0, (TWO_INTS_TO_INT, DYN_AND_INT_TO_INT), 0),
+                Cast(0, (DYN_AND_INT_TO_INT, TWO_DYNS_TO_INT), 1),
+                InDyn(2, $first),
+                InDyn(3, $second),
+                Does(Call(4, APPLY, applied!(2))),
+            ],
+            answer: Word(4),
+            region: 65_536,
+            stop: $stop,
+        }
+    };
 }
+
+// Word 1 becomes a box of 7, word 0 the same as a box of Dyn; then a value is written to that, and the bare box is
+// read.
+macro_rules! box_written {
+    ($value:expr, $stop:expr) => {
+        Sample {
+            turns: &[
+                Does(Build(0, &[Number(BOX_HEADER), Number(7)])),
+                Does(Set(1, Word(0))),
+                Cast(0, (BOX_OF_INT, BOX_OF_DYN), 0),
+                InDyn(2, $value),
+                Does(Call(3, WRITE, &[Number(0), Word(0), Number(0), Word(2)])),
+                Does(Call(4, READ, &[Number(0), Word(1), Number(0)])),
+            ],
+            answer: Word(4),
+            region: 65_536,
+            stop: $stop,
+        }
+    };
+}
+
+// Word 1 becomes a vector of three times 5, word 0 the same as a vector of Dyn; then an element of that is read, whose
+// integer stands above a tag of three bits.
+macro_rules! element_read {
+    ($index:expr, $stop:expr) => {
+        Sample {
+            turns: &[
+                Does(Call(1, FILL, &[Number(3), Number(5)])),
+                Does(Set(0, Word(1))),
+                Cast(0, (VECTOR_OF_INT, VECTOR_OF_DYN), 0),
+                Does(Call(4, READ, &[Number(1), Word(0), Number($index)])),
+                Does(Compute(WordOp::Sra, 4, Word(4), Number(3))),
+            ],
+            answer: Word(4),
+            region: 65_536,
+            stop: $stop,
+        }
+    };
+}
+
+// A value is written to an element of such a vector of Dyn, and then that of the bare vector is read.
+macro_rules! element_written {
+    ($index:expr, $value:expr, $stop:expr) => {
+        Sample {
+            turns: &[
+                Does(Call(1, FILL, &[Number(3), Number(5)])),
+                Does(Set(0, Word(1))),
+                Cast(0, (VECTOR_OF_INT, VECTOR_OF_DYN), 0),
+                InDyn(2, $value),
+                Does(Call(3, WRITE, &[Number(1), Word(0), Number($index), Word(2)])),
+                Does(Call(4, READ, &[Number(1), Word(1), Number($index)])),
+            ],
+            answer: Word(4),
+            region: 65_536,
+            stop: $stop,
+        }
+    };
+}
+
+// A vector of so many times 5 is made, and its length is answered.
+macro_rules! filled {
+    ($length:expr, $region:expr, $stop:expr) => {
+        Sample {
+            turns: &[
+                Does(Call(1, FILL, &[Number($length), Number(5)])),
+                Does(Call(2, READ, &[Number(2), Word(1), Number(0)])),
+            ],
+            answer: Word(2),
+            region: $region,
+            stop: $stop,
+        }
+    };
+}
+
+// The same, where its last element is added to its length.
+macro_rules! filled_and_read {
+    ($length:expr, $region:expr, $stop:expr) => {
+        Sample {
+            turns: &[
+                Does(Call(1, FILL, &[Number($length), Number(5)])),
+                Does(Call(2, READ, &[Number(2), Word(1), Number(0)])),
+                Does(Call(4, READ, &[Number(1), Word(1), Number($length - 1)])),
+                Does(Compute(WordOp::Add, 2, Word(2), Word(4))),
+            ],
+            answer: Word(2),
+            region: $region,
+            stop: $stop,
+        }
+    };
+}
+
+const OUTSIDE: Stop = Stop::Trapped(Trap::Index);
 
 // Where both arguments are of the wrong type the first one's label is blamed.
-#[test]
-fn the_first_argument_is_cast_first(rt: HostRuntime) -> Result<(), Fail> {
-    let alloc = rt.alloc();
-    let rows = [
-        ((INT, 7), (INT, 2), answer(5)),
-        ((BOOL, 1), (INT, 2), Some(Stop::Blamed(FIRST))),
-        ((INT, 7), (BOOL, 1), Some(Stop::Blamed(SECOND))),
-        ((BOOL, 1), (BOOL, 1), Some(Stop::Blamed(FIRST))),
-    ];
-    for (first, second, wanted) in rows {
-        assert!(rt; two_arguments(alloc, first, second)? == wanted);
-    }
-    Ok(())
-}
-
-// Word 1 becomes a box of 7, word 0 the same as a box of Dyn, and then this is done.
-fn boxed(alloc: Global, rest: LowCode) -> Result<LowCode, OutOfMemory> {
-    let code = cast(alloc, 0, (BOX_OF_INT, BOX_OF_DYN), 0, rest)?;
-    object(alloc, BOX_HEADER, number(7), set(alloc, 1, word(0), code)?)
-}
-
-// Word 4 becomes what is read of the cell in a word, and then this is done.
-fn read(
-    alloc: Global,
-    what: u64,
-    from: u32,
-    index: u64,
-    rest: LowCode,
-) -> Result<LowCode, OutOfMemory> {
-    call(
-        alloc,
-        4,
-        READ,
-        &[number(what), word(from), number(index)],
-        rest,
-    )
-}
+const CALLS: &[Sample] = &[
+    one_argument!((INT, 5), answer!(6)),
+    one_argument!((BOOL, 1), Stop::Blamed(FIRST)),
+    two_arguments!((INT, 7), (INT, 2), answer!(5)),
+    two_arguments!((BOOL, 1), (INT, 2), Stop::Blamed(FIRST)),
+    two_arguments!((INT, 7), (BOOL, 1), Stop::Blamed(SECOND)),
+    two_arguments!((BOOL, 1), (BOOL, 1), Stop::Blamed(FIRST)),
+];
 
 #[test]
-fn a_box_is_read_through_a_proxy(rt: HostRuntime) -> Result<(), Fail> {
-    let alloc = rt.alloc();
-    let code = boxed(alloc, read(alloc, 0, 0, 0, out_of_dyn(alloc, 4)?)?)?;
-    assert!(rt; ends(alloc, code, 65_536)? == answer(7));
-    Ok(())
+fn calls_go_through_proxies(rt: HostRuntime) {
+    all_are_so(&rt, rt.alloc(), CALLS);
 }
 
-// A value is written to such a box, and then the bare box is read.
-fn box_written(alloc: Global, value: (u64, u64)) -> Result<Option<Stop>, OutOfMemory> {
-    let code = read(alloc, 0, 1, 0, LowCode::Return(word(4)))?;
-    let operands = [number(0), word(0), number(0), word(2)];
-    let code = call(alloc, 3, WRITE, &operands, code)?;
-    ends(alloc, boxed(alloc, in_dyn(alloc, 2, value, code)?)?, 65_536)
-}
-
-#[test]
-fn a_box_is_written_through_a_proxy(rt: HostRuntime) -> Result<(), Fail> {
-    let alloc = rt.alloc();
-    let rows = [
-        ((INT, 9), answer(9)),
-        ((BOOL, 1), Some(Stop::Blamed(FIRST))),
-    ];
-    for (value, wanted) in rows {
-        assert!(rt; box_written(alloc, value)? == wanted);
-    }
-    Ok(())
-}
-
-// Word 1 becomes a vector of three times 5, word 0 the same as a vector of Dyn, and then this is done.
-fn vector(alloc: Global, rest: LowCode) -> Result<LowCode, OutOfMemory> {
-    let code = cast(alloc, 0, (VECTOR_OF_INT, VECTOR_OF_DYN), 0, rest)?;
-    let code = set(alloc, 0, word(1), code)?;
-    call(alloc, 1, FILL, &[number(3), number(5)], code)
-}
-
-// An element of such a vector is read.
-fn element_read(alloc: Global, index: u64) -> Result<Option<Stop>, OutOfMemory> {
-    let code = read(alloc, 1, 0, index, out_of_dyn(alloc, 4)?)?;
-    ends(alloc, vector(alloc, code)?, 65_536)
-}
+const BOXES: &[Sample] = &[
+    // A box of 7 is read as a box of Dyn.
+    Sample {
+        turns: &[
+            Does(Build(0, &[Number(BOX_HEADER), Number(7)])),
+            Does(Set(1, Word(0))),
+            Cast(0, (BOX_OF_INT, BOX_OF_DYN), 0),
+            Does(Call(4, READ, &[Number(0), Word(0), Number(0)])),
+            Does(Compute(WordOp::Sra, 4, Word(4), Number(3))),
+        ],
+        answer: Word(4),
+        region: 65_536,
+        stop: answer!(7),
+    },
+    box_written!((INT, 9), answer!(9)),
+    box_written!((BOOL, 1), Stop::Blamed(FIRST)),
+];
 
 #[test]
-fn elements_are_read_through_a_proxy(rt: HostRuntime) -> Result<(), Fail> {
-    let alloc = rt.alloc();
-    let outside = Some(Stop::Trapped(Trap::Index));
-    let rows = [
-        (0, answer(5)),
-        (2, answer(5)),
-        (3, outside),
-        (MINUS_ONE, outside),
-    ];
-    for (index, wanted) in rows {
-        assert!(rt; element_read(alloc, index)? == wanted);
-    }
-    Ok(())
-}
-
-// A value is written to an element of such a vector, and then that of the bare vector is read.
-fn element_written(
-    alloc: Global,
-    index: u64,
-    value: (u64, u64),
-) -> Result<Option<Stop>, OutOfMemory> {
-    let code = read(alloc, 1, 1, index, LowCode::Return(word(4)))?;
-    let operands = [number(1), word(0), number(index), word(2)];
-    let code = call(alloc, 3, WRITE, &operands, code)?;
-    ends(
-        alloc,
-        vector(alloc, in_dyn(alloc, 2, value, code)?)?,
-        65_536,
-    )
+fn boxes_are_read_and_written_through_proxies(rt: HostRuntime) {
+    all_are_so(&rt, rt.alloc(), BOXES);
 }
 
 // Where both index and value are wrong it traps, and no label is blamed.
+const ELEMENTS: &[Sample] = &[
+    element_read!(0, answer!(5)),
+    element_read!(2, answer!(5)),
+    element_read!(3, OUTSIDE),
+    element_read!(MINUS_ONE, OUTSIDE),
+    element_written!(0, (INT, 9), answer!(9)),
+    element_written!(2, (INT, 9), answer!(9)),
+    element_written!(0, (BOOL, 1), Stop::Blamed(FIRST)),
+    element_written!(3, (BOOL, 1), OUTSIDE),
+    element_written!(MINUS_ONE, (BOOL, 1), OUTSIDE),
+    element_written!(MINUS_ONE, (INT, 9), OUTSIDE),
+    // The length of a vector of three elements is told through a proxy.
+    Sample {
+        turns: &[
+            Does(Call(1, FILL, &[Number(3), Number(5)])),
+            Does(Set(0, Word(1))),
+            Cast(0, (VECTOR_OF_INT, VECTOR_OF_DYN), 0),
+            Does(Call(4, READ, &[Number(2), Word(0), Number(0)])),
+        ],
+        answer: Word(4),
+        region: 65_536,
+        stop: answer!(3),
+    },
+];
+
 #[test]
-fn elements_are_written_through_a_proxy(rt: HostRuntime) -> Result<(), Fail> {
-    let alloc = rt.alloc();
-    let outside = Some(Stop::Trapped(Trap::Index));
-    let rows = [
-        (0, (INT, 9), answer(9)),
-        (2, (INT, 9), answer(9)),
-        (0, (BOOL, 1), Some(Stop::Blamed(FIRST))),
-        (3, (BOOL, 1), outside),
-        (MINUS_ONE, (BOOL, 1), outside),
-        (MINUS_ONE, (INT, 9), outside),
-    ];
-    for (index, value, wanted) in rows {
-        assert!(rt; element_written(alloc, index, value)? == wanted);
-    }
-    Ok(())
+fn elements_are_read_and_written_through_proxies(rt: HostRuntime) {
+    all_are_so(&rt, rt.alloc(), ELEMENTS);
+}
+
+// Vectors fill a region exactly, and one word more doesn't fit. A length below 0 traps, and the greatest has no room.
+const LENGTHS: &[Sample] = &[
+    filled!(0, 8, answer!(0)),
+    filled!(0, 0, Stop::RegionOut),
+    filled_and_read!(1, 16, answer!(6)),
+    filled_and_read!(1, 8, Stop::RegionOut),
+    filled_and_read!(1_000, 8_008, answer!(1_005)),
+    filled_and_read!(1_000, 8_000, Stop::RegionOut),
+    filled!(MINUS_ONE, 65_536, Stop::Trapped(Trap::Length)),
+    filled!(MINUS_ONE / 2, 65_536, Stop::RegionOut),
+];
+
+#[test]
+fn vectors_fill_a_region(rt: HostRuntime) {
+    all_are_so(&rt, rt.alloc(), LENGTHS);
 }
 
 #[test]
-fn a_length_is_told_through_a_proxy(rt: HostRuntime) -> Result<(), Fail> {
-    let alloc = rt.alloc();
-    let code = vector(alloc, read(alloc, 2, 0, 0, LowCode::Return(word(4)))?)?;
-    assert!(rt; ends(alloc, code, 65_536)? == answer(3));
-    Ok(())
-}
-
-// A vector of so many times 5 is made, and its length is answered, with so much more as its element at an index, if one
-// is told.
-fn filled(alloc: Global, length: u64, last: Option<u64>) -> Result<LowCode, OutOfMemory> {
-    let mut code = LowCode::Return(word(2));
-    if let Some(index) = last {
-        code = change(alloc, WordOp::Add, 2, word(4), code)?;
-        code = read(alloc, 1, 1, index, code)?;
-    }
-    let operands = [number(2), word(1), number(0)];
-    let code = call(alloc, 2, READ, &operands, code)?;
-    call(alloc, 1, FILL, &[number(length), number(5)], code)
-}
-
-#[test]
-fn vectors_fill_a_region_exactly(rt: HostRuntime) -> Result<(), Fail> {
-    let alloc = rt.alloc();
-    assert!(rt; ends(alloc, filled(alloc, 0, None)?, 8)? == answer(0));
-    assert!(rt; ends(alloc, filled(alloc, 0, None)?, 0)? == Some(Stop::RegionOut));
-    assert!(rt; ends(alloc, filled(alloc, 1, Some(0))?, 16)? == answer(6));
-    assert!(rt; ends(alloc, filled(alloc, 1, Some(0))?, 8)? == Some(Stop::RegionOut));
-    assert!(rt; ends(alloc, filled(alloc, 1_000, Some(999))?, 8_008)? == answer(1_005));
-    assert!(rt; ends(alloc, filled(alloc, 1_000, Some(999))?, 8_000)? == Some(Stop::RegionOut));
-    Ok(())
-}
-
-// A length below 0 traps, and the greatest has no room.
-#[test]
-fn lengths_that_no_vector_has(rt: HostRuntime) -> Result<(), Fail> {
-    let alloc = rt.alloc();
-    let rows = [
-        (MINUS_ONE, Stop::Trapped(Trap::Length)),
-        (MINUS_ONE / 2, Stop::RegionOut),
-    ];
-    for (length, wanted) in rows {
-        assert!(rt; ends(alloc, filled(alloc, length, None)?, 65_536)? == Some(wanted));
-    }
-    Ok(())
-}
-
-#[test]
-fn there_are_nine_procedures(rt: HostRuntime) -> Result<(), Fail> {
-    assert!(rt; ref_procs(rt.alloc(), 27, CAST)?.len() == 9);
-    Ok(())
+fn there_are_nine_procedures(rt: HostRuntime) {
+    let procs = ref_procs(rt.alloc(), 27, CAST).expect(&rt, "memory");
+    assert!(rt; procs.len() == 9);
 }

@@ -1,57 +1,56 @@
 // Long code.
 
-use crate::machines::{alone, answer, assembled, change, comes_to, number, set, word};
-use grift_base::lists::OutOfMemory;
+use crate::machines::{LABEL, answer, assembled, comes_to};
+use crate::programs::{Op, alone, branches, repeated, steps};
+use low_ir::code::LowSource::{Number, Word};
 use low_ir::code::{LowCode, WordOp};
 use low_ir::programs::LowProgram;
+use rv_emulator::stops::Stop;
 use rv_isa::inst::Cond;
 use std::alloc::Global;
-use std::test::Fail;
+use std::process::Abort;
 
-// So many operations, and then this.
-fn operations(alloc: Global, count: u64, last: LowCode) -> Result<LowCode, OutOfMemory> {
-    let mut code = last;
-    for _ in 0..count {
-        code = change(alloc, WordOp::Add, 0, word(1), code)?;
-    }
-    Ok(code)
+// What is repeated.
+const OPERATION: Op = Op::Compute(WordOp::Add, 0, Word(0), Word(1));
+
+// Two words.
+const WORDS: &[Op] = &[Op::Set(0, Number(5)), Op::Set(1, Number(1))];
+
+// The two words, where the condition holds of 1 and 1 two thousand operations on them, and the first.
+fn branching(rt: &impl Abort, alloc: Global, cond: Cond) -> LowProgram {
+    let one = repeated(rt, alloc, &OPERATION, 2000, LowCode::Done);
+    let compared = [Word(1), Number(1)];
+    let rest = LowCode::Return(Word(0));
+    let code = branches(rt, alloc, cond, compared, one, LowCode::Done, rest);
+    alone(rt, alloc, 2, steps(rt, alloc, WORDS, code))
 }
 
-// Two words, where the condition holds of 1 and 1 two thousand operations on them, and the first.
-fn branches(alloc: Global, cond: Cond) -> Result<LowProgram, OutOfMemory> {
-    let one = Box::new(alloc, operations(alloc, 2000, LowCode::Done)?)?;
-    let other = Box::new(alloc, LowCode::Done)?;
-    let rest = Box::new(alloc, LowCode::Return(word(0)))?;
-    let code = LowCode::If(cond, word(1), number(1), one, other, rest);
-    let code = set(alloc, 1, number(1), code)?;
-    alone(alloc, 2, set(alloc, 0, number(5), code)?)
-}
+const BRANCHES: &[(Cond, Stop)] = &[(Cond::Eq, answer!(2005)), (Cond::Ne, answer!(5))];
 
 #[test]
-fn a_branch_over_many_bytes(rt: HostRuntime) -> Result<(), Fail> {
-    let alloc = rt.alloc();
-    assert!(rt; comes_to(alloc, &branches(alloc, Cond::Eq)?, 0, 64)? == answer(2005));
-    assert!(rt; comes_to(alloc, &branches(alloc, Cond::Ne)?, 0, 64)? == answer(5));
-    Ok(())
+fn a_branch_over_many_bytes(rt: HostRuntime) {
+    for (cond, stop) in BRANCHES {
+        let low = branching(&rt, rt.alloc(), *cond);
+        assert!(rt; comes_to(&rt, rt.alloc(), low, &[LABEL], (0, 64)) == *stop);
+    }
 }
 
-// How many bytes the image of so many operations has.
-fn bytes_of(alloc: Global, count: u64) -> Result<Option<u64>, OutOfMemory> {
-    let code = operations(alloc, count, LowCode::Return(word(0)))?;
-    let code = set(alloc, 1, number(1), code)?;
-    let low = alone(alloc, 2, set(alloc, 0, number(5), code)?)?;
-    match assembled(alloc, &low)? {
-        None => Ok(None),
-        Some(image) => Ok(Some(image.bytes().len() as u64)),
-    }
+// The two words, and so many operations on them.
+fn operating(rt: &impl Abort, alloc: Global, count: u64) -> LowProgram {
+    let code = repeated(rt, alloc, &OPERATION, count, LowCode::Return(Word(0)));
+    alone(rt, alloc, 2, steps(rt, alloc, WORDS, code))
+}
+
+// How many bytes its image has.
+fn bytes_of(rt: &impl Abort, alloc: Global, count: u64) -> u64 {
+    let image = assembled(rt, alloc, operating(rt, alloc, count), &[LABEL]);
+    image.bytes().len() as u64
 }
 
 // One sum of two real registers for each operation.
 #[test]
-fn code_is_linear(rt: HostRuntime) -> Result<(), Fail> {
-    let few = bytes_of(rt.alloc(), 1000)?;
-    assert!(rt;
-        bytes_of(rt.alloc(), 100_000)? == few.map(|bytes| bytes.saturating_add(4 * 99_000))
-    );
-    Ok(())
+fn code_is_linear(rt: HostRuntime) {
+    let few = bytes_of(&rt, rt.alloc(), 1000);
+    let many = bytes_of(&rt, rt.alloc(), 100_000);
+    assert!(rt; many == few.saturating_add(4 * 99_000), "{few} {many}");
 }
