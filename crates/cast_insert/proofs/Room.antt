@@ -1,7 +1,7 @@
 -- The table of types has room for each row that is formed from types that may be parts.
 use Rattle.std.proofs.Common.{◌≡◌, ℕ, zero, suc, ◌<◌, ◌≤◌, max, min, List, [], ◌∷◌, ◌++◌, length, Option, Some, None}
 use Rattle.std.proofs.Common.{refl, sym, ap, ◌∙◌, subst, arith}
-use Rattle.std.specs.Prelude.{All, Result, Ok, Err, IfOk}
+use Rattle.std.specs.Prelude.{All, Result, Ok, Err, IfOk, OnOk}
 use Rattle.std.proofs.lemmas.List.Elements.{All-nil, All-cons, All-append, All-head, All-tail, All-weaker}
 use Rattle.std.proofs.lemmas.Option.{slice_get_within}
 use Rattle.grift_base.specs.Types.{TypeRow, TypeRows, IntRow, BoolRow, UnitRow, DynRow, FunRow, TupleRow, RefRow}
@@ -27,6 +27,12 @@ grows_on a b c f g = record {
       let two = g.kept type one.0 in
       (two.0, two.1 ∙ one.1);
 }
+
+-- where the last call has an answer, the table grew until there and on
+pub grows_last : {A E : Type 0} (result : Result A E) (a b c : TypeRows) → Grows a b → OnOk result (Grows b c) →
+    OnOk result (Grows a c)
+grows_last (Ok answer) a b c f g = grows_on a b c f g
+grows_last (Err fault) a b c f g = g
 
 pub more_grows : (a b : TypeRows) → IsOrderedTable a → HasMoreRows a b → Grows a b
 more_grows a b table more = record {

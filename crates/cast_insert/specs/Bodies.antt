@@ -1,9 +1,10 @@
 -- What bodies, bindings and operands are gathered in, and what is then left to do.
 use Rattle.std.specs.Prelude.{ℕ, List, [], ◌∷◌, Option}
 use Rattle.grift_base.specs.declared.places.Pos.{Pos}
+use Rattle.grift_base.specs.declared.operators.PrimOp.{PrimOp}
 use Rattle.grift_base.specs.Types.{FunRow}
 use Rattle.type_graph.specs.Forming.{intern}
-use Rattle.core_calc.specs.Terms.{Members, Bindings, MemberThen, BindingThen, Lambda}
+use Rattle.core_calc.specs.Terms.{Members, Bindings, MemberThen, BindingThen, Lambda, Prim}
 use Rattle.core_calc.specs.Terms.{Member, Binding}
 use Rattle.core_calc.specs.Views.{term_of, terms_of, bindings_of, names_of}
 use Rattle.surface_syntax.specs.Trees.{Exprs}
@@ -12,9 +13,10 @@ use Rattle.cast_insert.specs.declared.elaboration.Bound.{Bound as RustBound}
 use Rattle.cast_insert.specs.declared.elaboration.Gathered.{Gathered}
 use Rattle.cast_insert.specs.declared.elaboration.MemberBody.{MemberBody as RustMemberBody}
 use Rattle.cast_insert.specs.Sources.{last_place}
-use Rattle.cast_insert.specs.Making.{Making, ◌>>=◌, give, form, Typed, typed, cast_if}
+use Rattle.cast_insert.specs.Making.{Making, ◌>>=◌, give, form, Typed, typed, cast_if, cast_to}
 use Rattle.cast_insert.specs.Environments.{Environment, with_names, variables}
 use Rattle.cast_insert.specs.Elaboration.{Sequence, seq, Bound, Operands, MemberBody, elaborate_sequence}
+use Rattle.cast_insert.specs.Operators.{answer_of, answer_type}
 use Rattle.cast_insert.specs.Scoped.{env_of}
 use Rattle.cast_insert.specs.Views.{place_if}
 
@@ -54,3 +56,21 @@ lambda_rest place body types wanted entries environment = do
   e ← cast_if (last_place place body) wanted (seq inner)
   type ← form (intern (FunRow types e.type))
   give (typed (Lambda (variables entries) e.term type) type)
+
+-- what is left of a lambda, and of a member, when its body is there
+abbrev pub lambda_with : Pos → Option ℕ → Environment → List ℕ → Sequence → Making Typed
+lambda_with place wanted entries types inner = do
+  e ← cast_if place wanted (seq inner)
+  type ← form (intern (FunRow types e.type))
+  give (typed (Lambda (variables entries) e.term type) type)
+
+abbrev pub member_with : Pos → ℕ → Environment → Sequence → Making MemberBody
+member_with place answer entries inner = do
+  e ← cast_to place answer (seq inner)
+  give (record { variables = variables entries; body = e.term })
+
+-- an operator on operands that are there
+abbrev pub operation_on : PrimOp → Operands → Making Typed
+operation_on operator given = do
+  type ← answer_type (answer_of operator) given.content
+  give (typed (Prim operator given.terms) type)

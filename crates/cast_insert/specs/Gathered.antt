@@ -1,13 +1,14 @@
 -- What the parts of a form are gathered in, and what is then left to do.
-use Rattle.std.specs.Prelude.{List, [], ◌∷◌}
+use Rattle.std.specs.Prelude.{ℤ, List, [], ◌∷◌}
 use Rattle.grift_base.specs.declared.places.Pos.{Pos}
 use Rattle.grift_base.specs.Types.{TypeRow, DynRow, FunRow, TupleRow}
 use Rattle.type_graph.specs.Rows.{places_of}
 use Rattle.type_graph.specs.Forming.{intern}
-use Rattle.core_calc.specs.Terms.{Term, Terms, TermThen, Call, If, Tuple}
+use Rattle.core_calc.specs.Terms.{Term, Terms, TermThen, Call, If, Tuple, ProjDyn}
 use Rattle.core_calc.specs.Views.{terms_of}
 use Rattle.cast_insert.specs.declared.joining.Given.{Given as RustGiven}
-use Rattle.cast_insert.specs.Making.{Making, ◌>>=◌, give, form, blend_at, Typed, typed, cast_at, cast_to}
+use Rattle.cast_insert.specs.Making.{Making, ◌>>=◌, ◌>>◌, give, form, blend_at, Typed, typed, cast_at, cast_to}
+use Rattle.cast_insert.specs.Making.{label_at, list_entry, PartOf}
 use Rattle.cast_insert.specs.Calls.{Given}
 
 abbrev pub given_of : RustGiven → Given
@@ -41,3 +42,10 @@ if_of place truth one_place first other_place second = do
   one ← cast_to one_place type first
   other ← cast_to other_place type second
   give (typed (If truth.term one.term other.term) type)
+
+-- a part of what Dyn holds
+abbrev pub part_of_dyn : Pos → Typed → ℤ → Making Typed
+part_of_dyn place whole part = do
+  label ← label_at place
+  list_entry (PartOf label part)
+  give (typed (ProjDyn whole.term part label) whole.type)

@@ -6,12 +6,12 @@ ghost use Rattle.grift_base.specs.Types.{row_at};
 ghost use Rattle.grift_base.specs.declared.places.Pos.{Pos};
 ghost use Rattle.type_graph.specs.Rows.{places_of};
 ghost use Rattle.type_graph.specs.TypeTables.{MayBePart};
-ghost use Rattle.core_calc.specs.Terms.{NoBindings, NoMembers, binding_list, member_list};
+ghost use Rattle.core_calc.specs.Terms.{Group, Let, NoBindings, NoMembers, Seq, binding_list, member_list};
 ghost use Rattle.core_calc.specs.Views.{bindings_of, members_of, terms_of};
 ghost use Rattle.surface_syntax.specs.Trees.{AscribeNode, BeginNode, PrimNode, TupleNode};
 ghost use Rattle.surface_syntax.specs.Views.{expr_of, exprs_of, lambda_of, lets_of, letrecs_of, node_of, type_of};
 ghost use Rattle.cast_insert.specs.Sources.{how_many, last_place};
-ghost use Rattle.cast_insert.specs.Making.{Makes};
+ghost use Rattle.cast_insert.specs.Making.{Makes, typed};
 ghost use Rattle.cast_insert.specs.Environments.{with_names};
 ghost use Rattle.cast_insert.specs.Calls.{call_by};
 ghost use Rattle.cast_insert.specs.Elaboration.{elaborate, elaborate_node, elaborate_all, elaborate_each};
@@ -25,7 +25,7 @@ ghost use Rattle.cast_insert.specs.Seen.{operand_seen};
 ghost use Rattle.cast_insert.specs.Heads.{head_seen, heads_seen};
 ghost use Rattle.cast_insert.specs.Gathered.{given_of};
 ghost use Rattle.cast_insert.specs.Bodies.{bindings_onto, body_of, bound_of, function_of, gathered_of, lambda_rest};
-ghost use Rattle.cast_insert.specs.Bodies.{members_onto, sequence_of};
+ghost use Rattle.cast_insert.specs.Bodies.{lambda_with, member_with, members_onto, operation_on, sequence_of};
 ghost use Rattle.cast_insert.specs.Views.{Answers, place_if, typed_of, work_of};
 
 use crate::copies::{boxed, copy_of_name, refused};
@@ -132,6 +132,87 @@ fn function(
     plain(alloc, Core::Lambda(variables, e.core, ty), ty)
 }
 
+// The steps behind the last expression of a form stand outside of the cycle: there an exit costs less.
+
+// A lambda with this body, whose last expression stands at `pos`.
+fn closed(
+    alloc: Global,
+    progress: &mut Progress,
+    pos: Pos,
+    wanted: Option<TypeId>,
+    names: &[Named],
+    types: &[TypeId],
+    done: Sequence,
+) -> Result<Typed, FrontFault>
+    requires types { AreParts progress.old.types (places_of types.now) }
+    requires few { length (places_of types.now) ≤ 6 }
+    requires wanted { MayPart progress.old.types (place_if wanted) }
+    requires part { MayBePart progress.old.types done.ty.0 }
+    ensures answer { Answers result typed_of (work_of progress.new) (lambda_with pos (place_if wanted)
+        (env_of names.now) (places_of types.now) (sequence_of done) (work_of progress.old)) }
+    ensures grows { OnOk result (Grows progress.old.types progress.new.types) }
+{
+    let inner = done.typed(alloc)?;
+    let e = progress.cast_if(alloc, pos, wanted, inner)?;
+    Ok(function(alloc, progress, names, types, e)?)
+}
+
+// A member with this body, whose last expression stands at `pos`.
+fn member_body(
+    alloc: Global,
+    progress: &mut Progress,
+    pos: Pos,
+    answer: TypeId,
+    names: &[Named],
+    done: Sequence,
+) -> Result<MemberBody, FrontFault>
+    ensures answer { Answers result body_of (work_of progress.new)
+        (member_with pos answer.0 (env_of names.now) (sequence_of done) (work_of progress.old)) }
+    ensures grows { OnOk result (Grows progress.old.types progress.new.types) }
+{
+    let inner = done.typed(alloc)?;
+    let e = progress.cast_to(alloc, pos, answer, inner)?;
+    let variables = variables_of(alloc, names)?;
+    Ok(MemberBody {
+        variables,
+        body: e.core,
+    })
+}
+
+// An operator on these operands.
+fn operated(
+    alloc: Global,
+    progress: &mut Progress,
+    operator: PrimOp,
+    given: Gathered,
+) -> Result<Typed, FrontFault>
+    requires content { MayPart progress.old.types (place_if given.content) }
+    ensures answer { Answers result typed_of (work_of progress.new)
+        (operation_on operator (gathered_of given) (work_of progress.old)) }
+    ensures grows { OnOk result (Grows progress.old.types progress.new.types) }
+{
+    let ty = answer_type(progress, operator, given.content)?;
+    Ok(plain(alloc, Core::Prim(operator, given.terms), ty)?)
+}
+
+// These bindings around these terms.
+fn let_term(alloc: Global, bindings: CoreBindings, done: Sequence) -> Result<Typed, OutOfMemory>
+    ensures { IfOk result (λ e. typed_of e
+        ≡ typed (Let (bindings_of bindings) (Seq (terms_of done.terms))) done.ty.0) }
+{
+    let inner = boxed(alloc, Core::Seq(done.terms))?;
+    plain(alloc, Core::Let(bindings, inner), done.ty)
+}
+
+// These members around these terms.
+fn group_term(alloc: Global, group: GroupMembers, done: Sequence) -> Result<Typed, OutOfMemory>
+    ensures { IfOk result (λ e. typed_of e
+        ≡ typed (Group (members_of group) (Seq (terms_of done.terms))) done.ty.0) }
+{
+    let inner = boxed(alloc, Core::Seq(done.terms))?;
+    plain(alloc, Core::Group(group, inner), done.ty)
+}
+
 // A name that means this variable of this type.
 fn plain_name(
     alloc: Global,
@@ -217,9 +298,9 @@ fn node(
     ensures grows { OnOk result (Grows progress.old.types progress.new.types) }
 {
     match node {
-        ExprNode::Int(n) => Ok(literal(alloc, progress, Core::Int(*n), Row::Int)?),
-        ExprNode::Bool(b) => Ok(literal(alloc, progress, Core::Bool(*b), Row::Bool)?),
-        ExprNode::Unit => Ok(literal(alloc, progress, Core::Unit, Row::Unit)?),
+        ExprNode::Int(n) => literal(alloc, progress, Core::Int(*n), Row::Int),
+        ExprNode::Bool(b) => literal(alloc, progress, Core::Bool(*b), Row::Bool),
+        ExprNode::Unit => literal(alloc, progress, Core::Unit, Row::Unit),
         ExprNode::Name(name) => used(alloc, progress, pos, scopes.find(name)),
         ExprNode::Lambda(l) => lambda(alloc, progress, scopes, l),
         ExprNode::Call(function, arguments) => {
@@ -262,8 +343,7 @@ fn let_form(
     };
     let bound = bindings(alloc, progress, scopes, list)?;
     let done = body(alloc, progress, scopes, bound.names.as_slice(), inner)?;
-    let inner = boxed(alloc, Core::Seq(done.terms))?;
-    Ok(plain(alloc, Core::Let(bound.bindings, inner), done.ty)?)
+    Ok(let_term(alloc, bound.bindings, done)?)
 }
 
 // A `letrec`; no other form comes here.
@@ -287,8 +367,7 @@ fn letrec_form(
     let group = members(alloc, progress, scopes, list, heads.as_slice())?;
     let done = in_order(alloc, progress, scopes, inner)?;
     scopes.leave(heads.len())?;
-    let inner = boxed(alloc, Core::Seq(done.terms))?;
-    Ok(plain(alloc, Core::Group(group, inner), done.ty)?)
+    Ok(group_term(alloc, group, done)?)
 }
 
 // An expression at a written type.
@@ -345,7 +424,7 @@ fn tuple_form(
     ensures grows { OnOk result (Grows progress.old.types progress.new.types) }
 {
     let given = all(alloc, progress, scopes, parts)?;
-    Ok(tuple(alloc, progress, given)?)
+    tuple(alloc, progress, given)
 }
 
 // An operator and its operands.
@@ -365,8 +444,7 @@ fn operation(
 {
     let wanted = operands_of(operator);
     let given = operands(alloc, progress, scopes, list, wanted, None)?;
-    let ty = answer_type(progress, operator, given.content)?;
-    Ok(plain(alloc, Core::Prim(operator, given.terms), ty)?)
+    operated(alloc, progress, operator, given)
 }
 
 // An `if`; no other form comes here.
@@ -432,7 +510,7 @@ fn call(
         }
         Row::Dyn => {
             let given = all(alloc, progress, scopes, arguments)?;
-            Ok(called_dyn(alloc, progress, function_pos, function, given)?)
+            called_dyn(alloc, progress, function_pos, function, given)
         }
         _ => refused(RefusalKind::NotFunction, function_pos),
     }
@@ -589,9 +667,16 @@ fn lambda_body(
     ensures scopes { OnOk result (scopes.new ≡ scopes.old) }
     ensures grows { OnOk result (Grows progress.old.types progress.new.types) }
 {
-    let done = body(alloc, progress, scopes, names, inner)?.typed(alloc)?;
-    let e = progress.cast_if(alloc, last_pos(pos, inner), wanted, done)?;
-    Ok(function(alloc, progress, names, types, e)?)
+    let done = body(alloc, progress, scopes, names, inner)?;
+    closed(
+        alloc,
+        progress,
+        last_pos(pos, inner),
+        wanted,
+        names,
+        types,
+        done,
+    )
 }
 
 // A body where these names are bound.
@@ -750,11 +835,7 @@ fn member(
 {
     let types = head.parameters.as_slice();
     let names = bind_names(alloc, progress, l.pos, l.params.as_slice(), types)?;
-    let variables = variables_of(alloc, names.as_slice())?;
-    let done = body(alloc, progress, scopes, names.as_slice(), &l.body)?.typed(alloc)?;
-    let e = progress.cast_to(alloc, last_pos(l.pos, &l.body), head.answer, done)?;
-    Ok(MemberBody {
-        variables,
-        body: e.core,
-    })
+    let done = body(alloc, progress, scopes, names.as_slice(), &l.body)?;
+    let last = last_pos(l.pos, &l.body);
+    member_body(alloc, progress, last, head.answer, names.as_slice(), done)
 }

@@ -70,11 +70,11 @@ fn head_of_types(
 {
     let pos = member.fun.pos;
     let types = TypeIds::from_slice(alloc, parameters.as_slice())?;
-    let name = copy_of_name(alloc, &member.name)?;
     let ty = progress.form(Row::Fun(types, answer))?;
     progress.not_too_large(pos, ty)?;
     agrees(alloc, progress, pos, written, ty)?;
     let variable = progress.fresh()?;
+    let name = copy_of_name(alloc, &member.name)?;
     let meaning = Meaning {
         variable,
         ty,

@@ -7,11 +7,12 @@ ghost use Rattle.type_graph.specs.Rows.{places_of, row_of};
 ghost use Rattle.type_graph.specs.TypeTables.{FitsTable};
 ghost use Rattle.core_calc.specs.Terms.{NoTerms, TermThen, term_list};
 ghost use Rattle.core_calc.specs.Views.{term_of, terms_of};
-ghost use Rattle.cast_insert.specs.Making.{Makes, blend_at};
+ghost use Rattle.cast_insert.specs.Making.{blend_at};
 ghost use Rattle.cast_insert.specs.Environments.{use_at};
 ghost use Rattle.cast_insert.specs.Calls.{project_by};
 ghost use Rattle.cast_insert.specs.Views.{Answers, meaning_if, place_if, typed_of, work_of};
-ghost use Rattle.cast_insert.specs.Gathered.{call_of_dyn, given_of, if_of, literal_of, terms_onto, tuple_of};
+ghost use Rattle.cast_insert.specs.Gathered.{call_of_dyn, given_of, if_of, literal_of, part_of_dyn, terms_onto};
+ghost use Rattle.cast_insert.specs.Gathered.{tuple_of};
 ghost use Rattle.cast_insert.specs.Room.{AreParts, Grows};
 
 use crate::casts::CastEntry;
@@ -59,10 +60,10 @@ pub(crate) fn literal(
     progress: &mut Progress,
     core: Core,
     row: Row,
-) -> Result<Typed, OutOfMemory>
+) -> Result<Typed, FrontFault>
     requires { FitsTable progress.old.types (row_of row) }
-    ensures made { IfOk result (λ e. literal_of (term_of core) (row_of row) (work_of progress.old)
-        ≡ Makes (typed_of e) (work_of progress.new)) }
+    ensures answer { Answers result typed_of (work_of progress.new)
+        (literal_of (term_of core) (row_of row) (work_of progress.old)) }
     ensures grows { OnOk result (Grows progress.old.types progress.new.types) }
 {
     let core = boxed(alloc, core)?;
@@ -107,18 +108,18 @@ pub(crate) fn called_dyn(
     function_pos: Pos,
     function: Typed,
     given: Given,
-) -> Result<Typed, OutOfMemory>
+) -> Result<Typed, FrontFault>
     requires parts { AreParts progress.old.types (given_of given).types }
     requires few { length (given_of given).types ≤ 6 }
-    ensures made { IfOk result (λ e. call_of_dyn function_pos (typed_of function) (given_of given)
-        (work_of progress.old) ≡ Makes (typed_of e) (work_of progress.new)) }
+    ensures answer { Answers result typed_of (work_of progress.new)
+        (call_of_dyn function_pos (typed_of function) (given_of given) (work_of progress.old)) }
     ensures grows { OnOk result (Grows progress.old.types progress.new.types) }
 {
     let dyn_type = progress.form(Row::Dyn)?;
     let parameters = TypeIds::from_slice(alloc, given.types.as_slice())?;
     let whole = progress.form(Row::Fun(parameters, dyn_type))?;
     let called = progress.cast_at(alloc, function_pos, function, whole)?;
-    plain(alloc, Core::Call(called.core, given.terms), dyn_type)
+    Ok(plain(alloc, Core::Call(called.core, given.terms), dyn_type)?)
 }
 
 // The type of a part of a tuple with parts of these types.
@@ -129,6 +130,23 @@ fn part_type(parts: &[TypeId], part: i64) -> Option<TypeId>
         return None;
     }
     parts.get(part as usize).copied()
+}
+
+// A part of this value that is Dyn, whose expression stands at `pos`.
+fn projected_dyn(
+    alloc: Global,
+    progress: &mut Progress,
+    pos: Pos,
+    whole: Typed,
+    part: i64,
+) -> Result<Typed, FrontFault>
+    ensures answer { Answers result typed_of (work_of progress.new)
+        (part_of_dyn pos (typed_of whole) part (work_of progress.old)) }
+    ensures grows { OnOk result (Grows progress.old.types progress.new.types) }
+{
+    let label = progress.label(pos)?;
+    progress.list(CastEntry::Part { label, part })?;
+    Ok(plain(alloc, Core::ProjDyn(whole.core, part, label), whole.ty)?)
 }
 
 /// A part of this tuple, whose expression stands at `pos`.
@@ -152,11 +170,7 @@ pub(crate) fn projected(
             };
             Ok(plain(alloc, Core::Proj(whole.core, part), ty)?)
         }
-        Row::Dyn => {
-            let label = progress.label(pos)?;
-            progress.list(CastEntry::Part { label, part })?;
-            Ok(plain(alloc, Core::ProjDyn(whole.core, part, label), whole.ty)?)
-        }
+        Row::Dyn => projected_dyn(alloc, progress, pos, whole, part),
         _ => refused(RefusalKind::NotTuple, pos),
     }
 }
@@ -166,17 +180,16 @@ pub(crate) fn tuple(
     alloc: Global,
     progress: &mut Progress,
     given: Given,
-) -> Result<Typed, OutOfMemory>
+) -> Result<Typed, FrontFault>
     requires parts { AreParts progress.old.types (given_of given).types }
     requires least { 1 ≤ length (given_of given).types }
     requires most { length (given_of given).types ≤ 8 }
-    ensures made { IfOk result (λ e. tuple_of (given_of given) (work_of progress.old)
-        ≡ Makes (typed_of e) (work_of progress.new)) }
+    ensures answer { Answers result typed_of (work_of progress.new) (tuple_of (given_of given) (work_of progress.old)) }
     ensures grows { OnOk result (Grows progress.old.types progress.new.types) }
 {
     let parts = TypeIds::from_slice(alloc, given.types.as_slice())?;
     let ty = progress.form(Row::Tuple(parts))?;
-    plain(alloc, Core::Tuple(given.terms), ty)
+    Ok(plain(alloc, Core::Tuple(given.terms), ty)?)
 }
 
 // The blend of two types, which are refused at this place where they aren't consistent.

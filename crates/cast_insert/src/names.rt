@@ -19,7 +19,7 @@ use surface_syntax::names::Ident;
 
 /// What a name means: its variable, its type, and for a function of a `letrec` with a written type that type and the
 /// place of its lambda.
-#[derive(Clone, Copy, Debug)]
+#[derive(Clone, Copy)]
 pub(crate) struct Meaning {
     pub variable: VarId,
     pub ty: TypeId,

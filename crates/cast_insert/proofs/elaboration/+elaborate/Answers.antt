@@ -12,7 +12,7 @@ use Rattle.cast_insert.specs.Bodies.{sequence_of}
 use Rattle.cast_insert.specs.Views.{typed_of, work_of, meaning_seen, place_if, Answers}
 use Rattle.cast_insert.proofs.Loops.{failed_as, sequence_refused, sequence_last, sequence_more, bindings_more}
 use Rattle.cast_insert.specs.Programs.{IsSourceBody, AreSourceBindings, AreSourceMembers}
-use Rattle.cast_insert.proofs.Room.{body_first, body_rest, grows_on}
+use Rattle.cast_insert.proofs.Room.{body_first, body_rest, grows_last, grows_on}
 use Rattle.cast_insert.proofs.Loops.{if_first, if_second, if_joined, loop_steps}
 use Rattle.std.proofs.lemmas.List.{map-append}
 use Rattle.surface_syntax.specs.declared.names.Ident.{Ident}
@@ -207,3 +207,8 @@ node-returns-in-Tuple-clause-answer t c = rw c.in-Tuple.is (c.tuple_form.ensures
 
 pub node-returns-in-Prim-clause-answer : goal.node-returns-in-Prim-clause-answer
 node-returns-in-Prim-clause-answer t c = rw c.in-Prim.is (c.operation.ensures.answer c.args.pos)
+
+pub tuple_form-returns-clause-grows : goal.tuple_form-returns-clause-grows
+tuple_form-returns-clause-grows t c =
+    grows_last c.tuple.result c.args.progress.now.types c.all.new.progress.types c.tuple.new.progress.types
+    c.in_ok-given.ensures.grows c.tuple.ensures.grows
