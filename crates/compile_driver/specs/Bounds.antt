@@ -35,9 +35,9 @@ module _ (program : Program) where
       pub all : region < 8 * (account_at input (suc n)).words
       pub free : s.regs 27 < s.regs 26 + 8 * (account_at input n).charge
 
-    -- after n steps the calculus has printed the same; frames for as many contexts as were pending at one time, at most,
-    -- up to the next step, one more, and those that serve have more bytes than the stack, and fewer bytes of it are left
-    -- than a frame is counted with and 4,096
+    -- after n steps the calculus has printed the same; frames for as many contexts as were pending at one time, at
+    -- most, up to the next step, one more, and those that serve have more bytes than the stack, and fewer bytes of it
+    -- are left than a frame is counted with and 4,096
     pub record StackLacks (stack : ℕ) (s : State) : Type 0 where
       pub n : ℕ
       pub output : s.world.output ≡ (calc program input n).output
