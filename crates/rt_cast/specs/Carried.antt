@@ -9,12 +9,15 @@ use Rattle.low_ir.specs.declared.code.LowSource.{LowSource}
 use Rattle.low_ir.specs.Procedures.{Code, Proc, Return, Environment}
 use Rattle.low_ir.specs.Prices.{CostsAtMost}
 use Rattle.low_ir.specs.Run.{Setting, LowState, word_of, low_machine}
+use Rattle.object_layout.specs.declared.kinds.Kind.TheVariants.{Proxy, Tuple}
+use Rattle.object_layout.specs.Kinds.{kind_number}
 use Rattle.coercion_norm.specs.Coercions.{Coercion}
 use Rattle.coercion_norm.specs.Heights.{coercion_height}
 use Rattle.coercion_norm.specs.Normal.{IsNormal}
 use Rattle.coercion_norm.specs.Objects.{Object, Fixed}
 use Rattle.coercion_norm.specs.Held.{Layout, There, Held, rows_in, height_in}
 use Rattle.coercion_norm.specs.ObjectsOfRows.{header}
+use Rattle.rt_cast.specs.Words.{blame_call}
 use Rattle.rt_cast.specs.DynWords.{IsDyn}
 use Rattle.rt_cast.specs.WholeObjects.{IsSolid}
 use Rattle.rt_cast.specs.States.{Grows, Fine, OnTheWay, Within, around, heap_of, entered}
@@ -32,7 +35,7 @@ module _ (l : Layout) where
     CarriedBy objects (Base head x) w = (w ≡ x) × (x < 2 ^ 64)
     CarriedBy objects (Solid a) w = IsHeld objects a w
     CarriedBy objects (Proxied a c) w =
-        (wa wc : ℕ) × There l objects w (Fixed (header 2 0 2) (wa ∷ wc ∷ [])) × IsHeld objects a wa
+        (wa wc : ℕ) × There l objects w (Fixed (header (kind_number Proxy) 0 2) (wa ∷ wc ∷ [])) × IsHeld objects a wa
         × Held l objects c wc × IsLow c
     CarriedBy objects (InDyn kept u) w =
         (wx : ℕ) × IsDyn l objects kept wx w × (height_in l kept ≤ l.tallest) × (is_dyn (rows_in l kept) ≡ false)
@@ -48,7 +51,8 @@ module _ (l : Layout) where
     abbrev pub HoldsParts : List Object → List (Merged A) → ℕ → Type 0
     HoldsParts objects xs w =
         (xs ≡ [])
-        ⊎ ((ws : List ℕ) × There l objects w (Fixed (header 4 0 (length ws)) ws) × AreCarried objects xs ws)
+        ⊎ ((ws : List ℕ) × There l objects w (Fixed (header (kind_number Tuple) 0 (length ws)) ws)
+        × AreCarried objects xs ws)
 
     -- the tuples among what is held have these parts
     abbrev pub HaveParts : List Object → (A → List (Merged A)) → Type 0
@@ -87,7 +91,7 @@ module _ (l : Layout) where
       pub d : ℕ
       pub e : ℕ
       pub rest : Code
-      pub code : t.active.code ≡ Environment 3 a b d e rest
+      pub code : t.active.code ≡ Environment blame_call a b d e rest
       pub is : word_of t.active.locals a ≡ Some label
       pub other : word_of t.active.locals b ≡ Some 0
       pub first : d < t.active.count

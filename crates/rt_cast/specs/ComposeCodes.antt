@@ -1,9 +1,14 @@
--- The numbers of the procedures, and the code of compose: words 0 and 1 are two coercions.
+-- The numbers of the procedures, and the code of compose: words 0 and 1 are two coercions. Which words objects have
+-- stands in `Words.antt`.
 use Rattle.std.specs.Prelude.{ℕ, ◌+◌, [], ◌∷◌}
 use Rattle.rv_isa.specs.declared.inst.Cond.TheVariants.{Eq, Ltu}
+use Rattle.object_layout.specs.declared.kinds.Kind.TheVariants.{Fail, Inject, Project}
+use Rattle.object_layout.specs.Kinds.{kind_number}
 use Rattle.low_ir.specs.declared.code.LowSource.TheVariants.{Word, Number}
 use Rattle.low_ir.specs.declared.code.WordOp.TheVariants.{And, Srl}
 use Rattle.low_ir.specs.Procedures.{Code, Compute, Load, Build, Call, Return, TailCall}
+use Rattle.coercion_norm.specs.ObjectsOfRows.{header}
+use Rattle.rt_cast.specs.Words.{kind_mask, count_bits}
 use Rattle.rt_cast.specs.PartCodes.{either, put_header, pick}
 
 module _ (first : ℕ) where
@@ -57,14 +62,14 @@ module _ (first : ℕ) where
       Load 8 (Word 0) 16 (
       Call 9 raise (Number 0 ∷ Word 7 ∷ []) (
       Call 9 raise (Word 9 ∷ Word 6 ∷ []) (
-      put_header 9 12884901902 (
+      put_header 9 (header (kind_number Project) 0 3) (
       Build 10 (Word 9 ∷ Word 7 ∷ Word 8 ∷ Word 6 ∷ []) (Return (Word 10))))))))))
 
   -- an Inject first: where a Project follows, what stands before, the cast between the two types, and what stands
   -- behind
   abbrev pub compose_inject : Code
   compose_inject =
-      either Eq (Word 5) (Number 14) (
+      either Eq (Word 5) (Number (kind_number Project)) (
       Load 6 (Word 0) 16 (
       Load 7 (Word 1) 8 (
       Load 8 (Word 1) 16 (
@@ -83,14 +88,14 @@ module _ (first : ℕ) where
       Load 7 (Word 1) 16 (
       Call 9 raise (Number 0 ∷ Word 6 ∷ []) (
       Call 9 raise (Word 9 ∷ Word 7 ∷ []) (
-      put_header 9 8589934605 (
+      put_header 9 (header (kind_number Inject) 0 2) (
       Build 10 (Word 9 ∷ Word 6 ∷ Word 7 ∷ []) (Return (Word 10))))))))
 
   -- two middles of one kind
   abbrev pub compose_both : Code
   compose_both =
-      Compute Srl 6 (Word 2) (Number 32) (
-      Compute Srl 7 (Word 4) (Number 32) (
+      Compute Srl 6 (Word 2) (Number count_bits) (
+      Compute Srl 7 (Word 4) (Number count_bits) (
       either Ltu (Word 6) (Word 7) (
       pick 6 8 middle_of (Word 0 ∷ Word 1 ∷ Word 3 ∷ Word 6 ∷ Number 0 ∷ [])
       ) (
@@ -98,27 +103,29 @@ module _ (first : ℕ) where
 
   abbrev pub compose_middle : Code
   compose_middle =
-      either Eq (Word 5) (Number 13) compose_onto (either Eq (Word 3) (Word 5) compose_both (Return (Number 0)))
+      either Eq (Word 5) (Number (kind_number Inject)) compose_onto (
+      either Eq (Word 3) (Word 5) compose_both (Return (Number 0)))
 
   -- with the kinds of both
   abbrev pub compose_third : Code
   compose_third =
-      either Eq (Word 5) (Number 8) (Return (Word 1)) (either Eq (Word 3) (Number 13) compose_inject compose_middle)
+      either Eq (Word 5) (Number (kind_number Fail)) (Return (Word 1)) (
+      either Eq (Word 3) (Number (kind_number Inject)) compose_inject compose_middle)
 
   abbrev pub compose_second : Code
   compose_second =
       either Eq (Word 1) (Number 0) (Return (Word 0)) (
       Load 4 (Word 1) 0 (
-      Compute And 5 (Word 4) (Number 255) compose_third))
+      Compute And 5 (Word 4) (Number kind_mask) compose_third))
 
   -- with the kind of the first
   abbrev pub compose_first : Code
   compose_first =
-      either Eq (Word 3) (Number 14) compose_project (
-      either Eq (Word 3) (Number 8) (Return (Word 0)) compose_second)
+      either Eq (Word 3) (Number (kind_number Project)) compose_project (
+      either Eq (Word 3) (Number (kind_number Fail)) (Return (Word 0)) compose_second)
 
   abbrev pub compose_code : Code
   compose_code =
       either Eq (Word 0) (Number 0) (Return (Word 1)) (
       Load 2 (Word 0) 0 (
-      Compute And 3 (Word 2) (Number 255) compose_first))
+      Compute And 3 (Word 2) (Number kind_mask) compose_first))

@@ -2,6 +2,8 @@
 use Rattle.std.specs.Prelude.{◌≡◌, ℕ, ◌<◌, List, [], ◌∷◌, length, Option, Some, None, if◌then◌else◌}
 use Rattle.grift_base.specs.Types.{TypeRow, IntRow, BoolRow, UnitRow, DynRow, FunRow, TupleRow, RefRow, VectRow}
 use Rattle.object_layout.specs.DynWords.{int_tag, bool_tag, unit_tag, is_narrow, tagged}
+use Rattle.object_layout.specs.declared.kinds.Kind.TheVariants.{Dyn}
+use Rattle.object_layout.specs.Kinds.{kind_number}
 use Rattle.coercion_norm.specs.Objects.{Object, Fixed}
 use Rattle.coercion_norm.specs.Held.{Layout, There, HoldsType, rows_in}
 use Rattle.coercion_norm.specs.ObjectsOfRows.{header}
@@ -31,7 +33,7 @@ module _ (l : Layout) (objects : List Object) where
   abbrev pub IsDynBy : Option ℕ → ℕ → ℕ → ℕ → Type 0
   IsDynBy (Some small) kept word w = (w ≡ small) × (kept < length l.types)
   IsDynBy None kept word w =
-      (wt : ℕ) × There l objects w (Fixed (header 3 0 2) (wt ∷ word ∷ [])) × HoldsType l objects wt kept
+      (wt : ℕ) × There l objects w (Fixed (header (kind_number Dyn) 0 2) (wt ∷ word ∷ [])) × HoldsType l objects wt kept
 
   -- the word in Dyn of a value with this word, which keeps this type
   abbrev pub IsDyn : ℕ → ℕ → ℕ → Type 0

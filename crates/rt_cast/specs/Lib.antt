@@ -1,7 +1,9 @@
+pub mod Words
 pub mod Objects
 pub mod WholeObjects
 pub mod PartCodes
 pub mod ComposeCodes
+pub mod ProcNumbers
 pub mod CoerceCodes
 pub mod CastCodes
 pub mod Procs

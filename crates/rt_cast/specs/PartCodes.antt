@@ -2,11 +2,14 @@
 use Rattle.std.specs.Prelude.{ℕ, zero, suc, ◌+◌, ◌*◌, List, [], ◌∷◌}
 use Rattle.rv_isa.specs.declared.inst.Cond.{Cond}
 use Rattle.rv_isa.specs.declared.inst.Cond.TheVariants.{Eq, Ltu}
+use Rattle.object_layout.specs.declared.kinds.Kind.TheVariants.{Fun, Tup, Project}
+use Rattle.object_layout.specs.Kinds.{kind_number}
 use Rattle.low_ir.specs.declared.code.LowSource.{LowSource}
 use Rattle.low_ir.specs.declared.code.LowSource.TheVariants.{Word, Number}
 use Rattle.low_ir.specs.declared.code.WordOp.TheVariants.{Add, And, Sll, Srl, Sltu}
 use Rattle.low_ir.specs.Procedures.{Code, Done, Set, Compute, Load, Build, Environment, Call, If, Return, TailCall}
 use Rattle.low_ir.specs.Procedures.{Proc}
+use Rattle.rt_cast.specs.Words.{kind_mask, height_bits, height_mask, count_unit, blame_call}
 
 abbrev pub proc : ℕ → ℕ → Code → Proc
 proc params words code = record { params = params; words = words; code = code }
@@ -17,19 +20,19 @@ either cond a b one other = If cond a b one other Done
 
 -- the header of an object with the height that a word holds, put into the word
 abbrev pub put_header : ℕ → ℕ → Code → Code
-put_header d low rest = Compute Sll d (Word d) (Number 16) (Compute Add d (Word d) (Number low) rest)
+put_header d low rest = Compute Sll d (Word d) (Number height_bits) (Compute Add d (Word d) (Number low) rest)
 
 -- a label is blamed
 abbrev pub blame_code : LowSource → Code
-blame_code label = Environment 3 label (Number 0) 4 5 (Return (Number 0))
+blame_code label = Environment blame_call label (Number 0) 4 5 (Return (Number 0))
 
 -- words 0 and 1 are a height, and an object or 0: the greater of the height and the object's
 abbrev pub raise_code : Code
 raise_code =
     either Eq (Word 1) (Number 0) (Return (Word 0)) (
     Load 2 (Word 1) 0 (
-    Compute Srl 2 (Word 2) (Number 16) (
-    Compute And 2 (Word 2) (Number 65535) (
+    Compute Srl 2 (Word 2) (Number height_bits) (
+    Compute And 2 (Word 2) (Number height_mask) (
     either Ltu (Word 0) (Word 2) (Return (Word 2)) (Return (Word 0))))))
 
 -- word 0 is a coercion: what may stand behind a Project, which is 0 for a Project
@@ -37,8 +40,8 @@ abbrev pub final_code : Code
 final_code =
     either Eq (Word 0) (Number 0) (Return (Word 0)) (
     Load 1 (Word 0) 0 (
-    Compute And 1 (Word 1) (Number 255) (
-    either Eq (Word 1) (Number 14) (Return (Number 0)) (Return (Word 0)))))
+    Compute And 1 (Word 1) (Number kind_mask) (
+    either Eq (Word 1) (Number (kind_number Project)) (Return (Number 0)) (Return (Word 0)))))
 
 -- ---- a middle whose parts come from two objects, part by part: words 0 and 1 are the objects, word 2 is the kind,
 -- word 3 how many parts one that is told in full has, word 4 a label; word 5 is the height so far, word 6 how many
@@ -54,9 +57,9 @@ abbrev pub finish_code : ℕ → Code
 finish_code total =
     either Eq (Word 6) (Number 0) (Return (Number 0)) (
     Compute Add 5 (Word 5) (Number 1) (
-    Compute Sll 5 (Word 5) (Number 16) (
+    Compute Sll 5 (Word 5) (Number height_bits) (
     Compute Add 5 (Word 5) (Word 2) (
-    Compute Add 5 (Word 5) (Number (total * 4294967296)) (
+    Compute Add 5 (Word 5) (Number (total * count_unit)) (
     Build 7 (Word 5 ∷ results total 0) (Return (Word 7)))))))
 
 -- told the procedures of a height and of a part, where part k stands in an object, and how many parts there are
@@ -95,8 +98,9 @@ first_word = apart 0
 -- part that runs backwards, with the other
 abbrev pub part_turns : Code → Code → Code
 part_turns on back =
-    either Eq (Word 0) (Number 10) on (
-    either Eq (Word 0) (Number 9) (either Eq (Word 1) (Word 2) on back) (either Eq (Word 1) (Word 2) back on))
+    either Eq (Word 0) (Number (kind_number Tup)) on (
+    either Eq (Word 0) (Number (kind_number Fun)) (either Eq (Word 1) (Word 2) on back) (
+    either Eq (Word 1) (Word 2) back on))
 
 -- words 3 and 4 are what the part comes from: both go on in their order, or turned round
 abbrev pub part_code : (LowSource → LowSource → Code) → Code

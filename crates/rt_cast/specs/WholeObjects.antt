@@ -3,6 +3,7 @@
 use Rattle.std.specs.Prelude.{max, ◌≡◌, ℕ, suc, ◌+◌, ◌*◌, ◌<◌, ◌≤◌, true, List, [], ◌∷◌, ◌++◌, length}
 use Rattle.coercion_norm.specs.declared.middles.MiddleKind.{MiddleKind as Kind}
 use Rattle.object_layout.specs.declared.kinds.Kind.{Kind as ObjectKind}
+use Rattle.object_layout.specs.declared.kinds.Kind.TheVariants.{Proxy, Dyn, Fail, Inject, Project}
 use Rattle.object_layout.specs.Kinds.{kind_number as number_of, is_free, is_coercion, allows_count}
 use Rattle.coercion_norm.specs.Objects.{Object, Fixed, header_of, bytes_of}
 use Rattle.coercion_norm.specs.Held.{Layout, There, HoldsType, height_in, HasWidth}
@@ -32,21 +33,21 @@ module _ (l : Layout) (objects : List Object) where
 
   -- an object whose words are those of objects before it, as its kind asks for
   pub data IsWhole (o : Object) : Type 0 where
-    WholeFail : (label : ℕ) → o ≡ Fixed (header 8 0 1) (label ∷ []) → IsWhole o
+    WholeFail : (label : ℕ) → o ≡ Fixed (header (number_of Fail) 0 1) (label ∷ []) → IsWhole o
     WholeMiddle : (kind : Kind) (y : ℕ) (ws : List ℕ)
         → o ≡ Fixed (header (kind_number kind) (suc y) (length ws)) ws → HasWidth l kind (length ws) → suc y < 65536
         → Highest ws y → IsWhole o
-    WholeInject : (wg wt y type : ℕ) → o ≡ Fixed (header 13 (max y (height_in l type)) 2) (wg ∷ wt ∷ [])
+    WholeInject : (wg wt y type : ℕ) → o ≡ Fixed (header (number_of Inject) (max y (height_in l type)) 2) (wg ∷ wt ∷ [])
         → CoercionWord wg y → HoldsType l objects wt type → IsWhole o
     WholeProject : (wt label wi y type : ℕ)
-        → o ≡ Fixed (header 14 (max (height_in l type) y) 3) (wt ∷ label ∷ wi ∷ []) → HoldsType l objects wt type
-        → CoercionWord wi y → IsWhole o
+        → o ≡ Fixed (header (number_of Project) (max (height_in l type) y) 3) (wt ∷ label ∷ wi ∷ [])
+        → HoldsType l objects wt type → CoercionWord wi y → IsWhole o
     -- a proxy of what is no proxy, with a middle
-    WholeProxy : (wa wc : ℕ) (kind : Kind) (y : ℕ) (ws : List ℕ) → o ≡ Fixed (header 2 0 2) (wa ∷ wc ∷ [])
-        → IsSolid wa → There l objects wc (Fixed (header (kind_number kind) y (length ws)) ws) → y ≤ l.tallest
-        → IsWhole o
+    WholeProxy : (wa wc : ℕ) (kind : Kind) (y : ℕ) (ws : List ℕ)
+        → o ≡ Fixed (header (number_of Proxy) 0 2) (wa ∷ wc ∷ []) → IsSolid wa
+        → There l objects wc (Fixed (header (kind_number kind) y (length ws)) ws) → y ≤ l.tallest → IsWhole o
     -- a value in Dyn, with the type that it keeps, no higher than the tallest
-    WholeDyn : (wt wx type : ℕ) → o ≡ Fixed (header 3 0 2) (wt ∷ wx ∷ []) → HoldsType l objects wt type
+    WholeDyn : (wt wx type : ℕ) → o ≡ Fixed (header (number_of Dyn) 0 2) (wt ∷ wx ∷ []) → HoldsType l objects wt type
         → height_in l type ≤ l.tallest → IsWhole o
     -- closures, tuples, boxes and vectors
     WholeOther : (kind : ObjectKind) (count : ℕ) → header_of o ≡ header (number_of kind) 0 count

@@ -9,33 +9,23 @@ ghost use Rattle.rt_cast.specs.CastCodes.{project_tuple};
 ghost use Rattle.rt_cast.specs.Procs.{cast_proc, project_proc};
 
 use crate::codes::{blame, build, call, compute, either, load, tail_call};
-use crate::numbers::{cast, coerce, compose, project};
+use crate::numbers::CastProc;
+use crate::words::{
+    COUNT_BITS, KIND_MASK, TAG_BITS, TAG_MASK, TYPE_OVER_TAG, WORD_SHIFT, header, kind,
+};
 use grift_base::lists::OutOfMemory;
 use low_ir::code::LowSource::{Number, Word};
 use low_ir::code::{LowCode, WordOp};
 use low_ir::programs::LowProc;
+use object_layout::kinds::Kind;
 use rv_isa::inst::Cond;
 use std::alloc::Global;
-
-// How many low bits of a word in Dyn are its tag, and all of them.
-const TAG_BITS: u64 = 3;
-
-const TAGS: u64 = 7;
-
-// The kind of a type without parts is by so much more than the tag of its values.
-const KIND_OVER_TAG: u64 = 15;
-
-// The first kind of a type whose values have no tag.
-const FIRST_UNTAGGED: u64 = 19;
-
-// The header of an object in Dyn.
-const DYN_HEADER: u64 = 8589934595;
 
 // A value in Dyn as an object: word 8 is the type that it keeps, word 9 the value.
 fn dyn_object(alloc: Global) -> Result<LowCode, OutOfMemory>
     ensures { IfOk result (λ code. code_of code ≡ dyn_object) }
 {
-    let words = [Number(DYN_HEADER), Word(8), Word(9)];
+    let words = [Number(header(Kind::Dyn, 2)), Word(8), Word(9)];
     build(alloc, 7, &words, LowCode::Return(Word(7)))
 }
 
@@ -49,7 +39,7 @@ fn dyn_base(alloc: Global) -> Result<LowCode, OutOfMemory>
         alloc,
         WordOp::Sub,
         6,
-        (Word(6), Number(KIND_OVER_TAG)),
+        (Word(6), Number(TYPE_OVER_TAG)),
         rest,
     )?;
     let branches = (rest, dyn_object(alloc)?);
@@ -58,24 +48,19 @@ fn dyn_base(alloc: Global) -> Result<LowCode, OutOfMemory>
     compute(alloc, WordOp::Sll, 7, (Word(9), Number(TAG_BITS)), rest)
 }
 
-// A value goes into Dyn.
+// A value goes into Dyn; the kinds of types whose values have a tag come before that of Dyn.
 fn into_dyn(alloc: Global) -> Result<LowCode, OutOfMemory>
     ensures { IfOk result (λ code. code_of code ≡ into_dyn) }
 {
     let branches = (dyn_base(alloc)?, dyn_object(alloc)?);
-    either(
-        alloc,
-        Cond::Ltu,
-        (Word(6), Number(FIRST_UNTAGGED)),
-        branches,
-    )
+    either(alloc, Cond::Ltu, (Word(6), kind(Kind::DynType)), branches)
 }
 
 // The kind of the type in word 8 is read first.
 fn read_kind(alloc: Global, rest: LowCode) -> Result<LowCode, OutOfMemory>
     ensures { IfOk result (λ code. code_of code ≡ read_kind (code_of rest)) }
 {
-    let rest = compute(alloc, WordOp::And, 6, (Word(6), Number(255)), rest)?;
+    let rest = compute(alloc, WordOp::And, 6, (Word(6), Number(KIND_MASK)), rest)?;
     load(alloc, 6, Word(8), 0, rest)
 }
 
@@ -84,9 +69,10 @@ fn cast_inject(alloc: Global, first: u32) -> Result<LowCode, OutOfMemory>
     requires room { first + 27 ≤ 2 ^ 32 }
     ensures { IfOk result (λ code. code_of code ≡ cast_inject first) }
 {
+    let cast = CastProc::Cast.number(first);
     let rest = read_kind(alloc, into_dyn(alloc)?)?;
     let rest = load(alloc, 8, Word(1), 16, rest)?;
-    let rest = call(alloc, 9, cast(first), &[Word(0), Word(4)], rest)?;
+    let rest = call(alloc, 9, cast, &[Word(0), Word(4)], rest)?;
     load(alloc, 4, Word(1), 8, rest)
 }
 
@@ -95,7 +81,8 @@ fn project_small(alloc: Global, first: u32) -> Result<LowCode, OutOfMemory>
     requires room { first + 27 ≤ 2 ^ 32 }
     ensures { IfOk result (λ code. code_of code ≡ project_small first) }
 {
-    let rest = tail_call(alloc, cast(first), &[Word(5), Word(9)])?;
+    let cast = CastProc::Cast.number(first);
+    let rest = tail_call(alloc, cast, &[Word(5), Word(9)])?;
     let rest = load(alloc, 9, Word(1), 24, rest)?;
     let same = compute(alloc, WordOp::Sra, 5, (Word(0), Number(TAG_BITS)), rest)?;
     let other = load(alloc, 7, Word(1), 16, blame(alloc, Word(7))?)?;
@@ -104,10 +91,10 @@ fn project_small(alloc: Global, first: u32) -> Result<LowCode, OutOfMemory>
         alloc,
         WordOp::Add,
         4,
-        (Word(4), Number(KIND_OVER_TAG)),
+        (Word(4), Number(TYPE_OVER_TAG)),
         rest,
     )?;
-    let rest = compute(alloc, WordOp::And, 5, (Word(5), Number(255)), rest)?;
+    let rest = compute(alloc, WordOp::And, 5, (Word(5), Number(KIND_MASK)), rest)?;
     let rest = load(alloc, 5, Word(5), 0, rest)?;
     load(alloc, 5, Word(1), 8, rest)
 }
@@ -117,10 +104,13 @@ fn project_object(alloc: Global, first: u32) -> Result<LowCode, OutOfMemory>
     requires room { first + 27 ≤ 2 ^ 32 }
     ensures { IfOk result (λ code. code_of code ≡ project_object first) }
 {
-    let rest = tail_call(alloc, cast(first), &[Word(5), Word(8)])?;
-    let rest = call(alloc, 8, compose(first), &[Word(8), Word(9)], rest)?;
+    let cast = CastProc::Cast.number(first);
+    let compose = CastProc::Compose.number(first);
+    let coerce = CastProc::Coerce.number(first);
+    let rest = tail_call(alloc, cast, &[Word(5), Word(8)])?;
+    let rest = call(alloc, 8, compose, &[Word(8), Word(9)], rest)?;
     let rest = load(alloc, 9, Word(1), 24, rest)?;
-    let rest = call(alloc, 8, coerce(first), &[Word(4), Word(6), Word(7)], rest)?;
+    let rest = call(alloc, 8, coerce, &[Word(4), Word(6), Word(7)], rest)?;
     let rest = load(alloc, 7, Word(1), 16, rest)?;
     let rest = load(alloc, 6, Word(1), 8, rest)?;
     let rest = load(alloc, 5, Word(0), 16, rest)?;
@@ -134,7 +124,7 @@ fn cast_project(alloc: Global, first: u32) -> Result<LowCode, OutOfMemory>
 {
     let branches = (project_object(alloc, first)?, project_small(alloc, first)?);
     let rest = either(alloc, Cond::Eq, (Word(4), Number(0)), branches)?;
-    compute(alloc, WordOp::And, 4, (Word(0), Number(TAGS)), rest)
+    compute(alloc, WordOp::And, 4, (Word(0), Number(TAG_MASK)), rest)
 }
 
 // A proxy: what it stands on, by both coercions as one.
@@ -142,12 +132,13 @@ fn cast_proxy(alloc: Global, first: u32) -> Result<LowCode, OutOfMemory>
     requires room { first + 27 ≤ 2 ^ 32 }
     ensures { IfOk result (λ code. code_of code ≡ cast_proxy first) }
 {
-    let words = [Number(8589934594), Word(7), Word(6)];
+    let compose = CastProc::Compose.number(first);
+    let words = [Number(header(Kind::Proxy, 2)), Word(7), Word(6)];
     let rest = build(alloc, 8, &words, LowCode::Return(Word(8)))?;
     let branches = (LowCode::Return(Word(7)), rest);
     let rest = either(alloc, Cond::Eq, (Word(6), Number(0)), branches)?;
     let rest = load(alloc, 7, Word(0), 8, rest)?;
-    let rest = call(alloc, 6, compose(first), &[Word(6), Word(1)], rest)?;
+    let rest = call(alloc, 6, compose, &[Word(6), Word(1)], rest)?;
     load(alloc, 6, Word(0), 16, rest)
 }
 
@@ -156,11 +147,11 @@ fn cast_middle(alloc: Global, first: u32) -> Result<LowCode, OutOfMemory>
     requires room { first + 27 ≤ 2 ^ 32 }
     ensures { IfOk result (λ code. code_of code ≡ cast_middle first) }
 {
-    let words = [Number(8589934594), Word(0), Word(1)];
+    let words = [Number(header(Kind::Proxy, 2)), Word(0), Word(1)];
     let bare = build(alloc, 8, &words, LowCode::Return(Word(8)))?;
     let branches = (cast_proxy(alloc, first)?, bare);
-    let rest = either(alloc, Cond::Eq, (Word(5), Number(2)), branches)?;
-    let rest = compute(alloc, WordOp::And, 5, (Word(4), Number(255)), rest)?;
+    let rest = either(alloc, Cond::Eq, (Word(5), kind(Kind::Proxy)), branches)?;
+    let rest = compute(alloc, WordOp::And, 5, (Word(4), Number(KIND_MASK)), rest)?;
     load(alloc, 4, Word(0), 0, rest)
 }
 
@@ -170,11 +161,16 @@ fn cast_kinds(alloc: Global, first: u32) -> Result<LowCode, OutOfMemory>
     ensures { IfOk result (λ code. code_of code ≡ cast_kinds first) }
 {
     let branches = (cast_project(alloc, first)?, cast_middle(alloc, first)?);
-    let rest = either(alloc, Cond::Eq, (Word(3), Number(14)), branches)?;
+    let rest = either(alloc, Cond::Eq, (Word(3), kind(Kind::Project)), branches)?;
     let branches = (cast_inject(alloc, first)?, rest);
-    let rest = either(alloc, Cond::Eq, (Word(3), Number(13)), branches)?;
+    let rest = either(alloc, Cond::Eq, (Word(3), kind(Kind::Inject)), branches)?;
     let failure = load(alloc, 4, Word(1), 8, blame(alloc, Word(4))?)?;
-    either(alloc, Cond::Eq, (Word(3), Number(8)), (failure, rest))
+    either(
+        alloc,
+        Cond::Eq,
+        (Word(3), kind(Kind::Fail)),
+        (failure, rest),
+    )
 }
 
 /// A cast of the value in word 0 by the coercion in word 1.
@@ -183,7 +179,7 @@ pub fn cast_proc(alloc: Global, first: u32) -> Result<LowProc, OutOfMemory>
     ensures { IfOk result (λ proc. proc_of proc ≡ cast_proc first) }
 {
     let rest = cast_kinds(alloc, first)?;
-    let rest = compute(alloc, WordOp::And, 3, (Word(2), Number(255)), rest)?;
+    let rest = compute(alloc, WordOp::And, 3, (Word(2), Number(KIND_MASK)), rest)?;
     let rest = load(alloc, 2, Word(1), 0, rest)?;
     let branches = (LowCode::Return(Word(0)), rest);
     let code = either(alloc, Cond::Eq, (Word(1), Number(0)), branches)?;
@@ -199,14 +195,15 @@ fn project_dyn_part(alloc: Global, first: u32) -> Result<LowCode, OutOfMemory>
     requires room { first + 27 ≤ 2 ^ 32 }
     ensures { IfOk result (λ code. code_of code ≡ project_dyn_part first) }
 {
+    let project = CastProc::Project.number(first);
     let branches = (LowCode::Return(Word(9)), into_dyn(alloc)?);
-    let rest = either(alloc, Cond::Eq, (Word(6), Number(FIRST_UNTAGGED)), branches)?;
+    let rest = either(alloc, Cond::Eq, (Word(6), kind(Kind::DynType)), branches)?;
     let rest = read_kind(alloc, rest)?;
     let words = [Word(5), Word(1), Number(1), Word(3)];
-    let rest = call(alloc, 9, project(first), &words, rest)?;
+    let rest = call(alloc, 9, project, &words, rest)?;
     let rest = load(alloc, 8, Word(8), 8, rest)?;
     let rest = compute(alloc, WordOp::Add, 8, (Word(8), Word(4)), rest)?;
-    compute(alloc, WordOp::Sll, 8, (Word(1), Number(3)), rest)
+    compute(alloc, WordOp::Sll, 8, (Word(1), Number(WORD_SHIFT)), rest)
 }
 
 // A part of what is in an object: the label is blamed where the kept type has none.
@@ -217,9 +214,9 @@ fn project_dyn_object(alloc: Global, first: u32) -> Result<LowCode, OutOfMemory>
     let branches = (project_dyn_part(alloc, first)?, blame(alloc, Word(3))?);
     let rest = either(alloc, Cond::Ltu, (Word(1), Word(6)), branches)?;
     let branches = (rest, blame(alloc, Word(3))?);
-    let rest = either(alloc, Cond::Eq, (Word(7), Number(21)), branches)?;
-    let rest = compute(alloc, WordOp::Srl, 6, (Word(6), Number(32)), rest)?;
-    let rest = compute(alloc, WordOp::And, 7, (Word(6), Number(255)), rest)?;
+    let rest = either(alloc, Cond::Eq, (Word(7), kind(Kind::TupleType)), branches)?;
+    let rest = compute(alloc, WordOp::Srl, 6, (Word(6), Number(COUNT_BITS)), rest)?;
+    let rest = compute(alloc, WordOp::And, 7, (Word(6), Number(KIND_MASK)), rest)?;
     let rest = load(alloc, 6, Word(4), 0, rest)?;
     let rest = load(alloc, 5, Word(0), 16, rest)?;
     load(alloc, 4, Word(0), 8, rest)
@@ -232,7 +229,7 @@ fn project_dyn(alloc: Global, first: u32) -> Result<LowCode, OutOfMemory>
 {
     let branches = (project_dyn_object(alloc, first)?, blame(alloc, Word(3))?);
     let rest = either(alloc, Cond::Eq, (Word(4), Number(0)), branches)?;
-    compute(alloc, WordOp::And, 4, (Word(0), Number(TAGS)), rest)
+    compute(alloc, WordOp::And, 4, (Word(0), Number(TAG_MASK)), rest)
 }
 
 // A part of what a proxy stands on, by the part of its coercion.
@@ -240,7 +237,8 @@ fn project_proxy(alloc: Global, first: u32) -> Result<LowCode, OutOfMemory>
     requires room { first + 27 ≤ 2 ^ 32 }
     ensures { IfOk result (λ code. code_of code ≡ project_proxy first) }
 {
-    let rest = tail_call(alloc, cast(first), &[Word(8), Word(9)])?;
+    let cast = CastProc::Cast.number(first);
+    let rest = tail_call(alloc, cast, &[Word(8), Word(9)])?;
     let rest = load(alloc, 9, Word(9), 8, rest)?;
     let rest = compute(alloc, WordOp::Add, 9, (Word(9), Word(6)), rest)?;
     let rest = load(alloc, 9, Word(0), 16, rest)?;
@@ -257,10 +255,10 @@ fn project_tuple(alloc: Global, first: u32) -> Result<LowCode, OutOfMemory>
     let rest = load(alloc, 8, Word(8), 8, LowCode::Return(Word(8)))?;
     let bare = compute(alloc, WordOp::Add, 8, (Word(0), Word(6)), rest)?;
     let branches = (project_proxy(alloc, first)?, bare);
-    let rest = either(alloc, Cond::Eq, (Word(7), Number(2)), branches)?;
-    let rest = compute(alloc, WordOp::And, 7, (Word(7), Number(255)), rest)?;
+    let rest = either(alloc, Cond::Eq, (Word(7), kind(Kind::Proxy)), branches)?;
+    let rest = compute(alloc, WordOp::And, 7, (Word(7), Number(KIND_MASK)), rest)?;
     let rest = load(alloc, 7, Word(0), 0, rest)?;
-    compute(alloc, WordOp::Sll, 6, (Word(1), Number(3)), rest)
+    compute(alloc, WordOp::Sll, 6, (Word(1), Number(WORD_SHIFT)), rest)
 }
 
 /// The part with the number in word 1 of the value in word 0, which is in Dyn where word 2 is 0, and a tuple where it

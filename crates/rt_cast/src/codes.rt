@@ -1,10 +1,11 @@
 // Code in front of other code.
 
 ghost use Rattle.std.specs.Prelude.{◌≡◌, IfOk};
-ghost use Rattle.low_ir.specs.Procedures.{Set, Compute, Load, Build, Call, TailCall};
+ghost use Rattle.low_ir.specs.Procedures.{Set, Compute, Load, Build, Call, If, TailCall};
 ghost use Rattle.low_ir.specs.Views.{code_of};
 ghost use Rattle.rt_cast.specs.PartCodes.{either, put_header, blame_code};
 
+use crate::words::{BLAME_CALL, HEIGHT_BITS};
 use grift_base::lists::OutOfMemory;
 use low_ir::code::LowSource::{Number, Word};
 use low_ir::code::{LowCode, LowSource, LowSources, WordOp};
@@ -89,6 +90,24 @@ pub fn tail_call(alloc: Global, procedure: u32, words: &[LowSource]) -> Result<L
     Ok(LowCode::TailCall(procedure, words))
 }
 
+/// What is done where a condition holds of two words, what where not, and what behind both.
+pub fn choose(
+    alloc: Global,
+    cond: Cond,
+    operands: (LowSource, LowSource),
+    branches: (LowCode, LowCode),
+    rest: LowCode,
+) -> Result<LowCode, OutOfMemory>
+    ensures { IfOk result (λ code. code_of code ≡ If cond operands.0 operands.1 (code_of branches.0)
+        (code_of branches.1) (code_of rest)) }
+{
+    let (one, other) = branches;
+    let one = Box::new(alloc, one)?;
+    let other = Box::new(alloc, other)?;
+    let rest = Box::new(alloc, rest)?;
+    Ok(LowCode::If(cond, operands.0, operands.1, one, other, rest))
+}
+
 /// One of two codes is done, by whether a condition holds of two words.
 pub fn either(
     alloc: Global,
@@ -99,11 +118,7 @@ pub fn either(
     ensures { IfOk result (λ code. code_of code ≡ either cond operands.0 operands.1 (code_of branches.0)
         (code_of branches.1)) }
 {
-    let (one, other) = branches;
-    let one = Box::new(alloc, one)?;
-    let other = Box::new(alloc, other)?;
-    let rest = Box::new(alloc, LowCode::Done)?;
-    Ok(LowCode::If(cond, operands.0, operands.1, one, other, rest))
+    choose(alloc, cond, operands, branches, LowCode::Done)
 }
 
 /// A word becomes the header of an object, whose height it was; the header is told without its height.
@@ -116,7 +131,13 @@ pub fn put_header(
     ensures { IfOk result (λ code. code_of code ≡ put_header word header (code_of rest)) }
 {
     let rest = compute(alloc, WordOp::Add, word, (Word(word), Number(header)), rest)?;
-    compute(alloc, WordOp::Sll, word, (Word(word), Number(16)), rest)
+    compute(
+        alloc,
+        WordOp::Sll,
+        word,
+        (Word(word), Number(HEIGHT_BITS)),
+        rest,
+    )
 }
 
 /// A label is blamed.
@@ -124,5 +145,5 @@ pub fn blame(alloc: Global, label: LowSource) -> Result<LowCode, OutOfMemory>
     ensures { IfOk result (λ code. code_of code ≡ blame_code label) }
 {
     let rest = Box::new(alloc, LowCode::Return(Number(0)))?;
-    Ok(LowCode::Environment(3, label, Number(0), 4, 5, rest))
+    Ok(LowCode::Environment(BLAME_CALL, label, Number(0), 4, 5, rest))
 }

@@ -7,12 +7,14 @@ ghost use Rattle.rt_cast.specs.CoerceCodes.{coerce_from_dyn, coerce_to_dyn};
 ghost use Rattle.rt_cast.specs.Procs.{coerce_proc};
 
 use crate::codes::{build, call, compute, either, load, put_header, tail_call};
-use crate::numbers::{pair, raise};
+use crate::numbers::{COERCE_MIDDLES, CastProc};
 use crate::parts::pick;
+use crate::words::{COUNT_BITS, KIND_MASK, TYPE_OVER_MIDDLE, header, kind};
 use grift_base::lists::OutOfMemory;
 use low_ir::code::LowSource::{Number, Word};
 use low_ir::code::{LowCode, WordOp};
 use low_ir::programs::LowProc;
+use object_layout::kinds::Kind;
 use rv_isa::inst::Cond;
 use std::alloc::Global;
 
@@ -20,7 +22,7 @@ use std::alloc::Global;
 fn coerce_fail(alloc: Global) -> Result<LowCode, OutOfMemory>
     ensures { IfOk result (λ code. code_of code ≡ coerce_fail) }
 {
-    let words = [Number(4294967304), Word(2)];
+    let words = [Number(header(Kind::Fail, 1)), Word(2)];
     build(alloc, 10, &words, LowCode::Return(Word(10)))
 }
 
@@ -29,16 +31,23 @@ fn coerce_alike(alloc: Global, first: u32) -> Result<LowCode, OutOfMemory>
     requires room { first + 27 ≤ 2 ^ 32 }
     ensures { IfOk result (λ code. code_of code ≡ coerce_alike first) }
 {
+    let pair = CastProc::Pair.number(first);
     let wide = [Word(0), Word(1), Word(9), Word(7), Word(2)];
     let twice = [Word(0), Word(1), Word(9), Number(2), Word(2)];
     let branches = (
-        pick(alloc, 7, 18, first, &wide)?,
-        tail_call(alloc, pair(first), &twice)?,
+        pick(alloc, 7, COERCE_MIDDLES, first, &wide)?,
+        tail_call(alloc, pair, &twice)?,
     );
-    let rest = either(alloc, Cond::Ltu, (Word(9), Number(11)), branches)?;
-    let rest = compute(alloc, WordOp::Sub, 9, (Word(4), Number(11)), rest)?;
+    let rest = either(alloc, Cond::Ltu, (Word(9), kind(Kind::Ref)), branches)?;
+    let rest = compute(
+        alloc,
+        WordOp::Sub,
+        9,
+        (Word(4), Number(TYPE_OVER_MIDDLE)),
+        rest,
+    )?;
     let branches = (LowCode::Return(Number(0)), rest);
-    either(alloc, Cond::Ltu, (Word(4), Number(20)), branches)
+    either(alloc, Cond::Ltu, (Word(4), kind(Kind::FunType)), branches)
 }
 
 // By whether both have one head.
@@ -50,8 +59,8 @@ fn coerce_heads(alloc: Global, first: u32) -> Result<LowCode, OutOfMemory>
     let rest = either(alloc, Cond::Eq, (Word(7), Word(8)), branches)?;
     let branches = (rest, coerce_fail(alloc)?);
     let rest = either(alloc, Cond::Eq, (Word(4), Word(6)), branches)?;
-    let rest = compute(alloc, WordOp::Srl, 8, (Word(5), Number(32)), rest)?;
-    compute(alloc, WordOp::Srl, 7, (Word(3), Number(32)), rest)
+    let rest = compute(alloc, WordOp::Srl, 8, (Word(5), Number(COUNT_BITS)), rest)?;
+    compute(alloc, WordOp::Srl, 7, (Word(3), Number(COUNT_BITS)), rest)
 }
 
 // From Dyn.
@@ -59,10 +68,11 @@ fn coerce_from_dyn(alloc: Global, first: u32) -> Result<LowCode, OutOfMemory>
     requires room { first + 27 ≤ 2 ^ 32 }
     ensures { IfOk result (λ code. code_of code ≡ coerce_from_dyn first) }
 {
+    let raise = CastProc::Raise.number(first);
     let words = [Word(9), Word(1), Word(2), Number(0)];
     let rest = build(alloc, 10, &words, LowCode::Return(Word(10)))?;
-    let rest = put_header(alloc, 9, 12884901902, rest)?;
-    call(alloc, 9, raise(first), &[Number(0), Word(1)], rest)
+    let rest = put_header(alloc, 9, header(Kind::Project, 3), rest)?;
+    call(alloc, 9, raise, &[Number(0), Word(1)], rest)
 }
 
 // To Dyn.
@@ -70,10 +80,11 @@ fn coerce_to_dyn(alloc: Global, first: u32) -> Result<LowCode, OutOfMemory>
     requires room { first + 27 ≤ 2 ^ 32 }
     ensures { IfOk result (λ code. code_of code ≡ coerce_to_dyn first) }
 {
+    let raise = CastProc::Raise.number(first);
     let words = [Word(9), Number(0), Word(0)];
     let rest = build(alloc, 10, &words, LowCode::Return(Word(10)))?;
-    let rest = put_header(alloc, 9, 8589934605, rest)?;
-    call(alloc, 9, raise(first), &[Number(0), Word(0)], rest)
+    let rest = put_header(alloc, 9, header(Kind::Inject, 2), rest)?;
+    call(alloc, 9, raise, &[Number(0), Word(0)], rest)
 }
 
 // With the kinds of both types.
@@ -82,9 +93,9 @@ fn coerce_kinds(alloc: Global, first: u32) -> Result<LowCode, OutOfMemory>
     ensures { IfOk result (λ code. code_of code ≡ coerce_kinds first) }
 {
     let branches = (coerce_to_dyn(alloc, first)?, coerce_heads(alloc, first)?);
-    let rest = either(alloc, Cond::Eq, (Word(6), Number(19)), branches)?;
+    let rest = either(alloc, Cond::Eq, (Word(6), kind(Kind::DynType)), branches)?;
     let branches = (coerce_from_dyn(alloc, first)?, rest);
-    either(alloc, Cond::Eq, (Word(4), Number(19)), branches)
+    either(alloc, Cond::Eq, (Word(4), kind(Kind::DynType)), branches)
 }
 
 /// The coercion of a cast between the two types in words 0 and 1, with the label in word 2.
@@ -93,9 +104,9 @@ pub fn coerce_proc(alloc: Global, first: u32) -> Result<LowProc, OutOfMemory>
     ensures { IfOk result (λ proc. proc_of proc ≡ coerce_proc first) }
 {
     let rest = coerce_kinds(alloc, first)?;
-    let rest = compute(alloc, WordOp::And, 6, (Word(5), Number(255)), rest)?;
+    let rest = compute(alloc, WordOp::And, 6, (Word(5), Number(KIND_MASK)), rest)?;
     let rest = load(alloc, 5, Word(1), 0, rest)?;
-    let rest = compute(alloc, WordOp::And, 4, (Word(3), Number(255)), rest)?;
+    let rest = compute(alloc, WordOp::And, 4, (Word(3), Number(KIND_MASK)), rest)?;
     let rest = load(alloc, 3, Word(0), 0, rest)?;
     let branches = (LowCode::Return(Number(0)), rest);
     let code = either(alloc, Cond::Eq, (Word(0), Word(1)), branches)?;

@@ -7,12 +7,14 @@ ghost use Rattle.rt_cast.specs.ComposeCodes.{compose_middle, compose_third, comp
 ghost use Rattle.rt_cast.specs.Procs.{compose_proc};
 
 use crate::codes::{build, call, compute, either, load, put_header, tail_call};
-use crate::numbers::{coerce, compose, final_, raise};
+use crate::numbers::{CastProc, MIDDLES};
 use crate::parts::pick;
+use crate::words::{COUNT_BITS, KIND_MASK, header, kind};
 use grift_base::lists::OutOfMemory;
 use low_ir::code::LowSource::{Number, Word};
 use low_ir::code::{LowCode, WordOp};
 use low_ir::programs::LowProc;
+use object_layout::kinds::Kind;
 use rv_isa::inst::Cond;
 use std::alloc::Global;
 
@@ -21,15 +23,18 @@ fn compose_project(alloc: Global, first: u32) -> Result<LowCode, OutOfMemory>
     requires room { first + 27 ≤ 2 ^ 32 }
     ensures { IfOk result (λ code. code_of code ≡ compose_project first) }
 {
+    let raise = CastProc::Raise.number(first);
+    let behind = CastProc::Final.number(first);
+    let compose = CastProc::Compose.number(first);
     let rest = LowCode::Return(Word(10));
     let rest = build(alloc, 10, &[Word(9), Word(7), Word(8), Word(6)], rest)?;
-    let rest = put_header(alloc, 9, 12884901902, rest)?;
-    let rest = call(alloc, 9, raise(first), &[Word(9), Word(6)], rest)?;
-    let rest = call(alloc, 9, raise(first), &[Number(0), Word(7)], rest)?;
+    let rest = put_header(alloc, 9, header(Kind::Project, 3), rest)?;
+    let rest = call(alloc, 9, raise, &[Word(9), Word(6)], rest)?;
+    let rest = call(alloc, 9, raise, &[Number(0), Word(7)], rest)?;
     let rest = load(alloc, 8, Word(0), 16, rest)?;
     let rest = load(alloc, 7, Word(0), 8, rest)?;
-    let rest = call(alloc, 6, final_(first), &[Word(6)], rest)?;
-    let rest = call(alloc, 6, compose(first), &[Word(6), Word(1)], rest)?;
+    let rest = call(alloc, 6, behind, &[Word(6)], rest)?;
+    let rest = call(alloc, 6, compose, &[Word(6), Word(1)], rest)?;
     load(alloc, 6, Word(0), 24, rest)
 }
 
@@ -38,16 +43,18 @@ fn compose_inject(alloc: Global, first: u32) -> Result<LowCode, OutOfMemory>
     requires room { first + 27 ≤ 2 ^ 32 }
     ensures { IfOk result (λ code. code_of code ≡ compose_inject first) }
 {
-    let rest = tail_call(alloc, compose(first), &[Word(11), Word(9)])?;
+    let compose = CastProc::Compose.number(first);
+    let coerce = CastProc::Coerce.number(first);
+    let rest = tail_call(alloc, compose, &[Word(11), Word(9)])?;
     let rest = load(alloc, 11, Word(0), 8, rest)?;
-    let rest = call(alloc, 9, compose(first), &[Word(9), Word(10)], rest)?;
+    let rest = call(alloc, 9, compose, &[Word(9), Word(10)], rest)?;
     let rest = load(alloc, 10, Word(1), 24, rest)?;
-    let rest = call(alloc, 9, coerce(first), &[Word(6), Word(7), Word(8)], rest)?;
+    let rest = call(alloc, 9, coerce, &[Word(6), Word(7), Word(8)], rest)?;
     let rest = load(alloc, 8, Word(1), 16, rest)?;
     let rest = load(alloc, 7, Word(1), 8, rest)?;
     let rest = load(alloc, 6, Word(0), 16, rest)?;
     let branches = (rest, LowCode::Return(Number(0)));
-    either(alloc, Cond::Eq, (Word(5), Number(14)), branches)
+    either(alloc, Cond::Eq, (Word(5), kind(Kind::Project)), branches)
 }
 
 // A middle before an injection.
@@ -55,13 +62,15 @@ fn compose_onto(alloc: Global, first: u32) -> Result<LowCode, OutOfMemory>
     requires room { first + 27 ≤ 2 ^ 32 }
     ensures { IfOk result (λ code. code_of code ≡ compose_onto first) }
 {
+    let raise = CastProc::Raise.number(first);
+    let compose = CastProc::Compose.number(first);
     let rest = LowCode::Return(Word(10));
     let rest = build(alloc, 10, &[Word(9), Word(6), Word(7)], rest)?;
-    let rest = put_header(alloc, 9, 8589934605, rest)?;
-    let rest = call(alloc, 9, raise(first), &[Word(9), Word(7)], rest)?;
-    let rest = call(alloc, 9, raise(first), &[Number(0), Word(6)], rest)?;
+    let rest = put_header(alloc, 9, header(Kind::Inject, 2), rest)?;
+    let rest = call(alloc, 9, raise, &[Word(9), Word(7)], rest)?;
+    let rest = call(alloc, 9, raise, &[Number(0), Word(6)], rest)?;
     let rest = load(alloc, 7, Word(1), 16, rest)?;
-    let rest = call(alloc, 6, compose(first), &[Word(0), Word(6)], rest)?;
+    let rest = call(alloc, 6, compose, &[Word(0), Word(6)], rest)?;
     load(alloc, 6, Word(1), 8, rest)
 }
 
@@ -72,12 +81,12 @@ fn compose_both(alloc: Global, first: u32) -> Result<LowCode, OutOfMemory>
 {
     let words = [Word(0), Word(1), Word(3), Word(6), Number(0)];
     let branches = (
-        pick(alloc, 6, 9, first, &words)?,
-        pick(alloc, 7, 9, first, &words)?,
+        pick(alloc, 6, MIDDLES, first, &words)?,
+        pick(alloc, 7, MIDDLES, first, &words)?,
     );
     let rest = either(alloc, Cond::Ltu, (Word(6), Word(7)), branches)?;
-    let rest = compute(alloc, WordOp::Srl, 7, (Word(4), Number(32)), rest)?;
-    compute(alloc, WordOp::Srl, 6, (Word(2), Number(32)), rest)
+    let rest = compute(alloc, WordOp::Srl, 7, (Word(4), Number(COUNT_BITS)), rest)?;
+    compute(alloc, WordOp::Srl, 6, (Word(2), Number(COUNT_BITS)), rest)
 }
 
 // A middle first, with the kind of the second.
@@ -88,7 +97,7 @@ fn compose_middle(alloc: Global, first: u32) -> Result<LowCode, OutOfMemory>
     let branches = (compose_both(alloc, first)?, LowCode::Return(Number(0)));
     let rest = either(alloc, Cond::Eq, (Word(3), Word(5)), branches)?;
     let onto = compose_onto(alloc, first)?;
-    either(alloc, Cond::Eq, (Word(5), Number(13)), (onto, rest))
+    either(alloc, Cond::Eq, (Word(5), kind(Kind::Inject)), (onto, rest))
 }
 
 // With the kinds of both.
@@ -97,9 +106,9 @@ fn compose_third(alloc: Global, first: u32) -> Result<LowCode, OutOfMemory>
     ensures { IfOk result (λ code. code_of code ≡ compose_third first) }
 {
     let branches = (compose_inject(alloc, first)?, compose_middle(alloc, first)?);
-    let rest = either(alloc, Cond::Eq, (Word(3), Number(13)), branches)?;
+    let rest = either(alloc, Cond::Eq, (Word(3), kind(Kind::Inject)), branches)?;
     let branches = (LowCode::Return(Word(1)), rest);
-    either(alloc, Cond::Eq, (Word(5), Number(8)), branches)
+    either(alloc, Cond::Eq, (Word(5), kind(Kind::Fail)), branches)
 }
 
 // With the kind of the first.
@@ -108,14 +117,19 @@ fn compose_first(alloc: Global, first: u32) -> Result<LowCode, OutOfMemory>
     ensures { IfOk result (λ code. code_of code ≡ compose_first first) }
 {
     let rest = compose_third(alloc, first)?;
-    let rest = compute(alloc, WordOp::And, 5, (Word(4), Number(255)), rest)?;
+    let rest = compute(alloc, WordOp::And, 5, (Word(4), Number(KIND_MASK)), rest)?;
     let rest = load(alloc, 4, Word(1), 0, rest)?;
     let branches = (LowCode::Return(Word(0)), rest);
     let second = either(alloc, Cond::Eq, (Word(1), Number(0)), branches)?;
     let branches = (LowCode::Return(Word(0)), second);
-    let rest = either(alloc, Cond::Eq, (Word(3), Number(8)), branches)?;
+    let rest = either(alloc, Cond::Eq, (Word(3), kind(Kind::Fail)), branches)?;
     let projects = compose_project(alloc, first)?;
-    either(alloc, Cond::Eq, (Word(3), Number(14)), (projects, rest))
+    either(
+        alloc,
+        Cond::Eq,
+        (Word(3), kind(Kind::Project)),
+        (projects, rest),
+    )
 }
 
 /// The composition of the two coercions in words 0 and 1.
@@ -124,7 +138,7 @@ pub fn compose_proc(alloc: Global, first: u32) -> Result<LowProc, OutOfMemory>
     ensures { IfOk result (λ proc. proc_of proc ≡ compose_proc first) }
 {
     let rest = compose_first(alloc, first)?;
-    let rest = compute(alloc, WordOp::And, 3, (Word(2), Number(255)), rest)?;
+    let rest = compute(alloc, WordOp::And, 3, (Word(2), Number(KIND_MASK)), rest)?;
     let rest = load(alloc, 2, Word(0), 0, rest)?;
     let branches = (LowCode::Return(Word(1)), rest);
     let code = either(alloc, Cond::Eq, (Word(0), Number(0)), branches)?;

@@ -6,6 +6,7 @@ pub mod codes;
 mod coercing;
 mod composing;
 pub mod laws;
-mod numbers;
+pub mod numbers;
 mod parts;
 pub mod procs;
+pub mod words;

@@ -1,8 +1,7 @@
 // The numbers of the procedures: coerce, compose, cast and project, and behind them those that they call.
 
 ghost use Rattle.std.specs.Prelude.{◌≡◌, ◌+◌, ◌≤◌, ◌^◌};
-ghost use Rattle.rt_cast.specs.ComposeCodes.{coerce, compose, cast, project, part, raise, final, coerce_part, pair};
-ghost use Rattle.rt_cast.specs.ComposeCodes.{middle_of, coerce_of};
+ghost use Rattle.rt_cast.specs.ProcNumbers.{cast_proc_number};
 
 /// How many procedures there are.
 pub const CAST_PROCS: u32 = 27;
@@ -10,89 +9,52 @@ pub const CAST_PROCS: u32 = 27;
 /// The most parts that a coercion has.
 pub const MOST_PARTS: u32 = 8;
 
-/// The coercion of a cast.
-pub fn coerce(first: u32) -> u32
-    ensures { result ≡ coerce first }
-{
-    first
+/// How many procedures stand before the composition of no parts; those of more parts follow it.
+pub const MIDDLES: u32 = 9;
+
+/// How many stand before a cast's coercion of no parts; those of more parts follow it.
+pub const COERCE_MIDDLES: u32 = 18;
+
+/// A procedure, in the order of their numbers. The compositions of no parts to eight parts stand behind these, and then
+/// a cast's coercions of no parts to eight.
+#[derive(Clone, Copy)]
+pub enum CastProc {
+    /// The coercion of a cast.
+    Coerce,
+    /// The composition of two coercions.
+    Compose,
+    /// A cast of a value.
+    Cast,
+    /// A part of a value.
+    Project,
+    /// One part of a composition.
+    Part,
+    /// The greater of a height and an object's.
+    Raise,
+    /// What may stand behind a projection.
+    Final,
+    /// One part of a cast's coercion.
+    CoercePart,
+    /// Read and write of a reference or a vector.
+    Pair,
 }
 
-/// The composition of two coercions.
-pub fn compose(first: u32) -> u32
-    requires room { first + 27 ≤ 2 ^ 32 }
-    ensures { result ≡ compose first }
-{
-    1 + first
-}
-
-/// A cast of a value.
-pub fn cast(first: u32) -> u32
-    requires room { first + 27 ≤ 2 ^ 32 }
-    ensures { result ≡ cast first }
-{
-    2 + first
-}
-
-/// A part of a value.
-pub fn project(first: u32) -> u32
-    requires room { first + 27 ≤ 2 ^ 32 }
-    ensures { result ≡ project first }
-{
-    3 + first
-}
-
-/// One part of a composition.
-pub fn part(first: u32) -> u32
-    requires room { first + 27 ≤ 2 ^ 32 }
-    ensures { result ≡ part first }
-{
-    4 + first
-}
-
-/// The greater of a height and an object's.
-pub fn raise(first: u32) -> u32
-    requires room { first + 27 ≤ 2 ^ 32 }
-    ensures { result ≡ raise first }
-{
-    5 + first
-}
-
-/// What may stand behind a projection.
-pub fn final_(first: u32) -> u32
-    requires room { first + 27 ≤ 2 ^ 32 }
-    ensures { result ≡ final first }
-{
-    6 + first
-}
-
-/// One part of a cast's coercion.
-pub fn coerce_part(first: u32) -> u32
-    requires room { first + 27 ≤ 2 ^ 32 }
-    ensures { result ≡ coerce_part first }
-{
-    7 + first
-}
-
-/// Read and write of a reference or a vector.
-pub fn pair(first: u32) -> u32
-    requires room { first + 27 ≤ 2 ^ 32 }
-    ensures { result ≡ pair first }
-{
-    8 + first
-}
-
-/// The composition of no parts; that of more parts follows.
-pub fn middle(first: u32) -> u32
-    requires room { first + 27 ≤ 2 ^ 32 }
-    ensures { result ≡ middle_of first 0 }
-{
-    9 + first
-}
-
-/// A cast's coercion of no parts; that of more parts follows.
-pub fn coerce_middle(first: u32) -> u32
-    requires room { first + 27 ≤ 2 ^ 32 }
-    ensures { result ≡ coerce_of first 0 }
-{
-    18 + first
+impl CastProc {
+    /// The number of the procedure, where the first one has this number.
+    pub fn number(self, first: u32) -> u32
+        requires room { first + 27 ≤ 2 ^ 32 }
+        ensures { result ≡ cast_proc_number self first }
+    {
+        match self {
+            CastProc::Coerce => first,
+            CastProc::Compose => 1 + first,
+            CastProc::Cast => 2 + first,
+            CastProc::Project => 3 + first,
+            CastProc::Part => 4 + first,
+            CastProc::Raise => 5 + first,
+            CastProc::Final => 6 + first,
+            CastProc::CoercePart => 7 + first,
+            CastProc::Pair => 8 + first,
+        }
+    }
 }

@@ -11,10 +11,12 @@ ghost use Rattle.rt_cast.specs.Procs.{raise_proc, final_proc};
 
 use crate::codes::{build, call, compute, either, load, set, tail_call};
 use crate::numbers::MOST_PARTS;
+use crate::words::{COUNT_UNIT, HEIGHT_BITS, HEIGHT_MASK, KIND_MASK, kind};
 use grift_base::lists::OutOfMemory;
 use low_ir::code::LowSource::{Number, Word};
 use low_ir::code::{LowCode, LowSource, WordOp};
 use low_ir::programs::LowProc;
+use object_layout::kinds::Kind;
 use rv_isa::inst::Cond;
 use std::alloc::Global;
 
@@ -24,8 +26,8 @@ pub fn raise_proc(alloc: Global) -> Result<LowProc, OutOfMemory>
 {
     let ends = (LowCode::Return(Word(2)), LowCode::Return(Word(0)));
     let rest = either(alloc, Cond::Ltu, (Word(0), Word(2)), ends)?;
-    let rest = compute(alloc, WordOp::And, 2, (Word(2), Number(65535)), rest)?;
-    let rest = compute(alloc, WordOp::Srl, 2, (Word(2), Number(16)), rest)?;
+    let rest = compute(alloc, WordOp::And, 2, (Word(2), Number(HEIGHT_MASK)), rest)?;
+    let rest = compute(alloc, WordOp::Srl, 2, (Word(2), Number(HEIGHT_BITS)), rest)?;
     let rest = load(alloc, 2, Word(1), 0, rest)?;
     let branches = (LowCode::Return(Word(0)), rest);
     let code = either(alloc, Cond::Eq, (Word(1), Number(0)), branches)?;
@@ -41,8 +43,8 @@ pub fn final_proc(alloc: Global) -> Result<LowProc, OutOfMemory>
     ensures { IfOk result (λ proc. proc_of proc ≡ final_proc) }
 {
     let ends = (LowCode::Return(Number(0)), LowCode::Return(Word(0)));
-    let rest = either(alloc, Cond::Eq, (Word(1), Number(14)), ends)?;
-    let rest = compute(alloc, WordOp::And, 1, (Word(1), Number(255)), rest)?;
+    let rest = either(alloc, Cond::Eq, (Word(1), kind(Kind::Project)), ends)?;
+    let rest = compute(alloc, WordOp::And, 1, (Word(1), Number(KIND_MASK)), rest)?;
     let rest = load(alloc, 1, Word(0), 0, rest)?;
     let branches = (LowCode::Return(Word(0)), rest);
     let code = either(alloc, Cond::Eq, (Word(0), Number(0)), branches)?;
@@ -73,10 +75,10 @@ fn finish_code(alloc: Global, total: u32) -> Result<LowCode, OutOfMemory>
 {
     let words = finished_words(alloc, total)?;
     let rest = build(alloc, 7, words.as_slice(), LowCode::Return(Word(7)))?;
-    let count = total as u64 * 4294967296;
+    let count = u64::from(total) * COUNT_UNIT;
     let rest = compute(alloc, WordOp::Add, 5, (Word(5), Number(count)), rest)?;
     let rest = compute(alloc, WordOp::Add, 5, (Word(5), Word(2)), rest)?;
-    let rest = compute(alloc, WordOp::Sll, 5, (Word(5), Number(16)), rest)?;
+    let rest = compute(alloc, WordOp::Sll, 5, (Word(5), Number(HEIGHT_BITS)), rest)?;
     let rest = compute(alloc, WordOp::Add, 5, (Word(5), Number(1)), rest)?;
     let branches = (LowCode::Return(Number(0)), rest);
     either(alloc, Cond::Eq, (Word(6), Number(0)), branches)
@@ -169,9 +171,19 @@ pub fn part_proc(
         tail_call(alloc, procedure, on)?,
     );
     let cells = by_last(alloc, branches)?;
-    let others = either(alloc, Cond::Eq, (Word(0), Number(9)), (functions, cells))?;
+    let others = either(
+        alloc,
+        Cond::Eq,
+        (Word(0), kind(Kind::Fun)),
+        (functions, cells),
+    )?;
     let tuples = tail_call(alloc, procedure, on)?;
-    let code = either(alloc, Cond::Eq, (Word(0), Number(10)), (tuples, others))?;
+    let code = either(
+        alloc,
+        Cond::Eq,
+        (Word(0), kind(Kind::Tup)),
+        (tuples, others),
+    )?;
     Ok(LowProc {
         params: 6,
         words: 6,

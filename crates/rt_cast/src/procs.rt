@@ -7,7 +7,7 @@ ghost use Rattle.rt_cast.specs.Procs.{middles_from, cast_procs};
 use crate::casting::{cast_proc, project_proc};
 use crate::coercing::coerce_proc;
 use crate::composing::compose_proc;
-use crate::numbers::{MOST_PARTS, coerce, coerce_part, compose, part, raise};
+use crate::numbers::{CastProc, MOST_PARTS};
 use crate::parts::{Making, final_proc, middle_proc, part_proc, raise_proc};
 use grift_base::lists::OutOfMemory;
 use low_ir::code::LowSource::Word;
@@ -43,27 +43,27 @@ pub fn cast_procs(alloc: Global, first: u32) -> Result<LowProcs, OutOfMemory>
     procs.push(project_proc(alloc, first)?)?;
     let on = [Word(3), Word(4)];
     let back = [Word(4), Word(3)];
-    procs.push(part_proc(alloc, compose(first), &on, &back)?)?;
+    procs.push(part_proc(alloc, CastProc::Compose.number(first), &on, &back)?)?;
     procs.push(raise_proc(alloc)?)?;
     procs.push(final_proc(alloc)?)?;
     let on = [Word(3), Word(4), Word(5)];
     let back = [Word(4), Word(3), Word(5)];
-    procs.push(part_proc(alloc, coerce(first), &on, &back)?)?;
+    procs.push(part_proc(alloc, CastProc::Coerce.number(first), &on, &back)?)?;
     let pairs = Making {
-        raise: raise(first),
-        part: coerce_part(first),
+        raise: CastProc::Raise.number(first),
+        part: CastProc::CoercePart.number(first),
         step: 0,
     };
     procs.push(middle_proc(alloc, pairs, 2)?)?;
     let compositions = Making {
-        raise: raise(first),
-        part: part(first),
+        raise: CastProc::Raise.number(first),
+        part: CastProc::Part.number(first),
         step: 8,
     };
     push_middles(alloc, &mut procs, compositions)?;
     let coercions = Making {
-        raise: raise(first),
-        part: coerce_part(first),
+        raise: CastProc::Raise.number(first),
+        part: CastProc::CoercePart.number(first),
         step: 8,
     };
     push_middles(alloc, &mut procs, coercions)?;

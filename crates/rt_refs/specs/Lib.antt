@@ -1,3 +1,4 @@
+pub mod TrapCodes
 pub mod Products
 pub mod Quotients
 pub mod Answering

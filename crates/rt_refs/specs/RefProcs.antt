@@ -2,15 +2,30 @@
 -- read, write, fill and its loop, then products and quotients.
 use Rattle.std.specs.Prelude.{◌≡◌, ℕ, ◌+◌, List, ◌∷◌, Some, slice_get}
 use Rattle.low_ir.specs.Procedures.{Proc}
+use Rattle.rt_refs.specs.declared.numbers.RefProc.{RefProc}
+use Rattle.rt_refs.specs.declared.numbers.RefProc.TheVariants.{Apply, Read, Write, Fill, FillLoop, ProductLoop}
+use Rattle.rt_refs.specs.declared.numbers.RefProc.TheVariants.{QuotientLoop, Multiply, Divide}
 use Rattle.rt_refs.specs.Quotients.{arithmetic_procs}
 use Rattle.rt_refs.specs.CallCodes.{apply_proc}
 use Rattle.rt_refs.specs.CellCodes.{read_proc, write_proc}
 use Rattle.rt_refs.specs.FillCodes.{fill_proc, fill_loop}
 
+-- the number of each procedure, told that of the first one
+abbrev pub ref_proc_number : RefProc → ℕ → ℕ
+ref_proc_number Apply first = 0 + first
+ref_proc_number Read first = 1 + first
+ref_proc_number Write first = 2 + first
+ref_proc_number Fill first = 3 + first
+ref_proc_number FillLoop first = 4 + first
+ref_proc_number ProductLoop first = 5 + first
+ref_proc_number QuotientLoop first = 6 + first
+ref_proc_number Multiply first = 7 + first
+ref_proc_number Divide first = 8 + first
+
 abbrev pub ref_procs : ℕ → ℕ → List Proc
 ref_procs first cast =
-    apply_proc cast ∷ read_proc cast ∷ write_proc cast ∷ fill_proc (4 + first) ∷ fill_loop (4 + first)
-    ∷ arithmetic_procs (5 + first)
+    apply_proc cast ∷ read_proc cast ∷ write_proc cast ∷ fill_proc (ref_proc_number FillLoop first)
+    ∷ fill_loop (ref_proc_number FillLoop first) ∷ arithmetic_procs (ref_proc_number ProductLoop first)
 
 -- the procedures stand in a program
 abbrev pub Stand : List Proc → ℕ → ℕ → Type 0

@@ -7,4 +7,5 @@ pub mod cells;
 mod codes;
 pub mod fills;
 pub mod laws;
+pub mod numbers;
 pub mod procs;

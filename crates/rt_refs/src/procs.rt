@@ -10,17 +10,26 @@ ghost use Rattle.rt_refs.specs.RefProcs.{ref_procs};
 
 use crate::calls::apply_proc;
 use crate::cells::{read_proc, write_proc};
-use crate::codes::{choose, compute, set};
+use crate::codes::trap;
 use crate::fills::{fill_loop, fill_proc};
+use crate::numbers::RefProc;
 use grift_base::lists::OutOfMemory;
+use grift_base::verdicts::Trap;
 use low_ir::code::LowSource::{Number, Word};
-use low_ir::code::{LowCode, LowSource, LowSources, WordOp};
+use low_ir::code::{LowCode, WordOp};
 use low_ir::programs::{LowProc, LowProcs};
+use rt_cast::codes::{choose, compute, set, tail_call};
 use rv_isa::inst::Cond;
 use std::alloc::Global;
 
 /// How many procedures `arithmetic_procs` gives.
 pub const ARITHMETIC_PROCS: u32 = 4;
+
+/// The quotient is asked for.
+pub const ASKS_QUOTIENT: u64 = 0;
+
+/// The remainder is.
+pub const ASKS_REMAINDER: u64 = 1;
 
 // Where the lowest bit of word 1 is set, word 2 gains word 0.
 fn sum_code(alloc: Global, rest: LowCode) -> Result<LowCode, OutOfMemory>
@@ -41,8 +50,7 @@ fn sum_code(alloc: Global, rest: LowCode) -> Result<LowCode, OutOfMemory>
 fn product_loop(alloc: Global, own: u32) -> Result<LowProc, OutOfMemory>
     ensures { IfOk result (λ proc. proc_of proc ≡ product_loop own) }
 {
-    let words = LowSources::from_slice(alloc, &[Word(0), Word(1), Word(2)])?;
-    let rest = LowCode::TailCall(own, words);
+    let rest = tail_call(alloc, own, &[Word(0), Word(1), Word(2)])?;
     let rest = compute(alloc, WordOp::Srl, 1, (Word(1), Number(1)), rest)?;
     let rest = compute(alloc, WordOp::Sll, 0, (Word(0), Number(1)), rest)?;
     let rest = sum_code(alloc, rest)?;
@@ -59,11 +67,11 @@ fn product_loop(alloc: Global, own: u32) -> Result<LowProc, OutOfMemory>
 fn multiply(alloc: Global, loop_number: u32) -> Result<LowProc, OutOfMemory>
     ensures { IfOk result (λ proc. proc_of proc ≡ multiply loop_number) }
 {
-    let words = LowSources::from_slice(alloc, &[Word(0), Word(1), Number(0)])?;
+    let code = tail_call(alloc, loop_number, &[Word(0), Word(1), Number(0)])?;
     Ok(LowProc {
         params: 2,
         words: 2,
-        code: LowCode::TailCall(loop_number, words),
+        code,
     })
 }
 
@@ -84,7 +92,7 @@ fn signed_answer(alloc: Global) -> Result<LowCode, OutOfMemory>
     choose(
         alloc,
         Cond::Eq,
-        (Word(6), Number(0)),
+        (Word(6), Number(ASKS_QUOTIENT)),
         (quotient, LowCode::Done),
         rest,
     )
@@ -130,7 +138,7 @@ fn quotient_loop(alloc: Global, own: u32) -> Result<LowProc, OutOfMemory>
         Word(5),
         Word(6),
     ];
-    let rest = LowCode::TailCall(own, LowSources::from_slice(alloc, &words)?);
+    let rest = tail_call(alloc, own, &words)?;
     let rest = subtract_code(alloc, rest)?;
     let rest = next_bit(alloc, rest)?;
     let ends = (signed_answer(alloc)?, LowCode::Done);
@@ -170,10 +178,16 @@ fn signs(alloc: Global, loop_number: u32) -> Result<LowCode, OutOfMemory>
         Word(5),
         Word(2),
     ];
-    let rest = LowCode::TailCall(loop_number, LowSources::from_slice(alloc, &words)?);
+    let rest = tail_call(alloc, loop_number, &words)?;
     let both = compute(alloc, WordOp::Xor, 5, (Word(0), Word(1)), LowCode::Done)?;
     let first = set(alloc, 5, Word(0), LowCode::Done)?;
-    choose(alloc, Cond::Eq, (Word(2), Number(0)), (both, first), rest)
+    choose(
+        alloc,
+        Cond::Eq,
+        (Word(2), Number(ASKS_QUOTIENT)),
+        (both, first),
+        rest,
+    )
 }
 
 // The procedure of quotient and remainder, told the number of its loop.
@@ -183,13 +197,12 @@ fn divide(alloc: Global, loop_number: u32) -> Result<LowProc, OutOfMemory>
     let rest = signs(alloc, loop_number)?;
     let rest = magnitude(alloc, 4, 1, rest)?;
     let rest = magnitude(alloc, 3, 0, rest)?;
-    let end = Box::new(alloc, LowCode::Return(Number(0)))?;
-    let trap = LowCode::Environment(4, Number(1), Number(0), 3, 4, end);
+    let trapped = trap(alloc, Trap::ZeroDivisor, 3, 4)?;
     let code = choose(
         alloc,
         Cond::Eq,
         (Word(1), Number(0)),
-        (trap, LowCode::Done),
+        (trapped, LowCode::Done),
         rest,
     )?;
     Ok(LowProc {
@@ -227,12 +240,14 @@ pub fn ref_procs(alloc: Global, first: u32, cast: u32) -> Result<LowProcs, OutOf
     procs.push(apply_proc(alloc, cast)?)?;
     procs.push(read_proc(alloc, cast)?)?;
     procs.push(write_proc(alloc, cast)?)?;
-    procs.push(fill_proc(alloc, 4 + first)?)?;
-    procs.push(fill_loop(alloc, 4 + first)?)?;
-    let products = 5 + first;
+    let fills = RefProc::FillLoop.number(first);
+    procs.push(fill_proc(alloc, fills)?)?;
+    procs.push(fill_loop(alloc, fills)?)?;
+    let products = RefProc::ProductLoop.number(first);
+    let quotients = RefProc::QuotientLoop.number(first);
     procs.push(product_loop(alloc, products)?)?;
-    procs.push(quotient_loop(alloc, products + 1)?)?;
+    procs.push(quotient_loop(alloc, quotients)?)?;
     procs.push(multiply(alloc, products)?)?;
-    procs.push(divide(alloc, products + 1)?)?;
+    procs.push(divide(alloc, quotients)?)?;
     Ok(procs)
 }
