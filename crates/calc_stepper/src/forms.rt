@@ -82,7 +82,7 @@ pub fn take_injected(term: &mut Core) -> Option<(Value, TypeId)>
 }
 
 /// What a wrapper says: from a type, under a label, to a type.
-#[derive(Clone, Copy, Debug)]
+#[derive(Clone, Copy)]
 pub struct Wrapper {
     pub from: TypeId,
     pub label: LabelId,

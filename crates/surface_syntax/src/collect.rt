@@ -5,8 +5,8 @@ ghost use Rattle.surface_syntax.specs.Trees.{NoExprs, NoLets, NoLetrecs};
 ghost use Rattle.surface_syntax.specs.Views.{exprs_of, lets_of, letrecs_of};
 ghost use Rattle.surface_syntax.specs.Parts.{exprs_before, lets_before, letrecs_before};
 
+use crate::derived::{bound_first, cons, member_first};
 use crate::exprs::{Binding, Bindings, Expr, ExprList, Member, Members};
-use crate::lists::boxed;
 use grift_base::lists::OutOfMemory;
 use std::alloc::Global;
 
@@ -24,7 +24,7 @@ pub fn expr_list(alloc: Global, mut gathered: Vec<Expr>) -> Result<ExprList, Out
 {
     let mut list = ExprList::Nil;
     while let Some(last) = gathered.pop() {
-        list = ExprList::Cons(boxed(alloc, last)?, boxed(alloc, list)?);
+        list = cons(alloc, last, list)?;
     }
     Ok(list)
 }
@@ -35,7 +35,7 @@ pub fn binding_list(alloc: Global, mut gathered: Vec<Binding>) -> Result<Binding
 {
     let mut list = Bindings::Nil;
     while let Some(last) = gathered.pop() {
-        list = Bindings::Cons(boxed(alloc, last)?, boxed(alloc, list)?);
+        list = bound_first(alloc, last, list)?;
     }
     Ok(list)
 }
@@ -46,7 +46,7 @@ pub fn member_list(alloc: Global, mut gathered: Vec<Member>) -> Result<Members, 
 {
     let mut list = Members::Nil;
     while let Some(last) = gathered.pop() {
-        list = Members::Cons(boxed(alloc, last)?, boxed(alloc, list)?);
+        list = member_first(alloc, last, list)?;
     }
     Ok(list)
 }

@@ -4,16 +4,17 @@ ghost use Rattle.std.specs.Prelude.{◌≡◌, ◌∷◌, [], ℕ, List, IfOk, S
 ghost use Rattle.type_graph.specs.Rows.{row_of};
 ghost use Rattle.surface_syntax.specs.declared.names.Ident.TheVariants.{Source, Fresh};
 ghost use Rattle.surface_syntax.specs.Trees.{TypeAt, BaseType, ExprAt, PrimNode, IfNode, BeginNode, CallNode};
-ghost use Rattle.surface_syntax.specs.Trees.{LetrecNode, ExprThen, LetThen, NoLetrecs, LetrecThen};
+ghost use Rattle.surface_syntax.specs.Trees.{LetrecNode, ExprThen, LetThen, NoLets, NoLetrecs, LetrecThen};
 ghost use Rattle.surface_syntax.specs.Expansion.{linked, one_expr, two_exprs, name_at, int_at, typed_param, goes_on};
 ghost use Rattle.surface_syntax.specs.Expansion.{next_count, loop_of, counting, gathering, repeat_of, repeat_into_of};
 ghost use Rattle.surface_syntax.specs.Expansion.{type_or_dyn};
 ghost use Rattle.surface_syntax.specs.Views.{type_of, written_of, param_of, params_of, expr_of, exprs_of, lets_of};
-ghost use Rattle.surface_syntax.specs.Views.{source_of, lambda_of};
+ghost use Rattle.surface_syntax.specs.Views.{source_of, lambda_of, letrecs_of};
 ghost use Rattle.surface_syntax.specs.Parts.{name_of_binding, type_of_binding, value_of_binding};
+ghost use Rattle.surface_syntax.specs.Parts.{name_of_member, type_of_member, fun_of_member};
 
 use crate::exprs::{Binding, Bindings, Expr, ExprList, ExprNode, LambdaExpr, Member, Members};
-use crate::lists::{beside, boxed, boxed_beside};
+use crate::lists::{beside, both, both_boxed, boxed};
 use crate::names::Ident;
 use crate::types::{Param, Params, TypeExpr, TypeNode};
 use grift_base::lists::{Name, OutOfMemory};
@@ -92,8 +93,7 @@ fn int_at(pos: Pos) -> TypeExpr
 pub fn cons(alloc: Global, first: Expr, rest: ExprList) -> Result<ExprList, OutOfMemory>
     ensures { IfOk result (λ list. exprs_of list ≡ ExprThen (expr_of first) (exprs_of rest)) }
 {
-    let first = boxed(alloc, first)?;
-    let rest = boxed(alloc, rest)?;
+    let (first, rest) = both_boxed(alloc, first, rest)?;
     Ok(ExprList::Cons(first, rest))
 }
 
@@ -199,9 +199,8 @@ pub fn if_at(
     ensures { IfOk result (λ e. expr_of e ≡ ExprAt pos (IfNode (expr_of condition) (expr_of on_true)
         (expr_of on_false))) }
 {
-    let (condition, (on_true, on_false)) = boxed_beside(alloc, condition, (on_true, on_false))?;
-    let (on_true, (condition, on_false)) = boxed_beside(alloc, on_true, (condition, on_false))?;
-    let on_false = boxed(alloc, on_false)?;
+    let branches = both_boxed(alloc, on_true, on_false);
+    let (condition, (on_true, on_false)) = both(boxed(alloc, condition), branches)?;
     Ok(Expr {
         pos,
         node: ExprNode::If(condition, on_true, on_false),
@@ -232,7 +231,7 @@ fn one_param(alloc: Global, param: Param) -> Result<Params, OutOfMemory>
 fn two_params(alloc: Global, first: Param, second: Param) -> Result<Params, OutOfMemory>
     ensures { IfOk result (λ params. params ≡ first ∷ second ∷ []) }
 {
-    let mut params = one_param(alloc, first)?;
+    let (second, mut params) = beside(second, one_param(alloc, first))?;
     params.push(second)?;
     Ok(params)
 }
@@ -255,9 +254,17 @@ pub fn bound_first(alloc: Global, first: Binding, rest: Bindings) -> Result<Bind
     ensures { IfOk result (λ list. lets_of list ≡ LetThen (name_of_binding first) (type_of_binding first)
         (value_of_binding first) (lets_of rest)) }
 {
-    let first = boxed(alloc, first)?;
-    let rest = boxed(alloc, rest)?;
+    let (first, rest) = both_boxed(alloc, first, rest)?;
     Ok(Bindings::Cons(first, rest))
+}
+
+/// A member in front of others.
+pub fn member_first(alloc: Global, first: Member, rest: Members) -> Result<Members, OutOfMemory>
+    ensures { IfOk result (λ list. letrecs_of list ≡ LetrecThen (name_of_member first) (type_of_member first)
+        (fun_of_member first) (letrecs_of rest)) }
+{
+    let (first, rest) = both_boxed(alloc, first, rest)?;
+    Ok(Members::Cons(first, rest))
 }
 
 // The parameter that counts.
@@ -266,6 +273,14 @@ fn counter_param(alloc: Global, pos: Pos, counter: &Name) -> Result<Param, OutOf
 {
     let name = source(alloc, counter)?;
     Ok(typed_param(pos, name, int_at(pos)))
+}
+
+// The parameter that counts, as a list.
+fn counter_params(alloc: Global, pos: Pos, counter: &Name) -> Result<Params, OutOfMemory>
+    ensures { IfOk result (λ params. params_of params ≡ typed_param pos (Source counter.now) (int_at pos) ∷ []) }
+{
+    let param = counter_param(alloc, pos, counter)?;
+    one_param(alloc, param)
 }
 
 // The body of a loop's function: a turn where the count is below the bound.
@@ -330,9 +345,8 @@ fn counting(
         pos,
         node: ExprNode::Unit,
     };
-    let body = loop_body(alloc, pos, names.bound, counter, turn, done)?;
-    let param = counter_param(alloc, pos, counter)?;
-    let params = one_param(alloc, param)?;
+    let body = loop_body(alloc, pos, names.bound, counter, turn, done);
+    let (body, params) = both(body, counter_params(alloc, pos, counter))?;
     Ok(LambdaExpr {
         pos,
         params,
@@ -355,12 +369,21 @@ fn sum_of(alloc: Global, pos: Pos, start: Binding) -> Result<Sum, OutOfMemory>
     ensures written { IfOk result (λ sum. type_of sum.ty ≡ type_or_dyn pos (type_of_binding start)) }
     ensures value { IfOk result (λ sum. expr_of sum.value ≡ value_of_binding start) }
 {
-    let name = bytes_of(alloc, &start.name)?;
+    let name = bytes_of(alloc, &start.name);
+    let (start, name) = beside(start, name)?;
     Ok(Sum {
         name,
         ty: type_or_dyn(pos, start.ty),
         value: start.value,
     })
+}
+
+// The parameter that hands the accumulator on.
+fn sum_param(alloc: Global, pos: Pos, sum: &Name, ty: &TypeExpr) -> Result<Param, OutOfMemory>
+    ensures { IfOk result (λ param. param_of param ≡ typed_param pos (Source sum.now) (type_of ty.now)) }
+{
+    let (name, ty) = both(source(alloc, sum), ty.duplicate(alloc))?;
+    Ok(typed_param(pos, name, ty))
 }
 
 // The parameters of a loop's function: the counter and the accumulator.
@@ -374,10 +397,9 @@ fn gathering_params(
     ensures { IfOk result (λ params. params_of params ≡ typed_param pos (Source counter.now) (int_at pos)
         ∷ typed_param pos (Source sum.now) (type_of ty.now) ∷ []) }
 {
-    let first = counter_param(alloc, pos, counter)?;
-    let name = source(alloc, sum)?;
-    let ty = ty.duplicate(alloc)?;
-    two_params(alloc, first, typed_param(pos, name, ty))
+    let first = counter_param(alloc, pos, counter);
+    let (first, second) = both(first, sum_param(alloc, pos, sum, ty))?;
+    two_params(alloc, first, second)
 }
 
 // The turn of a loop with an accumulator: the call for the next count and the next sum.
@@ -409,11 +431,12 @@ fn gathering(
     ensures { IfOk result (λ l. lambda_of l ≡ gathering pos names (Source counter.now) (Source sum.now)
         (type_of ty.now) (expr_of body)) }
 {
-    let turn = gathering_turn(alloc, pos, names.function, counter, body)?;
-    let done = source_at(alloc, pos, sum)?;
-    let body = loop_body(alloc, pos, names.bound, counter, turn, done)?;
-    let params = gathering_params(alloc, pos, counter, sum, ty)?;
-    let result = ty.duplicate(alloc)?;
+    let turn = gathering_turn(alloc, pos, names.function, counter, body);
+    let (turn, done) = both(turn, source_at(alloc, pos, sum))?;
+    let body = loop_body(alloc, pos, names.bound, counter, turn, done);
+    let params = gathering_params(alloc, pos, counter, sum, ty);
+    let types = both(params, ty.duplicate(alloc));
+    let (body, (params, result)) = both(body, types)?;
     Ok(LambdaExpr {
         pos,
         params,
@@ -452,9 +475,8 @@ fn with_function(
         ty: None,
         fun: lambda,
     };
-    let body = one(alloc, body)?;
-    let (member, body) = boxed_beside(alloc, member, body)?;
-    let members = Members::Cons(member, boxed(alloc, Members::Nil)?);
+    let members = member_first(alloc, member, Members::Nil);
+    let (members, body) = both(members, one(alloc, body))?;
     Ok(Expr {
         pos,
         node: ExprNode::Letrec(members, body),
@@ -510,8 +532,8 @@ fn loop_of(
         (lets_of others) (lambda_of lambda) (exprs_of arguments)) }
 {
     let bindings = loop_bindings(alloc, pos, names, bounds, others);
-    let ((lambda, arguments), bindings) = beside((lambda, arguments), bindings)?;
-    let body = loop_start(alloc, pos, names, lambda, arguments)?;
+    let body = loop_start(alloc, pos, names, lambda, arguments);
+    let (bindings, body) = both(bindings, body)?;
     Ok(Expr {
         pos,
         node: ExprNode::Let(bindings, body),
@@ -529,7 +551,8 @@ pub fn counted_loop(
     ensures { IfOk result (λ e. expr_of e ≡ repeat_of pos names range.counter (expr_of range.first)
         (expr_of range.bound) (expr_of body)) }
 {
-    let lambda = counting(alloc, pos, names, &range.counter, body)?;
+    let lambda = counting(alloc, pos, names, &range.counter, body);
+    let (range, lambda) = beside(range, lambda)?;
     loop_of(
         alloc,
         pos,
@@ -551,6 +574,22 @@ fn type_or_dyn(pos: Pos, written: Option<TypeExpr>) -> TypeExpr
     }
 }
 
+// The binding of an accumulator to this fresh name, and the use of that name, each as a list.
+fn sum_start(
+    alloc: Global,
+    pos: Pos,
+    name: u32,
+    sum: Sum,
+) -> Result<(Bindings, ExprList), OutOfMemory>
+    ensures bindings { IfOk result (λ two. lets_of two.0 ≡ LetThen (Fresh name) (Some (type_of sum.ty))
+        (expr_of sum.value) NoLets) }
+    ensures uses { IfOk result (λ two. exprs_of two.1 ≡ one_expr (name_at pos (Fresh name))) }
+{
+    let binding = typed_binding(name, sum.ty, sum.value);
+    let bindings = bound_first(alloc, binding, Bindings::Nil);
+    both(bindings, one(alloc, fresh_at(pos, name)))
+}
+
 /// A `repeat` with an accumulator, of which this is the fresh name.
 pub fn gathering_loop(
     alloc: Global,
@@ -566,10 +605,9 @@ pub fn gathering_loop(
         (type_or_dyn pos (type_of_binding start)) (value_of_binding start) (expr_of body)) }
 {
     let sum = sum_of(alloc, pos, start)?;
-    let lambda = gathering(alloc, pos, names, &range.counter, &sum.name, &sum.ty, body)?;
-    let binding = typed_binding(value, sum.ty, sum.value);
-    let others = bound_first(alloc, binding, Bindings::Nil)?;
-    let arguments = one(alloc, fresh_at(pos, value))?;
+    let lambda = gathering(alloc, pos, names, &range.counter, &sum.name, &sum.ty, body);
+    let first = sum_start(alloc, pos, value, sum);
+    let (lambda, (others, arguments)) = both(lambda, first)?;
     loop_of(
         alloc,
         pos,

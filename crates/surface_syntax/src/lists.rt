@@ -169,6 +169,42 @@ pub fn boxed_beside<T: Drop, K: Drop>(
     Ok((value, kept))
 }
 
+/// What was made, on the heap.
+pub fn boxed_made<T: Drop>(
+    alloc: Global,
+    made: Result<T, OutOfMemory>,
+) -> Result<Box<T>, OutOfMemory>
+    ensures { IfOk result (λ b. made ≡ Ok b.value) }
+{
+    Ok(boxed(alloc, made?)?)
+}
+
+/// Two values on the heap.
+pub fn both_boxed<A: Drop, B: Drop>(
+    alloc: Global,
+    first: A,
+    second: B,
+) -> Result<(Box<A>, Box<B>), OutOfMemory>
+    ensures first { IfOk result (λ two. two.0.value ≡ first) }
+    ensures second { IfOk result (λ two. two.1.value ≡ second) }
+{
+    let (first, second) = boxed_beside(alloc, first, second)?;
+    let second = boxed(alloc, second)?;
+    Ok((first, second))
+}
+
+/// Two things that were made. So a function that makes several has one exit, at which it holds none of them.
+pub fn both<A: Drop, B: Drop>(
+    first: Result<A, OutOfMemory>,
+    second: Result<B, OutOfMemory>,
+) -> Result<(A, B), OutOfMemory>
+    ensures first { IfOk result (λ two. first ≡ Ok two.0) }
+    ensures second { IfOk result (λ two. second ≡ Ok two.1) }
+{
+    let first = first?;
+    Ok((first, second?))
+}
+
 /// A value beside what was made; it is dropped where nothing was made.
 pub fn beside<T: Drop, R: Drop>(
     value: T,

@@ -7,9 +7,9 @@ ghost use Rattle.surface_syntax.specs.Views.{expr_of};
 ghost use Rattle.surface_syntax.specs.Parts.{name_of_member, type_of_member, fun_of_member};
 ghost use Rattle.surface_syntax.specs.TopParts.{part_of, rest_of};
 
-use crate::derived::{bound_first, one, two};
+use crate::derived::{bound_first, member_first, one, two};
 use crate::exprs::{Binding, Bindings, Expr, ExprNode, Member, Members};
-use crate::lists::{beside, boxed_beside};
+use crate::lists::{beside, both};
 use crate::names::Ident;
 use crate::tops::Part;
 use grift_base::lists::OutOfMemory;
@@ -43,13 +43,12 @@ fn with_function(alloc: Global, pos: Pos, member: Member, rest: Rest) -> Result<
     ensures { IfOk result (λ r. rest_of r ≡ with_function pos (name_of_member member) (type_of_member member)
         (fun_of_member member) (rest_of rest)) }
 {
-    let (member, rest) = boxed_beside(alloc, member, rest)?;
     let (members, body) = match rest {
         Rest::Alone(body) => (Members::Nil, body),
         Rest::Run(_, members, body) => (members, body),
     };
-    let (members, (member, body)) = boxed_beside(alloc, members, (member, body))?;
-    Ok(Rest::Run(pos, Members::Cons(member, members), body))
+    let (body, members) = beside(body, member_first(alloc, member, members))?;
+    Ok(Rest::Run(pos, members, body))
 }
 
 // A form before the rest.
@@ -74,8 +73,8 @@ fn before(alloc: Global, part: Part, rest: Rest) -> Result<Rest, OutOfMemory>
             let name = Ident::Source(name);
             let binding = Binding { name, ty, value };
             let (binding, rest) = beside(binding, closed(alloc, rest))?;
-            let (binding, body) = beside(binding, one(alloc, rest))?;
-            let bindings = bound_first(alloc, binding, Bindings::Nil)?;
+            let bindings = bound_first(alloc, binding, Bindings::Nil);
+            let (bindings, body) = both(bindings, one(alloc, rest))?;
             Ok(Rest::Alone(Expr {
                 pos,
                 node: ExprNode::Let(bindings, body),

@@ -39,6 +39,17 @@ fn loop_names(names: &mut u32) -> Result<LoopNames, OutOfMemory>
     })
 }
 
+// The next fresh names of a loop with an accumulator: those of the loop, and that of the accumulator.
+fn gathering_names(names: &mut u32) -> Result<(LoopNames, u32), OutOfMemory>
+    ensures numbers { IfOk result (λ two. loop_names names.old ≡ (two.0, names.old + 3)) }
+    ensures value { IfOk result (λ two. two.1 ≡ names.old + 3) }
+    ensures next { IfOk result (λ two. names.new ≡ names.old + 3 + 1) }
+{
+    let numbers = loop_names(names)?;
+    let value = fresh(names)?;
+    Ok((numbers, value))
+}
+
 /// A `repeat` without an accumulator.
 pub fn counted_repeat(
     alloc: Global,
@@ -70,7 +81,6 @@ pub fn gathered_repeat(
         (expr_of body)) }
     ensures next { IfOk result (λ e. names.new ≡ names.old + 3 + 1) }
 {
-    let numbers = loop_names(names)?;
-    let value = fresh(names)?;
+    let (numbers, value) = gathering_names(names)?;
     gathering_loop(alloc, pos, numbers, value, range, start, body)
 }

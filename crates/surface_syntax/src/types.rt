@@ -2,6 +2,7 @@
 
 ghost use Rattle.std.specs.Prelude.{◌≡◌, IfOk};
 
+use crate::lists::{both, boxed_made};
 use crate::names::Ident;
 use grift_base::lists::{Items, OutOfMemory};
 use grift_base::places::Pos;
@@ -116,17 +117,17 @@ impl TypeNode {
         match self {
             TypeNode::Base(row) => Ok(TypeNode::Base(duplicate_row(alloc, row)?)),
             TypeNode::Fun(parameters, result) => {
-                let parameters = parameters.duplicate(alloc)?;
-                let result = Box::new(alloc, result.duplicate(alloc)?)?;
+                let result = boxed_made(alloc, result.duplicate(alloc));
+                let (parameters, result) = both(parameters.duplicate(alloc), result)?;
                 Ok(TypeNode::Fun(parameters, result))
             }
             TypeNode::Tuple(parts) => Ok(TypeNode::Tuple(parts.duplicate(alloc)?)),
             TypeNode::Ref(content) => {
-                let content = Box::new(alloc, content.duplicate(alloc)?)?;
+                let content = boxed_made(alloc, content.duplicate(alloc))?;
                 Ok(TypeNode::Ref(content))
             }
             TypeNode::Vect(content) => {
-                let content = Box::new(alloc, content.duplicate(alloc)?)?;
+                let content = boxed_made(alloc, content.duplicate(alloc))?;
                 Ok(TypeNode::Vect(content))
             }
         }
@@ -145,8 +146,9 @@ impl TypeExprs {
         match self {
             TypeExprs::Nil => Ok(TypeExprs::Nil),
             TypeExprs::Cons(first, rest) => {
-                let first = Box::new(alloc, first.duplicate(alloc)?)?;
-                let rest = Box::new(alloc, rest.duplicate(alloc)?)?;
+                let first = boxed_made(alloc, first.duplicate(alloc));
+                let rest = boxed_made(alloc, rest.duplicate(alloc));
+                let (first, rest) = both(first, rest)?;
                 Ok(TypeExprs::Cons(first, rest))
             }
         }

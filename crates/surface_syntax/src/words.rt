@@ -7,7 +7,7 @@ ghost use Rattle.surface_syntax.specs.Words.{is_arrow_word, is_lambda_word, is_d
 use grift_base::operators::PrimOp;
 
 /// A word that no name can be.
-#[derive(Clone, Copy, PartialEq, Eq, Debug)]
+#[derive(Clone, Copy, PartialEq, Eq)]
 pub enum Word {
     Lambda,
     Let,
@@ -27,7 +27,7 @@ pub enum Word {
 }
 
 /// A word of types. Names may be such words too.
-#[derive(Clone, Copy, PartialEq, Eq, Debug)]
+#[derive(Clone, Copy, PartialEq, Eq)]
 pub enum TypeWord {
     Int,
     Bool,
@@ -40,7 +40,7 @@ pub enum TypeWord {
 }
 
 /// What the bytes of a symbol are.
-#[derive(Clone, Copy, PartialEq, Eq, Debug)]
+#[derive(Clone, Copy, PartialEq, Eq)]
 pub enum Mark {
     /// A reserved word.
     Reserved(Word),

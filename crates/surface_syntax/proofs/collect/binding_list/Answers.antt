@@ -4,5 +4,5 @@ use Rattle.surface_syntax.proofs.collect.binding_list.Goals as goal
 
 pub loop-last-preserved : goal.loop-last-preserved
 loop-last-preserved c =
-    rw (c.in_ok-boxed.ensures, c.in_ok-boxed-2.ensures)
+    rw c.in_ok-list.ensures
     (lets_pop _ _ c.in-Some.last _ c.in-Some.ensures.items ∙ c.loop-last.invariant)
