@@ -25,11 +25,11 @@ use Rattle.flat_ir.specs.Machine.{values, entered_proc, flat_arity, flat_entered
 use Rattle.closure_convert.specs.Conversion.{captures, alone, bind_operands, numbered, group_scope}
 use Rattle.closure_convert.specs.Conversion.{fun_scope, made, made_in, code, own_procs}
 use Rattle.closure_convert.proofs.ProcPlaces.{HasAt}
-use Rattle.closure_convert.proofs.Relation.{firsts, seconds, means, group_of, Stands, StandsIn}
-use Rattle.closure_convert.proofs.Relation.{Carries, Fits, CarriesAll, Covers, covers_left, covers_right, group_covers}
-use Rattle.closure_convert.proofs.Relation.{fun_covers, fits_extend, parameters_hold, group_fits, captured_fits}
-use Rattle.closure_convert.proofs.Relation.{fun_scope_below, fits_row, captured_means}
-use Rattle.closure_convert.proofs.States.{Pends, Wait, Cells, InCode}
+use Rattle.closure_convert.proofs.Carrying.{firsts, seconds, means, group_of, Stands, StandsIn}
+use Rattle.closure_convert.proofs.Carrying.{Carries, Fits, CarriesAll, Covers, covers_left, covers_right, group_covers}
+use Rattle.closure_convert.proofs.Carrying.{fun_covers, fits_extend, parameters_hold, group_fits, captured_fits}
+use Rattle.closure_convert.proofs.Carrying.{fun_scope_below, fits_row, captured_means}
+use Rattle.closure_convert.proofs.Relation.{Pends, Wait, Cells, InCode}
 use Rattle.closure_convert.proofs.Agreeing.{wrap_carried, onto_carried, as_long, Agree, a_some}
 
 -- what parameters are bound to

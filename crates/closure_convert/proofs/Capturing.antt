@@ -7,7 +7,7 @@ use Rattle.flat_ir.specs.declared.code.Operand.{Operand}
 use Rattle.flat_ir.specs.declared.code.Operand.TheVariants.{Captured}
 use Rattle.closure_convert.specs.Conversion.{Scope, bind_operands, captured_scope, nothing_known, numbered}
 use Rattle.closure_convert.specs.Scopes.{with_name}
-use Rattle.closure_convert.proofs.Relation.{is_itself, chosen_true, chosen_false, false_true}
+use Rattle.closure_convert.proofs.Carrying.{is_itself, chosen_true, chosen_false, false_true}
 use Rattle.closure_convert.proofs.Scoping.{turned}
 
 -- the operands of names that are numbered from this number on

@@ -19,6 +19,7 @@ use Rattle.flat_ir.specs.declared.code.Operation.{Operation}
 use Rattle.flat_ir.specs.declared.code.Operation.TheVariants.{Move, Prim, Cast, Tuple, Proj, ProjDyn}
 use Rattle.flat_ir.specs.Bodies.{Body, Give, Call, Choose, LetBody, LetGroup, Proc}
 use Rattle.flat_ir.specs.Closed.{operand_bound, operands_bound, operation_bound, begins_group, is_next, body_bound}
+use Rattle.flat_ir.specs.Closed.{part_has_words}
 use Rattle.flat_ir.specs.Closed.{proc_closed, each_closed, takes_nothing, is_closed}
 use Rattle.closure_convert.specs.Conversion.{captures, alone, Scope, nothing_known, bind_operands, numbered}
 use Rattle.closure_convert.specs.Conversion.{captured_scope, group_scope, fun_scope, operand_or_unit, meanings_of, made}
@@ -26,7 +27,7 @@ use Rattle.closure_convert.specs.Conversion.{made_in, made_by, atom, placed, if_
 use Rattle.closure_convert.specs.Conversion.{gather_let, sequence, own_procs, procs_of, procs_for, procs_in, procs_by}
 use Rattle.closure_convert.specs.Conversion.{entry_proc, converted}
 use Rattle.closure_convert.proofs.ProcPlaces.{HasAt}
-use Rattle.closure_convert.proofs.Relation.{none_some, same_some, Stands, StandsFor, StandsIn, StandsBy}
+use Rattle.closure_convert.proofs.Carrying.{none_some, same_some, Stands, StandsFor, StandsIn, StandsBy}
 use Rattle.closure_convert.proofs.Moves.{meanings_long, names_long}
 use Rattle.closure_convert.proofs.Standing.{program_stands, entry_stands}
 use Rattle.closure_convert.proofs.Fine.{count, Fine, FineFor, FineIn, FineBy}
@@ -53,11 +54,11 @@ module _ (c g : ℕ) where
 
   abbrev OperationBound : ℕ → Operation → Type 0
   OperationBound depth (Move o) = OperandBound depth o
-  OperationBound depth (Prim op os) = OperandsBound depth os
+  OperationBound depth (Prim op os) = OperandsBound depth os × (length os ≤ 8)
   OperationBound depth (Cast o n) = OperandBound depth o
   OperationBound depth (Tuple os) = OperandsBound depth os × (1 ≤ length os) × (length os ≤ 8)
   OperationBound depth (Proj o i) = OperandBound depth o
-  OperationBound depth (ProjDyn o i label) = OperandBound depth o
+  OperationBound depth (ProjDyn o i label) = OperandBound depth o × (part_has_words i label.0 ≡ true)
 
   operand_is : (depth : ℕ) (o : Operand) → OperandBound depth o → operand_bound c g depth o ≡ true
   operand_is depth (Local i) h = lt-ltb i depth h
@@ -75,13 +76,15 @@ module _ (c g : ℕ) where
 
   operation_is : (depth : ℕ) (op : Operation) → OperationBound depth op → operation_bound c g depth op ≡ true
   operation_is depth (Move o) h = operand_is depth o h
-  operation_is depth (Prim op os) h = operands_are depth os h
+  operation_is depth (Prim op os) h =
+      both (operands_bound c g depth os) (nat_le (length os) 8) (operands_are depth os h.0) (le-leb (length os) 8 h.1)
   operation_is depth (Cast o n) h = operand_is depth o h
   operation_is depth (Tuple os) h =
       both (operands_bound c g depth os) (nat_le 1 (length os) && nat_le (length os) 8) (operands_are depth os h.0)
       (both (nat_le 1 (length os)) (nat_le (length os) 8) (le-leb 1 (length os) h.1) (le-leb (length os) 8 h.2))
   operation_is depth (Proj o i) h = operand_is depth o h
-  operation_is depth (ProjDyn o i label) h = operand_is depth o h
+  operation_is depth (ProjDyn o i label) h =
+      both (operand_bound c g depth o) (part_has_words i label.0) (operand_is depth o h.0) h.1
 
 module _ (procs : List Proc) where
   abbrev BodyBound : ℕ → ℕ → ℕ → Body → Type 0
@@ -282,8 +285,9 @@ module _ (procs : List Proc) where
           placed_bound (atom term scope) depth (code term scope depth next) _ (λ o q. atom_bound depth term scope o ev h
           q) (code_bound term scope depth next ev st h) (λ o deep le ob. ob)
       code_bound (RowProjDyn term i label) scope depth next ev st h =
-          placed_bound (atom term scope) depth (code term scope depth next) _ (λ o q. atom_bound depth term scope o ev h
-          q) (code_bound term scope depth next ev st h) (λ o deep le ob. ob)
+          placed_bound (atom term scope) depth (code term scope depth next) _
+          (λ o q. atom_bound depth term scope o ev.0 h q) (code_bound term scope depth next ev.0 st h)
+          (λ o deep le ob. (ob, ev.1))
       code_bound (RowTuple terms) scope depth next ev st h =
           gather_bound terms scope depth next [] _ ev.0 st h tt (λ os last le bs n. (
             bs,
@@ -292,7 +296,11 @@ module _ (procs : List Proc) where
             let a = ev.2 in omega (arith, n, a),
           ))
       code_bound (RowPrim op terms) scope depth next ev st h =
-          gather_bound terms scope depth next [] _ ev.0 st h tt (λ os last le bs n. bs)
+          gather_bound terms scope depth next [] _ ev.0 st h tt (λ os last le bs n. (
+            bs,
+            let a = ev.1 in omega
+                (arith, n, a),
+          ))
 
       gather_bound : (terms : RowTerms) (scope : Scope) (depth next : ℕ) (before : List Operand) (finish : List Operand
           → Body) → FineFor terms → StandsFor procs terms next → ScopeBound depth scope → OperandsBound c g depth before
@@ -440,7 +448,7 @@ module _ (procs : List Proc) where
     front_of (RowSeq terms) next ev st = front_for terms next ev st
     front_of (RowCast term n) next ev st = front_of term next ev st
     front_of (RowProj term i) next ev st = front_of term next ev st
-    front_of (RowProjDyn term i label) next ev st = front_of term next ev st
+    front_of (RowProjDyn term i label) next ev st = front_of term next ev.0 st
     front_of (RowTuple terms) next ev st = front_for terms next ev.0 st
     front_of (RowPrim op terms) next ev st = front_for terms next ev.0 st
 

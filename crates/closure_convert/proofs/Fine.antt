@@ -1,5 +1,6 @@
 -- Terms whose integers have 64 bits, whose functions have at most six parameters, whose calls hand on at most six
--- arguments, whose tuples have one to eight parts, and whose operators have eight operands at most.
+-- arguments, whose tuples have one to eight parts, whose operators have eight operands at most, and whose parts of Dyn
+-- have numbers and labels that are words.
 use Rattle.std.proofs.Common.{◌≡◌, ℕ, suc, ◌≤◌, true, length}
 use Rattle.std.specs.Int.{int_wrap, w64}
 use Rattle.std.specs.Ordering.{int_eq}
@@ -7,6 +8,7 @@ use Rattle.coer_core.specs.Terms.{RowTerm, RowTerms, RowMembers, RowBindings, Ro
 use Rattle.coer_core.specs.Terms.{RowLambda, RowGroup, RowLet, RowCall, RowIf, RowSeq, RowCast, RowProj, RowProjDyn}
 use Rattle.coer_core.specs.Terms.{RowTuple, RowPrim, NoRowTerms, RowTermThen, NoRowMembers, RowMemberThen}
 use Rattle.coer_core.specs.Terms.{NoRowBindings, RowBindingThen}
+use Rattle.flat_ir.specs.Closed.{part_has_words}
 use Rattle.closure_convert.specs.Uses.{how_many}
 
 abbrev pub count : RowTerms → ℕ
@@ -26,7 +28,7 @@ abbrev mutual
   Fine (RowSeq terms) = FineFor terms
   Fine (RowCast term number) = Fine term
   Fine (RowProj term k) = Fine term
-  Fine (RowProjDyn term k label) = Fine term
+  Fine (RowProjDyn term k label) = Fine term × (part_has_words k label ≡ true)
   Fine (RowTuple parts) = FineFor parts × (1 ≤ count parts) × (count parts ≤ 8)
   Fine (RowPrim operator operands) = FineFor operands × (count operands ≤ 8)
 

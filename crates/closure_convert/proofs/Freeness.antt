@@ -12,7 +12,7 @@ use Rattle.coer_core.specs.Counts.{free_names_of_members, row_binding_names, row
 use Rattle.closure_convert.specs.Conversion.{captures}
 use Rattle.closure_convert.specs.Free.{either, is_free, is_free_in_a_member, is_free_in_bindings, is_free_in_terms}
 use Rattle.closure_convert.proofs.Meeting.{among_append, besides_append, besides_both, besides_none, besides_swap}
-use Rattle.closure_convert.proofs.Relation.{is_itself, chosen_true, chosen_false, false_true, none_some}
+use Rattle.closure_convert.proofs.Carrying.{is_itself, chosen_true, chosen_false, false_true, none_some}
 
 -- ---- which names
 

@@ -13,7 +13,7 @@ use Rattle.closure_convert.specs.Converting.{State, Adds, bodies, parts_of}
 use Rattle.closure_convert.specs.Scopes.{Reaches, over}
 use Rattle.closure_convert.proofs.Adding.{adds_between, adds_outside, adds_then, grows}
 use Rattle.closure_convert.proofs.Meeting.{bound_hide}
-use Rattle.closure_convert.proofs.Relation.{numbered_long}
+use Rattle.closure_convert.proofs.Carrying.{numbered_long}
 use Rattle.closure_convert.proofs.Scoping.{over_bound}
 
 -- what is bound for parameters

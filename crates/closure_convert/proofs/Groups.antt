@@ -20,7 +20,7 @@ use Rattle.closure_convert.specs.Waits.{Puts, ahead}
 use Rattle.closure_convert.proofs.Adding.{adds_between, adds_same}
 use Rattle.closure_convert.proofs.Functions.{Made, made_same}
 use Rattle.closure_convert.proofs.Meeting.{besides_none, free_all, free_bound, free_once, reaches_itself}
-use Rattle.closure_convert.proofs.Relation.{numbered_long}
+use Rattle.closure_convert.proofs.Carrying.{numbered_long}
 use Rattle.closure_convert.proofs.Scoping.{over_bound}
 
 pub member_count : (members : RowMembers) → length (row_member_names members) ≡ row_member_count members

@@ -1,10 +1,10 @@
 mod ProcPlaces
+mod Carrying
 mod Relation
-mod States
 mod Agreeing
 mod Calling
 mod Moves
-mod Simulating
+mod Following
 mod Tallying
 mod Standing
 mod Fine
@@ -27,11 +27,9 @@ mod Groups
 mod Binding
 mod Ending
 mod Programs
-mod Using
 mod Freeness
 mod Answering
 mod Leaving
 mod GroupsClosed
-mod FewOperands
 mod FewLevels
 pub mod Public

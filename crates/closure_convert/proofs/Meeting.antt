@@ -10,7 +10,7 @@ use Rattle.flat_ir.specs.declared.code.Operand.TheVariants.{Captured}
 use Rattle.closure_convert.specs.Conversion.{Scope, nothing_known, bind_operands, numbered, captured_scope}
 use Rattle.closure_convert.specs.Scopes.{Reaches, with_name, with_free, with_all_free}
 use Rattle.closure_convert.specs.Converting.{Hides}
-use Rattle.closure_convert.proofs.Relation.{is_itself, chosen_true, false_true}
+use Rattle.closure_convert.proofs.Carrying.{is_itself, chosen_true, false_true}
 
 -- ---- names in lists
 

@@ -62,21 +62,21 @@ use Rattle.closure_convert.specs.Conversion.{gather}
 use Rattle.closure_convert.specs.Conversion.{gather_let, sequence}
 use Rattle.flat_ir.specs.FlatTally.{Cost, no_cost, Prices, made_vector as flat_vector, operator_kind, cast_cost}
 use Rattle.flat_ir.specs.FlatTally.{plain_cost, enter_cost, flat_cost, flat_atoms}
-use Rattle.closure_convert.proofs.Relation.{none_some, same_some, firsts, seconds, means}
-use Rattle.closure_convert.proofs.Relation.{group_of, fun_of, Stands, StandsFor}
-use Rattle.closure_convert.proofs.Relation.{GroupStands}
-use Rattle.closure_convert.proofs.Relation.{Carries, Fits, CarriesAll, carries_append}
-use Rattle.closure_convert.proofs.Relation.{fits_found, fits_extend, Below, ScopeBelow}
-use Rattle.closure_convert.proofs.Relation.{all_below_more, all_below_append, bound_below, SameBelow}
-use Rattle.closure_convert.proofs.Relation.{set_same, set_here, Covers, covers_left, covers_right, covers_bound}
-use Rattle.closure_convert.proofs.Relation.{numbered_long, locals_below, group_same, group_slot}
-use Rattle.closure_convert.proofs.Relation.{members_held}
-use Rattle.closure_convert.proofs.Relation.{members_firsts, members_seconds, members_carry, group_captured}
-use Rattle.closure_convert.proofs.States.{finish_code, finish_of, values_of, Knows}
-use Rattle.closure_convert.proofs.States.{Gathers, Binds, Taken, FrameOn, Wait, Cells}
-use Rattle.closure_convert.proofs.States.{InCode, Pends}
-use Rattle.closure_convert.proofs.States.{AsOperand, FocusOn, knows_later}
-use Rattle.closure_convert.proofs.States.{carried_later}
+use Rattle.closure_convert.proofs.Carrying.{none_some, same_some, firsts, seconds, means}
+use Rattle.closure_convert.proofs.Carrying.{group_of, fun_of, Stands, StandsFor}
+use Rattle.closure_convert.proofs.Carrying.{GroupStands}
+use Rattle.closure_convert.proofs.Carrying.{Carries, Fits, CarriesAll, carries_append}
+use Rattle.closure_convert.proofs.Carrying.{fits_found, fits_extend, Below, ScopeBelow}
+use Rattle.closure_convert.proofs.Carrying.{all_below_more, all_below_append, bound_below, SameBelow}
+use Rattle.closure_convert.proofs.Carrying.{set_same, set_here, Covers, covers_left, covers_right, covers_bound}
+use Rattle.closure_convert.proofs.Carrying.{numbered_long, locals_below, group_same, group_slot}
+use Rattle.closure_convert.proofs.Carrying.{members_held}
+use Rattle.closure_convert.proofs.Carrying.{members_firsts, members_seconds, members_carry, group_captured}
+use Rattle.closure_convert.proofs.Relation.{finish_code, finish_of, values_of, Knows}
+use Rattle.closure_convert.proofs.Relation.{Gathers, Binds, Taken, FrameOn, Wait, Cells}
+use Rattle.closure_convert.proofs.Relation.{InCode, Pends}
+use Rattle.closure_convert.proofs.Relation.{AsOperand, FocusOn, knows_later}
+use Rattle.closure_convert.proofs.Relation.{carried_later}
 use Rattle.closure_convert.proofs.Agreeing.{int_carried, bool_carried, same_shape, as_long}
 use Rattle.closure_convert.proofs.Agreeing.{list_parts, onto_carried, Agree, a_gives, a_cast, a_proj}
 use Rattle.closure_convert.proofs.Agreeing.{a_proj_dyn, a_operate}

@@ -14,7 +14,7 @@ use Rattle.closure_convert.specs.Converting.{State, Adds}
 use Rattle.closure_convert.specs.Programs.{HasNoFreeNames}
 use Rattle.closure_convert.specs.Scopes.{Reaches, over, with_all_free}
 use Rattle.closure_convert.proofs.Ending.{Coded}
-use Rattle.closure_convert.proofs.Relation.{false_true, is_itself, chosen_true}
+use Rattle.closure_convert.proofs.Carrying.{false_true, is_itself, chosen_true}
 
 none_among : (xs : List ℕ) → ((name : ℕ) → is_among name xs ≡ false) → xs ≡ []
 none_among [] h = refl

@@ -1,7 +1,5 @@
 -- What other crates may cite, by the names of the clauses.
-use Rattle.std.specs.Prelude.{◌≡◌, ℕ, true, List}
-use Rattle.std.specs.List.{list_all}
-use Rattle.std.specs.Prelude.{Bool}
+use Rattle.std.specs.Prelude.{ℕ, List}
 use Rattle.run_laws.specs.Runs.{Any, FollowsBy, NeverWrong}
 use Rattle.grift_base.specs.Types.{TypeRows}
 use Rattle.core_calc.specs.Typing.{ProgramTermHasType}
@@ -14,11 +12,8 @@ use Rattle.flat_ir.specs.Counts.{flat_run_in}
 use Rattle.closure_convert.specs.Bounds.{CountsKept}
 use Rattle.closure_convert.specs.Conversion.{converted, made}
 use Rattle.closure_convert.specs.Programs.{HasNoFreeNames}
-use Rattle.closure_convert.specs.Uses.{Use, procs_uses, term_uses}
 use Rattle.closure_convert.proofs.Standing.{converted_follows}
 use Rattle.closure_convert.proofs.Typed.{typed_closed}
-use Rattle.closure_convert.proofs.Using.{uses_are_there}
-pub use Rattle.closure_convert.proofs.FewOperands.{operators_have_few_operands}
 
 pub procedures_of_program_terms_are_closed-names : (casts : List TypeCast) (types : TypeRows) (labels : ℕ)
     (term : RowTerm) (type : ℕ) → ProgramTermHasType types labels (core_of casts term) type → HasNoFreeNames term
@@ -31,7 +26,3 @@ pub procedures_follow_their_term-merged : (casts : List TypeCast) (told : Told) 
     (run_in (merging told.types casts) told term input)
 procedures_follow_their_term-merged casts told term input closed never =
     converted_follows (merging told.types casts) told term input closed never
-
-pub procedures_use_what_their_term_uses : (term : RowTerm) (test : Use → Bool) → list_all test (term_uses term) ≡ true
-    → list_all test (procs_uses (converted term)) ≡ true
-procedures_use_what_their_term_uses term test h = uses_are_there term test h

@@ -7,7 +7,7 @@ use Rattle.closure_convert.specs.declared.names.Meaning.{Meaning}
 use Rattle.closure_convert.specs.Conversion.{Scope, nothing_known, bind_operands, numbered}
 use Rattle.closure_convert.specs.Numbers.{counted}
 use Rattle.closure_convert.specs.Scopes.{set_meaning, undone, or_else, over}
-use Rattle.closure_convert.proofs.Relation.{false_true, is_itself}
+use Rattle.closure_convert.proofs.Carrying.{false_true, is_itself}
 
 -- ---- names that are bound
 

@@ -26,8 +26,8 @@ use Rattle.closure_convert.specs.Conversion.{captures, alone, nothing_known, mad
 use Rattle.closure_convert.specs.Conversion.{own_procs, procs_of, procs_for, procs_in, procs_by, entry_proc, converted}
 use Rattle.closure_convert.specs.Bounds.{CountsKept}
 use Rattle.closure_convert.proofs.ProcPlaces.{HasAt, has_front, has_back, whole}
-use Rattle.closure_convert.proofs.Relation.{none_some, false_true, Stands, StandsFor, StandsIn, StandsBy}
-use Rattle.closure_convert.proofs.Simulating.{M, N, Goes, simulation}
+use Rattle.closure_convert.proofs.Carrying.{none_some, false_true, Stands, StandsFor, StandsIn, StandsBy}
+use Rattle.closure_convert.proofs.Following.{M, N, Goes, simulation}
 
 pub own_long : (names captured : List ℕ) (group place : ℕ) (members : RowMembers) (next : ℕ)
     → length (own_procs names captured group place members next) ≡ row_member_count members

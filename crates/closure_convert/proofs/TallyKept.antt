@@ -34,7 +34,7 @@ use Rattle.flat_ir.specs.Machine.{FlatState, Inside, new_group, first_world, fla
 use Rattle.closure_convert.specs.Conversion.{nothing_known, made, converted, code}
 use Rattle.flat_ir.specs.FlatTally.{Cost, Prices, kind_cost, piled_prices, merged_prices, FlatTally, KeepsTally}
 use Rattle.flat_ir.specs.FlatTally.{PaysTally, FlatBelow, FlatPaidBelow, flat_tally_in, flat_untallied}
-use Rattle.closure_convert.proofs.Relation.{none_some, false_true}
+use Rattle.closure_convert.proofs.Carrying.{none_some, false_true}
 use Rattle.closure_convert.proofs.Standing.{IsClosedTerm, program_stands, entry_stands}
 use Rattle.closure_convert.proofs.Moves.{coer_cost, atom_few, size_of}
 use Rattle.closure_convert.proofs.Tallying.{Tallies, Related, keeps_tally}

@@ -24,7 +24,7 @@ use Rattle.flat_ir.specs.Machine.{FlatStore, FlatFrame, FlatFocus, FlatAfter, Fl
 use Rattle.flat_ir.specs.Machine.{flat_state_at, after_flat, flat_running}
 use Rattle.flat_ir.specs.FlatTally.{Cost, Prices, flat_cost, flat_atoms, FlatTally, FlatTallied, flat_tallying}
 use Rattle.flat_ir.specs.FlatTally.{KeepsTally, PaysTally}
-use Rattle.closure_convert.proofs.States.{Cells, FocusOn}
+use Rattle.closure_convert.proofs.Relation.{Cells, FocusOn}
 use Rattle.closure_convert.proofs.Agreeing.{same_shown, same_fits}
 use Rattle.closure_convert.proofs.Moves.{measure, coer_cost, no_more_frames, Live, Pair, left, left_on}
 use Rattle.closure_convert.proofs.Moves.{size_of}

@@ -4,6 +4,9 @@ use Rattle.std.proofs.Common.{[], ◌∷◌, ◌++◌, length, Option, Some, Non
 use Rattle.std.proofs.Common.{eqb-true, ◌≤◌, subst}
 use Rattle.std.specs.Int.{w64}
 use Rattle.std.specs.Ordering.{int_eq}
+use Rattle.std.specs.List.{list_all}
+use Rattle.std.proofs.lemmas.Bool.{and_parts}
+use Rattle.std.proofs.lemmas.List.Folds.{list_all-append}
 use Rattle.std.proofs.lemmas.Int.{int_wrap_fits}
 use Rattle.std.proofs.lemmas.Cmp.{int_eq_equiv}
 use Rattle.grift_base.specs.Types.{TypeRows, FunRow}
@@ -24,7 +27,9 @@ use Rattle.coer_core.specs.Terms.{NoRowBindings, RowBindingThen, cast_by, core_o
 use Rattle.coer_core.specs.Terms.{core_bindings}
 use Rattle.coer_core.specs.Counts.{names_besides, free_names, free_names_of_all, free_names_of_members}
 use Rattle.coer_core.specs.Counts.{free_names_of_bindings, row_member_names, row_binding_names}
-use Rattle.closure_convert.proofs.Relation.{none_some, same_some, false_true}
+use Rattle.closure_convert.proofs.Carrying.{none_some, same_some, false_true}
+use Rattle.closure_convert.specs.Uses.{Use, OperatorUse, DynPartUse, CastUse, has_words, how_many, term_uses}
+use Rattle.closure_convert.specs.Uses.{terms_uses, member_uses, binding_uses}
 use Rattle.closure_convert.proofs.Fine.{count, Fine, FineFor, FineIn, FineBy}
 use Rattle.closure_convert.proofs.Standing.{IsClosedTerm}
 
@@ -253,74 +258,114 @@ module _ (casts : List TypeCast) where
     count_is (RowTermThen term rest) context term_types h =
         ap suc (count_is rest context h.1 h.4) ∙ sym (ap length h.2)
 
+    -- the parts of Dyn in it have numbers and labels that are words
+    abbrev HaveWords : List Use → Type 0
+    HaveWords uses = list_all has_words uses ≡ true
+
+    apart : (xs ys : List Use) → HaveWords (xs ++ ys) → HaveWords xs × HaveWords ys
+    apart xs ys w = and_parts (list_all has_words xs) (list_all has_words ys) (sym (list_all-append has_words xs ys) ∙ w)
+
+    behind : (used : Use) (uses : List Use) → HaveWords (used ∷ uses) → (has_words used ≡ true) × HaveWords uses
+    behind used uses w = and_parts (has_words used) (list_all has_words uses) w
+
     module _ (widths : HaveWidths types) where
       mutual
-        fine : (term : RowTerm) (context : Context) (type : ℕ) → Has context term type → Fine term
-        fine (RowInt n) context type h =
+        fine : (term : RowTerm) (context : Context) (type : ℕ) → Has context term type → HaveWords (term_uses term)
+            → Fine term
+        fine (RowInt n) context type h w =
             ap (λ m. int_eq m n) (int_wrap_fits w64 n h.0) ∙ int_eq_equiv.refl n
-        fine (RowBool b) context type h = tt
-        fine RowUnit context type h = tt
-        fine (RowVar x) context type h = tt
-        fine (RowLambda parameters body written) context type h =
+        fine (RowBool b) context type h w = tt
+        fine RowUnit context type h w = tt
+        fine (RowVar x) context type h w = tt
+        fine (RowLambda parameters body written) context type h w =
             let f = h.1 in
             let b = bound_names parameters f.0 f.2 f.4 in
-            let w = widths type (FunRow f.0 f.1) f.3 in
+            let most = widths type (FunRow f.0 f.1) f.3 in
             let long = b.1 in
-            (omega (arith, long, w), fine body (f.2 ++ context) f.1 f.5)
-        fine (RowGroup members body) context type h =
+            (omega (arith, long, most), fine body (f.2 ++ context) f.1 f.5 w)
+        fine (RowGroup members body) context type h w =
             let bound = member_types (core_members casts members) in
-            (fine_in members (bound ++ context) h.0, fine body (bound ++ context) type h.1)
-        fine (RowLet bindings body) context type h =
-            (fine_by bindings context h.0 h.1, fine body (h.0 ++ context) type h.2)
-        fine (RowCall function arguments) context type h =
-            let w = widths h.0 (FunRow h.1 type) h.3 in
+            let words = apart (member_uses members) (term_uses body) w in
+            (fine_in members (bound ++ context) h.0 words.0, fine body (bound ++ context) type h.1 words.1)
+        fine (RowLet bindings body) context type h w =
+            let words = apart (binding_uses bindings) (term_uses body) w in
+            (fine_by bindings context h.0 h.1 words.0, fine body (h.0 ++ context) type h.2 words.1)
+        fine (RowCall function arguments) context type h w =
+            let most = widths h.0 (FunRow h.1 type) h.3 in
             let n = count_is arguments context h.1 h.4 in
-            (fine function context h.0 h.2, fine_for arguments context h.1 h.4, omega (arith, w, n))
-        fine (RowIf condition on_true on_false) context type h =
-            (fine condition context h.0 h.1, fine on_true context type h.3, fine on_false context type h.4)
-        fine (RowSeq terms) context type h = fine_last terms context type h
-        fine (RowCast term n) context type h =
-            no_cast context term n type (slice_get casts n) (λ from k. fine term context from k) h
-        fine (RowProj term k) context type h = fine term context h.0 h.2
-        fine (RowProjDyn term k label) context type h = fine term context type h.0
-        fine (RowTuple parts) context type h =
+            let words = apart (term_uses function) (terms_uses arguments) w in (
+              fine function context h.0 h.2 words.0,
+              fine_for arguments context h.1 h.4 words.1,
+              omega (arith, most, n),
+            )
+        fine (RowIf condition on_true on_false) context type h w =
+            let words = apart (term_uses condition) (term_uses on_true ++ term_uses on_false) w in
+            let branches = apart (term_uses on_true) (term_uses on_false) words.1 in (
+              fine condition context h.0 h.1 words.0,
+              fine on_true context type h.3 branches.0,
+              fine on_false context type h.4 branches.1,
+            )
+        fine (RowSeq terms) context type h w = fine_last terms context type h w
+        fine (RowCast term n) context type h w =
+            let words = behind (CastUse n) (term_uses term) w in
+            no_cast context term n type (slice_get casts n) (λ from k. fine term context from k words.1) h
+        fine (RowProj term k) context type h w = fine term context h.0 h.2 w
+        fine (RowProjDyn term k label) context type h w =
+            let words = behind (DynPartUse k label) (term_uses term) w in
+            (fine term context type h.0 words.1, words.0)
+        fine (RowTuple parts) context type h w =
             let n = count_is parts context h.0 h.1 in
             let few = h.3 in
             let many = h.4 in
-            (fine_for parts context h.0 h.1, omega (arith, n, few), omega (arith, n, many))
-        fine (RowPrim operator operands) context type h =
+            (fine_for parts context h.0 h.1 w, omega (arith, n, few), omega (arith, n, many))
+        fine (RowPrim operator operands) context type h w =
             let n = count_is operands context h.0 h.1 in
             let few = few_operands types operator h.0 type h.2 in
-            (fine_for operands context h.0 h.1, omega (arith, n, few))
+            let words = behind (OperatorUse operator (how_many operands)) (terms_uses operands) w in
+            (fine_for operands context h.0 h.1 words.1, omega (arith, n, few))
 
         fine_for : (terms : RowTerms) (context : Context) (term_types : List ℕ)
-            → HaveTypes types labels cells context (core_terms casts terms) term_types → FineFor terms
-        fine_for NoRowTerms context term_types h = tt
-        fine_for (RowTermThen term rest) context term_types h =
-            (fine term context h.0 h.3, fine_for rest context h.1 h.4)
+            → HaveTypes types labels cells context (core_terms casts terms) term_types → HaveWords (terms_uses terms)
+            → FineFor terms
+        fine_for NoRowTerms context term_types h w = tt
+        fine_for (RowTermThen term rest) context term_types h w =
+            let words = apart (term_uses term) (terms_uses rest) w in
+            (fine term context h.0 h.3 words.0, fine_for rest context h.1 h.4 words.1)
 
         fine_last : (terms : RowTerms) (context : Context) (type : ℕ)
-            → LastHasType types labels cells context (core_terms casts terms) type → FineFor terms
-        fine_last NoRowTerms context type h = absurd h
-        fine_last (RowTermThen term NoRowTerms) context type h = (fine term context type h, tt)
-        fine_last (RowTermThen term (RowTermThen second rest)) context type h =
-            (fine term context h.0.0 h.0.1, fine_last (RowTermThen second rest) context type h.1)
+            → LastHasType types labels cells context (core_terms casts terms) type → HaveWords (terms_uses terms)
+            → FineFor terms
+        fine_last NoRowTerms context type h w = absurd h
+        fine_last (RowTermThen term NoRowTerms) context type h w =
+            (fine term context type h (apart (term_uses term) [] w).0, tt)
+        fine_last (RowTermThen term (RowTermThen second rest)) context type h w =
+            let words = apart (term_uses term) (terms_uses (RowTermThen second rest)) w in (
+              fine term context h.0.0 h.0.1 words.0,
+              fine_last (RowTermThen second rest) context type h.1 words.1,
+            )
 
         fine_in : (members : RowMembers) (context : Context)
-            → MembersHaveTypes types labels cells context (core_members casts members) → FineIn members
-        fine_in NoRowMembers context h = tt
-        fine_in (RowMemberThen name parameters body written rest) context h =
+            → MembersHaveTypes types labels cells context (core_members casts members)
+            → HaveWords (member_uses members) → FineIn members
+        fine_in NoRowMembers context h w = tt
+        fine_in (RowMemberThen name parameters body written rest) context h w =
             let f = h.0 in
             let b = bound_names parameters f.0 f.2 f.4 in
-            let w = widths written (FunRow f.0 f.1) f.3 in
+            let most = widths written (FunRow f.0 f.1) f.3 in
             let long = b.1 in
-            (omega (arith, long, w), fine body (f.2 ++ context) f.1 f.5, fine_in rest context h.1)
+            let words = apart (term_uses body) (member_uses rest) w in (
+              omega (arith, long, most),
+              fine body (f.2 ++ context) f.1 f.5 words.0,
+              fine_in rest context h.1 words.1,
+            )
 
         fine_by : (bindings : RowBindings) (context bound : Context)
-            → BindingsHaveTypes types labels cells context (core_bindings casts bindings) bound → FineBy bindings
-        fine_by NoRowBindings context bound h = tt
-        fine_by (RowBindingThen name term rest) context bound h =
-            (fine term context h.0 h.3, fine_by rest context h.1 h.4)
+            → BindingsHaveTypes types labels cells context (core_bindings casts bindings) bound
+            → HaveWords (binding_uses bindings) → FineBy bindings
+        fine_by NoRowBindings context bound h w = tt
+        fine_by (RowBindingThen name term rest) context bound h w =
+            let words = apart (term_uses term) (binding_uses rest) w in
+            (fine term context h.0 h.3 words.0, fine_by rest context h.1 h.4 words.1)
 
 -- a term that is typed without names is closed, and fine
 pub typed_closed : (casts : List TypeCast) (types : TypeRows) (labels : ℕ) (term : RowTerm) (type : ℕ)
@@ -332,5 +377,7 @@ typed_closed casts types labels term type h name = by_test (is_among name (free_
     by_test true e = none_some (typed_names casts types labels [] term [] type h name e).1
 
 pub typed_fine : (casts : List TypeCast) (types : TypeRows) (labels : ℕ) (term : RowTerm) (type : ℕ)
-    → HaveWidths types → HasType types labels [] [] (core_of casts term) type → Fine term
-typed_fine casts types labels term type widths h = fine casts types labels [] widths term [] type h
+    → HaveWidths types → HasType types labels [] [] (core_of casts term) type
+    → list_all has_words (term_uses term) ≡ true → Fine term
+typed_fine casts types labels term type widths h words =
+    fine casts types labels [] widths term [] type h words

@@ -1,13 +1,11 @@
--- Which operators, parts of Dyn and casts stand in a term, and which in procedures.
-use Rattle.std.specs.Prelude.{ℕ, suc, nat_le, ℤ, Bool, true, List, [], ◌∷◌, ◌++◌, length}
+-- Which operators, parts of Dyn and casts stand in a term.
+use Rattle.std.specs.Prelude.{ℕ, suc, ℤ, Bool, true, List, [], ◌∷◌, ◌++◌}
 use Rattle.grift_base.specs.declared.operators.PrimOp.{PrimOp}
 use Rattle.coer_core.specs.Terms.{RowTerm, RowTerms, RowMembers, RowBindings, RowInt, RowBool, RowUnit, RowVar}
 use Rattle.coer_core.specs.Terms.{RowLambda, RowGroup, RowLet, RowCall, RowIf, RowSeq, RowCast, RowProj, RowProjDyn}
 use Rattle.coer_core.specs.Terms.{RowTuple, RowPrim, NoRowTerms, RowTermThen, NoRowMembers, RowMemberThen}
 use Rattle.coer_core.specs.Terms.{NoRowBindings, RowBindingThen}
-use Rattle.flat_ir.specs.declared.code.Operation.{Operation}
-use Rattle.flat_ir.specs.declared.code.Operation.TheVariants.{Move, Prim, Cast, Tuple, Proj, ProjDyn}
-use Rattle.flat_ir.specs.Bodies.{Body, Give, Call, Choose, LetBody, LetGroup, Proc}
+use Rattle.flat_ir.specs.Closed.{part_has_words}
 
 -- what is listed: an operator with the number of its operands, a part of Dyn with its label, or a cast by its number
 pub data Use : Type 0 where
@@ -49,27 +47,8 @@ abbrev mutual
   binding_uses NoRowBindings = []
   binding_uses (RowBindingThen name bound rest) = term_uses bound ++ binding_uses rest
 
-abbrev pub operation_uses : Operation → List Use
-operation_uses (Move o) = []
-operation_uses (Prim operator os) = OperatorUse operator (length os) ∷ []
-operation_uses (Cast o number) = CastUse number ∷ []
-operation_uses (Tuple os) = []
-operation_uses (Proj o k) = []
-operation_uses (ProjDyn o k label) = DynPartUse k label.0 ∷ []
-
-abbrev pub body_uses : Body → List Use
-body_uses (Give operation) = operation_uses operation
-body_uses (Call f os) = []
-body_uses (Choose o on_true on_false) = body_uses on_true ++ body_uses on_false
-body_uses (LetBody slot inner rest) = body_uses inner ++ body_uses rest
-body_uses (LetGroup slot first count captured rest) = body_uses rest
-
-abbrev pub procs_uses : List Proc → List Use
-procs_uses [] = []
-procs_uses (proc ∷ rest) = body_uses proc.body ++ procs_uses rest
-
--- an operator has eight operands at most
-abbrev pub has_few_operands : Use → Bool
-has_few_operands (OperatorUse operator count) = nat_le count 8
-has_few_operands (DynPartUse k label) = true
-has_few_operands (CastUse number) = true
+-- the number and the label of a part of Dyn can be handed on as words
+abbrev pub has_words : Use → Bool
+has_words (OperatorUse operator count) = true
+has_words (DynPartUse k label) = part_has_words k label
+has_words (CastUse number) = true

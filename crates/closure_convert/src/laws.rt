@@ -30,14 +30,14 @@ ghost use Rattle.closure_convert.specs.Conversion.{captures, converted, made};
 ghost use Rattle.flat_ir.specs.FlatTally.{FlatBelow, FlatPaidBelow, KeepsTally, PaysTally};
 ghost use Rattle.flat_ir.specs.FlatTally.{cost_of_turn, flat_tally_in, merged_prices, piled_prices};
 ghost use Rattle.closure_convert.specs.Free.{is_free, is_free_in_a_member};
-ghost use Rattle.closure_convert.specs.Uses.{Use, has_few_operands, procs_uses, term_uses};
+ghost use Rattle.closure_convert.specs.Uses.{has_words, term_uses};
 
-/// The procedures of a term that reads back to a program term are closed where no type is too wide, and no name is free
-/// in the term.
+/// The procedures of a term that reads back to a program term are closed where no type is too wide, and where numbers
+/// and labels of parts of Dyn in the term are words; and no name is free in the term.
 pub fn procedures_of_program_terms_are_closed()
     ensures closed { (casts : List TypeCast) (types : TypeRows) (labels : ℕ) (term : RowTerm) (type : ℕ)
         → HaveWidths types → ProgramTermHasType types labels (core_of casts term) type
-        → is_closed (converted term) (made term) ≡ true }
+        → list_all has_words (term_uses term) ≡ true → is_closed (converted term) (made term) ≡ true }
     ensures names { (casts : List TypeCast) (types : TypeRows) (labels : ℕ) (term : RowTerm) (type : ℕ)
         → ProgramTermHasType types labels (core_of casts term) type
         → (name : ℕ) → is_among name (free_names term) ≡ false }
@@ -146,18 +146,4 @@ pub fn captured_names_are_free_in_a_member()
 /// The names of a term's list of free names are those that are free in it.
 pub fn free_names_are_free()
     ensures { (term : RowTerm) (name : ℕ) → is_among name (free_names term) ≡ is_free name term }
-{}
-
-/// An operator, a part of Dyn or a cast stands in the procedures of a term only where it stands in the term: each test
-/// that all of the term's pass is passed by those of its procedures.
-pub fn procedures_use_what_their_term_uses()
-    ensures { (term : RowTerm) (test : Use → Bool)
-        → list_all test (term_uses term) ≡ true → list_all test (procs_uses (converted term)) ≡ true }
-{}
-
-/// No operator in the procedures of a program term has more than eight operands.
-pub fn operators_have_few_operands()
-    ensures { (casts : List TypeCast) (types : TypeRows) (labels : ℕ) (term : RowTerm) (type : ℕ)
-        → HaveWidths types → ProgramTermHasType types labels (core_of casts term) type
-        → list_all has_few_operands (procs_uses (converted term)) ≡ true }
 {}

@@ -32,7 +32,7 @@ use Rattle.coer_core.specs.Tally.{tallying, SpentBelow, Below}
 use Rattle.coer_core.proofs.Relation.{size_of}
 use Rattle.coer_core.proofs.Unload.{PiledStore, PiledFrame, PiledFocus, PiledAfter, PiledState}
 use Rattle.coer_core.proofs.Unload.{store_of}
-use Rattle.coer_core.proofs.Moving.{IsOfKind}
+use Rattle.coer_core.proofs.Moves.{IsOfKind}
 use Rattle.coer_core.proofs.Following.{Keeps, R, Going, Ended, Quiet, Acting, Does, does, alike, next_related}
 use Rattle.coer_core.proofs.Following.{begin_related}
 use Rattle.coer_core.proofs.Room.{FitsIn, FitFocus, FitFrames, FitStore, FitAfter, fit_turn}

@@ -31,7 +31,7 @@ use Rattle.coer_core.proofs.Relation.{cast_term, sub, Is, Plugged, TermOf, size_
 use Rattle.coer_core.proofs.Unload.{PiledValue, PiledStore, PiledFrame, PiledFocus, PiledAfter, PiledState, value_of}
 use Rattle.coer_core.proofs.Unload.{store_of, shown_same}
 use Rattle.coer_core.proofs.Matching.{Matched, Fit}
-use Rattle.coer_core.proofs.Moving.{IsOfKind, Silently, Stepping, Moves, eval_moves, FitFrame, back_moves, enter_moves}
+use Rattle.coer_core.proofs.Moves.{IsOfKind, Silently, Stepping, Moves, eval_moves, FitFrame, back_moves, enter_moves}
 use Rattle.coer_core.proofs.KindsOfTurns.{turn_wraps_made}
 
 -- what keeps every cast at a value that it fits, along the calculus: typing does

@@ -72,7 +72,6 @@ use Rattle.coercion_norm.specs.Held.{Layout}
 use Rattle.lower.specs.declared.served.CastWay.{CastWay}
 use Rattle.lower.specs.declared.served.Served.{Served}
 use Rattle.lower.specs.CastWays.{cast_ways}
-use Rattle.lower.specs.CoveredPrograms.{all_covered}
 use Rattle.lower.specs.Lowered.{low_proc, entry_proc, lowered}
 use Rattle.lower.specs.Keeping.{KeepsFlat, PaysFlat}
 use Rattle.lower.specs.SimulationClaims.{AreNarrow, IsLowered, StorageIsWhole}
@@ -177,7 +176,6 @@ pub record IsMade (program : Program) (nodes : List Node) (rows : List CastRow) 
   pub words : All (λ w. w < 2 ^ 64) statics.words
   pub cast_words : All (λ w. w < 2 ^ 64) statics.cast_at
   pub closed : is_closed procs entry ≡ true
-  pub covered : all_covered procs ≡ true
   pub narrow : AreNarrow procs
   pub levels : HaveLevels (measures_of program).size procs
   pub short : statics_len image + code_len image ≤ 8589934592
@@ -249,8 +247,8 @@ module _ {program : Program} {rows : List CastRow} {term : RowTerm} {answer : �
         (told_of program answer) (row_casts rows) input lowered_here
         (top_low is at made_so.words region stack r s world made_so.short) is.is_image.labels_are row_is refl
         (at.types_stand [] begin.layout.region tallest (width_of program.types) (no_wider program.types))
-        (casts_held at made_so.coercions made_so.cast_words begin.layout.region low) made_so.closed made_so.covered
-        made_so.narrow (follower_never_goes_wrong (flat_follows passed input))
+        (casts_held at made_so.coercions made_so.cast_words begin.layout.region low) made_so.closed made_so.narrow
+        (follower_never_goes_wrong (flat_follows passed input))
 
     pub words_never_wrong : NeverWrong words_run
     words_never_wrong = follower_never_goes_wrong (follows_of words_follow)
@@ -288,8 +286,8 @@ module _ {program : Program} {rows : List CastRow} {term : RowTerm} {answer : �
         (top_low is at made_so.words region stack r s world made_so.short) is.is_image.labels_are row_is refl
         (at.types_stand [] begin.layout.region tallest (width_of program.types) (no_wider program.types))
         (record { wide = le_refl (width_of program.types); two = omega arith; tall = tall })
-        (casts_held at made_so.coercions made_so.cast_words begin.layout.region low) made_so.closed made_so.covered
-        made_so.narrow few_words (follower_never_goes_wrong (flat_follows passed input))
+        (casts_held at made_so.coercions made_so.cast_words begin.layout.region low) made_so.closed made_so.narrow
+        few_words (follower_never_goes_wrong (flat_follows passed input))
 
     -- the machine lacks stack only where that run exceeds it
     pub lacks_stack : any_calls 6 set.procs ≡ false → (m : ℕ) (t : State) → run_of m begin ≡ (t, Some (Lacks Stack))
@@ -359,7 +357,6 @@ pub record Passes (program : Program) (nodes : List Node) (rows : List CastRow) 
   pub words : All (λ w. w < 2 ^ 64) statics.words
   pub cast_words : All (λ w. w < 2 ^ 64) statics.cast_at
   pub closed : is_closed procs entry ≡ true
-  pub covered : all_covered (converted term) ≡ true
   pub narrow : all_narrow procs ≡ true
   pub levels : HaveLevels (measures_of program).size procs
   pub short : statics_len image + code_len image ≤ 8589934592
@@ -394,7 +391,6 @@ module _ {program : Program} {nodes : List Node} {rows : List CastRow} {term : R
     cast_words = p.cast_words;
     closed = subst (λ e. is_closed (converted term) e ≡ true) p.entry_is
         (subst (λ ps. is_closed ps entry ≡ true) p.procs_are p.closed);
-    covered = p.covered;
     narrow = procedures_are_narrow (converted term) (subst (λ ps. all_narrow ps ≡ true) p.procs_are p.narrow);
     levels = subst (HaveLevels (measures_of program).size) p.procs_are p.levels;
     short = p.short;

@@ -1,5 +1,4 @@
-pub mod Covered
-pub mod UsesPass
+pub mod PartWords
 pub mod LabelsLow
 pub mod HeldCasts
 pub mod Starting

@@ -3,6 +3,7 @@
 use flat_ir::code::{FlatBody, Operand, Operands, Operation};
 use flat_ir::programs::{FlatProc, FlatProcs, FlatProgram};
 use grift_base::lists::OutOfMemory;
+use grift_base::operators::PrimOp;
 use grift_base::places::TypeId;
 use std::alloc::Global;
 use std::test::Fail;
@@ -54,6 +55,27 @@ fn names_and_procedures_are_there(rt: HostRuntime) -> Result<(), Fail> {
         };
         assert!(rt; program.is_closed() == closed, "{captured:?} {entry}");
     }
+    Ok(())
+}
+
+// A procedure alone, whose body is an operator with these operands.
+fn operator_alone(alloc: Global, operands: &[Operand]) -> Result<FlatProgram, OutOfMemory> {
+    let operands = Operands::from_slice(alloc, operands)?;
+    let body = FlatBody::Give(Operation::Prim(PrimOp::Add, operands));
+    let mut procs = FlatProcs::new(alloc);
+    procs.push(proc(0, 0, 0, 0, body))?;
+    Ok(FlatProgram {
+        procs,
+        entry: 0,
+        answer: TypeId(0),
+    })
+}
+
+#[test]
+fn operators_have_eight_operands_at_most(rt: HostRuntime) -> Result<(), Fail> {
+    let eight = operator_alone(rt.alloc(), &[Operand::Unit; 8])?;
+    let nine = operator_alone(rt.alloc(), &[Operand::Unit; 9])?;
+    assert!(rt; eight.is_closed() && !nine.is_closed());
     Ok(())
 }
 

@@ -1,5 +1,6 @@
--- Programs in which every name is bound before it is used, with its level, and every procedure that is named is there.
-use Rattle.std.specs.Prelude.{ℕ, suc, ◌+◌, ◌==◌, ◌&&◌, ◌||◌, nat_lt, nat_le, Bool, true, false, List, [], ◌∷◌, length}
+-- Programs in which every name is bound before it is used, with its level, every procedure that is named is there, and
+-- what is written in code fits: integers, numbers of parts and labels in words, operands and parts in number.
+use Rattle.std.specs.Prelude.{ℕ, ℤ, suc, ◌+◌, ◌==◌, ◌&&◌, ◌||◌, nat_lt, nat_le, Bool, true, false, List, [], ◌∷◌, length}
 use Rattle.std.specs.Prelude.{Option, Some, None, slice_get}
 use Rattle.std.specs.Int.{int_wrap, w64}
 use Rattle.std.specs.Ordering.{int_eq}
@@ -9,6 +10,10 @@ use Rattle.flat_ir.specs.declared.code.Operand.TheVariants.{Unit as UnitCase}
 use Rattle.flat_ir.specs.declared.code.Operation.{Operation}
 use Rattle.flat_ir.specs.declared.code.Operation.TheVariants.{Move, Prim, Cast, Tuple, Proj, ProjDyn}
 use Rattle.flat_ir.specs.Bodies.{Body, Give, Call, Choose, LetBody, LetGroup, Proc}
+
+-- the number of a part of what is in Dyn is one of 64 bits with a sign, and its label one of 32
+abbrev pub part_has_words : ℤ → ℕ → Bool
+part_has_words k label = nat_lt label 4294967296 && int_eq (int_wrap w64 k) k
 
 -- with so many captured names and functions in the group
 module _ (captured group : ℕ) where
@@ -27,11 +32,11 @@ module _ (captured group : ℕ) where
 
   abbrev pub operation_bound : ℕ → Operation → Bool
   operation_bound depth (Move o) = operand_bound depth o
-  operation_bound depth (Prim operator os) = operands_bound depth os
+  operation_bound depth (Prim operator os) = operands_bound depth os && nat_le (length os) 8
   operation_bound depth (Cast o number) = operand_bound depth o
   operation_bound depth (Tuple os) = operands_bound depth os && (nat_le 1 (length os) && nat_le (length os) 8)
   operation_bound depth (Proj o k) = operand_bound depth o
-  operation_bound depth (ProjDyn o k label) = operand_bound depth o
+  operation_bound depth (ProjDyn o k label) = operand_bound depth o && part_has_words k label.0
 
 -- the first procedure of a group of so many functions, one at least, with so many captured names
 abbrev pub begins_group : Option Proc → ℕ → ℕ → Bool

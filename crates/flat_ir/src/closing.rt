@@ -14,6 +14,9 @@ const MOST_ARGUMENTS: u32 = 6;
 /// The most parts of a tuple.
 const MOST_PARTS: u64 = 8;
 
+/// The most operands of an operator.
+const MOST_OPERANDS: u64 = 8;
+
 /// What a procedure knows beside its local names: how many names it has captured, and how many functions its group has.
 #[derive(Clone, Copy, PartialEq, Eq, Debug)]
 struct Known {
@@ -46,16 +49,23 @@ impl Known {
         true
     }
 
-    // Whether what an operation names is bound, and a tuple has 1 to 8 parts.
+    // Whether what an operation names is bound, an operator has 8 operands at most, and a tuple has 1 to 8 parts. The
+    // number of a part and a label always have as many bits as are asked for.
     fn operation_bound(self, depth: u64, operation: &Operation) -> bool
         ensures { result ≡ operation_bound self.captured self.group depth operation.now }
     {
         match operation {
-            Operation::Move(o)
-            | Operation::Cast(o, _)
-            | Operation::Proj(o, _)
-            | Operation::ProjDyn(o, _, _) => self.operand_bound(depth, *o),
-            Operation::Prim(_, operands) => self.operands_bound(depth, operands),
+            Operation::Move(o) | Operation::Cast(o, _) | Operation::Proj(o, _) => {
+                self.operand_bound(depth, *o)
+            }
+            Operation::ProjDyn(o, part, label) => {
+                let _part = *part;
+                let _label = label.0;
+                self.operand_bound(depth, *o)
+            }
+            Operation::Prim(_, operands) => {
+                self.operands_bound(depth, operands) && operands.len() <= MOST_OPERANDS
+            }
             Operation::Tuple(parts) => {
                 self.operands_bound(depth, parts) && 1 <= parts.len() && parts.len() <= MOST_PARTS
             }

@@ -33,11 +33,11 @@ pub struct FlatProgram {
 
 impl FlatProgram {
     /// Whether each name is bound before it is used and has its level (parameters from 0 on, each name bound inside the
-    /// next one); whether each integer has 64 bits; whether each procedure that is named by its number is there, and a
-    /// group's functions stand one behind the other, with as many captured names as the group is given; whether no
-    /// procedure has more than 6 parameters and no call more than 6 arguments; whether every tuple has 1 to 8 parts;
-    /// and whether the procedure that the program begins with has no parameters and no captured names, and belongs to
-    /// no group.
+    /// next one); whether each integer and each number of a part of what is in Dyn has 64 bits, and each label 32;
+    /// whether each procedure that is named by its number is there, and a group's functions stand one behind the other,
+    /// with as many captured names as the group is given; whether no procedure has more than 6 parameters, no call more
+    /// than 6 arguments and no operator more than 8 operands; whether every tuple has 1 to 8 parts; and whether the
+    /// procedure that the program begins with has no parameters and no captured names, and belongs to no group.
     pub fn is_closed(&self) -> bool
         ensures { result ≡ is_closed (procs_of self.now.procs) self.now.entry }
     {

@@ -8,6 +8,10 @@ use Rattle.grift_base.specs.declared.operators.PrimOp.TheVariants.{Add, Sub, Mul
 use Rattle.grift_base.specs.declared.operators.PrimOp.TheVariants.{Gt, Not, PrintInt, Newline, ReadInt, MakeBox}
 use Rattle.grift_base.specs.declared.operators.PrimOp.TheVariants.{Unbox, BoxSet, MakeVector, VectorRef, VectorSet}
 use Rattle.grift_base.specs.declared.operators.PrimOp.TheVariants.{VectorLength}
+use Rattle.grift_base.specs.declared.verdicts.Trap.TheVariants.{Input}
+use Rattle.grift_base.specs.Trap.{trap_number}
+use Rattle.object_layout.specs.declared.kinds.Kind.TheVariants.{Closure, Tuple as TupleKind, Boxed}
+use Rattle.object_layout.specs.Kinds.{kind_number}
 use Rattle.rv_isa.specs.declared.inst.Cond.TheVariants.{Eq, Ne}
 use Rattle.low_ir.specs.declared.code.WordOp.TheVariants.{Add as Plus, Sub as Minus, And, Xor, Sll, Sra, Slt, Sltu}
 use Rattle.low_ir.specs.declared.code.LowSource.{LowSource}
@@ -20,17 +24,20 @@ use Rattle.flat_ir.specs.declared.code.Operand.TheVariants.{Unit as UnitCase}
 use Rattle.flat_ir.specs.declared.code.Operation.{Operation}
 use Rattle.flat_ir.specs.declared.code.Operation.TheVariants.{Move, Prim, Cast, Tuple, Proj, ProjDyn}
 use Rattle.flat_ir.specs.Bodies.{Body, Give, Call, Choose, LetBody, LetGroup}
+use Rattle.rt_cast.specs.Words.{count_unit, kind_mask, tag_bits, tag_mask}
+use Rattle.rt_refs.specs.TrapCodes.{trap_call}
 use Rattle.lower.specs.declared.numbering.Shape.{Shape}
 use Rattle.lower.specs.declared.served.CastWay.{CastWay}
 use Rattle.lower.specs.declared.served.CastWay.TheVariants.{Called, IntoDyn, OutOfDyn}
 use Rattle.lower.specs.declared.served.Served.{Served}
 use Rattle.lower.specs.CastWays.{tag_number, way_at}
+use Rattle.lower.specs.EnvironmentCalls.{print_int_call, print_byte_call, read_int_call, line_feed}
 use Rattle.lower.specs.Numbering.{own_word, operand_word, test_word, local_word, function_offset}
 use Rattle.lower.specs.Numbering.{captured_offset}
 
 -- the header of an object of a kind with so many words, height 0
 abbrev pub header : ℕ → ℕ → ℕ
-header kind count = kind + 4294967296 * count
+header kind count = kind + count_unit * count
 
 -- the word of a cast; that of none is 0
 abbrev pub cast_word : Option ℕ → ℕ
@@ -93,7 +100,7 @@ found_all s i (o ∷ os) = found s (operand_word s i) o ∷ found_all s (suc i) 
 abbrev pub of_kind : Shape → LowSource → ℕ → Code → Code → Code → Code
 of_kind s o kind one other k =
     Load (test_word s) o 0 (
-    Compute And (test_word s) (Word (test_word s)) (Number 255) (
+    Compute And (test_word s) (Word (test_word s)) (Number kind_mask) (
     If Eq (Word (test_word s)) (Number kind) one other k))
 
 -- the other truth value
@@ -103,8 +110,9 @@ turned d k = Compute Xor d (Word d) (Number 1) k
 -- the next number of the input is put into a word; where there is none, the program traps
 abbrev pub read_number : Shape → ℕ → Code → Code
 read_number s d k =
-    Environment 7 (Number 0) (Number 0) (operand_word s 0) (test_word s) (
-    If Ne (Word (test_word s)) (Number 0) (Environment 4 (Number 4) (Number 0) (test_word s) (test_word s) Done) Done (
+    Environment read_int_call (Number 0) (Number 0) (operand_word s 0) (test_word s) (
+    If Ne (Word (test_word s)) (Number 0)
+    (Environment trap_call (Number (trap_number Input)) (Number 0) (test_word s) (test_word s) Done) Done (
     Set d (Word (operand_word s 0)) k))
 
 -- a source by its place; of an operand that isn't there, which no program lacks, it is 0
@@ -130,15 +138,15 @@ module _ (run : Served) where
   operator s d Equal a b c k = Compute Xor d a b (Compute Sltu d (Word d) (Number 1) k)
   operator s d Not a b c k = Compute Xor d a (Number 1) k
   operator s d PrintInt a b c k =
-      Environment 1 a (Number 0) (test_word s) (test_word s) (Set d (Number 0) k)
+      Environment print_int_call a (Number 0) (test_word s) (test_word s) (Set d (Number 0) k)
   operator s d Newline a b c k =
-      Environment 2 (Number 10) (Number 0) (test_word s) (test_word s) (Set d (Number 0) k)
+      Environment print_byte_call (Number line_feed) (Number 0) (test_word s) (test_word s) (Set d (Number 0) k)
   operator s d ReadInt a b c k = read_number s d k
-  operator s d MakeBox a b c k = Build d (Number (header 5 1) ∷ a ∷ []) k
+  operator s d MakeBox a b c k = Build d (Number (header (kind_number Boxed) 1) ∷ a ∷ []) k
   operator s d Unbox a b c k =
-      of_kind s a 5 (Load d a 8 Done) (CallOf d run.read (Number 0 ∷ a ∷ Number 0 ∷ []) Done) k
+      of_kind s a (kind_number Boxed) (Load d a 8 Done) (CallOf d run.read (Number 0 ∷ a ∷ Number 0 ∷ []) Done) k
   operator s d BoxSet a b c k =
-      of_kind s a 5 (Store b a 8 (Set d (Number 0) Done))
+      of_kind s a (kind_number Boxed) (Store b a 8 (Set d (Number 0) Done))
       (CallOf d run.write (Number 0 ∷ a ∷ Number 0 ∷ b ∷ []) Done) k
   operator s d MakeVector a b c k = CallOf d run.fill (a ∷ b ∷ []) k
   operator s d VectorRef a b c k = CallOf d run.read (Number 1 ∷ a ∷ b ∷ []) k
@@ -149,7 +157,7 @@ module _ (run : Served) where
   abbrev pub part : Shape → ℕ → LowSource → ℤ → Code → Code
   part s d a (pos i) k =
       if nat_lt i 8
-      then of_kind s a 4 (Load d a (8 + 8 * i) Done)
+      then of_kind s a (kind_number TupleKind) (Load d a (8 + 8 * i) Done)
       (CallOf d run.project (a ∷ Number i ∷ Number 1 ∷ Number 0 ∷ []) Done) k
       else CallOf d run.project (a ∷ Number (cast_unsigned w64 (pos i)) ∷ Number 1 ∷ Number 0 ∷ []) k
   part s d a (negsuc i) k =
@@ -164,15 +172,15 @@ module _ (run : Served) where
   abbrev pub make_cast : Shape → ℕ → LowSource → ℕ → CastWay → Code → Code
   make_cast s d a number Called k = call_cast d a number k
   make_cast s d a number (IntoDyn tag) k =
-      Compute Sll (test_word s) a (Number 3) (
-      Compute Sra (operand_word s 1) (Word (test_word s)) (Number 3) (
+      Compute Sll (test_word s) a (Number tag_bits) (
+      Compute Sra (operand_word s 1) (Word (test_word s)) (Number tag_bits) (
       If Eq (Word (operand_word s 1)) a
       (Compute Plus d (Word (test_word s)) (Number (tag_number tag)) Done)
       (call_cast d a number Done) k))
   make_cast s d a number (OutOfDyn tag) k =
-      Compute And (test_word s) a (Number 7) (
+      Compute And (test_word s) a (Number tag_mask) (
       If Eq (Word (test_word s)) (Number (tag_number tag))
-      (Compute Sra d a (Number 3) Done)
+      (Compute Sra d a (Number tag_bits) Done)
       (call_cast d a number Done) k)
 
   -- the value of an operation is put into a word
@@ -184,7 +192,7 @@ module _ (run : Served) where
   perform s d (Cast o number) k =
       fetch s (operand_word s 0) o (
       make_cast s d (found s (operand_word s 0) o) number (way_at (slice_get run.ways number)) k)
-  perform s d (Tuple os) k = fetch_all s 0 os (Build d (Number (header 4 (length os)) ∷ found_all s 0 os) k)
+  perform s d (Tuple os) k = fetch_all s 0 os (Build d (Number (header (kind_number TupleKind) (length os)) ∷ found_all s 0 os) k)
   perform s d (Proj o i) k = fetch s (operand_word s 0) o (part s d (found s (operand_word s 0) o) i k)
   perform s d (ProjDyn o i label) k =
       fetch s (operand_word s 0) o (
@@ -205,7 +213,7 @@ store_captured s d i (o ∷ os) k =
 abbrev pub store_others : Shape → ℕ → ℕ → ℕ → ℕ → ℕ → Code → Code
 store_others s d captured first i zero k = k
 store_others s d captured first i (suc n) k =
-    store_far (test_word s) d (Number (header 1 1)) (function_offset captured i) (
+    store_far (test_word s) d (Number (header (kind_number Closure) 1)) (function_offset captured i) (
     CodeOf (operand_word s 0) (first + i) (
     store_far (test_word s) d (Word (operand_word s 0)) (function_offset captured i + 8) (
     store_others s d captured first (suc i) n k)))
@@ -227,7 +235,7 @@ abbrev pub make_group : Shape → ℕ → ℕ → ℕ → List Operand → Code 
 make_group s slot first others captured k =
     let d = local_word s slot in
     Request d (Number (group_words (length captured) others)) (
-    Store (Number (header 1 (suc (length captured)))) (Word d) 0 (
+    Store (Number (header (kind_number Closure) (suc (length captured)))) (Word d) 0 (
     CodeOf (operand_word s 0) first (
     Store (Word (operand_word s 0)) (Word d) 8 (
     store_captured s d 0 captured (
@@ -271,10 +279,10 @@ module _ (run : Served) where
   -- a call of any function, by the code address in its object where that is no proxy
   abbrev pub call : Shape → LowSource → List LowSource → Then → Code
   call s f os ToCaller =
-      of_kind s f 1 (Load (test_word s) f 8 (TailCallAt (Word (test_word s)) (f ∷ os))) Done (
+      of_kind s f (kind_number Closure) (Load (test_word s) f 8 (TailCallAt (Word (test_word s)) (f ∷ os))) Done (
       TailCall run.apply (apply_words f os))
   call s f os (Into d k) =
-      of_kind s f 1 (Load (test_word s) f 8 (CallAt d (Word (test_word s)) (f ∷ os) Done))
+      of_kind s f (kind_number Closure) (Load (test_word s) f 8 (CallAt d (Word (test_word s)) (f ∷ os) Done))
       (CallOf d run.apply (apply_words f os) Done) k
 
   -- a call of a function that is known to be no proxy, or of any

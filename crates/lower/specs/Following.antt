@@ -22,7 +22,6 @@ use Rattle.flat_ir.specs.Machine.{first_world}
 use Rattle.rt_cast.specs.States.{Placed}
 use Rattle.lower.specs.declared.served.Served.{Served}
 use Rattle.lower.specs.CastWays.{cast_ways}
-use Rattle.lower.specs.CoveredPrograms.{all_covered}
 use Rattle.lower.specs.Keeping.{FitsMeasures, KeepsFlat, PaysFlat}
 use Rattle.lower.specs.Lowered.{entry_proc}
 use Rattle.lower.specs.Meanings.{Meaning}
@@ -65,7 +64,7 @@ WordsFollow meaning procs_from numbers_from =
     (procs_from first) memory → setting.top < 2 ^ 34 → setting.labels ≡ told.labels
     → row_at told.types told.answer ≡ Some answer
     → told.types ≡ l.types → TypesStand l → meaning.CastWords l casts words → is_closed procs entry ≡ true
-    → all_covered procs ≡ true → AreNarrow procs
+    → AreNarrow procs
     → NeverWrong (flat_run_in procs entry (meaning.mode told.types casts) told input)
     → FollowsBy (λ shown counts. Passes meaning setting l shown counts.wraps) Any
     (run (low_machine ending_of setting) (low_start setting (entry_proc entry answer) memory (first_world input)))
@@ -83,7 +82,7 @@ WordsKeep meaning procs_from numbers_from =
     (procs_from first) memory → setting.top < 2 ^ 34 → setting.labels ≡ told.labels
     → row_at told.types told.answer ≡ Some answer
     → told.types ≡ l.types → TypesStand l → FitsMeasures l m → meaning.CastWords l casts words
-    → is_closed procs entry ≡ true → all_covered procs ≡ true → AreNarrow procs
+    → is_closed procs entry ≡ true → AreNarrow procs
     → All (λ (p : LowProc). p.words ≤ most) setting.procs
     → NeverWrong (flat_run_in procs entry (meaning.mode told.types casts) told input)
     → FollowsWithin (KeepsFlat setting (meaning.serving l) most) PaysFlat

@@ -1,15 +1,15 @@
 pub mod Numbering
 pub mod CastWays
+pub mod EnvironmentCalls
 pub mod Emit
 pub mod Lowered
 pub mod Steps
 pub mod Serving
 pub mod Sets
-pub mod CoveredPrograms
 pub mod Meanings
 pub mod Storage
 pub mod CarriedValues
-pub mod RelatedStates
+pub mod Relation
 pub mod SimulationServices
 pub mod SchemeLaws
 pub mod SimulationClaims

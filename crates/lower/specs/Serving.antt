@@ -1,10 +1,6 @@
--- What is asked of the procedures that serve, and of the operators of a flat program.
-use Rattle.std.specs.Prelude.{ℕ, suc, ◌≡◌, ◌&&◌, ◌==◌, nat_le, nat_lt, Bool, true, false, List, [], ◌∷◌, length, Option}
-use Rattle.std.specs.Prelude.{Some, None}
-use Rattle.std.specs.Prelude.{slice_get}
-use Rattle.flat_ir.specs.declared.code.Operation.{Operation}
-use Rattle.flat_ir.specs.declared.code.Operation.TheVariants.{Prim}
-use Rattle.flat_ir.specs.Bodies.{Body, Give, Call, Choose, LetBody, LetGroup, Proc as FlatProc}
+-- What is asked of the procedures that serve, and of what those of a flat program capture.
+use Rattle.std.specs.Prelude.{ℕ, suc, ◌≡◌, ◌&&◌, ◌==◌, nat_lt, Bool, true, false, List, [], ◌∷◌, Option, Some, None, slice_get}
+use Rattle.flat_ir.specs.Bodies.{Proc as FlatProc}
 use Rattle.low_ir.specs.Procedures.{Proc}
 use Rattle.lower.specs.declared.served.Served.{Served}
 
@@ -31,24 +27,6 @@ pub record Serve (run : Served) (procs : List Proc) : Type 0 where
   pub multiply : takes 2 (slice_get procs run.multiply) ≡ true
   -- a dividend, a divisor, and 0 for the quotient or 1 for the remainder
   pub divide : takes 3 (slice_get procs run.divide) ≡ true
-
--- an operator has no more operands than there are words for them
-abbrev pub operands_have_words : Operation → Bool
-operands_have_words (Prim op os) = nat_le (length os) 8
-operands_have_words o = true
-
--- so of each operator in a body
-abbrev pub operators_have_words : Body → Bool
-operators_have_words (Give op) = operands_have_words op
-operators_have_words (Call f os) = true
-operators_have_words (Choose o a b) = operators_have_words a && operators_have_words b
-operators_have_words (LetBody slot inner rest) = operators_have_words inner && operators_have_words rest
-operators_have_words (LetGroup slot first count captured rest) = operators_have_words rest
-
--- so of each operator of a program
-abbrev pub all_have_words : List FlatProc → Bool
-all_have_words [] = true
-all_have_words (p ∷ ps) = operators_have_words p.body && all_have_words ps
 
 -- what each procedure captures, and one more, and how many functions its group has, is counted by numbers of 32 bits
 abbrev pub all_narrow : List FlatProc → Bool

@@ -3,6 +3,8 @@
 ghost use Rattle.std.specs.Prelude.{◌≡◌, IfOk, OnOk};
 ghost use Rattle.grift_base.specs.Types.{DynRow};
 ghost use Rattle.type_graph.specs.Rows.{row_of};
+ghost use Rattle.grift_base.specs.AnswerKind.{answer_kind_number};
+ghost use Rattle.object_layout.specs.Kinds.{kind_number};
 ghost use Rattle.rv_isa.specs.declared.inst.Cond.TheVariants.{Eq};
 ghost use Rattle.low_ir.specs.declared.code.LowSource.TheVariants.{Word, Number};
 ghost use Rattle.low_ir.specs.Procedures.{Done, If};
@@ -10,21 +12,26 @@ ghost use Rattle.low_ir.specs.Views.{code_of, proc_of};
 ghost use Rattle.lower.specs.Lowered.{ends, entry_proc, open_object, open_small, show_by, show_compound, show_kept};
 ghost use Rattle.lower.specs.Steps.{Adds};
 
+use crate::environment_calls::END_CALL;
 use crate::steps::{Step, Steps};
 use grift_base::lists::OutOfMemory;
+use grift_base::verdicts::AnswerKind;
 use low_ir::code::LowSource::{Number, Word};
 use low_ir::code::{LowCode, LowSource, LowSources, WordOp};
 use low_ir::programs::LowProc;
+use object_layout::kinds::Kind;
+use rt_cast::words::{KIND_MASK, TAG_BITS, TAG_MASK, TYPE_OVER_TAG};
 use rv_isa::inst::Cond;
 use std::alloc::Global;
 use type_graph::rows::Row;
 
 // The run ends with an answer of a kind and a word.
-fn ends(alloc: Global, kind: u64, word: LowSource) -> Result<LowCode, OutOfMemory>
-    ensures { IfOk result (λ code. code_of code ≡ ends kind word) }
+fn ends(alloc: Global, kind: AnswerKind, word: LowSource) -> Result<LowCode, OutOfMemory>
+    ensures { IfOk result (λ code. code_of code ≡ ends (answer_kind_number kind) word) }
 {
     let mut steps = Steps::new(alloc);
-    steps.push(Step::Environment(0, Number(kind), word, 1, 1))?;
+    let kind = Number(u64::from(kind.number()));
+    steps.push(Step::Environment(END_CALL, kind, word, 1, 1))?;
     steps.before(LowCode::Return(Number(0)))
 }
 
@@ -32,15 +39,16 @@ fn ends(alloc: Global, kind: u64, word: LowSource) -> Result<LowCode, OutOfMemor
 fn ends_if(
     alloc: Global,
     steps: &mut Steps,
-    type_kind: u64,
-    kind: u64,
+    kept: Kind,
+    kind: AnswerKind,
     word: LowSource,
 ) -> Result<(), OutOfMemory>
     ensures { OnOk result (Adds steps.old.steps.items steps.new.steps.items
-        (λ k. If Eq (Word 1) (Number type_kind) (ends kind word) Done k)) }
+        (λ k. If Eq (Word 1) (Number (kind_number kept)) (ends (answer_kind_number kind) word) Done k)) }
 {
     let end = ends(alloc, kind, word)?;
-    steps.push(Step::If(Cond::Eq, Word(1), Number(type_kind), end, LowCode::Done))
+    let kept = Number(u64::from(kept.number()));
+    steps.push(Step::If(Cond::Eq, Word(1), kept, end, LowCode::Done))
 }
 
 // The end for a value in Dyn that has parts, whose type's kind is in word 1.
@@ -48,10 +56,11 @@ fn show_compound(alloc: Global) -> Result<LowCode, OutOfMemory>
     ensures { IfOk result (λ code. code_of code ≡ show_compound) }
 {
     let mut steps = Steps::new(alloc);
-    ends_if(alloc, &mut steps, 20, 3, Number(0))?;
-    ends_if(alloc, &mut steps, 21, 4, Number(0))?;
-    ends_if(alloc, &mut steps, 22, 5, Number(0))?;
-    steps.before(ends(alloc, 6, Number(0))?)
+    let zero = Number(0);
+    ends_if(alloc, &mut steps, Kind::FunType, AnswerKind::Function, zero)?;
+    ends_if(alloc, &mut steps, Kind::TupleType, AnswerKind::Tuple, zero)?;
+    ends_if(alloc, &mut steps, Kind::RefType, AnswerKind::Boxed, zero)?;
+    steps.before(ends(alloc, AnswerKind::Vector, zero)?)
 }
 
 // The end for any value in Dyn, whose type's kind is in word 1, and whose word is in word 2.
@@ -59,9 +68,15 @@ fn show_kept(alloc: Global) -> Result<LowCode, OutOfMemory>
     ensures { IfOk result (λ code. code_of code ≡ show_kept) }
 {
     let mut steps = Steps::new(alloc);
-    ends_if(alloc, &mut steps, 16, 0, Word(2))?;
-    ends_if(alloc, &mut steps, 17, 1, Word(2))?;
-    ends_if(alloc, &mut steps, 18, 2, Number(0))?;
+    ends_if(alloc, &mut steps, Kind::IntType, AnswerKind::Int, Word(2))?;
+    ends_if(alloc, &mut steps, Kind::BoolType, AnswerKind::Bool, Word(2))?;
+    ends_if(
+        alloc,
+        &mut steps,
+        Kind::UnitType,
+        AnswerKind::Unit,
+        Number(0),
+    )?;
     steps.before(show_compound(alloc)?)
 }
 
@@ -72,7 +87,7 @@ fn open_object(alloc: Global) -> Result<LowCode, OutOfMemory>
     let mut steps = Steps::new(alloc);
     steps.push(Step::Load(1, Word(0), 8))?;
     steps.push(Step::Load(1, Word(1), 0))?;
-    steps.push(Step::Compute(WordOp::And, 1, Word(1), Number(255)))?;
+    steps.push(Step::Compute(WordOp::And, 1, Word(1), Number(KIND_MASK)))?;
     steps.push(Step::Load(2, Word(0), 16))?;
     steps.before(LowCode::Done)
 }
@@ -82,8 +97,8 @@ fn open_small(alloc: Global) -> Result<LowCode, OutOfMemory>
     ensures { IfOk result (λ code. code_of code ≡ open_small) }
 {
     let mut steps = Steps::new(alloc);
-    steps.push(Step::Compute(WordOp::Add, 1, Word(1), Number(15)))?;
-    steps.push(Step::Compute(WordOp::Sra, 2, Word(0), Number(3)))?;
+    steps.push(Step::Compute(WordOp::Add, 1, Word(1), Number(TYPE_OVER_TAG)))?;
+    steps.push(Step::Compute(WordOp::Sra, 2, Word(0), Number(TAG_BITS)))?;
     steps.before(LowCode::Done)
 }
 
@@ -94,7 +109,7 @@ fn show_dyn(alloc: Global) -> Result<LowCode, OutOfMemory>
     let object = open_object(alloc)?;
     let small = open_small(alloc)?;
     let mut steps = Steps::new(alloc);
-    steps.push(Step::Compute(WordOp::And, 1, Word(0), Number(7)))?;
+    steps.push(Step::Compute(WordOp::And, 1, Word(0), Number(TAG_MASK)))?;
     steps.push(Step::If(Cond::Eq, Word(1), Number(0), object, small))?;
     steps.before(show_kept(alloc)?)
 }
@@ -104,14 +119,14 @@ fn show_by(alloc: Global, row: &Row) -> Result<LowCode, OutOfMemory>
     ensures { IfOk result (λ code. code_of code ≡ show_by (row_of row.now)) }
 {
     match row {
-        Row::Int => ends(alloc, 0, Word(0)),
-        Row::Bool => ends(alloc, 1, Word(0)),
-        Row::Unit => ends(alloc, 2, Number(0)),
+        Row::Int => ends(alloc, AnswerKind::Int, Word(0)),
+        Row::Bool => ends(alloc, AnswerKind::Bool, Word(0)),
+        Row::Unit => ends(alloc, AnswerKind::Unit, Number(0)),
         Row::Dyn => show_dyn(alloc),
-        Row::Fun(..) => ends(alloc, 3, Number(0)),
-        Row::Tuple(_) => ends(alloc, 4, Number(0)),
-        Row::Ref(_) => ends(alloc, 5, Number(0)),
-        Row::Vect(_) => ends(alloc, 6, Number(0)),
+        Row::Fun(..) => ends(alloc, AnswerKind::Function, Number(0)),
+        Row::Tuple(_) => ends(alloc, AnswerKind::Tuple, Number(0)),
+        Row::Ref(_) => ends(alloc, AnswerKind::Boxed, Number(0)),
+        Row::Vect(_) => ends(alloc, AnswerKind::Vector, Number(0)),
     }
 }
 

@@ -16,10 +16,8 @@ use flat_ir::code::{FlatBody, Operand, Operands, Operation};
 use grift_base::lists::OutOfMemory;
 use low_ir::code::LowSource::{Number, Word};
 use low_ir::code::{LowCode, LowSource, LowSources};
+use object_layout::kinds::Kind;
 use rv_isa::inst::Cond;
-
-/// The kind of functions that are no proxies.
-const FUNCTION: u64 = 1;
 
 // Whether an operand is a function of the group of the procedure that runs, which is never a proxy.
 fn is_sibling(operand: Operand) -> bool
@@ -101,7 +99,7 @@ impl Emitter<'_> {
         let plain = plain.before(LowCode::Done)?;
         let words = self.apply_words(function, arguments)?;
         let applied = self.only(Step::Call(d, self.run.apply, words))?;
-        self.of_kind(steps, function, FUNCTION, (plain, applied))
+        self.of_kind(steps, function, Kind::Closure, (plain, applied))
     }
 
     // A call of a function that is no proxy, whose answer goes to the caller.
@@ -139,7 +137,7 @@ impl Emitter<'_> {
         plain.push(Step::Load(test, function, 8))?;
         let words = self.with_function(function, arguments)?;
         let plain = plain.before(LowCode::TailCallAt(Word(test), words))?;
-        self.of_kind(&mut steps, function, FUNCTION, (plain, LowCode::Done))?;
+        self.of_kind(&mut steps, function, Kind::Closure, (plain, LowCode::Done))?;
         let words = self.apply_words(function, arguments)?;
         steps.before(LowCode::TailCall(self.run.apply, words))
     }

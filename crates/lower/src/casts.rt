@@ -20,16 +20,11 @@ use grift_base::lists::OutOfMemory;
 use grift_base::places::TypeId;
 use low_ir::code::LowSource::{Number, Word};
 use low_ir::code::{LowCode, LowSource, WordOp};
+use rt_cast::words::{TAG_BITS, TAG_MASK};
 use rv_isa::inst::Cond;
 use std::alloc::Global;
 use type_graph::rows::Row;
 use type_graph::tables::TypeTable;
-
-/// How many bits a tag has.
-const TAG_BITS: u64 = 3;
-
-/// The bits of a tag.
-const TAG_MASK: u64 = 7;
 
 // Whether a type is Dyn, as one that isn't there is taken to be.
 fn is_dyn(types: &TypeTable, place: TypeId) -> bool

@@ -12,9 +12,7 @@ use flat_ir::code::Operands;
 use grift_base::lists::OutOfMemory;
 use low_ir::code::LowSource::{Number, Word};
 use low_ir::code::WordOp;
-
-/// The kind of functions.
-const FUNCTION: u64 = 1;
+use object_layout::kinds::Kind;
 
 /// A group: the local name of its first function, the number of that one's procedure, and how many functions stand
 /// behind the first.
@@ -68,7 +66,7 @@ impl Emitter<'_> {
     {
         let test = self.shape.operand_word(TEST_PLACE)?;
         let address = self.shape.operand_word(0)?;
-        let one = Number(header(FUNCTION, 1)?);
+        let one = Number(header(Kind::Closure, 1)?);
         let mut place: u32 = 1;
         let mut left = group.others;
         while left != 0 {
@@ -120,7 +118,7 @@ impl Emitter<'_> {
         let count = narrow(captured.len())?;
         let words = Number(group_words(count, group.others));
         steps.push(Step::Request(d, words))?;
-        steps.push(Step::Store(Number(header(FUNCTION, count as u64 + 1)?), Word(d), 0))?;
+        steps.push(Step::Store(Number(header(Kind::Closure, count as u64 + 1)?), Word(d), 0))?;
         steps.push(Step::CodeOf(code, group.first))?;
         steps.push(Step::Store(Word(code), Word(d), 8))?;
         self.store_captured(steps, d, captured)?;

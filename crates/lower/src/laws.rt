@@ -9,16 +9,15 @@ ghost use Rattle.low_ir.specs.Procedures.{Proc};
 ghost use Rattle.lower.specs.declared.served.CastWay.{CastWay};
 ghost use Rattle.lower.specs.declared.served.Served.{Served};
 ghost use Rattle.lower.specs.Lowered.{lowered};
-ghost use Rattle.lower.specs.Serving.{Serve, all_have_words};
+ghost use Rattle.lower.specs.Serving.{Serve};
 ghost use Rattle.lower.specs.Sets.{merged_numbers, merged_procs, with_casts};
 
-/// The procedures over words of a closed flat program, none of whose operators has more than eight operands, are closed
-/// and begin with the one behind the flat program's, whatever procedures serve them: those have only to stand there by
-/// the numbers that were told, to take as many words as they are handed, and to be closed there themselves.
+/// The procedures over words of a closed flat program are closed and begin with the one behind the flat program's,
+/// whatever procedures serve them: those have only to stand there by the numbers that were told, to take as many words
+/// as they are handed, and to be closed there themselves.
 pub fn lowered_programs_are_closed()
     ensures { (run : Served) (flat : List FlatProc) (entry : ℕ) (answer : TypeRow) (serving : List Proc)
-        → is_closed_flat flat entry ≡ true → all_have_words flat ≡ true
-        → Serve run (lowered run flat entry answer serving)
+        → is_closed_flat flat entry ≡ true → Serve run (lowered run flat entry answer serving)
         → each_closed (lowered run flat entry answer serving) serving ≡ true
         → is_closed (lowered run flat entry answer serving) (length flat) ≡ true }
 {}
@@ -27,7 +26,7 @@ pub fn lowered_programs_are_closed()
 /// are made.
 pub fn merged_programs_are_closed()
     ensures { (words : List ℕ) (ways : List CastWay) (flat : List FlatProc) (entry : ℕ) (answer : TypeRow)
-        → is_closed_flat flat entry ≡ true → all_have_words flat ≡ true → let first : ℕ = suc (length flat) in
+        → is_closed_flat flat entry ≡ true → let first : ℕ = suc (length flat) in
         is_closed (lowered (with_casts (merged_numbers first) words ways) flat entry answer (merged_procs first))
         (length flat) ≡ true }
 {}

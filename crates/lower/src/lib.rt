@@ -5,6 +5,7 @@ mod answers;
 mod bodies;
 mod casts;
 mod copies;
+mod environment_calls;
 mod groups;
 pub mod laws;
 pub mod lowering;

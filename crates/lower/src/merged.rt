@@ -12,7 +12,7 @@ ghost use Rattle.low_ir.specs.Closed.{is_closed};
 ghost use Rattle.low_ir.specs.Views.{procs_of};
 ghost use Rattle.lower.specs.CastWays.{cast_ways};
 ghost use Rattle.lower.specs.Lowered.{lowered};
-ghost use Rattle.lower.specs.Serving.{all_have_words, all_narrow};
+ghost use Rattle.lower.specs.Serving.{all_narrow};
 ghost use Rattle.lower.specs.Sets.{merged_numbers, merged_procs, with_casts};
 
 use crate::copies::push_copies;
@@ -102,8 +102,7 @@ fn are_narrow(procs: &FlatProcs) -> bool
 }
 
 /// The program over words of a flat program over the merged scheme. What stands in memory are its types and coercions,
-/// from the first address on. It is closed where the flat program is, and no operator has more operands than there are
-/// words for.
+/// from the first address on. It is closed where the flat program is.
 pub fn lower(
     alloc: Global,
     flat: &FlatProgram,
@@ -122,7 +121,7 @@ pub fn lower(
     ensures statics { IfOk result (λ low.
         AreStatics types.now coercions.now.nodes casts.now FIRST_ADDRESS low.statics) }
     ensures closed { IfOk result (λ low. is_closed_flat (flat_procs_of flat.now.procs) flat.now.entry ≡ true
-        → all_have_words (flat_procs_of flat.now.procs) ≡ true → is_closed (procs_of low.procs) low.entry ≡ true) }
+        → is_closed (procs_of low.procs) low.entry ≡ true) }
     ensures narrow { IfOk result (λ low. all_narrow (flat_procs_of flat.now.procs) ≡ true) }
 {
     if !are_narrow(&flat.procs) {

@@ -1,6 +1,8 @@
 // Operations: what gives a value and calls no procedure of the program.
 
 ghost use Rattle.std.specs.Prelude.{◌≡◌, ◌<◌, ◌∷◌, [], length, IfOk, OnOk};
+ghost use Rattle.object_layout.specs.declared.kinds.Kind.TheVariants.{Boxed as BoxedKind, Tuple as TupleKind};
+ghost use Rattle.object_layout.specs.Kinds.{kind_number};
 ghost use Rattle.low_ir.specs.declared.code.LowSource.TheVariants.{Word, Number};
 ghost use Rattle.low_ir.specs.declared.code.WordOp.TheVariants.{Xor, Slt, Sltu};
 ghost use Rattle.flat_ir.specs.declared.code.Operation.TheVariants.{ProjDyn};
@@ -12,6 +14,7 @@ ghost use Rattle.lower.specs.Emit.{source_at, turned};
 ghost use Rattle.lower.specs.Numbering.{operand_word, test_word};
 ghost use Rattle.lower.specs.Steps.{put, Adds};
 
+use crate::environment_calls::{PRINT_BYTE_CALL, PRINT_INT_CALL, READ_INT_CALL, TRAP_CALL};
 use crate::numbering::{Shape, TEST_PLACE};
 use crate::operands::{fetch, fetch_all};
 use crate::served::Served;
@@ -20,27 +23,26 @@ use flat_ir::code::{Operand, Operands, Operation};
 use grift_base::lists::OutOfMemory;
 use grift_base::operators::PrimOp;
 use grift_base::places::LabelId;
+use grift_base::verdicts::Trap;
 use low_ir::code::LowSource::{Number, Word};
 use low_ir::code::{LowCode, LowSource, LowSources, WordOp};
+use object_layout::kinds::Kind;
+use rt_cast::words::{COUNT_UNIT, KIND_MASK};
 use rv_isa::inst::Cond;
 use std::alloc::Global;
 
-/// The kind of tuples.
-const TUPLE: u64 = 4;
-
-/// The kind of boxes.
-const BOX: u64 = 5;
+// The byte of a line feed.
+const LINE_FEED: u64 = 10;
 
 /// A part of a tuple has a number below this.
 const MOST_PARTS: i64 = 8;
 
 /// The header of an object of a kind with so many words, of height 0.
-pub fn header(kind: u64, count: u64) -> Result<u64, OutOfMemory>
-    requires { kind < 256 }
-    ensures { IfOk result (λ word. word ≡ header kind count) }
+pub fn header(kind: Kind, count: u64) -> Result<u64, OutOfMemory>
+    ensures { IfOk result (λ word. word ≡ header (kind_number kind) count) }
 {
     if count <= u32::MAX as u64 {
-        Ok(kind + 4294967296 * count)
+        Ok(u64::from(kind.number()) + COUNT_UNIT * count)
     } else {
         Err(OutOfMemory)
     }
@@ -79,17 +81,18 @@ impl Emitter<'_> {
         &self,
         steps: &mut Steps,
         object: LowSource,
-        kind: u64,
+        kind: Kind,
         ways: (LowCode, LowCode),
     ) -> Result<(), OutOfMemory>
         ensures { OnOk result (Adds steps.old.steps.items steps.new.steps.items
-            (λ k. of_kind self.now.shape object kind (code_of ways.0) (code_of ways.1) k)) }
+            (λ k. of_kind self.now.shape object (kind_number kind) (code_of ways.0) (code_of ways.1) k)) }
     {
         let test = self.shape.operand_word(TEST_PLACE)?;
         let (one, other) = ways;
         steps.push(Step::Load(test, object, 0))?;
-        steps.push(Step::Compute(WordOp::And, test, Word(test), Number(255)))?;
-        steps.push(Step::If(Cond::Eq, Word(test), Number(kind), one, other))
+        steps.push(Step::Compute(WordOp::And, test, Word(test), Number(KIND_MASK)))?;
+        let kind = Number(u64::from(kind.number()));
+        steps.push(Step::If(Cond::Eq, Word(test), kind, one, other))
     }
 
     /// A procedure is called, and its answer put into a word.
@@ -158,8 +161,9 @@ impl Emitter<'_> {
     {
         let number = self.shape.operand_word(0)?;
         let test = self.shape.operand_word(TEST_PLACE)?;
-        steps.push(Step::Environment(7, Number(0), Number(0), number, test))?;
-        let trapped = self.only(Step::Environment(4, Number(4), Number(0), test, test))?;
+        let (zero, input) = (Number(0), Number(u64::from(Trap::Input.number())));
+        steps.push(Step::Environment(READ_INT_CALL, zero, zero, number, test))?;
+        let trapped = self.only(Step::Environment(TRAP_CALL, input, zero, test, test))?;
         steps.push(Step::If(Cond::Ne, Word(test), Number(0), trapped, LowCode::Done))?;
         steps.push(Step::Set(d, Word(number)))
     }
@@ -167,13 +171,13 @@ impl Emitter<'_> {
     // What is in a box.
     fn unbox(&self, steps: &mut Steps, d: u32, a: LowSource) -> Result<(), OutOfMemory>
         ensures { OnOk result (Adds steps.old.steps.items steps.new.steps.items (λ k.
-            of_kind self.now.shape a 5 (Load d a 8 Done)
+            of_kind self.now.shape a (kind_number BoxedKind) (Load d a 8 Done)
             (Call d self.now.run.now.read (Number 0 ∷ a ∷ Number 0 ∷ []) Done) k)) }
     {
         let loaded = self.only(Step::Load(d, a, 8))?;
         let words = LowSources::from_slice(self.alloc, &[Number(0), a, Number(0)])?;
         let read = self.only(Step::Call(d, self.run.read, words))?;
-        self.of_kind(steps, a, BOX, (loaded, read))
+        self.of_kind(steps, a, Kind::Boxed, (loaded, read))
     }
 
     // A new value for a box.
@@ -185,7 +189,7 @@ impl Emitter<'_> {
         b: LowSource,
     ) -> Result<(), OutOfMemory>
         ensures { OnOk result (Adds steps.old.steps.items steps.new.steps.items (λ k.
-            of_kind self.now.shape a 5 (Store b a 8 (Set d (Number 0) Done))
+            of_kind self.now.shape a (kind_number BoxedKind) (Store b a 8 (Set d (Number 0) Done))
             (Call d self.now.run.now.write (Number 0 ∷ a ∷ Number 0 ∷ b ∷ []) Done) k)) }
     {
         let mut stored = Steps::new(self.alloc);
@@ -194,15 +198,15 @@ impl Emitter<'_> {
         let stored = stored.before(LowCode::Done)?;
         let words = LowSources::from_slice(self.alloc, &[Number(0), a, Number(0), b])?;
         let written = self.only(Step::Call(d, self.run.write, words))?;
-        self.of_kind(steps, a, BOX, (stored, written))
+        self.of_kind(steps, a, Kind::Boxed, (stored, written))
     }
 
     // A box with a value.
     fn make_box(&self, steps: &mut Steps, d: u32, a: LowSource) -> Result<(), OutOfMemory>
         ensures { OnOk result (Adds steps.old.steps.items steps.new.steps.items
-            (λ k. Build d (Number (header 5 1) ∷ a ∷ []) k)) }
+            (λ k. Build d (Number (header (kind_number BoxedKind) 1) ∷ a ∷ []) k)) }
     {
-        let words = LowSources::from_slice(self.alloc, &[Number(header(BOX, 1)?), a])?;
+        let words = LowSources::from_slice(self.alloc, &[Number(header(Kind::Boxed, 1)?), a])?;
         steps.push(Step::Build(d, words))
     }
 
@@ -230,8 +234,8 @@ impl Emitter<'_> {
             PrimOp::Ge => self.compare_turned(steps, d, a, b),
             PrimOp::Eq => self.equal(steps, d, a, b),
             PrimOp::Not => steps.push(Step::Compute(WordOp::Xor, d, a, Number(1))),
-            PrimOp::PrintInt => self.environment(steps, d, 1, a),
-            PrimOp::Newline => self.environment(steps, d, 2, Number(10)),
+            PrimOp::PrintInt => self.environment(steps, d, PRINT_INT_CALL, a),
+            PrimOp::Newline => self.environment(steps, d, PRINT_BYTE_CALL, Number(LINE_FEED)),
             PrimOp::ReadInt => self.read_number(steps, d),
             PrimOp::MakeBox => self.make_box(steps, d, a),
             PrimOp::Unbox => self.unbox(steps, d, a),
@@ -253,7 +257,7 @@ impl Emitter<'_> {
             let loaded = self.only(Step::Load(d, a, 8 + 8 * i as u32))?;
             let words = LowSources::from_slice(self.alloc, &words)?;
             let taken = self.only(Step::Call(d, self.run.project, words))?;
-            self.of_kind(steps, a, TUPLE, (loaded, taken))
+            self.of_kind(steps, a, Kind::Tuple, (loaded, taken))
         } else {
             self.call(steps, d, self.run.project, &words)
         }
@@ -327,11 +331,11 @@ impl Emitter<'_> {
     // A tuple of operands.
     fn tuple(&self, steps: &mut Steps, d: u32, parts: &Operands) -> Result<(), OutOfMemory>
         ensures { OnOk result (Adds steps.old.steps.items steps.new.steps.items (λ k.
-            fetch_all self.now.shape 0 parts.now (Build d (Number (header 4 (length parts.now))
+            fetch_all self.now.shape 0 parts.now (Build d (Number (header (kind_number TupleKind) (length parts.now))
             ∷ found_all self.now.shape 0 parts.now) k))) }
     {
         let found = fetch_all(self.alloc, steps, self.shape, 0, parts)?;
-        let first = Number(header(TUPLE, parts.len())?);
+        let first = Number(header(Kind::Tuple, parts.len())?);
         let mut words = LowSources::from_slice(self.alloc, &[first])?;
         words.extend(found.as_slice())?;
         steps.push(Step::Build(d, words))

@@ -15,7 +15,6 @@ ghost use Rattle.lower.specs.CastWays.{cast_ways};
 ghost use Rattle.lower.specs.Following.{ServesEverywhere};
 ghost use Rattle.lower.specs.Lowered.{lowered};
 ghost use Rattle.lower.specs.Meanings.{Meaning, MeaningLaws};
-ghost use Rattle.lower.specs.Serving.{all_have_words};
 ghost use Rattle.lower.specs.Sets.{ServesAnywhere, numbers_of, with_casts};
 
 use crate::casts::cast_ways;
@@ -120,7 +119,7 @@ pub fn lower_over<S: Scheme>(
     ensures entry { IfOk result (λ low. low.entry ≡ length flat.now.procs) }
     ensures statics { IfOk result (λ low. low.statics ≡ statics) }
     ensures closed { IfOk result (λ low. is_closed_flat (flat_procs_of flat.now.procs) flat.now.entry ≡ true
-        → all_have_words (flat_procs_of flat.now.procs) ≡ true → is_closed (procs_of low.procs) low.entry ≡ true) }
+        → is_closed (procs_of low.procs) low.entry ≡ true) }
 {
     let entry = flat.procs.len();
     if entry > MOST_PROCS {
@@ -141,7 +140,7 @@ pub fn lower_over<S: Scheme>(
 
 /// The program over words of a flat program, whose casts are made as the scheme says where they aren't made in
 /// place: the procedures that the definition gives, behind them those of the scheme, and what stands in memory for its
-/// casts. It is closed where the flat program is, and no operator has more operands than there are words for.
+/// casts. It is closed where the flat program is.
 pub fn lower_with<S: Scheme>(
     alloc: Global,
     flat: &FlatProgram,
@@ -161,7 +160,7 @@ pub fn lower_with<S: Scheme>(
     ensures entry { IfOk result (λ low. low.entry ≡ length flat.now.procs) }
     ensures casts { IfOk result (λ low. length low.statics.cast_at ≡ length casts.now) }
     ensures closed { IfOk result (λ low. is_closed_flat (flat_procs_of flat.now.procs) flat.now.entry ≡ true
-        → all_have_words (flat_procs_of flat.now.procs) ≡ true → is_closed (procs_of low.procs) low.entry ≡ true) }
+        → is_closed (procs_of low.procs) low.entry ≡ true) }
 {
     let statics = scheme.statics(alloc, types, coercions, casts, FIRST_ADDRESS)?;
     lower_over(alloc, flat, types, casts, statics, scheme)

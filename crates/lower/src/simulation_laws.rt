@@ -17,7 +17,6 @@ ghost use Rattle.flat_ir.specs.Closed.{is_closed};
 ghost use Rattle.flat_ir.specs.Counts.{flat_run_in};
 ghost use Rattle.flat_ir.specs.Machine.{first_world};
 ghost use Rattle.lower.specs.CastWays.{cast_ways};
-ghost use Rattle.lower.specs.CoveredPrograms.{all_covered};
 ghost use Rattle.lower.specs.Following.{WordsFollow, WordsKeep};
 ghost use Rattle.lower.specs.Lowered.{entry_proc};
 ghost use Rattle.lower.specs.MergedMeaning.{MergedCasts};
@@ -48,8 +47,7 @@ pub fn words_keep_the_account<S: Scheme>(scheme: &S)
 }
 
 /// So it is in the merged mode, where a value has one proxy at most, with one coercion. At each moment of the run over
-/// words whole objects fill the region up to the allocation word, and are a row without gaps for a walk of it. The
-/// programs are those of which `all_covered` tells.
+/// words whole objects fill the region up to the allocation word, and are a row without gaps for a walk of it.
 pub fn words_follow_procedures()
     ensures storage { (setting : Setting) (l : Layout) (words : List ℕ) (procs : List Proc) (entry : ℕ)
         (answer : TypeRow) (memory : Memory) (told : Told) (casts : List TypeCast) (input : List ℕ)
@@ -58,7 +56,7 @@ pub fn words_follow_procedures()
         (merged_procs first) memory
         → setting.top < 2 ^ 34 → setting.labels ≡ told.labels → row_at told.types told.answer ≡ Some answer
         → told.types ≡ l.types → TypesStand l → MergedCasts l casts words → is_closed procs entry ≡ true
-        → all_covered procs ≡ true → AreNarrow procs
+        → AreNarrow procs
         → NeverWrong (flat_run_in procs entry (merging told.types casts) told input)
         → FollowsBy (StorageIsWhole setting l) Any
         (run (low_machine ending_of setting) (low_start setting (entry_proc entry answer) memory (first_world input)))
@@ -70,7 +68,7 @@ pub fn words_follow_procedures()
         (merged_procs first) memory
         → setting.top < 2 ^ 34 → setting.labels ≡ told.labels → row_at told.types told.answer ≡ Some answer
         → told.types ≡ l.types → TypesStand l → MergedCasts l casts words → is_closed procs entry ≡ true
-        → all_covered procs ≡ true → AreNarrow procs
+        → AreNarrow procs
         → NeverWrong (flat_run_in procs entry (merging told.types casts) told input)
         → FollowsBy (RegionIsRow setting l) Any
         (run (low_machine ending_of setting) (low_start setting (entry_proc entry answer) memory (first_world input)))

@@ -1,6 +1,9 @@
 // What first-order programs come to on the emulator.
 
+ghost use Rattle.std.specs.Prelude.{IsTrue};
 ghost use Rattle.rv_machine.specs.Start.{IsRegionSize, IsStackSize};
+ghost use Rattle.low_ir.specs.Closed.{is_closed};
+ghost use Rattle.low_ir.specs.Views.{procs_of};
 
 use flat_ir::programs::FlatProgram;
 use grift_base::lists::{Bytes, OutOfMemory};
@@ -67,6 +70,26 @@ fn low_program(alloc: Global, flat: &FlatProgram, answer: &Row) -> Result<LowPro
     })
 }
 
+// What the image of a closed program over words comes to in a region and a stack of these sizes.
+pub(crate) fn runs(
+    alloc: Global,
+    low: &LowProgram,
+    labels: &LabelTable,
+    region: u64,
+    stack: u64,
+) -> Result<Stop, OutOfMemory>
+    requires closed { IsTrue (is_closed (procs_of low.now.procs) low.now.entry) }
+    requires region { IsRegionSize region }
+    requires stack { IsStackSize stack }
+{
+    let image = image_of(alloc, low, labels)?;
+    let size = image.loaded().len() as u64 + region + stack;
+    let ram = FlatRam::new(alloc, size)?;
+    let world = World::new(alloc, Bytes::new(alloc));
+    let mut machine = Machine::load(alloc, &image, ram, region, stack, world)?;
+    Ok(machine.run(1_000_000_000))
+}
+
 // What a program of two procedures comes to in a region and a stack of these sizes; none where it isn't closed.
 pub(crate) fn comes_to(
     alloc: Global,
@@ -82,12 +105,7 @@ pub(crate) fn comes_to(
     if !flat.is_closed() || !low.is_closed() {
         return Ok(None);
     }
-    let image = image_of(alloc, &low, &LabelTable::new(alloc))?;
-    let size = image.loaded().len() as u64 + region + stack;
-    let ram = FlatRam::new(alloc, size)?;
-    let world = World::new(alloc, Bytes::new(alloc));
-    let mut machine = Machine::load(alloc, &image, ram, region, stack, world)?;
-    Ok(Some(machine.run(1_000_000_000)))
+    Ok(Some(runs(alloc, &low, &LabelTable::new(alloc), region, stack)?))
 }
 
 // The answer of a kind with this word.

@@ -5,4 +5,6 @@
 #[cfg(test)]
 mod images;
 #[cfg(test)]
+mod merged;
+#[cfg(test)]
 mod programs;

@@ -4,7 +4,8 @@ use Rattle.closure_convert.proofs.laws.procedures_of_program_terms_are_closed.Go
 
 pub returns-clause-closed : goal.returns-clause-closed
 returns-clause-closed c =
-    λ casts types labels term type widths h. converted_closed term (typed_fine casts types labels term type widths h.3)
+    λ casts types labels term type widths h words.
+    converted_closed term (typed_fine casts types labels term type widths h.3 words)
 
 pub returns-clause-names : goal.returns-clause-names
 returns-clause-names c = λ casts types labels term type h. typed_closed casts types labels term type h.3

@@ -1,5 +1,6 @@
 use Rattle.std.proofs.Common.{◌≡◌, ◌+◌, ◌<◌, ◌≤◌, ◌^◌, ℕ, List, true, ap, arith, length, sym, ◌∙◌, subst, rules}
 use Rattle.std.specs.Prelude.{All, [], Some}
+use Rattle.std.specs.List.{list_all}
 use Rattle.std.proofs.lemmas.List.{length-map}
 use Rattle.grift_base.specs.Types.{row_at}
 use Rattle.grift_base.specs.declared.places.TypeId.{TypeId}
@@ -10,11 +11,11 @@ use Rattle.core_calc.specs.Views.{term_of}
 use Rattle.cast_insert.specs.Views.{entries_of}
 use Rattle.front_end.specs.Placed.{IsPlaced, any_operator}
 use Rattle.front_end.proofs.Public.{program_type_there}
-use Rattle.lower.specs.Serving.{all_have_words}
 use Rattle.run_laws.specs.Accounts.{FollowsWithin}
 use Rattle.core_calc.specs.Account.{account, extent, measures_of}
 use Rattle.coercion_norm.specs.MergedMode.{merging}
 use Rattle.coer_core.specs.Counts.{told_of}
+use Rattle.flat_ir.specs.Closed.{is_closed as is_closed_flat}
 use Rattle.flat_ir.specs.FlatTally.{FlatBelow, FlatPaidBelow, flat_tally_in, merged_prices}
 use Rattle.flat_ir.specs.Views.{procs_of as procs_of_flat}
 use Rattle.closure_convert.specs.Conversion.{made}
@@ -28,17 +29,16 @@ use Rattle.coer_core.specs.Uses.{NumbersBelow}
 use Rattle.coer_core.specs.Views.{row_term_of}
 use Rattle.flat_ir.specs.Views.{proc_of as flat_proc_of}
 use Rattle.closure_convert.specs.Conversion.{converted}
-use Rattle.closure_convert.proofs.Public.{operators_have_few_operands, procedures_use_what_their_term_uses}
+use Rattle.closure_convert.specs.Uses.{has_words, term_uses}
 use Rattle.compile_driver.specs.Compiling.{program_over}
 use Rattle.compile_driver.specs.Parts.{HasWords}
 use Rattle.compile_driver.specs.Space.{KeepsSpace}
-use Rattle.compile_driver.proofs.Covered.{covers_all, is_covered, words_for_all}
 use Rattle.compile_driver.proofs.FewWords.{levels_within}
 use Rattle.compile_driver.proofs.Following.{HasPassed, are_made, casts_within, follows_program, keeps_space}
 use Rattle.compile_driver.proofs.Following.{no_names}
 use Rattle.compile_driver.proofs.ImageAccount.{IsMeasured, keeps_account}
 use Rattle.compile_driver.proofs.LabelsLow.{labels_low}
-use Rattle.compile_driver.proofs.UsesPass.{pass}
+use Rattle.compile_driver.proofs.PartWords.{words_fit}
 use Rattle.compile_driver.proofs.compiling.words_over.Goals as goal
 use Rattle.compile_driver.proofs.compiling.words_over.Goals.{After-drop-coer-4}
 
@@ -68,24 +68,33 @@ pub lower-requires-clause-casts : goal.lower-requires-clause-casts
 lower-requires-clause-casts c = casts_within c.args.types.now c.in_ok-coer.coer.coercions.nodes
     c.in_ok-coer.coer.casts c.in_ok-coer.ensures.coercions
 
-words_closed : (c : After-drop-coer-4) → is_closed (procs_of c.in_ok-low.low.procs) c.in_ok-low.low.entry ≡ true
-words_closed c =
+-- numbers and labels of parts of Dyn in the term are words
+uses_have_words : (c : After-drop-coer-4)
+    → list_all has_words (term_uses (row_term_of c.in_ok-coer.coer.body)) ≡ true
+uses_have_words c =
+    let elab = c.args.elab.now in
+    let coer = c.in_ok-coer.coer in
+    let entries_fit : All HasWords (entries_of elab.casts) = search rules in
+    words_fit (entries_of elab.casts) entries_fit (row_casts coer.casts) (row_term_of coer.body)
+    (subst (λ n. NumbersBelow n (row_term_of coer.body)) (sym (length-map coer.casts row_cast))
+    c.in_ok-coer.ensures.numbers)
+    (subst (IsPlaced any_operator (entries_of elab.casts)) (sym c.in_ok-coer.ensures.reads) c.requires.placed)
+
+flat_closed : (c : After-drop-coer-4)
+    → is_closed_flat (procs_of_flat c.in_ok-flat.flat.procs) c.in_ok-flat.flat.entry ≡ true
+flat_closed c =
     let types = c.args.types.now in
     let elab = c.args.elab.now in
     let coer = c.in_ok-coer.coer in
-    let flat = c.in_ok-flat.flat in
-    let term = row_term_of coer.body in
     let labels = length elab.labels in
     let low = labels_low types labels [] (term_of elab.core) [] elab.ty.0 c.requires.typed.3 in
     let typed = subst (λ t. ProgramTermHasType types labels t coer.answer.0) (sym c.in_ok-coer.ensures.reads)
     (c.in_ok-coer.ensures.answer labels low) in
-    let names = no_names (row_casts coer.casts) types labels term coer.answer.0 typed in
-    let widths = c.len.ensures.table.widths in
-    c.in_ok-low.ensures.closed (c.in_ok-flat.ensures.closed (row_casts coer.casts) types labels coer.answer.0 widths
-    typed)
-    (subst (λ ps. all_have_words ps ≡ true) (sym (c.in_ok-flat.ensures.procs names))
-    (words_for_all (converted term)
-    (operators_have_few_operands (row_casts coer.casts) types labels term coer.answer.0 widths typed)))
+    c.in_ok-flat.ensures.closed (row_casts coer.casts) types labels coer.answer.0 c.len.ensures.table.widths typed
+    (uses_have_words c)
+
+words_closed : (c : After-drop-coer-4) → is_closed (procs_of c.in_ok-low.low.procs) c.in_ok-low.low.entry ≡ true
+words_closed c = c.in_ok-low.ensures.closed (flat_closed c)
 
 -- what the passes answer is what the laws on images ask for
 answers : (c : After-drop-coer-4) (image : List ℕ)
@@ -112,11 +121,8 @@ answers c image is short =
     let row_there = c.row.ensures in
     let flat_row = subst (λ (t : TypeId). row_at types t.0 ≡ Some (row_of c.row.result.now))
     (sym c.in_ok-flat.ensures.answer) row_there in
-    let placed = subst (IsPlaced any_operator (entries_of elab.casts)) (sym c.in_ok-coer.ensures.reads)
-    c.requires.placed in
     let words : All (λ w. w < 2 ^ 64) low_program.statics.words = search rules in
     let cast_words : All (λ w. w < 2 ^ 64) low_program.statics.cast_at = search rules in
-    let entries_fit : All HasWords (entries_of elab.casts) = search rules in
     record {
       statics = low_program.statics;
       row = row_of c.row.result.now;
@@ -137,14 +143,7 @@ answers c image is short =
         coercions = c.in_ok-coer.ensures.coercions;
         words = words;
         cast_words = cast_words;
-        closed = c.in_ok-flat.ensures.closed (row_casts rows) types labels coer.answer.0 c.len.ensures.table.widths
-            typed;
-        covered = covers_all (converted term)
-            (procedures_use_what_their_term_uses term is_covered
-            (pass (entries_of elab.casts) entries_fit (row_casts rows) term
-            (subst (λ n. NumbersBelow n term) (sym (length-map rows row_cast)) c.in_ok-coer.ensures.numbers) placed))
-            (operators_have_few_operands (row_casts rows) types labels term coer.answer.0 c.len.ensures.table.widths
-            typed);
+        closed = flat_closed c;
         narrow = c.in_ok-low.ensures.narrow;
         levels = levels_within (extent (core_of (row_casts rows) term)) (extent (term_of elab.core) + length types)
             (procs_of_flat flat.procs)

@@ -1,4 +1,4 @@
-use Rattle.lower.proofs.ClosingSchemes.{merged_list}
+use Rattle.lower.proofs.closing.Schemes.{merged_list}
 use Rattle.lower.proofs.merged.merged_procs.Goals as goal
 
 pub returns : goal.returns

@@ -7,7 +7,7 @@ use Rattle.low_ir.specs.Views.{procs_of}
 use Rattle.coercion_norm.specs.Modes.{row_casts}
 use Rattle.lower.specs.CastWays.{cast_ways}
 use Rattle.lower.specs.Sets.{numbers_of, with_casts}
-use Rattle.lower.proofs.ClosingSchemes.{program_is_closed, program_is_lowered}
+use Rattle.lower.proofs.closing.Schemes.{program_is_closed, program_is_lowered}
 use Rattle.lower.proofs.schemes.lower_over.Goals as goal
 
 pub returns-clause-procs : goal.returns-clause-procs
@@ -26,7 +26,7 @@ returns-clause-procs g c = λ answer known.
     (row_at c.args.types.now flat.answer.0) (length flat.procs) c.row.ensures known at
 
 pub returns-clause-closed : goal.returns-clause-closed
-returns-clause-closed g c = λ closed few.
+returns-clause-closed g c = λ closed.
     let flat = c.args.flat.now in
     let ways = cast_ways c.args.types.now (row_casts c.args.casts.now) in
     let runs = c.in_ok-run.ensures
@@ -41,4 +41,4 @@ returns-clause-closed g c = λ closed few.
     (procs_of c.in_ok-procs.procs) (procs_of c.as_slice.result.now) (procs_of c.push_copies.new.procs)
     (c.len-entry.result + 1) c.in_ok-set.ensures.numbers (ap procs_of c.as_slice.ensures ∙ c.in_ok-set.ensures.procs)
     runs c.in_ok-procs.ensures c.in_ok-push_copies.ensures c.len-entry.result c.in_ok-set.ensures.serves
-    at many closed few
+    at many closed

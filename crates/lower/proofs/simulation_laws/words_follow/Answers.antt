@@ -1,4 +1,4 @@
-use Rattle.lower.proofs.SimulationProgram.{words_follow_by}
+use Rattle.lower.proofs.simulation.Programs.{words_follow_by}
 use Rattle.lower.proofs.simulation_laws.words_follow.Goals as goal
 
 pub returns : goal.returns

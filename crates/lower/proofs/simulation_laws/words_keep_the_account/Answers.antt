@@ -1,4 +1,4 @@
-use Rattle.lower.proofs.SimulationProgram.{words_keep_by}
+use Rattle.lower.proofs.simulation.Programs.{words_keep_by}
 use Rattle.lower.proofs.simulation_laws.words_keep_the_account.Goals as goal
 
 pub returns : goal.returns

@@ -55,7 +55,7 @@ use Rattle.closure_convert.proofs.Opening.{kept_none, kept_opened, kept_then, op
 use Rattle.closure_convert.proofs.Opening.{undone_kept}
 use Rattle.closure_convert.proofs.Placing.{Placed, bindings_adds, bindings_more, gather_adds, gather_more, placed_in}
 use Rattle.closure_convert.proofs.Placing.{placed_last, placed_there, sequence_last, sequence_more}
-use Rattle.closure_convert.proofs.Relation.{numbered_long}
+use Rattle.closure_convert.proofs.Carrying.{numbered_long}
 use Rattle.closure_convert.proofs.Scoping.{counted_long}
 use Rattle.closure_convert.proofs.Taking.{names_long}
 use Rattle.closure_convert.proofs.conversion.Converter.+conversion.Goals as goal

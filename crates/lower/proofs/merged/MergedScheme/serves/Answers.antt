@@ -1,5 +1,5 @@
-use Rattle.lower.proofs.MergedLaws.{merged_laws}
-use Rattle.lower.proofs.MergedServing.{merged_procedures_serve}
+use Rattle.lower.proofs.merging.Laws.{merged_laws}
+use Rattle.lower.proofs.merging.Serving.{merged_procedures_serve}
 use Rattle.lower.proofs.merged.MergedScheme.serves.Goals as goal
 
 pub returns-clause-lawful : goal.returns-clause-lawful

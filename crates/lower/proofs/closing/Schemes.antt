@@ -1,0 +1,55 @@
+-- The program of a scheme is the lowered one, and closed, and the merged scheme's procedures are those of its set.
+use Rattle.std.proofs.Common.{true, ℕ, suc, ◌+◌, ◌≡◌, List, [], ◌∷◌, ◌++◌, length, map, Option, Some, ◌∙◌, ap, subst}
+use Rattle.std.proofs.Common.{append_assoc}
+use Rattle.grift_base.specs.Types.{TypeRow}
+use Rattle.low_ir.specs.declared.programs.LowProc.{LowProc}
+use Rattle.low_ir.specs.Procedures.{Proc}
+use Rattle.low_ir.specs.Closed.{is_closed}
+use Rattle.low_ir.specs.Views.{procs_of}
+use Rattle.flat_ir.specs.Bodies.{Proc as FlatProc}
+use Rattle.flat_ir.specs.Closed.{is_closed as flat_is_closed}
+use Rattle.rt_cast.specs.Procs.{cast_procs}
+use Rattle.rt_refs.specs.RefProcs.{ref_procs}
+use Rattle.lower.specs.declared.served.CastWay.{CastWay}
+use Rattle.lower.specs.declared.served.Served.{Served}
+use Rattle.lower.specs.Lowered.{low_proc, entry_proc, lowered}
+use Rattle.lower.specs.Sets.{ServesAnywhere, with_casts, merged_procs}
+use Rattle.lower.proofs.closing.Sets.{programs_with_sets_are_closed}
+
+-- what serves goes behind the lowered procedures
+joined : (run : Served) (flat : List FlatProc) (entry : ℕ) (answer : TypeRow) (set : List Proc)
+    → lowered run flat entry answer [] ++ set ≡ lowered run flat entry answer set
+joined run flat entry answer set = append_assoc (map (low_proc run) flat) (entry_proc entry answer ∷ []) set
+
+-- the program of a scheme, told how it is come by
+module _ (numbers_from : ℕ → Served) (procs_from : ℕ → List Proc) (run given : Served) (words : List ℕ)
+    (ways : List CastWay) (flat : List FlatProc) (entry : ℕ) (told : TypeRow) (front more whole : List Proc) (first : ℕ)
+    (numbers : given ≡ numbers_from first) (procs : more ≡ procs_from first) (runs : run ≡ with_casts given words ways)
+    (before : front ≡ lowered run flat entry told []) (all : whole ≡ front ++ more) where
+  comes_to : whole ≡ lowered (with_casts (numbers_from first) words ways) flat entry told (procs_from first)
+  comes_to =
+      all ∙ (ap (λ ps. ps ++ more) before ∙ (ap (λ ps. lowered run flat entry told [] ++ ps) procs
+      ∙ (joined run flat entry told (procs_from first)
+      ∙ ap (λ r. lowered r flat entry told (procs_from first)) (runs ∙ ap (λ m. with_casts m words ways) numbers))))
+
+  pub program_is_lowered : (answer : TypeRow) (row : Option TypeRow) (count : ℕ) → row ≡ Some told
+      → row ≡ Some answer → first ≡ suc count
+      → whole ≡ lowered (with_casts (numbers_from (suc count)) words ways) flat entry answer (procs_from (suc count))
+  program_is_lowered answer row count h k at =
+      let same : told ≡ answer = cc in
+      comes_to ∙ (ap (λ a. lowered (with_casts (numbers_from first) words ways) flat entry a (procs_from first)) same
+      ∙ ap (λ f. lowered (with_casts (numbers_from f) words ways) flat entry answer (procs_from f)) at)
+
+  pub program_is_closed : (count : ℕ) → ServesAnywhere (procs_from first) first (numbers_from first)
+      → first ≡ suc (length flat) → count ≡ length flat → flat_is_closed flat entry ≡ true
+      → is_closed whole count ≡ true
+  program_is_closed count serves at many h =
+      let anywhere = subst (λ f. ServesAnywhere (procs_from first) f (numbers_from first)) at serves in
+      ap (λ c. is_closed whole c) many ∙ (ap (λ ps. is_closed ps (length flat)) comes_to
+      ∙ programs_with_sets_are_closed (procs_from first) (numbers_from first) words ways flat entry told anywhere h)
+
+pub merged_list : (first : ℕ) (start more others whole : List LowProc) → procs_of start ≡ cast_procs first
+    → more ≡ others → procs_of others ≡ ref_procs (27 + first) (2 + first)
+    → procs_of whole ≡ procs_of start ++ procs_of more → procs_of whole ≡ merged_procs first
+merged_list first start more others whole casts same proxies all =
+    all ∙ (ap (λ ps. ps ++ procs_of more) casts ∙ ap (λ ps. cast_procs first ++ ps) (ap procs_of same ∙ proxies))

@@ -1,0 +1,20 @@
+-- The merged scheme: what its procedures come to for casts, parts, cells and calls.
+pub mod Laws
+pub mod Like
+pub mod Opened
+pub mod States
+pub mod Bounds
+pub mod Stages
+pub mod Turns
+pub mod Chains
+pub mod Casts
+pub mod Tags
+pub mod Parts
+pub mod Fill
+pub mod Reads
+pub mod Writes
+pub mod Cells
+pub mod Arguments
+pub mod Calls
+pub mod Products
+pub mod Serving

@@ -1,0 +1,68 @@
+-- The procedures for boxes and vectors of the merged scheme serve them, wherever they stand.
+use Rattle.std.proofs.Common.{◌≡◌, ℕ, ◌+◌, ◌^◌, ◌<◌, List, Some, refl, sym, ap, ◌∙◌, arith, slice_get}
+use Rattle.core_calc.specs.Account.{Measures}
+use Rattle.low_ir.specs.Procedures.{Proc as LowProc}
+use Rattle.low_ir.specs.Run.{Setting}
+use Rattle.coercion_norm.specs.Modes.{TypeCast}
+use Rattle.coercion_norm.specs.Held.{Layout, TypesStand}
+use Rattle.flat_ir.specs.Bodies.{Proc}
+use Rattle.rt_cast.specs.ComposeCodes.{cast}
+use Rattle.rt_cast.specs.Procs.{Stand}
+use Rattle.rt_cast.specs.States.{Placed}
+use Rattle.rt_refs.specs.CellCodes.{read_proc, write_proc}
+use Rattle.rt_refs.specs.FillCodes.{fill_proc}
+use Rattle.rt_refs.specs.RefProcs.{Stand as RefsStand, ref_procs}
+use Rattle.lower.specs.declared.served.Served.{Served}
+use Rattle.lower.specs.Keeping.{FitsMeasures}
+use Rattle.lower.specs.MergedMeaning.{merged_meaning, MergedCasts}
+use Rattle.lower.specs.SchemeLaws.{CellsServed}
+use Rattle.lower.proofs.merging.Fill.{merged_fills}
+use Rattle.lower.proofs.merging.Reads.{merged_reads, merged_unboxes, merged_measures}
+use Rattle.lower.proofs.merging.Writes.{merged_writes, merged_sets}
+
+-- Behind the procedures for casts, of which there are 27, stand those for calls, reads, writes and vectors.
+module _ (setting : Setting) (l : Layout) (procs : List Proc) (casts : List TypeCast) (m : Measures)
+    (measured : FitsMeasures l m) (words : List ℕ) (first : ℕ) (run : Served) (placed : Placed setting l)
+    (types : TypesStand l) (held : MergedCasts l casts words)
+    (ready : Stand setting.procs first) (refs : RefsStand setting.procs (27 + first) (cast first))
+    (region : l.region ≡ setting.region) (narrow : setting.top < 2 ^ 34) (read_is : run.read ≡ 28 + first)
+    (write_is : run.write ≡ 29 + first) (fill_is : run.fill ≡ 30 + first) where
+  stands_at : (k n : ℕ) (p : LowProc) → slice_get (ref_procs (27 + first) (cast first)) k ≡ Some p → k + (27 +
+      first) ≡ n
+      → slice_get setting.procs n ≡ Some p
+  stands_at k n p there e = ap (λ i. slice_get setting.procs i) (sym e) ∙ refs k p there
+
+  pub merged_cells_served : CellsServed merged_meaning setting l procs casts m run
+  merged_cells_served = record {
+    read = read_proc (cast first);
+    read_stands = record {
+      there = ap (λ n. slice_get setting.procs n) read_is ∙ stands_at 1 (28 + first) _ refl (omega arith);
+      takes = refl;
+      few = omega arith;
+      room = omega arith;
+      small = omega arith;
+    };
+    unboxes = merged_unboxes setting l procs casts m measured first run placed types held.tallest ready;
+    reads = merged_reads setting l procs casts m measured first run placed types held.tallest ready;
+    measures = merged_measures setting l procs casts m measured first run placed types held.tallest ready;
+    write = write_proc (cast first);
+    write_stands = record {
+      there = ap (λ n. slice_get setting.procs n) write_is ∙ stands_at 2 (29 + first) _ refl (omega arith);
+      takes = refl;
+      few = omega arith;
+      room = omega arith;
+      small = omega arith;
+    };
+    sets = merged_sets setting l procs casts m measured first run placed types held.tallest ready region;
+    writes = merged_writes setting l procs casts m measured first run placed types held.tallest ready region;
+    fill = fill_proc (4 + (27 + first));
+    fill_stands = record {
+      there = ap (λ n. slice_get setting.procs n) fill_is ∙ stands_at 3 (30 + first) _ refl (omega arith);
+      takes = refl;
+      few = omega arith;
+      room = omega arith;
+      small = omega arith;
+    };
+    fills = merged_fills setting l procs casts m placed region narrow (4 + (27 + first)) (stands_at 4 (4 + (27 + first))
+        _ refl refl) run;
+  }

@@ -1,0 +1,26 @@
+-- The run over words follows the run of the numbered procedures, for every scheme: relation, turns and runs.
+pub mod RelationKept
+pub mod Way
+pub mod Gives
+pub mod Groups
+pub mod Operations
+pub mod Bodies
+pub mod ShownAnswers
+pub mod Calls
+pub mod Served
+pub mod Operators
+pub mod Services
+pub mod Tags
+pub mod Casts
+pub mod Serving
+pub mod Parts
+pub mod Entering
+pub mod Applied
+pub mod Resumed
+pub mod Boxes
+pub mod Cells
+pub mod Moves
+pub mod Following
+pub mod Programs
+pub mod SizedStates
+pub mod Account
