@@ -1,6 +1,8 @@
 // Numbered procedures, written by hand, that are lowered with the scheme of one proxy at most, as images on the
 // emulator: boxes, vectors, tuples, functions and Dyn, through proxies.
 
+ghost use Rattle.coercion_norm.specs.CoercionTables.{FitsTypes};
+
 use crate::images::runs;
 use crate::merged::End::{Answers, Blames, Traps};
 use crate::merged::Turn::{Call, Cast, Does, Function, Part, PartOfDyn, Tuple};
@@ -178,6 +180,27 @@ impl Model for Tables {
     ghost invariant = { λ a. FitsTypes a.types a.table };
 }
 
+// The program over words of numbered procedures, with casts whose coercions are there.
+fn low_of(
+    alloc: Global,
+    flat: &FlatProgram,
+    types: &TypeTable,
+    table: &CoercionTable,
+    casts: &CastRows,
+) -> Result<LowProgram, Fail>
+    requires { FitsTypes types.now table.now }
+{
+    if flat.answer.0 >= types.len() {
+        return Err(Fail::from("no type is there"));
+    }
+    for cast in casts.as_slice() {
+        if cast.coercion.0 >= table.len() {
+            return Err(Fail::from("no coercion is there"));
+        }
+    }
+    Ok(lower(alloc, flat, types, casts, table)?)
+}
+
 impl Tables {
     // The types, and no casts.
     fn new(rt: &impl Abort, alloc: Global) -> Tables {
@@ -203,15 +226,7 @@ impl Tables {
 
     // The program over words of numbered procedures, with the merged scheme.
     fn low_of(&self, alloc: Global, flat: &FlatProgram) -> Result<LowProgram, Fail> {
-        if flat.answer.0 >= self.types.len() {
-            return Err(Fail::from("no type is there"));
-        }
-        for cast in self.casts.as_slice() {
-            if cast.coercion.0 >= self.table.len() {
-                return Err(Fail::from("no coercion is there"));
-            }
-        }
-        Ok(lower(alloc, flat, &self.types, &self.casts, &self.table)?)
+        low_of(alloc, flat, &self.types, &self.table, &self.casts)
     }
 }
 
