@@ -32,7 +32,8 @@ def about(text):
 def files_of(crate, part, folder):
     """Returns the files of a folder by subject, or of none, each behind those that it uses, with their texts."""
     texts = {it.stem: it.read_text() for it in sorted((crate / part / folder).glob("*.antt"))}
-    texts = {name: text for name, text in texts.items() if name != "Lib" and not (crate / part / folder / name).is_dir()}
+    heads = {name for name in texts if (crate / part / folder / name).is_dir()}
+    texts = {name: text for name, text in texts.items() if name != "Lib" and name not in heads}
     before = f"{folder}." if folder else ""
     uses = {
         name: [used.removeprefix(before) for of, at, used in USED.findall(text) if of == crate.name and at == part]
