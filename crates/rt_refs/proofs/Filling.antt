@@ -1,4 +1,5 @@
--- What fill comes to, from a state in which whole objects fill the region.
+-- What fill comes to, whatever is kept of the region on its way, and from a state in which whole objects fill the
+-- region.
 use Rattle.std.proofs.Common.{◌≡◌, ◌⊎◌, inl, inr, ℕ, zero, suc, ◌+◌, ◌*◌, ◌%◌, ◌^◌, ◌<◌, ◌≤◌, Bool, true, false}
 use Rattle.std.proofs.Common.{List, [], ◌∷◌, ◌++◌, Some, refl, sym, ap, ◌∙◌, subst, arith}
 use Rattle.std.proofs.Common.{le_refl}
@@ -25,15 +26,16 @@ use Rattle.low_ir.specs.Steps.{Locals, no_locals, set_local, given, only_if, may
 use Rattle.low_ir.specs.Prices.{step_price, low_price, entering_some, CostsAtMost}
 use Rattle.low_ir.proofs.Public.{costs_on, costs_last}
 use Rattle.low_ir.specs.Run.{Setting, Waiting, LowState, LowShown, word_of, bind, low_machine, store}
-use Rattle.low_ir.specs.Run.{code_turns}
+use Rattle.low_ir.specs.Run.{code_turns, goes_on}
 use Rattle.object_layout.specs.declared.kinds.Kind.TheVariants.{Vector}
+use Rattle.object_layout.specs.Kinds.{kind_number}
 use Rattle.coercion_norm.specs.Objects.{Object, Fixed, Cell, bytes_of_all}
 use Rattle.coercion_norm.specs.ObjectsOfRows.{header}
 use Rattle.coercion_norm.specs.Held.{Layout}
 use Rattle.coercion_norm.proofs.Public.{bytes_append, last_stands}
 use Rattle.rt_cast.specs.Frames.{frame_room, waiting_room}
 use Rattle.rt_cast.specs.Objects.{HasWord, HoldsWords}
-use Rattle.rt_cast.specs.States.{Heap, Fine, Filled, Placed, OnTheWay, Within as IsWithin, around, heap_of, st}
+use Rattle.rt_cast.specs.States.{Heap, Fine, Filled, Placed, OnTheWay, Within as IsWithin, around, heap_of, entered, st}
 use Rattle.rt_cast.specs.WholeObjects.{WholeOther}
 use Rattle.rt_cast.proofs.Public.{eq_true, eq_false, holds_append, wholes_more}
 use Rattle.rt_refs.specs.FillCodes.{fill_loop, fill_code, fill_proc, trap_length}
@@ -76,21 +78,29 @@ held_all (suc n) m at w each =
           subst (λ p. HasWord m p w) y (each (suc j) (omega (arith, lt)))),
     )
 
-module _ {V : Type 0} (reading : Halt → Ending V) (setting : Setting) (l : Layout) (s : LowState)
-    (exhausts : reading (Lacks Region) ≡ Exhausted) (placed : Placed setting l) (begins : l.region ≡ setting.region)
-    (narrow : setting.top ≤ l.region + 2 ^ 34) (own : ℕ) (there : slice_get setting.procs own ≡ Some (fill_loop own))
-    (objects : List Object) (filled : Filled setting l objects (heap_of s)) (n w : ℕ) (small : w < 2 ^ 64) where
+-- what lies below the allocation word stays
+abbrev pub Below : LowState → Memory → Type 0
+Below s m = (j : ℕ) → j < s.alloc → m j ≡ s.memory j
+
+-- Filling keeps what holds, P, where nothing below the allocation word has changed, and comes to what holds where a
+-- vector of these words stands behind it, Q.
+module _ {V : Type 0} (reading : Halt → Ending V) (setting : Setting) (s : LowState)
+    (exhausts : reading (Lacks Region) ≡ Exhausted) (P Q : LowState → Type 0) (own : ℕ)
+    (there : slice_get setting.procs own ≡ Some (fill_loop own)) (n w : ℕ) (small : w < 2 ^ 64)
+    (above : setting.region ≤ s.alloc) (even : s.alloc % 8 ≡ 0) (narrow : setting.top ≤ setting.region + 2 ^ 34)
+    (top : setting.top < 2 ^ 64)
+    (way : (count : ℕ) (locals : Locals) (code : Code) (rests : List Code) (waiting : List Waiting) (m : Memory)
+    (words : ℕ) → Below s m → code_turns code ≤ 10
+    → frame_room count + waiting_room waiting ≤ waiting_room s.waiting + 25 * (1 + 1) → words ≤ s.words + (n + 1)
+    → P (st (around s) count locals code rests waiting
+    (record { memory = m; alloc = s.alloc; words = words })))
+    (reached : (m : Memory) (locals : Locals) (rests : List Code) → Below s m
+    → HasWord m s.alloc (header (kind_number Vector) 0 n) → HoldsWords m (s.alloc + 8) (replicate n w)
+    → s.alloc + 8 * (n + 1) ≤ setting.top → locals 3 ≡ Some s.alloc
+    → Q (st (around s) 6 locals (Return (Word 3)) rests s.waiting
+    (record { memory = m; alloc = s.alloc + 8 * (n + 1); words = s.words + (n + 1) }))) where
   abbrev N : Machine LowState LowShown V
   N = low_machine reading setting
-
-  abbrev P : LowState → Type 0
-  P = OnTheWay setting l s 1 (n + 1)
-
-  abbrev Q : LowState → Type 0
-  Q = MadeAt setting l s objects n w
-
-  abbrev a : ℕ
-  a = s.alloc
 
   -- within so many steps, and at this price
   record Within (b price : ℕ) (t : LowState) : Type 0 where
@@ -123,41 +133,8 @@ module _ {V : Type 0} (reading : Halt → Ending V) (setting : Setting) (l : Lay
   abbrev St : ℕ → Locals → Code → List Code → List Waiting → Heap → LowState
   St = st (around s)
 
-  -- what lies below the allocation word stays
-  abbrev Below : Memory → Type 0
-  Below m = (j : ℕ) → j < s.alloc → m j ≡ s.memory j
-
-  fine_at : (m : Memory) (words : ℕ) → Below m
-      → Fine setting l (around s) objects (record { memory = m; alloc = s.alloc; words = words })
-  fine_at m words same = record {
-    filled = record {
-      objects_stand =
-          holds_same s.memory m l.region objects (λ j from to. same j (omega (arith, to, filled.ends)))
-          filled.objects_stand;
-      statics_stand =
-          holds_same s.memory m l.first l.statics
-          (λ j from to. same j (omega (arith, to, filled.ends, placed.before))) filled.statics_stand;
-      ends = filled.ends;
-      fits = filled.fits;
-      whole = filled.whole;
-    };
-    beyond = le_refl s.alloc;
-    kept = same;
-  }
-
-  way : (count : ℕ) (locals : Locals) (code : Code) (rests : List Code) (waiting : List Waiting) (m : Memory)
-      (words : ℕ) → Below m → code_turns code ≤ 10
-      → frame_room count + waiting_room waiting ≤ waiting_room s.waiting + 25 * (1 + 1) → words ≤ s.words + (n + 1)
-      → P (St count locals code rests waiting (record { memory = m; alloc = s.alloc; words = words }))
-  way count locals code rests waiting m words same turns room asked = record {
-    calm = record { objects = objects; fine = fine_at m words same; same = refl };
-    room = room;
-    asked = asked;
-    turns = turns;
-  }
-
   module _ {b price : ℕ} {count : ℕ} {locals : Locals} {rests : List Code} {waiting : List Waiting} (m : Memory)
-      (same : Below m) (room : frame_room count + waiting_room waiting ≤ waiting_room s.waiting + 25 * (1 + 1)) where
+      (same : Below s m) (room : frame_room count + waiting_room waiting ≤ waiting_room s.waiting + 25 * (1 + 1)) where
     computes : {op : WordOp} {d : ℕ} {x y : LowSource} {rest : Code} (u v z : ℕ) → word_of locals x ≡ Some u
         → word_of locals y ≡ Some v → compute op u v ≡ z → nat_lt d count ≡ true
         → Within b price (St count (set_local d z locals) rest rests waiting (heap m))
@@ -212,17 +189,14 @@ module _ {V : Type 0} (reading : Halt → Ending V) (setting : Setting) (l : Lay
 
   -- so many elements are stored
   record Wrote (i : ℕ) (m : Memory) : Type 0 where
-    pub below : Below m
+    pub below : Below s m
     pub head : HasWord m s.alloc (header 6 0 n)
     pub each : (j : ℕ) → j < i → HasWord m (s.alloc + 8 + 8 * j) w
 
   -- where there is room
   module _ (room : s.alloc + 8 * (n + 1) ≤ setting.top) where
     end_small : s.alloc + 8 + 8 * n < 2 ^ 64
-    end_small = omega (arith, room, placed.top)
-
-    even : s.alloc % 8 ≡ 0
-    even = let z = bytes_even objects in omega (arith, z, filled.ends, placed.even_region)
+    end_small = omega (arith, room, top)
 
     wrote_more : (i : ℕ) (m : Memory) → Wrote i m → Wrote (suc i) (store_bytes 8 m (s.alloc + 8 + 8 * i) w)
     wrote_more i m h = record {
@@ -296,7 +270,7 @@ module _ {V : Type 0} (reading : Halt → Ending V) (setting : Setting) (l : Lay
         (not_true _ (eq_false (s.alloc + 8 + 8 * i) (s.alloc + 8 + 8 * n) (λ e. omega (arith, e, inside))))
         (stores m h.below (omega arith) (s.alloc + 8 + 8 * i) w refl refl
         (may_be_stored setting.region setting.top (s.alloc + 8 + 8 * i) (omega (arith, even))
-        (omega (arith, filled.ends, begins)) (omega (arith, room, inside))) (omega (arith, end_small, inside))
+        (omega (arith, above)) (omega (arith, room, inside))) (omega (arith, end_small, inside))
         (computes {price = 40 + (61 * k + 20 + price)} m' h'.below (omega arith) (s.alloc + 8 + 8 * i) 8
         (s.alloc + 8 + 8 * suc i) refl refl next refl
         (step (St 3 asks' (TailCall own (Word 0 ∷ Word 1 ∷ Word 2 ∷ [])) (Done ∷ []) waiting (heap m'))
@@ -328,49 +302,17 @@ module _ {V : Type 0} (reading : Halt → Ending V) (setting : Setting) (l : Lay
         let r = le_true (s.alloc + 8 * (n + 1)) setting.top room in rw (e2, r) refl)
         (way 6 locals (Take (Word 2) (Return (Word 3))) rests s.waiting m s.words h.below (omega arith) (omega arith)
         (omega arith)) (le_refl 3)
-        (record { steps = 0; few = le_refl 0; cheap = le_refl 0; reach = reached })
+        (record {
+          steps = 0;
+          few = le_refl 0;
+          cheap = le_refl 0;
+          reach = reached m locals rests h.below h.head (held_all n m (s.alloc + 8) w h.each) room e3;
+        })
       where
-        after : Heap
-        after = record { memory = m; alloc = s.alloc + 8 * (n + 1); words = s.words + (n + 1) }
-
         t' : LowState
-        t' = St 6 locals (Return (Word 3)) rests s.waiting after
-
-        o : Object
-        o = Cell (header 6 0 n) n
-
-        fine : Fine setting l (around s) (objects ++ Cell (header 6 0 n) n ∷ []) after
-        fine = record {
-          filled = record {
-            objects_stand =
-                holds_append m l.region objects (Cell (header 6 0 n) n ∷ [])
-                (fine_at m s.words h.below).filled.objects_stand
-                (subst (λ p. HasWord m p (header 6 0 n)) filled.ends h.head, tt);
-            statics_stand = (fine_at m s.words h.below).filled.statics_stand;
-            ends =
-                let b = bytes_append objects (Cell (header 6 0 n) n ∷ []) in
-                let e = filled.ends in omega (arith, b, e);
-            fits = room;
-            whole =
-                wholes_more l [] objects (Cell (header 6 0 n) n) filled.whole (WholeOther Vector n refl refl refl refl);
-          };
-          beyond = omega arith;
-          kept = h.below;
-        }
-
-        reached : Q t'
-        reached = record {
-          fine = fine;
-          there = last_stands objects [] (Cell (header 6 0 n) n) l.region s.alloc filled.ends;
-          held = held_all n m (s.alloc + 8) w h.each;
-          taken = refl;
-          source = Word 3;
-          code = refl;
-          is = e3;
-          small = omega arith;
-          waits = refl;
-          same = refl;
-        }
+        t' =
+            St 6 locals (Return (Word 3)) rests s.waiting
+            (record { memory = m; alloc = s.alloc + 8 * (n + 1); words = s.words + (n + 1) })
 
     filled_in : (rests : List Code)
         → Within (4 * n + 10) (61 * n + 89) (St 6 (set_local 3 s.alloc (set_local 2 (n + 1) (bind 0
@@ -384,11 +326,11 @@ module _ {V : Type 0} (reading : Halt → Ending V) (setting : Setting) (l : Lay
         Call 4 own (Word 4 ∷ Word 5 ∷ Word 1 ∷ []) (
         Take (Word 2) (Return (Word 3)))))))))) rests s.waiting (heap s.memory))
     filled_in rests =
-        let few : n < 2 ^ 32 = omega (arith, room, narrow, filled.ends) in
+        let few : n < 2 ^ 32 = omega (arith, room, narrow, above) in
         let head = header 6 0 n in
         let m1 = store_bytes 8 s.memory s.alloc head in
         let h1 = begins_with few in
-        let untouched : Below s.memory = λ j lt. refl in
+        let untouched : Below s s.memory = λ j lt. refl in
         let start : Locals = set_local 3 s.alloc (set_local 2 (n + 1) (bind 0 (n ∷ w ∷ []) no_locals)) in
         let last : Locals =
         set_local 5 (s.alloc + 8 + 8 * n) (set_local 5 (8 * n) (set_local 4 (s.alloc + 8)
@@ -402,8 +344,8 @@ module _ {V : Type 0} (reading : Halt → Ending V) (setting : Setting) (l : Lay
         (computes s.memory untouched (omega arith) n 32 (compute Sll n 32) refl refl refl refl
         (computes s.memory untouched (omega arith) (compute Sll n 32) 6 head refl refl (header_is n few) refl
         (stores s.memory untouched (omega arith) s.alloc head refl refl
-        (may_be_stored setting.region setting.top s.alloc even (omega (arith, filled.ends, begins))
-        (omega (arith, room))) (omega (arith, room, placed.top))
+        (may_be_stored setting.region setting.top s.alloc even (omega (arith, above))
+        (omega (arith, room))) (omega (arith, room, top))
         (computes m1 h1.below (omega arith) s.alloc 8 (s.alloc + 8) refl refl
         (add_is s.alloc 8 (omega (arith, end_small))) refl
         (computes m1 h1.below (omega arith) n 3 (8 * n) refl refl (eight_times n (omega (arith, end_small))) refl
@@ -425,15 +367,14 @@ module _ {V : Type 0} (reading : Halt → Ending V) (setting : Setting) (l : Lay
         (λ m h. made m h (set_local 4 0 last) refl refl rests) n 0 (omega arith) m1 h1)))))))))
         (omega arith) (omega arith)
 
-  asked : Locals
-  asked = bind 0 (n ∷ w ∷ []) no_locals
-
   -- a vector of so many elements, or the region is exhausted
-  pub vectors_are_made : n < 2 ^ 63 → ComesToVector reading setting l s objects (fill_proc own) n w (4 * n + 13)
-      (61 * n + 124)
-  vectors_are_made positive = let z = begun in (z.steps, z.few, z.reach, z.cheap)
+  pub vectors_are_filled : n < 2 ^ 63
+      → (k : ℕ) × (k ≤ 4 * n + 13)
+      × Reaches (low_machine reading setting) P Q k (entered s (fill_proc own) (n ∷ w ∷ []))
+      × CostsAtMost reading setting k (entered s (fill_proc own) (n ∷ w ∷ [])) (61 * n + 124)
+  vectors_are_filled positive = let z = begun in (z.steps, z.few, z.reach, z.cheap)
     where
-      untouched : Below s.memory
+      untouched : Below s s.memory
       untouched j lt = refl
 
       not_below : Signed n → holds Lt n 0 ≡ false
@@ -519,28 +460,118 @@ module _ {V : Type 0} (reading : Halt → Ending V) (setting : Setting) (l : Lay
           (requested _)))
           (omega arith) (omega arith)
 
+-- a length below 0 goes on with the trap
+module _ {V : Type 0} (reading : Halt → Ending V) (setting : Setting) (s : LowState) (P Q : LowState → Type 0) (own : ℕ)
+    (n w : ℕ) where
+  pub lengths_below_zero_go_on : 2 ^ 63 ≤ n → n < 2 ^ 64 → P (entered s (fill_proc own) (n ∷ w ∷ []))
+      → Q (goes_on trap_length (Done ∷ []) (entered s (fill_proc own) (n ∷ w ∷ [])))
+      → Reaches (low_machine reading setting) P Q 1 (entered s (fill_proc own) (n ∷ w ∷ []))
+      × CostsAtMost reading setting 1 (entered s (fill_proc own) (n ∷ w ∷ [])) 14
+  lengths_below_zero_go_on ge fits p q = (
+    by_step (low_machine reading setting) P Q 0 t0 (Go t1) (let e = below (signed n fits) in rw (e) refl) p q,
+    costs_on reading setting 0 0 14 t0 t1 (let e = below (signed n fits) in rw (e) refl) (le_refl 0) (le_refl 14),
+  )
+    where
+      t0 : LowState
+      t0 = entered s (fill_proc own) (n ∷ w ∷ [])
+
+      t1 : LowState
+      t1 = goes_on trap_length (Done ∷ []) t0
+
+      below : Signed n → holds Lt n 0 ≡ true
+      below (Positive lt is e) = absurd (omega (arith, ge, lt))
+      below (Negative m most sum is e) = e
+
+-- from a state in which whole objects fill the region
+module _ {V : Type 0} (reading : Halt → Ending V) (setting : Setting) (l : Layout) (s : LowState)
+    (exhausts : reading (Lacks Region) ≡ Exhausted) (placed : Placed setting l) (begins : l.region ≡ setting.region)
+    (narrow : setting.top ≤ l.region + 2 ^ 34) (own : ℕ) (there : slice_get setting.procs own ≡ Some (fill_loop own))
+    (objects : List Object) (filled : Filled setting l objects (heap_of s)) (n w : ℕ) (small : w < 2 ^ 64) where
+  fine_at : (m : Memory) (words : ℕ) → Below s m
+      → Fine setting l (around s) objects (record { memory = m; alloc = s.alloc; words = words })
+  fine_at m words same = record {
+    filled = record {
+      objects_stand =
+          holds_same s.memory m l.region objects (λ j from to. same j (omega (arith, to, filled.ends)))
+          filled.objects_stand;
+      statics_stand =
+          holds_same s.memory m l.first l.statics
+          (λ j from to. same j (omega (arith, to, filled.ends, placed.before))) filled.statics_stand;
+      ends = filled.ends;
+      fits = filled.fits;
+      whole = filled.whole;
+    };
+    beyond = le_refl s.alloc;
+    kept = same;
+  }
+
+  way : (count : ℕ) (locals : Locals) (code : Code) (rests : List Code) (waiting : List Waiting) (m : Memory)
+      (words : ℕ) → Below s m → code_turns code ≤ 10
+      → frame_room count + waiting_room waiting ≤ waiting_room s.waiting + 25 * (1 + 1) → words ≤ s.words + (n + 1)
+      → OnTheWay setting l s 1 (n + 1) (st (around s) count locals code rests waiting
+      (record { memory = m; alloc = s.alloc; words = words }))
+  way count locals code rests waiting m words same turns room asked = record {
+    calm = record { objects = objects; fine = fine_at m words same; same = refl };
+    room = room;
+    asked = asked;
+    turns = turns;
+  }
+
+  -- a vector of so many elements, or the region is exhausted
+  pub vectors_are_made : n < 2 ^ 63 → ComesToVector reading setting l s objects (fill_proc own) n w (4 * n + 13)
+      (61 * n + 124)
+  vectors_are_made positive =
+      vectors_are_filled reading setting s exhausts (OnTheWay setting l s 1 (n + 1)) (MadeAt setting l s objects n w)
+      own there n w small (omega (arith, filled.ends, begins))
+      (let z = bytes_even objects in omega (arith, z, filled.ends, placed.even_region))
+      (omega (arith, narrow, begins)) placed.top way reached positive
+    where
+      fine : (m : Memory) → Below s m → HasWord m s.alloc (header 6 0 n) → s.alloc + 8 * (n + 1) ≤ setting.top
+          → Fine setting l (around s) (objects ++ Cell (header 6 0 n) n ∷ [])
+          (record { memory = m; alloc = s.alloc + 8 * (n + 1); words = s.words + (n + 1) })
+      fine m same head room = record {
+        filled = record {
+          objects_stand =
+              holds_append m l.region objects (Cell (header 6 0 n) n ∷ [])
+              (fine_at m s.words same).filled.objects_stand
+              (subst (λ p. HasWord m p (header 6 0 n)) filled.ends head, tt);
+          statics_stand = (fine_at m s.words same).filled.statics_stand;
+          ends =
+              let b = bytes_append objects (Cell (header 6 0 n) n ∷ []) in
+              let e = filled.ends in omega (arith, b, e);
+          fits = room;
+          whole =
+              wholes_more l [] objects (Cell (header 6 0 n) n) filled.whole (WholeOther Vector n refl refl refl refl);
+        };
+        beyond = omega arith;
+        kept = same;
+      }
+
+      reached : (m : Memory) (locals : Locals) (rests : List Code) → Below s m → HasWord m s.alloc (header 6 0 n)
+          → HoldsWords m (s.alloc + 8) (replicate n w) → s.alloc + 8 * (n + 1) ≤ setting.top
+          → locals 3 ≡ Some s.alloc
+          → MadeAt setting l s objects n w (st (around s) 6 locals (Return (Word 3)) rests s.waiting
+          (record { memory = m; alloc = s.alloc + 8 * (n + 1); words = s.words + (n + 1) }))
+      reached m locals rests same head held room is = record {
+        fine = fine m same head room;
+        there = last_stands objects [] (Cell (header 6 0 n) n) l.region s.alloc filled.ends;
+        held = held;
+        taken = refl;
+        source = Word 3;
+        code = refl;
+        is = is;
+        small = omega arith;
+        waits = refl;
+        same = refl;
+      }
+
   -- a length below 0 traps
   pub lengths_below_zero_trap : 2 ^ 63 ≤ n → n < 2 ^ 64
       → ComesWhere reading setting l s (fill_proc own) (n ∷ w ∷ [])
       (TrapsAt reading setting l s Length) 1 0 0 14
   unfolding environment_call
-  lengths_below_zero_trap ge fits = (
-    1,
-    le_refl 1,
-    by_step N P' Q' 0 t0 (Go t1) (let e = below (signed n fits) in rw (e) refl) calm (
-      record { room = omega arith; asked = omega arith },
-      record {
-        objects = objects;
-        fine = fine_at s.memory s.words (λ j lt. refl);
-        last = _;
-        stops = refl;
-        stays = refl;
-        same = refl;
-        same_after = refl;
-      },
-    ),
-    costs_on reading setting 0 0 14 t0 t1 (let e = below (signed n fits) in rw (e) refl) (le_refl 0) (le_refl 14),
-  )
+  lengths_below_zero_trap ge fits =
+      let z = lengths_below_zero_go_on reading setting s P' Q' own n w ge fits calm ends in (1, le_refl 1, z.0, z.1)
     where
       P' : LowState → Type 0
       P' = OnTheWay setting l s 0 0
@@ -548,20 +579,24 @@ module _ {V : Type 0} (reading : Halt → Ending V) (setting : Setting) (l : Lay
       Q' : LowState → Type 0
       Q' t = IsWithin s 0 0 t × TrapsAt reading setting l s Length t
 
-      t0 : LowState
-      t0 = St 6 (bind 0 (n ∷ w ∷ []) no_locals) (fill_code own) [] s.waiting (heap s.memory)
-
-      t1 : LowState
-      t1 = St 6 (bind 0 (n ∷ w ∷ []) no_locals) trap_length (Done ∷ []) s.waiting (heap s.memory)
-
-      below : Signed n → holds Lt n 0 ≡ true
-      below (Positive lt is e) = absurd (omega (arith, ge, lt))
-      below (Negative m most sum is e) = e
-
-      calm : P' t0
+      calm : P' (entered s (fill_proc own) (n ∷ w ∷ []))
       calm = record {
         calm = record { objects = objects; fine = fine_at s.memory s.words (λ j lt. refl); same = refl };
         room = omega arith;
         asked = omega arith;
         turns = omega arith;
       }
+
+      ends : Q' (goes_on trap_length (Done ∷ []) (entered s (fill_proc own) (n ∷ w ∷ [])))
+      ends = (
+        record { room = omega arith; asked = omega arith },
+        record {
+          objects = objects;
+          fine = fine_at s.memory s.words (λ j lt. refl);
+          last = _;
+          stops = refl;
+          stays = refl;
+          same = refl;
+          same_after = refl;
+        },
+      )
