@@ -60,6 +60,10 @@ cast_procs first =
     ∷ final_proc ∷ coerce_part_proc first ∷ pair_proc first
     ∷ middles first (part first) ++ middles first (coerce_part first)
 
+-- so many are they
+abbrev pub how_many_cast_procs : ℕ
+how_many_cast_procs = 27
+
 -- the procedures stand in a program, numbered from a first number on
 abbrev pub Stand : List Proc → ℕ → Type 0
 Stand procs first = (k : ℕ) (p : Proc) → slice_get (cast_procs first) k ≡ Some p → slice_get procs (k + first) ≡ Some p

@@ -10,17 +10,21 @@ use Rattle.rt_refs.specs.CallCodes.{apply_proc}
 use Rattle.rt_refs.specs.CellCodes.{read_proc, write_proc}
 use Rattle.rt_refs.specs.FillCodes.{fill_proc, fill_loop}
 
--- the number of each procedure, told that of the first one
+-- how many stand before each procedure
+abbrev pub ref_place : RefProc → ℕ
+ref_place Apply = 0
+ref_place Read = 1
+ref_place Write = 2
+ref_place Fill = 3
+ref_place FillLoop = 4
+ref_place ProductLoop = 5
+ref_place QuotientLoop = 6
+ref_place Multiply = 7
+ref_place Divide = 8
+
+-- the number of each, told that of the first one
 abbrev pub ref_proc_number : RefProc → ℕ → ℕ
-ref_proc_number Apply first = 0 + first
-ref_proc_number Read first = 1 + first
-ref_proc_number Write first = 2 + first
-ref_proc_number Fill first = 3 + first
-ref_proc_number FillLoop first = 4 + first
-ref_proc_number ProductLoop first = 5 + first
-ref_proc_number QuotientLoop first = 6 + first
-ref_proc_number Multiply first = 7 + first
-ref_proc_number Divide first = 8 + first
+ref_proc_number p first = ref_place p + first
 
 abbrev pub ref_procs : ℕ → ℕ → List Proc
 ref_procs first cast =
