@@ -8,5 +8,6 @@ pub mod Operations
 pub mod Services
 pub mod Groups
 pub mod Operators
+pub mod Products
 pub mod EmitPrices
 pub mod Stops

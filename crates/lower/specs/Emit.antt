@@ -192,7 +192,8 @@ module _ (run : Served) where
   perform s d (Cast o number) k =
       fetch s (operand_word s 0) o (
       make_cast s d (found s (operand_word s 0) o) number (way_at (slice_get run.ways number)) k)
-  perform s d (Tuple os) k = fetch_all s 0 os (Build d (Number (header (kind_number TupleKind) (length os)) ∷ found_all s 0 os) k)
+  perform s d (Tuple os) k =
+      fetch_all s 0 os (Build d (Number (header (kind_number TupleKind) (length os)) ∷ found_all s 0 os) k)
   perform s d (Proj o i) k = fetch s (operand_word s 0) o (part s d (found s (operand_word s 0) o) i k)
   perform s d (ProjDyn o i label) k =
       fetch s (operand_word s 0) o (

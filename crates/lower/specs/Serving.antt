@@ -1,5 +1,6 @@
 -- What is asked of the procedures that serve, and of what those of a flat program capture.
-use Rattle.std.specs.Prelude.{ℕ, suc, ◌≡◌, ◌&&◌, ◌==◌, nat_lt, Bool, true, false, List, [], ◌∷◌, Option, Some, None, slice_get}
+use Rattle.std.specs.Prelude.{ℕ, suc, ◌≡◌, ◌&&◌, ◌==◌, nat_lt, Bool, true, false, List, [], ◌∷◌, Option, Some, None}
+use Rattle.std.specs.Prelude.{slice_get}
 use Rattle.flat_ir.specs.Bodies.{Proc as FlatProc}
 use Rattle.low_ir.specs.Procedures.{Proc}
 use Rattle.lower.specs.declared.served.Served.{Served}

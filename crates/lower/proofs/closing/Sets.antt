@@ -69,12 +69,14 @@ serve_with numbers words ways procs s = record {
 
 pub programs_with_sets_are_closed : (set : List Proc) (numbers : Served) (words : List ℕ) (ways : List CastWay)
     (flat : List FlatProc) (entry : ℕ) (answer : TypeRow) → ServesAnywhere set (suc (length flat)) numbers
-    → flat_is_closed flat entry ≡ true → is_closed (lowered (with_casts numbers words ways) flat entry answer set) (length flat) ≡ true
+    → flat_is_closed flat entry ≡ true
+    → is_closed (lowered (with_casts numbers words ways) flat entry answer set) (length flat) ≡ true
 programs_with_sets_are_closed set numbers words ways flat entry answer serves h =
     let run = with_casts numbers words ways in
     let procs = lowered run flat entry answer set in
     let stand = stand_behind run flat entry answer set in
-    lowered_programs_are_closed run flat entry answer set h (serve_with numbers words ways procs (serves.serve procs stand)) (serves.closed procs stand)
+    lowered_programs_are_closed run flat entry answer set h
+    (serve_with numbers words ways procs (serves.serve procs stand)) (serves.closed procs stand)
 
 -- ---- the merged scheme
 

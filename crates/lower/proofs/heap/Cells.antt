@@ -15,7 +15,8 @@ use Rattle.rt_cast.specs.States.{Heap, Placed}
 use Rattle.lower.specs.Storage.{Filled}
 use Rattle.lower.specs.Meanings.{Meaning}
 use Rattle.lower.specs.CarriedValues.{CellHeld, CellsFrom}
-use Rattle.lower.proofs.heap.Objects.{none_some, same_some, found_within, some_bytes, word_same, words_same, object_same}
+use Rattle.lower.proofs.heap.Objects.{none_some, same_some, found_within, some_bytes, word_same, words_same}
+use Rattle.lower.proofs.heap.Objects.{object_same}
 use Rattle.lower.proofs.heap.Objects.{holds_same}
 use Rattle.lower.proofs.heap.Filled.{stands, WordThere, may}
 

@@ -3,18 +3,16 @@ use Rattle.std.proofs.Common.{◌≡◌, ℕ, zero, suc, ◌+◌, ◌<◌, true,
 use Rattle.std.proofs.Common.{slice_get}
 use Rattle.std.specs.Prelude.{◌&&◌, nat_lt}
 use Rattle.std.proofs.lemmas.Bool.{and_parts}
-use Rattle.rv_machine.specs.Mach.{ending_of}
 use Rattle.flat_ir.specs.Bodies.{Proc as FlatProc}
 use Rattle.low_ir.specs.Run.{Setting}
 use Rattle.rt_refs.specs.Products.{product_loop, multiply}
 use Rattle.rt_refs.specs.Quotients.{quotient_loop, divide}
-use Rattle.rt_refs.proofs.Public.{products_are_answered, quotients_are_answered, remainders_are_answered}
-use Rattle.rt_refs.proofs.Public.{zero_divisors_trap}
 use Rattle.lower.specs.Serving.{all_narrow}
 use Rattle.lower.specs.Sets.{StandFrom, merged_numbers, merged_procs, with_casts}
 use Rattle.lower.specs.declared.served.CastWay.{CastWay}
 use Rattle.lower.specs.SimulationClaims.{AreNarrow}
 use Rattle.lower.specs.SimulationServices.{AnswerProducts}
+use Rattle.lower.proofs.words.Products.{products_are_served}
 
 module _ (setting : Setting) (first : ℕ) (words : List ℕ) (ways : List CastWay)
     (stand : StandFrom setting.procs first (merged_procs first)) where
@@ -25,37 +23,16 @@ module _ (setting : Setting) (first : ℕ) (words : List ℕ) (ways : List CastW
   quotient_there =
       stand 33 (quotient_loop (suc (5 + (27 + first)))) refl ∙ ap (λ n. Some (quotient_loop n)) (omega arith)
 
+  multiply_there : slice_get setting.procs (34 + first) ≡ Some (multiply (32 + first))
+  multiply_there = stand 34 (multiply (5 + (27 + first))) refl ∙ ap (λ n. Some (multiply n)) (omega arith)
+
+  divide_there : slice_get setting.procs (35 + first) ≡ Some (divide (33 + first))
+  divide_there = stand 35 (divide (suc (5 + (27 + first)))) refl ∙ ap (λ n. Some (divide n)) (omega arith)
+
   pub merged_products : AnswerProducts setting (with_casts (merged_numbers first) words ways)
-  merged_products = record {
-    multiply = multiply (32 + first);
-    multiply_stands = record {
-      there = stand 34 (multiply (5 + (27 + first))) refl ∙ ap (λ n. Some (multiply n)) (omega arith);
-      takes = refl;
-      few = omega arith;
-      room = omega arith;
-      small = omega arith;
-    };
-    products = λ s a b small few.
-        let z = products_are_answered ending_of setting s (32 + first) a b product_there small few in
-        (579, (z.0, z.1, z.2, let c = z.3 in omega (arith, c)));
-    divide = divide (33 + first);
-    divide_stands = record {
-      there = stand 35 (divide (suc (5 + (27 + first)))) refl ∙ ap (λ n. Some (divide n)) (omega arith);
-      takes = refl;
-      few = omega arith;
-      room = omega arith;
-      small = omega arith;
-    };
-    quotients = λ s n d small few some.
-        let z = quotients_are_answered ending_of setting s (33 + first) n d quotient_there small few some in
-        (851, (z.0, z.1, z.2, let c = z.3 in omega (arith, c)));
-    remainders = λ s n d small few some.
-        let z = remainders_are_answered ending_of setting s (33 + first) n d quotient_there small few some in
-        (851, (z.0, z.1, z.2, let c = z.3 in omega (arith, c)));
-    zero_divisors = λ s n which.
-        let z = zero_divisors_trap ending_of setting s (33 + first) n which in
-        (2, (z.0, z.1, z.2, let c = z.3 in omega (arith, c)));
-  }
+  merged_products =
+      products_are_served setting (with_casts (merged_numbers first) words ways) (32 + first) (33 + first) product_there
+      quotient_there multiply_there divide_there
 
 -- ---- captured names
 

@@ -53,7 +53,8 @@ use Rattle.lower.proofs.simulation.Served.{OnServed, Waits, Next, Ended, next_of
 use Rattle.lower.proofs.simulation.Services.{OnTurn, Landing}
 use Rattle.lower.proofs.simulation.Following.{turn}
 use Rattle.lower.proofs.simulation.Moves.{DoesDue}
-use Rattle.lower.proofs.simulation.Way.{Program, Live, Over, Ends, Quietly, R, Seen, Settled, Stopping, Way, after_wraps}
+use Rattle.lower.proofs.simulation.Way.{Program, Live, Over, Ends, Quietly, R, Seen, Settled, Stopping, Way}
+use Rattle.lower.proofs.simulation.Way.{after_wraps}
 use Rattle.lower.proofs.simulation.Way.{asks_of, budget_of, cost_of, due_most, due_of, dues, mode_of, next_state}
 use Rattle.lower.proofs.simulation.Way.{over_price, prices_of, size_of, turn_aim, turn_of, zero_once_ended}
 use Rattle.lower.proofs.simulation.Way.{stays_in, turn_room}

@@ -26,7 +26,8 @@ use Rattle.lower.specs.Lowered.{low_proc}
 use Rattle.lower.specs.CarriedValues.{CellsHeld, IsMember}
 use Rattle.lower.specs.Relation.{Falls, Fits, Knows, Gave}
 use Rattle.lower.proofs.heap.CarriedLater.{cells_later, cells_below}
-use Rattle.lower.proofs.simulation.RelationKept.{rest_later, callers_later, rest_same, rest_branch, rest_deeper, knows_same}
+use Rattle.lower.proofs.simulation.RelationKept.{rest_later, callers_later, rest_same, rest_branch, rest_deeper}
+use Rattle.lower.proofs.simulation.RelationKept.{knows_same}
 use Rattle.lower.proofs.simulation.RelationKept.{knows_later, knows_more, SameNamed, OwnName, Between}
 use Rattle.lower.proofs.simulation.RelationKept.{free_other}
 use Rattle.lower.proofs.heap.Groups.{group_objects}

@@ -24,7 +24,8 @@ use Rattle.lower.specs.Relation.{Falls}
 use Rattle.lower.specs.SimulationServices.{StandsAs}
 use Rattle.lower.specs.SchemeLaws.{Aim, OnWay, After, Goes, Returns, ReturnsAt}
 use Rattle.lower.proofs.simulation.RelationKept.{word_here, word_other, rest_grown, callers_grown}
-use Rattle.lower.proofs.words.Credits.{By, SomeBy, by_now, by_go, by_more, by_then_step, by_then_some, some_go, some_more}
+use Rattle.lower.proofs.words.Credits.{By, SomeBy, by_now, by_go, by_more, by_then_step, by_then_some, some_go}
+use Rattle.lower.proofs.words.Credits.{some_more}
 use Rattle.low_ir.specs.Prices.{CostsAtMost}
 use Rattle.run_laws.specs.Machines.{Reaches}
 use Rattle.lower.proofs.words.Steps.{at, waiting_for, lt_true, left_of, Goal, Moves, behind as step_behind}

@@ -40,7 +40,8 @@ use Rattle.lower.specs.Lowered.{show_kept, open_object, open_small}
 use Rattle.rt_cast.specs.DynWords.{small_dyn, IsDynBy}
 use Rattle.rt_cast.proofs.Public.{SmallIs, small_is, tag_read, no_tag, untagged, eq_false}
 use Rattle.lower.proofs.heap.Filled.{stands, word_there, header_there}
-use Rattle.lower.proofs.words.Steps.{Comes, Calm, Goal, here, loads, computes, if_true, if_false, falls_through, left_of}
+use Rattle.lower.proofs.words.Steps.{Comes, Calm, Goal, here, loads, computes, if_true, if_false, falls_through}
+use Rattle.lower.proofs.words.Steps.{left_of}
 use Rattle.lower.proofs.words.Credits.{by_go}
 use Rattle.lower.proofs.words.Services.{return_price}
 use Rattle.lower.proofs.words.EmitPrices.{source_most, number_most}

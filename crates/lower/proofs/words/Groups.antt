@@ -37,7 +37,8 @@ use Rattle.lower.proofs.words.Arithmetic.{header_word, header_small}
 use Rattle.lower.proofs.words.Steps.{at, Calm, computes, stores, code_addresses, requests, takes, lt_true, le_true}
 use Rattle.lower.proofs.words.Steps.{le_false}
 use Rattle.lower.proofs.words.Scene.{Scene, Carries, CarryAll, Arrives}
-use Rattle.lower.proofs.simulation.RelationKept.{word_here, word_other, Named, SameNamed, same_then, local_high, IsFree, Between}
+use Rattle.lower.proofs.simulation.RelationKept.{word_here, word_other, Named, SameNamed, same_then, local_high, IsFree}
+use Rattle.lower.proofs.simulation.RelationKept.{Between}
 use Rattle.lower.proofs.simulation.RelationKept.{Behind, set_named, free_other, knows_same, OwnName, LowName, HighName}
 use Rattle.lower.proofs.simulation.RelationKept.{named_local}
 use Rattle.lower.proofs.words.Operands.{Changes, KnowsHere, fetch_reads, and_true, added, found_same}

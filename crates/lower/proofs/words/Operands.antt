@@ -35,7 +35,8 @@ use Rattle.lower.proofs.heap.Filled.{WordThere, word_there}
 use Rattle.lower.proofs.heap.CarriedLater.{carried_at, function_small}
 use Rattle.lower.proofs.words.Steps.{at, Calm, computes, loads}
 use Rattle.lower.proofs.words.Scene.{Scene, Carries, CarryAll, Arrives}
-use Rattle.lower.proofs.simulation.RelationKept.{word_here, word_other, Named, OwnName, LowName, HighName, named_local, SameNamed}
+use Rattle.lower.proofs.simulation.RelationKept.{word_here, word_other, Named, OwnName, LowName, HighName, named_local}
+use Rattle.lower.proofs.simulation.RelationKept.{SameNamed}
 use Rattle.lower.proofs.simulation.RelationKept.{knows_same}
 
 -- all words but one are the same
