@@ -1,16 +1,16 @@
 -- Cells in memory: what a store into a cell changes, and cells that are added.
-use Rattle.std.proofs.Common.{◌≡◌, ◌≢◌, ◌⊎◌, inl, inr, ℕ, zero, suc, ◌+◌, ◌*◌, ◌<◌, ◌≤◌, Bool, true, false, cond}
-use Rattle.std.proofs.Common.{nat_eq}
+use Rattle.std.proofs.Common.{◌≡◌, ◌≢◌, ◌⊎◌, inl, inr, ℕ, zero, suc, ◌+◌, ◌*◌, ◌^◌, ◌<◌, ◌≤◌, Bool, true, false}
+use Rattle.std.proofs.Common.{cond, nat_eq}
 use Rattle.std.proofs.Common.{List, [], ◌∷◌, ◌++◌, length, Some, refl, sym, ap, ◌∙◌, subst, arith, eqb-true}
 use Rattle.std.specs.Prelude.{slice_get, slice_set}
 use Rattle.rv_machine.specs.Memory.{Memory, store_bytes}
-use Rattle.rv_machine.proofs.Public.{stored_outside}
+use Rattle.rv_machine.proofs.Public.{stored_outside, load_stored}
 use Rattle.low_ir.specs.Run.{Setting}
 use Rattle.coercion_norm.specs.Objects.{Object, Cell, bytes_of, bytes_of_all, object_at}
 use Rattle.coercion_norm.specs.Held.{Layout, There}
 use Rattle.flat_ir.specs.Bodies.{Proc}
 use Rattle.flat_ir.specs.Machine.{FlatValue, FlatStore}
-use Rattle.rt_cast.specs.Objects.{HoldsWords, HoldsObject, Holds}
+use Rattle.rt_cast.specs.Objects.{HasWord, HoldsWords, HoldsObject, Holds}
 use Rattle.rt_cast.specs.States.{Heap, Placed}
 use Rattle.lower.specs.Storage.{Filled}
 use Rattle.lower.specs.Meanings.{Meaning}
@@ -76,6 +76,26 @@ holds_stored m (x ∷ os) at w head count p y h e low high =
           ih f,
         )
 
+-- a word of a list is another one, and so it is in memory
+pub set_length : {A : Type 0} (xs : List A) (i : ℕ) (x : A) → length (slice_set xs i x) ≡ length xs
+set_length [] i x = refl
+set_length (y ∷ xs) zero x = refl
+set_length (y ∷ xs) (suc i) x = ap suc (set_length xs i x)
+
+pub words_stored : (m : Memory) (at p w : ℕ) (ws : List ℕ) (i : ℕ) → w < 2 ^ 64 → i < length ws → p ≡ at + 8 * i
+    → HoldsWords m at ws → HoldsWords (store_bytes 8 m p w) at (slice_set ws i w)
+words_stored m at p w [] i small lt e h = absurd (let z : ⊥ = omega (arith, lt) in z)
+words_stored m at p w (x ∷ ws) zero small lt e h =
+    let here : p ≡ at = omega (arith, e) in (
+      subst (λ n. HasWord (store_bytes 8 m p w) n w) here (record { is = load_stored 8 m p w small; small = small }),
+      words_same m (store_bytes 8 m p w) (at + 8) ws
+          (λ j a b. stored_outside 8 m p w j (inr (omega (arith, a, here)))) h.1,
+    )
+words_stored m at p w (x ∷ ws) (suc i) small lt e h = (
+  word_same m (store_bytes 8 m p w) at x (λ j a b. stored_outside 8 m p w j (inl (omega (arith, b, e)))) h.0,
+  words_stored m (at + 8) p w ws i small (omega (arith, lt)) (omega (arith, e)) h.1,
+)
+
 -- the last of these, which rise from a bound on, is below another
 abbrev pub AllBelow : ℕ → List ℕ → ℕ → Type 0
 AllBelow low [] new = low ≤ new
@@ -90,6 +110,14 @@ there_is l objects w o p before (inl e) f =
     let y = found_within objects l.region w p f in
     let z = some_bytes o in
     absurd (omega (arith, x.high, y.low, z, before))
+
+-- one object stands at an address
+pub there_same : (l : Layout) (objects : List Object) (w : ℕ) (o p : Object) → l.first + bytes_of_all l.statics ≤ l.region
+    → There l objects w o → There l objects w p → o ≡ p
+there_same l objects w o p before (inl e) (inl f) = same_some o p (sym e ∙ f)
+there_same l objects w o p before (inl e) (inr f) = there_is l objects w o p before (inl e) f
+there_same l objects w o p before (inr e) (inl f) = sym (there_is l objects w p o before (inl f) e)
+there_same l objects w o p before (inr e) (inr f) = same_some o p (sym e ∙ f)
 
 module _ (l : Layout) (address : ℕ → ℕ) (procs : List Proc) (meaning : Meaning) (places : List ℕ)
     (objects : List Object) where

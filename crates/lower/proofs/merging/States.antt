@@ -48,12 +48,13 @@ negative_is n e = let f = (fits_wrapped (negsuc n) e).sfits in omega (arith, f)
 pub small_fits : (n : ℕ) → n < 2 ^ 63 → int_wrap w64 (pos n) ≡ pos n
 small_fits n lt = int_wrap_fits w64 (pos n) (fits_signed_from_abs w64 (pos n) lt)
 
-calls_blame : (x y labels : ℕ) (world : WorldState) → environment_call 3 x y labels world
+-- the environment call of a blame
+pub calls_blame : (x y labels : ℕ) (world : WorldState) → environment_call 3 x y labels world
     ≡ record { effect = if Rattle.std.specs.Prelude.nat_lt x labels then Blamed x else Refused; world = world }
 unfolding environment_call
 calls_blame x y labels world = refl
 
-in_front : (xs ys : List Pos) (x : ℕ) (p : Pos) → slice_get xs x ≡ Some p → x < length xs
+pub in_front : (xs ys : List Pos) (x : ℕ) (p : Pos) → slice_get xs x ≡ Some p → x < length xs
 in_front [] ys x p e = none_some e
 in_front (y ∷ xs) ys zero p e = omega arith
 in_front (y ∷ xs) ys (suc x) p e = let z = in_front xs ys x p e in omega (arith, z)

@@ -13,7 +13,6 @@ use Rattle.run_laws.specs.Runs.{Verdict as EndsWith}
 use Rattle.run_laws.specs.Machines.{Reaches}
 use Rattle.rv_machine.specs.Memory.{Memory, store_bytes}
 use Rattle.rv_machine.specs.Mach.{ending_of}
-use Rattle.rv_machine.proofs.Public.{stored_outside, load_stored}
 use Rattle.core_calc.specs.Account.{Measures}
 use Rattle.low_ir.specs.Prices.{CostsAtMost}
 use Rattle.low_ir.specs.Run.{Setting, LowState, low_machine}
@@ -36,7 +35,7 @@ use Rattle.flat_ir.specs.FlatTally.{Cost, act_cost, merged_prices}
 use Rattle.flat_ir.specs.Machine.{FlatValue, FlatFrame, FlatStore, FlatAfter, flat_operate, flat_arity, flat_entered}
 use Rattle.rt_cast.specs.ComposeCodes.{cast}
 use Rattle.rt_cast.specs.LightCasts.{cast_words_of, cast_price_of}
-use Rattle.rt_cast.specs.Objects.{HasWord, HoldsWords}
+use Rattle.rt_cast.specs.Objects.{HoldsWords}
 use Rattle.rt_cast.specs.Procs.{Stand}
 use Rattle.rt_cast.specs.States.{Placed, IsReady, Filled as RtFilled, Within, entered, heap_of}
 use Rattle.rt_cast.specs.Carried.{IsVery, Carries}
@@ -53,8 +52,8 @@ use Rattle.lower.specs.Keeping.{FitsMeasures}
 use Rattle.lower.specs.SchemeLaws.{Here, StopsNow, After, Goes, Returns, ReturnsAt, Answers}
 use Rattle.lower.specs.SchemeLaws.{OperatorDone, Aim, at_or_zero, operator_leaves}
 use Rattle.lower.proofs.heap.CarriedLater.{cells_later, cells_below, carried_small, all_later, function_there}
-use Rattle.lower.proofs.heap.Cells.{cells_stored, as_many_cells, there_is}
-use Rattle.lower.proofs.heap.Objects.{none_some, same_some, word_same, words_same}
+use Rattle.lower.proofs.heap.Cells.{cells_stored, as_many_cells, set_length, words_stored, there_same}
+use Rattle.lower.proofs.heap.Objects.{none_some, same_some, words_same}
 use Rattle.lower.proofs.merging.Laws.{merged_laws}
 use Rattle.lower.proofs.merging.Like.{Like, solid_head, like_of, like_back, solid}
 use Rattle.lower.proofs.merging.Reads.{no_proxy, solid_same}
@@ -70,29 +69,10 @@ use Rattle.lower.proofs.merging.States.{in_region, counted}
 
 -- ---- a word of a list, and an element of a cell
 
-set_length : {A : Type 0} (xs : List A) (i : ℕ) (x : A) → length (slice_set xs i x) ≡ length xs
-set_length [] i x = refl
-set_length (y ∷ xs) zero x = refl
-set_length (y ∷ xs) (suc i) x = ap suc (set_length xs i x)
-
 element_inside : {A : Type 0} (xs : List A) (i : ℕ) (x : A) → slice_get xs i ≡ Some x → i < length xs
 element_inside [] i x e = none_some e
 element_inside (y ∷ xs) zero x e = omega arith
 element_inside (y ∷ xs) (suc i) x e = let z = element_inside xs i x e in omega (arith, z)
-
-words_stored : (m : Memory) (at p w : ℕ) (ws : List ℕ) (i : ℕ) → w < 2 ^ 64 → i < length ws → p ≡ at + 8 * i
-    → HoldsWords m at ws → HoldsWords (store_bytes 8 m p w) at (slice_set ws i w)
-words_stored m at p w [] i small lt e h = absurd (let z : ⊥ = omega (arith, lt) in z)
-words_stored m at p w (x ∷ ws) zero small lt e h =
-    let here : p ≡ at = omega (arith, e) in (
-      subst (λ n. HasWord (store_bytes 8 m p w) n w) here (record { is = load_stored 8 m p w small; small = small }),
-      words_same m (store_bytes 8 m p w) (at + 8) ws
-          (λ j a b. stored_outside 8 m p w j (inr (omega (arith, a, here)))) h.1,
-    )
-words_stored m at p w (x ∷ ws) (suc i) small lt e h = (
-  word_same m (store_bytes 8 m p w) at x (λ j a b. stored_outside 8 m p w j (inl (omega (arith, b, e)))) h.0,
-  words_stored m (at + 8) p w ws i small (omega (arith, lt)) (omega (arith, e)) h.1,
-)
 
 blames_or_gives : (label : ℕ) (y : Merged ℕ) (r : Outcome ℕ) → r ≡ Blames label → r ≡ Gives y → ⊥
 blames_or_gives label y r e f = cc
@@ -105,14 +85,6 @@ no_dyn a kept u e = cc
 
 fixed_or_cell : (x y : ℕ) (ws : List ℕ) (n : ℕ) → Fixed x ws ≡ Cell y n → ⊥
 fixed_or_cell x y ws n e = cc
-
--- one object stands at an address
-there_same : (l : Layout) (objects : List Object) (w : ℕ) (o p : Object) → l.first + bytes_of_all l.statics ≤ l.region
-    → There l objects w o → There l objects w p → o ≡ p
-there_same l objects w o p before (inl e) (inl f) = same_some o p (sym e ∙ f)
-there_same l objects w o p before (inl e) (inr f) = there_is l objects w o p before (inl e) f
-there_same l objects w o p before (inr e) (inl f) = sym (there_is l objects w p o before (inl f) e)
-there_same l objects w o p before (inr e) (inr f) = same_some o p (sym e ∙ f)
 
 module _ (setting : Setting) (l : Layout) (procs : List Proc) (casts : List TypeCast) (m : Measures)
     (measured : FitsMeasures l m) (first : ℕ) (placed : Placed setting l) (types : TypesStand l)

@@ -1,0 +1,138 @@
+-- What known casts decide on, whatever the value.
+use Rattle.std.proofs.Common.{◌≡◌, ℕ, suc, ◌+◌, ◌*◌, ◌<◌, ◌^◌, Bool, true, false, List, [], ◌∷◌, Some, refl, sym, ap, ◌∙◌}
+use Rattle.std.proofs.Common.{subst, arith}
+use Rattle.std.specs.Prelude.{if◌then◌else◌, ◌==◌}
+use Rattle.grift_base.specs.Types.{TypeRow, TypeRows, IntRow, BoolRow, UnitRow, DynRow, FunRow, TupleRow, RefRow}
+use Rattle.grift_base.specs.Types.{VectRow, row_at, same_head, is_base}
+use Rattle.coercion_norm.specs.Modes.{TypeCast, type_cast, Shape, Decision, Keeping, Wrapping, Blaming, NoCast, piling}
+use Rattle.coercion_norm.specs.Modes.{fits}
+use Rattle.piled_tests.specs.Piling.{fate, IsBoxCast, most_labels}
+
+-- a cast between plain types, and what it does
+pub record IsPlain (types : TypeRows) (cast : TypeCast) (part : ℕ) : Type 0 where
+  pub inner : TypeRow
+  pub outer : TypeRow
+  pub from_is : row_at types cast.from ≡ Some inner
+  pub to_is : row_at types cast.to ≡ Some outer
+  pub plain : is_base inner ≡ true
+  pub plain_outer : is_base outer ≡ true
+  pub part_is : part ≡ fate inner outer cast.label
+  pub small : cast.label < most_labels
+
+abbrev pub kept_or_blamed : TypeRow → TypeRow → ℕ → Decision TypeCast
+kept_or_blamed inner outer label = if same_head inner outer then Keeping else Blaming label
+
+-- a value that fits is kept or blamed
+pub plain_decides : (types : TypeRows) (all : List TypeCast) (cast : TypeCast) (part : ℕ) → (p : IsPlain types cast part)
+    → (shape : Shape TypeCast)
+    → (piling types all).cast cast shape
+    ≡ (if fits p.inner cast shape then kept_or_blamed p.inner p.outer cast.label else NoCast)
+plain_decides types all cast part p shape =
+    let e = p.from_is in
+    let f = p.to_is in
+    rw (e, f) (by p.inner p.outer p.plain p.plain_outer (fits p.inner cast shape))
+  where
+    by : (inner outer : TypeRow) → is_base inner ≡ true → is_base outer ≡ true → (b : Bool)
+        → (if b then Rattle.coercion_norm.specs.Modes.decide inner outer cast shape else NoCast)
+        ≡ (if b then kept_or_blamed inner outer cast.label else NoCast)
+    by inner outer h g false = refl
+    by IntRow IntRow h g true = refl
+    by IntRow BoolRow h g true = refl
+    by IntRow UnitRow h g true = refl
+    by BoolRow IntRow h g true = refl
+    by BoolRow BoolRow h g true = refl
+    by BoolRow UnitRow h g true = refl
+    by UnitRow IntRow h g true = refl
+    by UnitRow BoolRow h g true = refl
+    by UnitRow UnitRow h g true = refl
+    by IntRow DynRow h g true = absurd (let z : ⊥ = cc in z)
+    by IntRow (FunRow ps a) h g true = absurd (let z : ⊥ = cc in z)
+    by IntRow (TupleRow ps) h g true = absurd (let z : ⊥ = cc in z)
+    by IntRow (RefRow a) h g true = absurd (let z : ⊥ = cc in z)
+    by IntRow (VectRow a) h g true = absurd (let z : ⊥ = cc in z)
+    by BoolRow DynRow h g true = absurd (let z : ⊥ = cc in z)
+    by BoolRow (FunRow ps a) h g true = absurd (let z : ⊥ = cc in z)
+    by BoolRow (TupleRow ps) h g true = absurd (let z : ⊥ = cc in z)
+    by BoolRow (RefRow a) h g true = absurd (let z : ⊥ = cc in z)
+    by BoolRow (VectRow a) h g true = absurd (let z : ⊥ = cc in z)
+    by UnitRow DynRow h g true = absurd (let z : ⊥ = cc in z)
+    by UnitRow (FunRow ps a) h g true = absurd (let z : ⊥ = cc in z)
+    by UnitRow (TupleRow ps) h g true = absurd (let z : ⊥ = cc in z)
+    by UnitRow (RefRow a) h g true = absurd (let z : ⊥ = cc in z)
+    by UnitRow (VectRow a) h g true = absurd (let z : ⊥ = cc in z)
+    by DynRow outer h g true = absurd (let z : ⊥ = cc in z)
+    by (FunRow ps a) outer h g true = absurd (let z : ⊥ = cc in z)
+    by (TupleRow ps) outer h g true = absurd (let z : ⊥ = cc in z)
+    by (RefRow a) outer h g true = absurd (let z : ⊥ = cc in z)
+    by (VectRow a) outer h g true = absurd (let z : ⊥ = cc in z)
+
+-- ---- the casts of what is read and written through a wrapper
+
+module _ (types : TypeRows) (all : List TypeCast) (cast : TypeCast) (part : ℕ) (b : IsBoxCast types cast part) where
+  abbrev pub read_cast : TypeCast
+  read_cast = type_cast b.content cast.label b.wanted
+
+  abbrev pub written_cast : TypeCast
+  written_cast = type_cast b.wanted cast.label b.content
+
+  pub reads_by : (piling types all).reading cast ≡ Some read_cast
+  reads_by = let e = b.from_is in let f = b.to_is in rw (e, f) refl
+
+  pub writes_by : (piling types all).writing cast ≡ Some written_cast
+  writes_by = let e = b.from_is in let f = b.to_is in rw (e, f) refl
+
+  pub read_plain : IsPlain types read_cast part
+  read_plain = record {
+    inner = b.inner;
+    outer = b.outer;
+    from_is = b.content_is;
+    to_is = b.wanted_is;
+    plain = b.plain;
+    plain_outer = b.plain_outer;
+    part_is = b.part_is;
+    small = b.small;
+  }
+
+  pub written_plain : IsPlain types written_cast part
+  written_plain = record {
+    inner = b.outer;
+    outer = b.inner;
+    from_is = b.wanted_is;
+    to_is = b.content_is;
+    plain = b.plain_outer;
+    plain_outer = b.plain;
+    part_is = b.part_is ∙ both_ways b.inner b.outer b.plain b.plain_outer;
+    small = b.small;
+  }
+    where
+      both_ways : (inner outer : TypeRow) → is_base inner ≡ true → is_base outer ≡ true
+          → fate inner outer cast.label ≡ fate outer inner cast.label
+      both_ways IntRow IntRow h g = refl
+      both_ways IntRow BoolRow h g = refl
+      both_ways IntRow UnitRow h g = refl
+      both_ways BoolRow IntRow h g = refl
+      both_ways BoolRow BoolRow h g = refl
+      both_ways BoolRow UnitRow h g = refl
+      both_ways UnitRow IntRow h g = refl
+      both_ways UnitRow BoolRow h g = refl
+      both_ways UnitRow UnitRow h g = refl
+      both_ways IntRow DynRow h g = refl
+      both_ways IntRow (FunRow ps a) h g = refl
+      both_ways IntRow (TupleRow ps) h g = refl
+      both_ways IntRow (RefRow a) h g = refl
+      both_ways IntRow (VectRow a) h g = refl
+      both_ways BoolRow DynRow h g = refl
+      both_ways BoolRow (FunRow ps a) h g = refl
+      both_ways BoolRow (TupleRow ps) h g = refl
+      both_ways BoolRow (RefRow a) h g = refl
+      both_ways BoolRow (VectRow a) h g = refl
+      both_ways UnitRow DynRow h g = refl
+      both_ways UnitRow (FunRow ps a) h g = refl
+      both_ways UnitRow (TupleRow ps) h g = refl
+      both_ways UnitRow (RefRow a) h g = refl
+      both_ways UnitRow (VectRow a) h g = refl
+      both_ways DynRow outer h g = absurd (let z : ⊥ = cc in z)
+      both_ways (FunRow ps a) outer h g = absurd (let z : ⊥ = cc in z)
+      both_ways (TupleRow ps) outer h g = absurd (let z : ⊥ = cc in z)
+      both_ways (RefRow a) outer h g = absurd (let z : ⊥ = cc in z)
+      both_ways (VectRow a) outer h g = absurd (let z : ⊥ = cc in z)

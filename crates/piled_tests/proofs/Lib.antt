@@ -1,0 +1,10 @@
+mod Laws
+mod Walking
+mod Piles
+mod Deciding
+mod Turns
+mod Looking
+mod Reading
+mod Storing
+mod Writing
+mod Vectors

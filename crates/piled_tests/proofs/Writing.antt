@@ -1,0 +1,319 @@
+-- Boxes are written through their wrappers: what is written is cast by the outermost wrapper first.
+use Rattle.std.proofs.Common.{◌≡◌, ◌⊎◌, inl, inr, ℕ, zero, suc, ◌+◌, ◌*◌, ◌^◌, ◌<◌, ◌≤◌, Bool, true, false, List, []}
+use Rattle.std.proofs.Common.{◌∷◌, ◌++◌, length, Option, Some, None, refl, sym, ap, ◌∙◌, subst, arith, slice_get, le_refl}
+use Rattle.std.specs.Prelude.{◌==◌, slice_set}
+use Rattle.grift_base.specs.declared.operators.PrimOp.TheVariants.{BoxSet}
+use Rattle.grift_base.specs.declared.places.Pos.{Pos}
+use Rattle.grift_base.specs.declared.verdicts.Verdict.TheVariants.{Blame}
+use Rattle.run_laws.specs.Runs.{Verdict as EndsWith}
+use Rattle.rv_isa.specs.declared.inst.Cond.TheVariants.{Eq}
+use Rattle.core_calc.specs.Account.{Measures}
+use Rattle.low_ir.specs.declared.code.LowSource.TheVariants.{Word, Number}
+use Rattle.low_ir.specs.Prices.{entering_some}
+use Rattle.low_ir.specs.Procedures.{Code, Done, Return as ReturnCode}
+use Rattle.low_ir.specs.Steps.{Locals, no_locals, set_local}
+use Rattle.low_ir.specs.Run.{Setting, LowState, bind}
+use Rattle.coercion_norm.specs.Modes.{TypeCast, piling}
+use Rattle.coercion_norm.specs.RunValues.{RunInt, RunBool, RunUnit, RunFun, RunTuple, RunLoc, RunWrap, RunInject}
+use Rattle.coercion_norm.specs.ValueSteps.{CastFrame, PrimFrame, Return, On, on_some, run_writes_cell}
+use Rattle.coercion_norm.specs.ValueSteps.{decision_wraps}
+use Rattle.coercion_norm.specs.Held.{Layout, There}
+use Rattle.coercion_norm.specs.Objects.{Object, Cell}
+use Rattle.coercion_norm.specs.ObjectsOfRows.{header}
+use Rattle.flat_ir.specs.Bodies.{Proc}
+use Rattle.flat_ir.specs.Counts.{decision_at}
+use Rattle.flat_ir.specs.FlatTally.{act_cost, cast_cost, piled_prices}
+use Rattle.flat_ir.specs.Machine.{FlatValue, FlatFrame, FlatStore, FlatAfter, flat_arity, flat_entered, flat_cast}
+use Rattle.flat_ir.specs.Machine.{flat_operate}
+use Rattle.rt_cast.specs.PartCodes.{blame_code}
+use Rattle.rt_cast.specs.States.{Placed, entered, heap_of}
+use Rattle.lower.specs.SchemeLaws.{After, Aim, StopsNow, Walks, operator_leaves}
+use Rattle.lower.specs.Storage.{Filled}
+use Rattle.lower.proofs.Public.{as_many}
+use Rattle.lower.proofs.Public.{cell_of, there_is}
+use Rattle.lower.proofs.Public.{at, Comes, Calm, Goal, here, if_true, if_false, stores, left_of}
+use Rattle.piled_tests.specs.Codes.{set_proc}
+use Rattle.piled_tests.specs.Piling.{IsWrapped, piled_meaning, wrapper_object, wrapper_header, most_labels}
+use Rattle.piled_tests.proofs.Deciding.{IsPlain, written_cast, written_plain, writes_by}
+use Rattle.piled_tests.proofs.Laws.{piled_laws}
+use Rattle.piled_tests.proofs.Looking.{inside as inside_of, calm as calm_of, loads_word, looked, blamed}
+use Rattle.piled_tests.proofs.Piles.{Carried, peeled}
+use Rattle.piled_tests.proofs.Reading.{tested, is_zero, is_some}
+use Rattle.piled_tests.proofs.Storing.{after, may, end, wrote}
+use Rattle.piled_tests.proofs.Turns.{FilledAt, CellsAt, C, GoesOn, plain_turn, keeps, blames_it, no_more}
+use Rattle.piled_tests.proofs.Walking.{Way, room_of, on_way, goal, walks, stays, tail_calls, blames}
+
+module _ (setting : Setting) (l : Layout) (procs : List Proc) (casts : List TypeCast) (m : Measures)
+    (placed : Placed setting l) (begins : l.region ≡ setting.region) (own : ℕ)
+    (there : slice_get setting.procs own ≡ Some (set_proc own)) (s : LowState) (places : List ℕ)
+    (objects : List Object) (store : FlatStore TypeCast)
+    (cells : CellsAt setting l procs casts m s places objects store s) (base : List (FlatFrame TypeCast))
+    (u : FlatValue TypeCast) (wu : ℕ) (carried : C setting l procs casts m s places objects store u wu) where
+  abbrev Filling : ℕ → Type 0
+  Filling n = FilledAt setting l procs casts m s places objects store n s
+
+  abbrev Carries : FlatValue TypeCast → ℕ → Type 0
+  Carries v w = C setting l procs casts m s places objects store v w
+
+  abbrev Going : ℕ → Aim piled_meaning setting l procs casts m
+  Going i = GoesOn setting l procs casts m s places objects store base operator_leaves i
+
+  -- the procedure begins with an address
+  abbrev writes_at : ℕ → LowState
+  writes_at w = entered s (set_proc own) (w ∷ wu ∷ [])
+
+  abbrev words_at : ℕ → Locals
+  words_at w = bind 0 (w ∷ wu ∷ []) no_locals
+
+  abbrev inside : List Code → Locals → Code → LowState
+  inside rests locals code = inside_of setting l procs casts m placed s objects rests locals code
+
+  -- a wrapper that was looked at, with what it does
+  abbrev passing : ℕ → ℕ → ℕ → Locals
+  passing w inner part =
+      set_local 0 inner (set_local 3 part (set_local 2 25 (set_local 2 wrapper_header (words_at w))))
+
+  -- a label is blamed
+  abbrev blamed_at : ℕ → ℕ → ℕ → LowState
+  blamed_at w inner label =
+      inside (Done ∷ Done ∷ []) (set_local 3 label (passing w inner (suc label))) (blame_code (Word 3))
+
+  module _ (t : LowState) (asks need n n' : ℕ) (X : ℕ → LowState → Type 0) (same : t.words ≡ s.words)
+      (filled : FilledAt setting l procs casts m s places objects store n s) where
+    abbrev Q : Goal
+    Q = goal setting l procs casts m s t asks need X
+
+    abbrev P : LowState → Type 0
+    P = Way setting l procs casts m s t asks n n'
+
+    abbrev To : LowState → Type 0
+    To v = Comes setting P Q v
+
+    calm : Calm setting P Q 6 s.waiting s.world (heap_of s)
+    calm = calm_of setting l procs casts m placed s objects t asks need n n' X same filled
+
+    -- a wrapper that keeps what is written is passed
+    passes : (w inner : ℕ) → There l objects w (wrapper_object inner 0)
+        → ((credit : ℕ) → need ≤ credit → X credit (writes_at inner)) → To (writes_at w)
+    passes w inner stands go =
+        looked setting l procs casts m placed s objects t asks need n n' X same filled w (wrapper_object inner 0) stands
+        refl 25 refl
+        (if_true setting P Q calm 25 25 refl refl refl
+        (loads_word setting l procs casts m placed s objects t asks need n n' X same filled w wrapper_header
+        (inner ∷ 0 ∷ []) stands 2 0 refl refl refl (omega arith)
+        (loads_word setting l procs casts m placed s objects t asks need n n' X same filled w wrapper_header
+        (inner ∷ 0 ∷ []) stands 1 inner refl refl refl (omega arith)
+        (if_true setting P Q calm 0 0 refl refl refl
+        (tail_calls setting l procs casts m s t asks n n' Q calm (inner ∷ wu ∷ []) (set_proc own) refl there refl refl
+        (omega (arith, same), room_of setting l procs casts m s (writes_at inner) refl (omega arith), go))))))
+
+    -- one that doesn't blames its label
+    fails : (w inner label : ℕ) → label < most_labels → There l objects w (wrapper_object inner (suc label))
+        → ((credit : ℕ) → need ≤ credit → X credit (blamed_at w inner label)) → To (writes_at w)
+    fails w inner label small stands go =
+        looked setting l procs casts m placed s objects t asks need n n' X same filled w
+        (wrapper_object inner (suc label)) stands refl 25 refl
+        (if_true setting P Q calm 25 25 refl refl refl
+        (loads_word setting l procs casts m placed s objects t asks need n n' X same filled w wrapper_header
+        (inner ∷ suc label ∷ []) stands 2 (suc label) refl refl refl (omega arith)
+        (loads_word setting l procs casts m placed s objects t asks need n n' X same filled w wrapper_header
+        (inner ∷ suc label ∷ []) stands 1 inner refl refl refl (omega arith)
+        (if_false setting P Q calm (suc label) 0 refl refl (is_some (suc label) (λ e. omega (arith, e)))
+        (blamed setting l procs casts m placed s objects t asks need n n' X same filled label small refl go)))))
+
+  -- what is left to pay where it begins
+  cost : (w : ℕ) → left_of setting (writes_at w) ≤ 300
+  cost w = let z = ap entering_some there in omega (arith, z)
+
+  here_on_way : (v : LowState) (n : ℕ) → Filling n → heap_of v ≡ heap_of s → v.world ≡ s.world
+      → v.waiting ≡ s.waiting → v.active.count ≤ 24 → Way setting l procs casts m s v 0 n n v
+  here_on_way v n filled same world waits few =
+      on_way setting l procs casts m s v v 0 n n objects
+      (subst (Filled piled_meaning setting l n objects) (sym same) filled) world waits few (omega arith)
+
+  grown_number : (n : ℕ) → Filling n → Filling (n + 0)
+  grown_number n filled = subst Filling (no_more n) filled
+
+  abbrev Operates : ℕ → FlatAfter TypeCast → ℕ → ℕ → LowState → Type 0
+  Operates i x credit n v =
+      After piled_meaning setting l procs casts m s (Going i) x
+      (act_cost procs (piling l.types casts) (piled_prices (piling l.types casts) m)) credit n 0 v
+
+  abbrev write_turn : FlatValue TypeCast → FlatAfter TypeCast
+  write_turn v = flat_operate procs (piling l.types casts) store s.world BoxSet (v ∷ u ∷ []) base
+
+  abbrev Written : FlatValue TypeCast → ℕ → Type 0
+  Written v w =
+      (i : ℕ) × ((n : ℕ) → Filling n → (credit : ℕ) → Operates i (write_turn v) credit n (writes_at w))
+
+  -- a box without wrappers
+  box_written : (cell w : ℕ) → Carries (RunLoc cell false) w → (n : ℕ) → Filling n → (credit : ℕ)
+      → Operates 0 (write_turn (RunLoc cell false)) credit n (writes_at w)
+  box_written cell w c n filled credit = by (slice_get store cell) refl
+    where
+      stands : There l objects w (Cell (header 5 0 1) 1)
+      stands = let one = c.3 refl in subst (λ k. There l objects w (Cell (header 5 0 k) k)) one c.2
+
+      Wrote : Option (List (FlatValue TypeCast)) → Type 0
+      Wrote o =
+          Operates 0 (on_some o (λ old. run_writes_cell (piling l.types casts) (flat_arity procs) (flat_entered procs)
+          store s.world cell (u ∷ []) base)) credit n (writes_at w)
+
+      one_value : (x : FlatValue TypeCast) → slice_get store cell ≡ Some (x ∷ []) → Wrote (Some (x ∷ []))
+      one_value x e = (
+        refl,
+        walks setting l procs casts m s (writes_at w) 0 (credit + 896) operator_leaves n (n + 0) X
+            (looked setting l procs casts m placed s objects (writes_at w) 0 operator_leaves n (n + 0) X refl filled w
+            (Cell (header 5 0 1) 1) stands refl 5 refl
+            (if_false setting (P (writes_at w) 0 operator_leaves n (n + 0) X refl filled)
+            (Q (writes_at w) 0 operator_leaves n (n + 0) X refl filled)
+            (calm (writes_at w) 0 operator_leaves n (n + 0) X refl filled) 5 25 refl refl refl
+            (stores setting (P (writes_at w) 0 operator_leaves n (n + 0) X refl filled)
+            (Q (writes_at w) 0 operator_leaves n (n + 0) X refl filled)
+            (calm (writes_at w) 0 operator_leaves n (n + 0) X refl filled) w wu refl refl
+            (may setting l procs casts m placed begins s places objects store cells n filled cell w (x ∷ []) e c.1 0 u
+            wu carried (omega arith) (w + 8) (omega arith))
+            (end setting l procs casts m placed begins s places objects store cells n filled cell w (x ∷ []) e c.1 0 u
+            wu carried (omega arith) (w + 8) (omega arith))
+            (here setting (P (writes_at w) 0 operator_leaves n (n + 0) X refl filled)
+            (Q (writes_at w) 0 operator_leaves n (n + 0) X refl filled) stored (
+              omega arith,
+              room_of setting l procs casts m s stored refl (omega arith),
+              λ left le. (
+                refl,
+                le,
+                wrote setting l procs casts m placed begins s places objects store cells n filled cell w (x ∷ []) e c.1
+                    0 u wu carried (omega arith) (w + 8) (omega arith) stored (n + 0) (sym (no_more n)) refl refl refl refl,
+              ),
+            )))))
+            (let z = cost w in omega (arith, z)),
+      )
+        where
+          X : ℕ → LowState → Type 0
+          X left v = Going 0 (Return RunUnit) base (slice_set store cell (u ∷ [])) (n + 0) left v
+
+          stored : LowState
+          stored =
+              at s.world
+              (after setting l procs casts m placed begins s places objects store cells n filled cell w (x ∷ []) e c.1 0
+              u wu carried (omega arith) (w + 8) (omega arith)) s.waiting 6 (Done ∷ [])
+              (set_local 2 5 (set_local 2 (header 5 0 1) (words_at w))) (ReturnCode (Number 0))
+
+      -- a box has one value
+      single : (values : List (FlatValue TypeCast)) → slice_get store cell ≡ Some values → length values ≡ 1
+      single values e =
+          let h = cell_of l setting.address procs piled_meaning places objects 0 s.memory places store cells cell w
+          values c.1 e in
+          let same = there_is l objects w (Cell (header 5 0 1) 1) (Cell h.head (length h.words)) placed.before stands
+          h.is in
+          let many = as_many l setting.address procs piled_meaning piled_laws places objects values h.words h.carried in
+          sym many ∙ sym (counts_same (header 5 0 1) h.head 1 (length h.words) same)
+        where
+          counts_same : (x y j k : ℕ) → Cell x j ≡ Cell y k → j ≡ k
+          counts_same x y j k e = cc
+
+      by : (o : Option (List (FlatValue TypeCast))) → slice_get store cell ≡ o → Wrote o
+      by None e = refl
+      by (Some []) e = absurd (let z = single [] e in omega (arith, z))
+      by (Some (x ∷ [])) e = one_value x e
+      by (Some (x ∷ y ∷ more)) e = absurd (let z = single (x ∷ y ∷ more) e in omega (arith, z))
+
+  -- through all wrappers
+  pub boxes_set : (v : FlatValue TypeCast) (w : ℕ) → Carries v w → Written v w
+  boxes_set (RunInt x) w c = (0, λ n filled credit. refl)
+  boxes_set (RunBool x) w c = (0, λ n filled credit. refl)
+  boxes_set RunUnit w c = (0, λ n filled credit. refl)
+  boxes_set (RunFun code captured) w c = (0, λ n filled credit. refl)
+  boxes_set (RunTuple values) w c = (0, λ n filled credit. refl)
+  boxes_set (RunLoc cell true) w c = (0, λ n filled credit. refl)
+  boxes_set (RunLoc cell false) w c = (0, λ n filled credit. box_written cell w c n filled credit)
+  boxes_set (RunInject v kept) w c = (0, λ n filled credit. refl)
+  boxes_set (RunWrap v cast) w c =
+      let p = peeled l objects setting procs places v cast w c in by (boxes_set v p.0 p.1) (tested p.2.part)
+    where
+      z : (inner : ℕ) × Carried l objects setting procs places v [] inner
+          × IsWrapped l objects cast inner w
+      z = peeled l objects setting procs places v cast w c
+
+      i : IsWrapped l objects cast z.0 w
+      i = z.2
+
+      inner : ℕ
+      inner = z.0
+
+      first : TypeCast
+      first = written_cast l.types casts cast i.part i.is
+
+      plain : IsPlain l.types first i.part
+      plain = written_plain l.types casts cast i.part i.is
+
+      frames : List (FlatFrame TypeCast)
+      frames = PrimFrame BoxSet (v ∷ []) ∷ base
+
+      -- the turn in which the operator goes into the wrapper
+      goes_in : (k : ℕ) (n : ℕ) → Filling n → (credit : ℕ)
+          → ((credit : ℕ) → After piled_meaning setting l procs casts m s (Going k)
+          (flat_cast procs (piling l.types casts) store s.world u first frames)
+          (cast_cost procs (piling l.types casts)
+          (piled_prices (piling l.types casts) m) (Some first) u) credit (n + 0)
+          (decision_wraps
+          (decision_at procs (piling l.types casts) (Some first) u)) (writes_at w))
+          → Operates (suc k) (write_turn (RunWrap v cast)) credit n (writes_at w)
+      goes_in k n filled credit h =
+          subst (λ o. Operates (suc k) (on_some o (λ part. On (Return u)
+          (CastFrame part ∷ PrimFrame BoxSet (v ∷ []) ∷ base) store s.world)) credit n (writes_at w))
+          (sym (writes_by l.types casts cast i.part i.is)) (
+            refl,
+            stays setting l procs casts m s (writes_at w) 0 (credit + 896) n (n + 0)
+                (λ left y. Going (suc k) (Return u) (CastFrame first ∷ frames) store (n + 0) left y)
+                (room_of setting l procs casts m s (writes_at w) refl (omega arith)) (
+                  tt,
+                  here_on_way (writes_at w) (n + 0) (grown_number n filled) refl refl refl (omega arith),
+                  h (credit + 896),
+                ),
+          )
+
+      by : Written v z.0 → (i.part ≡ 0) ⊎ (i.part ≡ 0 → ⊥) → Written (RunWrap v cast) w
+      by r (inl none) = (
+            suc (suc r.0),
+            λ n filled credit. goes_in (suc r.0) n filled credit (λ credit.
+                plain_turn setting l procs casts m s places objects store base operator_leaves first i.part plain
+                (suc r.0) frames u credit (n + 0) (writes_at w)
+                (keeps setting l procs casts m s places objects store base operator_leaves first i.part plain none
+                (suc r.0) frames u credit (n + 0) (writes_at w) (
+                  refl,
+                  walks setting l procs casts m s (writes_at w) 16 (credit + 896) 0 (n + 0) (n + 0 + 0)
+                      (λ left y. Going (suc r.0) (Return u) frames store (n + 0 + 0) left y)
+                      (passes (writes_at w) 16 0 (n + 0) (n + 0 + 0)
+                      (λ left y. Going (suc r.0) (Return u) frames store (n + 0 + 0) left y) refl
+                      (grown_number n filled) w inner
+                      (subst (λ p. There l objects w (wrapper_object inner p)) none i.there)
+                      (λ credit le. (
+                        tt,
+                        here_on_way (writes_at inner) (n + 0 + 0)
+                            (grown_number (n + 0) (grown_number n filled)) refl refl refl (omega arith),
+                        r.1 (n + 0 + 0) (grown_number (n + 0) (grown_number n filled)) credit,
+                      )))
+                      (let y = cost w in omega (arith, y)),
+                ))),
+          )
+      by r (inr some) = (
+        suc 0,
+        λ n filled credit. goes_in 0 n filled credit (λ credit.
+            plain_turn setting l procs casts m s places objects store base operator_leaves first i.part plain 0
+            frames u credit (n + 0) (writes_at w)
+            (blames_it setting l procs casts m s places objects store base operator_leaves first i.part plain some 0
+            frames u credit (n + 0) (writes_at w) (λ part_is. (
+              refl,
+              λ place found.
+                  let fill = grown_number n filled in
+                  let Y = λ (left : ℕ) (y : LowState). StopsNow piled_meaning setting l procs casts m s (n + 0)
+                  (EndsWith (Blame place)) y in
+                  walks setting l procs casts m s (writes_at w) 16 (credit + 896) 0 (n + 0) (n + 0) Y
+                  (fails (writes_at w) 16 0 (n + 0) (n + 0) Y refl fill w inner first.label plain.small
+                  (subst (λ p. There l objects w (wrapper_object inner p)) part_is i.there)
+                  (λ left le. blames setting l procs casts m s (n + 0) first.label place found objects (heap_of s) fill
+                  (Done ∷ Done ∷ []) (blamed_at w inner first.label).active.locals refl))
+                  (let y = cost w in omega (arith, y)),
+            )))),
+      )

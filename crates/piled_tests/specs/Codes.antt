@@ -1,0 +1,113 @@
+-- The procedures of the scheme in which casts of boxes pile up. They are numbered without gaps.
+use Rattle.std.specs.Prelude.{ℕ, ◌+◌, List, [], ◌∷◌}
+use Rattle.grift_base.specs.declared.verdicts.Trap.TheVariants.{Index}
+use Rattle.rv_isa.specs.declared.inst.Cond.TheVariants.{Eq, Ltu}
+use Rattle.low_ir.specs.declared.code.LowSource.TheVariants.{Word, Number}
+use Rattle.low_ir.specs.declared.code.WordOp.TheVariants.{Add, And, Sll, Srl, Sub}
+use Rattle.low_ir.specs.Procedures.{Code, Set, Compute, Load, Store, Build, Return, TailCall, Proc}
+use Rattle.rt_cast.specs.PartCodes.{proc, either, blame_code}
+use Rattle.rt_cast.specs.Words.{kind_mask, count_bits, word_shift}
+use Rattle.rt_refs.specs.FillCodes.{fill_loop, fill_proc}
+use Rattle.rt_refs.specs.Products.{product_loop, multiply}
+use Rattle.rt_refs.specs.Quotients.{quotient_loop, divide}
+use Rattle.rt_refs.specs.TrapCodes.{trap_code}
+use Rattle.lower.specs.declared.served.Served.{Served}
+use Rattle.piled_tests.specs.Piling.{wrapper_header}
+
+-- word 3 is one more than the label that is blamed
+abbrev pub blame_part : Code
+blame_part = Compute Sub 3 (Word 3) (Number 1) (blame_code (Word 3))
+
+-- takes a word, and that of a cast: whether it wraps, and what is done else
+abbrev pub cast_code : Code
+cast_code =
+    Compute And 2 (Word 1) (Number 1) (
+    Compute Srl 3 (Word 1) (Number 1) (
+    either Eq (Word 2) (Number 1)
+    (Build 4 (Number wrapper_header ∷ Word 0 ∷ Word 3 ∷ []) (Return (Word 4))) (
+    either Eq (Word 3) (Number 0) (Return (Word 0)) blame_part)))
+
+abbrev pub cast_proc : Proc
+cast_proc = proc 2 6 cast_code
+
+-- no tuple and no function is wrapped, and nothing is in Dyn, so these two are never called
+abbrev pub idle_proc : ℕ → Proc
+idle_proc params = proc params 8 (Return (Number 0))
+
+-- word 2 is the kind of the object in word 0
+abbrev pub look : Code → Code
+look rest = Load 2 (Word 0) 0 (Compute And 2 (Word 2) (Number kind_mask) rest)
+
+module _ (own : ℕ) where
+  -- Reads a box through its wrappers. Word 1 is what the innermost wrapper so far that doesn't keep what is read does
+  -- with it, and 0 where all keep it.
+  abbrev pub unbox_code : Code
+  unbox_code =
+      look (
+      either Eq (Word 2) (Number 25)
+      (Load 3 (Word 0) 16 (
+      Load 0 (Word 0) 8 (
+      either Eq (Word 3) (Number 0) (TailCall own (Word 0 ∷ Word 1 ∷ [])) (TailCall own (Word 0 ∷ Word 3 ∷ []))))) (
+      either Eq (Word 1) (Number 0) (Load 2 (Word 0) 8 (Return (Word 2))) (Set 3 (Word 1) blame_part)))
+
+  abbrev pub unbox_proc : Proc
+  unbox_proc = proc 2 6 unbox_code
+
+  -- writes word 1 to a box through its wrappers, of which the outermost one comes first
+  abbrev pub set_code : Code
+  set_code =
+      look (
+      either Eq (Word 2) (Number 25)
+      (Load 3 (Word 0) 16 (
+      Load 0 (Word 0) 8 (
+      either Eq (Word 3) (Number 0) (TailCall own (Word 0 ∷ Word 1 ∷ [])) blame_part)))
+      (Store (Word 1) (Word 0) 8 (Return (Number 0))))
+
+  abbrev pub set_proc : Proc
+  set_proc = proc 2 6 set_code
+
+-- Word 4 becomes how many elements the vector in word 1 has. Where the index in word 2 is one of them it becomes eight
+-- bytes below the element's address.
+abbrev pub in_vector : Code → Code
+in_vector rest =
+    Load 4 (Word 1) 0 (
+    Compute Srl 4 (Word 4) (Number count_bits) (
+    either Ltu (Word 2) (Word 4)
+    (Compute Sll 2 (Word 2) (Number word_shift) (Compute Add 2 (Word 2) (Word 1) rest)) (trap_code Index 4 5)))
+
+-- takes what is read (0 a box, 1 an element, 2 a length), an address and an index
+abbrev pub read_proc : ℕ → Proc
+read_proc unbox =
+    proc 3 6 (
+    either Eq (Word 0) (Number 0) (TailCall unbox (Word 1 ∷ Number 0 ∷ [])) (
+    either Eq (Word 0) (Number 2)
+    (Load 4 (Word 1) 0 (Compute Srl 4 (Word 4) (Number count_bits) (Return (Word 4))))
+    (in_vector (Load 2 (Word 2) 8 (Return (Word 2))))))
+
+-- takes what is written (0 a box, 1 an element), an address, an index and a word
+abbrev pub write_proc : ℕ → Proc
+write_proc set =
+    proc 4 6 (
+    either Eq (Word 0) (Number 0) (TailCall set (Word 1 ∷ Word 3 ∷ []))
+    (in_vector (Store (Word 3) (Word 2) 8 (Return (Number 0)))))
+
+-- those that code calls, and behind them those that these call
+abbrev pub piled_procs : ℕ → List Proc
+piled_procs first =
+    cast_proc ∷ idle_proc 4 ∷ idle_proc 8 ∷ read_proc (9 + first) ∷ write_proc (10 + first) ∷ fill_proc (8 + first)
+    ∷ multiply (11 + first) ∷ divide (12 + first) ∷ fill_loop (8 + first) ∷ unbox_proc (9 + first)
+    ∷ set_proc (10 + first) ∷ product_loop (11 + first) ∷ quotient_loop (12 + first) ∷ []
+
+abbrev pub piled_numbers : ℕ → Served
+piled_numbers first = record {
+  cast = first;
+  project = 1 + first;
+  apply = 2 + first;
+  read = 3 + first;
+  write = 4 + first;
+  fill = 5 + first;
+  multiply = 6 + first;
+  divide = 7 + first;
+  cast_at = [];
+  ways = [];
+}

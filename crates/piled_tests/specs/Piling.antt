@@ -1,0 +1,125 @@
+-- A scheme in which casts pile up: each cast of a box makes an object of three words over what it wraps. It knows casts
+-- between Int, Bool, Unit and boxes of these; of such types each part is kept as it is or blamed.
+use Rattle.std.specs.Prelude.{◌≡◌, ℕ, suc, ◌+◌, ◌*◌, ◌<◌, ◌^◌, true, Bool, if◌then◌else◌, ◌==◌, List, [], ◌∷◌, Some}
+use Rattle.std.specs.Prelude.{slice_get}
+use Rattle.grift_base.specs.Types.{TypeRow, TypeRows, IntRow, BoolRow, UnitRow, DynRow, FunRow, TupleRow, RefRow}
+use Rattle.grift_base.specs.Types.{VectRow, row_at, same_head, is_base}
+use Rattle.object_layout.specs.declared.kinds.Kind.TheVariants.{Boxed}
+use Rattle.object_layout.specs.Kinds.{kind_number}
+use Rattle.coercion_norm.specs.Coercions.{rows_of}
+use Rattle.coercion_norm.specs.Modes.{TypeCast, piling}
+use Rattle.coercion_norm.specs.Objects.{Object, Fixed, Cell, header_of}
+use Rattle.coercion_norm.specs.Held.{Layout, There}
+use Rattle.coercion_norm.specs.ObjectsOfRows.{header}
+use Rattle.flat_ir.specs.FlatTally.{piled_prices}
+use Rattle.lower.specs.Emit.{cast_word}
+use Rattle.lower.specs.Meanings.{Meaning}
+
+-- ---- types and the words of casts
+
+-- Int, Bool and Unit, and boxes of these
+pub data IsKnown (types : TypeRows) : TypeRow → Type 0 where
+  PlainType : (row : TypeRow) → is_base row ≡ true → IsKnown types row
+  BoxType : (content : ℕ) (inner : TypeRow) → row_at types content ≡ Some inner → is_base inner ≡ true
+      → IsKnown types (RefRow content)
+
+-- what is done with a value: 0 where it is kept, and one more than the label where that is blamed
+abbrev pub fate : TypeRow → TypeRow → ℕ → ℕ
+fate row other label = if same_head row other then 0 else suc label
+
+-- what is handed on for a cast: twice what is done with the value, or, where it is wrapped, one more than twice what is
+-- done with what is read and written
+abbrev pub word_between : TypeRows → TypeRow → TypeRow → ℕ → ℕ
+word_between types (RefRow content) (RefRow wanted) label =
+    1 + 2 * fate (rows_of types content) (rows_of types wanted) label
+word_between types row other label = 2 * fate row other label
+
+-- no label is above
+abbrev pub most_labels : ℕ
+most_labels = 2 ^ 32
+
+-- the cast is one of those that are known, between these rows
+pub record IsPiled (types : TypeRows) (cast : TypeCast) : Type 0 where
+  pub row : TypeRow
+  pub other : TypeRow
+  pub from_is : row_at types cast.from ≡ Some row
+  pub to_is : row_at types cast.to ≡ Some other
+  pub known : IsKnown types row
+  pub known_other : IsKnown types other
+  pub small : cast.label < most_labels
+
+-- all are known, and these words are handed on for them
+abbrev pub ArePiled : Layout → List TypeCast → List ℕ → Type 0
+ArePiled l casts words =
+    (number : ℕ) (cast : TypeCast) → slice_get casts number ≡ Some cast
+    → (p : IsPiled l.types cast)
+    × (cast_word (slice_get words number) ≡ word_between l.types p.row p.other cast.label)
+
+-- ---- wrappers
+
+-- the header of a wrapper
+abbrev pub wrapper_header : ℕ
+wrapper_header = header 25 0 2
+
+-- over what stands at an address, with what is done with what is read and written
+abbrev pub wrapper_object : ℕ → ℕ → Object
+wrapper_object inner part = Fixed wrapper_header (inner ∷ part ∷ [])
+
+-- a cast between boxes, and what is done with what is read and written
+pub record IsBoxCast (types : TypeRows) (cast : TypeCast) (part : ℕ) : Type 0 where
+  pub content : ℕ
+  pub wanted : ℕ
+  pub inner : TypeRow
+  pub outer : TypeRow
+  pub from_is : row_at types cast.from ≡ Some (RefRow content)
+  pub to_is : row_at types cast.to ≡ Some (RefRow wanted)
+  pub content_is : row_at types content ≡ Some inner
+  pub wanted_is : row_at types wanted ≡ Some outer
+  pub plain : is_base inner ≡ true
+  pub plain_outer : is_base outer ≡ true
+  pub part_is : part ≡ fate inner outer cast.label
+  pub small : cast.label < most_labels
+
+-- one wrapper, over what stands at the first address
+pub record IsWrapped (l : Layout) (objects : List Object) (cast : TypeCast) (inner w : ℕ) : Type 0 where
+  pub part : ℕ
+  pub there : There l objects w (wrapper_object inner part)
+  pub is : IsBoxCast l.types cast part
+
+-- wrappers one over another, the innermost first
+abbrev pub Pile : Layout → List Object → List TypeCast → ℕ → ℕ → Type 0
+Pile l objects [] target w = target ≡ w
+Pile l objects (cast ∷ casts) target w =
+    (over : ℕ) × IsWrapped l objects cast target over × Pile l objects casts over w
+
+-- a box
+abbrev pub IsBox : Layout → List Object → ℕ → Type 0
+IsBox l objects w = There l objects w (Cell (header (kind_number Boxed) 0 1) 1)
+
+-- one at least, over a box
+abbrev pub piled_wraps : Layout → List Object → List TypeCast → ℕ → ℕ → Type 0
+piled_wraps l objects [] target w = ⊥
+piled_wraps l objects (cast ∷ casts) target w = IsBox l objects target × Pile l objects (cast ∷ casts) target w
+
+abbrev pub is_wrapper : Object → Bool
+is_wrapper o = header_of o == wrapper_header
+
+-- how many of these objects are wrappers
+abbrev pub wrappers : List Object → ℕ
+wrappers [] = 0
+wrappers (o ∷ objects) = (if is_wrapper o then 1 else 0) + wrappers objects
+
+-- Casts are made one by one. There are as many wrappers as wrap steps were made. No value is in Dyn, and no function is
+-- wrapped, so nothing waits for what one gives.
+abbrev pub piled_meaning : Meaning
+piled_meaning = record {
+  Cast = TypeCast;
+  mode = λ types casts. piling types casts;
+  prices = λ types casts m. piled_prices (piling types casts) m;
+  Wraps = λ l objects casts target w. piled_wraps l objects casts target w;
+  MayKeep = λ l kept. ⊥;
+  CastWords = λ l casts words. ArePiled l casts words;
+  Keeps = λ l objects number. wrappers objects ≡ number;
+  Resumes = λ setting l objects waiting casts. ⊥;
+  serving = λ l. 1;
+}

@@ -1,0 +1,2 @@
+//! A scheme in which casts pile up.
+#![tactic(auto)]
