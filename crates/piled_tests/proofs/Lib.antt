@@ -8,3 +8,5 @@ mod Reading
 mod Storing
 mod Writing
 mod Vectors
+mod Elements
+mod Casting

@@ -54,12 +54,12 @@ use Rattle.piled_tests.proofs.Storing.{after, may as may_write, end as end_of, w
 use Rattle.piled_tests.proofs.Turns.{FilledAt, CellsAt, C, GoesOn, returned, no_more}
 use Rattle.piled_tests.proofs.Walking.{Way, room_of, on_way, goal, walks, stays, traps}
 
-element_inside : {A : Type 0} (xs : List A) (i : ℕ) (x : A) → slice_get xs i ≡ Some x → i < length xs
+pub element_inside : {A : Type 0} (xs : List A) (i : ℕ) (x : A) → slice_get xs i ≡ Some x → i < length xs
 element_inside [] i x e = absurd (let z : ⊥ = cc in z)
 element_inside (y ∷ xs) zero x e = omega arith
 element_inside (y ∷ xs) (suc i) x e = let z = element_inside xs i x e in omega (arith, z)
 
-entering_most : (words : ℕ) → entering words ≤ 25
+pub entering_most : (words : ℕ) → entering words ≤ 25
 entering_most words = by (nat_lt words 255)
   where
     by : (b : Bool) → (if b then 15 else 25) ≤ 25
@@ -85,18 +85,18 @@ module _ (setting : Setting) (l : Layout) (procs : List Proc) (casts : List Type
   abbrev Going : ℕ → Aim piled_meaning setting l procs casts m
   Going i = GoesOn setting l procs casts m s places objects store base operator_leaves i
 
-  abbrev Operates : ℕ → FlatAfter TypeCast → ℕ → ℕ → LowState → Type 0
+  abbrev pub Operates : ℕ → FlatAfter TypeCast → ℕ → ℕ → LowState → Type 0
   Operates i x credit n v =
       After piled_meaning setting l procs casts m s (Going i) x
       (act_cost procs (piling l.types casts) (piled_prices (piling l.types casts) m)) credit n 0 v
 
-  abbrev turn : PrimOp → List (FlatValue TypeCast) → FlatAfter TypeCast
+  abbrev pub turn : PrimOp → List (FlatValue TypeCast) → FlatAfter TypeCast
   turn operator vs = flat_operate procs (piling l.types casts) store s.world operator vs base
 
   abbrev inside : List Code → Locals → Code → LowState
   inside rests locals code = inside_of setting l procs casts m placed s objects rests locals code
 
-  grown_number : (n : ℕ) → Filling n → Filling (n + 0)
+  pub grown_number : (n : ℕ) → Filling n → Filling (n + 0)
   grown_number n filled = subst Filling (no_more n) filled
 
   -- ---- a vector in the region
@@ -104,11 +104,11 @@ module _ (setting : Setting) (l : Layout) (procs : List Proc) (casts : List Type
   module _ (n : ℕ) (filled : FilledAt setting l procs casts m s places objects store n s) (cell a : ℕ)
       (c : C setting l procs casts m s places objects store (RunLoc cell true) a) (values : List (FlatValue TypeCast))
       (in_store : slice_get store cell ≡ Some values) where
-    held : CellHeld l setting.address procs piled_meaning places objects s.memory a values
+    pub held : CellHeld l setting.address procs piled_meaning places objects s.memory a values
     held = cell_of l setting.address procs piled_meaning places objects 0 s.memory places store cells cell a values c.1
         in_store
 
-    counted : c.0 ≡ length values
+    pub counted : c.0 ≡ length values
     counted =
         same_counts (header 6 0 c.0) held.head c.0 (length held.words)
         (there_is l objects a (Cell (header 6 0 c.0) c.0) (Cell held.head (length held.words)) placed.before c.2 held.is)
@@ -117,11 +117,11 @@ module _ (setting : Setting) (l : Layout) (procs : List Proc) (casts : List Type
         same_counts : (x y j k : ℕ) → Cell x j ≡ Cell y k → j ≡ k
         same_counts x y j k e = cc
 
-    many : length held.words ≡ length values
+    pub many : length held.words ≡ length values
     many = as_many l setting.address procs piled_meaning piled_laws places objects values held.words held.carried
 
     -- it ends below the end of memory
-    short : 16 + a + 8 * length values < 2 ^ 64 + 8
+    pub short : 16 + a + 8 * length values < 2 ^ 64 + 8
     short =
         let z = found_within objects l.region a (Cell held.head (length held.words)) held.is in
         omega (arith, z.high, filled.ends, filled.fits, many, placed.top)
@@ -162,16 +162,16 @@ module _ (setting : Setting) (l : Layout) (procs : List Proc) (casts : List Type
 
   module _ (t : LowState) (need n n' : ℕ) (X : ℕ → LowState → Type 0) (same : t.words ≡ s.words)
       (filled : FilledAt setting l procs casts m s places objects store n s) where
-    abbrev Q : Goal
+    abbrev pub Q : Goal
     Q = goal setting l procs casts m s t 0 need X
 
-    abbrev P : LowState → Type 0
+    abbrev pub P : LowState → Type 0
     P = Way setting l procs casts m s t 0 n n'
 
-    abbrev To : LowState → Type 0
+    abbrev pub To : LowState → Type 0
     To v = Comes setting P Q v
 
-    calm : Calm setting P Q 6 s.waiting s.world (heap_of s)
+    pub calm : Calm setting P Q 6 s.waiting s.world (heap_of s)
     calm = calm_of setting l procs casts m placed s objects t 0 need n n' X same filled
 
     -- word 4 becomes how many elements the vector in word 1 has
@@ -186,7 +186,7 @@ module _ (setting : Setting) (l : Layout) (procs : List Proc) (casts : List Type
         (count_read 6 0 count (omega arith) (omega arith)) (omega arith) c)
 
     -- an index inside
-    within : {rest : Code} {rests : List Code} {locals : Locals} (a count i : ℕ)
+    pub within : {rest : Code} {rests : List Code} {locals : Locals} (a count i : ℕ)
         → There l objects a (Cell (header 6 0 count) count) → word_of locals (Word 1) ≡ Some a
         → word_of locals (Word 2) ≡ Some i → i < count → 8 * i + a < 2 ^ 64
         → To (inside (Done ∷ rests) (set_local 2 (8 * i + a) (set_local 2 (8 * i) (set_local 4 count
@@ -199,7 +199,7 @@ module _ (setting : Setting) (l : Layout) (procs : List Proc) (casts : List Type
         (computes setting P Q calm (8 * i) a (8 * i + a) refl is (added (8 * i) a low) (omega arith) c)))
 
     -- one outside
-    outside : {rest : Code} {rests : List Code} {locals : Locals} (a count i : ℕ)
+    pub outside : {rest : Code} {rests : List Code} {locals : Locals} (a count i : ℕ)
         → There l objects a (Cell (header 6 0 count) count) → word_of locals (Word 1) ≡ Some a
         → word_of locals (Word 2) ≡ Some i → count ≤ i
         → ((credit : ℕ) → need ≤ credit → X credit (inside (Done ∷ rests) (set_local 4 count
@@ -212,7 +212,7 @@ module _ (setting : Setting) (l : Layout) (procs : List Proc) (casts : List Type
         (set_local 4 count (set_local 4 (header 6 0 count) locals)) (trap_code Index 4 5) go))
 
   -- an index outside traps
-  trapped : (te : LowState) (n : ℕ) → te.words ≡ s.words → (filled : Filling n) → (credit i : ℕ)
+  pub trapped : (te : LowState) (n : ℕ) → te.words ≡ s.words → (filled : Filling n) → (credit i : ℕ)
       → ((X : ℕ → LowState → Type 0) (need : ℕ)
       → ((rests : List Code) (locals : Locals) (credit : ℕ) → need ≤ credit
       → X credit (inside rests locals (trap_code Index 4 5)))
@@ -231,7 +231,7 @@ module _ (setting : Setting) (l : Layout) (procs : List Proc) (casts : List Type
   -- ---- reads
 
   module _ (unbox : ℕ) where
-    abbrev reads_at : ℕ → ℕ → ℕ → LowState
+    abbrev pub reads_at : ℕ → ℕ → ℕ → LowState
     reads_at which a i = entered s (read_proc unbox) (which ∷ a ∷ i ∷ [])
 
     read_cost : (which a i : ℕ) → left_of setting (reads_at which a i) ≤ 300
@@ -243,7 +243,7 @@ module _ (setting : Setting) (l : Layout) (procs : List Proc) (casts : List Type
         by (Some p) e = let z = ap entering_some e in let y = entering_most p.words in omega (arith, z, y)
 
     -- an element
-    element_read : (cell a : ℕ) (c : Carries (RunLoc cell true) a) (index : ℤ) (wi : ℕ)
+    pub element_read : (cell a : ℕ) (c : Carries (RunLoc cell true) a) (index : ℤ) (wi : ℕ)
         → (wi ≡ cast_unsigned w64 index) × (int_wrap w64 index ≡ index) → (n : ℕ) → Filling n → (credit : ℕ)
         → Operates 0 (turn VectorRef (RunLoc cell true ∷ RunInt index ∷ [])) credit n (reads_at 1 a wi)
     element_read cell a c index wi is n filled credit = by (slice_get store cell) refl
@@ -331,7 +331,7 @@ module _ (setting : Setting) (l : Layout) (procs : List Proc) (casts : List Type
         by (Some values) e = at_index values e index is
 
     -- how many elements
-    length_read : (cell a : ℕ) (c : Carries (RunLoc cell true) a) → (n : ℕ) → Filling n → (credit : ℕ)
+    pub length_read : (cell a : ℕ) (c : Carries (RunLoc cell true) a) → (n : ℕ) → Filling n → (credit : ℕ)
         → Operates 0 (turn VectorLength (RunLoc cell true ∷ [])) credit n (reads_at 2 a 0)
     length_read cell a c n filled credit = by (slice_get store cell) refl
       where

@@ -113,11 +113,11 @@ module _ (meaning : Meaning) (setting : Setting) (l : Layout) (placed : Placed s
     }
 
     -- objects that are stored behind the others, of which the test holds
-    pub filled_more : (objects more : List Object) (h : Heap) (m : Memory) (alloc words : ℕ)
+    pub filled_more : {after : ℕ} (objects more : List Object) (h : Heap) (m : Memory) (alloc words : ℕ)
         → Filled meaning setting l number objects h
-        → ((i : ℕ) → i < h.alloc → m i ≡ h.memory i) → Holds m h.alloc more → meaning.Keeps l (objects ++ more) number
+        → ((i : ℕ) → i < h.alloc → m i ≡ h.memory i) → Holds m h.alloc more → meaning.Keeps l (objects ++ more) after
         → alloc ≡ h.alloc + bytes_of_all more → alloc ≤ setting.top
-        → Filled meaning setting l number (objects ++ more) (record { memory = m; alloc = alloc; words = words })
+        → Filled meaning setting l after (objects ++ more) (record { memory = m; alloc = alloc; words = words })
     filled_more objects more h m alloc words f same stand keeps e fits = record {
       objects_stand =
           holds_append m l.region objects more
