@@ -21,8 +21,9 @@ pub use Rattle.lower.proofs.words.Credits.{by_weaken}
 pub use Rattle.lower.proofs.words.Steps.{at, Comes, Calm, Goal, N, left_of, here, goes_last, sets_word, computes, loads}
 pub use Rattle.lower.proofs.words.Steps.{stores, if_true, if_false, builds, lt_true}
 pub use Rattle.lower.proofs.words.Products.{products_are_served}
-pub use Rattle.lower.proofs.merging.States.{calls_blame, in_front, positive_is, negative_is, small_fits, element_past}
-pub use Rattle.lower.proofs.words.Arithmetic.{word_small}
+pub use Rattle.lower.proofs.simulation.Fills.{LetsFill, vectors_are_served}
+pub use Rattle.lower.proofs.merging.States.{calls_blame, in_front, element_past}
+pub use Rattle.lower.proofs.words.Arithmetic.{word_small, positive_is, negative_is, small_fits}
 -- and what follows of it:
 pub use Rattle.lower.proofs.simulation.Programs.{words_follow_by, words_keep_by}
 pub use Rattle.lower.proofs.closing.Sets.{programs_with_sets_are_closed}

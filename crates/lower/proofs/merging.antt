@@ -10,7 +10,6 @@ pub mod Chains
 pub mod Casts
 pub mod Tags
 pub mod Parts
-pub mod Fill
 pub mod Reads
 pub mod Writes
 pub mod Cells

@@ -16,9 +16,19 @@ use Rattle.lower.specs.declared.served.Served.{Served}
 use Rattle.lower.specs.Keeping.{FitsMeasures}
 use Rattle.lower.specs.MergedMeaning.{merged_meaning, MergedCasts}
 use Rattle.lower.specs.SchemeLaws.{CellsServed}
-use Rattle.lower.proofs.merging.Fill.{merged_fills}
+use Rattle.lower.proofs.merging.Laws.{merged_laws}
 use Rattle.lower.proofs.merging.Reads.{merged_reads, merged_unboxes, merged_measures}
 use Rattle.lower.proofs.merging.Writes.{merged_writes, merged_sets}
+use Rattle.lower.proofs.simulation.Fills.{LetsFill, vectors_are_served}
+
+-- the account lets vectors be made
+merged_lets : (l : Layout) (casts : List TypeCast) (m : Measures) → LetsFill merged_meaning l casts m
+merged_lets l casts m = record {
+  serving = omega arith;
+  asks = λ n. omega arith;
+  budget = λ n. omega arith;
+  traps = omega arith;
+}
 
 -- Behind the procedures for casts, of which there are 27, stand those for calls, reads, writes and vectors.
 module _ (setting : Setting) (l : Layout) (procs : List Proc) (casts : List TypeCast) (m : Measures)
@@ -63,6 +73,6 @@ module _ (setting : Setting) (l : Layout) (procs : List Proc) (casts : List Type
       room = omega arith;
       small = omega arith;
     };
-    fills = merged_fills setting l procs casts m placed region narrow (4 + (27 + first)) (stands_at 4 (4 + (27 + first))
-        _ refl refl) run;
+    fills = vectors_are_served merged_meaning merged_laws setting l procs casts m (merged_lets l casts m) placed region
+        narrow (4 + (27 + first)) (stands_at 4 (4 + (27 + first)) _ refl refl) run;
   }

@@ -47,7 +47,8 @@ use Rattle.lower.proofs.merging.Like.{Like, solid_head, like_of, solid}
 use Rattle.lower.proofs.merging.Turns.{cell_part_normal}
 use Rattle.lower.proofs.merging.Chains.{Comes, comes_stands, Walking, returned_now, cast_next, stuck_or_not}
 use Rattle.lower.proofs.merging.Stages.{Stands, stays, lands, trapped_at, by_law, calm_as}
-use Rattle.lower.proofs.merging.States.{positive_is, negative_is, small_fits, element_past, past_element, as_many}
+use Rattle.lower.proofs.merging.States.{element_past, past_element, as_many}
+use Rattle.lower.proofs.words.Arithmetic.{positive_is, negative_is, small_fits}
 use Rattle.lower.proofs.merging.States.{element}
 use Rattle.lower.proofs.merging.States.{filled_of, filled_as, held, stands, short}
 

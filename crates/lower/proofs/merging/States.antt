@@ -1,9 +1,8 @@
 -- What the laws on cells of the merged scheme share: states and storage as both sides see them, and the store's cells.
-use Rattle.std.proofs.Common.{◌≡◌, ◌⊎◌, inl, inr, ℕ, zero, suc, ◌+◌, ◌^◌, ◌<◌, ◌≤◌, pos, negsuc, Bool, true}
+use Rattle.std.proofs.Common.{◌≡◌, ◌⊎◌, inl, inr, ℕ, zero, suc, ◌+◌, ◌^◌, ◌<◌, ◌≤◌, Bool, true}
 use Rattle.std.proofs.Common.{false, List, [], ◌∷◌, length, Some, None, refl, sym, ap, ◌∙◌, subst, arith, slice_get}
 use Rattle.std.specs.Prelude.{if◌then◌else◌}
 use Rattle.std.specs.Int.{w64, cast_unsigned, int_wrap}
-use Rattle.std.proofs.lemmas.Int.{int_wrap_fits, fits_signed_from_abs}
 use Rattle.grift_base.specs.declared.verdicts.Trap.{Trap}
 use Rattle.grift_base.specs.declared.verdicts.Verdict.TheVariants.{Trap as TrapVerdict}
 use Rattle.run_laws.specs.Runs.{Verdict as EndsWith}
@@ -27,7 +26,6 @@ use Rattle.lower.specs.CarriedValues.{CarriedIn, AreCarried, CellHeld}
 use Rattle.lower.specs.SchemeLaws.{StopsNow}
 use Rattle.lower.proofs.heap.Cells.{cell_of, there_is}
 use Rattle.lower.proofs.heap.Objects.{none_some, same_some}
-use Rattle.lower.proofs.words.Arithmetic.{fits_wrapped}
 use Rattle.lower.proofs.words.Steps.{lt_true}
 use Rattle.grift_base.specs.World.{WorldState}
 use Rattle.grift_base.specs.EnvironmentCall.{environment_call}
@@ -36,17 +34,6 @@ use Rattle.grift_base.specs.declared.verdicts.Verdict.TheVariants.{Blame}
 use Rattle.grift_base.specs.declared.worlds.EnvEffect.TheVariants.{Blamed, Refused}
 use Rattle.low_ir.specs.Run.{code_step, goes_on}
 use Rattle.rt_cast.specs.Carried.{IsVery, BlamesAt}
-
--- ---- integers as words
-
-pub positive_is : (n : ℕ) → int_wrap w64 (pos n) ≡ pos n → (cast_unsigned w64 (pos n) ≡ n) × (n < 2 ^ 63)
-positive_is n e = let f = (fits_wrapped (pos n) e).sfits in (omega (arith, f), omega (arith, f))
-
-pub negative_is : (n : ℕ) → int_wrap w64 (negsuc n) ≡ negsuc n → 2 ^ 63 ≤ cast_unsigned w64 (negsuc n)
-negative_is n e = let f = (fits_wrapped (negsuc n) e).sfits in omega (arith, f)
-
-pub small_fits : (n : ℕ) → n < 2 ^ 63 → int_wrap w64 (pos n) ≡ pos n
-small_fits n lt = int_wrap_fits w64 (pos n) (fits_signed_from_abs w64 (pos n) lt)
 
 -- the environment call of a blame
 pub calls_blame : (x y labels : ℕ) (world : WorldState) → environment_call 3 x y labels world

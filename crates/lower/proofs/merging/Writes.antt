@@ -26,7 +26,7 @@ use Rattle.coercion_norm.specs.RunValues.{in_row}
 use Rattle.coercion_norm.specs.ValueSteps.{Return, On, TrapOf, NoNext, CastFrame, PrimFrame, on_some}
 use Rattle.coercion_norm.specs.ValueSteps.{element_or_trap}
 use Rattle.coercion_norm.specs.ValueSteps.{run_with_element, run_writes_cell}
-use Rattle.coercion_norm.specs.Objects.{Object, Fixed, Cell, object_at, bytes_of_all}
+use Rattle.coercion_norm.specs.Objects.{Object, Fixed, Cell, object_at}
 use Rattle.coercion_norm.specs.ObjectsOfRows.{header}
 use Rattle.coercion_norm.specs.Held.{Layout, TypesStand, There}
 use Rattle.coercion_norm.proofs.Public.{object_kept, found_within}
@@ -53,7 +53,7 @@ use Rattle.lower.specs.SchemeLaws.{Here, StopsNow, After, Goes, Returns, Returns
 use Rattle.lower.specs.SchemeLaws.{OperatorDone, Aim, at_or_zero, operator_leaves}
 use Rattle.lower.proofs.heap.CarriedLater.{cells_later, cells_below, carried_small, all_later, function_there}
 use Rattle.lower.proofs.heap.Cells.{cells_stored, as_many_cells, set_length, words_stored, there_same}
-use Rattle.lower.proofs.heap.Objects.{none_some, same_some, words_same}
+use Rattle.lower.proofs.heap.Objects.{none_some, words_same}
 use Rattle.lower.proofs.merging.Laws.{merged_laws}
 use Rattle.lower.proofs.merging.Like.{Like, solid_head, like_of, like_back, solid}
 use Rattle.lower.proofs.merging.Reads.{no_proxy, solid_same}
@@ -62,7 +62,8 @@ use Rattle.lower.proofs.merging.Chains.{stuck_or_not, gives_some, blames_some}
 use Rattle.lower.proofs.merging.Stages.{HasRoom, Calm, Stands, Stage, Settled, Begun, at_end, begun, settled_calm}
 use Rattle.lower.proofs.merging.Stages.{calm_as, stays, takes, trapped_at, by_writing_law}
 use Rattle.lower.proofs.merging.Turns.{cell_part_normal, Ends, ends_cast, skips}
-use Rattle.lower.proofs.merging.States.{positive_is, negative_is, element_past, past_element, as_many, element}
+use Rattle.lower.proofs.merging.States.{element_past, past_element, as_many, element}
+use Rattle.lower.proofs.words.Arithmetic.{positive_is, negative_is}
 use Rattle.lower.proofs.merging.States.{blame_stops}
 use Rattle.lower.proofs.merging.States.{filled_of, filled_as, held, stands, short}
 use Rattle.lower.proofs.merging.States.{in_region, counted}
