@@ -17,7 +17,7 @@ pub use Rattle.lower.proofs.heap.CarriedLater.{grown, cells_grown, cells_below, 
 pub use Rattle.lower.proofs.heap.CarriedLater.{carried_small, all_small}
 pub use Rattle.lower.proofs.simulation.Services.{kept_in_front}
 -- steps of code within what is left to pay of its procedure:
-pub use Rattle.lower.proofs.words.Credits.{by_weaken}
+pub use Rattle.lower.proofs.words.Credits.{By, by_go, by_weaken}
 pub use Rattle.lower.proofs.words.Steps.{at, Comes, Calm, Goal, N, left_of, here, goes_last, sets_word, computes, loads}
 pub use Rattle.lower.proofs.words.Steps.{stores, if_true, if_false, builds, lt_true}
 pub use Rattle.lower.proofs.words.Products.{products_are_served}

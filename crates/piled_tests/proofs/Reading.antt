@@ -39,13 +39,14 @@ use Rattle.lower.specs.SchemeLaws.{After, Aim, StopsNow, Walks, operator_leaves}
 use Rattle.lower.proofs.Public.{cell_of, cell_word_there, there_is}
 use Rattle.lower.proofs.Public.{word_there, header_there}
 use Rattle.lower.proofs.Public.{at, Comes, Calm, Goal, here, loads, computes, if_true, if_false, sets_word, left_of}
-use Rattle.piled_tests.specs.Codes.{unbox_proc, look}
+use Rattle.piled_tests.specs.Codes.{unbox_proc, read_proc}
 use Rattle.piled_tests.specs.Piling.{IsWrapped, piled_meaning, wrapper_object, wrapper_header, most_labels}
 use Rattle.piled_tests.proofs.Deciding.{IsPlain, read_cast, read_plain, reads_by}
 use Rattle.piled_tests.proofs.Looking.{inside as inside_of, calm as calm_of, ends, loads_word, looked, blamed}
 use Rattle.piled_tests.proofs.Piles.{Carried, peeled}
 use Rattle.piled_tests.proofs.Turns.{FilledAt, CellsAt, C, aim, GoesOn, returned, plain_turn, keeps, blames_it, no_more}
-use Rattle.piled_tests.proofs.Walking.{Way, HasRoom, room_of, on_way, calm_at, goal, walks, stays, tail_calls, blames}
+use Rattle.piled_tests.proofs.Walking.{Way, HasRoom, room_of, on_way, calm_at, goal, walks, walks_by, stays, tail_calls}
+use Rattle.piled_tests.proofs.Walking.{tail_calls_on, blames}
 
 -- what casts that wait do with what is read: the part of the first that doesn't keep it, and 0 where all keep it
 abbrev pub Waits : TypeRows → List TypeCast → ℕ → Type 0
@@ -387,7 +388,7 @@ module _ (setting : Setting) (l : Layout) (procs : List Proc) (casts : List Type
           e)
 
   -- through all wrappers
-  pub unboxed : (v : FlatValue TypeCast) (w : ℕ) → Carries v w → (pending : List TypeCast) (failing : ℕ)
+  unboxed : (v : FlatValue TypeCast) (w : ℕ) → Carries v w → (pending : List TypeCast) (failing : ℕ)
       → Waits l.types pending failing
       → (i : ℕ) × ((n : ℕ) → Filling n → (credit : ℕ)
       → Operates i (read_turn v (casts_onto pending base)) credit n (looks_at w failing))
@@ -426,3 +427,45 @@ module _ (setting : Setting) (l : Layout) (procs : List Proc) (casts : List Type
                   ))) (let z = cost w failing in omega (arith, z)),
             ),
       )
+
+  -- from where the procedure that reads begins
+  module _ (v : FlatValue TypeCast) (cast : TypeCast) (w : ℕ)
+      (c : C setting l procs casts m s places objects store (RunWrap v cast) w) where
+    abbrev read_at : LowState
+    read_at = entered s (read_proc own) (0 ∷ w ∷ 0 ∷ [])
+
+    read_cost : left_of setting read_at ≤ 300
+    read_cost = let z = ap entering_some there in omega (arith, z)
+
+    -- so it does where the box is wrapped
+    pub wrapped_box_read : (i : ℕ) × ((n : ℕ) → Filling n → Operates i (read_turn (RunWrap v cast) base) 0 n read_at)
+    wrapped_box_read =
+        let z = peeled l objects setting procs places v cast w c in
+        let i = z.2 in
+        let read = read_cast l.types casts cast i.part i.is in
+        let next : ℕ = if i.part == 0 then 0 else i.part in
+        let r = unboxed v z.0 z.1 (read ∷ []) next
+        (i.part, 0, read_plain l.types casts cast i.part i.is, refl, refl) in (
+          suc r.0,
+          λ n filled.
+              let X = λ (left : ℕ) (u : LowState). Going (suc r.0) (Return v)
+              (PrimFrame Unbox [] ∷ CastFrame read ∷ base) store (n + 0) left u in
+              let within = record (Q read_at 0 0 n (n + 0) X refl filled) { extra = 300 } in
+              let ready = calm read_at 0 0 n (n + 0) X refl filled in
+              subst (λ o. Operates (suc r.0) (on_some o (λ part. On (Return v)
+              (PrimFrame Unbox [] ∷ CastFrame part ∷ base) store s.world)) 0 n read_at)
+              (sym (reads_by l.types casts cast i.part i.is)) (
+                refl,
+                walks_by setting l procs casts m s read_at 0 (0 + 896) (left_of setting read_at + 300) 0 n (n + 0) X
+                    (if_true setting (P read_at 0 0 n (n + 0) X refl filled) within ready 0 0 refl refl refl
+                    (tail_calls_on setting l procs casts m s read_at 0 n (n + 0) within ready (w ∷ 0 ∷ [])
+                    (unbox_proc own) (left_of setting (looks_at w 0) + 0) refl there refl
+                    (let y = cost w 0 in omega (arith, y))
+                    (passes read_at 0 0 n (n + 0) X refl filled w z.0 i.part 0 i.there
+                    (λ credit le. (
+                      tt,
+                      here_on_way (looks_at z.0 next) (n + 0) (grown_number n filled) refl refl refl (omega arith),
+                      r.1 (n + 0) (grown_number n filled) credit,
+                    ))))) (let y = read_cost in omega (arith, y)),
+              ),
+        )

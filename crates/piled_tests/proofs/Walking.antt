@@ -28,7 +28,7 @@ use Rattle.rt_cast.specs.States.{Heap, heap_of}
 use Rattle.rt_refs.specs.TrapCodes.{trap_code}
 use Rattle.lower.specs.Storage.{Filled}
 use Rattle.lower.specs.SchemeLaws.{OnWay, StopsNow, Walks}
-use Rattle.lower.proofs.Public.{by_weaken, calls_blame, in_front}
+use Rattle.lower.proofs.Public.{By, by_go, by_weaken, calls_blame, in_front}
 use Rattle.lower.proofs.Public.{at, Comes, Calm, Goal, N, left_of, goes_last, lt_true}
 use Rattle.piled_tests.specs.Piling.{piled_meaning}
 
@@ -70,11 +70,11 @@ module _ (setting : Setting) (l : Layout) (procs : List Proc) (casts : List Type
     least = λ left u q. omega arith;
   }
 
-  -- what is left to pay of the procedure is enough for the walk
-  pub walks : (t : LowState) (asks credit need n n' : ℕ) (X : ℕ → LowState → Type 0)
-      → Comes setting (Way t asks n n') (goal t asks need X) t → left_of setting t + need ≤ credit
+  -- so much is enough for the walk
+  pub walks_by : (t : LowState) (asks credit price need n n' : ℕ) (X : ℕ → LowState → Type 0)
+      → By setting (Way t asks n n') (goal t asks need X).holds 0 price t → price + need ≤ credit
       → Walks piled_meaning setting l procs casts m s asks credit n n' X t
-  walks t asks credit need n n' X c le =
+  walks_by t asks credit price need n n' X c le =
       let w = c.within in (
         c.steps,
         c.price,
@@ -82,9 +82,16 @@ module _ (setting : Setting) (l : Layout) (procs : List Proc) (casts : List Type
         omega (arith, w, le),
         c.cheap,
         by_weaken setting (Way t asks n n') (goal t asks need X).holds 0 (Way t asks n n')
-            (λ left u. (u.words ≤ t.words + asks) × HasRoom u × X (credit - c.price) u) (left_of setting t + 0) t
-            (λ u p. p) (λ left u q. (q.0, q.1, q.2 (credit - c.price) (omega (arith, w, le)))) c,
+            (λ left u. (u.words ≤ t.words + asks) × HasRoom u × X (credit - c.price) u) price t (λ u p. p)
+            (λ left u q. (q.0, q.1, q.2 (credit - c.price) (omega (arith, w, le)))) c,
       )
+
+  -- what is left to pay of the procedure is
+  pub walks : (t : LowState) (asks credit need n n' : ℕ) (X : ℕ → LowState → Type 0)
+      → Comes setting (Way t asks n n') (goal t asks need X) t → left_of setting t + need ≤ credit
+      → Walks piled_meaning setting l procs casts m s asks credit n n' X t
+  walks t asks credit need n n' X c le =
+      walks_by t asks credit (left_of setting t + 0) need n n' X c (omega (arith, le))
 
   -- a turn without steps
   pub stays : (t : LowState) (asks credit n n' : ℕ) (X : ℕ → LowState → Type 0) → HasRoom t → X credit t
@@ -105,6 +112,21 @@ module _ (setting : Setting) (l : Layout) (procs : List Proc) (casts : List Type
         goes_last setting (Way t asks n n') Q (at world h s.waiting count rests locals (TailCall number args))
         (at world h s.waiting p.words [] (bind 0 ws no_locals) p.code) 0 (rw (e, there, few) refl) (omega arith)
         (calm rests locals (TailCall number args)) q
+
+    -- and goes on from its beginning
+    pub tail_calls_on : {number : ℕ} {args : List LowSource} (ws : List ℕ) (p : LowProc) (credit : ℕ)
+        → words_of locals args ≡ Some ws → slice_get setting.procs number ≡ Some p
+        → ((length ws == p.params) && (nat_le p.params 8 && nat_le p.params p.words)) ≡ true
+        → credit ≤ Q.extra
+        → By setting (Way t asks n n') Q.holds Q.floor credit
+        (at world h s.waiting p.words [] (bind 0 ws no_locals) p.code)
+        → Comes setting (Way t asks n n') Q (at world h s.waiting count rests locals (TailCall number args))
+    tail_calls_on {number = number} {args = args} ws p credit e there few le c =
+        by_go setting (Way t asks n n') Q.holds Q.floor credit
+        (left_of setting (at world h s.waiting count rests locals (TailCall number args)) + Q.extra)
+        (at world h s.waiting count rests locals (TailCall number args))
+        (at world h s.waiting p.words [] (bind 0 ws no_locals) p.code) (rw (e, there, few) refl) (omega (arith, le))
+        (calm rests locals (TailCall number args)) c
 
   -- ---- where a run stops
 

@@ -32,7 +32,7 @@ use Rattle.lower.specs.Storage.{Filled}
 use Rattle.lower.proofs.Public.{as_many}
 use Rattle.lower.proofs.Public.{cell_of, there_is}
 use Rattle.lower.proofs.Public.{at, Comes, Calm, Goal, here, if_true, if_false, stores, left_of}
-use Rattle.piled_tests.specs.Codes.{set_proc}
+use Rattle.piled_tests.specs.Codes.{set_proc, write_proc}
 use Rattle.piled_tests.specs.Piling.{IsWrapped, piled_meaning, wrapper_object, wrapper_header, most_labels}
 use Rattle.piled_tests.proofs.Deciding.{IsPlain, written_cast, written_plain, writes_by}
 use Rattle.piled_tests.proofs.Laws.{piled_laws}
@@ -134,7 +134,7 @@ module _ (setting : Setting) (l : Layout) (procs : List Proc) (casts : List Type
   grown_number : (n : ℕ) → Filling n → Filling (n + 0)
   grown_number n filled = subst Filling (no_more n) filled
 
-  abbrev Operates : ℕ → FlatAfter TypeCast → ℕ → ℕ → LowState → Type 0
+  abbrev pub Operates : ℕ → FlatAfter TypeCast → ℕ → ℕ → LowState → Type 0
   Operates i x credit n v =
       After piled_meaning setting l procs casts m s (Going i) x
       (act_cost procs (piling l.types casts) (piled_prices (piling l.types casts) m)) credit n 0 v
@@ -218,8 +218,101 @@ module _ (setting : Setting) (l : Layout) (procs : List Proc) (casts : List Type
       by (Some (x ∷ [])) e = one_value x e
       by (Some (x ∷ y ∷ more)) e = absurd (let z = single (x ∷ y ∷ more) e in omega (arith, z))
 
+  -- a wrapper: what is written is cast, and then goes to what it wraps
+  module _ (v : FlatValue TypeCast) (cast : TypeCast) (w : ℕ)
+      (c : C setting l procs casts m s places objects store (RunWrap v cast) w) where
+    peeled_off : (inner : ℕ) × Carried l objects setting procs places v [] inner × IsWrapped l objects cast inner w
+    peeled_off = peeled l objects setting procs places v cast w c
+
+    abbrev inner : ℕ
+    inner = peeled_off.0
+
+    abbrev part : ℕ
+    part = peeled_off.2.part
+
+    abbrev first : TypeCast
+    first = written_cast l.types casts cast part peeled_off.2.is
+
+    plain : IsPlain l.types first part
+    plain = written_plain l.types casts cast part peeled_off.2.is
+
+    abbrev frames : List (FlatFrame TypeCast)
+    frames = CastFrame first ∷ PrimFrame BoxSet (v ∷ []) ∷ base
+
+    -- from the cast on
+    abbrev Behind : Type 0
+    Behind =
+        (k : ℕ) × ((n : ℕ) → Filling n → (credit : ℕ) → Going k (Return u) frames store n credit (writes_at w))
+
+    cast_kept : part ≡ 0 → Written v inner → Behind
+    cast_kept none r = (
+      suc (suc r.0),
+      λ n filled credit. (
+        tt,
+        here_on_way (writes_at w) n filled refl refl refl (omega arith),
+        plain_turn setting l procs casts m s places objects store base operator_leaves first part plain (suc r.0)
+            (PrimFrame BoxSet (v ∷ []) ∷ base) u credit n (writes_at w)
+            (keeps setting l procs casts m s places objects store base operator_leaves first part plain none (suc r.0)
+            (PrimFrame BoxSet (v ∷ []) ∷ base) u credit n (writes_at w) (
+              refl,
+              walks setting l procs casts m s (writes_at w) 16 (credit + 896) 0 n (n + 0)
+                  (λ left y. Going (suc r.0) (Return u) (PrimFrame BoxSet (v ∷ []) ∷ base) store (n + 0) left y)
+                  (passes (writes_at w) 16 0 n (n + 0)
+                  (λ left y. Going (suc r.0) (Return u) (PrimFrame BoxSet (v ∷ []) ∷ base) store (n + 0) left y) refl
+                  filled w inner (subst (λ p. There l objects w (wrapper_object inner p)) none peeled_off.2.there)
+                  (λ credit le. (
+                    tt,
+                    here_on_way (writes_at inner) (n + 0) (grown_number n filled) refl refl refl (omega arith),
+                    r.1 (n + 0) (grown_number n filled) credit,
+                  )))
+                  (let y = cost w in omega (arith, y)),
+            )),
+      ),
+    )
+
+    cast_blamed : (part ≡ 0 → ⊥) → Behind
+    cast_blamed some = (
+      suc 0,
+      λ n filled credit. (
+        tt,
+        here_on_way (writes_at w) n filled refl refl refl (omega arith),
+        plain_turn setting l procs casts m s places objects store base operator_leaves first part plain 0
+            (PrimFrame BoxSet (v ∷ []) ∷ base) u credit n (writes_at w)
+            (blames_it setting l procs casts m s places objects store base operator_leaves first part plain some 0
+            (PrimFrame BoxSet (v ∷ []) ∷ base) u credit n (writes_at w) (λ part_is. (
+              refl,
+              λ place found.
+                  let Y = λ (left : ℕ) (y : LowState). StopsNow piled_meaning setting l procs casts m s n
+                  (EndsWith (Blame place)) y in
+                  walks setting l procs casts m s (writes_at w) 16 (credit + 896) 0 n n Y
+                  (fails (writes_at w) 16 0 n n Y refl filled w inner first.label plain.small
+                  (subst (λ p. There l objects w (wrapper_object inner p)) part_is peeled_off.2.there)
+                  (λ left le. blames setting l procs casts m s n first.label place found objects (heap_of s) filled
+                  (Done ∷ Done ∷ []) (blamed_at w inner first.label).active.locals refl))
+                  (let y = cost w in omega (arith, y)),
+            ))),
+      ),
+    )
+
+    behind : Written v inner → Behind
+    behind r = by (tested part)
+      where
+        by : (part ≡ 0) ⊎ (part ≡ 0 → ⊥) → Behind
+        by (inl none) = cast_kept none r
+        by (inr some) = cast_blamed some
+
+    -- the turn in which the operator goes into the wrapper, from where the procedure that writes begins, or another
+    goes_in : (te : LowState) → (b : Behind) → (n : ℕ) → Filling n → (credit : ℕ)
+        → Walks piled_meaning setting l procs casts m s 0 (credit + 896) n (n + 0)
+        (λ left y. Going b.0 (Return u) frames store (n + 0) left y) te
+        → Operates b.0 (write_turn (RunWrap v cast)) credit n te
+    goes_in te b n filled credit walk =
+        subst (λ o. Operates b.0 (on_some o (λ part. On (Return u)
+        (CastFrame part ∷ PrimFrame BoxSet (v ∷ []) ∷ base) store s.world)) credit n te)
+        (sym (writes_by l.types casts cast part peeled_off.2.is)) (refl, walk)
+
   -- through all wrappers
-  pub boxes_set : (v : FlatValue TypeCast) (w : ℕ) → Carries v w → Written v w
+  boxes_set : (v : FlatValue TypeCast) (w : ℕ) → Carries v w → Written v w
   boxes_set (RunInt x) w c = (0, λ n filled credit. refl)
   boxes_set (RunBool x) w c = (0, λ n filled credit. refl)
   boxes_set RunUnit w c = (0, λ n filled credit. refl)
@@ -229,91 +322,40 @@ module _ (setting : Setting) (l : Layout) (procs : List Proc) (casts : List Type
   boxes_set (RunLoc cell false) w c = (0, λ n filled credit. box_written cell w c n filled credit)
   boxes_set (RunInject v kept) w c = (0, λ n filled credit. refl)
   boxes_set (RunWrap v cast) w c =
-      let p = peeled l objects setting procs places v cast w c in by (boxes_set v p.0 p.1) (tested p.2.part)
-    where
-      z : (inner : ℕ) × Carried l objects setting procs places v [] inner
-          × IsWrapped l objects cast inner w
-      z = peeled l objects setting procs places v cast w c
-
-      i : IsWrapped l objects cast z.0 w
-      i = z.2
-
-      inner : ℕ
-      inner = z.0
-
-      first : TypeCast
-      first = written_cast l.types casts cast i.part i.is
-
-      plain : IsPlain l.types first i.part
-      plain = written_plain l.types casts cast i.part i.is
-
-      frames : List (FlatFrame TypeCast)
-      frames = PrimFrame BoxSet (v ∷ []) ∷ base
-
-      -- the turn in which the operator goes into the wrapper
-      goes_in : (k : ℕ) (n : ℕ) → Filling n → (credit : ℕ)
-          → ((credit : ℕ) → After piled_meaning setting l procs casts m s (Going k)
-          (flat_cast procs (piling l.types casts) store s.world u first frames)
-          (cast_cost procs (piling l.types casts)
-          (piled_prices (piling l.types casts) m) (Some first) u) credit (n + 0)
-          (decision_wraps
-          (decision_at procs (piling l.types casts) (Some first) u)) (writes_at w))
-          → Operates (suc k) (write_turn (RunWrap v cast)) credit n (writes_at w)
-      goes_in k n filled credit h =
-          subst (λ o. Operates (suc k) (on_some o (λ part. On (Return u)
-          (CastFrame part ∷ PrimFrame BoxSet (v ∷ []) ∷ base) store s.world)) credit n (writes_at w))
-          (sym (writes_by l.types casts cast i.part i.is)) (
-            refl,
-            stays setting l procs casts m s (writes_at w) 0 (credit + 896) n (n + 0)
-                (λ left y. Going (suc k) (Return u) (CastFrame first ∷ frames) store (n + 0) left y)
-                (room_of setting l procs casts m s (writes_at w) refl (omega arith)) (
-                  tt,
-                  here_on_way (writes_at w) (n + 0) (grown_number n filled) refl refl refl (omega arith),
-                  h (credit + 896),
-                ),
-          )
-
-      by : Written v z.0 → (i.part ≡ 0) ⊎ (i.part ≡ 0 → ⊥) → Written (RunWrap v cast) w
-      by r (inl none) = (
-            suc (suc r.0),
-            λ n filled credit. goes_in (suc r.0) n filled credit (λ credit.
-                plain_turn setting l procs casts m s places objects store base operator_leaves first i.part plain
-                (suc r.0) frames u credit (n + 0) (writes_at w)
-                (keeps setting l procs casts m s places objects store base operator_leaves first i.part plain none
-                (suc r.0) frames u credit (n + 0) (writes_at w) (
-                  refl,
-                  walks setting l procs casts m s (writes_at w) 16 (credit + 896) 0 (n + 0) (n + 0 + 0)
-                      (λ left y. Going (suc r.0) (Return u) frames store (n + 0 + 0) left y)
-                      (passes (writes_at w) 16 0 (n + 0) (n + 0 + 0)
-                      (λ left y. Going (suc r.0) (Return u) frames store (n + 0 + 0) left y) refl
-                      (grown_number n filled) w inner
-                      (subst (λ p. There l objects w (wrapper_object inner p)) none i.there)
-                      (λ credit le. (
-                        tt,
-                        here_on_way (writes_at inner) (n + 0 + 0)
-                            (grown_number (n + 0) (grown_number n filled)) refl refl refl (omega arith),
-                        r.1 (n + 0 + 0) (grown_number (n + 0) (grown_number n filled)) credit,
-                      )))
-                      (let y = cost w in omega (arith, y)),
-                ))),
-          )
-      by r (inr some) = (
-        suc 0,
-        λ n filled credit. goes_in 0 n filled credit (λ credit.
-            plain_turn setting l procs casts m s places objects store base operator_leaves first i.part plain 0
-            frames u credit (n + 0) (writes_at w)
-            (blames_it setting l procs casts m s places objects store base operator_leaves first i.part plain some 0
-            frames u credit (n + 0) (writes_at w) (λ part_is. (
-              refl,
-              λ place found.
-                  let fill = grown_number n filled in
-                  let Y = λ (left : ℕ) (y : LowState). StopsNow piled_meaning setting l procs casts m s (n + 0)
-                  (EndsWith (Blame place)) y in
-                  walks setting l procs casts m s (writes_at w) 16 (credit + 896) 0 (n + 0) (n + 0) Y
-                  (fails (writes_at w) 16 0 (n + 0) (n + 0) Y refl fill w inner first.label plain.small
-                  (subst (λ p. There l objects w (wrapper_object inner p)) part_is i.there)
-                  (λ left le. blames setting l procs casts m s (n + 0) first.label place found objects (heap_of s) fill
-                  (Done ∷ Done ∷ []) (blamed_at w inner first.label).active.locals refl))
-                  (let y = cost w in omega (arith, y)),
-            )))),
+      let p = peeled l objects setting procs places v cast w c in
+      let b = behind v cast w c (boxes_set v p.0 p.1) in (
+        b.0,
+        λ n filled credit. goes_in v cast w c (writes_at w) b n filled credit
+            (stays setting l procs casts m s (writes_at w) 0 (credit + 896) n (n + 0)
+            (λ left y. Going b.0 (Return u) (frames v cast w c) store (n + 0) left y)
+            (room_of setting l procs casts m s (writes_at w) refl (omega arith))
+            (b.1 (n + 0) (grown_number n filled) (credit + 896))),
       )
+
+  -- from where the procedure that writes begins
+  module _ (v : FlatValue TypeCast) (cast : TypeCast) (w : ℕ)
+      (c : C setting l procs casts m s places objects store (RunWrap v cast) w) where
+    abbrev write_at : LowState
+    write_at = entered s (write_proc own) (0 ∷ w ∷ 0 ∷ wu ∷ [])
+
+    write_cost : left_of setting write_at ≤ 300
+    write_cost = let z = ap entering_some there in omega (arith, z)
+
+    -- so it does where the box is wrapped
+    pub wrapped_box_set : (i : ℕ) × ((n : ℕ) → Filling n → Operates i (write_turn (RunWrap v cast)) 0 n write_at)
+    wrapped_box_set =
+        let p = peeled l objects setting procs places v cast w c in
+        let b = behind v cast w c (boxes_set v p.0 p.1) in (
+          b.0,
+          λ n filled.
+              let X = λ (left : ℕ) (y : LowState). Going b.0 (Return u) (frames v cast w c) store (n + 0) left y in
+              let ready = calm write_at 0 0 n (n + 0) X refl filled in
+              goes_in v cast w c write_at b n filled 0
+              (walks setting l procs casts m s write_at 0 (0 + 896) 0 n (n + 0) X
+              (if_true setting (P write_at 0 0 n (n + 0) X refl filled) (Q write_at 0 0 n (n + 0) X refl filled) ready 0
+              0 refl refl refl
+              (tail_calls setting l procs casts m s write_at 0 n (n + 0) (Q write_at 0 0 n (n + 0) X refl filled) ready
+              (w ∷ wu ∷ []) (set_proc own) refl there refl refl
+              (omega arith, room_of setting l procs casts m s (writes_at w) refl (omega arith),
+              λ credit le. b.1 (n + 0) (grown_number n filled) credit))) (let z = write_cost in omega (arith, z))),
+        )
