@@ -437,22 +437,22 @@ module _ (setting : Setting) (l : Layout) (procs : List Proc) (casts : List Type
       → (v : FlatValue TypeCast) (w : ℕ) → Carries v w
       → Comes_to (if fits (RefRow content) cast (shape_of (flat_arity procs) v) then Wrapping cast else NoCast) v
       (begun w (1 + 2 * part))
-  box_wrapped content part cast is small (RunInt x) w c = refl
-  box_wrapped content part cast is small (RunBool x) w c = refl
-  box_wrapped content part cast is small RunUnit w c = refl
-  box_wrapped content part cast is small (RunFun code captured) w c = refl
-  box_wrapped content part cast is small (RunTuple values) w c = refl
-  box_wrapped content part cast is small (RunLoc cell true) w c = refl
-  box_wrapped content part cast is small (RunLoc cell false) w c =
-      wrapped (RunLoc cell false) w c cast part is small
+  box_wrapped content part cast is little (RunInt x) w c = refl
+  box_wrapped content part cast is little (RunBool x) w c = refl
+  box_wrapped content part cast is little RunUnit w c = refl
+  box_wrapped content part cast is little (RunFun code captured) w c = refl
+  box_wrapped content part cast is little (RunTuple values) w c = refl
+  box_wrapped content part cast is little (RunLoc cell true) w c = refl
+  box_wrapped content part cast is little (RunLoc cell false) w c =
+      wrapped (RunLoc cell false) w c cast part is little
       (λ os over at h i. wrapped_first l os setting procs places cell cast over at h i)
-  box_wrapped content part cast is small (RunInject v kept) w c = refl
-  box_wrapped content part cast is small (RunWrap v old) w c = by (nat_eq old.to cast.from)
+  box_wrapped content part cast is little (RunInject v kept) w c = refl
+  box_wrapped content part cast is little (RunWrap v old) w c = by (nat_eq old.to cast.from)
     where
       by : (b : Bool)
           → Comes_to (if b then Wrapping cast else NoCast) (RunWrap v old) (begun w (1 + 2 * part))
       by true =
-          wrapped (RunWrap v old) w c cast part is small
+          wrapped (RunWrap v old) w c cast part is little
           (λ os over at h i. wrapped_more l os setting procs places v old cast over at h i)
       by false = refl
 

@@ -322,7 +322,7 @@ module _ (setting : Setting) (l : Layout) (procs : List Proc) (casts : List Type
   boxes_set (RunLoc cell false) w c = (0, λ n filled credit. box_written cell w c n filled credit)
   boxes_set (RunInject v kept) w c = (0, λ n filled credit. refl)
   boxes_set (RunWrap v cast) w c =
-      let p = peeled l objects setting procs places v cast w c in
+      let p = peeled_off v cast w c in
       let b = behind v cast w c (boxes_set v p.0 p.1) in (
         b.0,
         λ n filled credit. goes_in v cast w c (writes_at w) b n filled credit
@@ -344,7 +344,7 @@ module _ (setting : Setting) (l : Layout) (procs : List Proc) (casts : List Type
     -- so it does where the box is wrapped
     pub wrapped_box_set : (i : ℕ) × ((n : ℕ) → Filling n → Operates i (write_turn (RunWrap v cast)) 0 n write_at)
     wrapped_box_set =
-        let p = peeled l objects setting procs places v cast w c in
+        let p = peeled_off v cast w c in
         let b = behind v cast w c (boxes_set v p.0 p.1) in (
           b.0,
           λ n filled.
