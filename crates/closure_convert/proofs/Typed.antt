@@ -263,7 +263,8 @@ module _ (casts : List TypeCast) where
     HaveWords uses = list_all has_words uses ≡ true
 
     apart : (xs ys : List Use) → HaveWords (xs ++ ys) → HaveWords xs × HaveWords ys
-    apart xs ys w = and_parts (list_all has_words xs) (list_all has_words ys) (sym (list_all-append has_words xs ys) ∙ w)
+    apart xs ys w =
+        and_parts (list_all has_words xs) (list_all has_words ys) (sym (list_all-append has_words xs ys) ∙ w)
 
     behind : (used : Use) (uses : List Use) → HaveWords (used ∷ uses) → (has_words used ≡ true) × HaveWords uses
     behind used uses w = and_parts (has_words used) (list_all has_words uses) w

@@ -3,6 +3,7 @@
 
 mod captured;
 mod conversion;
+mod dyn_parts;
 pub mod laws;
 mod names;
 mod numbers;

@@ -1,7 +1,6 @@
 // Programs of procedures.
 
 ghost use Rattle.std.specs.Prelude.{◌≡◌, ℕ, List, false, length, true, IfOk};
-ghost use Rattle.std.specs.List.{list_all};
 ghost use Rattle.run_laws.specs.Accounts.{FollowsWithin};
 ghost use Rattle.run_laws.specs.Runs.{Any, FollowsBy, NeverWrong};
 ghost use Rattle.type_graph.specs.TypeTables.{HaveWidths, IsOrderedTable};
@@ -24,9 +23,9 @@ ghost use Rattle.closure_convert.specs.Conversion.{converted, made};
 ghost use Rattle.flat_ir.specs.FlatTally.{FlatBelow, FlatPaidBelow, flat_tally_in};
 ghost use Rattle.flat_ir.specs.FlatTally.{merged_prices, piled_prices};
 ghost use Rattle.closure_convert.specs.Programs.{HasNoFreeNames};
-ghost use Rattle.closure_convert.specs.Uses.{has_words, term_uses};
 
 use crate::conversion::Converter;
+use crate::dyn_parts::have_words;
 use coer_core::program::CoerProgram;
 use flat_ir::programs::FlatProgram;
 use grift_base::lists::OutOfMemory;
@@ -37,9 +36,9 @@ use std::alloc::Global;
 /// with environments, for all casts and every input, in both modes, where that never goes wrong: both have made as many
 /// wrap steps at moments that correspond, and words asked for, active frames and turns are bounded by those of the
 /// given run. Where the term reads back to a program term, each procedure has at most as many local names at a time as
-/// that has nodes and binders, and where no type is too wide, and numbers and labels of parts of Dyn are words, the
-/// procedures are closed; and their run keeps within the account of the calculus: for all casts and every input in the
-/// piled mode, and in the merged mode over types without cycles.
+/// that has nodes and binders, and where no type is too wide, the procedures are closed; and their run keeps within the
+/// account of the calculus: for all casts and every input in the piled mode, and in the merged mode over types without
+/// cycles.
 pub fn convert(alloc: Global, program: &CoerProgram) -> Result<FlatProgram, OutOfMemory>
     ensures procs { IfOk result (λ flat. HasNoFreeNames (row_term_of program.now.body)
         → procs_of flat.procs ≡ converted (row_term_of program.now.body)) }
@@ -47,7 +46,6 @@ pub fn convert(alloc: Global, program: &CoerProgram) -> Result<FlatProgram, OutO
     ensures answer { IfOk result (λ flat. flat.answer ≡ program.now.answer) }
     ensures closed { IfOk result (λ flat. (casts : List TypeCast) (types : TypeRows) (labels : ℕ) (type : ℕ)
         → HaveWidths types → ProgramTermHasType types labels (core_of casts (row_term_of program.now.body)) type
-        → list_all has_words (term_uses (row_term_of program.now.body)) ≡ true
         → is_closed (procs_of flat.procs) flat.entry ≡ true) }
     ensures levels { IfOk result (λ flat. (casts : List TypeCast) (types : TypeRows) (labels : ℕ) (type : ℕ)
         → let core = core_of casts (row_term_of program.now.body) in
@@ -80,6 +78,7 @@ pub fn convert(alloc: Global, program: &CoerProgram) -> Result<FlatProgram, OutO
         (flat_run_in (procs_of flat.procs) flat.entry (merging told.types casts) told input)
         (run_in (merging told.types casts) told (row_term_of program.now.body) input)) }
 {
+    have_words(&program.body);
     let (procs, entry) = Converter::program(alloc, &program.body)?;
     Ok(FlatProgram {
         procs,

@@ -30,7 +30,7 @@ abbrev pub width_of : TypeRows → ℕ
 width_of types = max 2 (widest types)
 
 -- what holds of each element holds of the one at a place
-pub at : {X : Type 0} (P : X → Type 0) (xs : List X) → All P xs → (k : ℕ) (x : X) → slice_get xs k ≡ Some x → P x
+at : {X : Type 0} (P : X → Type 0) (xs : List X) → All P xs → (k : ℕ) (x : X) → slice_get xs k ≡ Some x → P x
 at P [] h k x e = absurd (let f : ⊥ = cc in f)
 at P (y ∷ ys) h zero x e = subst P (let same : y ≡ x = cc in same) (All-head P y ys h)
 at P (y ∷ ys) h (suc k) x e = at P ys (All-tail P y ys h) k x e

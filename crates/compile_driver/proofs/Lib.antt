@@ -1,4 +1,3 @@
-pub mod PartWords
 pub mod LabelsLow
 pub mod HeldCasts
 pub mod Starting

@@ -1,4 +1,3 @@
-pub mod Parts
 pub mod Compiling
 pub mod Space
 pub mod Words

@@ -5,18 +5,14 @@ ghost use Rattle.grift_base.specs.Sizes.{source_limit};
 ghost use Rattle.rv_machine.specs.Image.{IsImage};
 ghost use Rattle.core_calc.specs.Typing.{ProgramTermHasType};
 ghost use Rattle.core_calc.specs.Views.{term_of};
-ghost use Rattle.cast_insert.specs.Views.{entries_of, entry_of};
-ghost use Rattle.front_end.specs.Placed.{IsPlaced, any_operator};
 ghost use Rattle.front_end.specs.Texts.{IsFault};
 ghost use Rattle.compile_driver.specs.Bounds.{KeepsAccount};
 ghost use Rattle.compile_driver.specs.Compiling.{FollowsProgram, HasProgram, IsTold, program_of};
 ghost use Rattle.compile_driver.specs.Compiling.{program_over, tallest_in};
-ghost use Rattle.compile_driver.specs.Parts.{HasWords};
 ghost use Rattle.compile_driver.specs.Space.{KeepsSpace};
 ghost use Rattle.compile_driver.specs.Words.{StandsFor, AreWordsOf};
 
 use assembler::image::Image;
-use cast_insert::casts::CastEntry;
 use cast_insert::insertion::Elab;
 use closure_convert::program::convert;
 use coer_core::program::to_coercions;
@@ -66,40 +62,17 @@ fn are_words(words: &[u64])
     }
 }
 
-// Nothing to do: the number of a part of Dyn has 64 bits, and its label 32.
-fn is_narrow(entry: CastEntry)
-    ensures { HasWords (entry_of entry) }
-{
-    if let CastEntry::Part { label, part } = entry {
-        let _label = label.0;
-        let _part = part;
-    }
-}
-
-// So it is of each part in a list.
-fn are_narrow(casts: &[CastEntry])
-    ensures { All HasWords (entries_of casts.now) }
-{
-    let mut left = casts;
-    while let [entry, rest @ ..] = left {
-        is_narrow(*entry);
-        left = rest;
-    }
-}
-
 // The most bytes that statics and code may have: with every region they end below 2 ^ 34.
 const MOST_LOADED: usize = 8_589_934_592;
 
 // The program over words of a program with all casts.
 fn words_over(alloc: Global, types: &TypeTable, elab: &Elab) -> Result<Words, OutOfMemory>
     requires typed { ProgramTermHasType types.now (length elab.now.labels) (term_of elab.now.core) elab.now.ty.0 }
-    requires placed { IsPlaced any_operator (entries_of elab.now.casts) (term_of elab.now.core) }
     ensures tallest { IfOk result (λ words. words.tallest ≡ tallest_in (program_over types.now elab.now)) }
     ensures stands { IfOk result (λ words. StandsFor words.low (program_over types.now elab.now)) }
 {
     types.len();
     output_only_grows();
-    are_narrow(elab.casts.as_slice());
     let coer = to_coercions(alloc, &elab.core, types)?;
     let flat = convert(alloc, &coer)?;
     types.row(coer.answer);
@@ -116,7 +89,6 @@ fn words_over(alloc: Global, types: &TypeTable, elab: &Elab) -> Result<Words, Ou
 // over words are proved for is want of memory.
 fn made_of(alloc: Global, types: &TypeTable, elab: &Elab) -> Result<Made, OutOfMemory>
     requires typed { ProgramTermHasType types.now (length elab.now.labels) (term_of elab.now.core) elab.now.ty.0 }
-    requires placed { IsPlaced any_operator (entries_of elab.now.casts) (term_of elab.now.core) }
     ensures whole { IfOk result (λ made. IsImage made.image) }
     ensures tallest { IfOk result (λ made. made.tallest ≡ tallest_in (program_over types.now elab.now)) }
     ensures follows { IfOk result (λ made. FollowsProgram made.image (program_over types.now elab.now)) }

@@ -6,6 +6,7 @@ use Rattle.std.specs.Int.{int_wrap}
 use Rattle.std.specs.Fmt.{digits}
 use Rattle.run_laws.specs.Runs.{Verdict as EndsWith, Wrong}
 use Rattle.grift_base.specs.Types.{TypeRows, IntRow, BoolRow, UnitRow, DynRow, FunRow, TupleRow, RefRow}
+use Rattle.grift_base.specs.declared.places.LabelId.{LabelId}
 use Rattle.grift_base.specs.declared.places.Pos.{Pos}
 use Rattle.grift_base.specs.declared.operators.PrimOp.TheVariants.{Add, Sub, Quot, Eq, PrintInt, MakeBox}
 use Rattle.grift_base.specs.declared.operators.PrimOp.TheVariants.{BoxSet, Unbox}
@@ -18,7 +19,7 @@ use Rattle.coercion_norm.specs.AnswerTypes.{Told}
 use Rattle.flat_ir.specs.declared.code.Operand.{Operand}
 use Rattle.flat_ir.specs.declared.code.Operand.TheVariants.{Local, Captured, Sibling, Int, Bool as BoolCase}
 use Rattle.flat_ir.specs.declared.code.Operand.TheVariants.{Unit as UnitCase}
-use Rattle.flat_ir.specs.declared.code.Operation.TheVariants.{Move, Prim, Cast, Tuple, Proj}
+use Rattle.flat_ir.specs.declared.code.Operation.TheVariants.{Move, Prim, Cast, Tuple, Proj, ProjDyn}
 use Rattle.flat_ir.specs.Bodies.{Body, Give, Call, Choose, LetBody, LetGroup, Proc}
 use Rattle.flat_ir.specs.Closed.{is_closed}
 use Rattle.flat_ir.specs.Counts.{FlatCounts, flat_run_in}
@@ -43,6 +44,9 @@ entry body = proc 0 0 0 0 body
 
 abbrev int : ℕ → Operand
 int n = Int (pos n)
+
+abbrev labelled : ℕ → LabelId
+labelled label = record { 0 = label }
 
 abbrev two : Operand → Operand → List Operand
 two a b = a ∷ b ∷ []
@@ -111,6 +115,35 @@ too_few_captured = refl
 too_large : is_closed (entry (Give (Move (int 9223372036854775808))) ∷ []) 0 ≡ false
 unfolding int_wrap
 too_large = refl
+
+-- an operator with eight operands, and with nine
+eight_operands : is_closed (entry (Give (Prim Add (int 1 ∷ int 1 ∷ int 1 ∷ int 1 ∷ int 1 ∷ int 1 ∷ int 1 ∷ int 1 ∷ [])))
+    ∷ []) 0 ≡ true
+unfolding int_wrap
+eight_operands = refl
+
+nine_operands : is_closed (entry (Give (Prim Add
+    (int 1 ∷ int 1 ∷ int 1 ∷ int 1 ∷ int 1 ∷ int 1 ∷ int 1 ∷ int 1 ∷ int 1 ∷ []))) ∷ []) 0 ≡ false
+unfolding int_wrap
+nine_operands = refl
+
+-- a part of Dyn with the greatest label of 32 bits, and with the one behind it
+greatest_label : is_closed (entry (Give (ProjDyn UnitCase (pos 0) (labelled 4294967295))) ∷ []) 0 ≡ true
+unfolding int_wrap
+greatest_label = refl
+
+label_too_large : is_closed (entry (Give (ProjDyn UnitCase (pos 0) (labelled 4294967296))) ∷ []) 0 ≡ false
+unfolding int_wrap
+label_too_large = refl
+
+-- the part of Dyn with the greatest number of 64 bits, and the one behind it
+greatest_part : is_closed (entry (Give (ProjDyn UnitCase (pos 9223372036854775807) (labelled 0))) ∷ []) 0 ≡ true
+unfolding int_wrap
+greatest_part = refl
+
+part_too_large : is_closed (entry (Give (ProjDyn UnitCase (pos 9223372036854775808) (labelled 0))) ∷ []) 0 ≡ false
+unfolding int_wrap
+part_too_large = refl
 
 -- a program that begins with a function
 begins_with_a_function : is_closed (proc 0 0 1 0 (Give (Move (int 1))) ∷ []) 0 ≡ false

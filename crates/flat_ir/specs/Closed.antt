@@ -1,7 +1,7 @@
 -- Programs in which every name is bound before it is used, with its level, every procedure that is named is there, and
 -- what is written in code fits: integers, numbers of parts and labels in words, operands and parts in number.
-use Rattle.std.specs.Prelude.{ℕ, ℤ, suc, ◌+◌, ◌==◌, ◌&&◌, ◌||◌, nat_lt, nat_le, Bool, true, false, List, [], ◌∷◌, length}
-use Rattle.std.specs.Prelude.{Option, Some, None, slice_get}
+use Rattle.std.specs.Prelude.{ℕ, ℤ, suc, ◌+◌, ◌^◌, ◌==◌, ◌&&◌, ◌||◌, nat_lt, nat_le, Bool, true, false, List, []}
+use Rattle.std.specs.Prelude.{◌∷◌, length, Option, Some, None, slice_get}
 use Rattle.std.specs.Int.{int_wrap, w64}
 use Rattle.std.specs.Ordering.{int_eq}
 use Rattle.flat_ir.specs.declared.code.Operand.{Operand}
@@ -13,7 +13,7 @@ use Rattle.flat_ir.specs.Bodies.{Body, Give, Call, Choose, LetBody, LetGroup, Pr
 
 -- the number of a part of what is in Dyn is one of 64 bits with a sign, and its label one of 32
 abbrev pub part_has_words : ℤ → ℕ → Bool
-part_has_words k label = nat_lt label 4294967296 && int_eq (int_wrap w64 k) k
+part_has_words k label = nat_lt label (2 ^ 32) && int_eq (int_wrap w64 k) k
 
 -- with so many captured names and functions in the group
 module _ (captured group : ℕ) where

@@ -23,12 +23,12 @@ use Rattle.closure_convert.proofs.Typed.{typed_closed, typed_fine}
 use Rattle.closure_convert.proofs.program.convert.Goals as goal
 
 pub returns-clause-closed : goal.returns-clause-closed
-returns-clause-closed c = λ casts types labels type widths h words.
+returns-clause-closed c = λ casts types labels type widths h.
     let term = row_term_of c.args.program.now.body in
     subst (λ procs. is_closed procs c.in_ok-procs.entry ≡ true)
     (sym (c.in_ok-procs.ensures.procs (typed_closed casts types labels term type h.3)))
     (subst (λ entry. is_closed (converted term) entry ≡ true) (sym c.in_ok-procs.ensures.entry)
-    (converted_closed term (typed_fine casts types labels term type widths h.3 words)))
+    (converted_closed term (typed_fine casts types labels term type widths h.3 c.have_words.ensures)))
 
 pub returns-clause-levels : goal.returns-clause-levels
 returns-clause-levels c = λ casts types labels type h.

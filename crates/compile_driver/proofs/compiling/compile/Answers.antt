@@ -2,14 +2,8 @@ use Rattle.std.proofs.lemmas.Result.{err_from_is_err_and}
 use Rattle.cast_insert.specs.Views.{entries_of}
 use Rattle.surface_syntax.specs.Views.{expr_of}
 use Rattle.compile_driver.specs.Compiling.{program_over}
-use Rattle.compile_driver.proofs.Compiled.{is_program, program_placed}
+use Rattle.compile_driver.proofs.Compiled.{is_program}
 use Rattle.compile_driver.proofs.compiling.compile.Goals as goal
-
-pub made_of-requires-clause-placed : goal.made_of-requires-clause-placed
-made_of-requires-clause-placed c =
-    let done = c.in_ok-done.done in
-    program_placed c.args.text.now (expr_of done.program.body) c.in_ok-done.ensures.program.reads
-    (program_over done.types done.elab) done.elab.ty.0 (entries_of done.elab.casts) c.in_ok-done.ensures.elaborated
 
 pub returns-clause-source : goal.returns-clause-source
 returns-clause-source c =

@@ -2,15 +2,8 @@ use Rattle.std.proofs.lemmas.Result.{err_from_is_err_and}
 use Rattle.cast_insert.specs.Views.{entries_of}
 use Rattle.surface_syntax.specs.Views.{expr_of}
 use Rattle.compile_driver.specs.Compiling.{program_over}
-use Rattle.compile_driver.proofs.Compiled.{is_program, program_placed}
+use Rattle.compile_driver.proofs.Compiled.{is_program}
 use Rattle.compile_driver.proofs.compiling.words_of.Goals as goal
-
-pub words_over-requires-clause-placed : goal.words_over-requires-clause-placed
-words_over-requires-clause-placed c =
-    let source = c.in_ok-source.source in
-    program_placed c.args.text.now (expr_of source.program.body) c.in_ok-source.ensures.program.reads
-    (program_over source.types source.elab) source.elab.ty.0 (entries_of source.elab.casts)
-    c.in_ok-source.ensures.elaborated
 
 pub returns-clause-words : goal.returns-clause-words
 returns-clause-words c =

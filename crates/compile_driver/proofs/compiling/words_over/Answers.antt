@@ -1,6 +1,5 @@
 use Rattle.std.proofs.Common.{◌≡◌, ◌+◌, ◌<◌, ◌≤◌, ◌^◌, ℕ, List, true, ap, arith, length, sym, ◌∙◌, subst, rules}
 use Rattle.std.specs.Prelude.{All, [], Some}
-use Rattle.std.specs.List.{list_all}
 use Rattle.std.proofs.lemmas.List.{length-map}
 use Rattle.grift_base.specs.Types.{row_at}
 use Rattle.grift_base.specs.declared.places.TypeId.{TypeId}
@@ -8,8 +7,6 @@ use Rattle.type_graph.specs.Rows.{row_of}
 use Rattle.rv_machine.specs.Image.{statics_len, code_len}
 use Rattle.core_calc.specs.Typing.{ProgramTermHasType}
 use Rattle.core_calc.specs.Views.{term_of}
-use Rattle.cast_insert.specs.Views.{entries_of}
-use Rattle.front_end.specs.Placed.{IsPlaced, any_operator}
 use Rattle.front_end.proofs.Public.{program_type_there}
 use Rattle.run_laws.specs.Accounts.{FollowsWithin}
 use Rattle.core_calc.specs.Account.{account, extent, measures_of}
@@ -22,23 +19,18 @@ use Rattle.closure_convert.specs.Conversion.{made}
 use Rattle.low_ir.specs.Closed.{is_closed}
 use Rattle.low_ir.specs.Views.{procs_of}
 use Rattle.reg_assign.specs.Images.{IsImageOfWords}
-use Rattle.coercion_norm.specs.Modes.{row_cast, row_casts}
+use Rattle.coercion_norm.specs.Modes.{row_casts}
 use Rattle.coer_core.specs.Programs.{tallest_of}
 use Rattle.coer_core.specs.Terms.{core_of}
-use Rattle.coer_core.specs.Uses.{NumbersBelow}
 use Rattle.coer_core.specs.Views.{row_term_of}
 use Rattle.flat_ir.specs.Views.{proc_of as flat_proc_of}
-use Rattle.closure_convert.specs.Conversion.{converted}
-use Rattle.closure_convert.specs.Uses.{has_words, term_uses}
 use Rattle.compile_driver.specs.Compiling.{program_over}
-use Rattle.compile_driver.specs.Parts.{HasWords}
 use Rattle.compile_driver.specs.Space.{KeepsSpace}
 use Rattle.compile_driver.proofs.FewWords.{levels_within}
 use Rattle.compile_driver.proofs.Following.{HasPassed, are_made, casts_within, follows_program, keeps_space}
 use Rattle.compile_driver.proofs.Following.{no_names}
 use Rattle.compile_driver.proofs.ImageAccount.{IsMeasured, keeps_account}
 use Rattle.compile_driver.proofs.LabelsLow.{labels_low}
-use Rattle.compile_driver.proofs.PartWords.{words_fit}
 use Rattle.compile_driver.proofs.compiling.words_over.Goals as goal
 use Rattle.compile_driver.proofs.compiling.words_over.Goals.{After-drop-coer-4}
 
@@ -68,18 +60,6 @@ pub lower-requires-clause-casts : goal.lower-requires-clause-casts
 lower-requires-clause-casts c = casts_within c.args.types.now c.in_ok-coer.coer.coercions.nodes
     c.in_ok-coer.coer.casts c.in_ok-coer.ensures.coercions
 
--- numbers and labels of parts of Dyn in the term are words
-uses_have_words : (c : After-drop-coer-4)
-    → list_all has_words (term_uses (row_term_of c.in_ok-coer.coer.body)) ≡ true
-uses_have_words c =
-    let elab = c.args.elab.now in
-    let coer = c.in_ok-coer.coer in
-    let entries_fit : All HasWords (entries_of elab.casts) = search rules in
-    words_fit (entries_of elab.casts) entries_fit (row_casts coer.casts) (row_term_of coer.body)
-    (subst (λ n. NumbersBelow n (row_term_of coer.body)) (sym (length-map coer.casts row_cast))
-    c.in_ok-coer.ensures.numbers)
-    (subst (IsPlaced any_operator (entries_of elab.casts)) (sym c.in_ok-coer.ensures.reads) c.requires.placed)
-
 flat_closed : (c : After-drop-coer-4)
     → is_closed_flat (procs_of_flat c.in_ok-flat.flat.procs) c.in_ok-flat.flat.entry ≡ true
 flat_closed c =
@@ -91,7 +71,6 @@ flat_closed c =
     let typed = subst (λ t. ProgramTermHasType types labels t coer.answer.0) (sym c.in_ok-coer.ensures.reads)
     (c.in_ok-coer.ensures.answer labels low) in
     c.in_ok-flat.ensures.closed (row_casts coer.casts) types labels coer.answer.0 c.len.ensures.table.widths typed
-    (uses_have_words c)
 
 words_closed : (c : After-drop-coer-4) → is_closed (procs_of c.in_ok-low.low.procs) c.in_ok-low.low.entry ≡ true
 words_closed c = c.in_ok-low.ensures.closed (flat_closed c)
