@@ -1,7 +1,6 @@
 mod TypePlaces
 mod ReadPrograms
 mod Sources
-mod AnyOperator
 mod Outcomes
 mod Answered
 mod Places

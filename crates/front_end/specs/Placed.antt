@@ -12,10 +12,6 @@ use Rattle.core_calc.specs.Terms.{NoMembers, MemberThen, NoBindings, BindingThen
 use Rattle.cast_insert.specs.Making.{Entry, CastFrom, PartOf, Makes, Typed, Work}
 use Rattle.cast_insert.specs.Elaboration.{elaborate_program}
 
--- the test that each operator passes
-abbrev pub any_operator : PrimOp → Bool
-any_operator operator = true
-
 -- the list has an entry of this cast, and of this part
 abbrev pub HasCast : List Entry → ℕ → ℕ → ℕ → Type 0
 HasCast casts label from to =
