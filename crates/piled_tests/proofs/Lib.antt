@@ -10,3 +10,4 @@ mod Writing
 mod Vectors
 mod Elements
 mod Casting
+mod Serving

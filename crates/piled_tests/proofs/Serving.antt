@@ -1,0 +1,278 @@
+-- The scheme in which casts pile up serves: its procedures do what is asked of them wherever they stand in a program.
+use Rattle.std.proofs.Common.{◌≡◌, ℕ, suc, ◌+◌, ◌^◌, ◌<◌, ◌≤◌, true, List, [], ◌∷◌, length, Option, Some, None, refl}
+use Rattle.std.proofs.Common.{sym, ap, ◌∙◌, subst, arith, slice_get, ℤ, ◌%◌}
+use Rattle.std.specs.Int.{w64, cast_unsigned}
+use Rattle.grift_base.specs.declared.operators.PrimOp.TheVariants.{Unbox, BoxSet, MakeVector, VectorRef, VectorSet}
+use Rattle.grift_base.specs.declared.operators.PrimOp.TheVariants.{VectorLength}
+use Rattle.grift_base.specs.Types.{TypeRows}
+use Rattle.core_calc.specs.Account.{Measures}
+use Rattle.low_ir.specs.Procedures.{Proc as LowProc}
+use Rattle.low_ir.specs.Run.{Setting, LowState}
+use Rattle.coercion_norm.specs.Modes.{TypeCast, piling}
+use Rattle.coercion_norm.specs.RunValues.{RunInt, RunBool, RunUnit, RunFun, RunTuple, RunLoc, RunWrap, RunInject}
+use Rattle.coercion_norm.specs.RunValues.{in_row, all_plain}
+use Rattle.coercion_norm.specs.ValueSteps.{CastFrame, ProjFrame, Return, Entering, On, NoNext, on_some}
+use Rattle.coercion_norm.specs.ValueSteps.{run_enter_wrapped, run_proj_dyn}
+use Rattle.coercion_norm.specs.Held.{Layout, TypesStand}
+use Rattle.coercion_norm.specs.Objects.{Object}
+use Rattle.flat_ir.specs.Bodies.{Proc}
+use Rattle.flat_ir.specs.FlatTally.{Cost, act_cost, operator_cost, piled_prices}
+use Rattle.flat_ir.specs.Machine.{FlatCode, FlatValue, FlatFrame, FlatStore, FlatAfter, flat_arity, flat_entered}
+use Rattle.flat_ir.specs.Machine.{flat_operate, flat_proj, flat_turn}
+use Rattle.rt_cast.specs.States.{Placed, entered, heap_of}
+use Rattle.rt_refs.specs.FillCodes.{fill_proc}
+use Rattle.lower.specs.declared.served.Served.{Served}
+use Rattle.lower.specs.CarriedValues.{CarriedIn, AreCarried}
+use Rattle.lower.specs.CastWays.{cast_ways}
+use Rattle.lower.specs.Emit.{cast_word}
+use Rattle.lower.specs.Following.{Serving, ServesEverywhere}
+use Rattle.lower.specs.Keeping.{FitsMeasures}
+use Rattle.lower.specs.SchemeLaws.{Here, Answers, Serves, Calls, CastsMade, PartsGiven, CellsServed, CallsMade}
+use Rattle.lower.specs.SchemeLaws.{OperatorDone, IsHandedOn, at_or_zero, operator_leaves, part_leaves}
+use Rattle.lower.specs.Sets.{StandFrom, with_casts}
+use Rattle.lower.proofs.Public.{LetsFill, products_are_served, vectors_are_served}
+use Rattle.piled_tests.specs.Codes.{cast_proc, idle_proc, read_proc, write_proc, piled_procs, piled_numbers}
+use Rattle.piled_tests.specs.Piling.{piled_meaning, ArePiled, IsBoxCast}
+use Rattle.piled_tests.proofs.Casting.{cast_made, known_words, none_in_place}
+use Rattle.piled_tests.proofs.Elements.{reads_for, measures_for, writes_for}
+use Rattle.piled_tests.proofs.Laws.{piled_laws}
+use Rattle.piled_tests.proofs.Piles.{peeled}
+use Rattle.piled_tests.proofs.Reading.{wrapped_box_read}
+use Rattle.piled_tests.proofs.Writing.{wrapped_box_set}
+
+-- ---- casts between boxes have neither parts nor calls
+
+no_parts : (types : TypeRows) (all : List TypeCast) (cast : TypeCast) (part : ℕ) → IsBoxCast types cast part → (k : ℤ)
+    → (piling types all).projecting cast k ≡ None
+no_parts types all cast part b k = let e = b.from_is in let f = b.to_is in rw (e, f) refl
+
+no_calls : (types : TypeRows) (all : List TypeCast) (cast : TypeCast) (part : ℕ) → IsBoxCast types cast part
+    → (piling types all).calling cast ≡ None
+no_calls types all cast part b = let e = b.from_is in let f = b.to_is in rw (e, f) refl
+
+-- the account lets vectors be made
+piled_lets : (l : Layout) (casts : List TypeCast) (m : Measures) → LetsFill piled_meaning l casts m
+piled_lets l casts m = record {
+  serving = omega arith;
+  asks = λ n. omega arith;
+  budget = λ n. omega arith;
+  traps = omega arith;
+}
+
+module _ (setting : Setting) (l : Layout) (procs : List Proc) (casts : List TypeCast) (m : Measures) (first : ℕ)
+    (words : List ℕ) (placed : Placed setting l) (begins : l.region ≡ setting.region) (narrow : setting.top < 2 ^ 34)
+    (held : ArePiled l casts words) (stand : StandFrom setting.procs first (piled_procs first)) where
+  abbrev run : Served
+  run = with_casts (piled_numbers first) words (cast_ways l.types casts)
+
+  cast_stands : slice_get setting.procs first ≡ Some cast_proc
+  cast_stands = let z : first ≡ 0 + first = omega arith in ap (slice_get setting.procs) z ∙ stand 0 cast_proc refl
+
+  casting : CastsMade piled_meaning setting l procs casts m (with_casts (piled_numbers first) words
+      (cast_ways l.types casts))
+  casting = record {
+    proc = cast_proc;
+    stands = record { there = cast_stands; takes = refl; few = omega arith; room = omega arith; small = omega arith };
+    makes = λ s number places objects store here base row cast e v w c.
+        let p = held row cast e in (
+          0,
+          cast_made setting l procs casts m placed s number places objects store here base cast p.0 v w
+              (cast_word (slice_get words row)) c p.1,
+        );
+  }
+
+  parts : PartsGiven piled_meaning setting l procs casts m (with_casts (piled_numbers first) words
+      (cast_ways l.types casts))
+  parts = record {
+    proc = idle_proc 4;
+    stands = record {
+      there = stand 1 (idle_proc 4) refl;
+      takes = refl;
+      few = omega arith;
+      room = omega arith;
+      small = omega arith;
+    };
+    gives = λ s number places objects store here base v cast w c part label.
+        let z = (peeled l objects setting procs places v cast w c).2 in
+        let none = no_parts l.types casts cast z.part z.is part in
+        subst (λ o. Answers piled_meaning setting l procs casts m s part_leaves places objects base
+        (on_some o (λ inner. On (Return v) (ProjFrame part ∷ CastFrame inner ∷ base) store s.world))
+        (act_cost procs (piling l.types casts) (piled_prices (piling l.types casts) m)) number 0
+        (entered s (idle_proc 4) (w ∷ cast_unsigned w64 part % 2 ^ 64 ∷ 1 ∷
+        label ∷ []))) (sym none) (0, refl);
+    gives_dyn = λ s number places objects store here base v w c part label small fits.
+        in_no_dyn s number places objects store base v w c part label;
+  }
+    where
+      in_no_dyn : (s : LowState) (number : ℕ) (places : List ℕ) (objects : List Object) (store : FlatStore TypeCast)
+          (base : List (FlatFrame TypeCast)) (v : FlatValue TypeCast) (w : ℕ)
+          → CarriedIn l setting.address procs piled_meaning places objects v [] w → (part : ℤ) (label : ℕ)
+          → Answers piled_meaning setting l procs casts m s part_leaves places objects base
+          (run_proj_dyn (piling l.types casts) (flat_arity procs) (flat_entered procs) store s.world v part label base)
+          (piled_prices (piling l.types casts) m).part number 0
+          (entered s (idle_proc 4) (w ∷ cast_unsigned w64 part % 2 ^ 64 ∷ 0 ∷
+          label ∷ []))
+      in_no_dyn s number places objects store base (RunInt n) w c part label = (0, refl)
+      in_no_dyn s number places objects store base (RunBool b) w c part label = (0, refl)
+      in_no_dyn s number places objects store base RunUnit w c part label = (0, refl)
+      in_no_dyn s number places objects store base (RunFun code captured) w c part label = (0, refl)
+      in_no_dyn s number places objects store base (RunTuple values) w c part label = (0, refl)
+      in_no_dyn s number places objects store base (RunLoc cell b) w c part label = (0, refl)
+      in_no_dyn s number places objects store base (RunWrap v cast) w c part label = (0, refl)
+      in_no_dyn s number places objects store base (RunInject v kept) w c part label = absurd c.2
+
+  -- ---- boxes and vectors
+
+  abbrev Done : LowState → ℕ → List ℕ → List Object → List (FlatFrame TypeCast) → FlatAfter TypeCast → Cost → LowState
+      → Type 0
+  Done s number places objects base x cost te =
+      Answers piled_meaning setting l procs casts m s operator_leaves places objects base x cost number 0 te
+
+  unboxes : OperatorDone piled_meaning setting l procs casts m (with_casts (piled_numbers first) words
+      (cast_ways l.types casts)) Unbox (read_proc (9 + first)) (λ ws. 0 ∷ at_or_zero ws 0 ∷ 0 ∷ [])
+  unboxes = record {
+    does = λ s number places objects store here base vs ws c handed.
+        subst (λ xs. Done s number places objects base
+        (flat_operate procs (piling l.types casts) store s.world Unbox xs base)
+        (operator_cost procs (piling l.types casts) (piled_prices (piling l.types casts) m) Unbox xs)
+        (entered s (read_proc (9 + first)) (0 ∷ at_or_zero ws 0 ∷ 0 ∷ []))) (sym handed.3)
+        (of_wrapped s number places objects store here base handed.0 handed.1 handed.2 ws
+        (subst (λ xs. AreCarried l setting.address procs piled_meaning places objects (in_row xs) ws) handed.3 c));
+  }
+    where
+      of_wrapped : (s : LowState) (number : ℕ) (places : List ℕ) (objects : List Object) (store : FlatStore TypeCast)
+          → Here piled_meaning setting l procs casts m places objects store number (heap_of s)
+          → (base : List (FlatFrame TypeCast)) (v : FlatValue TypeCast) (cast : TypeCast)
+          (rest : List (FlatValue TypeCast)) (ws : List ℕ)
+          → AreCarried l setting.address procs piled_meaning places objects (in_row (RunWrap v cast ∷ rest)) ws
+          → Done s number places objects base
+          (flat_operate procs (piling l.types casts) store s.world Unbox (RunWrap v cast ∷ rest) base)
+          (operator_cost procs (piling l.types casts) (piled_prices (piling l.types casts) m) Unbox
+          (RunWrap v cast ∷ rest)) (entered s (read_proc (9 + first)) (0 ∷ at_or_zero ws 0 ∷ 0 ∷ []))
+      of_wrapped s number places objects store here base v cast (x ∷ rest) ws c = (0, refl)
+      of_wrapped s number places objects store here base v cast [] [] c = absurd c
+      of_wrapped s number places objects store here base v cast [] (w ∷ x ∷ ws) c = absurd c.1
+      of_wrapped s number places objects store here base v cast [] (w ∷ []) c =
+          let r = wrapped_box_read setting l procs casts m placed (9 + first) (stand 9 _ refl) s places objects store
+          here.cells base v cast w c.0 in
+          (r.0, r.1 number here.filled)
+
+  sets : OperatorDone piled_meaning setting l procs casts m (with_casts (piled_numbers first) words
+      (cast_ways l.types casts)) BoxSet (write_proc (10 + first)) (λ ws. 0 ∷ at_or_zero ws 0 ∷ 0 ∷ at_or_zero ws 1 ∷ [])
+  sets = record {
+    does = λ s number places objects store here base vs ws c handed.
+        subst (λ xs. Done s number places objects base
+        (flat_operate procs (piling l.types casts) store s.world BoxSet xs base)
+        (operator_cost procs (piling l.types casts) (piled_prices (piling l.types casts) m) BoxSet xs)
+        (entered s (write_proc (10 + first)) (0 ∷ at_or_zero ws 0 ∷ 0 ∷ at_or_zero ws 1 ∷ []))) (sym handed.3)
+        (of_wrapped s number places objects store here base handed.0 handed.1 handed.2 ws
+        (subst (λ xs. AreCarried l setting.address procs piled_meaning places objects (in_row xs) ws) handed.3 c));
+  }
+    where
+      of_wrapped : (s : LowState) (number : ℕ) (places : List ℕ) (objects : List Object) (store : FlatStore TypeCast)
+          → Here piled_meaning setting l procs casts m places objects store number (heap_of s)
+          → (base : List (FlatFrame TypeCast)) (v : FlatValue TypeCast) (cast : TypeCast)
+          (rest : List (FlatValue TypeCast)) (ws : List ℕ)
+          → AreCarried l setting.address procs piled_meaning places objects (in_row (RunWrap v cast ∷ rest)) ws
+          → Done s number places objects base
+          (flat_operate procs (piling l.types casts) store s.world BoxSet (RunWrap v cast ∷ rest) base)
+          (operator_cost procs (piling l.types casts) (piled_prices (piling l.types casts) m) BoxSet
+          (RunWrap v cast ∷ rest))
+          (entered s (write_proc (10 + first)) (0 ∷ at_or_zero ws 0 ∷ 0 ∷ at_or_zero ws 1 ∷ []))
+      of_wrapped s number places objects store here base v cast [] ws c = (0, refl)
+      of_wrapped s number places objects store here base v cast (x ∷ y ∷ rest) ws c = (0, refl)
+      of_wrapped s number places objects store here base v cast (x ∷ []) [] c = absurd c
+      of_wrapped s number places objects store here base v cast (x ∷ []) (w ∷ []) c = absurd c.1
+      of_wrapped s number places objects store here base v cast (x ∷ []) (w ∷ wx ∷ y ∷ ws) c = absurd c.1.1
+      of_wrapped s number places objects store here base v cast (x ∷ []) (w ∷ wx ∷ []) c =
+          let r = wrapped_box_set setting l procs casts m placed begins (10 + first) (stand 10 _ refl) s places objects
+          store here.cells base x wx c.1.0 v cast w c.0 in
+          (r.0, r.1 number here.filled)
+
+  cells : CellsServed piled_meaning setting l procs casts m (with_casts (piled_numbers first) words
+      (cast_ways l.types casts))
+  cells = record {
+    read = read_proc (9 + first);
+    read_stands = record {
+      there = stand 3 _ refl;
+      takes = refl;
+      few = omega arith;
+      room = omega arith;
+      small = omega arith;
+    };
+    unboxes = unboxes;
+    reads = record {
+      does = λ s number places objects store here base vs ws c handed.
+          reads_for setting l procs casts m placed begins s places objects store here.cells base (9 + first) vs ws c
+          number here.filled;
+    };
+    measures = record {
+      does = λ s number places objects store here base vs ws c handed.
+          measures_for setting l procs casts m placed begins s places objects store here.cells base (9 + first) vs ws c
+          number here.filled;
+    };
+    write = write_proc (10 + first);
+    write_stands = record {
+      there = stand 4 _ refl;
+      takes = refl;
+      few = omega arith;
+      room = omega arith;
+      small = omega arith;
+    };
+    sets = sets;
+    writes = record {
+      does = λ s number places objects store here base vs ws c handed.
+          writes_for setting l procs casts m placed begins s places objects store here.cells base (10 + first) vs ws c
+          number here.filled;
+    };
+    fill = fill_proc (8 + first);
+    fill_stands = record {
+      there = stand 5 _ refl;
+      takes = refl;
+      few = omega arith;
+      room = omega arith;
+      small = omega arith;
+    };
+    fills = vectors_are_served piled_meaning piled_laws setting l procs casts m (piled_lets l casts m) placed begins
+        narrow (8 + first) (stand 8 _ refl) (with_casts (piled_numbers first) words (cast_ways l.types casts));
+  }
+
+  calling : CallsMade piled_meaning setting l procs casts m (with_casts (piled_numbers first) words
+      (cast_ways l.types casts))
+  calling = record {
+    proc = idle_proc 8;
+    stands = record {
+      there = stand 2 (idle_proc 8) refl;
+      takes = refl;
+      few = omega arith;
+      room = omega arith;
+      small = omega arith;
+    };
+    calls = λ s number places objects store here base v cast w c vs ws cs few.
+        let z = (peeled l objects setting procs places v cast w c).2 in
+        let none = no_calls l.types casts cast z.part z.is in
+        subst (λ o. Serves piled_meaning setting l procs casts m s
+        (Calls piled_meaning setting l procs casts m s places objects base)
+        (on_some o (λ parts. run_enter_wrapped (piling l.types casts) (flat_arity procs) (flat_entered procs) store
+        s.world v parts (all_plain vs) base))
+        (act_cost procs (piling l.types casts) (piled_prices (piling l.types casts) m)) number 0
+        (entered s (idle_proc 8) (w ∷ at_or_zero ws 0 ∷ at_or_zero ws 1 ∷ at_or_zero ws 2 ∷ at_or_zero ws 3
+        ∷ at_or_zero ws 4 ∷ at_or_zero ws 5 ∷ length ws ∷ []))) (sym none) (0, refl);
+    goes_on = λ s number places objects store here base waiting cast results resumes v w c. absurd resumes;
+  }
+
+pub piled_procedures_serve : ServesEverywhere piled_meaning piled_procs piled_numbers
+piled_procedures_serve = λ setting l procs casts m first words measured placed begins small types held stand.
+    record {
+      products = products_are_served setting (with_casts (piled_numbers first) words (cast_ways l.types casts))
+          (11 + first) (12 + first) (stand 11 _ refl) (stand 12 _ refl) (stand 6 _ refl) (stand 7 _ refl);
+      casting = casting setting l procs casts m first words placed begins small held stand;
+      words = λ row cast e.
+          let p = held row cast e in
+          subst (λ w. w < 2 ^ 64) (sym p.1) (known_words l.types casts cast p.0);
+      made_in_place = λ s number places objects store here base row cast e v w c word h.
+          absurd (none_in_place l.types casts row cast e (held row cast e).0 w word h);
+      parts = parts setting l procs casts m first words placed begins small held stand;
+      cells = cells setting l procs casts m first words placed begins small held stand;
+      calling = calling setting l procs casts m first words placed begins small held stand;
+    }
