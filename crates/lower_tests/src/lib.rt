@@ -7,4 +7,6 @@ mod images;
 #[cfg(test)]
 mod merged;
 #[cfg(test)]
+mod piled;
+#[cfg(test)]
 mod programs;

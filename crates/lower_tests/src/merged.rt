@@ -20,7 +20,8 @@ use grift_base::operators::PrimOp::{
 use grift_base::places::{LabelId, LabelTable, Pos, TypeId};
 use grift_base::verdicts::{Answer, AnswerKind, Trap};
 use low_ir::programs::LowProgram;
-use lower::merged::lower;
+use lower::merged::Merged;
+use lower::schemes::{Scheme, lower_with};
 use rv_emulator::stops::Stop;
 use std::alloc::Global;
 use std::marker::Model;
@@ -42,13 +43,13 @@ enum Shape {
     Pair(TypeId, TypeId),
 }
 
-const INT: TypeId = TypeId(0);
+pub(crate) const INT: TypeId = TypeId(0);
 
-const BOOL: TypeId = TypeId(1);
+pub(crate) const BOOL: TypeId = TypeId(1);
 
 const DYN: TypeId = TypeId(2);
 
-const BOX_OF_INT: TypeId = TypeId(3);
+pub(crate) const BOX_OF_INT: TypeId = TypeId(3);
 
 const BOX_OF_DYN: TypeId = TypeId(4);
 
@@ -64,7 +65,7 @@ const TWO_INTS: TypeId = TypeId(9);
 
 const TWO_DYNS: TypeId = TypeId(10);
 
-const BOX_OF_BOOL: TypeId = TypeId(11);
+pub(crate) const BOX_OF_BOOL: TypeId = TypeId(11);
 
 const TYPES: &[Shape] = &[
     Shape::Int,
@@ -125,7 +126,7 @@ const CASTS: &[(TypeId, TypeId)] = &[
 const OF_PART: u32 = 12;
 
 // The place of a label.
-fn place(label: u32) -> Pos {
+pub(crate) fn place(label: u32) -> Pos {
     Pos {
         line: label.wrapping_add(1),
         col: 1,
@@ -163,7 +164,7 @@ fn types(rt: &impl Abort, alloc: Global) -> TypeTable {
 
 // Types, coercions that fit them, and casts by these.
 #[derive(Drop)]
-struct Tables {
+pub(crate) struct Tables {
     types: TypeTable,
     table: CoercionTable,
     casts: CastRows,
@@ -180,13 +181,14 @@ impl Model for Tables {
     ghost invariant = { λ a. FitsTypes a.types a.table };
 }
 
-// The program over words of numbered procedures, with casts whose coercions are there.
-fn low_of(
+// The program over words of numbered procedures over a scheme, with casts whose coercions are there.
+fn low_of<S: Scheme>(
     alloc: Global,
     flat: &FlatProgram,
     types: &TypeTable,
     table: &CoercionTable,
     casts: &CastRows,
+    scheme: &S,
 ) -> Result<LowProgram, Fail>
     requires { FitsTypes types.now table.now }
 {
@@ -198,7 +200,7 @@ fn low_of(
             return Err(Fail::from("no coercion is there"));
         }
     }
-    Ok(lower(alloc, flat, types, casts, table)?)
+    Ok(lower_with(alloc, flat, types, casts, table, scheme)?)
 }
 
 impl Tables {
@@ -224,16 +226,25 @@ impl Tables {
         self.casts.intern(row).expect(rt, "memory");
     }
 
-    // The program over words of numbered procedures, with the merged scheme.
-    fn low_of(&self, alloc: Global, flat: &FlatProgram) -> Result<LowProgram, Fail> {
-        low_of(alloc, flat, &self.types, &self.table, &self.casts)
+    // The program over words of numbered procedures, over a scheme.
+    pub(crate) fn low_of<S: Scheme>(
+        &self,
+        alloc: Global,
+        flat: &FlatProgram,
+        scheme: &S,
+    ) -> Result<LowProgram, Fail> {
+        low_of(alloc, flat, &self.types, &self.table, &self.casts, scheme)
     }
 }
 
-// The types and all casts.
-fn with_casts(rt: &impl Abort, alloc: Global) -> Tables {
+// The types and these casts.
+pub(crate) fn with_casts(
+    rt: &impl Abort,
+    alloc: Global,
+    casts: &[(TypeId, TypeId)],
+) -> Tables {
     let mut tables = Tables::new(rt, alloc);
-    for (label, (from, to)) in CASTS.iter().enumerate() {
+    for (label, (from, to)) in casts.iter().enumerate() {
         assert!(rt; label < 100);
         tables.add(rt, alloc, *from, *to, LabelId(label as u32));
     }
@@ -241,7 +252,7 @@ fn with_casts(rt: &impl Abort, alloc: Global) -> Tables {
 }
 
 // The labels of the casts, and one more.
-fn labels(rt: &impl Abort, alloc: Global) -> LabelTable {
+pub(crate) fn labels(rt: &impl Abort, alloc: Global) -> LabelTable {
     let mut labels = LabelTable::new(alloc);
     for label in 0..=OF_PART {
         labels.intern(place(label)).expect(rt, "memory");
@@ -252,7 +263,7 @@ fn labels(rt: &impl Abort, alloc: Global) -> LabelTable {
 // ---- procedures
 
 // What gives the next name its value, or ends a body.
-enum Turn {
+pub(crate) enum Turn {
     Does(PrimOp, &'static [Operand]),
     Cast(Operand, u32),
     Tuple(&'static [Operand]),
@@ -269,7 +280,7 @@ fn operands(rt: &impl Abort, alloc: Global, these: &[Operand]) -> Operands {
 }
 
 // The body of a turn alone.
-fn given(rt: &impl Abort, alloc: Global, turn: &Turn) -> FlatBody {
+pub(crate) fn given(rt: &impl Abort, alloc: Global, turn: &Turn) -> FlatBody {
     match turn {
         Does(operator, these) => FlatBody::Give(Operation::Prim(
             *operator,
@@ -300,7 +311,7 @@ fn before(rt: &impl Abort, alloc: Global, slot: u32, turn: &Turn, rest: FlatBody
 }
 
 // Turns one after another, the first of which gives name 0, and the last of which ends the body.
-fn body(rt: &impl Abort, alloc: Global, turns: &[Turn], last: &Turn) -> FlatBody {
+pub(crate) fn body(rt: &impl Abort, alloc: Global, turns: &[Turn], last: &Turn) -> FlatBody {
     let mut body = given(rt, alloc, last);
     for (slot, turn) in turns.iter().enumerate().rev() {
         assert!(rt; slot < 100);
@@ -310,7 +321,7 @@ fn body(rt: &impl Abort, alloc: Global, turns: &[Turn], last: &Turn) -> FlatBody
 }
 
 // A procedure.
-fn proc(params: u32, captured: u32, group: u32, body: FlatBody) -> FlatProc {
+pub(crate) fn proc(params: u32, captured: u32, group: u32, body: FlatBody) -> FlatProc {
     FlatProc {
         params,
         captured,
@@ -339,17 +350,17 @@ fn flat_program(rt: &impl Abort, alloc: Global, row: &Program) -> FlatProgram {
 // ---- programs
 
 // What an image comes to: an integer, the blame of a label, or a trap.
-enum End {
+pub(crate) enum End {
     Answers(i64),
     Blames(u32),
     Traps(Trap),
 }
 
 // Turns, the last one, and what the image comes to.
-struct Program {
-    turns: &'static [Turn],
-    last: Turn,
-    end: End,
+pub(crate) struct Program {
+    pub(crate) turns: &'static [Turn],
+    pub(crate) last: Turn,
+    pub(crate) end: End,
 }
 
 const BOXES: &[Program] = &[
@@ -550,7 +561,7 @@ const FUNCTIONS: &[Program] = &[
 ];
 
 // The stop of an end.
-fn wanted(end: &End) -> Stop {
+pub(crate) fn wanted(end: &End) -> Stop {
     match end {
         Answers(word) => Stop::Ended(Answer {
             kind: AnswerKind::Int,
@@ -565,7 +576,7 @@ fn wanted(end: &End) -> Stop {
 fn stop_of(rt: &impl Abort, alloc: Global, row: &Program) -> Result<Stop, Fail> {
     let flat = flat_program(rt, alloc, row);
     assert!(rt; flat.is_closed());
-    let low = with_casts(rt, alloc).low_of(alloc, &flat)?;
+    let low = with_casts(rt, alloc, CASTS).low_of(alloc, &flat, &Merged)?;
     assert!(rt; low.is_closed());
     Ok(runs(alloc, &low, &labels(rt, alloc), 4096, 65_536)?)
 }

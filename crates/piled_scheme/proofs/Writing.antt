@@ -32,16 +32,16 @@ use Rattle.lower.specs.Storage.{Filled}
 use Rattle.lower.proofs.Public.{as_many}
 use Rattle.lower.proofs.Public.{cell_of, there_is}
 use Rattle.lower.proofs.Public.{at, Comes, Calm, Goal, here, if_true, if_false, stores, left_of}
-use Rattle.piled_tests.specs.Codes.{set_proc, write_proc}
-use Rattle.piled_tests.specs.Piling.{IsWrapped, piled_meaning, wrapper_object, wrapper_header, most_labels}
-use Rattle.piled_tests.proofs.Deciding.{IsPlain, written_cast, written_plain, writes_by}
-use Rattle.piled_tests.proofs.Laws.{piled_laws}
-use Rattle.piled_tests.proofs.Looking.{inside as inside_of, calm as calm_of, loads_word, looked, blamed}
-use Rattle.piled_tests.proofs.Piles.{Carried, peeled}
-use Rattle.piled_tests.proofs.Reading.{tested, is_zero, is_some}
-use Rattle.piled_tests.proofs.Storing.{after, may, end, wrote}
-use Rattle.piled_tests.proofs.Turns.{FilledAt, CellsAt, C, GoesOn, plain_turn, keeps, blames_it, no_more}
-use Rattle.piled_tests.proofs.Walking.{Way, room_of, on_way, goal, walks, stays, tail_calls, blames}
+use Rattle.piled_scheme.specs.Codes.{set_proc, write_proc}
+use Rattle.piled_scheme.specs.Piling.{IsWrapped, piled_meaning, wrapper_object, wrapper_header, most_labels}
+use Rattle.piled_scheme.proofs.Deciding.{IsPlain, written_cast, written_plain, writes_by}
+use Rattle.piled_scheme.proofs.Laws.{piled_laws}
+use Rattle.piled_scheme.proofs.Looking.{inside as inside_of, calm as calm_of, loads_word, looked, blamed}
+use Rattle.piled_scheme.proofs.Piles.{Carried, peeled}
+use Rattle.piled_scheme.proofs.Reading.{tested, is_zero, is_some}
+use Rattle.piled_scheme.proofs.Storing.{after, may, end, wrote}
+use Rattle.piled_scheme.proofs.Turns.{FilledAt, CellsAt, C, GoesOn, plain_turn, keeps, blames_it, no_more}
+use Rattle.piled_scheme.proofs.Walking.{Way, room_of, on_way, goal, walks, stays, tail_calls, blames}
 
 module _ (setting : Setting) (l : Layout) (procs : List Proc) (casts : List TypeCast) (m : Measures)
     (placed : Placed setting l) (begins : l.region ≡ setting.region) (own : ℕ)

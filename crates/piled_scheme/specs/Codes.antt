@@ -1,5 +1,5 @@
 -- The procedures of the scheme in which casts of boxes pile up. They are numbered without gaps.
-use Rattle.std.specs.Prelude.{ℕ, ◌+◌, List, [], ◌∷◌}
+use Rattle.std.specs.Prelude.{ℕ, ◌+◌, List, [], ◌∷◌, ◌++◌}
 use Rattle.grift_base.specs.declared.verdicts.Trap.TheVariants.{Index}
 use Rattle.rv_isa.specs.declared.inst.Cond.TheVariants.{Eq, Ltu}
 use Rattle.low_ir.specs.declared.code.LowSource.TheVariants.{Word, Number}
@@ -8,11 +8,10 @@ use Rattle.low_ir.specs.Procedures.{Code, Set, Compute, Load, Store, Build, Retu
 use Rattle.rt_cast.specs.PartCodes.{proc, either, blame_code}
 use Rattle.rt_cast.specs.Words.{kind_mask, count_bits, word_shift}
 use Rattle.rt_refs.specs.FillCodes.{fill_loop, fill_proc}
-use Rattle.rt_refs.specs.Products.{product_loop, multiply}
-use Rattle.rt_refs.specs.Quotients.{quotient_loop, divide}
+use Rattle.rt_refs.specs.Quotients.{arithmetic_procs}
 use Rattle.rt_refs.specs.TrapCodes.{trap_code}
 use Rattle.lower.specs.declared.served.Served.{Served}
-use Rattle.piled_tests.specs.Piling.{wrapper_header}
+use Rattle.piled_scheme.specs.Piling.{wrapper_header}
 
 -- word 3 is one more than the label that is blamed
 abbrev pub blame_part : Code
@@ -91,23 +90,23 @@ write_proc set =
     either Eq (Word 0) (Number 0) (TailCall set (Word 1 ∷ Word 3 ∷ []))
     (in_vector (Store (Word 3) (Word 2) 8 (Return (Number 0)))))
 
--- those that code calls, and behind them those that these call
+-- products and quotients, the other procedures that code calls, the loop that makes vectors, and those that go through
+-- wrappers
 abbrev pub piled_procs : ℕ → List Proc
 piled_procs first =
-    cast_proc ∷ idle_proc 4 ∷ idle_proc 8 ∷ read_proc (9 + first) ∷ write_proc (10 + first) ∷ fill_proc (8 + first)
-    ∷ multiply (11 + first) ∷ divide (12 + first) ∷ fill_loop (8 + first) ∷ unbox_proc (9 + first)
-    ∷ set_proc (10 + first) ∷ product_loop (11 + first) ∷ quotient_loop (12 + first) ∷ []
+    arithmetic_procs first ++ cast_proc ∷ idle_proc 4 ∷ idle_proc 8 ∷ read_proc (11 + first) ∷ write_proc (12 + first)
+    ∷ fill_proc (10 + first) ∷ fill_loop (10 + first) ∷ unbox_proc (11 + first) ∷ set_proc (12 + first) ∷ []
 
 abbrev pub piled_numbers : ℕ → Served
 piled_numbers first = record {
-  cast = first;
-  project = 1 + first;
-  apply = 2 + first;
-  read = 3 + first;
-  write = 4 + first;
-  fill = 5 + first;
-  multiply = 6 + first;
-  divide = 7 + first;
+  multiply = 2 + first;
+  divide = 3 + first;
+  cast = 4 + first;
+  project = 5 + first;
+  apply = 6 + first;
+  read = 7 + first;
+  write = 8 + first;
+  fill = 9 + first;
   cast_at = [];
   ways = [];
 }

@@ -6,7 +6,7 @@ use Rattle.grift_base.specs.Types.{TypeRow, TypeRows, IntRow, BoolRow, UnitRow, 
 use Rattle.grift_base.specs.Types.{VectRow, row_at, same_head, is_base}
 use Rattle.coercion_norm.specs.Modes.{TypeCast, type_cast, Shape, Decision, Keeping, Wrapping, Blaming, NoCast, piling}
 use Rattle.coercion_norm.specs.Modes.{fits}
-use Rattle.piled_tests.specs.Piling.{fate, IsBoxCast, most_labels}
+use Rattle.piled_scheme.specs.Piling.{fate, IsBoxCast, most_labels}
 
 -- a cast between plain types, and what it does
 pub record IsPlain (types : TypeRows) (cast : TypeCast) (part : ℕ) : Type 0 where

@@ -30,7 +30,7 @@ use Rattle.lower.specs.Storage.{Filled}
 use Rattle.lower.specs.SchemeLaws.{OnWay, StopsNow, Walks}
 use Rattle.lower.proofs.Public.{By, by_go, by_weaken, calls_blame, in_front}
 use Rattle.lower.proofs.Public.{at, Comes, Calm, Goal, N, left_of, goes_last, lt_true}
-use Rattle.piled_tests.specs.Piling.{piled_meaning}
+use Rattle.piled_scheme.specs.Piling.{piled_meaning}
 
 module _ (setting : Setting) (l : Layout) (procs : List Proc) (casts : List TypeCast) (m : Measures)
     (s : LowState) where

@@ -37,20 +37,21 @@ use Rattle.lower.specs.declared.served.CastWay.{CastWay}
 use Rattle.lower.specs.declared.served.CastWay.TheVariants.{Called}
 use Rattle.lower.specs.CarriedValues.{CellsHeld}
 use Rattle.lower.specs.CastWays.{way_between, cast_way, cast_ways, way_at, in_place}
+use Rattle.lower.specs.Emit.{cast_word}
 use Rattle.lower.specs.SchemeLaws.{Here, ReturnsAt, After, Aim, StopsNow, Walks, cast_leaves}
 use Rattle.lower.specs.Storage.{Filled}
 use Rattle.lower.proofs.Public.{AreSmall, stored_words, bytes_below, filled_more, carried_small, later, cells_later}
 use Rattle.lower.proofs.Public.{cells_below, at, Comes, Calm, Goal, left_of, here, computes, if_true, if_false, builds}
-use Rattle.piled_tests.specs.Codes.{cast_proc, blame_part}
-use Rattle.piled_tests.specs.Piling.{IsKnown, PlainType, BoxType, IsPiled, IsBoxCast, IsWrapped, piled_meaning, fate}
-use Rattle.piled_tests.specs.Piling.{word_between, wrapper_object, wrapper_header, most_labels, wrappers}
-use Rattle.piled_tests.proofs.Deciding.{kept_or_blamed}
-use Rattle.piled_tests.proofs.Laws.{piled_laws, wrappers_more}
-use Rattle.piled_tests.proofs.Looking.{inside as inside_of, calm as calm_of, ends, blamed}
-use Rattle.piled_tests.proofs.Piles.{Carried, wrapped_more, wrapped_first}
-use Rattle.piled_tests.proofs.Turns.{FilledAt, CellsAt, C, GoesOn, Decided, returned, no_more}
-use Rattle.piled_tests.proofs.Walking.{Way, room_of, calm_at, goal, walks, blames}
-use Rattle.piled_tests.proofs.Reading.{is_some}
+use Rattle.piled_scheme.specs.Codes.{cast_proc, blame_part}
+use Rattle.piled_scheme.specs.Piling.{IsKnown, PlainType, BoxType, IsPiled, IsBoxCast, IsWrapped, piled_meaning, fate}
+use Rattle.piled_scheme.specs.Piling.{word_between, word_of, wrapper_object, wrapper_header, most_labels, wrappers}
+use Rattle.piled_scheme.proofs.Deciding.{kept_or_blamed}
+use Rattle.piled_scheme.proofs.Laws.{piled_laws, wrappers_more}
+use Rattle.piled_scheme.proofs.Looking.{inside as inside_of, calm as calm_of, ends, blamed}
+use Rattle.piled_scheme.proofs.Piles.{Carried, wrapped_more, wrapped_first}
+use Rattle.piled_scheme.proofs.Turns.{FilledAt, CellsAt, C, GoesOn, Decided, returned, no_more}
+use Rattle.piled_scheme.proofs.Walking.{Way, room_of, calm_at, goal, walks, blames}
+use Rattle.piled_scheme.proofs.Reading.{is_some}
 
 -- ---- what known casts do
 
@@ -188,8 +189,7 @@ module _ (types : TypeRows) (all : List TypeCast) (cast : TypeCast) where
             small = p.small;
           })
           (λ shape. by_rows (RefRow content) (RefRow wanted) e f (λ b. if b then Wrapping cast else NoCast)
-          (λ s b. refl) shape)
-          (let a = row_is types content inner c in let b = row_is types wanted outer w in rw (a, b) refl)
+          (λ s b. refl) shape) (rw (c, w) refl)
 
 -- ---- the procedure
 
@@ -495,6 +495,19 @@ module _ (setting : Setting) (l : Layout) (procs : List Proc) (casts : List Type
           (subst (λ x. x < 2 ^ 33) (sym box.part_is) (fate_small box.inner box.outer cast.label box.small)) v w c))
 
 -- ---- what is handed on is a word, and nothing is done in place
+
+pub handed_on : (types : TypeRows) (casts : List TypeCast) (words : List ℕ) → words ≡ map (word_of types) casts
+    → (number : ℕ) (cast : TypeCast) → slice_get casts number ≡ Some cast → (p : IsPiled types cast)
+    → cast_word (slice_get words number) ≡ word_between types p.row p.other cast.label
+handed_on types casts words is number cast e p =
+    ap (λ ws. cast_word (slice_get ws number)) is ∙ (mapped casts number e
+    ∙ (let a = p.from_is in let b = p.to_is in rw (a, b) refl))
+  where
+    mapped : (casts : List TypeCast) (number : ℕ) → slice_get casts number ≡ Some cast
+        → cast_word (slice_get (map (word_of types) casts) number) ≡ word_of types cast
+    mapped [] number e = absurd (let z : ⊥ = cc in z)
+    mapped (c ∷ casts) zero e = let same : c ≡ cast = cc in ap (word_of types) same
+    mapped (c ∷ casts) (suc number) e = mapped casts number e
 
 pub known_words : (types : TypeRows) (all : List TypeCast) (cast : TypeCast) (p : IsPiled types cast)
     → word_between types p.row p.other cast.label < 2 ^ 64

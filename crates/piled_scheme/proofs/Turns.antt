@@ -26,10 +26,10 @@ use Rattle.lower.specs.Storage.{Filled}
 use Rattle.lower.specs.CarriedValues.{CellsHeld}
 use Rattle.lower.specs.SchemeLaws.{Here, ReturnsAt, Returns, StopsNow, Walks, After, Goes, Aim}
 use Rattle.lower.proofs.Public.{at}
-use Rattle.piled_tests.specs.Piling.{piled_meaning, fate}
-use Rattle.piled_tests.proofs.Deciding.{IsPlain, plain_decides, kept_or_blamed}
-use Rattle.piled_tests.proofs.Piles.{Carried}
-use Rattle.piled_tests.proofs.Walking.{HasRoom, on_way, stays}
+use Rattle.piled_scheme.specs.Piling.{piled_meaning, fate}
+use Rattle.piled_scheme.proofs.Deciding.{IsPlain, plain_decides, kept_or_blamed}
+use Rattle.piled_scheme.proofs.Piles.{Carried}
+use Rattle.piled_scheme.proofs.Walking.{HasRoom, on_way, stays}
 
 pub no_more : (n : ℕ) → n ≡ n + 0
 no_more n = omega arith

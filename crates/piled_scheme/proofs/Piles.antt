@@ -15,7 +15,7 @@ use Rattle.flat_ir.specs.Machine.{FlatValue, FlatStore}
 use Rattle.rt_cast.specs.States.{Placed}
 use Rattle.lower.specs.CarriedValues.{CarriedIn, Under, Bare}
 use Rattle.lower.proofs.Public.{there_same}
-use Rattle.piled_tests.specs.Piling.{Pile, IsWrapped, IsBox, piled_meaning}
+use Rattle.piled_scheme.specs.Piling.{Pile, IsWrapped, IsBox, piled_meaning}
 
 module _ (l : Layout) (objects : List Object) where
   -- ---- piles

@@ -11,3 +11,4 @@ mod Vectors
 mod Elements
 mod Casting
 mod Serving
+mod Closing

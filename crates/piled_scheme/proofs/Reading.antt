@@ -39,14 +39,14 @@ use Rattle.lower.specs.SchemeLaws.{After, Aim, StopsNow, Walks, operator_leaves}
 use Rattle.lower.proofs.Public.{cell_of, cell_word_there, there_is}
 use Rattle.lower.proofs.Public.{word_there, header_there}
 use Rattle.lower.proofs.Public.{at, Comes, Calm, Goal, here, loads, computes, if_true, if_false, sets_word, left_of}
-use Rattle.piled_tests.specs.Codes.{unbox_proc, read_proc}
-use Rattle.piled_tests.specs.Piling.{IsWrapped, piled_meaning, wrapper_object, wrapper_header, most_labels}
-use Rattle.piled_tests.proofs.Deciding.{IsPlain, read_cast, read_plain, reads_by}
-use Rattle.piled_tests.proofs.Looking.{inside as inside_of, calm as calm_of, ends, loads_word, looked, blamed}
-use Rattle.piled_tests.proofs.Piles.{Carried, peeled}
-use Rattle.piled_tests.proofs.Turns.{FilledAt, CellsAt, C, aim, GoesOn, returned, plain_turn, keeps, blames_it, no_more}
-use Rattle.piled_tests.proofs.Walking.{Way, HasRoom, room_of, on_way, calm_at, goal, walks, walks_by, stays, tail_calls}
-use Rattle.piled_tests.proofs.Walking.{tail_calls_on, blames}
+use Rattle.piled_scheme.specs.Codes.{unbox_proc, read_proc}
+use Rattle.piled_scheme.specs.Piling.{IsWrapped, piled_meaning, wrapper_object, wrapper_header, most_labels}
+use Rattle.piled_scheme.proofs.Deciding.{IsPlain, read_cast, read_plain, reads_by}
+use Rattle.piled_scheme.proofs.Looking.{inside as inside_of, calm as calm_of, ends, loads_word, looked, blamed}
+use Rattle.piled_scheme.proofs.Piles.{Carried, peeled}
+use Rattle.piled_scheme.proofs.Turns.{FilledAt, CellsAt, C, aim, GoesOn, returned, plain_turn, keeps, blames_it, no_more}
+use Rattle.piled_scheme.proofs.Walking.{Way, HasRoom, room_of, on_way, calm_at, goal, walks, walks_by, stays, tail_calls}
+use Rattle.piled_scheme.proofs.Walking.{tail_calls_on, blames}
 
 -- what casts that wait do with what is read: the part of the first that doesn't keep it, and 0 where all keep it
 abbrev pub Waits : TypeRows → List TypeCast → ℕ → Type 0

@@ -23,10 +23,10 @@ use Rattle.lower.specs.Storage.{Filled}
 use Rattle.lower.proofs.Public.{as_many, carried_small}
 use Rattle.lower.proofs.Public.{cell_of, cells_stored, holds_stored}
 use Rattle.lower.proofs.Public.{found_within, holds_same, set_length, words_stored}
-use Rattle.piled_tests.specs.Piling.{piled_meaning}
-use Rattle.piled_tests.proofs.Laws.{piled_laws}
-use Rattle.piled_tests.proofs.Piles.{Carried}
-use Rattle.piled_tests.proofs.Turns.{FilledAt, CellsAt, C, returned}
+use Rattle.piled_scheme.specs.Piling.{piled_meaning}
+use Rattle.piled_scheme.proofs.Laws.{piled_laws}
+use Rattle.piled_scheme.proofs.Piles.{Carried}
+use Rattle.piled_scheme.proofs.Turns.{FilledAt, CellsAt, C, returned}
 
 stored_may : (region top at : ℕ) → at % 8 ≡ 0 → region ≤ at → at + 8 ≤ top → may_store region top at ≡ true
 stored_may region top at e l h = grind arith

@@ -19,9 +19,9 @@ use Rattle.rt_cast.specs.States.{Placed, heap_of}
 use Rattle.lower.specs.Storage.{Filled}
 use Rattle.lower.proofs.Public.{word_there, header_there}
 use Rattle.lower.proofs.Public.{at, Comes, Calm, Goal, here, loads, computes}
-use Rattle.piled_tests.specs.Codes.{look, blame_part}
-use Rattle.piled_tests.specs.Piling.{piled_meaning, most_labels}
-use Rattle.piled_tests.proofs.Walking.{Way, room_of, calm_at, goal}
+use Rattle.piled_scheme.specs.Codes.{look, blame_part}
+use Rattle.piled_scheme.specs.Piling.{piled_meaning, most_labels}
+use Rattle.piled_scheme.proofs.Walking.{Way, room_of, calm_at, goal}
 
 subtracted : (label : ℕ) → label < most_labels → compute Sub (suc label) 1 ≡ label
 subtracted label small = omega (arith, small)

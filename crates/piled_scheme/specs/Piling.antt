@@ -1,18 +1,16 @@
 -- A scheme in which casts pile up: each cast of a box makes an object of three words over what it wraps. It knows casts
 -- between Int, Bool, Unit and boxes of these; of such types each part is kept as it is or blamed.
-use Rattle.std.specs.Prelude.{◌≡◌, ℕ, suc, ◌+◌, ◌*◌, ◌<◌, ◌^◌, true, Bool, if◌then◌else◌, ◌==◌, List, [], ◌∷◌, Some}
-use Rattle.std.specs.Prelude.{slice_get}
+use Rattle.std.specs.Prelude.{◌≡◌, ℕ, suc, ◌+◌, ◌*◌, ◌<◌, ◌^◌, true, false, Bool, if◌then◌else◌, ◌==◌, List, [], ◌∷◌, Some}
+use Rattle.std.specs.Prelude.{slice_get, map, Option}
 use Rattle.grift_base.specs.Types.{TypeRow, TypeRows, IntRow, BoolRow, UnitRow, DynRow, FunRow, TupleRow, RefRow}
 use Rattle.grift_base.specs.Types.{VectRow, row_at, same_head, is_base}
 use Rattle.object_layout.specs.declared.kinds.Kind.TheVariants.{Boxed}
 use Rattle.object_layout.specs.Kinds.{kind_number}
-use Rattle.coercion_norm.specs.Coercions.{rows_of}
 use Rattle.coercion_norm.specs.Modes.{TypeCast, piling}
 use Rattle.coercion_norm.specs.Objects.{Object, Fixed, Cell, header_of}
 use Rattle.coercion_norm.specs.Held.{Layout, There}
 use Rattle.coercion_norm.specs.ObjectsOfRows.{header}
 use Rattle.flat_ir.specs.FlatTally.{piled_prices}
-use Rattle.lower.specs.Emit.{cast_word}
 use Rattle.lower.specs.Meanings.{Meaning}
 
 -- ---- types and the words of casts
@@ -24,15 +22,31 @@ pub data IsKnown (types : TypeRows) : TypeRow → Type 0 where
       → IsKnown types (RefRow content)
 
 -- what is done with a value: 0 where it is kept, and one more than the label where that is blamed
+abbrev pub fate_by : Bool → ℕ → ℕ
+fate_by kept label = if kept then 0 else suc label
+
 abbrev pub fate : TypeRow → TypeRow → ℕ → ℕ
-fate row other label = if same_head row other then 0 else suc label
+fate row other label = fate_by (same_head row other) label
+
+-- both rows are there, and have the same head
+abbrev pub are_alike : Option TypeRow → Option TypeRow → Bool
+are_alike (Some row) (Some other) = same_head row other
+are_alike _ _ = false
 
 -- what is handed on for a cast: twice what is done with the value, or, where it is wrapped, one more than twice what is
 -- done with what is read and written
 abbrev pub word_between : TypeRows → TypeRow → TypeRow → ℕ → ℕ
 word_between types (RefRow content) (RefRow wanted) label =
-    1 + 2 * fate (rows_of types content) (rows_of types wanted) label
+    1 + 2 * fate_by (are_alike (row_at types content) (row_at types wanted)) label
 word_between types row other label = 2 * fate row other label
+
+-- the same by rows that may be there
+abbrev pub word_by : TypeRows → Option TypeRow → Option TypeRow → ℕ → ℕ
+word_by types (Some row) (Some other) label = word_between types row other label
+word_by types _ _ label = 0
+
+abbrev pub word_of : TypeRows → TypeCast → ℕ
+word_of types cast = word_by types (row_at types cast.from) (row_at types cast.to) cast.label
 
 -- no label is above
 abbrev pub most_labels : ℕ
@@ -51,9 +65,8 @@ pub record IsPiled (types : TypeRows) (cast : TypeCast) : Type 0 where
 -- all are known, and these words are handed on for them
 abbrev pub ArePiled : Layout → List TypeCast → List ℕ → Type 0
 ArePiled l casts words =
-    (number : ℕ) (cast : TypeCast) → slice_get casts number ≡ Some cast
-    → (p : IsPiled l.types cast)
-    × (cast_word (slice_get words number) ≡ word_between l.types p.row p.other cast.label)
+    ((number : ℕ) (cast : TypeCast) → slice_get casts number ≡ Some cast → IsPiled l.types cast)
+    × (words ≡ map (word_of l.types) casts)
 
 -- ---- wrappers
 

@@ -14,8 +14,8 @@ use Rattle.coercion_norm.specs.ObjectsOfRows.{header}
 use Rattle.coer_core.specs.Tally.{kind_budget}
 use Rattle.lower.specs.Meanings.{MeaningLaws, IsOwn, IsWrapper}
 use Rattle.lower.proofs.Public.{there_later}
-use Rattle.piled_tests.specs.Piling.{Pile, IsWrapped, piled_wraps, piled_meaning, wrappers, is_wrapper, wrapper_header}
-use Rattle.piled_tests.specs.Piling.{wrapper_object}
+use Rattle.piled_scheme.specs.Piling.{Pile, IsWrapped, piled_wraps, piled_meaning, wrappers, is_wrapper, wrapper_header}
+use Rattle.piled_scheme.specs.Piling.{wrapper_object}
 
 -- ---- wrappers stay
 

@@ -45,14 +45,14 @@ use Rattle.lower.proofs.Public.{positive_is, negative_is, small_fits, element_pa
 use Rattle.lower.proofs.Public.{word_small}
 use Rattle.lower.proofs.Public.{at, Comes, Calm, Goal, here, computes, if_true, if_false, loads, stores, left_of}
 use Rattle.lower.proofs.Public.{lt_true}
-use Rattle.piled_tests.specs.Codes.{read_proc, write_proc, in_vector}
-use Rattle.piled_tests.specs.Piling.{piled_meaning}
-use Rattle.piled_tests.proofs.Laws.{piled_laws}
-use Rattle.piled_tests.proofs.Looking.{inside as inside_of, calm as calm_of, ends, loads_header}
-use Rattle.piled_tests.proofs.Piles.{Carried, no_vector, no_cell}
-use Rattle.piled_tests.proofs.Storing.{after, may as may_write, end as end_of, wrote}
-use Rattle.piled_tests.proofs.Turns.{FilledAt, CellsAt, C, GoesOn, returned, no_more}
-use Rattle.piled_tests.proofs.Walking.{Way, room_of, on_way, goal, walks, stays, traps}
+use Rattle.piled_scheme.specs.Codes.{read_proc, write_proc, in_vector}
+use Rattle.piled_scheme.specs.Piling.{piled_meaning}
+use Rattle.piled_scheme.proofs.Laws.{piled_laws}
+use Rattle.piled_scheme.proofs.Looking.{inside as inside_of, calm as calm_of, ends, loads_header}
+use Rattle.piled_scheme.proofs.Piles.{Carried, no_vector, no_cell}
+use Rattle.piled_scheme.proofs.Storing.{after, may as may_write, end as end_of, wrote}
+use Rattle.piled_scheme.proofs.Turns.{FilledAt, CellsAt, C, GoesOn, returned, no_more}
+use Rattle.piled_scheme.proofs.Walking.{Way, room_of, on_way, goal, walks, stays, traps}
 
 pub element_inside : {A : Type 0} (xs : List A) (i : ℕ) (x : A) → slice_get xs i ≡ Some x → i < length xs
 element_inside [] i x e = absurd (let z : ⊥ = cc in z)

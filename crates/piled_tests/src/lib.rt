@@ -1,2 +1,0 @@
-//! A scheme in which casts pile up.
-#![tactic(auto)]
