@@ -26,6 +26,8 @@ use Rattle.flat_ir.specs.declared.code.Operation.TheVariants.{Move, Prim, Cast, 
 use Rattle.flat_ir.specs.Bodies.{Body, Give, Call, Choose, LetBody, LetGroup}
 use Rattle.rt_cast.specs.Words.{count_unit, kind_mask, tag_bits, tag_mask}
 use Rattle.rt_refs.specs.TrapCodes.{trap_call}
+use Rattle.rt_refs.specs.CellCodes.{asks_box, asks_element, asks_length}
+use Rattle.rt_refs.specs.Quotients.{asks_quotient, asks_remainder}
 use Rattle.lower.specs.declared.numbering.Shape.{Shape}
 use Rattle.lower.specs.declared.served.CastWay.{CastWay}
 use Rattle.lower.specs.declared.served.CastWay.TheVariants.{Called, IntoDyn, OutOfDyn}
@@ -129,8 +131,8 @@ module _ (run : Served) where
   operator s d Add a b c k = Compute Plus d a b k
   operator s d Sub a b c k = Compute Minus d a b k
   operator s d Mul a b c k = CallOf d run.multiply (a ∷ b ∷ []) k
-  operator s d Quot a b c k = CallOf d run.divide (a ∷ b ∷ Number 0 ∷ []) k
-  operator s d Rem a b c k = CallOf d run.divide (a ∷ b ∷ Number 1 ∷ []) k
+  operator s d Quot a b c k = CallOf d run.divide (a ∷ b ∷ Number asks_quotient ∷ []) k
+  operator s d Rem a b c k = CallOf d run.divide (a ∷ b ∷ Number asks_remainder ∷ []) k
   operator s d Lt a b c k = Compute Slt d a b k
   operator s d Gt a b c k = Compute Slt d b a k
   operator s d Le a b c k = Compute Slt d b a (turned d k)
@@ -144,14 +146,15 @@ module _ (run : Served) where
   operator s d ReadInt a b c k = read_number s d k
   operator s d MakeBox a b c k = Build d (Number (header (kind_number Boxed) 1) ∷ a ∷ []) k
   operator s d Unbox a b c k =
-      of_kind s a (kind_number Boxed) (Load d a 8 Done) (CallOf d run.read (Number 0 ∷ a ∷ Number 0 ∷ []) Done) k
+      of_kind s a (kind_number Boxed) (Load d a 8 Done)
+      (CallOf d run.read (Number asks_box ∷ a ∷ Number 0 ∷ []) Done) k
   operator s d BoxSet a b c k =
       of_kind s a (kind_number Boxed) (Store b a 8 (Set d (Number 0) Done))
-      (CallOf d run.write (Number 0 ∷ a ∷ Number 0 ∷ b ∷ []) Done) k
+      (CallOf d run.write (Number asks_box ∷ a ∷ Number 0 ∷ b ∷ []) Done) k
   operator s d MakeVector a b c k = CallOf d run.fill (a ∷ b ∷ []) k
-  operator s d VectorRef a b c k = CallOf d run.read (Number 1 ∷ a ∷ b ∷ []) k
-  operator s d VectorSet a b c k = CallOf d run.write (Number 1 ∷ a ∷ b ∷ c ∷ []) k
-  operator s d VectorLength a b c k = CallOf d run.read (Number 2 ∷ a ∷ Number 0 ∷ []) k
+  operator s d VectorRef a b c k = CallOf d run.read (Number asks_element ∷ a ∷ b ∷ []) k
+  operator s d VectorSet a b c k = CallOf d run.write (Number asks_element ∷ a ∷ b ∷ c ∷ []) k
+  operator s d VectorLength a b c k = CallOf d run.read (Number asks_length ∷ a ∷ Number 0 ∷ []) k
 
   -- a part of what a source is: of a tuple, or by the procedure, whose third word is 1 for a tuple and 0 for Dyn
   abbrev pub part : Shape → ℕ → LowSource → ℤ → Code → Code

@@ -25,7 +25,9 @@ use flat_ir::programs::{FlatProcs, FlatProgram};
 use grift_base::lists::OutOfMemory;
 use grift_base::words::Statics;
 use low_ir::programs::{LowProcs, LowProgram};
+use rt_cast::numbers::{CAST_PROCS, CastProc};
 use rt_cast::procs::cast_procs;
+use rt_refs::numbers::RefProc;
 use rt_refs::procs::ref_procs;
 use rv_machine::FIRST_ADDRESS;
 use std::alloc::Global;
@@ -41,7 +43,7 @@ fn merged_procs(alloc: Global, first: u32) -> Result<LowProcs, OutOfMemory>
     ensures { IfOk result (λ procs. procs_of procs ≡ merged_procs first) }
 {
     let mut procs = cast_procs(alloc, first)?;
-    let others = ref_procs(alloc, 27 + first, 2 + first)?;
+    let others = ref_procs(alloc, CAST_PROCS + first, CastProc::Cast.number(first))?;
     push_copies(alloc, &mut procs, others.as_slice())?;
     Ok(procs)
 }
@@ -68,16 +70,17 @@ impl Scheme for Merged {
     }
 
     fn procs(&self, alloc: Global, first: u32) -> Result<ProcSet, OutOfMemory> {
+        let behind = CAST_PROCS + first;
         Ok(ProcSet {
             procs: merged_procs(alloc, first)?,
-            cast: 2 + first,
-            project: 3 + first,
-            apply: 27 + first,
-            read: 28 + first,
-            write: 29 + first,
-            fill: 30 + first,
-            multiply: 34 + first,
-            divide: 35 + first,
+            cast: CastProc::Cast.number(first),
+            project: CastProc::Project.number(first),
+            apply: RefProc::Apply.number(behind),
+            read: RefProc::Read.number(behind),
+            write: RefProc::Write.number(behind),
+            fill: RefProc::Fill.number(behind),
+            multiply: RefProc::Multiply.number(behind),
+            divide: RefProc::Divide.number(behind),
         })
     }
 

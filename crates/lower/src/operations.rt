@@ -28,6 +28,8 @@ use low_ir::code::LowSource::{Number, Word};
 use low_ir::code::{LowCode, LowSource, LowSources, WordOp};
 use object_layout::kinds::Kind;
 use rt_cast::words::{COUNT_UNIT, KIND_MASK};
+use rt_refs::cells::{ASKS_BOX, ASKS_ELEMENT, ASKS_LENGTH};
+use rt_refs::procs::{ASKS_QUOTIENT, ASKS_REMAINDER};
 use rv_isa::inst::Cond;
 use std::alloc::Global;
 
@@ -175,7 +177,7 @@ impl Emitter<'_> {
             (Call d self.now.run.now.read (Number 0 ∷ a ∷ Number 0 ∷ []) Done) k)) }
     {
         let loaded = self.only(Step::Load(d, a, 8))?;
-        let words = LowSources::from_slice(self.alloc, &[Number(0), a, Number(0)])?;
+        let words = LowSources::from_slice(self.alloc, &[Number(ASKS_BOX), a, Number(0)])?;
         let read = self.only(Step::Call(d, self.run.read, words))?;
         self.of_kind(steps, a, Kind::Boxed, (loaded, read))
     }
@@ -196,7 +198,7 @@ impl Emitter<'_> {
         stored.push(Step::Store(b, a, 8))?;
         stored.push(Step::Set(d, Number(0)))?;
         let stored = stored.before(LowCode::Done)?;
-        let words = LowSources::from_slice(self.alloc, &[Number(0), a, Number(0), b])?;
+        let words = LowSources::from_slice(self.alloc, &[Number(ASKS_BOX), a, Number(0), b])?;
         let written = self.only(Step::Call(d, self.run.write, words))?;
         self.of_kind(steps, a, Kind::Boxed, (stored, written))
     }
@@ -226,8 +228,8 @@ impl Emitter<'_> {
             PrimOp::Add => steps.push(Step::Compute(WordOp::Add, d, a, b)),
             PrimOp::Sub => steps.push(Step::Compute(WordOp::Sub, d, a, b)),
             PrimOp::Mul => self.call(steps, d, self.run.multiply, &[a, b]),
-            PrimOp::Quot => self.call(steps, d, self.run.divide, &[a, b, Number(0)]),
-            PrimOp::Rem => self.call(steps, d, self.run.divide, &[a, b, Number(1)]),
+            PrimOp::Quot => self.call(steps, d, self.run.divide, &[a, b, Number(ASKS_QUOTIENT)]),
+            PrimOp::Rem => self.call(steps, d, self.run.divide, &[a, b, Number(ASKS_REMAINDER)]),
             PrimOp::Lt => steps.push(Step::Compute(WordOp::Slt, d, a, b)),
             PrimOp::Gt => steps.push(Step::Compute(WordOp::Slt, d, b, a)),
             PrimOp::Le => self.compare_turned(steps, d, b, a),
@@ -241,9 +243,18 @@ impl Emitter<'_> {
             PrimOp::Unbox => self.unbox(steps, d, a),
             PrimOp::BoxSet => self.set_box(steps, d, a, b),
             PrimOp::MakeVector => self.call(steps, d, self.run.fill, &[a, b]),
-            PrimOp::VectorRef => self.call(steps, d, self.run.read, &[Number(1), a, b]),
-            PrimOp::VectorSet => self.call(steps, d, self.run.write, &[Number(1), a, b, c]),
-            PrimOp::VectorLength => self.call(steps, d, self.run.read, &[Number(2), a, Number(0)]),
+            PrimOp::VectorRef => self.call(steps, d, self.run.read, &[Number(ASKS_ELEMENT), a, b]),
+            PrimOp::VectorSet => {
+                self.call(steps, d, self.run.write, &[Number(ASKS_ELEMENT), a, b, c])
+            }
+            PrimOp::VectorLength => {
+                self.call(
+                    steps,
+                    d,
+                    self.run.read,
+                    &[Number(ASKS_LENGTH), a, Number(0)],
+                )
+            }
         }
     }
 

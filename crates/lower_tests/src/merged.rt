@@ -238,11 +238,7 @@ impl Tables {
 }
 
 // The types and these casts.
-pub(crate) fn with_casts(
-    rt: &impl Abort,
-    alloc: Global,
-    casts: &[(TypeId, TypeId)],
-) -> Tables {
+pub(crate) fn with_casts(rt: &impl Abort, alloc: Global, casts: &[(TypeId, TypeId)]) -> Tables {
     let mut tables = Tables::new(rt, alloc);
     for (label, (from, to)) in casts.iter().enumerate() {
         assert!(rt; label < 100);

@@ -6,8 +6,9 @@ ghost use Rattle.rv_machine.specs.Start.{IsRegionSize};
 use crate::images::runs;
 use crate::merged::End::{Answers, Blames, Traps};
 use crate::merged::Turn::{Cast, Does};
-use crate::merged::{BOOL, BOX_OF_BOOL, BOX_OF_INT, INT, Program};
-use crate::merged::{body, labels, proc, wanted, with_casts};
+use crate::merged::{
+    BOOL, BOX_OF_BOOL, BOX_OF_INT, INT, Program, body, labels, proc, wanted, with_casts,
+};
 use flat_ir::code::Operand::{Int, Local};
 use flat_ir::programs::{FlatProcs, FlatProgram};
 use grift_base::operators::PrimOp::{

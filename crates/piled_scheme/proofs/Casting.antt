@@ -1,12 +1,11 @@
 -- The procedure for casts keeps, blames or wraps, as the casts of this scheme do.
-use Rattle.std.proofs.Common.{◌≡◌, ◌⊎◌, inl, inr, ℕ, zero, suc, ◌+◌, ◌*◌, ◌%◌, ◌^◌, ◌<◌, ◌≤◌, Bool, true, false, List}
-use Rattle.std.proofs.Common.{[], ◌∷◌, ◌++◌, length, Option, Some, None, refl, sym, ap, ◌∙◌, subst, arith, slice_get}
+use Rattle.std.proofs.Common.{◌≡◌, inr, ℕ, zero, suc, ◌+◌, ◌*◌, ◌^◌, ◌<◌, ◌≤◌, Bool, true, false, List}
+use Rattle.std.proofs.Common.{[], ◌∷◌, ◌++◌, Some, None, refl, sym, ap, ◌∙◌, subst, arith, slice_get}
 use Rattle.std.proofs.Common.{append-nil, ap₂}
 use Rattle.std.specs.Prelude.{if◌then◌else◌, nat_eq, map}
 use Rattle.std.proofs.lemmas.Nat.{and_mask}
 use Rattle.grift_base.specs.Types.{TypeRow, TypeRows, IntRow, BoolRow, UnitRow, DynRow, FunRow, TupleRow, RefRow}
 use Rattle.grift_base.specs.Types.{VectRow, row_at, same_head, is_base}
-use Rattle.grift_base.specs.declared.places.Pos.{Pos}
 use Rattle.grift_base.specs.declared.verdicts.Verdict.TheVariants.{Blame}
 use Rattle.run_laws.specs.Runs.{Verdict as EndsWith}
 use Rattle.rv_machine.specs.Memory.{Memory}
@@ -23,22 +22,20 @@ use Rattle.coercion_norm.specs.Modes.{TypeCast, Shape, Decision, Keeping, Wrappi
 use Rattle.coercion_norm.specs.Modes.{decide, fits}
 use Rattle.coercion_norm.specs.RunValues.{RunInt, RunBool, RunUnit, RunFun, RunTuple, RunLoc, RunWrap, RunInject}
 use Rattle.coercion_norm.specs.RunValues.{shape_of}
-use Rattle.coercion_norm.specs.ValueSteps.{Return, On, decision_wraps}
-use Rattle.coercion_norm.specs.Held.{Layout, There}
-use Rattle.coercion_norm.specs.Objects.{Object, Fixed, object_at}
+use Rattle.coercion_norm.specs.ValueSteps.{Return, decision_wraps}
+use Rattle.coercion_norm.specs.Held.{Layout}
+use Rattle.coercion_norm.specs.Objects.{Object, object_at}
 use Rattle.coercion_norm.proofs.Public.{last_stands}
 use Rattle.flat_ir.specs.Bodies.{Proc}
 use Rattle.flat_ir.specs.Counts.{decision_at}
 use Rattle.flat_ir.specs.FlatTally.{cast_cost, piled_prices}
 use Rattle.flat_ir.specs.Machine.{FlatValue, FlatFrame, FlatStore, flat_arity, flat_cast}
-use Rattle.rt_cast.specs.PartCodes.{either, blame_code}
+use Rattle.rt_cast.specs.PartCodes.{either}
 use Rattle.rt_cast.specs.States.{Heap, Placed, entered, heap_of}
-use Rattle.lower.specs.declared.served.CastWay.{CastWay}
 use Rattle.lower.specs.declared.served.CastWay.TheVariants.{Called}
-use Rattle.lower.specs.CarriedValues.{CellsHeld}
 use Rattle.lower.specs.CastWays.{way_between, cast_way, cast_ways, way_at, in_place}
 use Rattle.lower.specs.Emit.{cast_word}
-use Rattle.lower.specs.SchemeLaws.{Here, ReturnsAt, After, Aim, StopsNow, Walks, cast_leaves}
+use Rattle.lower.specs.SchemeLaws.{Here, ReturnsAt, After, Aim, StopsNow, cast_leaves}
 use Rattle.lower.specs.Storage.{Filled}
 use Rattle.lower.proofs.Public.{AreSmall, stored_words, bytes_below, filled_more, carried_small, later, cells_later}
 use Rattle.lower.proofs.Public.{cells_below, at, Comes, Calm, Goal, left_of, here, computes, if_true, if_false, builds}
@@ -49,7 +46,7 @@ use Rattle.piled_scheme.proofs.Deciding.{kept_or_blamed}
 use Rattle.piled_scheme.proofs.Laws.{piled_laws, wrappers_more}
 use Rattle.piled_scheme.proofs.Looking.{inside as inside_of, calm as calm_of, ends, blamed}
 use Rattle.piled_scheme.proofs.Piles.{Carried, wrapped_more, wrapped_first}
-use Rattle.piled_scheme.proofs.Turns.{FilledAt, CellsAt, C, GoesOn, Decided, returned, no_more}
+use Rattle.piled_scheme.proofs.Turns.{C, GoesOn, Decided, returned, no_more}
 use Rattle.piled_scheme.proofs.Walking.{Way, room_of, calm_at, goal, walks, blames}
 use Rattle.piled_scheme.proofs.Reading.{is_some}
 
@@ -348,8 +345,11 @@ module _ (setting : Setting) (l : Layout) (procs : List Proc) (casts : List Type
 
     full : s.alloc + 24 ≤ setting.top
         → Filled piled_meaning setting l (number + 1) (objects ++ wrapper_object w part ∷ [])
-        (record { memory = store_words (wrapper_header ∷ w ∷ part ∷ []) s.alloc s.memory; alloc = s.alloc + 24;
-        words = s.words + 3 })
+        (record {
+          memory = store_words (wrapper_header ∷ w ∷ part ∷ []) s.alloc s.memory;
+          alloc = s.alloc + 24;
+          words = s.words + 3;
+        })
     full room =
         filled_more piled_meaning setting l placed objects (wrapper_object w part ∷ []) (heap_of s) bytes (s.alloc + 24)
         (s.words + 3) here_is.filled below
@@ -465,7 +465,8 @@ module _ (setting : Setting) (l : Layout) (procs : List Proc) (casts : List Type
           → Cast_made cast v w word
       decided d e h = subst (λ x. Comes_to x v (begun w word)) (sym e) h
 
-      not_wrapped : (n : ℕ) → fate p.row p.other cast.label ≡ n → word ≡ 2 * n → (b : Bool) → same_head p.row p.other ≡ b
+      not_wrapped : (n : ℕ) → fate p.row p.other cast.label ≡ n → word ≡ 2 * n → (b : Bool)
+          → same_head p.row p.other ≡ b
           → Comes_to (if b then Keeping else Blaming cast.label) v (begun w word)
       not_wrapped n e f true same =
           let none : fate p.row p.other cast.label ≡ 0 = ap (λ b. if b then 0 else suc cast.label) same in

@@ -1,14 +1,14 @@
 -- The procedures take what they are handed, and are closed in each program in which they stand.
-use Rattle.std.proofs.Common.{◌≡◌, ℕ, suc, ◌+◌, Bool, true, List, [], ◌∷◌, Some, refl, ap, ◌∙◌, arith, slice_get}
+use Rattle.std.proofs.Common.{◌≡◌, ℕ, suc, ◌+◌, true, List, [], ◌∷◌, Some, refl, ap, ◌∙◌, arith, slice_get}
 use Rattle.std.proofs.lemmas.Bool.{and_from}
 use Rattle.low_ir.specs.Procedures.{Proc}
 use Rattle.low_ir.specs.Closed.{proc_closed, each_closed}
 use Rattle.rt_refs.specs.FillCodes.{fill_loop, fill_proc}
 use Rattle.rt_refs.specs.Products.{product_loop}
-use Rattle.rt_refs.specs.Quotients.{arithmetic_procs, quotient_loop}
+use Rattle.rt_refs.specs.Quotients.{quotient_loop}
 use Rattle.lower.specs.Serving.{takes, Serve}
 use Rattle.lower.specs.Sets.{StandFrom, ServesAnywhere}
-use Rattle.piled_scheme.specs.Codes.{cast_proc, idle_proc, read_proc, write_proc, unbox_proc, set_proc, piled_procs}
+use Rattle.piled_scheme.specs.Codes.{read_proc, write_proc, unbox_proc, set_proc, piled_procs}
 use Rattle.piled_scheme.specs.Codes.{piled_numbers}
 
 module _ (procs : List Proc) (first : ℕ) (s : StandFrom procs first (piled_procs first)) where

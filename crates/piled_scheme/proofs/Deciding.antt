@@ -1,7 +1,6 @@
 -- What known casts decide on, whatever the value.
-use Rattle.std.proofs.Common.{◌≡◌, ℕ, suc, ◌+◌, ◌*◌, ◌<◌, ◌^◌, Bool, true, false, List, [], ◌∷◌, Some, refl, sym, ap, ◌∙◌}
-use Rattle.std.proofs.Common.{subst, arith}
-use Rattle.std.specs.Prelude.{if◌then◌else◌, ◌==◌}
+use Rattle.std.proofs.Common.{◌≡◌, ℕ, ◌<◌, Bool, true, false, List, Some, refl, ◌∙◌}
+use Rattle.std.specs.Prelude.{if◌then◌else◌}
 use Rattle.grift_base.specs.Types.{TypeRow, TypeRows, IntRow, BoolRow, UnitRow, DynRow, FunRow, TupleRow, RefRow}
 use Rattle.grift_base.specs.Types.{VectRow, row_at, same_head, is_base}
 use Rattle.coercion_norm.specs.Modes.{TypeCast, type_cast, Shape, Decision, Keeping, Wrapping, Blaming, NoCast, piling}
@@ -23,7 +22,8 @@ abbrev pub kept_or_blamed : TypeRow → TypeRow → ℕ → Decision TypeCast
 kept_or_blamed inner outer label = if same_head inner outer then Keeping else Blaming label
 
 -- a value that fits is kept or blamed
-pub plain_decides : (types : TypeRows) (all : List TypeCast) (cast : TypeCast) (part : ℕ) → (p : IsPlain types cast part)
+pub plain_decides : (types : TypeRows) (all : List TypeCast) (cast : TypeCast) (part : ℕ)
+    → (p : IsPlain types cast part)
     → (shape : Shape TypeCast)
     → (piling types all).cast cast shape
     ≡ (if fits p.inner cast shape then kept_or_blamed p.inner p.outer cast.label else NoCast)

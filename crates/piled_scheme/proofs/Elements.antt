@@ -1,62 +1,45 @@
 -- Elements of vectors are written, and the operators on vectors do what they do on all values, wrapped ones too: those
 -- are never vectors.
-use Rattle.std.proofs.Common.{◌≡◌, ◌⊎◌, inl, inr, ℕ, zero, suc, ◌+◌, ◌*◌, ◌%◌, ◌^◌, ◌<◌, ◌≤◌, Bool, true, false, List}
-use Rattle.std.proofs.Common.{[], ◌∷◌, ◌++◌, length, Option, Some, None, refl, sym, ap, ◌∙◌, subst, arith, slice_get}
-use Rattle.std.proofs.Common.{le_refl, ℤ, pos, negsuc}
-use Rattle.std.specs.Prelude.{◌==◌, slice_set, nat_lt, if◌then◌else◌}
+use Rattle.std.proofs.Common.{◌≡◌, ◌⊎◌, inl, inr, ℕ, suc, ◌+◌, ◌*◌, ◌<◌, ◌≤◌, true, false, List}
+use Rattle.std.proofs.Common.{[], ◌∷◌, length, Option, Some, None, refl, sym, ap, ◌∙◌, subst, arith, slice_get}
+use Rattle.std.proofs.Common.{ℤ, pos, negsuc}
+use Rattle.std.specs.Prelude.{slice_set}
 use Rattle.std.specs.Int.{w64, cast_unsigned, int_wrap}
 use Rattle.grift_base.specs.declared.operators.PrimOp.{PrimOp}
 use Rattle.grift_base.specs.declared.operators.PrimOp.TheVariants.{VectorRef, VectorSet, VectorLength}
 use Rattle.grift_base.specs.declared.verdicts.Trap.TheVariants.{Index}
-use Rattle.grift_base.specs.declared.verdicts.Verdict.TheVariants.{Trap as TrapVerdict}
-use Rattle.run_laws.specs.Runs.{Verdict as EndsWith}
-use Rattle.rv_isa.specs.declared.inst.Cond.TheVariants.{Eq, Ltu}
-use Rattle.rv_machine.specs.Memory.{load_bytes}
 use Rattle.core_calc.specs.Account.{Measures}
 use Rattle.low_ir.specs.declared.code.LowSource.TheVariants.{Word, Number}
-use Rattle.low_ir.specs.declared.code.WordOp.TheVariants.{Add, Sll, Srl}
-use Rattle.low_ir.specs.Operations.{compute}
-use Rattle.low_ir.specs.Prices.{entering, entering_some}
-use Rattle.low_ir.specs.Procedures.{Code, Done, Load, Store, Return as ReturnCode, Proc as LowProc}
-use Rattle.low_ir.specs.Steps.{Locals, no_locals, set_local, may_load}
-use Rattle.low_ir.specs.Run.{Setting, LowState, bind, word_of}
+use Rattle.low_ir.specs.Prices.{entering_some}
+use Rattle.low_ir.specs.Procedures.{Code, Done, Store, Return as ReturnCode, Proc as LowProc}
+use Rattle.low_ir.specs.Steps.{Locals, no_locals, set_local}
+use Rattle.low_ir.specs.Run.{Setting, LowState, bind}
 use Rattle.coercion_norm.specs.Modes.{TypeCast, piling}
 use Rattle.coercion_norm.specs.RunValues.{RunInt, RunBool, RunUnit, RunFun, RunTuple, RunLoc, RunWrap, RunInject}
 use Rattle.coercion_norm.specs.RunValues.{in_row}
 use Rattle.coercion_norm.specs.ValueSteps.{CastFrame, PrimFrame, Return, On, TrapOf, NoNext, on_some, element_or_trap}
-use Rattle.coercion_norm.specs.ValueSteps.{run_with_element, run_writes_cell, gives}
-use Rattle.coercion_norm.specs.Held.{Layout, There}
-use Rattle.coercion_norm.specs.Objects.{Object, Cell, object_at}
+use Rattle.coercion_norm.specs.ValueSteps.{run_with_element}
+use Rattle.coercion_norm.specs.Held.{Layout}
+use Rattle.coercion_norm.specs.Objects.{Object}
 use Rattle.coercion_norm.specs.ObjectsOfRows.{header}
 use Rattle.flat_ir.specs.Bodies.{Proc}
 use Rattle.flat_ir.specs.FlatTally.{act_cost, piled_prices}
 use Rattle.flat_ir.specs.Machine.{FlatValue, FlatFrame, FlatStore, FlatAfter, flat_arity, flat_entered, flat_operate}
-use Rattle.rt_cast.specs.Objects.{HoldsWords}
 use Rattle.rt_cast.specs.States.{Placed, entered, heap_of}
-use Rattle.rt_cast.proofs.Public.{count_read, lt_false}
-use Rattle.rt_refs.specs.TrapCodes.{trap_code}
-use Rattle.lower.specs.CarriedValues.{AreCarried, CellHeld}
-use Rattle.lower.specs.SchemeLaws.{After, Aim, StopsNow, Walks, operator_leaves, at_or_zero}
+use Rattle.lower.specs.CarriedValues.{AreCarried}
+use Rattle.lower.specs.SchemeLaws.{After, Aim, operator_leaves, at_or_zero}
 use Rattle.lower.specs.Storage.{Filled}
-use Rattle.lower.proofs.Public.{as_many}
-use Rattle.lower.proofs.Public.{cell_of, there_is}
-use Rattle.lower.proofs.Public.{stands, may}
-use Rattle.lower.proofs.Public.{word_found, found_within}
-use Rattle.lower.proofs.Public.{positive_is, negative_is, small_fits, element_past}
-use Rattle.lower.proofs.Public.{word_small}
-use Rattle.lower.proofs.Public.{at, Comes, Calm, Goal, here, computes, if_true, if_false, loads, stores, left_of}
-use Rattle.lower.proofs.Public.{lt_true}
+use Rattle.lower.proofs.Public.{positive_is, negative_is, element_past}
+use Rattle.lower.proofs.Public.{at, here, if_false, stores, left_of}
 use Rattle.piled_scheme.specs.Codes.{read_proc, write_proc, in_vector}
 use Rattle.piled_scheme.specs.Piling.{piled_meaning}
-use Rattle.piled_scheme.proofs.Laws.{piled_laws}
 use Rattle.piled_scheme.proofs.Looking.{inside as inside_of}
 use Rattle.piled_scheme.proofs.Piles.{Carried, no_vector, no_cell}
 use Rattle.piled_scheme.proofs.Storing.{after, may as may_write, end as end_of, wrote}
-use Rattle.piled_scheme.proofs.Turns.{FilledAt, CellsAt, C, GoesOn, returned, no_more}
+use Rattle.piled_scheme.proofs.Turns.{FilledAt, CellsAt, C, GoesOn, no_more}
 use Rattle.piled_scheme.proofs.Vectors.{element_inside, entering_most, counted, short, within, outside, trapped}
 use Rattle.piled_scheme.proofs.Vectors.{element_read, length_read, P, Q, To, calm}
-use Rattle.piled_scheme.proofs.Walking.{Way, room_of, on_way, goal, walks, stays, traps}
-
+use Rattle.piled_scheme.proofs.Walking.{Way, room_of, on_way, walks, stays}
 
 module _ (setting : Setting) (l : Layout) (procs : List Proc) (casts : List TypeCast) (m : Measures)
     (placed : Placed setting l) (begins : l.region ≡ setting.region) (s : LowState) (places : List ℕ)
@@ -122,8 +105,8 @@ module _ (setting : Setting) (l : Layout) (procs : List Proc) (casts : List Type
             if_false setting
             (P setting l procs casts m placed begins s places objects store cells base te need n n' X refl filled)
             (Q setting l procs casts m placed begins s places objects store cells base te need n n' X refl filled)
-            (calm setting l procs casts m placed begins s places objects store cells base te need n n' X refl filled) 1 0
-            refl refl refl c
+            (calm setting l procs casts m placed begins s places objects store cells base te need n n' X refl filled) 1
+            0 refl refl refl c
 
         past : (values : List (FlatValue TypeCast)) → slice_get store cell ≡ Some values → length values ≤ wi
             → Writes (TrapOf Index s.world)
@@ -145,8 +128,8 @@ module _ (setting : Setting) (l : Layout) (procs : List Proc) (casts : List Type
             (slice_set store cell (slice_set values i v)) (n + 0) left u in
             let end = short setting l procs casts m placed begins s places objects store cells base n filled cell a c
             values e in
-            let many_is = counted setting l procs casts m placed begins s places objects store cells base n filled cell a
-            c values e in
+            let many_is = counted setting l procs casts m placed begins s places objects store cells base n filled cell
+            a c values e in
             let heap = after setting l procs casts m placed begins s places objects store cells n filled cell a values e
             c.1 i v w cv lt (8 * i + a + 8) (omega arith) in
             let last = at s.world heap s.waiting 6 (Done ∷ Done ∷ []) (set_local 2 (8 * i + a) (set_local 2 (8 * i)
@@ -166,8 +149,8 @@ module _ (setting : Setting) (l : Layout) (procs : List Proc) (casts : List Type
                   (n + 0) X refl filled) (8 * i + a) w refl refl
                   (may_write setting l procs casts m placed begins s places objects store cells n filled cell a values e
                   c.1 i v w cv lt (8 * i + a + 8) (omega arith))
-                  (end_of setting l procs casts m placed begins s places objects store cells n filled cell a values e c.1
-                  i v w cv lt (8 * i + a + 8) (omega arith))
+                  (end_of setting l procs casts m placed begins s places objects store cells n filled cell a values e
+                  c.1 i v w cv lt (8 * i + a + 8) (omega arith))
                   (here setting ready ended last (
                     omega arith,
                     room_of setting l procs casts m s last refl (omega arith),
@@ -477,7 +460,7 @@ module _ (setting : Setting) (l : Layout) (procs : List Proc) (casts : List Type
         by (inr some) vs ws c e = (
           0,
           subst (λ y. Does 0 (turned VectorSet (RunLoc cell true ∷ y) base) 0 n
-          (writing_at 1 (at_or_zero ws 0) (at_or_zero ws 1) (at_or_zero ws 2))) (sym some.2)
+              (writing_at 1 (at_or_zero ws 0) (at_or_zero ws 1) (at_or_zero ws 2))) (sym some.2)
               (of_words ws (subst (λ y. AllCarried (RunLoc cell true ∷ y) ws) (sym e ∙ some.2) c)),
         )
           where

@@ -1,6 +1,6 @@
 -- The laws of the meaning: wrappers stay as objects are added, are told from other objects, and are counted.
-use Rattle.std.proofs.Common.{◌≡◌, inr, ℕ, zero, suc, ◌+◌, ◌*◌, Bool, true, false, List, [], ◌∷◌, ◌++◌, Some, refl}
-use Rattle.std.proofs.Common.{sym, ap, ◌∙◌, arith, le_refl, subst, ◌<◌}
+use Rattle.std.proofs.Common.{◌≡◌, inr, ℕ, ◌+◌, Bool, true, false, List, [], ◌∷◌, ◌++◌, Some, refl}
+use Rattle.std.proofs.Common.{ap, ◌∙◌, arith, le_refl, subst, ◌<◌}
 use Rattle.std.specs.Prelude.{if◌then◌else◌, ◌==◌}
 use Rattle.object_layout.specs.declared.kinds.Kind.{Kind}
 use Rattle.object_layout.specs.declared.kinds.Kind.TheVariants.{Closure, Proxy, Dyn, Tuple, Boxed, Vector, Fail, Fun}
@@ -8,11 +8,11 @@ use Rattle.object_layout.specs.declared.kinds.Kind.TheVariants.{Tup, Ref, Vec, I
 use Rattle.object_layout.specs.declared.kinds.Kind.TheVariants.{UnitType, DynType, FunType, TupleType, RefType, VecType}
 use Rattle.object_layout.specs.Kinds.{kind_number}
 use Rattle.coercion_norm.specs.Modes.{TypeCast}
-use Rattle.coercion_norm.specs.Objects.{Object, Fixed, header_of}
+use Rattle.coercion_norm.specs.Objects.{Object}
 use Rattle.coercion_norm.specs.Held.{Layout, There}
 use Rattle.coercion_norm.specs.ObjectsOfRows.{header}
 use Rattle.coer_core.specs.Tally.{kind_budget}
-use Rattle.lower.specs.Meanings.{MeaningLaws, IsOwn, IsWrapper}
+use Rattle.lower.specs.Meanings.{MeaningLaws, IsWrapper}
 use Rattle.lower.proofs.Public.{there_later}
 use Rattle.piled_scheme.specs.Piling.{Pile, IsWrapped, piled_wraps, piled_meaning, wrappers, is_wrapper, wrapper_header}
 use Rattle.piled_scheme.specs.Piling.{wrapper_object}

@@ -1,10 +1,10 @@
 -- Steps of procedures of six words over the storage that they were entered with, in the turn that begins in a state.
-use Rattle.std.proofs.Common.{◌≡◌, ℕ, suc, ◌+◌, ◌*◌, ◌^◌, ◌<◌, ◌≤◌, true, List, [], ◌∷◌, Some, refl, ap, subst, arith}
+use Rattle.std.proofs.Common.{◌≡◌, ℕ, suc, ◌+◌, ◌*◌, ◌<◌, ◌≤◌, true, List, ◌∷◌, Some, refl, subst, arith}
 use Rattle.std.proofs.Common.{slice_get}
 use Rattle.core_calc.specs.Account.{Measures}
 use Rattle.rv_machine.specs.Memory.{load_bytes}
 use Rattle.low_ir.specs.declared.code.LowSource.{LowSource}
-use Rattle.low_ir.specs.declared.code.LowSource.TheVariants.{Word, Number}
+use Rattle.low_ir.specs.declared.code.LowSource.TheVariants.{Word}
 use Rattle.low_ir.specs.declared.code.WordOp.TheVariants.{And, Sub}
 use Rattle.low_ir.specs.Operations.{compute}
 use Rattle.low_ir.specs.Procedures.{Code, Load}
@@ -31,8 +31,8 @@ module _ (setting : Setting) (l : Layout) (procs : List Proc) (casts : List Type
   abbrev pub inside : List Code → Locals → Code → LowState
   inside rests locals code = at s.world (heap_of s) s.waiting 6 rests locals code
 
-  -- told the state in which the turn begins, what it asks for and how much is to be left, the numbers of wrap steps, and
-  -- where the turn ends
+  -- told the state in which the turn begins, what it asks for and how much is to be left, the numbers of wrap steps,
+  -- and where the turn ends
   module _ (t : LowState) (asks need n n' : ℕ) (X : ℕ → LowState → Type 0) (same : t.words ≡ s.words)
       (filled : Filled piled_meaning setting l n objects (heap_of s)) where
     abbrev pub Q : Goal
@@ -45,7 +45,8 @@ module _ (setting : Setting) (l : Layout) (procs : List Proc) (casts : List Type
     To u = Comes setting P Q u
 
     pub calm : Calm setting P Q 6 s.waiting s.world (heap_of s)
-    calm = calm_at setting l procs casts m s t asks n n' Q objects (heap_of s) filled (omega (arith, same)) 6 (omega arith)
+    calm = calm_at setting l procs casts m s t asks n n' Q objects (heap_of s) filled (omega (arith, same)) 6
+        (omega arith)
 
     -- it ends here
     pub ends : (rests : List Code) (locals : Locals) (code : Code)

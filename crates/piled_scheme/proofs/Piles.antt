@@ -1,13 +1,13 @@
 -- Values in piles of wrappers: the outermost one is taken off or put on.
-use Rattle.std.proofs.Common.{◌≡◌, inl, inr, ℕ, zero, suc, ◌+◌, ◌≤◌, true, false, List, [], ◌∷◌, ◌++◌, length, Option}
-use Rattle.std.proofs.Common.{Some, None, refl, sym, ap, ◌∙◌, subst, arith, slice_get}
+use Rattle.std.proofs.Common.{◌≡◌, ℕ, true, false, List, [], ◌∷◌, ◌++◌}
+use Rattle.std.proofs.Common.{None, refl, sym, subst, arith}
 use Rattle.object_layout.specs.declared.kinds.Kind.TheVariants.{Boxed, Vector}
 use Rattle.object_layout.specs.Kinds.{kind_number}
 use Rattle.low_ir.specs.Run.{Setting}
 use Rattle.coercion_norm.specs.Modes.{TypeCast}
 use Rattle.coercion_norm.specs.RunValues.{RunInt, RunBool, RunUnit, RunFun, RunTuple, RunLoc, RunWrap, RunInject}
 use Rattle.coercion_norm.specs.RunValues.{run_cell_behind}
-use Rattle.coercion_norm.specs.Objects.{Object, Cell, object_at, bytes_of_all}
+use Rattle.coercion_norm.specs.Objects.{Object, Cell}
 use Rattle.coercion_norm.specs.Held.{Layout, There}
 use Rattle.coercion_norm.specs.ObjectsOfRows.{header}
 use Rattle.flat_ir.specs.Bodies.{Proc}
@@ -15,7 +15,7 @@ use Rattle.flat_ir.specs.Machine.{FlatValue, FlatStore}
 use Rattle.rt_cast.specs.States.{Placed}
 use Rattle.lower.specs.CarriedValues.{CarriedIn, Under, Bare}
 use Rattle.lower.proofs.Public.{there_same}
-use Rattle.piled_scheme.specs.Piling.{Pile, IsWrapped, IsBox, piled_meaning}
+use Rattle.piled_scheme.specs.Piling.{Pile, IsWrapped, piled_meaning}
 
 module _ (l : Layout) (objects : List Object) where
   -- ---- piles

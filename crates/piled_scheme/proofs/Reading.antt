@@ -1,23 +1,18 @@
 -- Boxes are read through their wrappers: the procedure goes from the outermost wrapper to the box, while the numbered
 -- procedures take the wrappers off; what comes back is cast from the innermost wrapper on.
-use Rattle.std.proofs.Common.{◌≡◌, ◌⊎◌, inl, inr, ℕ, zero, suc, ◌+◌, ◌*◌, ◌^◌, ◌<◌, ◌≤◌, Bool, true, false, List, []}
-use Rattle.std.proofs.Common.{◌∷◌, ◌++◌, length, Option, Some, None, refl, sym, ap, ◌∙◌, subst, arith, slice_get, le_refl}
+use Rattle.std.proofs.Common.{◌≡◌, ◌⊎◌, inl, inr, ℕ, zero, suc, ◌+◌, ◌^◌, ◌<◌, ◌≤◌, true, false, List, []}
+use Rattle.std.proofs.Common.{◌∷◌, length, Option, Some, None, refl, sym, ap, ◌∙◌, subst, arith, slice_get}
 use Rattle.std.specs.Prelude.{if◌then◌else◌, ◌==◌}
 use Rattle.grift_base.specs.Types.{TypeRows}
 use Rattle.grift_base.specs.declared.operators.PrimOp.TheVariants.{Unbox}
-use Rattle.grift_base.specs.declared.places.Pos.{Pos}
 use Rattle.grift_base.specs.declared.verdicts.Verdict.TheVariants.{Blame}
-use Rattle.object_layout.specs.declared.kinds.Kind.TheVariants.{Boxed}
-use Rattle.object_layout.specs.Kinds.{kind_number}
 use Rattle.run_laws.specs.Runs.{Verdict as EndsWith}
 use Rattle.core_calc.specs.Account.{Measures}
 use Rattle.rv_isa.specs.declared.inst.Cond.TheVariants.{Eq}
 use Rattle.rv_machine.specs.Memory.{load_bytes}
 use Rattle.low_ir.specs.declared.code.LowSource.TheVariants.{Word, Number}
-use Rattle.low_ir.specs.declared.code.WordOp.TheVariants.{And, Sub}
-use Rattle.low_ir.specs.Operations.{compute}
 use Rattle.low_ir.specs.Prices.{entering_some}
-use Rattle.low_ir.specs.Procedures.{Code, Done, Load, Return as ReturnCode, TailCall}
+use Rattle.low_ir.specs.Procedures.{Code, Done, Return as ReturnCode, TailCall}
 use Rattle.low_ir.specs.Steps.{Locals, no_locals, set_local, may_load}
 use Rattle.low_ir.specs.Run.{Setting, LowState, bind}
 use Rattle.coercion_norm.specs.Modes.{TypeCast, piling}
@@ -25,7 +20,7 @@ use Rattle.coercion_norm.specs.RunValues.{RunInt, RunBool, RunUnit, RunFun, RunT
 use Rattle.coercion_norm.specs.RunValues.{in_row}
 use Rattle.coercion_norm.specs.ValueSteps.{CastFrame, PrimFrame, Return, On, on_some, casts_onto, run_unbox_cell}
 use Rattle.coercion_norm.specs.Held.{Layout, There}
-use Rattle.coercion_norm.specs.Objects.{Object, Fixed, Cell, header_of, object_at}
+use Rattle.coercion_norm.specs.Objects.{Object, Cell, object_at}
 use Rattle.coercion_norm.specs.ObjectsOfRows.{header}
 use Rattle.flat_ir.specs.Bodies.{Proc}
 use Rattle.flat_ir.specs.FlatTally.{act_cost, piled_prices}
@@ -36,16 +31,15 @@ use Rattle.rt_cast.specs.Objects.{HoldsWords}
 use Rattle.lower.specs.CarriedValues.{AreCarried, CellHeld}
 use Rattle.lower.specs.Storage.{Filled}
 use Rattle.lower.specs.SchemeLaws.{After, Aim, StopsNow, Walks, operator_leaves}
-use Rattle.lower.proofs.Public.{cell_of, cell_word_there, there_is}
-use Rattle.lower.proofs.Public.{word_there, header_there}
-use Rattle.lower.proofs.Public.{at, Comes, Calm, Goal, here, loads, computes, if_true, if_false, sets_word, left_of}
+use Rattle.lower.proofs.Public.{cell_of, cell_word_there}
+use Rattle.lower.proofs.Public.{Comes, Calm, Goal, loads, if_true, if_false, sets_word, left_of}
 use Rattle.piled_scheme.specs.Codes.{unbox_proc, read_proc}
-use Rattle.piled_scheme.specs.Piling.{IsWrapped, piled_meaning, wrapper_object, wrapper_header, most_labels}
+use Rattle.piled_scheme.specs.Piling.{piled_meaning, wrapper_object, wrapper_header, most_labels}
 use Rattle.piled_scheme.proofs.Deciding.{IsPlain, read_cast, read_plain, reads_by}
 use Rattle.piled_scheme.proofs.Looking.{inside as inside_of, calm as calm_of, ends, loads_word, looked, blamed}
-use Rattle.piled_scheme.proofs.Piles.{Carried, peeled}
-use Rattle.piled_scheme.proofs.Turns.{FilledAt, CellsAt, C, aim, GoesOn, returned, plain_turn, keeps, blames_it, no_more}
-use Rattle.piled_scheme.proofs.Walking.{Way, HasRoom, room_of, on_way, calm_at, goal, walks, walks_by, stays, tail_calls}
+use Rattle.piled_scheme.proofs.Piles.{peeled}
+use Rattle.piled_scheme.proofs.Turns.{FilledAt, CellsAt, C, GoesOn, returned, plain_turn, keeps, blames_it, no_more}
+use Rattle.piled_scheme.proofs.Walking.{Way, room_of, on_way, goal, walks, walks_by, stays, tail_calls}
 use Rattle.piled_scheme.proofs.Walking.{tail_calls_on, blames}
 
 -- what casts that wait do with what is read: the part of the first that doesn't keep it, and 0 where all keep it
@@ -100,8 +94,8 @@ module _ (setting : Setting) (l : Layout) (procs : List Proc) (casts : List Type
       inside (Done ∷ Done ∷ []) (set_local 3 label (set_local 3 (suc label) (set_local 2 5 (set_local 2 (header 5 0 1)
       (words_at a (suc label)))))) (blame_code (Word 3))
 
-  -- told the state in which the turn begins, what it asks for and how much is to be left, the numbers of wrap steps, and
-  -- where the turn ends
+  -- told the state in which the turn begins, what it asks for and how much is to be left, the numbers of wrap steps,
+  -- and where the turn ends
   module _ (t : LowState) (asks need n n' : ℕ) (X : ℕ → LowState → Type 0) (same : t.words ≡ s.words)
       (filled : FilledAt setting l procs casts m s places objects store n s) where
     abbrev Q : Goal
@@ -121,8 +115,8 @@ module _ (setting : Setting) (l : Layout) (procs : List Proc) (casts : List Type
         → ((credit : ℕ) → need ≤ credit → X credit (looks_at inner (if part == 0 then failing else part)))
         → To (looks_at w failing)
     passes w inner part failing stands go =
-        looked setting l procs casts m placed s objects t asks need n n' X same filled w (wrapper_object inner part) stands
-        refl 25 refl
+        looked setting l procs casts m placed s objects t asks need n n' X same filled w (wrapper_object inner part)
+        stands refl 25 refl
         (if_true setting P Q calm 25 25 refl refl refl
         (loads_word setting l procs casts m placed s objects t asks need n n' X same filled w wrapper_header
         (inner ∷ part ∷ []) stands 2 part refl refl refl (omega arith)
@@ -146,12 +140,12 @@ module _ (setting : Setting) (l : Layout) (procs : List Proc) (casts : List Type
             (TailCall own (Word 0 ∷ Word 3 ∷ []))))
         by (inl none) =
             if_true setting P Q calm part 0 refl refl (is_zero part none)
-            (tail_calls setting l procs casts m s t asks n n' Q calm (inner ∷ failing ∷ []) (unbox_proc own) refl there refl
-            refl (landed failing (ap (λ b. if b then failing else part) (is_zero part none))))
+            (tail_calls setting l procs casts m s t asks n n' Q calm (inner ∷ failing ∷ []) (unbox_proc own) refl there
+            refl refl (landed failing (ap (λ b. if b then failing else part) (is_zero part none))))
         by (inr some) =
             if_false setting P Q calm part 0 refl refl (is_some part some)
-            (tail_calls setting l procs casts m s t asks n n' Q calm (inner ∷ part ∷ []) (unbox_proc own) refl there refl
-            refl (landed part (ap (λ b. if b then failing else part) (is_some part some))))
+            (tail_calls setting l procs casts m s t asks n n' Q calm (inner ∷ part ∷ []) (unbox_proc own) refl there
+            refl refl (landed part (ap (λ b. if b then failing else part) (is_some part some))))
 
     -- a box without wrappers: all keep what is read, and it is returned
     gives : (a wx : ℕ) → There l objects a (Cell (header 5 0 1) 1)
@@ -296,8 +290,8 @@ module _ (setting : Setting) (l : Layout) (procs : List Proc) (casts : List Type
                         (walks setting l procs casts m s (looks_at a (suc cast.label)) 16 (credit + 896) 0 n n
                         (λ left. StopsNow piled_meaning setting l procs casts m s n (EndsWith (Blame place)))
                         (fails (looks_at a (suc cast.label)) 16 0 n n
-                        (λ left. StopsNow piled_meaning setting l procs casts m s n (EndsWith (Blame place))) refl filled
-                        a cast.label waits.2.small stands
+                        (λ left. StopsNow piled_meaning setting l procs casts m s n (EndsWith (Blame place))) refl
+                        filled a cast.label waits.2.small stands
                         (λ credit le. blames setting l procs casts m s n cast.label place found objects (heap_of s)
                         filled (Done ∷ Done ∷ []) (blamed_at a cast.label).active.locals refl))
                         (let z = cost a (suc cast.label) in omega (arith, z))),
@@ -384,8 +378,8 @@ module _ (setting : Setting) (l : Layout) (procs : List Proc) (casts : List Type
       by (Some (x ∷ y ∷ more)) e = (0, λ n filled credit. refl)
       by (Some (x ∷ [])) e =
           in_cell x
-          (cell_of l setting.address procs piled_meaning places objects 0 s.memory places store cells cell w (x ∷ []) c.1
-          e)
+          (cell_of l setting.address procs piled_meaning places objects 0 s.memory places store cells cell w (x ∷ [])
+          c.1 e)
 
   -- through all wrappers
   unboxed : (v : FlatValue TypeCast) (w : ℕ) → Carries v w → (pending : List TypeCast) (failing : ℕ)

@@ -1,24 +1,22 @@
 -- The scheme in which casts pile up serves: its procedures do what is asked of them wherever they stand in a program.
-use Rattle.std.proofs.Common.{◌≡◌, ℕ, suc, ◌+◌, ◌^◌, ◌<◌, ◌≤◌, true, List, [], ◌∷◌, length, Option, Some, None, refl}
+use Rattle.std.proofs.Common.{◌≡◌, ℕ, suc, ◌+◌, ◌^◌, ◌<◌, List, [], ◌∷◌, length, Some, None, refl}
 use Rattle.std.proofs.Common.{sym, ap, ◌∙◌, subst, arith, slice_get, ℤ, ◌%◌}
 use Rattle.std.specs.Int.{w64, cast_unsigned}
-use Rattle.grift_base.specs.declared.operators.PrimOp.TheVariants.{Unbox, BoxSet, MakeVector, VectorRef, VectorSet}
-use Rattle.grift_base.specs.declared.operators.PrimOp.TheVariants.{VectorLength}
+use Rattle.grift_base.specs.declared.operators.PrimOp.TheVariants.{Unbox, BoxSet}
 use Rattle.grift_base.specs.Types.{TypeRows}
 use Rattle.core_calc.specs.Account.{Measures}
-use Rattle.low_ir.specs.Procedures.{Proc as LowProc}
 use Rattle.low_ir.specs.Run.{Setting, LowState}
 use Rattle.coercion_norm.specs.Modes.{TypeCast, piling}
 use Rattle.coercion_norm.specs.RunValues.{RunInt, RunBool, RunUnit, RunFun, RunTuple, RunLoc, RunWrap, RunInject}
 use Rattle.coercion_norm.specs.RunValues.{in_row, all_plain}
-use Rattle.coercion_norm.specs.ValueSteps.{CastFrame, ProjFrame, Return, Entering, On, NoNext, on_some}
+use Rattle.coercion_norm.specs.ValueSteps.{CastFrame, ProjFrame, Return, On, on_some}
 use Rattle.coercion_norm.specs.ValueSteps.{run_enter_wrapped, run_proj_dyn}
-use Rattle.coercion_norm.specs.Held.{Layout, TypesStand}
+use Rattle.coercion_norm.specs.Held.{Layout}
 use Rattle.coercion_norm.specs.Objects.{Object}
 use Rattle.flat_ir.specs.Bodies.{Proc}
 use Rattle.flat_ir.specs.FlatTally.{Cost, act_cost, operator_cost, piled_prices}
-use Rattle.flat_ir.specs.Machine.{FlatCode, FlatValue, FlatFrame, FlatStore, FlatAfter, flat_arity, flat_entered}
-use Rattle.flat_ir.specs.Machine.{flat_operate, flat_proj, flat_turn}
+use Rattle.flat_ir.specs.Machine.{FlatValue, FlatFrame, FlatStore, FlatAfter, flat_arity, flat_entered}
+use Rattle.flat_ir.specs.Machine.{flat_operate}
 use Rattle.rt_cast.specs.States.{Placed, entered, heap_of}
 use Rattle.rt_refs.specs.FillCodes.{fill_proc}
 use Rattle.rt_refs.specs.Products.{product_loop, multiply}
@@ -26,10 +24,9 @@ use Rattle.rt_refs.specs.Quotients.{quotient_loop, divide}
 use Rattle.lower.specs.CarriedValues.{CarriedIn, AreCarried}
 use Rattle.lower.specs.CastWays.{cast_ways}
 use Rattle.lower.specs.Emit.{cast_word}
-use Rattle.lower.specs.Following.{Serving, ServesEverywhere}
-use Rattle.lower.specs.Keeping.{FitsMeasures}
+use Rattle.lower.specs.Following.{ServesEverywhere}
 use Rattle.lower.specs.SchemeLaws.{Here, Answers, Serves, Calls, CastsMade, PartsGiven, CellsServed, CallsMade}
-use Rattle.lower.specs.SchemeLaws.{OperatorDone, IsHandedOn, at_or_zero, operator_leaves, part_leaves}
+use Rattle.lower.specs.SchemeLaws.{OperatorDone, at_or_zero, operator_leaves, part_leaves}
 use Rattle.lower.specs.Sets.{StandFrom, with_casts}
 use Rattle.lower.proofs.Public.{LetsFill, products_are_served, vectors_are_served}
 use Rattle.piled_scheme.specs.Codes.{cast_proc, idle_proc, read_proc, write_proc, piled_procs, piled_numbers}
@@ -76,7 +73,13 @@ module _ (setting : Setting) (l : Layout) (procs : List Proc) (casts : List Type
       (cast_ways l.types casts))
   casting = record {
     proc = cast_proc;
-    stands = record { there = stand 4 cast_proc refl; takes = refl; few = omega arith; room = omega arith; small = omega arith };
+    stands = record {
+      there = stand 4 cast_proc refl;
+      takes = refl;
+      few = omega arith;
+      room = omega arith;
+      small = omega arith;
+    };
     makes = λ s number places objects store here base row cast e v w c.
         let p = held.0 row cast e in (
           0,
@@ -270,8 +273,8 @@ piled_procedures_serve = λ setting l procs casts m first words measured placed 
     record {
       products = products_are_served setting (with_casts (piled_numbers first) words (cast_ways l.types casts))
           first (suc first) (product_stands setting l procs casts m first words placed begins small held stand)
-          (quotient_stands setting l procs casts m first words placed begins small held stand) (stand 2 (multiply first) refl)
-          (stand 3 (divide (suc first)) refl);
+          (quotient_stands setting l procs casts m first words placed begins small held stand)
+          (stand 2 (multiply first) refl) (stand 3 (divide (suc first)) refl);
       casting = casting setting l procs casts m first words placed begins small held stand;
       words = λ row cast e.
           let p = held.0 row cast e in

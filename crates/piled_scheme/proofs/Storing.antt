@@ -1,5 +1,5 @@
 -- A word is stored into a cell: what fills the region then, and what the cells hold.
-use Rattle.std.proofs.Common.{◌≡◌, inl, inr, ℕ, zero, suc, ◌+◌, ◌*◌, ◌%◌, ◌^◌, ◌<◌, ◌≤◌, true, List, [], ◌∷◌, length}
+use Rattle.std.proofs.Common.{◌≡◌, inl, ℕ, zero, suc, ◌+◌, ◌*◌, ◌%◌, ◌^◌, ◌<◌, ◌≤◌, true, List, [], ◌∷◌, length}
 use Rattle.std.proofs.Common.{Some, refl, sym, ap, ◌∙◌, subst, arith, slice_get}
 use Rattle.std.specs.Prelude.{slice_set}
 use Rattle.core_calc.specs.Account.{Measures}
@@ -12,10 +12,9 @@ use Rattle.low_ir.specs.Run.{Setting, LowState}
 use Rattle.coercion_norm.specs.Modes.{TypeCast}
 use Rattle.coercion_norm.specs.RunValues.{RunUnit, in_row}
 use Rattle.coercion_norm.specs.Held.{Layout}
-use Rattle.coercion_norm.specs.Objects.{Object, Cell, object_at}
+use Rattle.coercion_norm.specs.Objects.{Object, Cell}
 use Rattle.flat_ir.specs.Bodies.{Proc}
 use Rattle.flat_ir.specs.Machine.{FlatValue, FlatStore}
-use Rattle.rt_cast.specs.Objects.{HoldsWords}
 use Rattle.rt_cast.specs.States.{Heap, Placed, heap_of}
 use Rattle.lower.specs.CarriedValues.{AreCarried, CellHeld, CellsHeld}
 use Rattle.lower.specs.SchemeLaws.{ReturnsAt}
@@ -25,7 +24,6 @@ use Rattle.lower.proofs.Public.{cell_of, cells_stored, holds_stored}
 use Rattle.lower.proofs.Public.{found_within, holds_same, set_length, words_stored}
 use Rattle.piled_scheme.specs.Piling.{piled_meaning}
 use Rattle.piled_scheme.proofs.Laws.{piled_laws}
-use Rattle.piled_scheme.proofs.Piles.{Carried}
 use Rattle.piled_scheme.proofs.Turns.{FilledAt, CellsAt, C, returned}
 
 stored_may : (region top at : ℕ) → at % 8 ≡ 0 → region ≤ at → at + 8 ≤ top → may_store region top at ≡ true

@@ -1,35 +1,29 @@
 -- Casts of plain values as turns of the numbered procedures, and a word that comes back where nothing was changed.
-use Rattle.std.proofs.Common.{◌≡◌, inl, inr, ℕ, zero, suc, ◌+◌, ◌*◌, ◌^◌, ◌<◌, ◌≤◌, Bool, true, false, List, [], ◌∷◌}
-use Rattle.std.proofs.Common.{◌++◌, length, Some, None, refl, sym, ap, ◌∙◌, subst, arith, slice_get, append-nil, le_refl}
-use Rattle.std.specs.Prelude.{if◌then◌else◌, ◌==◌}
+use Rattle.std.proofs.Common.{◌≡◌, ℕ, suc, ◌+◌, Bool, true, false, List, []}
+use Rattle.std.proofs.Common.{◌++◌, Some, refl, sym, ap, ◌∙◌, subst, arith, append-nil}
+use Rattle.std.specs.Prelude.{if◌then◌else◌}
 use Rattle.grift_base.specs.Types.{same_head}
-use Rattle.grift_base.specs.declared.places.Pos.{Pos}
-use Rattle.grift_base.specs.declared.verdicts.Verdict.TheVariants.{Blame}
-use Rattle.run_laws.specs.Runs.{Verdict as EndsWith}
 use Rattle.core_calc.specs.Account.{Measures}
 use Rattle.low_ir.specs.declared.code.LowSource.{LowSource}
-use Rattle.low_ir.specs.Procedures.{Code, Return as ReturnCode}
-use Rattle.low_ir.specs.Steps.{Locals}
+use Rattle.low_ir.specs.Procedures.{Return as ReturnCode}
 use Rattle.low_ir.specs.Run.{Setting, LowState, word_of}
-use Rattle.coercion_norm.specs.Modes.{TypeCast, Decision, Keeping, Wrapping, Blaming, NoCast, piling, fits}
+use Rattle.coercion_norm.specs.Modes.{TypeCast, Decision, Keeping, Blaming, NoCast, piling, fits}
 use Rattle.coercion_norm.specs.RunValues.{shape_of}
-use Rattle.coercion_norm.specs.ValueSteps.{CastFrame, Return, On, BlameOf, NoNext, make, casts_onto, decision_wraps}
+use Rattle.coercion_norm.specs.ValueSteps.{make, decision_wraps}
 use Rattle.coercion_norm.specs.Held.{Layout}
 use Rattle.coercion_norm.specs.Objects.{Object}
 use Rattle.coer_core.specs.Tally.{decision_kind}
 use Rattle.flat_ir.specs.Bodies.{Proc}
 use Rattle.flat_ir.specs.Counts.{decision_at}
-use Rattle.flat_ir.specs.FlatTally.{Cost, kind_cost, cast_cost, piled_prices}
-use Rattle.flat_ir.specs.Machine.{FlatValue, FlatFrame, FlatStore, FlatAfter, flat_arity, flat_entered, flat_cast}
-use Rattle.rt_cast.specs.States.{Placed, heap_of}
+use Rattle.flat_ir.specs.FlatTally.{kind_cost, cast_cost, piled_prices}
+use Rattle.flat_ir.specs.Machine.{FlatValue, FlatFrame, FlatStore, flat_arity, flat_entered, flat_cast}
+use Rattle.rt_cast.specs.States.{heap_of}
 use Rattle.lower.specs.Storage.{Filled}
 use Rattle.lower.specs.CarriedValues.{CellsHeld}
-use Rattle.lower.specs.SchemeLaws.{Here, ReturnsAt, Returns, StopsNow, Walks, After, Goes, Aim}
-use Rattle.lower.proofs.Public.{at}
+use Rattle.lower.specs.SchemeLaws.{Here, ReturnsAt, Returns, After, Goes, Aim}
 use Rattle.piled_scheme.specs.Piling.{piled_meaning, fate}
 use Rattle.piled_scheme.proofs.Deciding.{IsPlain, plain_decides, kept_or_blamed}
 use Rattle.piled_scheme.proofs.Piles.{Carried}
-use Rattle.piled_scheme.proofs.Walking.{HasRoom, on_way, stays}
 
 pub no_more : (n : ℕ) → n ≡ n + 0
 no_more n = omega arith

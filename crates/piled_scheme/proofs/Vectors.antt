@@ -1,15 +1,14 @@
 -- Vectors are read, written and measured, as bare as they are: none is wrapped.
-use Rattle.std.proofs.Common.{◌≡◌, ◌⊎◌, inl, inr, ℕ, zero, suc, ◌+◌, ◌*◌, ◌%◌, ◌^◌, ◌<◌, ◌≤◌, Bool, true, false, List}
-use Rattle.std.proofs.Common.{[], ◌∷◌, ◌++◌, length, Option, Some, None, refl, sym, ap, ◌∙◌, subst, arith, slice_get}
-use Rattle.std.proofs.Common.{le_refl, ℤ, pos, negsuc}
-use Rattle.std.specs.Prelude.{◌==◌, slice_set, nat_lt, if◌then◌else◌}
+use Rattle.std.proofs.Common.{◌≡◌, inr, ℕ, zero, suc, ◌+◌, ◌*◌, ◌^◌, ◌<◌, ◌≤◌, Bool, true, false, List}
+use Rattle.std.proofs.Common.{[], ◌∷◌, length, Option, Some, None, refl, ap, ◌∙◌, subst, arith, slice_get}
+use Rattle.std.proofs.Common.{ℤ, pos, negsuc}
+use Rattle.std.specs.Prelude.{nat_lt, if◌then◌else◌}
 use Rattle.std.specs.Int.{w64, cast_unsigned, int_wrap}
 use Rattle.grift_base.specs.declared.operators.PrimOp.{PrimOp}
-use Rattle.grift_base.specs.declared.operators.PrimOp.TheVariants.{VectorRef, VectorSet, VectorLength}
+use Rattle.grift_base.specs.declared.operators.PrimOp.TheVariants.{VectorRef, VectorLength}
 use Rattle.grift_base.specs.declared.verdicts.Trap.TheVariants.{Index}
 use Rattle.grift_base.specs.declared.verdicts.Verdict.TheVariants.{Trap as TrapVerdict}
 use Rattle.run_laws.specs.Runs.{Verdict as EndsWith}
-use Rattle.rv_isa.specs.declared.inst.Cond.TheVariants.{Eq, Ltu}
 use Rattle.rv_machine.specs.Memory.{load_bytes}
 use Rattle.core_calc.specs.Account.{Measures}
 use Rattle.low_ir.specs.declared.code.LowSource.TheVariants.{Word, Number}
@@ -20,39 +19,34 @@ use Rattle.low_ir.specs.Procedures.{Code, Done, Load, Compute, Return as ReturnC
 use Rattle.low_ir.specs.Steps.{Locals, no_locals, set_local, may_load}
 use Rattle.low_ir.specs.Run.{Setting, LowState, bind, word_of}
 use Rattle.coercion_norm.specs.Modes.{TypeCast, piling}
-use Rattle.coercion_norm.specs.RunValues.{RunInt, RunBool, RunUnit, RunFun, RunTuple, RunLoc, RunWrap, RunInject}
+use Rattle.coercion_norm.specs.RunValues.{RunInt, RunLoc}
 use Rattle.coercion_norm.specs.RunValues.{in_row}
-use Rattle.coercion_norm.specs.ValueSteps.{CastFrame, PrimFrame, Return, On, TrapOf, NoNext, on_some, element_or_trap}
-use Rattle.coercion_norm.specs.ValueSteps.{run_with_element, run_writes_cell, gives}
+use Rattle.coercion_norm.specs.ValueSteps.{Return, On, TrapOf, on_some, element_or_trap}
+use Rattle.coercion_norm.specs.ValueSteps.{run_with_element}
 use Rattle.coercion_norm.specs.Held.{Layout, There}
-use Rattle.coercion_norm.specs.Objects.{Object, Cell, object_at}
+use Rattle.coercion_norm.specs.Objects.{Object, Cell}
 use Rattle.coercion_norm.specs.ObjectsOfRows.{header}
 use Rattle.flat_ir.specs.Bodies.{Proc}
 use Rattle.flat_ir.specs.FlatTally.{act_cost, piled_prices}
 use Rattle.flat_ir.specs.Machine.{FlatValue, FlatFrame, FlatStore, FlatAfter, flat_arity, flat_entered, flat_operate}
-use Rattle.rt_cast.specs.Objects.{HoldsWords}
 use Rattle.rt_cast.specs.States.{Placed, entered, heap_of}
 use Rattle.rt_cast.proofs.Public.{count_read, lt_false}
 use Rattle.rt_refs.specs.TrapCodes.{trap_code}
 use Rattle.lower.specs.CarriedValues.{AreCarried, CellHeld}
-use Rattle.lower.specs.SchemeLaws.{After, Aim, StopsNow, Walks, operator_leaves, at_or_zero}
-use Rattle.lower.specs.Storage.{Filled}
+use Rattle.lower.specs.SchemeLaws.{After, Aim, StopsNow, operator_leaves}
 use Rattle.lower.proofs.Public.{as_many}
 use Rattle.lower.proofs.Public.{cell_of, there_is}
 use Rattle.lower.proofs.Public.{stands, may}
 use Rattle.lower.proofs.Public.{word_found, found_within}
 use Rattle.lower.proofs.Public.{positive_is, negative_is, small_fits, element_past}
-use Rattle.lower.proofs.Public.{word_small}
-use Rattle.lower.proofs.Public.{at, Comes, Calm, Goal, here, computes, if_true, if_false, loads, stores, left_of}
+use Rattle.lower.proofs.Public.{Comes, Calm, Goal, computes, if_true, if_false, loads, left_of}
 use Rattle.lower.proofs.Public.{lt_true}
-use Rattle.piled_scheme.specs.Codes.{read_proc, write_proc, in_vector}
+use Rattle.piled_scheme.specs.Codes.{read_proc, in_vector}
 use Rattle.piled_scheme.specs.Piling.{piled_meaning}
 use Rattle.piled_scheme.proofs.Laws.{piled_laws}
 use Rattle.piled_scheme.proofs.Looking.{inside as inside_of, calm as calm_of, ends, loads_header}
-use Rattle.piled_scheme.proofs.Piles.{Carried, no_vector, no_cell}
-use Rattle.piled_scheme.proofs.Storing.{after, may as may_write, end as end_of, wrote}
 use Rattle.piled_scheme.proofs.Turns.{FilledAt, CellsAt, C, GoesOn, returned, no_more}
-use Rattle.piled_scheme.proofs.Walking.{Way, room_of, on_way, goal, walks, stays, traps}
+use Rattle.piled_scheme.proofs.Walking.{Way, goal, walks, traps}
 
 pub element_inside : {A : Type 0} (xs : List A) (i : ℕ) (x : A) → slice_get xs i ≡ Some x → i < length xs
 element_inside [] i x e = absurd (let z : ⊥ = cc in z)
@@ -111,7 +105,8 @@ module _ (setting : Setting) (l : Layout) (procs : List Proc) (casts : List Type
     pub counted : c.0 ≡ length values
     counted =
         same_counts (header 6 0 c.0) held.head c.0 (length held.words)
-        (there_is l objects a (Cell (header 6 0 c.0) c.0) (Cell held.head (length held.words)) placed.before c.2 held.is)
+        (there_is l objects a (Cell (header 6 0 c.0) c.0) (Cell held.head (length held.words)) placed.before c.2
+        held.is)
         ∙ as_many l setting.address procs piled_meaning piled_laws places objects values held.words held.carried
       where
         same_counts : (x y j k : ℕ) → Cell x j ≡ Cell y k → j ≡ k
@@ -282,9 +277,9 @@ module _ (setting : Setting) (l : Layout) (procs : List Proc) (casts : List Type
             let lt = element_inside values i v got in
             let end = short n filled cell a c values e in
             let many_is = counted n filled cell a c values e in
-            let last = inside (Done ∷ Done ∷ Done ∷ []) (set_local 2 x.word (set_local 2 (8 * i + a) (set_local 2 (8 * i)
-            (set_local 4 c.0 (set_local 4 (header 6 0 c.0) (bind 0 (1 ∷ a ∷ wi ∷ []) no_locals))))))
-            (ReturnCode (Word 2)) in (
+            let last = inside (Done ∷ Done ∷ Done ∷ []) (set_local 2 x.word (set_local 2 (8 * i + a)
+            (set_local 2 (8 * i) (set_local 4 c.0 (set_local 4 (header 6 0 c.0)
+            (bind 0 (1 ∷ a ∷ wi ∷ []) no_locals)))))) (ReturnCode (Word 2)) in (
               refl,
               walks setting l procs casts m s te 0 (credit + 896) operator_leaves n (n + 0) X
                   (begins_so X operator_leaves (n + 0)
@@ -341,8 +336,8 @@ module _ (setting : Setting) (l : Layout) (procs : List Proc) (casts : List Type
         told : (values : List (FlatValue TypeCast)) → slice_get store cell ≡ Some values
             → Operates 0 (On (Return (RunInt (pos (length values)))) base store s.world) credit n te
         told values e =
-            let X = λ (left : ℕ) (u : LowState). Going 0 (Return (RunInt (pos (length values)))) base store (n + 0) left u
-            in
+            let X = λ (left : ℕ) (u : LowState). Going 0 (Return (RunInt (pos (length values)))) base store (n + 0) left
+            u in
             let end = short n filled cell a c values e in
             let last = inside (Done ∷ Done ∷ []) (set_local 4 c.0 (set_local 4 (header 6 0 c.0)
             (bind 0 (2 ∷ a ∷ 0 ∷ []) no_locals))) (ReturnCode (Word 4)) in (

@@ -1,7 +1,7 @@
--- How procedures of this scheme walk in a turn of the numbered procedures: steps of their own, within the turn's budget,
--- and where they end.
-use Rattle.std.proofs.Common.{◌≡◌, inl, inr, ℕ, zero, suc, ◌+◌, ◌*◌, ◌-◌, ◌^◌, ◌<◌, ◌≤◌, Bool, true, false, List, []}
-use Rattle.std.proofs.Common.{◌∷◌, length, Some, refl, sym, ap, ◌∙◌, subst, arith, slice_get, le_refl}
+-- How procedures of this scheme walk in a turn of the numbered procedures: steps of their own, within the turn's
+-- budget, and where they end.
+use Rattle.std.proofs.Common.{◌≡◌, inl, ℕ, ◌+◌, ◌*◌, ◌-◌, ◌≤◌, true, List, []}
+use Rattle.std.proofs.Common.{length, Some, refl, ap, ◌∙◌, arith, slice_get}
 use Rattle.std.specs.Prelude.{◌==◌, ◌&&◌, nat_le, if◌then◌else◌}
 use Rattle.grift_base.specs.World.{WorldState}
 use Rattle.grift_base.specs.EnvironmentCall.{environment_call}
@@ -10,15 +10,12 @@ use Rattle.grift_base.specs.declared.verdicts.Verdict.TheVariants.{Blame, Trap a
 use Rattle.grift_base.specs.declared.verdicts.Trap.TheVariants.{Index}
 use Rattle.grift_base.specs.declared.worlds.EnvEffect.TheVariants.{Blamed, Refused}
 use Rattle.run_laws.specs.Runs.{Verdict as EndsWith}
-use Rattle.run_laws.specs.Machines.{Go}
-use Rattle.rv_machine.specs.Mach.{ending_of}
 use Rattle.core_calc.specs.Account.{Measures}
 use Rattle.low_ir.specs.declared.code.LowSource.{LowSource}
 use Rattle.low_ir.specs.declared.code.LowSource.TheVariants.{Word, Number}
-use Rattle.low_ir.specs.Prices.{code_price, codes_price}
 use Rattle.low_ir.specs.Procedures.{Code, Environment, Return, TailCall, Proc as LowProc}
-use Rattle.low_ir.specs.Steps.{Locals, no_locals, set_local}
-use Rattle.low_ir.specs.Run.{Setting, LowState, word_of, words_of, bind, goes_on, code_step}
+use Rattle.low_ir.specs.Steps.{Locals, no_locals}
+use Rattle.low_ir.specs.Run.{Setting, LowState, words_of, bind}
 use Rattle.coercion_norm.specs.Modes.{TypeCast}
 use Rattle.coercion_norm.specs.Objects.{Object}
 use Rattle.coercion_norm.specs.Held.{Layout}
@@ -29,7 +26,7 @@ use Rattle.rt_refs.specs.TrapCodes.{trap_code}
 use Rattle.lower.specs.Storage.{Filled}
 use Rattle.lower.specs.SchemeLaws.{OnWay, StopsNow, Walks}
 use Rattle.lower.proofs.Public.{By, by_go, by_weaken, calls_blame, in_front}
-use Rattle.lower.proofs.Public.{at, Comes, Calm, Goal, N, left_of, goes_last, lt_true}
+use Rattle.lower.proofs.Public.{at, Comes, Calm, Goal, left_of, goes_last, lt_true}
 use Rattle.piled_scheme.specs.Piling.{piled_meaning}
 
 module _ (setting : Setting) (l : Layout) (procs : List Proc) (casts : List TypeCast) (m : Measures)

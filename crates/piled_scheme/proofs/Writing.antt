@@ -1,12 +1,10 @@
 -- Boxes are written through their wrappers: what is written is cast by the outermost wrapper first.
-use Rattle.std.proofs.Common.{◌≡◌, ◌⊎◌, inl, inr, ℕ, zero, suc, ◌+◌, ◌*◌, ◌^◌, ◌<◌, ◌≤◌, Bool, true, false, List, []}
-use Rattle.std.proofs.Common.{◌∷◌, ◌++◌, length, Option, Some, None, refl, sym, ap, ◌∙◌, subst, arith, slice_get, le_refl}
-use Rattle.std.specs.Prelude.{◌==◌, slice_set}
+use Rattle.std.proofs.Common.{◌≡◌, ◌⊎◌, inl, inr, ℕ, suc, ◌+◌, ◌<◌, ◌≤◌, true, false, List, []}
+use Rattle.std.proofs.Common.{◌∷◌, length, Option, Some, None, refl, sym, ap, ◌∙◌, subst, arith, slice_get}
+use Rattle.std.specs.Prelude.{slice_set}
 use Rattle.grift_base.specs.declared.operators.PrimOp.TheVariants.{BoxSet}
-use Rattle.grift_base.specs.declared.places.Pos.{Pos}
 use Rattle.grift_base.specs.declared.verdicts.Verdict.TheVariants.{Blame}
 use Rattle.run_laws.specs.Runs.{Verdict as EndsWith}
-use Rattle.rv_isa.specs.declared.inst.Cond.TheVariants.{Eq}
 use Rattle.core_calc.specs.Account.{Measures}
 use Rattle.low_ir.specs.declared.code.LowSource.TheVariants.{Word, Number}
 use Rattle.low_ir.specs.Prices.{entering_some}
@@ -16,14 +14,12 @@ use Rattle.low_ir.specs.Run.{Setting, LowState, bind}
 use Rattle.coercion_norm.specs.Modes.{TypeCast, piling}
 use Rattle.coercion_norm.specs.RunValues.{RunInt, RunBool, RunUnit, RunFun, RunTuple, RunLoc, RunWrap, RunInject}
 use Rattle.coercion_norm.specs.ValueSteps.{CastFrame, PrimFrame, Return, On, on_some, run_writes_cell}
-use Rattle.coercion_norm.specs.ValueSteps.{decision_wraps}
 use Rattle.coercion_norm.specs.Held.{Layout, There}
 use Rattle.coercion_norm.specs.Objects.{Object, Cell}
 use Rattle.coercion_norm.specs.ObjectsOfRows.{header}
 use Rattle.flat_ir.specs.Bodies.{Proc}
-use Rattle.flat_ir.specs.Counts.{decision_at}
-use Rattle.flat_ir.specs.FlatTally.{act_cost, cast_cost, piled_prices}
-use Rattle.flat_ir.specs.Machine.{FlatValue, FlatFrame, FlatStore, FlatAfter, flat_arity, flat_entered, flat_cast}
+use Rattle.flat_ir.specs.FlatTally.{act_cost, piled_prices}
+use Rattle.flat_ir.specs.Machine.{FlatValue, FlatFrame, FlatStore, FlatAfter, flat_arity, flat_entered}
 use Rattle.flat_ir.specs.Machine.{flat_operate}
 use Rattle.rt_cast.specs.PartCodes.{blame_code}
 use Rattle.rt_cast.specs.States.{Placed, entered, heap_of}
@@ -38,7 +34,7 @@ use Rattle.piled_scheme.proofs.Deciding.{IsPlain, written_cast, written_plain, w
 use Rattle.piled_scheme.proofs.Laws.{piled_laws}
 use Rattle.piled_scheme.proofs.Looking.{inside as inside_of, calm as calm_of, loads_word, looked, blamed}
 use Rattle.piled_scheme.proofs.Piles.{Carried, peeled}
-use Rattle.piled_scheme.proofs.Reading.{tested, is_zero, is_some}
+use Rattle.piled_scheme.proofs.Reading.{tested, is_some}
 use Rattle.piled_scheme.proofs.Storing.{after, may, end, wrote}
 use Rattle.piled_scheme.proofs.Turns.{FilledAt, CellsAt, C, GoesOn, plain_turn, keeps, blames_it, no_more}
 use Rattle.piled_scheme.proofs.Walking.{Way, room_of, on_way, goal, walks, stays, tail_calls, blames}
@@ -183,7 +179,8 @@ module _ (setting : Setting) (l : Layout) (procs : List Proc) (casts : List Type
                 refl,
                 le,
                 wrote setting l procs casts m placed begins s places objects store cells n filled cell w (x ∷ []) e c.1
-                    0 u wu carried (omega arith) (w + 8) (omega arith) stored (n + 0) (sym (no_more n)) refl refl refl refl,
+                    0 u wu carried (omega arith) (w + 8) (omega arith) stored (n + 0) (sym (no_more n)) refl refl refl
+                    refl,
               ),
             )))))
             (let z = cost w in omega (arith, z)),
@@ -355,7 +352,9 @@ module _ (setting : Setting) (l : Layout) (procs : List Proc) (casts : List Type
               (if_true setting (P write_at 0 0 n (n + 0) X refl filled) (Q write_at 0 0 n (n + 0) X refl filled) ready 0
               0 refl refl refl
               (tail_calls setting l procs casts m s write_at 0 n (n + 0) (Q write_at 0 0 n (n + 0) X refl filled) ready
-              (w ∷ wu ∷ []) (set_proc own) refl there refl refl
-              (omega arith, room_of setting l procs casts m s (writes_at w) refl (omega arith),
-              λ credit le. b.1 (n + 0) (grown_number n filled) credit))) (let z = write_cost in omega (arith, z))),
+              (w ∷ wu ∷ []) (set_proc own) refl there refl refl (
+                omega arith,
+                room_of setting l procs casts m s (writes_at w) refl (omega arith),
+                λ credit le. b.1 (n + 0) (grown_number n filled) credit,
+              ))) (let z = write_cost in omega (arith, z))),
         )

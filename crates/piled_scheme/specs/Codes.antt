@@ -7,11 +7,12 @@ use Rattle.low_ir.specs.declared.code.WordOp.TheVariants.{Add, And, Sll, Srl, Su
 use Rattle.low_ir.specs.Procedures.{Code, Set, Compute, Load, Store, Build, Return, TailCall, Proc}
 use Rattle.rt_cast.specs.PartCodes.{proc, either, blame_code}
 use Rattle.rt_cast.specs.Words.{kind_mask, count_bits, word_shift}
+use Rattle.rt_refs.specs.CellCodes.{asks_box, asks_length}
 use Rattle.rt_refs.specs.FillCodes.{fill_loop, fill_proc}
 use Rattle.rt_refs.specs.Quotients.{arithmetic_procs}
 use Rattle.rt_refs.specs.TrapCodes.{trap_code}
 use Rattle.lower.specs.declared.served.Served.{Served}
-use Rattle.piled_scheme.specs.Piling.{wrapper_header}
+use Rattle.piled_scheme.specs.Piling.{wrapper_kind, wrapper_header}
 
 -- word 3 is one more than the label that is blamed
 abbrev pub blame_part : Code
@@ -43,7 +44,7 @@ module _ (own : ℕ) where
   abbrev pub unbox_code : Code
   unbox_code =
       look (
-      either Eq (Word 2) (Number 25)
+      either Eq (Word 2) (Number wrapper_kind)
       (Load 3 (Word 0) 16 (
       Load 0 (Word 0) 8 (
       either Eq (Word 3) (Number 0) (TailCall own (Word 0 ∷ Word 1 ∷ [])) (TailCall own (Word 0 ∷ Word 3 ∷ []))))) (
@@ -56,7 +57,7 @@ module _ (own : ℕ) where
   abbrev pub set_code : Code
   set_code =
       look (
-      either Eq (Word 2) (Number 25)
+      either Eq (Word 2) (Number wrapper_kind)
       (Load 3 (Word 0) 16 (
       Load 0 (Word 0) 8 (
       either Eq (Word 3) (Number 0) (TailCall own (Word 0 ∷ Word 1 ∷ [])) blame_part)))
@@ -74,20 +75,20 @@ in_vector rest =
     either Ltu (Word 2) (Word 4)
     (Compute Sll 2 (Word 2) (Number word_shift) (Compute Add 2 (Word 2) (Word 1) rest)) (trap_code Index 4 5)))
 
--- takes what is read (0 a box, 1 an element, 2 a length), an address and an index
+-- takes what is read (a box, an element or a length), an address and an index
 abbrev pub read_proc : ℕ → Proc
 read_proc unbox =
     proc 3 6 (
-    either Eq (Word 0) (Number 0) (TailCall unbox (Word 1 ∷ Number 0 ∷ [])) (
-    either Eq (Word 0) (Number 2)
+    either Eq (Word 0) (Number asks_box) (TailCall unbox (Word 1 ∷ Number 0 ∷ [])) (
+    either Eq (Word 0) (Number asks_length)
     (Load 4 (Word 1) 0 (Compute Srl 4 (Word 4) (Number count_bits) (Return (Word 4))))
     (in_vector (Load 2 (Word 2) 8 (Return (Word 2))))))
 
--- takes what is written (0 a box, 1 an element), an address, an index and a word
+-- takes what is written (a box or an element), an address, an index and a word
 abbrev pub write_proc : ℕ → Proc
 write_proc set =
     proc 4 6 (
-    either Eq (Word 0) (Number 0) (TailCall set (Word 1 ∷ Word 3 ∷ []))
+    either Eq (Word 0) (Number asks_box) (TailCall set (Word 1 ∷ Word 3 ∷ []))
     (in_vector (Store (Word 3) (Word 2) 8 (Return (Number 0)))))
 
 -- products and quotients, the other procedures that code calls, the loop that makes vectors, and those that go through

@@ -1,9 +1,9 @@
 -- A scheme in which casts pile up: each cast of a box makes an object of three words over what it wraps. It knows casts
 -- between Int, Bool, Unit and boxes of these; of such types each part is kept as it is or blamed.
-use Rattle.std.specs.Prelude.{◌≡◌, ℕ, suc, ◌+◌, ◌*◌, ◌<◌, ◌^◌, true, false, Bool, if◌then◌else◌, ◌==◌, List, [], ◌∷◌, Some}
-use Rattle.std.specs.Prelude.{slice_get, map, Option}
-use Rattle.grift_base.specs.Types.{TypeRow, TypeRows, IntRow, BoolRow, UnitRow, DynRow, FunRow, TupleRow, RefRow}
-use Rattle.grift_base.specs.Types.{VectRow, row_at, same_head, is_base}
+use Rattle.std.specs.Prelude.{◌≡◌, ℕ, suc, ◌+◌, ◌*◌, ◌<◌, ◌^◌, true, false, Bool, if◌then◌else◌, ◌==◌}
+use Rattle.std.specs.Prelude.{List, [], ◌∷◌, Some, slice_get, map, Option}
+use Rattle.grift_base.specs.Types.{TypeRow, TypeRows, RefRow}
+use Rattle.grift_base.specs.Types.{row_at, same_head, is_base}
 use Rattle.object_layout.specs.declared.kinds.Kind.TheVariants.{Boxed}
 use Rattle.object_layout.specs.Kinds.{kind_number}
 use Rattle.coercion_norm.specs.Modes.{TypeCast, piling}
@@ -70,9 +70,12 @@ ArePiled l casts words =
 
 -- ---- wrappers
 
--- the header of a wrapper
+-- no other object has this kind
+abbrev pub wrapper_kind : ℕ
+wrapper_kind = 25
+
 abbrev pub wrapper_header : ℕ
-wrapper_header = header 25 0 2
+wrapper_header = header wrapper_kind 0 2
 
 -- over what stands at an address, with what is done with what is read and written
 abbrev pub wrapper_object : ℕ → ℕ → Object

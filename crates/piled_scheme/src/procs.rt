@@ -17,6 +17,7 @@ use low_ir::code::{LowCode, LowSource, WordOp};
 use low_ir::programs::{LowProc, LowProcs};
 use rt_cast::codes::{blame, build, compute, either, load, set, tail_call};
 use rt_cast::words::{COUNT_BITS, COUNT_UNIT, KIND_MASK, WORD_SHIFT};
+use rt_refs::cells::{ASKS_BOX, ASKS_LENGTH};
 use rt_refs::fills::{fill_loop, fill_proc};
 use rt_refs::procs::arithmetic_procs;
 use rv_isa::inst::Cond;
@@ -149,9 +150,19 @@ fn read_proc(alloc: Global, unbox: u32) -> Result<LowProc, OutOfMemory>
     let count = LowCode::Return(Word(4));
     let length = compute(alloc, WordOp::Srl, 4, (Word(4), Number(COUNT_BITS)), count)?;
     let length = load(alloc, 4, Word(1), 0, length)?;
-    let vector = either(alloc, Cond::Eq, (Word(0), Number(2)), (length, element))?;
+    let vector = either(
+        alloc,
+        Cond::Eq,
+        (Word(0), Number(ASKS_LENGTH)),
+        (length, element),
+    )?;
     let boxed = tail_call(alloc, unbox, &[Word(1), Number(0)])?;
-    let code = either(alloc, Cond::Eq, (Word(0), Number(0)), (boxed, vector))?;
+    let code = either(
+        alloc,
+        Cond::Eq,
+        (Word(0), Number(ASKS_BOX)),
+        (boxed, vector),
+    )?;
     Ok(proc(3, 6, code))
 }
 
@@ -162,7 +173,12 @@ fn write_proc(alloc: Global, set: u32) -> Result<LowProc, OutOfMemory>
     let element = store_and_return(alloc, Word(3), Word(2))?;
     let element = in_vector(alloc, element)?;
     let boxed = tail_call(alloc, set, &[Word(1), Word(3)])?;
-    let code = either(alloc, Cond::Eq, (Word(0), Number(0)), (boxed, element))?;
+    let code = either(
+        alloc,
+        Cond::Eq,
+        (Word(0), Number(ASKS_BOX)),
+        (boxed, element),
+    )?;
     Ok(proc(4, 6, code))
 }
 

@@ -42,11 +42,7 @@ fn word_of(types: &TypeTable, cast: &CastRow) -> u64
 }
 
 /// The words of casts, in the order of their numbers.
-pub fn words_of(
-    alloc: Global,
-    types: &TypeTable,
-    casts: &CastRows,
-) -> Result<WordList, OutOfMemory>
+pub fn words_of(alloc: Global, types: &TypeTable, casts: &CastRows) -> Result<WordList, OutOfMemory>
     ensures { IfOk result (λ words. words ≡ map (word_of types.now) (row_casts casts.now)) }
 {
     let mut words = WordList::new(alloc);

@@ -260,15 +260,18 @@ module _ (meaning : Meaning) (laws : MeaningLaws meaning) (setting : Setting) (l
         (λ u. (u.words ≤ te.words + c.asks) × (stack_room u ≤ stack_room s + 25 * (1 + meaning.serving l))
         × StopsNow meaning setting l procs casts m s number (EndsWith (TrapVerdict Length)) u) own n w ge lt
         (way te c.asks number 6 te.active.locals te.active.code [] s.waiting s.memory s.words refl (λ j less. refl)
-        (omega arith) (omega arith))
-        (omega arith, (let y = lets.serving in omega (arith, y)), record {
-          last = _;
-          stops = refl;
-          here = (objects, here.filled);
-          after = (objects, here.filled);
-          same = refl;
-          same_after = refl;
-        }) in
+        (omega arith) (omega arith)) (
+          omega arith,
+          (let y = lets.serving in omega (arith, y)),
+          record {
+            last = _;
+            stops = refl;
+            here = (objects, here.filled);
+            after = (objects, here.filled);
+            same = refl;
+            same_after = refl;
+          },
+        ) in
         (0, (refl, refl, (1, 14, 0, omega (arith, enough), z.1, z.0)))
 
     does_for : (vs : List (FlatValue meaning.Cast)) (ws : List ℕ)
