@@ -1,5 +1,5 @@
 -- Sets of procedures that serve, and that of the merged scheme.
-use Rattle.std.specs.Prelude.{ℕ, ◌+◌, ◌≡◌, true, List, [], ◌++◌, Some, slice_get}
+use Rattle.std.specs.Prelude.{ℕ, suc, ◌+◌, ◌≡◌, true, List, [], ◌++◌, length, Some, slice_get}
 use Rattle.low_ir.specs.Procedures.{Proc}
 use Rattle.low_ir.specs.Closed.{each_closed}
 use Rattle.rt_cast.specs.declared.numbers.CastProc.TheVariants.{Cast, Project}
@@ -17,10 +17,13 @@ abbrev pub StandFrom : List Proc → ℕ → List Proc → Type 0
 StandFrom procs first set = (k : ℕ) (p : Proc) → slice_get set k ≡ Some p → slice_get procs (k + first) ≡ Some p
 
 -- Wherever a set stands in a program, those of its procedures that have a number in `numbers` serve, and all of them
--- are closed.
+-- are closed. Its last two are those of products and quotients.
 pub record ServesAnywhere (set : List Proc) (first : ℕ) (numbers : Served) : Type 0 where
   pub serve : (procs : List Proc) → StandFrom procs first set → Serve numbers procs
   pub closed : (procs : List Proc) → StandFrom procs first set → each_closed procs set ≡ true
+  -- products and quotients stand last, in this order
+  pub multiply_last : suc (suc numbers.multiply) ≡ length set + first
+  pub divide_last : suc numbers.divide ≡ length set + first
 
 -- the numbers that a set tells
 abbrev pub numbers_of : ProcSet → Served

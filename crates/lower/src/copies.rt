@@ -60,7 +60,7 @@ fn copied(alloc: Global, code: &LowCode) -> Result<LowCode, OutOfMemory>
     }
 }
 
-// Copies of these procedures go to the end of a list.
+/// Copies of these procedures go to the end of a list.
 pub fn push_copies(alloc: Global, procs: &mut LowProcs, more: &[LowProc]) -> Result<(), OutOfMemory>
     ensures { OnOk result (procs_of procs.new ≡ procs_of procs.old ++ procs_of more.now) }
 {

@@ -4,7 +4,7 @@
 mod answers;
 mod bodies;
 mod casts;
-mod copies;
+pub mod copies;
 mod environment_calls;
 mod groups;
 pub mod laws;

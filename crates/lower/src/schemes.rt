@@ -60,8 +60,8 @@ pub trait Scheme {
         requires casts { All (λ cast. cast.coercion.0 < length table.now.nodes) casts.now }
         ensures { IfOk result (λ statics. length statics.cast_at ≡ length casts.now) };
 
-    /// The procedures, numbered from `first` on, 64 at most. Wherever they stand in a program, they are closed there,
-    /// and take what they are handed.
+    /// The procedures, numbered from `first` on, 64 at most, the last two of which are those of products and quotients.
+    /// Wherever they stand in a program, they are closed there, and take what they are handed.
     fn procs(&self, alloc: Global, first: u32) -> Result<ProcSet, OutOfMemory>
         requires { first < 2 ^ 31 }
         ensures procs { IfOk result (λ set. procs_of set.procs ≡ procs_from self.now first) }

@@ -23,7 +23,7 @@ use Rattle.coercion_norm.specs.Modes.{decide, fits}
 use Rattle.coercion_norm.specs.RunValues.{RunInt, RunBool, RunUnit, RunFun, RunTuple, RunLoc, RunWrap, RunInject}
 use Rattle.coercion_norm.specs.RunValues.{shape_of}
 use Rattle.coercion_norm.specs.ValueSteps.{Return, decision_wraps}
-use Rattle.coercion_norm.specs.Held.{Layout}
+use Rattle.coercion_norm.specs.Held.{Layout, There}
 use Rattle.coercion_norm.specs.Objects.{Object, object_at}
 use Rattle.coercion_norm.proofs.Public.{last_stands}
 use Rattle.flat_ir.specs.Bodies.{Proc}
@@ -41,11 +41,11 @@ use Rattle.lower.proofs.Public.{AreSmall, stored_words, bytes_below, filled_more
 use Rattle.lower.proofs.Public.{cells_below, at, Comes, Calm, Goal, left_of, here, computes, if_true, if_false, builds}
 use Rattle.piled_scheme.specs.Codes.{cast_proc, blame_part}
 use Rattle.piled_scheme.specs.Piling.{IsKnown, PlainType, BoxType, IsPiled, IsBoxCast, IsWrapped, piled_meaning, fate}
-use Rattle.piled_scheme.specs.Piling.{word_between, word_of, wrapper_object, wrapper_header, most_labels, wrappers}
+use Rattle.piled_scheme.specs.Piling.{word_between, word_of, wrapper_object, wrapper_header, most_labels, AreStacked}
 use Rattle.piled_scheme.proofs.Deciding.{kept_or_blamed}
-use Rattle.piled_scheme.proofs.Laws.{piled_laws, wrappers_more}
+use Rattle.piled_scheme.proofs.Laws.{piled_laws, wrapper_more}
 use Rattle.piled_scheme.proofs.Looking.{inside as inside_of, calm as calm_of, ends, blamed}
-use Rattle.piled_scheme.proofs.Piles.{Carried, wrapped_more, wrapped_first}
+use Rattle.piled_scheme.proofs.Piles.{Carried, peeled, wrapped_more, wrapped_first}
 use Rattle.piled_scheme.proofs.Turns.{C, GoesOn, Decided, returned, no_more}
 use Rattle.piled_scheme.proofs.Walking.{Way, room_of, calm_at, goal, walks, blames}
 use Rattle.piled_scheme.proofs.Reading.{is_some}
@@ -313,6 +313,7 @@ module _ (setting : Setting) (l : Layout) (procs : List Proc) (casts : List Type
 
   module _ (v : FlatValue TypeCast) (w : ℕ) (c : C setting l procs casts m s places objects store v w)
       (cast : TypeCast) (part : ℕ) (is : IsBoxCast l.types cast part) (part_small : part < 2 ^ 33)
+      (under : Object) (stands_under : There l objects w under)
       (wraps : (os : List Object) (over at : ℕ) → Carried l os setting procs places v [] over
       → IsWrapped l os cast over at → Carried l os setting procs places (RunWrap v cast) [] at) where
     abbrev o : Object
@@ -334,11 +335,8 @@ module _ (setting : Setting) (l : Layout) (procs : List Proc) (casts : List Type
     small : AreSmall (wrapper_header ∷ w ∷ part ∷ [])
     small = (omega arith, (w_small, (omega (arith, part_small), tt)))
 
-    counted : wrappers (objects ++ wrapper_object w part ∷ []) ≡ number + 1
-    counted =
-        let z = wrappers_more objects (wrapper_object w part) in
-        let y = here_is.filled.keeps in
-        omega (arith, z, y)
+    counted : AreStacked l [] (objects ++ wrapper_object w part ∷ []) (number + 1)
+    counted = wrapper_more l [] objects number w part under stands_under here_is.filled.keeps
 
     below : (i : ℕ) → i < s.alloc → store_words (wrapper_header ∷ w ∷ part ∷ []) s.alloc s.memory i ≡ s.memory i
     below i lt = bytes_below (wrapper_header ∷ w ∷ part ∷ []) s.alloc s.memory i lt
@@ -444,15 +442,15 @@ module _ (setting : Setting) (l : Layout) (procs : List Proc) (casts : List Type
   box_wrapped content part cast is little (RunTuple values) w c = refl
   box_wrapped content part cast is little (RunLoc cell true) w c = refl
   box_wrapped content part cast is little (RunLoc cell false) w c =
-      wrapped (RunLoc cell false) w c cast part is little
+      wrapped (RunLoc cell false) w c cast part is little _ c.2
       (λ os over at h i. wrapped_first l os setting procs places cell cast over at h i)
-  box_wrapped content part cast is little (RunInject v kept) w c = refl
+  box_wrapped content part cast is little (RunInject v keeps) w c = refl
   box_wrapped content part cast is little (RunWrap v old) w c = by (nat_eq old.to cast.from)
     where
       by : (b : Bool)
           → Comes_to (if b then Wrapping cast else NoCast) (RunWrap v old) (begun w (1 + 2 * part))
       by true =
-          wrapped (RunWrap v old) w c cast part is little
+          wrapped (RunWrap v old) w c cast part is little _ (peeled l objects setting procs places v old w c).2.there
           (λ os over at h i. wrapped_more l os setting procs places v old cast over at h i)
       by false = refl
 

@@ -1,11 +1,11 @@
 -- The procedures take what they are handed, and are closed in each program in which they stand.
-use Rattle.std.proofs.Common.{◌≡◌, ℕ, suc, ◌+◌, true, List, [], ◌∷◌, Some, refl, ap, ◌∙◌, arith, slice_get}
+use Rattle.std.proofs.Common.{◌≡◌, ℕ, suc, ◌+◌, true, List, Some, refl, ap, ◌∙◌, arith, slice_get}
 use Rattle.std.proofs.lemmas.Bool.{and_from}
 use Rattle.low_ir.specs.Procedures.{Proc}
 use Rattle.low_ir.specs.Closed.{proc_closed, each_closed}
 use Rattle.rt_refs.specs.FillCodes.{fill_loop, fill_proc}
 use Rattle.rt_refs.specs.Products.{product_loop}
-use Rattle.rt_refs.specs.Quotients.{quotient_loop}
+use Rattle.rt_refs.specs.Quotients.{arithmetic_procs, quotient_loop}
 use Rattle.lower.specs.Serving.{takes, Serve}
 use Rattle.lower.specs.Sets.{StandFrom, ServesAnywhere}
 use Rattle.piled_scheme.specs.Codes.{read_proc, write_proc, unbox_proc, set_proc, piled_procs}
@@ -14,52 +14,53 @@ use Rattle.piled_scheme.specs.Codes.{piled_numbers}
 module _ (procs : List Proc) (first : ℕ) (s : StandFrom procs first (piled_procs first)) where
   piled_serves : Serve (piled_numbers first) procs
   piled_serves = record {
-    cast = ap (takes 2) (s 4 _ refl);
-    project = ap (takes 4) (s 5 _ refl);
-    apply = ap (takes 8) (s 6 _ refl);
-    read = ap (takes 3) (s 7 _ refl);
-    write = ap (takes 4) (s 8 _ refl);
-    fill = ap (takes 2) (s 9 _ refl);
-    multiply = ap (takes 2) (s 2 _ refl);
-    divide = ap (takes 3) (s 3 _ refl);
+    cast = (let z : first ≡ 0 + first = omega arith in ap (λ n. takes 2 (slice_get procs n)) z ∙ ap (takes 2) (s 0 _
+        refl));
+    project = ap (takes 4) (s 1 _ refl);
+    apply = ap (takes 8) (s 2 _ refl);
+    read = ap (takes 3) (s 3 _ refl);
+    write = ap (takes 4) (s 4 _ refl);
+    fill = ap (takes 2) (s 5 _ refl);
+    multiply = ap (takes 2) (s 11 _ refl);
+    divide = ap (takes 3) (s 12 _ refl);
   }
 
-  product_there : slice_get procs first ≡ Some (product_loop first)
-  product_there = let z : first ≡ 0 + first = omega arith in ap (slice_get procs) z ∙ s 0 (product_loop first) refl
-
-  quotient_there : slice_get procs (suc first) ≡ Some (quotient_loop (suc first))
+  quotient_there : slice_get procs (suc (9 + first)) ≡ Some (quotient_loop (suc (9 + first)))
   quotient_there =
-      let z : suc first ≡ 1 + first = omega arith in ap (slice_get procs) z ∙ s 1 (quotient_loop (suc first)) refl
+      let z : suc (9 + first) ≡ 10 + first = omega arith in
+      ap (slice_get procs) z ∙ s 10 (quotient_loop (suc (9 + first))) refl
 
-  read_closed : proc_closed procs (read_proc (11 + first)) ≡ true
-  read_closed = rw (s 11 _ refl) refl
+  read_closed : proc_closed procs (read_proc (7 + first)) ≡ true
+  read_closed = rw (s 7 _ refl) refl
 
-  write_closed : proc_closed procs (write_proc (12 + first)) ≡ true
-  write_closed = rw (s 12 _ refl) refl
+  write_closed : proc_closed procs (write_proc (8 + first)) ≡ true
+  write_closed = rw (s 8 _ refl) refl
 
-  fill_closed : proc_closed procs (fill_proc (10 + first)) ≡ true
-  fill_closed = rw (s 10 _ refl) refl
+  fill_closed : proc_closed procs (fill_proc (6 + first)) ≡ true
+  fill_closed = rw (s 6 _ refl) refl
 
-  loop_closed : proc_closed procs (fill_loop (10 + first)) ≡ true
-  loop_closed = rw (s 10 _ refl) refl
+  loop_closed : proc_closed procs (fill_loop (6 + first)) ≡ true
+  loop_closed = rw (s 6 _ refl) refl
 
-  unbox_closed : proc_closed procs (unbox_proc (11 + first)) ≡ true
-  unbox_closed = rw (s 11 _ refl) refl
+  unbox_closed : proc_closed procs (unbox_proc (7 + first)) ≡ true
+  unbox_closed = rw (s 7 _ refl) refl
 
-  set_closed : proc_closed procs (set_proc (12 + first)) ≡ true
-  set_closed = rw (s 12 _ refl) refl
+  set_closed : proc_closed procs (set_proc (8 + first)) ≡ true
+  set_closed = rw (s 8 _ refl) refl
 
-  others_closed : each_closed procs (read_proc (11 + first) ∷ write_proc (12 + first) ∷ fill_proc (10 + first)
-      ∷ fill_loop (10 + first) ∷ unbox_proc (11 + first) ∷ set_proc (12 + first) ∷ []) ≡ true
-  others_closed =
-      and_from _ _ read_closed (and_from _ _ write_closed (and_from _ _ fill_closed (and_from _ _ loop_closed
-      (and_from _ _ unbox_closed (and_from _ _ set_closed refl)))))
+  products_closed : each_closed procs (arithmetic_procs (9 + first)) ≡ true
+  products_closed = rw (s 9 (product_loop (9 + first)) refl, quotient_there) refl
 
   piled_closed : each_closed procs (piled_procs first) ≡ true
-  piled_closed = rw (product_there, quotient_there) others_closed
+  piled_closed =
+      and_from _ _ refl (and_from _ _ refl (and_from _ _ refl (and_from _ _ read_closed (and_from _ _ write_closed
+      (and_from _ _ fill_closed (and_from _ _ loop_closed (and_from _ _ unbox_closed (and_from _ _ set_closed
+      products_closed))))))))
 
 pub piled_serves_anywhere : (first : ℕ) → ServesAnywhere (piled_procs first) first (piled_numbers first)
 piled_serves_anywhere first = record {
   serve = λ procs s. piled_serves procs first s;
   closed = λ procs s. piled_closed procs first s;
+  multiply_last = omega arith;
+  divide_last = omega arith;
 }

@@ -1,21 +1,13 @@
 -- The laws of the meaning: wrappers stay as objects are added, are told from other objects, and are counted.
-use Rattle.std.proofs.Common.{◌≡◌, inr, ℕ, ◌+◌, Bool, true, false, List, [], ◌∷◌, ◌++◌, Some, refl}
-use Rattle.std.proofs.Common.{ap, ◌∙◌, arith, le_refl, subst, ◌<◌}
-use Rattle.std.specs.Prelude.{if◌then◌else◌, ◌==◌}
-use Rattle.object_layout.specs.declared.kinds.Kind.{Kind}
-use Rattle.object_layout.specs.declared.kinds.Kind.TheVariants.{Closure, Proxy, Dyn, Tuple, Boxed, Vector, Fail, Fun}
-use Rattle.object_layout.specs.declared.kinds.Kind.TheVariants.{Tup, Ref, Vec, Inject, Project, IntType, BoolType}
-use Rattle.object_layout.specs.declared.kinds.Kind.TheVariants.{UnitType, DynType, FunType, TupleType, RefType, VecType}
-use Rattle.object_layout.specs.Kinds.{kind_number}
+use Rattle.std.proofs.Common.{◌≡◌, inl, inr, ℕ, suc, ◌+◌, List, [], ◌∷◌, ◌++◌, Some, refl, sym, subst, arith, le_refl}
+use Rattle.std.proofs.Common.{append-nil, append_assoc}
 use Rattle.coercion_norm.specs.Modes.{TypeCast}
 use Rattle.coercion_norm.specs.Objects.{Object}
 use Rattle.coercion_norm.specs.Held.{Layout, There}
-use Rattle.coercion_norm.specs.ObjectsOfRows.{header}
 use Rattle.coer_core.specs.Tally.{kind_budget}
-use Rattle.lower.specs.Meanings.{MeaningLaws, IsWrapper}
+use Rattle.lower.specs.Meanings.{MeaningLaws, IsOwn, IsWrapper}
 use Rattle.lower.proofs.Public.{there_later}
-use Rattle.piled_scheme.specs.Piling.{Pile, IsWrapped, piled_wraps, piled_meaning, wrappers, is_wrapper, wrapper_header}
-use Rattle.piled_scheme.specs.Piling.{wrapper_object}
+use Rattle.piled_scheme.specs.Piling.{Pile, IsWrapped, AreStacked, piled_wraps, piled_meaning, wrapper_object}
 
 -- ---- wrappers stay
 
@@ -55,55 +47,58 @@ wrapper l objects (cast ∷ casts) target w h = last_wrapper l objects cast cast
 
 -- ---- wrappers are counted
 
-abbrev one_or_none : Bool → ℕ
-one_or_none b = if b then 1 else 0
+pub stacked_more : (l : Layout) (before objects : List Object) (number : ℕ) (o : Object) → IsOwn o
+    → AreStacked l before objects number → AreStacked l before (objects ++ o ∷ []) number
+stacked_more l before [] number o own h = inl (own, h)
+stacked_more l before (x ∷ objects) number o own (inl h) =
+    inl (h.0, stacked_more l (before ++ x ∷ []) objects number o own h.1)
+stacked_more l before (x ∷ objects) number o own (inr h) =
+    inr (
+      h.0,
+      h.1,
+      h.2,
+      h.3,
+      h.4,
+      h.5,
+      h.6,
+      stacked_more l (before ++ x ∷ []) objects h.3 o own h.7,
+    )
 
-pub wrappers_more : (objects : List Object) (o : Object)
-    → wrappers (objects ++ o ∷ []) ≡ wrappers objects + (if is_wrapper o then 1 else 0)
-wrappers_more [] o = omega arith
-wrappers_more (x ∷ objects) o =
-    let z = wrappers_more objects o in omega (arith, z)
-
--- no other header is that of a wrapper
-below_wrappers : (kind : Kind) → kind_number kind < 25
-below_wrappers Closure = omega arith
-below_wrappers Proxy = omega arith
-below_wrappers Dyn = omega arith
-below_wrappers Tuple = omega arith
-below_wrappers Boxed = omega arith
-below_wrappers Vector = omega arith
-below_wrappers Fail = omega arith
-below_wrappers Fun = omega arith
-below_wrappers Tup = omega arith
-below_wrappers Ref = omega arith
-below_wrappers Vec = omega arith
-below_wrappers Inject = omega arith
-below_wrappers Project = omega arith
-below_wrappers IntType = omega arith
-below_wrappers BoolType = omega arith
-below_wrappers UnitType = omega arith
-below_wrappers DynType = omega arith
-below_wrappers FunType = omega arith
-below_wrappers TupleType = omega arith
-below_wrappers RefType = omega arith
-below_wrappers VecType = omega arith
-
-pub other_header : (kind : Kind) (count : ℕ) → (header (kind_number kind) 0 count == wrapper_header) ≡ false
-other_header kind count = by (header (kind_number kind) 0 count == wrapper_header) refl
-  where
-    by : (b : Bool) → (header (kind_number kind) 0 count == wrapper_header) ≡ b
-        → (header (kind_number kind) 0 count == wrapper_header) ≡ false
-    by false e = e
-    by true e =
-        let same : header (kind_number kind) 0 count ≡ wrapper_header = grind (arith, e) in
-        let few = below_wrappers kind in
-        absurd (omega (arith, same, few))
-
-pub keeps_more : (objects : List Object) (number : ℕ) (o : Object) → is_wrapper o ≡ false
-    → wrappers objects ≡ number → wrappers (objects ++ o ∷ []) ≡ number
-keeps_more objects number o none keeps =
-    let z : (if is_wrapper o then 1 else 0) ≡ 0 = ap one_or_none none in
-    let y = wrappers_more objects o in omega (arith, y, z, keeps)
+-- one wrapper more, over an object that stands there
+pub wrapper_more : (l : Layout) (before objects : List Object) (number inner part : ℕ) (under : Object)
+    → There l (before ++ objects) inner under → AreStacked l before objects number
+    → AreStacked l before (objects ++ wrapper_object inner part ∷ []) (number + 1)
+wrapper_more l before [] number inner part under there h =
+    let next : number + 1 ≡ suc 0 = omega (arith, h) in
+    inr (
+      inner,
+      part,
+      under,
+      0,
+      refl,
+      subst (λ os. There l os inner under) (append-nil before) there,
+      next,
+      refl,
+    )
+wrapper_more l before (x ∷ objects) number inner part under there (inl h) =
+    inl (
+      h.0,
+      wrapper_more l (before ++ x ∷ []) objects number inner part under
+          (subst (λ os. There l os inner under) (sym (append_assoc before (x ∷ []) objects)) there) h.1,
+    )
+wrapper_more l before (x ∷ objects) number inner part under there (inr h) =
+    let next : number + 1 ≡ suc (h.3 + 1) = let z = h.6 in omega (arith, z) in
+    inr (
+      h.0,
+      h.1,
+      h.2,
+      h.3 + 1,
+      h.4,
+      h.5,
+      next,
+      wrapper_more l (before ++ x ∷ []) objects h.3 inner part under
+          (subst (λ os. There l os inner under) (sym (append_assoc before (x ∷ []) objects)) there) h.7,
+    )
 
 pub piled_laws : MeaningLaws piled_meaning
 piled_laws = record {
@@ -112,9 +107,7 @@ piled_laws = record {
   resumes_elsewhere = λ setting l objects waiting casts h. absurd h;
   wrapper = wrapper;
   begins = λ l. refl;
-  keeps_more = λ l objects number o own keeps.
-      keeps_more objects number o
-      (ap (λ h. h == wrapper_header) own.head ∙ other_header own.kind own.count) keeps;
+  keeps_more = λ l objects number o own keeps. stacked_more l [] objects number o own keeps;
   budgets = λ types casts m kind made functions. le_refl (kind_budget m (Some kind) functions);
   makes = λ types casts m made functions. le_refl made;
   boxes = λ types casts m. omega arith;

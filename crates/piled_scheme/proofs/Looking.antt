@@ -31,7 +31,7 @@ module _ (setting : Setting) (l : Layout) (procs : List Proc) (casts : List Type
   abbrev pub inside : List Code → Locals → Code → LowState
   inside rests locals code = at s.world (heap_of s) s.waiting 6 rests locals code
 
-  -- told the state in which the turn begins, what it asks for and how much is to be left, the numbers of wrap steps,
+  -- told the state in which the turn begins, what it asks for, how much is to be left, the numbers of wrap steps,
   -- and where the turn ends
   module _ (t : LowState) (asks need n n' : ℕ) (X : ℕ → LowState → Type 0) (same : t.words ≡ s.words)
       (filled : Filled piled_meaning setting l n objects (heap_of s)) where

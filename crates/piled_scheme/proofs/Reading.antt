@@ -94,7 +94,7 @@ module _ (setting : Setting) (l : Layout) (procs : List Proc) (casts : List Type
       inside (Done ∷ Done ∷ []) (set_local 3 label (set_local 3 (suc label) (set_local 2 5 (set_local 2 (header 5 0 1)
       (words_at a (suc label)))))) (blame_code (Word 3))
 
-  -- told the state in which the turn begins, what it asks for and how much is to be left, the numbers of wrap steps,
+  -- told the state in which the turn begins, what it asks for, how much is to be left, the numbers of wrap steps,
   -- and where the turn ends
   module _ (t : LowState) (asks need n n' : ℕ) (X : ℕ → LowState → Type 0) (same : t.words ≡ s.words)
       (filled : FilledAt setting l procs casts m s places objects store n s) where

@@ -60,21 +60,20 @@ piled_lets l casts m = record {
 module _ (setting : Setting) (l : Layout) (procs : List Proc) (casts : List TypeCast) (m : Measures) (first : ℕ)
     (words : List ℕ) (placed : Placed setting l) (begins : l.region ≡ setting.region) (narrow : setting.top < 2 ^ 34)
     (held : ArePiled l casts words) (stand : StandFrom setting.procs first (piled_procs first)) where
-  product_stands : slice_get setting.procs first ≡ Some (product_loop first)
-  product_stands =
-      let z : first ≡ 0 + first = omega arith in ap (slice_get setting.procs) z ∙ stand 0 (product_loop first) refl
+  cast_stands : slice_get setting.procs first ≡ Some cast_proc
+  cast_stands = let z : first ≡ 0 + first = omega arith in ap (slice_get setting.procs) z ∙ stand 0 cast_proc refl
 
-  quotient_stands : slice_get setting.procs (suc first) ≡ Some (quotient_loop (suc first))
+  quotient_stands : slice_get setting.procs (suc (9 + first)) ≡ Some (quotient_loop (suc (9 + first)))
   quotient_stands =
-      let z : suc first ≡ 1 + first = omega arith in
-      ap (slice_get setting.procs) z ∙ stand 1 (quotient_loop (suc first)) refl
+      let z : suc (9 + first) ≡ 10 + first = omega arith in
+      ap (slice_get setting.procs) z ∙ stand 10 (quotient_loop (suc (9 + first))) refl
 
   casting : CastsMade piled_meaning setting l procs casts m (with_casts (piled_numbers first) words
       (cast_ways l.types casts))
   casting = record {
     proc = cast_proc;
     stands = record {
-      there = stand 4 cast_proc refl;
+      there = cast_stands;
       takes = refl;
       few = omega arith;
       room = omega arith;
@@ -93,7 +92,7 @@ module _ (setting : Setting) (l : Layout) (procs : List Proc) (casts : List Type
   parts = record {
     proc = idle_proc 4;
     stands = record {
-      there = stand 5 (idle_proc 4) refl;
+      there = stand 1 (idle_proc 4) refl;
       takes = refl;
       few = omega arith;
       room = omega arith;
@@ -136,13 +135,13 @@ module _ (setting : Setting) (l : Layout) (procs : List Proc) (casts : List Type
       Answers piled_meaning setting l procs casts m s operator_leaves places objects base x cost number 0 te
 
   unboxes : OperatorDone piled_meaning setting l procs casts m (with_casts (piled_numbers first) words
-      (cast_ways l.types casts)) Unbox (read_proc (11 + first)) (λ ws. 0 ∷ at_or_zero ws 0 ∷ 0 ∷ [])
+      (cast_ways l.types casts)) Unbox (read_proc (7 + first)) (λ ws. 0 ∷ at_or_zero ws 0 ∷ 0 ∷ [])
   unboxes = record {
     does = λ s number places objects store here base vs ws c handed.
         subst (λ xs. Done s number places objects base
         (flat_operate procs (piling l.types casts) store s.world Unbox xs base)
         (operator_cost procs (piling l.types casts) (piled_prices (piling l.types casts) m) Unbox xs)
-        (entered s (read_proc (11 + first)) (0 ∷ at_or_zero ws 0 ∷ 0 ∷ []))) (sym handed.3)
+        (entered s (read_proc (7 + first)) (0 ∷ at_or_zero ws 0 ∷ 0 ∷ []))) (sym handed.3)
         (of_wrapped s number places objects store here base handed.0 handed.1 handed.2 ws
         (subst (λ xs. AreCarried l setting.address procs piled_meaning places objects (in_row xs) ws) handed.3 c));
   }
@@ -155,23 +154,23 @@ module _ (setting : Setting) (l : Layout) (procs : List Proc) (casts : List Type
           → Done s number places objects base
           (flat_operate procs (piling l.types casts) store s.world Unbox (RunWrap v cast ∷ rest) base)
           (operator_cost procs (piling l.types casts) (piled_prices (piling l.types casts) m) Unbox
-          (RunWrap v cast ∷ rest)) (entered s (read_proc (11 + first)) (0 ∷ at_or_zero ws 0 ∷ 0 ∷ []))
+          (RunWrap v cast ∷ rest)) (entered s (read_proc (7 + first)) (0 ∷ at_or_zero ws 0 ∷ 0 ∷ []))
       of_wrapped s number places objects store here base v cast (x ∷ rest) ws c = (0, refl)
       of_wrapped s number places objects store here base v cast [] [] c = absurd c
       of_wrapped s number places objects store here base v cast [] (w ∷ x ∷ ws) c = absurd c.1
       of_wrapped s number places objects store here base v cast [] (w ∷ []) c =
-          let r = wrapped_box_read setting l procs casts m placed (11 + first) (stand 11 _ refl) s places objects store
+          let r = wrapped_box_read setting l procs casts m placed (7 + first) (stand 7 _ refl) s places objects store
           here.cells base v cast w c.0 in
           (r.0, r.1 number here.filled)
 
   sets : OperatorDone piled_meaning setting l procs casts m (with_casts (piled_numbers first) words
-      (cast_ways l.types casts)) BoxSet (write_proc (12 + first)) (λ ws. 0 ∷ at_or_zero ws 0 ∷ 0 ∷ at_or_zero ws 1 ∷ [])
+      (cast_ways l.types casts)) BoxSet (write_proc (8 + first)) (λ ws. 0 ∷ at_or_zero ws 0 ∷ 0 ∷ at_or_zero ws 1 ∷ [])
   sets = record {
     does = λ s number places objects store here base vs ws c handed.
         subst (λ xs. Done s number places objects base
         (flat_operate procs (piling l.types casts) store s.world BoxSet xs base)
         (operator_cost procs (piling l.types casts) (piled_prices (piling l.types casts) m) BoxSet xs)
-        (entered s (write_proc (12 + first)) (0 ∷ at_or_zero ws 0 ∷ 0 ∷ at_or_zero ws 1 ∷ []))) (sym handed.3)
+        (entered s (write_proc (8 + first)) (0 ∷ at_or_zero ws 0 ∷ 0 ∷ at_or_zero ws 1 ∷ []))) (sym handed.3)
         (of_wrapped s number places objects store here base handed.0 handed.1 handed.2 ws
         (subst (λ xs. AreCarried l setting.address procs piled_meaning places objects (in_row xs) ws) handed.3 c));
   }
@@ -185,23 +184,23 @@ module _ (setting : Setting) (l : Layout) (procs : List Proc) (casts : List Type
           (flat_operate procs (piling l.types casts) store s.world BoxSet (RunWrap v cast ∷ rest) base)
           (operator_cost procs (piling l.types casts) (piled_prices (piling l.types casts) m) BoxSet
           (RunWrap v cast ∷ rest))
-          (entered s (write_proc (12 + first)) (0 ∷ at_or_zero ws 0 ∷ 0 ∷ at_or_zero ws 1 ∷ []))
+          (entered s (write_proc (8 + first)) (0 ∷ at_or_zero ws 0 ∷ 0 ∷ at_or_zero ws 1 ∷ []))
       of_wrapped s number places objects store here base v cast [] ws c = (0, refl)
       of_wrapped s number places objects store here base v cast (x ∷ y ∷ rest) ws c = (0, refl)
       of_wrapped s number places objects store here base v cast (x ∷ []) [] c = absurd c
       of_wrapped s number places objects store here base v cast (x ∷ []) (w ∷ []) c = absurd c.1
       of_wrapped s number places objects store here base v cast (x ∷ []) (w ∷ wx ∷ y ∷ ws) c = absurd c.1.1
       of_wrapped s number places objects store here base v cast (x ∷ []) (w ∷ wx ∷ []) c =
-          let r = wrapped_box_set setting l procs casts m placed begins (12 + first) (stand 12 _ refl) s places objects
+          let r = wrapped_box_set setting l procs casts m placed begins (8 + first) (stand 8 _ refl) s places objects
           store here.cells base x wx c.1.0 v cast w c.0 in
           (r.0, r.1 number here.filled)
 
   cells : CellsServed piled_meaning setting l procs casts m (with_casts (piled_numbers first) words
       (cast_ways l.types casts))
   cells = record {
-    read = read_proc (11 + first);
+    read = read_proc (7 + first);
     read_stands = record {
-      there = stand 7 _ refl;
+      there = stand 3 _ refl;
       takes = refl;
       few = omega arith;
       room = omega arith;
@@ -210,17 +209,17 @@ module _ (setting : Setting) (l : Layout) (procs : List Proc) (casts : List Type
     unboxes = unboxes;
     reads = record {
       does = λ s number places objects store here base vs ws c handed.
-          reads_for setting l procs casts m placed begins s places objects store here.cells base (11 + first) vs ws c
+          reads_for setting l procs casts m placed begins s places objects store here.cells base (7 + first) vs ws c
           number here.filled;
     };
     measures = record {
       does = λ s number places objects store here base vs ws c handed.
-          measures_for setting l procs casts m placed begins s places objects store here.cells base (11 + first) vs ws c
+          measures_for setting l procs casts m placed begins s places objects store here.cells base (7 + first) vs ws c
           number here.filled;
     };
-    write = write_proc (12 + first);
+    write = write_proc (8 + first);
     write_stands = record {
-      there = stand 8 _ refl;
+      there = stand 4 _ refl;
       takes = refl;
       few = omega arith;
       room = omega arith;
@@ -229,19 +228,19 @@ module _ (setting : Setting) (l : Layout) (procs : List Proc) (casts : List Type
     sets = sets;
     writes = record {
       does = λ s number places objects store here base vs ws c handed.
-          writes_for setting l procs casts m placed begins s places objects store here.cells base (12 + first) vs ws c
+          writes_for setting l procs casts m placed begins s places objects store here.cells base (8 + first) vs ws c
           number here.filled;
     };
-    fill = fill_proc (10 + first);
+    fill = fill_proc (6 + first);
     fill_stands = record {
-      there = stand 9 _ refl;
+      there = stand 5 _ refl;
       takes = refl;
       few = omega arith;
       room = omega arith;
       small = omega arith;
     };
     fills = vectors_are_served piled_meaning piled_laws setting l procs casts m (piled_lets l casts m) placed begins
-        narrow (10 + first) (stand 10 _ refl) (with_casts (piled_numbers first) words (cast_ways l.types casts));
+        narrow (6 + first) (stand 6 _ refl) (with_casts (piled_numbers first) words (cast_ways l.types casts));
   }
 
   calling : CallsMade piled_meaning setting l procs casts m (with_casts (piled_numbers first) words
@@ -249,7 +248,7 @@ module _ (setting : Setting) (l : Layout) (procs : List Proc) (casts : List Type
   calling = record {
     proc = idle_proc 8;
     stands = record {
-      there = stand 6 (idle_proc 8) refl;
+      there = stand 2 (idle_proc 8) refl;
       takes = refl;
       few = omega arith;
       room = omega arith;
@@ -272,9 +271,9 @@ pub piled_procedures_serve : ServesEverywhere piled_meaning piled_procs piled_nu
 piled_procedures_serve = λ setting l procs casts m first words measured placed begins small types held stand.
     record {
       products = products_are_served setting (with_casts (piled_numbers first) words (cast_ways l.types casts))
-          first (suc first) (product_stands setting l procs casts m first words placed begins small held stand)
+          (9 + first) (suc (9 + first)) (stand 9 (product_loop (9 + first)) refl)
           (quotient_stands setting l procs casts m first words placed begins small held stand)
-          (stand 2 (multiply first) refl) (stand 3 (divide (suc first)) refl);
+          (stand 11 (multiply (9 + first)) refl) (stand 12 (divide (suc (9 + first))) refl);
       casting = casting setting l procs casts m first words placed begins small held stand;
       words = λ row cast e.
           let p = held.0 row cast e in

@@ -67,7 +67,7 @@ module _ (setting : Setting) (l : Layout) (procs : List Proc) (casts : List Type
     least = λ left u q. omega arith;
   }
 
-  -- so much is enough for the walk
+  -- a walk at no more than a price, which the credit covers with what is to be left
   pub walks_by : (t : LowState) (asks credit price need n n' : ℕ) (X : ℕ → LowState → Type 0)
       → By setting (Way t asks n n') (goal t asks need X).holds 0 price t → price + need ≤ credit
       → Walks piled_meaning setting l procs casts m s asks credit n n' X t
@@ -83,7 +83,7 @@ module _ (setting : Setting) (l : Layout) (procs : List Proc) (casts : List Type
             (λ left u q. (q.0, q.1, q.2 (credit - c.price) (omega (arith, w, le)))) c,
       )
 
-  -- what is left to pay of the procedure is
+  -- the same where the price is what is left to pay of the procedure
   pub walks : (t : LowState) (asks credit need n n' : ℕ) (X : ℕ → LowState → Type 0)
       → Comes setting (Way t asks n n') (goal t asks need X) t → left_of setting t + need ≤ credit
       → Walks piled_meaning setting l procs casts m s asks credit n n' X t

@@ -1,5 +1,5 @@
 -- The procedures of the scheme in which casts of boxes pile up. They are numbered without gaps.
-use Rattle.std.specs.Prelude.{ℕ, ◌+◌, List, [], ◌∷◌, ◌++◌}
+use Rattle.std.specs.Prelude.{ℕ, ◌+◌, List, [], ◌∷◌}
 use Rattle.grift_base.specs.declared.verdicts.Trap.TheVariants.{Index}
 use Rattle.rv_isa.specs.declared.inst.Cond.TheVariants.{Eq, Ltu}
 use Rattle.low_ir.specs.declared.code.LowSource.TheVariants.{Word, Number}
@@ -18,7 +18,8 @@ use Rattle.piled_scheme.specs.Piling.{wrapper_kind, wrapper_header}
 abbrev pub blame_part : Code
 blame_part = Compute Sub 3 (Word 3) (Number 1) (blame_code (Word 3))
 
--- takes a word, and that of a cast: whether it wraps, and what is done else
+-- Takes a word, and that of a cast, whose lowest bit says whether it wraps. What stands above that is what is done with
+-- the value, or what its wrapper does with what is read and written.
 abbrev pub cast_code : Code
 cast_code =
     Compute And 2 (Word 1) (Number 1) (
@@ -66,8 +67,8 @@ module _ (own : ℕ) where
   abbrev pub set_proc : Proc
   set_proc = proc 2 6 set_code
 
--- Word 4 becomes how many elements the vector in word 1 has. Where the index in word 2 is one of them it becomes eight
--- bytes below the element's address.
+-- Word 4 becomes how many elements the vector in word 1 has. Where word 2 is the index of one of them, word 2 becomes
+-- eight bytes below that element's address; any other index traps.
 abbrev pub in_vector : Code → Code
 in_vector rest =
     Load 4 (Word 1) 0 (
@@ -91,23 +92,23 @@ write_proc set =
     either Eq (Word 0) (Number asks_box) (TailCall set (Word 1 ∷ Word 3 ∷ []))
     (in_vector (Store (Word 3) (Word 2) 8 (Return (Number 0)))))
 
--- products and quotients, the other procedures that code calls, the loop that makes vectors, and those that go through
--- wrappers
+-- casts, parts, calls, reads, writes and vectors, the loop that makes these, the two that go through wrappers, and
+-- products and quotients
 abbrev pub piled_procs : ℕ → List Proc
 piled_procs first =
-    arithmetic_procs first ++ cast_proc ∷ idle_proc 4 ∷ idle_proc 8 ∷ read_proc (11 + first) ∷ write_proc (12 + first)
-    ∷ fill_proc (10 + first) ∷ fill_loop (10 + first) ∷ unbox_proc (11 + first) ∷ set_proc (12 + first) ∷ []
+    cast_proc ∷ idle_proc 4 ∷ idle_proc 8 ∷ read_proc (7 + first) ∷ write_proc (8 + first) ∷ fill_proc (6 + first)
+    ∷ fill_loop (6 + first) ∷ unbox_proc (7 + first) ∷ set_proc (8 + first) ∷ arithmetic_procs (9 + first)
 
 abbrev pub piled_numbers : ℕ → Served
 piled_numbers first = record {
-  multiply = 2 + first;
-  divide = 3 + first;
-  cast = 4 + first;
-  project = 5 + first;
-  apply = 6 + first;
-  read = 7 + first;
-  write = 8 + first;
-  fill = 9 + first;
+  cast = first;
+  project = 1 + first;
+  apply = 2 + first;
+  read = 3 + first;
+  write = 4 + first;
+  fill = 5 + first;
+  multiply = 11 + first;
+  divide = 12 + first;
   cast_at = [];
   ways = [];
 }

@@ -1,17 +1,17 @@
 -- A scheme in which casts pile up: each cast of a box makes an object of three words over what it wraps. It knows casts
 -- between Int, Bool, Unit and boxes of these; of such types each part is kept as it is or blamed.
-use Rattle.std.specs.Prelude.{◌≡◌, ℕ, suc, ◌+◌, ◌*◌, ◌<◌, ◌^◌, true, false, Bool, if◌then◌else◌, ◌==◌}
-use Rattle.std.specs.Prelude.{List, [], ◌∷◌, Some, slice_get, map, Option}
+use Rattle.std.specs.Prelude.{◌≡◌, ℕ, suc, ◌+◌, ◌*◌, ◌<◌, ◌^◌, true, false, Bool, if◌then◌else◌}
+use Rattle.std.specs.Prelude.{◌⊎◌, List, [], ◌∷◌, ◌++◌, Some, slice_get, map, Option}
 use Rattle.grift_base.specs.Types.{TypeRow, TypeRows, RefRow}
 use Rattle.grift_base.specs.Types.{row_at, same_head, is_base}
 use Rattle.object_layout.specs.declared.kinds.Kind.TheVariants.{Boxed}
 use Rattle.object_layout.specs.Kinds.{kind_number}
 use Rattle.coercion_norm.specs.Modes.{TypeCast, piling}
-use Rattle.coercion_norm.specs.Objects.{Object, Fixed, Cell, header_of}
+use Rattle.coercion_norm.specs.Objects.{Object, Fixed, Cell}
 use Rattle.coercion_norm.specs.Held.{Layout, There}
 use Rattle.coercion_norm.specs.ObjectsOfRows.{header}
 use Rattle.flat_ir.specs.FlatTally.{piled_prices}
-use Rattle.lower.specs.Meanings.{Meaning}
+use Rattle.lower.specs.Meanings.{Meaning, IsOwn}
 
 -- ---- types and the words of casts
 
@@ -48,7 +48,7 @@ word_by types _ _ label = 0
 abbrev pub word_of : TypeRows → TypeCast → ℕ
 word_of types cast = word_by types (row_at types cast.from) (row_at types cast.to) cast.label
 
--- no label is above
+-- every label is below
 abbrev pub most_labels : ℕ
 most_labels = 2 ^ 32
 
@@ -117,13 +117,14 @@ abbrev pub piled_wraps : Layout → List Object → List TypeCast → ℕ → �
 piled_wraps l objects [] target w = ⊥
 piled_wraps l objects (cast ∷ casts) target w = IsBox l objects target × Pile l objects (cast ∷ casts) target w
 
-abbrev pub is_wrapper : Object → Bool
-is_wrapper o = header_of o == wrapper_header
-
--- how many of these objects are wrappers
-abbrev pub wrappers : List Object → ℕ
-wrappers [] = 0
-wrappers (o ∷ objects) = (if is_wrapper o then 1 else 0) + wrappers objects
+-- objects behind others, of which so many are wrappers, each over an object before it; the others are closures, tuples,
+-- boxes and vectors
+abbrev pub AreStacked : Layout → List Object → List Object → ℕ → Type 0
+AreStacked l before [] number = number ≡ 0
+AreStacked l before (o ∷ objects) number =
+    (IsOwn o × AreStacked l (before ++ o ∷ []) objects number)
+    ⊎ ((inner part : ℕ) × (under : Object) × (fewer : ℕ) × (o ≡ wrapper_object inner part)
+    × There l before inner under × (number ≡ suc fewer) × AreStacked l (before ++ o ∷ []) objects fewer)
 
 -- Casts are made one by one. There are as many wrappers as wrap steps were made. No value is in Dyn, and no function is
 -- wrapped, so nothing waits for what one gives.
@@ -135,7 +136,7 @@ piled_meaning = record {
   Wraps = λ l objects casts target w. piled_wraps l objects casts target w;
   MayKeep = λ l kept. ⊥;
   CastWords = λ l casts words. ArePiled l casts words;
-  Keeps = λ l objects number. wrappers objects ≡ number;
+  Keeps = λ l objects number. AreStacked l [] objects number;
   Resumes = λ setting l objects waiting casts. ⊥;
   serving = λ l. 1;
 }

@@ -1,6 +1,6 @@
 // The procedures of the scheme.
 
-ghost use Rattle.std.specs.Prelude.{◌≡◌, ◌++◌, ◌∷◌, ◌<◌, ◌^◌, [], IfOk, OnOk};
+ghost use Rattle.std.specs.Prelude.{◌≡◌, ◌<◌, ◌^◌, IfOk};
 ghost use Rattle.grift_base.specs.declared.verdicts.Trap.TheVariants.{Index};
 ghost use Rattle.low_ir.specs.Procedures.{Return, Store};
 ghost use Rattle.low_ir.specs.declared.code.LowSource.TheVariants.{Number as NumberCase};
@@ -15,6 +15,7 @@ use grift_base::verdicts::Trap;
 use low_ir::code::LowSource::{Number, Word};
 use low_ir::code::{LowCode, LowSource, WordOp};
 use low_ir::programs::{LowProc, LowProcs};
+use lower::copies::push_copies;
 use rt_cast::codes::{blame, build, compute, either, load, set, tail_call};
 use rt_cast::words::{COUNT_BITS, COUNT_UNIT, KIND_MASK, WORD_SHIFT};
 use rt_refs::cells::{ASKS_BOX, ASKS_LENGTH};
@@ -182,28 +183,22 @@ fn write_proc(alloc: Global, set: u32) -> Result<LowProc, OutOfMemory>
     Ok(proc(4, 6, code))
 }
 
-// A procedure more, behind the others.
-fn add(procs: &mut LowProcs, proc: LowProc) -> Result<(), OutOfMemory>
-    ensures { OnOk result (procs_of procs.new ≡ procs_of procs.old ++ proc_of proc ∷ []) }
-{
-    procs.push(proc)?;
-    Ok(())
-}
-
 /// All procedures, numbered from `first` on.
 pub fn piled_procs(alloc: Global, first: u32) -> Result<LowProcs, OutOfMemory>
     requires { first < 2 ^ 31 }
     ensures { IfOk result (λ procs. procs_of procs ≡ piled_procs first) }
 {
-    let mut procs = arithmetic_procs(alloc, first)?;
-    add(&mut procs, cast_proc(alloc)?)?;
-    add(&mut procs, idle_proc(4))?;
-    add(&mut procs, idle_proc(8))?;
-    add(&mut procs, read_proc(alloc, 11 + first)?)?;
-    add(&mut procs, write_proc(alloc, 12 + first)?)?;
-    add(&mut procs, fill_proc(alloc, 10 + first)?)?;
-    add(&mut procs, fill_loop(alloc, 10 + first)?)?;
-    add(&mut procs, unbox_proc(alloc, 11 + first)?)?;
-    add(&mut procs, set_proc(alloc, 12 + first)?)?;
+    let mut procs = LowProcs::new(alloc);
+    procs.push(cast_proc(alloc)?)?;
+    procs.push(idle_proc(4))?;
+    procs.push(idle_proc(8))?;
+    procs.push(read_proc(alloc, 7 + first)?)?;
+    procs.push(write_proc(alloc, 8 + first)?)?;
+    procs.push(fill_proc(alloc, 6 + first)?)?;
+    procs.push(fill_loop(alloc, 6 + first)?)?;
+    procs.push(unbox_proc(alloc, 7 + first)?)?;
+    procs.push(set_proc(alloc, 8 + first)?)?;
+    let others = arithmetic_procs(alloc, 9 + first)?;
+    push_copies(alloc, &mut procs, others.as_slice())?;
     Ok(procs)
 }

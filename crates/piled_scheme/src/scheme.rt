@@ -42,14 +42,14 @@ impl Scheme for Piled {
     fn procs(&self, alloc: Global, first: u32) -> Result<ProcSet, OutOfMemory> {
         Ok(ProcSet {
             procs: piled_procs(alloc, first)?,
-            multiply: 2 + first,
-            divide: 3 + first,
-            cast: 4 + first,
-            project: 5 + first,
-            apply: 6 + first,
-            read: 7 + first,
-            write: 8 + first,
-            fill: 9 + first,
+            cast: first,
+            project: 1 + first,
+            apply: 2 + first,
+            read: 3 + first,
+            write: 4 + first,
+            fill: 5 + first,
+            multiply: 11 + first,
+            divide: 12 + first,
         })
     }
 

@@ -57,11 +57,12 @@ bytes_even [] = refl
 bytes_even (Fixed head ws ∷ os) = let z = bytes_even os in omega (arith, z)
 bytes_even (Cell head n ∷ os) = let z = bytes_even os in omega (arith, z)
 
--- what the account has to let a vector of so many elements ask for and spend, and a number below 0 spend
+-- the loop's frame has its room, and the account lets a vector of so many elements ask for its words and spend what the
+-- procedure costs with what is to be left, and a length below 0 spend what comes before the trap
 pub record LetsFill (meaning : Meaning) (l : Layout) (casts : List TypeCast) (m : Measures) : Type 0 where
   pub serving : 1 ≤ meaning.serving l
   pub asks : (n : ℕ) → n + 1 ≤ ((meaning.prices l.types casts m).other (Some (MakesVector n)) 0 0).asks
-  pub budget : (n : ℕ) → 61 * n + 684 ≤ ((meaning.prices l.types casts m).other (Some (MakesVector n)) 0 0).budget
+  pub budget : (n : ℕ) → 61 * n + 124 + operator_leaves ≤ ((meaning.prices l.types casts m).other (Some (MakesVector n)) 0 0).budget
   pub traps : 14 ≤ ((meaning.prices l.types casts m).other (Some Acts) 0 0).budget
 
 module _ (meaning : Meaning) (laws : MeaningLaws meaning) (setting : Setting) (l : Layout) (procs : List Proc)
@@ -213,7 +214,7 @@ module _ (meaning : Meaning) (laws : MeaningLaws meaning) (setting : Setting) (l
         enough : n + 1 ≤ asks
         enough = lets.asks n
 
-        paid : 61 * n + 684 ≤ (cost (RunInt (pos n) ∷ v ∷ [])).budget
+        paid : 61 * n + 124 + operator_leaves ≤ (cost (RunInt (pos n) ∷ v ∷ [])).budget
         paid = lets.budget n
 
         small : w < 2 ^ 64
