@@ -62,7 +62,8 @@ bytes_even (Cell head n ∷ os) = let z = bytes_even os in omega (arith, z)
 pub record LetsFill (meaning : Meaning) (l : Layout) (casts : List TypeCast) (m : Measures) : Type 0 where
   pub serving : 1 ≤ meaning.serving l
   pub asks : (n : ℕ) → n + 1 ≤ ((meaning.prices l.types casts m).other (Some (MakesVector n)) 0 0).asks
-  pub budget : (n : ℕ) → 61 * n + 124 + operator_leaves ≤ ((meaning.prices l.types casts m).other (Some (MakesVector n)) 0 0).budget
+  pub budget : (n : ℕ)
+      → 61 * n + 124 + operator_leaves ≤ ((meaning.prices l.types casts m).other (Some (MakesVector n)) 0 0).budget
   pub traps : 14 ≤ ((meaning.prices l.types casts m).other (Some Acts) 0 0).budget
 
 module _ (meaning : Meaning) (laws : MeaningLaws meaning) (setting : Setting) (l : Layout) (procs : List Proc)
@@ -123,8 +124,8 @@ module _ (meaning : Meaning) (laws : MeaningLaws meaning) (setting : Setting) (l
         cells =
             cells_append l setting.address procs meaning bigger (objects ++ vector ∷ []) 0 memory places store s.alloc
             (replicate n v)
-            (cells_grown l setting.address procs meaning laws places bigger (kept_in_front places (s.alloc ∷ [])) objects
-            (vector ∷ []) 0 memory places store
+            (cells_grown l setting.address procs meaning laws places bigger (kept_in_front places (s.alloc ∷ []))
+            objects (vector ∷ []) 0 memory places store
             (cells_below l setting.address procs meaning laws places objects setting placed (heap_of s) here.filled
             memory same places store here.cells))
             (cells_end l setting.address procs meaning places objects setting placed (heap_of s) here.filled 0 places
