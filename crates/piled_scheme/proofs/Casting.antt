@@ -19,7 +19,7 @@ use Rattle.low_ir.specs.Steps.{Locals, no_locals, set_local, store_words}
 use Rattle.low_ir.specs.Run.{Setting, LowState, bind}
 use Rattle.coercion_norm.specs.Coercions.{rows_of}
 use Rattle.coercion_norm.specs.Modes.{TypeCast, Shape, Decision, Keeping, Wrapping, Blaming, NoCast, piling}
-use Rattle.coercion_norm.specs.Modes.{decide, fits}
+use Rattle.coercion_norm.specs.Modes.{fits}
 use Rattle.coercion_norm.specs.RunValues.{RunInt, RunBool, RunUnit, RunFun, RunTuple, RunLoc, RunWrap, RunInject}
 use Rattle.coercion_norm.specs.RunValues.{shape_of}
 use Rattle.coercion_norm.specs.ValueSteps.{Return, decision_wraps}
@@ -42,7 +42,7 @@ use Rattle.lower.proofs.Public.{cells_below, at, Comes, Calm, Goal, left_of, her
 use Rattle.piled_scheme.specs.Codes.{cast_proc, blame_part}
 use Rattle.piled_scheme.specs.Piling.{IsKnown, PlainType, BoxType, IsPiled, IsBoxCast, IsWrapped, piled_meaning, fate}
 use Rattle.piled_scheme.specs.Piling.{word_between, word_of, wrapper_object, wrapper_header, most_labels, AreStacked}
-use Rattle.piled_scheme.proofs.Deciding.{kept_or_blamed}
+use Rattle.piled_scheme.proofs.Deciding.{by_heads, kept_or_blamed, known_not_dyn, solid_decides}
 use Rattle.piled_scheme.proofs.Laws.{piled_laws, wrapper_more}
 use Rattle.piled_scheme.proofs.Looking.{inside as inside_of, calm as calm_of, ends, blamed}
 use Rattle.piled_scheme.proofs.Piles.{Carried, peeled, wrapped_more, wrapped_first}
@@ -67,108 +67,55 @@ pub data Makes (types : TypeRows) (all : List TypeCast) (cast : TypeCast) (row o
       ≡ (if fits (RefRow content) cast shape then Wrapping cast else NoCast))
       → word_between types row other cast.label ≡ 1 + 2 * part → Makes types all cast row other
 
-module _ (types : TypeRows) (all : List TypeCast) (cast : TypeCast) where
-  -- decisions by rows, where the rows of the cast's types are these
-  by_rows : (row other : TypeRow) → row_at types cast.from ≡ Some row → row_at types cast.to ≡ Some other
-      → (d : Bool → Decision TypeCast)
-      → ((shape : Shape TypeCast) (b : Bool)
-      → (if b then decide row other cast shape else NoCast) ≡ d b)
-      → (shape : Shape TypeCast) → (piling types all).cast cast shape ≡ d (fits row cast shape)
-  by_rows row other e f d each shape = rw (e, f) (each shape (fits row cast shape))
+-- the word of a cast that doesn't wrap
+plain_word : (types : TypeRows) (row other : TypeRow) (label : ℕ) → is_base row ≡ true
+    → word_between types row other label ≡ 2 * fate row other label
+plain_word types IntRow other label h = refl
+plain_word types BoolRow other label h = refl
+plain_word types UnitRow other label h = refl
+plain_word types DynRow other label h = absurd (let z : ⊥ = cc in z)
+plain_word types (FunRow ps a) other label h = absurd (let z : ⊥ = cc in z)
+plain_word types (TupleRow ps) other label h = absurd (let z : ⊥ = cc in z)
+plain_word types (RefRow a) other label h = absurd (let z : ⊥ = cc in z)
+plain_word types (VectRow a) other label h = absurd (let z : ⊥ = cc in z)
 
+-- no box is of a plain type
+out_of_box : (types : TypeRows) (content : ℕ) (other : TypeRow) (label : ℕ) → is_base other ≡ true
+    → (same_head (RefRow content) other ≡ false)
+    × (word_between types (RefRow content) other label ≡ 2 * fate (RefRow content) other label)
+out_of_box types content IntRow label h = (refl, refl)
+out_of_box types content BoolRow label h = (refl, refl)
+out_of_box types content UnitRow label h = (refl, refl)
+out_of_box types content DynRow label h = absurd (let z : ⊥ = cc in z)
+out_of_box types content (FunRow ps a) label h = absurd (let z : ⊥ = cc in z)
+out_of_box types content (TupleRow ps) label h = absurd (let z : ⊥ = cc in z)
+out_of_box types content (RefRow a) label h = absurd (let z : ⊥ = cc in z)
+out_of_box types content (VectRow a) label h = absurd (let z : ⊥ = cc in z)
+
+module _ (types : TypeRows) (all : List TypeCast) (cast : TypeCast) where
   pub makes : (p : IsPiled types cast) → Makes types all cast p.row p.other
   makes p = by p.row p.other p.known p.known_other p.from_is p.to_is
     where
-      plain : (row other : TypeRow) → is_base row ≡ true → is_base other ≡ true
-          → row_at types cast.from ≡ Some row → row_at types cast.to ≡ Some other → Makes types all cast row other
-      plain IntRow IntRow h g e f =
-          NotWrapped (λ shape. by_rows IntRow IntRow e f (λ b. if b then Keeping else NoCast) (λ s b. refl) shape) refl
-      plain IntRow BoolRow h g e f =
-          NotWrapped (λ shape. by_rows IntRow BoolRow e f (λ b. if b then Blaming cast.label else NoCast) (λ s b. refl)
-          shape) refl
-      plain IntRow UnitRow h g e f =
-          NotWrapped (λ shape. by_rows IntRow UnitRow e f (λ b. if b then Blaming cast.label else NoCast) (λ s b. refl)
-          shape) refl
-      plain BoolRow IntRow h g e f =
-          NotWrapped (λ shape. by_rows BoolRow IntRow e f (λ b. if b then Blaming cast.label else NoCast) (λ s b. refl)
-          shape) refl
-      plain BoolRow BoolRow h g e f =
-          NotWrapped (λ shape. by_rows BoolRow BoolRow e f (λ b. if b then Keeping else NoCast) (λ s b. refl) shape)
-          refl
-      plain BoolRow UnitRow h g e f =
-          NotWrapped (λ shape. by_rows BoolRow UnitRow e f (λ b. if b then Blaming cast.label else NoCast) (λ s b. refl)
-          shape) refl
-      plain UnitRow IntRow h g e f =
-          NotWrapped (λ shape. by_rows UnitRow IntRow e f (λ b. if b then Blaming cast.label else NoCast) (λ s b. refl)
-          shape) refl
-      plain UnitRow BoolRow h g e f =
-          NotWrapped (λ shape. by_rows UnitRow BoolRow e f (λ b. if b then Blaming cast.label else NoCast) (λ s b. refl)
-          shape) refl
-      plain UnitRow UnitRow h g e f =
-          NotWrapped (λ shape. by_rows UnitRow UnitRow e f (λ b. if b then Keeping else NoCast) (λ s b. refl) shape)
-          refl
-      plain IntRow DynRow h g e f = absurd (let z : ⊥ = cc in z)
-      plain IntRow (FunRow ps a) h g e f = absurd (let z : ⊥ = cc in z)
-      plain IntRow (TupleRow ps) h g e f = absurd (let z : ⊥ = cc in z)
-      plain IntRow (RefRow a) h g e f = absurd (let z : ⊥ = cc in z)
-      plain IntRow (VectRow a) h g e f = absurd (let z : ⊥ = cc in z)
-      plain BoolRow DynRow h g e f = absurd (let z : ⊥ = cc in z)
-      plain BoolRow (FunRow ps a) h g e f = absurd (let z : ⊥ = cc in z)
-      plain BoolRow (TupleRow ps) h g e f = absurd (let z : ⊥ = cc in z)
-      plain BoolRow (RefRow a) h g e f = absurd (let z : ⊥ = cc in z)
-      plain BoolRow (VectRow a) h g e f = absurd (let z : ⊥ = cc in z)
-      plain UnitRow DynRow h g e f = absurd (let z : ⊥ = cc in z)
-      plain UnitRow (FunRow ps a) h g e f = absurd (let z : ⊥ = cc in z)
-      plain UnitRow (TupleRow ps) h g e f = absurd (let z : ⊥ = cc in z)
-      plain UnitRow (RefRow a) h g e f = absurd (let z : ⊥ = cc in z)
-      plain UnitRow (VectRow a) h g e f = absurd (let z : ⊥ = cc in z)
-      plain DynRow other h g e f = absurd (let z : ⊥ = cc in z)
-      plain (FunRow ps a) other h g e f = absurd (let z : ⊥ = cc in z)
-      plain (TupleRow ps) other h g e f = absurd (let z : ⊥ = cc in z)
-      plain (RefRow a) other h g e f = absurd (let z : ⊥ = cc in z)
-      plain (VectRow a) other h g e f = absurd (let z : ⊥ = cc in z)
-
-      -- into a box
-      into : (row : TypeRow) (wanted : ℕ) → is_base row ≡ true → row_at types cast.from ≡ Some row
-          → row_at types cast.to ≡ Some (RefRow wanted) → Makes types all cast row (RefRow wanted)
-      into IntRow wanted h e f =
-          NotWrapped (λ shape. by_rows IntRow (RefRow wanted) e f (λ b. if b then Blaming cast.label else NoCast)
-          (λ s b. refl) shape) refl
-      into BoolRow wanted h e f =
-          NotWrapped (λ shape. by_rows BoolRow (RefRow wanted) e f (λ b. if b then Blaming cast.label else NoCast)
-          (λ s b. refl) shape) refl
-      into UnitRow wanted h e f =
-          NotWrapped (λ shape. by_rows UnitRow (RefRow wanted) e f (λ b. if b then Blaming cast.label else NoCast)
-          (λ s b. refl) shape) refl
-      into DynRow wanted h e f = absurd (let z : ⊥ = cc in z)
-      into (FunRow ps a) wanted h e f = absurd (let z : ⊥ = cc in z)
-      into (TupleRow ps) wanted h e f = absurd (let z : ⊥ = cc in z)
-      into (RefRow a) wanted h e f = absurd (let z : ⊥ = cc in z)
-      into (VectRow a) wanted h e f = absurd (let z : ⊥ = cc in z)
-
-      -- out of one
-      out : (content : ℕ) (other : TypeRow) → is_base other ≡ true → row_at types cast.from ≡ Some (RefRow content)
-          → row_at types cast.to ≡ Some other → Makes types all cast (RefRow content) other
-      out content IntRow h e f =
-          NotWrapped (λ shape. by_rows (RefRow content) IntRow e f (λ b. if b then Blaming cast.label else NoCast)
-          (λ s b. refl) shape) refl
-      out content BoolRow h e f =
-          NotWrapped (λ shape. by_rows (RefRow content) BoolRow e f (λ b. if b then Blaming cast.label else NoCast)
-          (λ s b. refl) shape) refl
-      out content UnitRow h e f =
-          NotWrapped (λ shape. by_rows (RefRow content) UnitRow e f (λ b. if b then Blaming cast.label else NoCast)
-          (λ s b. refl) shape) refl
-      out content DynRow h e f = absurd (let z : ⊥ = cc in z)
-      out content (FunRow ps a) h e f = absurd (let z : ⊥ = cc in z)
-      out content (TupleRow ps) h e f = absurd (let z : ⊥ = cc in z)
-      out content (RefRow a) h e f = absurd (let z : ⊥ = cc in z)
-      out content (VectRow a) h e f = absurd (let z : ⊥ = cc in z)
+      solid : (row other : TypeRow) → IsKnown types row → IsKnown types other → row_at types cast.from ≡ Some row
+          → row_at types cast.to ≡ Some other → (shape : Shape TypeCast)
+          → (piling types all).cast cast shape
+          ≡ (if fits row cast shape then by_heads (same_head row other) (is_base row) cast else NoCast)
+      solid row other known known_other e f shape =
+          solid_decides types all cast row other e f (known_not_dyn types row known)
+          (known_not_dyn types other known_other) shape
 
       by : (row other : TypeRow) → IsKnown types row → IsKnown types other → row_at types cast.from ≡ Some row
           → row_at types cast.to ≡ Some other → Makes types all cast row other
-      by row other (PlainType r h) (PlainType o g) e f = plain row other h g e f
-      by row other (PlainType r h) (BoxType wanted outer w g) e f = into row wanted h e f
-      by row other (BoxType content inner c h) (PlainType o g) e f = out content other g e f
+      by row other (PlainType r h) known_other e f =
+          NotWrapped (λ shape. solid row other (PlainType row h) known_other e f shape
+          ∙ ap (λ base. if fits row cast shape then by_heads (same_head row other) base cast else NoCast) h)
+          (plain_word types row other cast.label h)
+      by row other (BoxType content inner c h) (PlainType o g) e f =
+          let apart = out_of_box types content other cast.label g in
+          NotWrapped (λ shape. solid (RefRow content) other (BoxType content inner c h) (PlainType other g) e f shape
+          ∙ (ap (λ same. if fits (RefRow content) cast shape then by_heads same false cast else NoCast) apart.0
+          ∙ sym (ap (λ same. if fits (RefRow content) cast shape then (if same then Keeping else Blaming cast.label)
+          else NoCast) apart.0))) apart.1
       by row other (BoxType content inner c h) (BoxType wanted outer w g) e f =
           IsBoxed content (fate inner outer cast.label) refl
           (record {
@@ -185,8 +132,8 @@ module _ (types : TypeRows) (all : List TypeCast) (cast : TypeCast) where
             part_is = refl;
             small = p.small;
           })
-          (λ shape. by_rows (RefRow content) (RefRow wanted) e f (λ b. if b then Wrapping cast else NoCast)
-          (λ s b. refl) shape) (rw (c, w) refl)
+          (λ shape. solid (RefRow content) (RefRow wanted) (BoxType content inner c h) (BoxType wanted outer w g) e f
+          shape) (rw (c, w) refl)
 
 -- ---- the procedure
 
@@ -216,8 +163,8 @@ module _ (setting : Setting) (l : Layout) (procs : List Proc) (casts : List Type
   abbrev Carries : FlatValue TypeCast → ℕ → Type 0
   Carries v w = C setting l procs casts m s places objects store v w
 
-  abbrev Comes_to : Decision TypeCast → FlatValue TypeCast → LowState → Type 0
-  Comes_to decision v te =
+  abbrev Decides : Decision TypeCast → FlatValue TypeCast → LowState → Type 0
+  Decides decision v te =
       Decided setting l procs casts m s places objects store base cast_leaves 0 base v decision 0 number te
 
   abbrev aim : Aim piled_meaning setting l procs casts m
@@ -264,7 +211,7 @@ module _ (setting : Setting) (l : Layout) (procs : List Proc) (casts : List Type
   cost w word = omega arith
 
   -- the value is kept
-  kept : (v : FlatValue TypeCast) (w : ℕ) → Carries v w → Comes_to Keeping v (begun w 0)
+  kept : (v : FlatValue TypeCast) (w : ℕ) → Carries v w → Decides Keeping v (begun w 0)
   kept v w c =
       let X = λ (left : ℕ) (u : LowState). aim (Return v) base store (number + 0) left u in
       let te = begun w 0 in
@@ -290,7 +237,7 @@ module _ (setting : Setting) (l : Layout) (procs : List Proc) (casts : List Type
 
   -- a label is blamed
   blamed_so : (v : FlatValue TypeCast) (w label : ℕ) → label < most_labels
-      → Comes_to (Blaming label) v (begun w (2 * suc label))
+      → Decides (Blaming label) v (begun w (2 * suc label))
   blamed_so v w label small = (
     refl,
     λ place found.
@@ -386,7 +333,7 @@ module _ (setting : Setting) (l : Layout) (procs : List Proc) (casts : List Type
       same = world;
     }
 
-    wrapped : Comes_to (Wrapping cast) v (begun w (1 + 2 * part))
+    wrapped : Decides (Wrapping cast) v (begun w (1 + 2 * part))
     wrapped =
         let X = λ (left : ℕ) (u : LowState). aim (Return (RunWrap v cast)) base store (number + 1) left u in
         let te = begun w (1 + 2 * part) in
@@ -423,8 +370,8 @@ module _ (setting : Setting) (l : Layout) (procs : List Proc) (casts : List Type
 
   -- ---- the procedure as it is handed the word of a known cast
 
-  abbrev Cast_made : TypeCast → FlatValue TypeCast → ℕ → ℕ → Type 0
-  Cast_made cast v w word =
+  abbrev CastMade : TypeCast → FlatValue TypeCast → ℕ → ℕ → Type 0
+  CastMade cast v w word =
       After piled_meaning setting l procs casts m s aim
       (flat_cast procs (piling l.types casts) store s.world v cast base)
       (cast_cost procs (piling l.types casts) (piled_prices (piling l.types casts) m) (Some cast) v) 0 number
@@ -433,7 +380,7 @@ module _ (setting : Setting) (l : Layout) (procs : List Proc) (casts : List Type
   -- boxes, wrapped or not, are wrapped
   box_wrapped : (content part : ℕ) (cast : TypeCast) → IsBoxCast l.types cast part → part < 2 ^ 33
       → (v : FlatValue TypeCast) (w : ℕ) → Carries v w
-      → Comes_to (if fits (RefRow content) cast (shape_of (flat_arity procs) v) then Wrapping cast else NoCast) v
+      → Decides (if fits (RefRow content) cast (shape_of (flat_arity procs) v) then Wrapping cast else NoCast) v
       (begun w (1 + 2 * part))
   box_wrapped content part cast is little (RunInt x) w c = refl
   box_wrapped content part cast is little (RunBool x) w c = refl
@@ -448,47 +395,47 @@ module _ (setting : Setting) (l : Layout) (procs : List Proc) (casts : List Type
   box_wrapped content part cast is little (RunWrap v old) w c = by (nat_eq old.to cast.from)
     where
       by : (b : Bool)
-          → Comes_to (if b then Wrapping cast else NoCast) (RunWrap v old) (begun w (1 + 2 * part))
+          → Decides (if b then Wrapping cast else NoCast) (RunWrap v old) (begun w (1 + 2 * part))
       by true =
           wrapped (RunWrap v old) w c cast part is little _ (peeled l objects setting procs places v old w c).2.there
           (λ os over at h i. wrapped_more l os setting procs places v old cast over at h i)
       by false = refl
 
   pub cast_made : (cast : TypeCast) (p : IsPiled l.types cast) (v : FlatValue TypeCast) (w word : ℕ) → Carries v w
-      → word ≡ word_between l.types p.row p.other cast.label → Cast_made cast v w word
+      → word ≡ word_between l.types p.row p.other cast.label → CastMade cast v w word
   cast_made cast p v w word c word_is = by (makes l.types casts cast p)
     where
       decided : (d : Decision TypeCast)
-          → (piling l.types casts).cast cast (shape_of (flat_arity procs) v) ≡ d → Comes_to d v (begun w word)
-          → Cast_made cast v w word
-      decided d e h = subst (λ x. Comes_to x v (begun w word)) (sym e) h
+          → (piling l.types casts).cast cast (shape_of (flat_arity procs) v) ≡ d → Decides d v (begun w word)
+          → CastMade cast v w word
+      decided d e h = subst (λ x. Decides x v (begun w word)) (sym e) h
 
       not_wrapped : (n : ℕ) → fate p.row p.other cast.label ≡ n → word ≡ 2 * n → (b : Bool)
           → same_head p.row p.other ≡ b
-          → Comes_to (if b then Keeping else Blaming cast.label) v (begun w word)
+          → Decides (if b then Keeping else Blaming cast.label) v (begun w word)
       not_wrapped n e f true same =
           let none : fate p.row p.other cast.label ≡ 0 = ap (λ b. if b then 0 else suc cast.label) same in
           let zero_word : word ≡ 0 = omega (arith, e, f, none) in
-          subst (λ x. Comes_to Keeping v (begun w x)) (sym zero_word) (kept v w c)
+          subst (λ x. Decides Keeping v (begun w x)) (sym zero_word) (kept v w c)
       not_wrapped n e f false same =
           let some : fate p.row p.other cast.label ≡ suc cast.label =
           ap (λ b. if b then 0 else suc cast.label) same in
           let blamed_word : word ≡ 2 * suc cast.label = omega (arith, e, f, some) in
-          subst (λ x. Comes_to (Blaming cast.label) v (begun w x)) (sym blamed_word) (blamed_so v w cast.label p.small)
+          subst (λ x. Decides (Blaming cast.label) v (begun w x)) (sym blamed_word) (blamed_so v w cast.label p.small)
 
-      by : Makes l.types casts cast p.row p.other → Cast_made cast v w word
+      by : Makes l.types casts cast p.row p.other → CastMade cast v w word
       by (NotWrapped each is) =
           decided _ (each (shape_of (flat_arity procs) v))
           (by_fit (fits p.row cast (shape_of (flat_arity procs) v)))
         where
           by_fit : (b : Bool)
-              → Comes_to (if b then kept_or_blamed p.row p.other cast.label else NoCast) v (begun w word)
+              → Decides (if b then kept_or_blamed p.row p.other cast.label else NoCast) v (begun w word)
           by_fit true =
               not_wrapped (fate p.row p.other cast.label) refl (word_is ∙ is) (same_head p.row p.other) refl
           by_fit false = refl
       by (IsBoxed content part row_is box each is) =
           decided _ (each (shape_of (flat_arity procs) v))
-          (subst (λ x. Comes_to (if fits (RefRow content) cast (shape_of (flat_arity procs) v) then Wrapping cast else
+          (subst (λ x. Decides (if fits (RefRow content) cast (shape_of (flat_arity procs) v) then Wrapping cast else
           NoCast) v (begun w x)) (sym (word_is ∙ is))
           (box_wrapped content part cast box
           (subst (λ x. x < 2 ^ 33) (sym box.part_is) (fate_small box.inner box.outer cast.label box.small)) v w c))
@@ -520,63 +467,11 @@ known_words types all cast p = by (makes types all cast p)
         let y = box.part_is in
         omega (arith, z, y, is)
 
+-- no cast of a known type to a known type has a way in place
 all_called : (types : TypeRows) (row other : TypeRow) → IsKnown types row → IsKnown types other
     → way_between row other ≡ Called
-all_called types row other (PlainType r h) (PlainType o g) = by row other h g
-  where
-    by : (row other : TypeRow) → is_base row ≡ true → is_base other ≡ true → way_between row other ≡ Called
-    by IntRow IntRow h g = refl
-    by IntRow BoolRow h g = refl
-    by IntRow UnitRow h g = refl
-    by BoolRow IntRow h g = refl
-    by BoolRow BoolRow h g = refl
-    by BoolRow UnitRow h g = refl
-    by UnitRow IntRow h g = refl
-    by UnitRow BoolRow h g = refl
-    by UnitRow UnitRow h g = refl
-    by IntRow DynRow h g = absurd (let z : ⊥ = cc in z)
-    by IntRow (FunRow ps a) h g = refl
-    by IntRow (TupleRow ps) h g = refl
-    by IntRow (RefRow a) h g = refl
-    by IntRow (VectRow a) h g = refl
-    by BoolRow DynRow h g = absurd (let z : ⊥ = cc in z)
-    by BoolRow (FunRow ps a) h g = refl
-    by BoolRow (TupleRow ps) h g = refl
-    by BoolRow (RefRow a) h g = refl
-    by BoolRow (VectRow a) h g = refl
-    by UnitRow DynRow h g = absurd (let z : ⊥ = cc in z)
-    by UnitRow (FunRow ps a) h g = refl
-    by UnitRow (TupleRow ps) h g = refl
-    by UnitRow (RefRow a) h g = refl
-    by UnitRow (VectRow a) h g = refl
-    by DynRow other h g = absurd (let z : ⊥ = cc in z)
-    by (FunRow ps a) other h g = absurd (let z : ⊥ = cc in z)
-    by (TupleRow ps) other h g = absurd (let z : ⊥ = cc in z)
-    by (RefRow a) other h g = absurd (let z : ⊥ = cc in z)
-    by (VectRow a) other h g = absurd (let z : ⊥ = cc in z)
-all_called types row other (PlainType r h) (BoxType wanted outer w g) = by row h
-  where
-    by : (row : TypeRow) → is_base row ≡ true → way_between row (RefRow wanted) ≡ Called
-    by IntRow h = refl
-    by BoolRow h = refl
-    by UnitRow h = refl
-    by DynRow h = absurd (let z : ⊥ = cc in z)
-    by (FunRow ps a) h = refl
-    by (TupleRow ps) h = refl
-    by (RefRow a) h = refl
-    by (VectRow a) h = refl
-all_called types row other (BoxType content inner c h) (PlainType o g) = by other g
-  where
-    by : (other : TypeRow) → is_base other ≡ true → way_between (RefRow content) other ≡ Called
-    by IntRow h = refl
-    by BoolRow h = refl
-    by UnitRow h = refl
-    by DynRow h = absurd (let z : ⊥ = cc in z)
-    by (FunRow ps a) h = refl
-    by (TupleRow ps) h = refl
-    by (RefRow a) h = refl
-    by (VectRow a) h = refl
-all_called types row other (BoxType content inner c h) (BoxType wanted outer w g) = refl
+all_called types row other known known_other =
+    let a = known_not_dyn types row known in let b = known_not_dyn types other known_other in rw (a, b) refl
 
 pub none_in_place : (types : TypeRows) (casts : List TypeCast) (number : ℕ) (cast : TypeCast)
     → slice_get casts number ≡ Some cast → IsPiled types cast → (w word : ℕ)

@@ -1,11 +1,11 @@
 -- What known casts decide on, whatever the value.
-use Rattle.std.proofs.Common.{◌≡◌, ℕ, ◌<◌, Bool, true, false, List, Some, refl, ◌∙◌}
-use Rattle.std.specs.Prelude.{if◌then◌else◌}
+use Rattle.std.proofs.Common.{◌≡◌, ℕ, ◌<◌, Bool, true, false, List, Some, refl, ap, ◌∙◌}
+use Rattle.std.specs.Prelude.{if◌then◌else◌, not}
 use Rattle.grift_base.specs.Types.{TypeRow, TypeRows, IntRow, BoolRow, UnitRow, DynRow, FunRow, TupleRow, RefRow}
-use Rattle.grift_base.specs.Types.{VectRow, row_at, same_head, is_base}
+use Rattle.grift_base.specs.Types.{VectRow, row_at, same_head, is_base, is_dyn}
 use Rattle.coercion_norm.specs.Modes.{TypeCast, type_cast, Shape, Decision, Keeping, Wrapping, Blaming, NoCast, piling}
 use Rattle.coercion_norm.specs.Modes.{fits}
-use Rattle.piled_scheme.specs.Piling.{fate, IsBoxCast, most_labels}
+use Rattle.piled_scheme.specs.Piling.{IsKnown, PlainType, BoxType, fate, IsBoxCast, most_labels}
 
 -- a cast between plain types, and what it does
 pub record IsPlain (types : TypeRows) (cast : TypeCast) (part : ℕ) : Type 0 where
@@ -21,50 +21,53 @@ pub record IsPlain (types : TypeRows) (cast : TypeCast) (part : ℕ) : Type 0 wh
 abbrev pub kept_or_blamed : TypeRow → TypeRow → ℕ → Decision TypeCast
 kept_or_blamed inner outer label = if same_head inner outer then Keeping else Blaming label
 
--- a value that fits is kept or blamed
-pub plain_decides : (types : TypeRows) (all : List TypeCast) (cast : TypeCast) (part : ℕ)
-    → (p : IsPlain types cast part)
+-- ---- types that are known are not Dyn
+
+base_not_dyn : (row : TypeRow) → is_base row ≡ true → is_dyn row ≡ false
+base_not_dyn IntRow h = refl
+base_not_dyn BoolRow h = refl
+base_not_dyn UnitRow h = refl
+base_not_dyn DynRow h = absurd (let z : ⊥ = cc in z)
+base_not_dyn (FunRow ps a) h = refl
+base_not_dyn (TupleRow ps) h = refl
+base_not_dyn (RefRow a) h = refl
+base_not_dyn (VectRow a) h = refl
+
+pub known_not_dyn : (types : TypeRows) (row : TypeRow) → IsKnown types row → is_dyn row ≡ false
+known_not_dyn types row (PlainType r h) = base_not_dyn row h
+known_not_dyn types row (BoxType content inner c h) = refl
+
+-- ---- decisions
+
+-- between types that aren't Dyn: blamed where the heads differ, and else kept, or wrapped where it has parts
+abbrev pub by_heads : Bool → Bool → TypeCast → Decision TypeCast
+by_heads same base cast = if same then (if base then Keeping else Wrapping cast) else Blaming cast.label
+
+pub solid_decides : (types : TypeRows) (all : List TypeCast) (cast : TypeCast) (row other : TypeRow)
+    → row_at types cast.from ≡ Some row → row_at types cast.to ≡ Some other → is_dyn row ≡ false
+    → is_dyn other ≡ false → (shape : Shape TypeCast)
+    → (piling types all).cast cast shape
+    ≡ (if fits row cast shape then by_heads (same_head row other) (is_base row) cast else NoCast)
+solid_decides types all cast row other e f solid solid_other shape =
+    rw (e, f, solid, solid_other) (by (fits row cast shape) (same_head row other))
+  where
+    by : (b same : Bool)
+        → (if b then (if not same then Blaming cast.label else if is_base row then Keeping else Wrapping cast) else
+        NoCast)
+        ≡ (if b then by_heads same (is_base row) cast else NoCast)
+    by false same = refl
+    by true true = refl
+    by true false = refl
+
+-- a plain value that fits is kept or blamed
+pub plain_decides : (types : TypeRows) (all : List TypeCast) (cast : TypeCast) (part : ℕ) → (p : IsPlain types cast part)
     → (shape : Shape TypeCast)
     → (piling types all).cast cast shape
     ≡ (if fits p.inner cast shape then kept_or_blamed p.inner p.outer cast.label else NoCast)
 plain_decides types all cast part p shape =
-    let e = p.from_is in
-    let f = p.to_is in
-    rw (e, f) (by p.inner p.outer p.plain p.plain_outer (fits p.inner cast shape))
-  where
-    by : (inner outer : TypeRow) → is_base inner ≡ true → is_base outer ≡ true → (b : Bool)
-        → (if b then Rattle.coercion_norm.specs.Modes.decide inner outer cast shape else NoCast)
-        ≡ (if b then kept_or_blamed inner outer cast.label else NoCast)
-    by inner outer h g false = refl
-    by IntRow IntRow h g true = refl
-    by IntRow BoolRow h g true = refl
-    by IntRow UnitRow h g true = refl
-    by BoolRow IntRow h g true = refl
-    by BoolRow BoolRow h g true = refl
-    by BoolRow UnitRow h g true = refl
-    by UnitRow IntRow h g true = refl
-    by UnitRow BoolRow h g true = refl
-    by UnitRow UnitRow h g true = refl
-    by IntRow DynRow h g true = absurd (let z : ⊥ = cc in z)
-    by IntRow (FunRow ps a) h g true = absurd (let z : ⊥ = cc in z)
-    by IntRow (TupleRow ps) h g true = absurd (let z : ⊥ = cc in z)
-    by IntRow (RefRow a) h g true = absurd (let z : ⊥ = cc in z)
-    by IntRow (VectRow a) h g true = absurd (let z : ⊥ = cc in z)
-    by BoolRow DynRow h g true = absurd (let z : ⊥ = cc in z)
-    by BoolRow (FunRow ps a) h g true = absurd (let z : ⊥ = cc in z)
-    by BoolRow (TupleRow ps) h g true = absurd (let z : ⊥ = cc in z)
-    by BoolRow (RefRow a) h g true = absurd (let z : ⊥ = cc in z)
-    by BoolRow (VectRow a) h g true = absurd (let z : ⊥ = cc in z)
-    by UnitRow DynRow h g true = absurd (let z : ⊥ = cc in z)
-    by UnitRow (FunRow ps a) h g true = absurd (let z : ⊥ = cc in z)
-    by UnitRow (TupleRow ps) h g true = absurd (let z : ⊥ = cc in z)
-    by UnitRow (RefRow a) h g true = absurd (let z : ⊥ = cc in z)
-    by UnitRow (VectRow a) h g true = absurd (let z : ⊥ = cc in z)
-    by DynRow outer h g true = absurd (let z : ⊥ = cc in z)
-    by (FunRow ps a) outer h g true = absurd (let z : ⊥ = cc in z)
-    by (TupleRow ps) outer h g true = absurd (let z : ⊥ = cc in z)
-    by (RefRow a) outer h g true = absurd (let z : ⊥ = cc in z)
-    by (VectRow a) outer h g true = absurd (let z : ⊥ = cc in z)
+    solid_decides types all cast p.inner p.outer p.from_is p.to_is (base_not_dyn p.inner p.plain)
+    (base_not_dyn p.outer p.plain_outer) shape
+    ∙ ap (λ base. if fits p.inner cast shape then by_heads (same_head p.inner p.outer) base cast else NoCast) p.plain
 
 -- ---- the casts of what is read and written through a wrapper
 
