@@ -60,8 +60,8 @@ solid_decides types all cast row other e f solid solid_other shape =
     by true false = refl
 
 -- a plain value that fits is kept or blamed
-pub plain_decides : (types : TypeRows) (all : List TypeCast) (cast : TypeCast) (part : ℕ) → (p : IsPlain types cast part)
-    → (shape : Shape TypeCast)
+pub plain_decides : (types : TypeRows) (all : List TypeCast) (cast : TypeCast) (part : ℕ)
+    → (p : IsPlain types cast part) → (shape : Shape TypeCast)
     → (piling types all).cast cast shape
     ≡ (if fits p.inner cast shape then kept_or_blamed p.inner p.outer cast.label else NoCast)
 plain_decides types all cast part p shape =
