@@ -3,10 +3,10 @@
 
 Usage: tools/calculus.py FILE [TURNS [INPUT]]
 
-It prints what the program in the file prints on the input in the file INPUT, or on none, and then, on standard error, the line that its run ends with: an answer,
-a blame with its place, a trap, a refusal, or `spent steps` where it hasn't ended after so many turns. Casts wait one by
-one, each wrapper is an object of its own, and nothing is composed. Forms are taken to be well formed: of refusals it
-knows those of types and names, and a few of tokens.
+It prints what the program in the file prints on the input in the file INPUT, or on none, and then, on standard error,
+the line that its run ends with: an answer, a blame with its place, a trap, a refusal, or `spent steps` where it hasn't
+ended after so many turns. Casts wait one by one, each wrapper is an object of its own, and nothing is composed. Forms
+are taken to be well formed: of refusals it knows those of types and names, and a few of tokens.
 
 Types are the words "Int", "Bool", "Unit" and "Dyn" and the tuples ("Fun", parameters, result), ("Tuple", parts),
 ("Ref", part) and ("Vect", part).

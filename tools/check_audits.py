@@ -137,7 +137,8 @@ def main():
         done = list(pool.map(lambda seed: checked(sys.argv[1], seed), range(first, first + count)))
     kinds = collections.Counter(kind for kind, _, _ in done)
     print(f"{count} programs: " + ", ".join(f"{number} {kind}" for kind, number in sorted(kinds.items())))
-    print(f"{sum(safe for _, safe, _ in done)} of {sum(labels for _, _, labels in done)} labels are listed, none blamed")
+    listed, labels = sum(safe for _, safe, _ in done), sum(labels for _, _, labels in done)
+    print(f"{listed} of {labels} labels are listed, none blamed")
 
 
 if __name__ == "__main__":

@@ -6,11 +6,11 @@ Usage: tools/compare_runs.py [--model] PROGRAM FOLDER
 
 PROGRAM is the built program, as crates/grift/out/grift. The calculus is that of the interpreter in calculus.py, and
 under --model that of `grift model`; both make casts one by one. Of a folder each file that ends by .grift is compared,
-on the input of the file of its name that ends by .input, if it is there; the random programs are those of the seeds from
-SEED, or 0, on, with random inputs, under --piles those in which loops cast a function, a box and a vector. Both runs
-have to print the same and to end by the same line. Where region, stack or steps end first, or the calculus's steps do,
-what the one has printed has to be a beginning of what the other has. Texts that differ are shown with both ends, and the
-status is 1.
+on the input of the file of its name that ends by .input, if it is there; the random programs are those of the seeds
+from SEED, or 0, on, with random inputs, under --piles those in which loops cast a function, a box and a vector. Both
+runs have to print the same and to end by the same line. Where region, stack or steps end first, or the calculus's steps
+do, what the one has printed has to be a beginning of what the other has. Texts that differ are shown with both ends,
+and the status is 1.
 """
 import argparse
 import collections

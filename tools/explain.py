@@ -49,7 +49,8 @@ def width_of(text, at=0):
 def legible(piece):
     """The text of these bytes, with a mark for what isn't UTF-8 or doesn't belong on a terminal."""
     text = piece.decode(errors="replace")
-    return "".join("\ufffd" if unicodedata.category(it) in ("Cc", "Cf", "Zl", "Zp") and it != "\t" else it for it in text)
+    hidden = ("Cc", "Cf", "Zl", "Zp")
+    return "".join("\ufffd" if unicodedata.category(it) in hidden and it != "\t" else it for it in text)
 
 
 def cut(before, behind, width):

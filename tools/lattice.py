@@ -166,7 +166,8 @@ def svg(name, curves):
     """Writes the same as curves, one a file, into a file of vector graphics."""
     most = max(max(ratios[-1], 1.0) for _, ratios in curves)
     colours = ("#1b6ca8", "#c0392b", "#2e8b57", "#8e44ad", "#d68910", "#34495e")
-    parts = ['<svg xmlns="http://www.w3.org/2000/svg" width="680" height="420" font-family="sans-serif" font-size="12">']
+    size = 'width="680" height="420" font-family="sans-serif" font-size="12"'
+    parts = [f'<svg xmlns="http://www.w3.org/2000/svg" {size}>']
     parts.append('<path d="M60 20V360H640" fill="none" stroke="black"/>')
     for tick in range(6):
         x, y = 60 + 580 * tick / 5, 360 - 340 * tick / 5
@@ -193,7 +194,8 @@ def told(title, many, versions):
     slow = sum(ratio > SLOW for ratio in ratios)
     print(f"{title}: {many} types, {len(versions)} versions, {typed.line}")
     print(f"  all types written {typed.steps:,} instructions, none {untyped.steps:,}")
-    print(f"  worst {worst.steps:,}: {worst.steps / untyped.steps:.2f} of none, {worst.steps / typed.steps:.2f} of all,")
+    of_none, of_all = worst.steps / untyped.steps, worst.steps / typed.steps
+    print(f"  worst {worst.steps:,}: {of_none:.2f} of none, {of_all:.2f} of all,")
     print(f"    without the types {', '.join(str(number + 1) for number in sorted(worst.taken)) or '(none)'}")
     print(f"  mean {sum(ratios) / len(ratios):.2f} of none; more than {SLOW} times none: {slow} of {len(ratios)}")
     print("\n".join("  " + line for line in plot(ratios)))

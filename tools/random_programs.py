@@ -369,7 +369,7 @@ class Programs:
         return f"{write}\n(print-int {read})" if inside[1] == "Int" else f"{write}\n{read}"
 
     def piles(self):
-        """The text of a program with one function, one box and one vector that loops cast, each used at both its names."""
+        """The text of a program whose loops cast a function, a box and a vector, each used at both its names."""
         scope, lines = [], []
         params = tuple(self.precise(1) for _ in range(self.random.choice([1, 1, 2, 3])))
         function = ("Fun", params, self.random.choice(["Int", self.precise(1)]))

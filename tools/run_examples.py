@@ -40,7 +40,8 @@ def main():
     table = list(rows())
     faults = 0
     for words, output, line in table:
-        came, wanted = come_to(pathlib.Path(sys.argv[1]).resolve(), words), (output, line + "\n" if line else "", status_of(line))
+        came = come_to(pathlib.Path(sys.argv[1]).resolve(), words)
+        wanted = output, line + "\n" if line else "", status_of(line)
         if came != wanted:
             print(f"{words}: {came}, where the table has {wanted}")
             faults += 1
