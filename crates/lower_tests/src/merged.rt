@@ -1,6 +1,7 @@
 // Numbered procedures, written by hand, that are lowered with the scheme of one proxy at most, as images on the
 // emulator: boxes, vectors, tuples, functions and Dyn, through proxies.
 
+ghost use Rattle.std.specs.Prelude.{◌≡◌, ◌<◌, true, All, length};
 ghost use Rattle.coercion_norm.specs.CoercionTables.{FitsTypes};
 
 use crate::images::runs;
@@ -181,6 +182,18 @@ impl Model for Tables {
     ghost invariant = { λ a. FitsTypes a.types a.table };
 }
 
+// Whether the coercion of each cast is there.
+fn are_there(table: &CoercionTable, casts: &CastRows) -> bool
+    ensures { result ≡ true → All (λ cast. cast.coercion.0 < length table.now.nodes) casts.now }
+{
+    for cast in casts.as_slice() {
+        if cast.coercion.0 >= table.len() {
+            return false;
+        }
+    }
+    true
+}
+
 // The program over words of numbered procedures over a scheme, with casts whose coercions are there.
 fn low_of<S: Scheme>(
     alloc: Global,
@@ -195,10 +208,8 @@ fn low_of<S: Scheme>(
     if flat.answer.0 >= types.len() {
         return Err(Fail::from("no type is there"));
     }
-    for cast in casts.as_slice() {
-        if cast.coercion.0 >= table.len() {
-            return Err(Fail::from("no coercion is there"));
-        }
+    if !are_there(table, casts) {
+        return Err(Fail::from("no coercion is there"));
     }
     Ok(lower_with(alloc, flat, types, casts, table, scheme)?)
 }

@@ -1,6 +1,6 @@
 use Rattle.std.proofs.Common.{ℕ, ◌<◌, get_or, length}
 use Rattle.coercion_norm.specs.declared.cast_rows.CastRow.{CastRow}
-use Rattle.lower_tests.proofs.merged.low_of.Given as goal
+use Rattle.lower_tests.proofs.merged.are_there.Given as goal
 
 abbrev pub invariant-loop-cast : goal.invariant-loop-cast
 invariant-loop-cast l =
