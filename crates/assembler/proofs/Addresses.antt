@@ -5,13 +5,14 @@ use Rattle.std.proofs.Common.{length, get_or, Some, refl, sym, ◌∙◌, ap, su
 use Rattle.std.specs.Prelude.{flat_map, slice_index, slice_get}
 use Rattle.std.proofs.lemmas.List.{get_or-append-add, get_or_append_left}
 use Rattle.grift_base.specs.declared.places.Pos.{Pos}
-use Rattle.rv_isa.specs.declared.real.RealItem.{RealItem}
-use Rattle.rv_isa.specs.declared.real.RealItem.TheVariants.{Op, Mark, Jump, Branch, Address}
-use Rattle.rv_machine.specs.Memory.{load_bytes, memory_of, first_address}
+use Rattle.rv_machine.specs.declared.real.RealItem.{RealItem}
+use Rattle.rv_machine.specs.declared.real.RealItem.TheVariants.{Op, Mark, Jump, Branch, Address}
+use Rattle.machine_words.specs.Memory.{load_bytes, memory_of, first_address}
 use Rattle.rv_machine.specs.Image.{statics_len, entry, loaded_part}
 use Rattle.rv_machine.specs.State.{Layout}
 use Rattle.rv_machine.specs.Real.{is_mark, AreAddresses, address_from}
-use Rattle.rv_machine.proofs.Public.{load_same, HasItem, some_address}
+use Rattle.machine_words.proofs.Public.{load_same}
+use Rattle.rv_machine.proofs.Public.{HasItem, some_address}
 use Rattle.assembler.specs.Expansion.{code_insts}
 use Rattle.assembler.specs.Imaging.{word_bytes, code_bytes, inst_words, code_start, assembled}
 use Rattle.assembler.specs.Following.{image_memory}

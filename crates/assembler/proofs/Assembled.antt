@@ -1,7 +1,7 @@
 -- What was put together is the image of its code.
 use Rattle.std.proofs.Common.{ℕ, ◌^◌, ◌≤◌, ◌≡◌, List, length, refl, sym, subst}
 use Rattle.grift_base.specs.declared.places.Pos.{Pos}
-use Rattle.rv_isa.specs.declared.real.RealItem.{RealItem}
+use Rattle.rv_machine.specs.declared.real.RealItem.{RealItem}
 use Rattle.rv_machine.specs.Image.{labels_of}
 use Rattle.assembler.specs.Imaging.{assembled}
 use Rattle.assembler.specs.Assembled.{IsImageOf}

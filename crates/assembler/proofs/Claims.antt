@@ -10,11 +10,12 @@ use Rattle.run_laws.proofs.Public.{follows_by_trans, follows_by_weaken, follows_
 use Rattle.run_laws.proofs.Public.{follows_at_cost, follows_metered, metered_follows, unmetered_never_wrong}
 use Rattle.grift_base.specs.World.{WorldState}
 use Rattle.grift_base.specs.declared.places.Pos.{Pos}
-use Rattle.rv_isa.specs.declared.real.RealItem.{RealItem}
+use Rattle.rv_machine.specs.declared.real.RealItem.{RealItem}
 use Rattle.rv_isa.specs.Encoding.{encode_of}
-use Rattle.rv_machine.specs.Memory.{Memory, memory_of, first_address, from_base}
+use Rattle.machine_words.specs.Memory.{Memory, memory_of, first_address, from_base}
 use Rattle.rv_machine.specs.Image.{statics_len, code_len, loaded_part}
-use Rattle.rv_machine.specs.State.{Layout, State, Halt, Turn}
+use Rattle.rv_machine.specs.State.{Layout, State, Turn}
+use Rattle.machine_words.specs.Halts.{Halt}
 use Rattle.rv_machine.specs.Start.{layout_of, IsRegionSize, IsStackSize}
 use Rattle.rv_machine.specs.Real.{Setting, real_machine, machine_in}
 use Rattle.assembler.specs.Layout.{address_of}

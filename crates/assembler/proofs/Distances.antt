@@ -5,8 +5,8 @@ use Rattle.std.specs.Prelude.{nat_lt, nat_le, pos, negsuc, if◌then◌else◌}
 use Rattle.std.proofs.Math.Logic.{⊎_elim}
 use Rattle.std.proofs.lemmas.Bool.{cases_lt}
 use Rattle.rv_isa.specs.Bits.{IsIn, IsEven}
-use Rattle.rv_isa.specs.declared.real.RealItem.{RealItem}
-use Rattle.rv_isa.specs.declared.real.RealItem.TheVariants.{Op, Mark, Jump, Branch, Address}
+use Rattle.rv_machine.specs.declared.real.RealItem.{RealItem}
+use Rattle.rv_machine.specs.declared.real.RealItem.TheVariants.{Op, Mark, Jump, Branch, Address}
 use Rattle.assembler.specs.Layout.{longest, width, words_before, distance, is_near, widths_from, longest_widths, widths}
 use Rattle.assembler.specs.Layout.{mark_place, address_of}
 use Rattle.assembler.specs.Expansion.{offset, target_of}

@@ -9,18 +9,21 @@ use Rattle.run_laws.proofs.Public.{by_step, reaches_weaken}
 use Rattle.grift_base.specs.World.{WorldState}
 use Rattle.rv_isa.specs.declared.inst.Inst.{Inst}
 use Rattle.rv_isa.specs.declared.inst.Inst.TheVariants.{Jal, Jalr, Addi, Lui, Ecall, Ebreak}
-use Rattle.rv_isa.specs.declared.inst.Cond.{Cond}
-use Rattle.rv_isa.specs.declared.inst.Cond.TheVariants.{Eq, Ne, Lt, Ge, Ltu, Geu}
-use Rattle.rv_isa.specs.declared.real.RealItem.{RealItem}
-use Rattle.rv_isa.specs.declared.real.RealItem.TheVariants.{Op, Mark, Jump, Branch, Address}
-use Rattle.rv_isa.specs.Conditions.{branch_when}
-use Rattle.rv_machine.specs.Memory.{Memory}
+use Rattle.machine_words.specs.declared.conditions.Cond.{Cond}
+use Rattle.machine_words.specs.declared.conditions.Cond.TheVariants.{Eq, Ne, Lt, Ge, Ltu, Geu}
+use Rattle.rv_machine.specs.declared.real.RealItem.{RealItem}
+use Rattle.rv_machine.specs.declared.real.RealItem.TheVariants.{Op, Mark, Jump, Branch, Address}
+use Rattle.rv_machine.specs.Branches.{branch_when}
+use Rattle.machine_words.specs.Memory.{Memory}
 use Rattle.rv_machine.specs.Registers.{set_reg}
-use Rattle.rv_machine.specs.State.{Layout, State, Halt, Turn, Next, Stops, reg}
-use Rattle.rv_machine.specs.Turn.{act, act_with, put, plus, subtract, half, branch_if, jump_and_link, next_pc}
+use Rattle.rv_machine.specs.State.{Layout, State, Turn, Next, Stops, reg}
+use Rattle.machine_words.specs.Halts.{Halt}
+use Rattle.rv_machine.specs.Turn.{act, act_with, put, branch_if, jump_and_link, next_pc}
+use Rattle.machine_words.specs.Arithmetic.{plus, subtract, half}
 use Rattle.rv_machine.specs.Mach.{step_by}
 use Rattle.rv_machine.specs.Real.{Setting, Here, mark_address, item_at, turn_in, machine_in, is_lost, needs_next}
-use Rattle.rv_machine.specs.Real.{last_step, op_step, jump_step, holds, branch_step, address_step, item_step, step_here}
+use Rattle.rv_machine.specs.Real.{last_step, op_step, jump_step, branch_step, address_step, item_step, step_here}
+use Rattle.machine_words.specs.Conditions.{holds}
 use Rattle.rv_machine.specs.Real.{real_machine}
 use Rattle.rv_machine.proofs.Public.{drop_next, a_condition_is_that_of_its_branch}
 use Rattle.assembler.specs.Layout.{longest_widths, is_near, mark_place, address_of, width}

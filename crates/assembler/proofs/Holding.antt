@@ -6,14 +6,14 @@ use Rattle.std.proofs.lemmas.List.{get_or-append-add}
 use Rattle.grift_base.specs.declared.places.Pos.{Pos}
 use Rattle.rv_isa.specs.declared.inst.Inst.{Inst}
 use Rattle.rv_isa.specs.declared.inst.Inst.TheVariants.{Ecall, Ebreak}
-use Rattle.rv_isa.specs.declared.inst.Cond.{Cond}
-use Rattle.rv_isa.specs.declared.inst.Cond.TheVariants.{Eq, Ne, Lt, Ge, Ltu, Geu}
-use Rattle.rv_isa.specs.declared.real.RealItem.{RealItem}
-use Rattle.rv_isa.specs.declared.real.RealItem.TheVariants.{Op, Mark, Jump, Branch, Address}
-use Rattle.rv_isa.specs.Conditions.{branch_when}
+use Rattle.machine_words.specs.declared.conditions.Cond.{Cond}
+use Rattle.machine_words.specs.declared.conditions.Cond.TheVariants.{Eq, Ne, Lt, Ge, Ltu, Geu}
+use Rattle.rv_machine.specs.declared.real.RealItem.{RealItem}
+use Rattle.rv_machine.specs.declared.real.RealItem.TheVariants.{Op, Mark, Jump, Branch, Address}
+use Rattle.rv_machine.specs.Branches.{branch_when}
 use Rattle.rv_isa.specs.Decoding.{decode_of}
 use Rattle.rv_isa.specs.Encoding.{encode_of}
-use Rattle.rv_machine.specs.Memory.{Memory, load_bytes}
+use Rattle.machine_words.specs.Memory.{Memory, load_bytes}
 use Rattle.rv_machine.specs.Image.{code_len}
 use Rattle.rv_machine.specs.State.{Layout}
 use Rattle.rv_machine.specs.Start.{layout_of}

@@ -7,8 +7,8 @@ use Rattle.std.proofs.lemmas.List.Elements.{All-push}
 use Rattle.std.proofs.lemmas.Grind.{flat_map-append}
 use Rattle.std.proofs.Math.Seq.{take-append_seam}
 use Rattle.grift_base.specs.declared.places.Pos.{Pos}
-use Rattle.rv_machine.specs.Memory.{load_bytes, memory_of}
-use Rattle.rv_machine.proofs.Public.{load_same}
+use Rattle.machine_words.specs.Memory.{load_bytes, memory_of}
+use Rattle.machine_words.proofs.Public.{load_same}
 use Rattle.rv_machine.specs.Image.{IsImage, word_at, image_len, statics_len, code_len, label_count, entry, loaded_part}
 use Rattle.rv_machine.specs.Image.{label_at, labels_from, labels_of}
 use Rattle.assembler.specs.Imaging.{word_bytes, half_bytes, label_bytes, header_bytes, code_bytes, image_bytes}

@@ -7,8 +7,8 @@ use Rattle.std.proofs.lemmas.List.{map-append, take_more, length-take-le, length
 use Rattle.rv_isa.specs.declared.inst.Inst.{Inst}
 use Rattle.rv_isa.specs.declared.inst.Inst.TheVariants.{Ecall}
 use Rattle.rv_isa.specs.Decoding.{decode_of}
-use Rattle.rv_isa.specs.declared.real.RealItem.{RealItem}
-use Rattle.rv_isa.specs.declared.real.RealItem.TheVariants.{Op, Mark, Jump, Branch, Address}
+use Rattle.rv_machine.specs.declared.real.RealItem.{RealItem}
+use Rattle.rv_machine.specs.declared.real.RealItem.TheVariants.{Op, Mark, Jump, Branch, Address}
 use Rattle.rv_isa.specs.Encoding.{encode_of}
 use Rattle.assembler.specs.Layout.{width, is_near, longest_widths, widths_from, address_of}
 use Rattle.assembler.specs.Expansion.{insts_of, item_insts, insts_from, target_of, code_insts}

@@ -6,8 +6,8 @@ use Rattle.std.proofs.Math.Nat.{pow-suc}
 use Rattle.std.proofs.lemmas.List.{get_or-append_right, get_or_append_left, get_or-take, get_or-drop, get_or-replicate}
 use Rattle.std.proofs.lemmas.List.{length-take-le, length-drop}
 use Rattle.std.specs.Int.{w64, byte_at, byte_worth, bytes_low_first, sum_through, from_le_bytes}
-use Rattle.rv_machine.specs.Memory.{load_bytes, byte_of, memory_of}
-use Rattle.rv_machine.proofs.Public.{load_same, load_short, load_below}
+use Rattle.machine_words.specs.Memory.{load_bytes, byte_of, memory_of}
+use Rattle.machine_words.proofs.Public.{load_same, load_short, load_below}
 
 power_256 : (i : ℕ) → 256 ^ i ≡ 2 ^ (8 * i)
 power_256 zero = refl

@@ -4,10 +4,10 @@ use Rattle.std.proofs.Common.{drop, refl, sym, ◌∙◌, ap, arith, append_asso
 use Rattle.std.specs.Prelude.{flat_map, slice_index}
 use Rattle.std.proofs.lemmas.List.Sums.{sum_by-cons}
 use Rattle.rv_isa.specs.declared.inst.Inst.{Inst}
-use Rattle.rv_isa.specs.declared.real.RealItem.{RealItem}
+use Rattle.rv_machine.specs.declared.real.RealItem.{RealItem}
 use Rattle.rv_isa.specs.Decoding.{decode_of}
 use Rattle.rv_isa.specs.Encoding.{encode_of}
-use Rattle.rv_machine.specs.Memory.{Memory, load_bytes}
+use Rattle.machine_words.specs.Memory.{Memory, load_bytes}
 use Rattle.rv_machine.specs.State.{Layout}
 use Rattle.assembler.specs.Layout.{words_before, widths_from, longest_widths}
 use Rattle.assembler.specs.Expansion.{item_insts, insts_from}

@@ -10,12 +10,13 @@ use Rattle.grift_base.specs.World.{WorldState}
 use Rattle.grift_base.specs.declared.places.Pos.{Pos}
 use Rattle.rv_isa.specs.declared.inst.Inst.{Inst}
 use Rattle.rv_isa.specs.declared.inst.Inst.TheVariants.{Ecall, Ebreak}
-use Rattle.rv_isa.specs.declared.real.RealItem.{RealItem}
-use Rattle.rv_isa.specs.declared.real.RealItem.TheVariants.{Op, Mark, Jump, Branch, Address}
+use Rattle.rv_machine.specs.declared.real.RealItem.{RealItem}
+use Rattle.rv_machine.specs.declared.real.RealItem.TheVariants.{Op, Mark, Jump, Branch, Address}
 use Rattle.rv_isa.specs.Decoding.{decode_of}
-use Rattle.rv_machine.specs.Memory.{Memory, load_bytes}
-use Rattle.rv_machine.specs.State.{Layout, State, Halt, GoesWrong, Turn, Next, Stops}
-use Rattle.rv_machine.specs.declared.faults.MachineFault.TheVariants.{Undefined, BadAddress}
+use Rattle.machine_words.specs.Memory.{Memory, load_bytes}
+use Rattle.rv_machine.specs.State.{Layout, State, Turn, Next, Stops}
+use Rattle.machine_words.specs.Halts.{Halt, GoesWrong}
+use Rattle.machine_words.specs.declared.faults.MachineFault.TheVariants.{Undefined, BadAddress}
 use Rattle.rv_machine.specs.Start.{start_of, layout_of}
 use Rattle.rv_machine.specs.Turn.{turn_of, act_if, call_environment, is_undefined}
 use Rattle.rv_machine.specs.Mach.{machine_by, step_by}

@@ -3,8 +3,8 @@ use Rattle.std.proofs.Common.{ℕ, List, refl}
 use Rattle.grift_base.specs.World.{WorldState}
 use Rattle.grift_base.specs.declared.places.Pos.{Pos}
 use Rattle.run_laws.specs.Runs.{Ending}
-use Rattle.rv_isa.specs.declared.real.RealItem.{RealItem}
-use Rattle.rv_machine.specs.State.{Halt}
+use Rattle.rv_machine.specs.declared.real.RealItem.{RealItem}
+use Rattle.machine_words.specs.Halts.{Halt}
 use Rattle.rv_machine.specs.Start.{start_of}
 use Rattle.rv_machine.specs.Real.{plain_setting, MarksStandOnce}
 use Rattle.rv_machine.proofs.Public.{Program, At}

@@ -1,7 +1,7 @@
 -- The word that the instructions of a far form leave in x31.
 use Rattle.std.proofs.Common.{ℕ, ◌+◌, ◌*◌, ◌/◌, ◌%◌, ◌^◌, ◌<◌, ◌≡◌, ◌⊎◌, inl, inr, ⊎_elim, ◌∙◌, ap, arith}
 use Rattle.std.specs.Prelude.{pos}
-use Rattle.rv_machine.specs.Turn.{half, plus, shift_left, shift_right}
+use Rattle.machine_words.specs.Arithmetic.{half, plus, shift_left, shift_right}
 use Rattle.assembler.specs.Expansion.{chunk_of}
 
 -- what is in x31 after the first two instructions

@@ -7,17 +7,19 @@ use Rattle.run_laws.specs.Machines.{Go, Reaches}
 use Rattle.run_laws.proofs.Public.{by_step}
 use Rattle.rv_isa.specs.declared.inst.Inst.{Inst}
 use Rattle.rv_isa.specs.declared.inst.Inst.TheVariants.{Lui, Addi, Slli, Srli, Ecall, Ebreak}
-use Rattle.rv_isa.specs.declared.real.RealItem.{RealItem}
-use Rattle.rv_isa.specs.declared.real.RealItem.TheVariants.{Op, Mark, Jump, Branch, Address}
+use Rattle.rv_machine.specs.declared.real.RealItem.{RealItem}
+use Rattle.rv_machine.specs.declared.real.RealItem.TheVariants.{Op, Mark, Jump, Branch, Address}
 use Rattle.rv_isa.specs.Decoding.{decode_of}
-use Rattle.rv_machine.specs.Memory.{Memory, load_bytes}
+use Rattle.machine_words.specs.Memory.{Memory, load_bytes}
 use Rattle.rv_machine.specs.Registers.{set_reg}
-use Rattle.rv_machine.specs.State.{Layout, State, Halt, Turn, reg}
-use Rattle.rv_machine.specs.Turn.{act, act_if, put, plus, half, shift_left, shift_right, next_pc}
+use Rattle.rv_machine.specs.State.{Layout, State, Turn, reg}
+use Rattle.machine_words.specs.Halts.{Halt}
+use Rattle.rv_machine.specs.Turn.{act, act_if, put, next_pc}
+use Rattle.machine_words.specs.Arithmetic.{plus, half, shift_left, shift_right}
 use Rattle.rv_machine.specs.Mach.{step_by}
 use Rattle.run_laws.specs.Runs.{Ending}
 use Rattle.rv_machine.specs.Real.{Setting, Here, item_at, call_of_item, call_here, call_or_fetched, turn_in, machine_in}
-use Rattle.rv_machine.proofs.Public.{load_same}
+use Rattle.machine_words.proofs.Public.{load_same}
 use Rattle.assembler.specs.Layout.{address_of}
 use Rattle.assembler.specs.Expansion.{chunk_of, far_insts}
 use Rattle.assembler.specs.Conditions.{is_mark}

@@ -8,9 +8,9 @@ use Rattle.std.proofs.lemmas.List.{get_or-append-add}
 use Rattle.std.proofs.lemmas.List.Sums.{sum_by-cons, sum_by-take-le}
 use Rattle.rv_isa.specs.declared.inst.Inst.{Inst}
 use Rattle.rv_isa.specs.declared.inst.Inst.TheVariants.{Ecall, Ebreak}
-use Rattle.rv_isa.specs.declared.real.RealItem.{RealItem}
-use Rattle.rv_isa.specs.declared.real.RealItem.TheVariants.{Op, Mark, Jump, Branch, Address}
-use Rattle.rv_machine.specs.Memory.{Memory}
+use Rattle.rv_machine.specs.declared.real.RealItem.{RealItem}
+use Rattle.rv_machine.specs.declared.real.RealItem.TheVariants.{Op, Mark, Jump, Branch, Address}
+use Rattle.machine_words.specs.Memory.{Memory}
 use Rattle.rv_machine.specs.State.{Layout}
 use Rattle.rv_machine.proofs.Public.{drop_next}
 use Rattle.assembler.specs.Layout.{words_before, widths_from, longest_widths, widths, address_of}

@@ -17,16 +17,19 @@ use Rattle.rv_isa.specs.declared.inst.Inst.TheVariants.{Lw, Ld, Lbu, Lhu, Lwu, S
 use Rattle.rv_isa.specs.declared.inst.Inst.TheVariants.{Ori, Andi, Slli, Srli, Srai, Add, Sub, Sll, Slt, Sltu, Xor, Srl}
 use Rattle.rv_isa.specs.declared.inst.Inst.TheVariants.{Sra, Or, And, Addiw, Slliw, Srliw, Sraiw, Addw, Subw, Sllw}
 use Rattle.rv_isa.specs.declared.inst.Inst.TheVariants.{Srlw, Sraw, Fence, Ecall, Ebreak}
-use Rattle.rv_machine.specs.Memory.{load_bytes, store_bytes, first_address}
+use Rattle.machine_words.specs.Memory.{load_bytes, store_bytes, first_address}
 use Rattle.rv_machine.specs.Registers.{set_reg}
 use Rattle.grift_base.specs.EnvironmentCall.{environment_call}
-use Rattle.rv_machine.specs.State.{Layout, State, GoesWrong, Turn, reg}
-use Rattle.rv_machine.specs.declared.faults.MachineFault.TheVariants.{Undefined, BadAddress, Misaligned}
-use Rattle.rv_machine.specs.Turn.{word_of, signed_of, sign_extend, add, plus, subtract, flag, signed_less, shift_left}
-use Rattle.rv_machine.specs.Turn.{shift_right, shift_right_signed, low_half, half, half_right_signed, next_pc, put}
+use Rattle.rv_machine.specs.State.{Layout, State, Turn, reg}
+use Rattle.machine_words.specs.Halts.{GoesWrong}
+use Rattle.machine_words.specs.declared.faults.MachineFault.TheVariants.{Undefined, BadAddress, Misaligned}
+use Rattle.machine_words.specs.Arithmetic.{word_of, signed_of, sign_extend, add, plus, subtract, flag, signed_less}
+use Rattle.machine_words.specs.Arithmetic.{shift_left}
+use Rattle.machine_words.specs.Arithmetic.{shift_right, shift_right_signed, low_half, half, half_right_signed}
+use Rattle.rv_machine.specs.Turn.{next_pc, put}
 use Rattle.rv_machine.specs.Turn.{load_into, store_from, branch_if, jump_and_link, blames, comes_to, called}
 use Rattle.rv_machine.specs.Turn.{call_environment, act_with, act}
-use Rattle.rv_machine.proofs.Public.{stored_outside}
+use Rattle.machine_words.proofs.Public.{stored_outside}
 use Rattle.assembler.specs.Conditions.{registers_of, is_relative}
 use Rattle.assembler.specs.Following.{IsLike, ComeToLike, LeavesCode, CanBeCall}
 

@@ -4,10 +4,10 @@ use Rattle.grift_base.specs.World.{WorldState}
 use Rattle.grift_base.specs.declared.places.Pos.{Pos}
 use Rattle.grift_base.specs.declared.verdicts.Verdict.{Verdict}
 use Rattle.run_laws.specs.Runs.{Ending}
-use Rattle.rv_isa.specs.declared.real.RealItem.{RealItem}
-use Rattle.rv_machine.specs.Memory.{load_bytes, first_address}
+use Rattle.rv_machine.specs.declared.real.RealItem.{RealItem}
+use Rattle.machine_words.specs.Memory.{load_bytes, first_address}
 use Rattle.rv_machine.specs.Image.{statics_len, code_len, labels_of}
-use Rattle.rv_machine.specs.State.{Halt}
+use Rattle.machine_words.specs.Halts.{Halt}
 use Rattle.rv_machine.specs.Start.{start_of}
 use Rattle.rv_machine.specs.Real.{AreAddresses, address_from}
 use Rattle.assembler.specs.Layout.{address_of}

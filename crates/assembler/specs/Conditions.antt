@@ -6,8 +6,8 @@ use Rattle.rv_isa.specs.declared.inst.Inst.TheVariants.{Lw, Ld, Lbu, Lhu, Lwu, S
 use Rattle.rv_isa.specs.declared.inst.Inst.TheVariants.{Ori, Andi, Slli, Srli, Srai, Add, Sub, Sll, Slt, Sltu, Xor, Srl}
 use Rattle.rv_isa.specs.declared.inst.Inst.TheVariants.{Sra, Or, And, Addiw, Slliw, Srliw, Sraiw, Addw, Subw, Sllw}
 use Rattle.rv_isa.specs.declared.inst.Inst.TheVariants.{Srlw, Sraw, Fence, Ecall, Ebreak}
-use Rattle.rv_isa.specs.declared.real.RealItem.{RealItem}
-use Rattle.rv_isa.specs.declared.real.RealItem.TheVariants.{Op, Mark, Jump, Branch, Address}
+use Rattle.rv_machine.specs.declared.real.RealItem.{RealItem}
+use Rattle.rv_machine.specs.declared.real.RealItem.TheVariants.{Op, Mark, Jump, Branch, Address}
 pub use Rattle.rv_machine.specs.Real.{is_mark}
 
 -- the registers that an instruction names

@@ -5,12 +5,13 @@ use Rattle.run_laws.specs.Runs.{Ending, NeverWrong, FollowsBy, Any}
 use Rattle.run_laws.specs.Machines.{Machine, run}
 use Rattle.run_laws.specs.Meters.{unspent, metered, each_one, Spends, OfRest}
 use Rattle.rv_isa.specs.declared.inst.Inst.TheVariants.{Ecall, Ebreak}
-use Rattle.rv_isa.specs.declared.real.RealItem.{RealItem}
-use Rattle.rv_isa.specs.declared.real.RealItem.TheVariants.{Op}
-use Rattle.rv_machine.specs.State.{State, Halt, Turn, Next, Stops}
+use Rattle.rv_machine.specs.declared.real.RealItem.{RealItem}
+use Rattle.rv_machine.specs.declared.real.RealItem.TheVariants.{Op}
+use Rattle.rv_machine.specs.State.{State, Turn, Next, Stops}
+use Rattle.machine_words.specs.Halts.{Halt}
 use Rattle.rv_machine.specs.Start.{start_of, IsRegionSize, IsStackSize}
 use Rattle.rv_machine.specs.Mach.{machine_by}
-use Rattle.rv_machine.specs.Memory.{Memory, load_bytes, memory_of, first_address, from_base}
+use Rattle.machine_words.specs.Memory.{Memory, load_bytes, memory_of, first_address, from_base}
 use Rattle.rv_machine.specs.Image.{statics_len, code_len, loaded_part}
 use Rattle.rv_isa.specs.declared.inst.Inst.{Inst}
 use Rattle.rv_isa.specs.Encoding.{encode_of}

@@ -4,9 +4,9 @@ use Rattle.std.specs.Prelude.{flat_map, map}
 use Rattle.std.specs.Int.{w32, w64, to_le_bytes}
 use Rattle.grift_base.specs.declared.places.Pos.{Pos}
 use Rattle.rv_isa.specs.declared.inst.Inst.{Inst}
-use Rattle.rv_isa.specs.declared.real.RealItem.{RealItem}
+use Rattle.rv_machine.specs.declared.real.RealItem.{RealItem}
 use Rattle.rv_isa.specs.Encoding.{encode_of}
-use Rattle.rv_machine.specs.Memory.{first_address}
+use Rattle.machine_words.specs.Memory.{first_address}
 use Rattle.assembler.specs.Expansion.{code_insts}
 
 -- eight bytes, and four, the lowest first

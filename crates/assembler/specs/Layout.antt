@@ -2,8 +2,8 @@
 -- its longest form. Positions count words from the start of the code, places count items.
 use Rattle.std.specs.Prelude.{ℕ, suc, ◌+◌, ◌-◌, ◌*◌, ◌==◌, nat_lt, Bool, true, if◌then◌else◌, List, [], ◌∷◌, map, take}
 use Rattle.std.specs.Prelude.{sum}
-use Rattle.rv_isa.specs.declared.real.RealItem.{RealItem}
-use Rattle.rv_isa.specs.declared.real.RealItem.TheVariants.{Op, Mark, Jump, Branch, Address}
+use Rattle.rv_machine.specs.declared.real.RealItem.{RealItem}
+use Rattle.rv_machine.specs.declared.real.RealItem.TheVariants.{Op, Mark, Jump, Branch, Address}
 
 -- how many words the longest form of an item has
 abbrev pub longest : RealItem → ℕ

@@ -1,6 +1,6 @@
 -- Prices of items: how many instructions each is done in at most, wherever code lies.
 use Rattle.std.specs.Prelude.{ℕ, List, Option, Some, None}
-use Rattle.rv_isa.specs.declared.real.RealItem.{RealItem}
+use Rattle.rv_machine.specs.declared.real.RealItem.{RealItem}
 use Rattle.rv_machine.specs.State.{State}
 use Rattle.rv_machine.specs.Real.{Setting, Here, item_at}
 use Rattle.assembler.specs.Layout.{longest}

@@ -4,8 +4,8 @@ use Rattle.std.specs.Prelude.{get_or, All}
 use Rattle.grift_base.specs.declared.places.Pos.{Pos}
 use Rattle.indexmap.specs.IndexMap.{get}
 use Rattle.rv_isa.specs.Bits.{IsIn, IsEven}
-use Rattle.rv_isa.specs.declared.real.RealItem.{RealItem}
-use Rattle.rv_isa.specs.declared.real.RealItem.TheVariants.{Jump, Branch, Address}
+use Rattle.rv_machine.specs.declared.real.RealItem.{RealItem}
+use Rattle.rv_machine.specs.declared.real.RealItem.TheVariants.{Jump, Branch, Address}
 use Rattle.assembler.specs.declared.layout.Reach.{Reach}
 use Rattle.assembler.specs.declared.layout.Layout.{Layout}
 use Rattle.assembler.specs.Layout.{mark_place, words_before, longest_widths, widths}

@@ -15,8 +15,8 @@ use crate::layout::Layout;
 use grift_base::lists::OutOfMemory;
 use grift_base::places::LabelTable;
 use grift_base::words::Statics;
-use rv_isa::real::{RealCode, RealItem};
-use rv_machine::FIRST_ADDRESS;
+use machine_words::FIRST_ADDRESS;
+use rv_machine::real::{RealCode, RealItem};
 use std::alloc::Global;
 
 // How many items there may be, and how many words of statics: the bytes of more find no place in any memory.

@@ -1,7 +1,7 @@
 // Numbers that are read from a slice of bytes, the lowest byte first.
 
 ghost use Rattle.std.specs.Prelude.{◌≡◌, ◌<◌, ◌≤◌, ◌+◌, ◌*◌, ◌^◌, length};
-ghost use Rattle.rv_machine.specs.Memory.{load_bytes, memory_of};
+ghost use Rattle.machine_words.specs.Memory.{load_bytes, memory_of};
 
 /// The number of the `WIDTH` bytes from place `at` on.
 pub fn read_number<const WIDTH: usize>(bytes: &[u8], at: usize) -> u64

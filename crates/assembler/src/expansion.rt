@@ -9,9 +9,11 @@ ghost use Rattle.assembler.specs.Encoded.{AllDecode};
 ghost use Rattle.assembler.specs.Tables.{Fits};
 
 use grift_base::lists::{Items, OutOfMemory};
-use rv_isa::inst::{Cond, Inst, encode};
+use machine_words::conditions::Cond;
+use rv_isa::inst::{Inst, encode};
 use rv_isa::number::{Imm12, Imm13, Imm21, Reg, Shift6, Upper};
-use rv_isa::real::RealItem;
+use rv_machine::branches::branch;
+use rv_machine::real::RealItem;
 
 /// The words of instructions in order.
 pub type CodeWords = Items<u32>;
@@ -57,7 +59,7 @@ fn put_near(
         }
         RealItem::Branch(cond, rs1, rs2, _) => {
             let offset = Imm13::new(offset(here, target));
-            put_all(words, &[Inst::branch(*cond, *rs1, *rs2, offset)])
+            put_all(words, &[branch(*cond, *rs1, *rs2, offset)])
         }
         RealItem::Address(rd, _) => put_all(words, &near_address(*rd, target)),
     }
@@ -75,7 +77,7 @@ fn put_far(words: &mut CodeWords, target: u64, item: &RealItem) -> Result<(), Ou
         RealItem::Branch(cond, rs1, rs2, _) => {
             put_all(
                 words,
-                &[Inst::branch(opposite(*cond), *rs1, *rs2, Imm13::new(44))],
+                &[branch(opposite(*cond), *rs1, *rs2, Imm13::new(44))],
             )?;
             put_far_jump(words, Reg::new(0), target)
         }

@@ -9,7 +9,7 @@ ghost use Rattle.assembler.specs.Tables.{HoldsSums, HoldsPlaces, IsReachOf, IsLa
 
 use grift_base::lists::{Items, OutOfMemory};
 use indexmap::IndexMap;
-use rv_isa::real::RealItem;
+use rv_machine::real::RealItem;
 use std::alloc::Global;
 
 // What tells which items have their near form: the place of each mark, how many words lie before each place if every

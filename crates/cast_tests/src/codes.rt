@@ -4,8 +4,8 @@ use grift_base::lists::OutOfMemory;
 use grift_base::words::Statics;
 use low_ir::code::{LowCode, LowSource, LowSources, WordOp};
 use low_ir::programs::{LowProc, LowProcs, LowProgram};
+use machine_words::conditions::Cond;
 use rt_cast::procs::cast_procs;
-use rv_isa::inst::Cond;
 use std::alloc::Global;
 
 // The procedures of casts, which stand first in each program.

@@ -8,13 +8,13 @@ use grift_base::lists::{Bytes, OutOfMemory};
 use grift_base::places::LabelTable;
 use grift_base::worlds::World;
 use low_ir::programs::LowProgram;
+use machine_words::FIRST_ADDRESS;
 use object_layout::walks::{SpaceReport, walk};
 use reg_assign::images::image_of;
 use rv_emulator::flat::FlatRam;
 use rv_emulator::machine::Machine;
 use rv_emulator::stops::Stop;
 use rv_isa::number::Reg;
-use rv_machine::FIRST_ADDRESS;
 use std::alloc::Global;
 use std::test::Fail;
 

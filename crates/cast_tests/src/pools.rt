@@ -13,7 +13,7 @@ use coercion_norm::tables::CoercionTable;
 use grift_base::lists::OutOfMemory;
 use grift_base::places::{LabelId, TypeId};
 use grift_base::words::Statics;
-use rv_machine::FIRST_ADDRESS;
+use machine_words::FIRST_ADDRESS;
 use std::alloc::Global;
 use std::marker::Model;
 use std::test::Fail;

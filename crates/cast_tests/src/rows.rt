@@ -10,9 +10,9 @@ use grift_base::lists::OutOfMemory;
 use grift_base::words::Statics;
 use low_ir::code::{LowSource, WordOp};
 use low_ir::programs::{LowProc, LowProcs, LowProgram};
+use machine_words::FIRST_ADDRESS;
 use object_layout::headers::{Header, pack};
 use object_layout::kinds::Kind;
-use rv_machine::FIRST_ADDRESS;
 use std::alloc::Global;
 use std::test::Fail;
 

@@ -35,11 +35,13 @@ use Rattle.run_laws.specs.Machines.{run}
 use Rattle.run_laws.specs.Meters.{metered, unspent}
 use Rattle.run_laws.specs.Runs.{Any, Ending, Exhausted, Follows, FollowsBy, NeverWrong, Run}
 use Rattle.run_laws.proofs.Public.{follows_is_transitive, follows_of, follower_never_goes_wrong}
-use Rattle.rv_machine.specs.Memory.{first_address}
+use Rattle.machine_words.specs.Memory.{first_address}
 use Rattle.rv_machine.specs.Image.{statics_len, code_len}
-use Rattle.rv_machine.specs.Mach.{IsReading, ending_of, mach, run_of}
+use Rattle.machine_words.specs.Halts.{IsReading, ending_of}
+use Rattle.rv_machine.specs.Mach.{mach, run_of}
 use Rattle.rv_machine.specs.Start.{IsRegionSize, IsStackSize, fresh_world, start_of}
-use Rattle.rv_machine.specs.State.{State, Halt, Lacks, Stack}
+use Rattle.rv_machine.specs.State.{State}
+use Rattle.machine_words.specs.Halts.{Halt, Lacks, Stack}
 use Rattle.core_calc.specs.Account.{measures_of}
 use Rattle.core_calc.specs.Calculus.{Program, calc}
 use Rattle.core_calc.specs.Typing.{ProgramTermHasType}

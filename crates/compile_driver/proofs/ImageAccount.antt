@@ -24,9 +24,11 @@ use Rattle.run_laws.specs.Runs.{
 }
 use Rattle.run_laws.specs.Runs.{HasVerdictOf}
 use Rattle.run_laws.proofs.Public.{within_trans, meter_changes_nothing_else-machines}
-use Rattle.rv_machine.specs.Mach.{ending_of, mach, machine, machine_by, run_of}
+use Rattle.machine_words.specs.Halts.{ending_of}
+use Rattle.rv_machine.specs.Mach.{mach, machine, machine_by, run_of}
 use Rattle.rv_machine.specs.Start.{IsRegionSize, IsStackSize}
-use Rattle.rv_machine.specs.State.{State, Halt, Ended, Lacks, GoesWrong, Room, Region, Stack}
+use Rattle.rv_machine.specs.State.{State}
+use Rattle.machine_words.specs.Halts.{Halt, Ended, Lacks, GoesWrong, Room, Region, Stack}
 use Rattle.core_calc.specs.Account.{Account, account, measures_of}
 use Rattle.core_calc.specs.Calculus.{Program, calc}
 use Rattle.coercion_norm.specs.MergedMode.{merging}

@@ -6,10 +6,10 @@ use Rattle.grift_base.specs.Types.{TypeRow, TypeRows, IntRow, BoolRow, UnitRow, 
 use Rattle.grift_base.specs.Types.{VectRow}
 use Rattle.grift_base.specs.declared.places.Pos.{Pos}
 use Rattle.grift_base.specs.declared.words.Statics.{Statics}
-use Rattle.rv_machine.specs.Memory.{first_address, load_bytes}
+use Rattle.machine_words.specs.Memory.{first_address, load_bytes}
 use Rattle.rv_machine.specs.Start.{IsRegionSize, IsStackSize, fresh_world}
 use Rattle.rv_machine.specs.State.{State}
-use Rattle.rv_machine.proofs.Public.{load_same}
+use Rattle.machine_words.proofs.Public.{load_same}
 use Rattle.object_layout.specs.declared.wholes.Area.TheVariants.{Statics as InStatics}
 use Rattle.object_layout.specs.Kinds.{is_type}
 use Rattle.object_layout.specs.Wholes.{Telling, IsRow}

@@ -14,11 +14,13 @@ use Rattle.rv_isa.specs.declared.inst.Inst.TheVariants.{Lui, Auipc, Jal, Jalr, B
 use Rattle.rv_isa.specs.declared.inst.Inst.TheVariants.{Lw, Ld, Lbu, Lhu, Lwu, Sb, Sh, Sw, Sd}
 use Rattle.rv_isa.specs.declared.inst.Inst.TheVariants.{Ecall, Ebreak}
 use Rattle.rv_isa.specs.Decoding.{decode_of}
-use Rattle.rv_machine.specs.Mach.{ending_of, machine, step_by}
-use Rattle.rv_machine.specs.Memory.{first_address, load_bytes}
+use Rattle.machine_words.specs.Halts.{ending_of}
+use Rattle.rv_machine.specs.Mach.{machine, step_by}
+use Rattle.machine_words.specs.Memory.{first_address, load_bytes}
 use Rattle.rv_machine.specs.State.{State, Layout, Turn, Next, Stops, reg}
 use Rattle.rv_machine.specs.Turn.{act, act_if, blames, branch_if, called, comes_to}
-use Rattle.rv_machine.specs.Turn.{jump_and_link, load_into, plus, signed_less, store_from, turn_of}
+use Rattle.rv_machine.specs.Turn.{jump_and_link, load_into, store_from, turn_of}
+use Rattle.machine_words.specs.Arithmetic.{plus, signed_less}
 
 -- what a turn goes on with has this layout
 abbrev pub Lays : Layout → Turn → Type 0

@@ -36,13 +36,15 @@ use Rattle.rv_isa.specs.declared.inst.Inst.TheVariants.{Sra, Or, And, Addiw, Sll
 use Rattle.rv_isa.specs.declared.inst.Inst.TheVariants.{Srlw, Sraw, Fence, Ecall, Ebreak}
 use Rattle.rv_isa.specs.Decoding.{decode_of}
 use Rattle.rv_machine.specs.Mach.{machine_by, step_by, run_of, onward}
-use Rattle.rv_machine.specs.Memory.{first_address, load_bytes, store_bytes}
+use Rattle.machine_words.specs.Memory.{first_address, load_bytes, store_bytes}
 use Rattle.rv_machine.specs.Registers.{set_reg}
-use Rattle.rv_machine.specs.declared.faults.MachineFault.{MachineFault}
-use Rattle.rv_machine.specs.declared.faults.MachineFault.TheVariants.{BadAddress, Misaligned}
-use Rattle.rv_machine.specs.State.{State, Halt, Turn, Next, Stops, reg}
+use Rattle.machine_words.specs.declared.faults.MachineFault.{MachineFault}
+use Rattle.machine_words.specs.declared.faults.MachineFault.TheVariants.{BadAddress, Misaligned}
+use Rattle.rv_machine.specs.State.{State, Turn, Next, Stops, reg}
+use Rattle.machine_words.specs.Halts.{Halt}
 use Rattle.rv_machine.specs.Turn.{turn_of, act, act_if, branch_if, jump_and_link, load_into, store_from, goes_wrong}
-use Rattle.rv_machine.specs.Turn.{blames, comes_to, called, next_pc, plus, sign_extend}
+use Rattle.rv_machine.specs.Turn.{blames, comes_to, called, next_pc}
+use Rattle.machine_words.specs.Arithmetic.{plus, sign_extend}
 use Rattle.std.specs.Int.{Width, w8, w16, w32, w64, byte_len}
 
 -- ---- output

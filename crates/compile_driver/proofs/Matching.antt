@@ -4,7 +4,7 @@ use Rattle.std.proofs.Common.{length, Option, Some, None, refl, sym, ap, ◌∙�
 use Rattle.std.proofs.lemmas.List.{length-map}
 use Rattle.grift_base.specs.Types.{TypeRows, parts_of}
 use Rattle.type_graph.specs.Trees.{height}
-use Rattle.rv_machine.specs.Memory.{Memory}
+use Rattle.machine_words.specs.Memory.{Memory}
 use Rattle.object_layout.specs.declared.headers.Header.{Header}
 use Rattle.object_layout.specs.Wholes.{IsNth, StartsAt}
 use Rattle.coercion_norm.specs.Coercions.{Coercion, rows_of}

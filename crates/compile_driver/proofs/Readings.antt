@@ -28,8 +28,8 @@ use Rattle.grift_base.specs.declared.worlds.EnvEffect.TheVariants.{Next as GoesO
 use Rattle.grift_base.specs.declared.worlds.EnvEffect.TheVariants.{RegionOut, StackOut, Refused, OutOfMemory}
 use Rattle.run_laws.specs.Runs.{Ending, Wrong, NeverWrong, Moment}
 use Rattle.run_laws.specs.Machines.{Next, Go, Stop, and_then, steps, seen, run}
-use Rattle.rv_machine.specs.State.{Halt, Ended, Lacks, Room, Region}
-use Rattle.rv_machine.specs.Turn.{plus}
+use Rattle.machine_words.specs.Halts.{Halt, Ended, Lacks, Room, Region}
+use Rattle.machine_words.specs.Arithmetic.{plus}
 use Rattle.low_ir.specs.Operations.{compute}
 use Rattle.low_ir.specs.Procedures.{Code, Done, Set, Compute, Load, Store, CodeOf, Build, Request, Take, Environment}
 use Rattle.low_ir.specs.Procedures.{Call, CallAt, If, Return, TailCall, TailCallAt, Proc}

@@ -9,8 +9,8 @@ use Rattle.grift_base.specs.World.{WorldState}
 use Rattle.grift_base.specs.Types.{TypeRows}
 use Rattle.grift_base.specs.declared.places.Pos.{Pos}
 use Rattle.grift_base.specs.declared.words.Statics.{Statics}
-use Rattle.rv_isa.specs.declared.real.RealItem.{RealItem}
-use Rattle.rv_machine.specs.Memory.{Memory, first_address}
+use Rattle.rv_machine.specs.declared.real.RealItem.{RealItem}
+use Rattle.machine_words.specs.Memory.{Memory, first_address}
 use Rattle.rv_machine.specs.Image.{statics_len, code_len}
 use Rattle.rv_machine.specs.State.{State}
 use Rattle.rv_machine.specs.Start.{start_of, IsRegionSize, IsStackSize}

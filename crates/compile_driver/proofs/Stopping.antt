@@ -7,9 +7,9 @@ use Rattle.run_laws.specs.Runs.{Ending, Verdict, Wrong, Run, NeverWrong, Any, Fo
 use Rattle.run_laws.specs.Machines.{run}
 use Rattle.run_laws.specs.Meters.{Metered, unspent, metered}
 use Rattle.run_laws.proofs.Public.{meter_changes_nothing_else-machines}
-use Rattle.rv_machine.specs.Mach.{ending_of}
-use Rattle.rv_machine.specs.Memory.{Memory}
-use Rattle.rv_machine.specs.State.{Halt, Ended, Lacks, Room}
+use Rattle.machine_words.specs.Halts.{ending_of}
+use Rattle.machine_words.specs.Memory.{Memory}
+use Rattle.machine_words.specs.Halts.{Halt, Ended, Lacks, Room}
 use Rattle.low_ir.specs.Counting.{Exceeds, IsWantOfRegion, any_calls}
 use Rattle.low_ir.specs.Procedures.{Proc}
 use Rattle.low_ir.specs.Run.{Setting, LowState, LowShown, low_machine, low_start}

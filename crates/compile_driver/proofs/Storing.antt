@@ -5,7 +5,7 @@ use Rattle.std.proofs.Common.{max, List, [], ◌∷◌, ◌++◌, length, replic
 use Rattle.std.proofs.Common.{append_assoc, append-nil, eqb-true, arith}
 use Rattle.std.specs.Prelude.{◌==◌, ◌&&◌, nat_le, if◌then◌else◌, option_and_then}
 use Rattle.grift_base.specs.Types.{TypeRows}
-use Rattle.rv_machine.specs.Memory.{Memory, first_address, load_bytes}
+use Rattle.machine_words.specs.Memory.{Memory, first_address, load_bytes}
 use Rattle.low_ir.specs.Run.{Setting}
 use Rattle.object_layout.specs.declared.headers.Header.{Header}
 use Rattle.object_layout.specs.declared.kinds.Kind.{Kind}

@@ -4,7 +4,8 @@ use Rattle.std.specs.Prelude.{◌≡◌, ◌⊎◌, ℕ, suc, ◌+◌, ◌*◌, 
 use Rattle.run_laws.specs.Runs.{IsExhausted, IsPrefix, HasVerdictOf}
 use Rattle.rv_machine.specs.Mach.{mach, run_of}
 use Rattle.rv_machine.specs.Start.{IsRegionSize, IsStackSize, fresh_world, start_of}
-use Rattle.rv_machine.specs.State.{State, Halt, Lacks, Region, Stack}
+use Rattle.rv_machine.specs.State.{State}
+use Rattle.machine_words.specs.Halts.{Halt, Lacks, Region, Stack}
 use Rattle.core_calc.specs.Account.{Account, account, measures_of}
 use Rattle.core_calc.specs.Calculus.{Program, calc}
 

@@ -4,7 +4,7 @@ use Rattle.std.specs.Prelude.{◌≡◌, ◌⊎◌, ℕ, ◌+◌, ◌≤◌, tru
 use Rattle.grift_base.specs.Types.{TypeRows}
 use Rattle.grift_base.specs.Words.{word_within}
 use Rattle.rv_machine.specs.Mach.{mach}
-use Rattle.rv_machine.specs.Memory.{first_address, load_bytes}
+use Rattle.machine_words.specs.Memory.{first_address, load_bytes}
 use Rattle.rv_machine.specs.Start.{IsRegionSize, IsStackSize, fresh_world, start_of}
 use Rattle.rv_machine.specs.State.{State}
 use Rattle.object_layout.specs.declared.headers.Header.{Header}

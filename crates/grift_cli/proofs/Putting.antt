@@ -7,10 +7,11 @@ use Rattle.grift_base.specs.Sink.{SinkSeen, Takes, Puts}
 use Rattle.grift_base.specs.declared.sinks.SinkFault.{SinkFault}
 use Rattle.grift_base.specs.declared.sinks.SinkFault.TheVariants.{Failed, OutOfMemory}
 use Rattle.run_laws.specs.Runs.{Wrong}
-use Rattle.rv_machine.specs.State.{State, Halt, Ended, Lacks as LacksRoom, GoesWrong}
+use Rattle.rv_machine.specs.State.{State}
+use Rattle.machine_words.specs.Halts.{Halt, Ended, Lacks as LacksRoom, GoesWrong}
 use Rattle.rv_machine.specs.Start.{start_of, fresh_world}
 use Rattle.rv_machine.specs.Mach.{moment_of}
-use Rattle.rv_machine.specs.declared.faults.MachineFault.{MachineFault}
+use Rattle.machine_words.specs.declared.faults.MachineFault.{MachineFault}
 use Rattle.rv_machine.proofs.Public.{run_is_its_turns-states}
 use Rattle.grift_cli.specs.Commands.{default_limits}
 use Rattle.grift_cli.specs.Generating.{PutsNumbers}

@@ -19,7 +19,8 @@ use Rattle.grift_base.specs.declared.shelves.LoadFault.TheVariants.{OutOfMemory 
 use Rattle.grift_base.specs.declared.verdicts.Verdict.{Verdict}
 use Rattle.grift_base.specs.declared.verdicts.Verdict.TheVariants.{Answer, Blame, Trap, RegionOut, StackOut, StepsSpent}
 use Rattle.core_calc.specs.Calculus.{Program, calc}
-use Rattle.rv_machine.specs.State.{State, Region, Stack, Halt, Ended, Lacks, GoesWrong}
+use Rattle.rv_machine.specs.State.{State}
+use Rattle.machine_words.specs.Halts.{Region, Stack, Halt, Ended, Lacks, GoesWrong}
 use Rattle.rv_machine.specs.Start.{IsRegionSize, IsStackSize, start_of, fresh_world}
 use Rattle.rv_machine.specs.Image.{IsImage}
 use Rattle.rv_machine.specs.Mach.{mach, moment_of}

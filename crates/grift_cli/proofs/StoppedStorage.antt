@@ -5,7 +5,8 @@ use Rattle.std.specs.Prelude.{◌&&◌, if◌then◌else◌, pos}
 use Rattle.grift_base.specs.Types.{TypeRows}
 use Rattle.rv_machine.specs.Mach.{moment_of}
 use Rattle.rv_machine.specs.Start.{IsRegionSize, IsStackSize, fresh_world, layout_of, start_of}
-use Rattle.rv_machine.specs.State.{State, Halt, reg}
+use Rattle.rv_machine.specs.State.{State, reg}
+use Rattle.machine_words.specs.Halts.{Halt}
 use Rattle.rv_machine.proofs.Public.{run_is_its_turns-states}
 use Rattle.rv_emulator.specs.Blocks.{with_output}
 use Rattle.object_layout.specs.declared.headers.Header.{Header}

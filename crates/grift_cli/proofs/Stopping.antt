@@ -4,7 +4,8 @@ use Rattle.std.proofs.Common.{refl, sym, ◌∙◌, ap, subst, arith}
 use Rattle.std.proofs.lemmas.List.{append-nil, append_assoc, length-append}
 use Rattle.std.proofs.Math.Seq.{take-append-add}
 use Rattle.grift_base.specs.Sink.{SinkSeen, Takes, Breaks, Adds, AddsBeginning, sink_seen}
-use Rattle.rv_machine.specs.State.{State, Halt}
+use Rattle.rv_machine.specs.State.{State}
+use Rattle.machine_words.specs.Halts.{Halt}
 use Rattle.rv_machine.specs.Start.{start_of, fresh_world}
 use Rattle.rv_machine.specs.Mach.{run_of}
 use Rattle.rv_machine.proofs.Public.{run_none}

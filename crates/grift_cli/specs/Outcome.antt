@@ -4,7 +4,7 @@ use Rattle.grift_base.specs.Sink.{SinkSeen, Untouched, Takes, Breaks}
 use Rattle.grift_base.specs.declared.refusals.Refusal.{Refusal}
 use Rattle.grift_base.specs.declared.verdicts.Verdict.{Verdict}
 use Rattle.rv_machine.specs.Image.{IsImage}
-use Rattle.rv_machine.specs.declared.faults.MachineFault.{MachineFault}
+use Rattle.machine_words.specs.declared.faults.MachineFault.{MachineFault}
 use Rattle.core_calc.specs.Calculus.{Program}
 use Rattle.assembler.specs.Faults.{IsFirstFault}
 use Rattle.cast_insert.specs.Outcomes.{IsRefused as IsRefusedText}

@@ -18,8 +18,8 @@ use Rattle.grift_base.specs.declared.shelves.LoadFault.TheVariants.{Failed as Sh
 use Rattle.grift_base.specs.declared.shelves.LoadFault.TheVariants.{OutOfMemory as ShelfMemory}
 use Rattle.grift_base.specs.declared.sinks.SinkFault.{SinkFault}
 use Rattle.grift_base.specs.declared.sinks.SinkFault.TheVariants.{Failed as SinkFailed, OutOfMemory as SinkMemory}
-use Rattle.rv_machine.specs.declared.faults.MachineFault.{MachineFault}
-use Rattle.rv_machine.specs.declared.faults.MachineFault.TheVariants.{Undefined, BadAddress, Misaligned}
+use Rattle.machine_words.specs.declared.faults.MachineFault.{MachineFault}
+use Rattle.machine_words.specs.declared.faults.MachineFault.TheVariants.{Undefined, BadAddress, Misaligned}
 use Rattle.grift_cli.specs.Calls.{CallSeen}
 use Rattle.grift_cli.specs.Lines.{number_line}
 use Rattle.grift_cli.specs.Outcome.{Says}

@@ -4,7 +4,7 @@ use Rattle.run_laws.specs.Runs.{NeverWrong}
 use Rattle.grift_base.specs.Sink.{SinkSeen, Untouched, Takes, Breaks}
 use Rattle.grift_base.specs.declared.sinks.SinkFault.{SinkFault}
 use Rattle.grift_base.specs.declared.sinks.SinkFault.TheVariants.{Failed, OutOfMemory as SinkMemory}
-use Rattle.rv_machine.specs.State.{Halt}
+use Rattle.machine_words.specs.Halts.{Halt}
 use Rattle.rv_machine.specs.Mach.{mach}
 use Rattle.rv_emulator.specs.Turns.{Outcome, Halts, Spent, NoMemory as WantsMemory}
 use Rattle.grift_cli.specs.Runs.{run_within, printed, verdict_of_run, fault_of_run}

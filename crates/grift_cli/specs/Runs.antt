@@ -3,10 +3,11 @@ use Rattle.std.specs.Prelude.{ℕ, ◌≡◌, List, Option, Some, None}
 use Rattle.run_laws.specs.Runs.{Ending, Verdict as EndsWith}
 use Rattle.grift_base.specs.declared.verdicts.Verdict.{Verdict}
 use Rattle.grift_base.specs.declared.verdicts.Verdict.TheVariants.{Answer, Blame, Trap, StepsSpent}
-use Rattle.rv_machine.specs.State.{State, Halt, verdict_of, fault_of}
+use Rattle.rv_machine.specs.State.{State}
+use Rattle.machine_words.specs.Halts.{Halt, verdict_of, fault_of}
 use Rattle.rv_machine.specs.Start.{start_of, fresh_world}
 use Rattle.rv_machine.specs.Mach.{run_of}
-use Rattle.rv_machine.specs.declared.faults.MachineFault.{MachineFault}
+use Rattle.machine_words.specs.declared.faults.MachineFault.{MachineFault}
 use Rattle.core_calc.specs.Calculus.{Program, calc}
 use Rattle.grift_cli.specs.declared.commands.Limits.{Limits}
 

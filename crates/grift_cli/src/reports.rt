@@ -14,8 +14,8 @@ use grift_base::shelves::LoadFault;
 use grift_base::sinks::SinkFault;
 use grift_base::verdicts::{Verdict, verdict_line};
 use itoa::Buffer;
+use machine_words::faults::MachineFault;
 use object_layout::walks::SpaceReport;
-use rv_machine::faults::MachineFault;
 use std::alloc::Global;
 
 /// Why a file holds no image.

@@ -17,11 +17,11 @@ use grift_base::lists::{Bytes, OutOfMemory};
 use grift_base::sinks::{Sink, SinkFault};
 use grift_base::verdicts::Verdict;
 use grift_base::worlds::World;
+use machine_words::faults::MachineFault;
 use rv_emulator::machine::Machine;
 use rv_emulator::paged::PagedRam;
 use rv_emulator::ram::Ram;
 use rv_emulator::stops::{BlockStop, Stop};
-use rv_machine::faults::MachineFault;
 use std::alloc::Global;
 
 /// Puts an image that never goes wrong, runs it within the limits on this input, and puts what it prints as it goes.

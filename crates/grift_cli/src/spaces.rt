@@ -16,12 +16,12 @@ use assembler::image::Image;
 use compile_driver::compiling::Compiled;
 use grift_base::lists::Bytes;
 use grift_base::sinks::Sink;
+use machine_words::FIRST_ADDRESS;
 use object_layout::walks::{SpaceReport, walk};
 use rv_emulator::machine::Machine;
 use rv_emulator::paged::PagedRam;
 use rv_emulator::ram::Ram;
 use rv_isa::number::Reg;
-use rv_machine::FIRST_ADDRESS;
 use std::alloc::Global;
 
 /// Puts the image of a source, which never goes wrong and keeps its storage whole, runs it within the limits on this

@@ -2,8 +2,8 @@
 use Rattle.std.proofs.Common.{◌≡◌, ℕ, zero, suc, ◌+◌, ◌*◌, ◌^◌, ◌<◌, List, [], ◌∷◌, ◌++◌, length, refl, ap, arith}
 use Rattle.std.specs.Prelude.{All}
 use Rattle.std.proofs.lemmas.List.Elements.{All-nil, All-cons}
-use Rattle.rv_machine.specs.Memory.{load_bytes, memory_of}
-use Rattle.rv_machine.proofs.Public.{load_below}
+use Rattle.machine_words.specs.Memory.{load_bytes, memory_of}
+use Rattle.machine_words.proofs.Public.{load_below}
 use Rattle.listing.specs.CodeLines.{words_from}
 
 pub words_none : (bytes : List ℕ) (at : ℕ) → words_from bytes at 0 ≡ []

@@ -2,7 +2,7 @@
 use Rattle.std.specs.Prelude.{ℕ, zero, suc, false, ◌+◌, ◌-◌, ◌/◌, List, [], ◌∷◌, ◌++◌, codes, length, replicate}
 use Rattle.std.specs.Fmt.{digits}
 use Rattle.rv_machine.specs.Image.{statics_len, code_len}
-use Rattle.rv_machine.specs.Memory.{first_address, load_bytes, memory_of}
+use Rattle.machine_words.specs.Memory.{first_address, load_bytes, memory_of}
 use Rattle.listing.specs.Instructions.{word_text}
 
 -- a number in hexadecimal digits, at least eight of them

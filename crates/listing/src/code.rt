@@ -7,7 +7,7 @@ use crate::lines::write_line;
 use assembler::bytes::read_number;
 use assembler::image::Image;
 use grift_base::lists::{Items, OutOfMemory, Text};
-use rv_machine::FIRST_ADDRESS;
+use machine_words::FIRST_ADDRESS;
 use std::alloc::Global;
 
 /// The words of a code, in order.

@@ -5,9 +5,9 @@ use Rattle.std.specs.Prelude.{◌&&◌, ◌==◌, nat_lt, nat_le, slice_get, max
 use Rattle.run_laws.specs.Runs.{Ending}
 use Rattle.run_laws.specs.Machines.{Next, Go, Stop, Machine, run, steps, seen, and_then}
 use Rattle.run_laws.specs.Meters.{Metered, metered, charge}
-use Rattle.rv_machine.specs.State.{Halt}
-use Rattle.rv_machine.specs.Real.{holds}
-use Rattle.rv_machine.specs.Turn.{plus}
+use Rattle.machine_words.specs.Halts.{Halt}
+use Rattle.machine_words.specs.Conditions.{holds}
+use Rattle.machine_words.specs.Arithmetic.{plus}
 use Rattle.low_ir.specs.Steps.{given, only_if, settle, may_load, may_store, Effect, Goes, Halts, Lost}
 use Rattle.low_ir.specs.Procedures.{Code, Done, Set, Compute, Load, Store, CodeOf, Build, Request, Take, Environment}
 use Rattle.low_ir.specs.Procedures.{Call, CallAt, If, Return, TailCall, TailCallAt, Proc}

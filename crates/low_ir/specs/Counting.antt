@@ -2,7 +2,7 @@
 use Rattle.std.specs.Prelude.{ℕ, ◌+◌, ◌*◌, ◌%◌, ◌^◌, ◌<◌, ◌≤◌, ◌≡◌, ◌≢◌, ◌⊎◌, ◌==◌, ◌||◌, Bool, false, List, [], ◌∷◌}
 use Rattle.std.specs.Prelude.{None, Some}
 use Rattle.run_laws.specs.Runs.{Ending, Wrong, Moment}
-use Rattle.rv_machine.specs.State.{Halt, Lacks, Region}
+use Rattle.machine_words.specs.Halts.{Halt, Lacks, Region}
 use Rattle.low_ir.specs.Procedures.{Code, Done, Set, Compute, Load, Store, CodeOf, Build, Request, Take, Environment}
 use Rattle.low_ir.specs.Procedures.{Call, CallAt, If, Return, TailCall, TailCallAt, Proc}
 use Rattle.low_ir.specs.Run.{Setting, LowShown}

@@ -1,6 +1,7 @@
 -- The operations on words.
 use Rattle.std.specs.Prelude.{ℕ, ◌%◌, nat_lt, bit_and, bit_or, bit_xor}
-use Rattle.rv_machine.specs.Turn.{add, subtract, shift_left, shift_right, shift_right_signed, signed_less, flag}
+use Rattle.machine_words.specs.Arithmetic.{add, subtract, shift_left, shift_right, shift_right_signed, signed_less}
+use Rattle.machine_words.specs.Arithmetic.{flag}
 use Rattle.low_ir.specs.declared.code.WordOp.{WordOp}
 use Rattle.low_ir.specs.declared.code.WordOp.TheVariants.{Add, Sub, And, Or, Xor, Sll, Srl, Sra, Slt, Sltu}
 

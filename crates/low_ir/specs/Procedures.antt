@@ -1,6 +1,6 @@
 -- Procedures of structured code over words.
 use Rattle.std.specs.Prelude.{ℕ, List}
-use Rattle.rv_isa.specs.declared.inst.Cond.{Cond}
+use Rattle.machine_words.specs.declared.conditions.Cond.{Cond}
 use Rattle.low_ir.specs.declared.code.WordOp.{WordOp}
 use Rattle.low_ir.specs.declared.code.LowSource.{LowSource}
 

@@ -9,10 +9,10 @@ use Rattle.grift_base.specs.declared.verdicts.AnswerKind.TheVariants.{Int as Int
 use Rattle.grift_base.specs.declared.verdicts.Verdict.TheVariants.{Answer}
 use Rattle.run_laws.specs.Runs.{Ending, Wrong}
 use Rattle.run_laws.specs.Machines.{Next, Go, Stop, Machine}
-use Rattle.rv_machine.specs.Memory.{Memory, load_bytes, store_bytes}
-use Rattle.rv_machine.specs.State.{Halt, Ended, Lacks, Region}
-use Rattle.rv_machine.specs.Turn.{plus}
-use Rattle.rv_machine.specs.Real.{holds}
+use Rattle.machine_words.specs.Memory.{Memory, load_bytes, store_bytes}
+use Rattle.machine_words.specs.Halts.{Halt, Ended, Lacks, Region}
+use Rattle.machine_words.specs.Arithmetic.{plus}
+use Rattle.machine_words.specs.Conditions.{holds}
 use Rattle.low_ir.specs.declared.code.LowSource.{LowSource}
 use Rattle.low_ir.specs.declared.code.LowSource.TheVariants.{Word, Number}
 use Rattle.low_ir.specs.Operations.{compute}

@@ -9,8 +9,8 @@ use Rattle.grift_base.specs.declared.worlds.EnvEffect.TheVariants.{Trapped as Tr
 use Rattle.grift_base.specs.declared.worlds.EnvEffect.TheVariants.{StackOut as StackEnds, Refused, OutOfMemory}
 use Rattle.run_laws.specs.Runs.{Ending, Wrong}
 use Rattle.run_laws.specs.Machines.{Next, Go, Stop}
-use Rattle.rv_machine.specs.Memory.{Memory, store_bytes, first_address}
-use Rattle.rv_machine.specs.State.{Halt, Ended, Lacks, Region, Stack}
+use Rattle.machine_words.specs.Memory.{Memory, store_bytes, first_address}
+use Rattle.machine_words.specs.Halts.{Halt, Ended, Lacks, Region, Stack}
 
 -- the words that have been set, by their numbers
 abbrev pub Locals : Type 0

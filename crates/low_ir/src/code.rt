@@ -3,7 +3,7 @@
 ghost use Rattle.std.specs.Prelude.{◌≡◌, ◌++◌, ◌∷◌, []};
 
 use grift_base::lists::Items;
-use rv_isa::inst::Cond;
+use machine_words::conditions::Cond;
 
 /// An operation on two words, as the instructions of RV64I have it. A shift takes the low six bits of its second word.
 #[derive(Clone, Copy, PartialEq, Eq, Debug)]

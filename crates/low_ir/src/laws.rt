@@ -4,8 +4,8 @@ ghost use Rattle.std.specs.Prelude.{◌≡◌, ◌*◌, ◌≤◌, ℕ, Some, sl
 ghost use Rattle.grift_base.specs.World.{WorldState};
 ghost use Rattle.run_laws.specs.Runs.{Ending, Run};
 ghost use Rattle.run_laws.specs.Machines.{run};
-ghost use Rattle.rv_machine.specs.Memory.{Memory};
-ghost use Rattle.rv_machine.specs.State.{Halt};
+ghost use Rattle.machine_words.specs.Memory.{Memory};
+ghost use Rattle.machine_words.specs.Halts.{Halt};
 ghost use Rattle.low_ir.specs.Procedures.{Proc};
 ghost use Rattle.low_ir.specs.Run.{Setting, LowState, LowShown, code_step, low_machine, low_start};
 ghost use Rattle.low_ir.specs.Counting.{CountsWords};

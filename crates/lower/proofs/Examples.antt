@@ -16,8 +16,8 @@ use Rattle.grift_base.specs.declared.verdicts.Verdict.{Verdict}
 use Rattle.grift_base.specs.declared.verdicts.Verdict.TheVariants.{Answer}
 use Rattle.coercion_norm.specs.Modes.{piling}
 use Rattle.coercion_norm.specs.AnswerTypes.{Told}
-use Rattle.rv_machine.specs.Mach.{ending_of}
-use Rattle.rv_machine.specs.Memory.{load_bytes, store_bytes}
+use Rattle.machine_words.specs.Halts.{ending_of}
+use Rattle.machine_words.specs.Memory.{load_bytes, store_bytes}
 use Rattle.low_ir.specs.declared.code.LowSource.TheVariants.{Number}
 use Rattle.low_ir.specs.Procedures.{Proc as LowProc, Return}
 use Rattle.low_ir.specs.Run.{Setting, LowShown, low_machine, low_start}

@@ -4,7 +4,7 @@ use Rattle.std.specs.Prelude.{◌≡◌, ℕ, suc, ◌+◌, ◌<◌, ◌≤◌, 
 use Rattle.std.specs.Prelude.{Some, slice_get}
 use Rattle.std.specs.Int.{w64, cast_unsigned, int_wrap}
 use Rattle.grift_base.specs.Types.{is_dyn}
-use Rattle.rv_machine.specs.Memory.{Memory}
+use Rattle.machine_words.specs.Memory.{Memory}
 use Rattle.coercion_norm.specs.RunValues.{RunInt, RunBool, RunUnit, RunFun, RunTuple, RunLoc, RunWrap, RunInject}
 use Rattle.coercion_norm.specs.RunValues.{NoRunValues, RunValueThen, in_row}
 use Rattle.coercion_norm.specs.Objects.{Object, Fixed, Cell, object_at}

@@ -12,7 +12,7 @@ use Rattle.grift_base.specs.declared.verdicts.Trap.TheVariants.{Input}
 use Rattle.grift_base.specs.Trap.{trap_number}
 use Rattle.object_layout.specs.declared.kinds.Kind.TheVariants.{Closure, Tuple as TupleKind, Boxed}
 use Rattle.object_layout.specs.Kinds.{kind_number}
-use Rattle.rv_isa.specs.declared.inst.Cond.TheVariants.{Eq, Ne}
+use Rattle.machine_words.specs.declared.conditions.Cond.TheVariants.{Eq, Ne}
 use Rattle.low_ir.specs.declared.code.WordOp.TheVariants.{Add as Plus, Sub as Minus, And, Xor, Sll, Sra, Slt, Sltu}
 use Rattle.low_ir.specs.declared.code.LowSource.{LowSource}
 use Rattle.low_ir.specs.declared.code.LowSource.TheVariants.{Word, Number}

@@ -5,7 +5,7 @@ use Rattle.grift_base.specs.AnswerKind.{answer_kind_number}
 use Rattle.object_layout.specs.declared.kinds.Kind.TheVariants.{IntType, BoolType, UnitType, FunType, TupleType}
 use Rattle.object_layout.specs.declared.kinds.Kind.TheVariants.{RefType}
 use Rattle.object_layout.specs.Kinds.{kind_number}
-use Rattle.rv_isa.specs.declared.inst.Cond.TheVariants.{Eq}
+use Rattle.machine_words.specs.declared.conditions.Cond.TheVariants.{Eq}
 use Rattle.low_ir.specs.declared.code.WordOp.TheVariants.{Add, And, Sra}
 use Rattle.low_ir.specs.declared.code.LowSource.{LowSource}
 use Rattle.low_ir.specs.declared.code.LowSource.TheVariants.{Word, Number}

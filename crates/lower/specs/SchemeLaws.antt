@@ -14,7 +14,7 @@ use Rattle.grift_base.specs.declared.verdicts.Verdict.{Verdict}
 use Rattle.grift_base.specs.declared.verdicts.Verdict.TheVariants.{Blame, Trap as TrapVerdict}
 use Rattle.run_laws.specs.Runs.{Ending, Verdict as EndsWith}
 use Rattle.run_laws.specs.Machines.{Stop, Reaches}
-use Rattle.rv_machine.specs.Mach.{ending_of}
+use Rattle.machine_words.specs.Halts.{ending_of}
 use Rattle.low_ir.specs.declared.code.LowSource.{LowSource}
 use Rattle.low_ir.specs.Procedures.{Code, Proc as LowProc, Return as ReturnCode, CallAt}
 use Rattle.low_ir.specs.Run.{Setting, Waiting, LowState, low_machine, with_local, word_of, words_of}

@@ -1,7 +1,7 @@
 -- What is asked of a lowered program where it runs, and what is shown of its run.
 use Rattle.std.specs.Prelude.{◌≡◌, ℕ, suc, ◌^◌, ◌<◌, ◌≤◌, List, Some, slice_get}
 use Rattle.grift_base.specs.Types.{TypeRow}
-use Rattle.rv_machine.specs.Memory.{Memory}
+use Rattle.machine_words.specs.Memory.{Memory}
 use Rattle.low_ir.specs.Procedures.{Proc}
 use Rattle.low_ir.specs.Run.{Setting, LowShown}
 use Rattle.flat_ir.specs.Bodies.{Proc as FlatProc}

@@ -3,8 +3,8 @@ use Rattle.std.specs.Prelude.{◌≡◌, ℕ, ◌*◌, ◌-◌, ◌%◌, ◌^◌
 use Rattle.std.specs.Prelude.{int_rem}
 use Rattle.std.specs.Int.{int_wrapping_div, w64}
 use Rattle.grift_base.specs.declared.verdicts.Trap.TheVariants.{ZeroDivisor}
-use Rattle.rv_machine.specs.Mach.{ending_of}
-use Rattle.rv_machine.specs.Turn.{signed_of, word_of}
+use Rattle.machine_words.specs.Halts.{ending_of}
+use Rattle.machine_words.specs.Arithmetic.{signed_of, word_of}
 use Rattle.low_ir.specs.Procedures.{Proc}
 use Rattle.low_ir.specs.Run.{Setting, LowState}
 use Rattle.rt_refs.specs.Answering.{AnswersFor, TrapsFor}

@@ -16,8 +16,8 @@ use flat_ir::code::{FlatBody, Operand, Operands, Operation};
 use grift_base::lists::OutOfMemory;
 use low_ir::code::LowSource::{Number, Word};
 use low_ir::code::{LowCode, LowSource, LowSources};
+use machine_words::conditions::Cond;
 use object_layout::kinds::Kind;
-use rv_isa::inst::Cond;
 
 // Whether an operand is a function of the group of the procedure that runs, which is never a proxy.
 fn is_sibling(operand: Operand) -> bool

@@ -2,7 +2,7 @@
 
 ghost use Rattle.std.specs.Prelude.{◌≡◌, ◌<◌, ◌^◌, ℕ, suc, true, All, IfOk, Some, length};
 ghost use Rattle.grift_base.specs.Types.{TypeRow, row_at};
-ghost use Rattle.rv_machine.specs.declared.TheConstants.{FIRST_ADDRESS};
+ghost use Rattle.machine_words.specs.declared.TheConstants.{FIRST_ADDRESS};
 ghost use Rattle.coercion_norm.specs.CoercionTables.{FitsTypes};
 ghost use Rattle.coercion_norm.specs.Modes.{row_casts};
 ghost use Rattle.coercion_norm.specs.Statics.{AreStatics};
@@ -25,11 +25,11 @@ use flat_ir::programs::{FlatProcs, FlatProgram};
 use grift_base::lists::OutOfMemory;
 use grift_base::words::Statics;
 use low_ir::programs::{LowProcs, LowProgram};
+use machine_words::FIRST_ADDRESS;
 use rt_cast::numbers::{CAST_PROCS, CastProc};
 use rt_cast::procs::cast_procs;
 use rt_refs::numbers::RefProc;
 use rt_refs::procs::ref_procs;
-use rv_machine::FIRST_ADDRESS;
 use std::alloc::Global;
 use type_graph::tables::TypeTable;
 

@@ -26,11 +26,11 @@ use grift_base::places::LabelId;
 use grift_base::verdicts::Trap;
 use low_ir::code::LowSource::{Number, Word};
 use low_ir::code::{LowCode, LowSource, LowSources, WordOp};
+use machine_words::conditions::Cond;
 use object_layout::kinds::Kind;
 use rt_cast::words::{COUNT_UNIT, KIND_MASK};
 use rt_refs::cells::{ASKS_BOX, ASKS_ELEMENT, ASKS_LENGTH};
 use rt_refs::procs::{ASKS_QUOTIENT, ASKS_REMAINDER};
-use rv_isa::inst::Cond;
 use std::alloc::Global;
 
 // The byte of a line feed.

@@ -27,7 +27,7 @@ use flat_ir::programs::FlatProgram;
 use grift_base::lists::OutOfMemory;
 use grift_base::words::{Statics, WordList};
 use low_ir::programs::LowProgram;
-use rv_machine::FIRST_ADDRESS;
+use machine_words::FIRST_ADDRESS;
 use std::alloc::Global;
 use type_graph::tables::TypeTable;
 

@@ -5,8 +5,8 @@ ghost use Rattle.std.specs.Prelude.{◌≡◌, ◌<◌, ◌^◌, ℕ, suc, List,
 ghost use Rattle.grift_base.specs.Types.{TypeRow, row_at};
 ghost use Rattle.run_laws.specs.Machines.{run};
 ghost use Rattle.run_laws.specs.Runs.{Any, FollowsBy, NeverWrong};
-ghost use Rattle.rv_machine.specs.Mach.{ending_of};
-ghost use Rattle.rv_machine.specs.Memory.{Memory};
+ghost use Rattle.machine_words.specs.Halts.{ending_of};
+ghost use Rattle.machine_words.specs.Memory.{Memory};
 ghost use Rattle.low_ir.specs.Run.{Setting, low_machine, low_start};
 ghost use Rattle.coercion_norm.specs.AnswerTypes.{Told};
 ghost use Rattle.coercion_norm.specs.Held.{Layout, TypesStand};

@@ -6,7 +6,7 @@ ghost use Rattle.lower.specs.Steps.{put, ahead, Adds};
 
 use grift_base::lists::OutOfMemory;
 use low_ir::code::{LowCode, LowSource, LowSources, WordOp};
-use rv_isa::inst::Cond;
+use machine_words::conditions::Cond;
 use std::alloc::Global;
 
 /// A step of code, without what is done next.

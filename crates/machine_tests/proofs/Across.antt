@@ -10,9 +10,9 @@ use Rattle.std.proofs.lemmas.List.Elements.{All-append, All-replicate, All-weake
 use Rattle.std.proofs.lemmas.List.Sums.{AllPass-from_list_all}
 use Rattle.std.proofs.lemmas.Map.Views.{list_any-from_Contains}
 use Rattle.rv_isa.specs.declared.inst.Inst.TheVariants.{Addi, Jalr, Ecall}
-use Rattle.rv_isa.specs.declared.inst.Cond.TheVariants.{Eq, Ne, Lt, Ge, Ltu, Geu}
-use Rattle.rv_isa.specs.declared.real.RealItem.{RealItem}
-use Rattle.rv_isa.specs.declared.real.RealItem.TheVariants.{Op, Mark, Jump, Branch, Address}
+use Rattle.machine_words.specs.declared.conditions.Cond.TheVariants.{Eq, Ne, Lt, Ge, Ltu, Geu}
+use Rattle.rv_machine.specs.declared.real.RealItem.{RealItem}
+use Rattle.rv_machine.specs.declared.real.RealItem.TheVariants.{Op, Mark, Jump, Branch, Address}
 use Rattle.assembler.specs.Conditions.{CanBeAssembled, NamesOne, IsPlaced, registers_named, is_relative, times}
 
 abbrev Spares : RealItem → Type 0

@@ -2,8 +2,8 @@
 use Rattle.std.proofs.Common.{ℕ, zero, suc, ◌<◌, ◌≡◌, ◌≢◌, refl, arith, pos, List, [], ◌∷◌, length, get_or, Contains}
 use Rattle.std.proofs.lemmas.List.Elements.{All-cons, All-nil}
 use Rattle.rv_isa.specs.declared.inst.Inst.TheVariants.{Addi, Ecall}
-use Rattle.rv_isa.specs.declared.real.RealItem.{RealItem}
-use Rattle.rv_isa.specs.declared.real.RealItem.TheVariants.{Op, Mark, Jump}
+use Rattle.rv_machine.specs.declared.real.RealItem.{RealItem}
+use Rattle.rv_machine.specs.declared.real.RealItem.TheVariants.{Op, Mark, Jump}
 use Rattle.assembler.specs.Conditions.{CanBeAssembled, NamesOne, IsPlaced, registers_named}
 
 none : ¬ Contains {X = ℕ} [] 31

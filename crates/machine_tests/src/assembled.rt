@@ -4,7 +4,7 @@
 ghost use Rattle.std.specs.Prelude.{◌≡◌, ◌++◌, ◌<◌, pos, replicate, IfOk, OnOk};
 ghost use Rattle.rv_isa.specs.Bits.{IsIn};
 ghost use Rattle.rv_isa.specs.declared.inst.Inst.TheVariants.{Addi, Jalr};
-ghost use Rattle.rv_isa.specs.declared.real.RealItem.TheVariants.{Op, Branch};
+ghost use Rattle.rv_machine.specs.declared.real.RealItem.TheVariants.{Op, Branch};
 ghost use Rattle.assembler.specs.Conditions.{CanBeAssembled};
 
 use crate::machines::{ended, machine_of};
@@ -14,10 +14,11 @@ use grift_base::lists::OutOfMemory;
 use grift_base::places::LabelTable;
 use grift_base::verdicts::AnswerKind;
 use grift_base::words::Statics;
+use machine_words::conditions::Cond;
 use rv_emulator::stops::Stop;
-use rv_isa::inst::{Cond, Inst};
+use rv_isa::inst::Inst;
 use rv_isa::number::{Imm12, Reg};
-use rv_isa::real::{RealCode, RealItem, RealItems};
+use rv_machine::real::{RealCode, RealItem, RealItems};
 use std::alloc::Global;
 
 // The register with this number.

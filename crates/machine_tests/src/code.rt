@@ -12,7 +12,7 @@ use grift_base::places::{LabelTable, Pos};
 use grift_base::words::{Statics, WordList};
 use rv_isa::inst::Inst;
 use rv_isa::number::{Imm12, Reg};
-use rv_isa::real::{RealCode, RealItem, RealItems};
+use rv_machine::real::{RealCode, RealItem, RealItems};
 use std::alloc::Global;
 
 // Puts the number 42 into x11.

@@ -1,7 +1,9 @@
 // Words of an independent assembler, and words of no instruction.
 
-use rv_isa::inst::{Cond, Inst, decode, encode};
+use machine_words::conditions::Cond;
+use rv_isa::inst::{Inst, decode, encode};
 use rv_isa::number::{Imm12, Imm13, Imm21, Reg, Shift5, Shift6, Upper};
+use rv_machine::branches::branch;
 
 // The numbers of an instruction in the order in which an assembler writes them, zeros after the last. A register
 // is its number; the offset of a load or a store comes last.
@@ -804,7 +806,7 @@ fn branches_encode(rt: HostRuntime) {
     let (first, second, back) = (Reg::new(1), Reg::new(2), Imm13::new(-8));
     for (cond, word) in &BRANCHES {
         assert!(rt;
-            encode(Inst::branch(*cond, first, second, back)) == *word,
+            encode(branch(*cond, first, second, back)) == *word,
             "at {word:#010x}"
         );
     }

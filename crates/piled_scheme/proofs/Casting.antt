@@ -8,8 +8,8 @@ use Rattle.grift_base.specs.Types.{TypeRow, TypeRows, IntRow, BoolRow, UnitRow, 
 use Rattle.grift_base.specs.Types.{VectRow, row_at, same_head, is_base}
 use Rattle.grift_base.specs.declared.verdicts.Verdict.TheVariants.{Blame}
 use Rattle.run_laws.specs.Runs.{Verdict as EndsWith}
-use Rattle.rv_machine.specs.Memory.{Memory}
-use Rattle.rv_isa.specs.declared.inst.Cond.TheVariants.{Eq}
+use Rattle.machine_words.specs.Memory.{Memory}
+use Rattle.machine_words.specs.declared.conditions.Cond.TheVariants.{Eq}
 use Rattle.core_calc.specs.Account.{Measures, wrap_charge}
 use Rattle.low_ir.specs.declared.code.LowSource.TheVariants.{Word, Number}
 use Rattle.low_ir.specs.declared.code.WordOp.TheVariants.{And, Srl}

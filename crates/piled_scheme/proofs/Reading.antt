@@ -8,8 +8,8 @@ use Rattle.grift_base.specs.declared.operators.PrimOp.TheVariants.{Unbox}
 use Rattle.grift_base.specs.declared.verdicts.Verdict.TheVariants.{Blame}
 use Rattle.run_laws.specs.Runs.{Verdict as EndsWith}
 use Rattle.core_calc.specs.Account.{Measures}
-use Rattle.rv_isa.specs.declared.inst.Cond.TheVariants.{Eq}
-use Rattle.rv_machine.specs.Memory.{load_bytes}
+use Rattle.machine_words.specs.declared.conditions.Cond.TheVariants.{Eq}
+use Rattle.machine_words.specs.Memory.{load_bytes}
 use Rattle.low_ir.specs.declared.code.LowSource.TheVariants.{Word, Number}
 use Rattle.low_ir.specs.Prices.{entering_some}
 use Rattle.low_ir.specs.Procedures.{Code, Done, Return as ReturnCode, TailCall}

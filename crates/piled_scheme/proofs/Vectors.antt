@@ -9,7 +9,7 @@ use Rattle.grift_base.specs.declared.operators.PrimOp.TheVariants.{VectorRef, Ve
 use Rattle.grift_base.specs.declared.verdicts.Trap.TheVariants.{Index}
 use Rattle.grift_base.specs.declared.verdicts.Verdict.TheVariants.{Trap as TrapVerdict}
 use Rattle.run_laws.specs.Runs.{Verdict as EndsWith}
-use Rattle.rv_machine.specs.Memory.{load_bytes}
+use Rattle.machine_words.specs.Memory.{load_bytes}
 use Rattle.core_calc.specs.Account.{Measures}
 use Rattle.low_ir.specs.declared.code.LowSource.TheVariants.{Word, Number}
 use Rattle.low_ir.specs.declared.code.WordOp.TheVariants.{Add, Sll, Srl}

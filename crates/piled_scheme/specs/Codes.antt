@@ -1,7 +1,7 @@
 -- The procedures of the scheme in which casts of boxes pile up. They are numbered without gaps.
 use Rattle.std.specs.Prelude.{ℕ, ◌+◌, List, [], ◌∷◌}
 use Rattle.grift_base.specs.declared.verdicts.Trap.TheVariants.{Index}
-use Rattle.rv_isa.specs.declared.inst.Cond.TheVariants.{Eq, Ltu}
+use Rattle.machine_words.specs.declared.conditions.Cond.TheVariants.{Eq, Ltu}
 use Rattle.low_ir.specs.declared.code.LowSource.TheVariants.{Word, Number}
 use Rattle.low_ir.specs.declared.code.WordOp.TheVariants.{Add, And, Sll, Srl, Sub}
 use Rattle.low_ir.specs.Procedures.{Code, Set, Compute, Load, Store, Build, Return, TailCall, Proc}

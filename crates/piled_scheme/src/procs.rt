@@ -16,12 +16,12 @@ use low_ir::code::LowSource::{Number, Word};
 use low_ir::code::{LowCode, LowSource, WordOp};
 use low_ir::programs::{LowProc, LowProcs};
 use lower::copies::push_copies;
+use machine_words::conditions::Cond;
 use rt_cast::codes::{blame, build, compute, either, load, set, tail_call};
 use rt_cast::words::{COUNT_BITS, COUNT_UNIT, KIND_MASK, WORD_SHIFT};
 use rt_refs::cells::{ASKS_BOX, ASKS_LENGTH};
 use rt_refs::fills::{fill_loop, fill_proc};
 use rt_refs::procs::arithmetic_procs;
-use rv_isa::inst::Cond;
 use std::alloc::Global;
 
 // The kind of wrappers, which no other object has.

@@ -7,9 +7,9 @@ use Rattle.run_laws.specs.Runs.{Ending, Verdict, Exhausted, Wrong, Moment, Never
 use Rattle.run_laws.specs.Machines.{Next, Go, Stop, Machine, and_then, steps, seen, run, Alike, Onward, UnlessWrong}
 use Rattle.run_laws.specs.Meters.{charge, OnBudget, DoesOnBudget, CostSimulation}
 use Rattle.run_laws.proofs.Public.{unless_wrong_map, run_go}
-use Rattle.rv_machine.specs.Memory.{Memory}
+use Rattle.machine_words.specs.Memory.{Memory}
 use Rattle.rv_machine.specs.Registers.{Registers}
-use Rattle.rv_machine.specs.State.{Lacks, Stack}
+use Rattle.machine_words.specs.Halts.{Lacks, Stack}
 use Rattle.low_ir.specs.Steps.{no_locals}
 use Rattle.rv_select.specs.declared.code.VReg.{VReg}
 use Rattle.rv_select.specs.declared.code.VReg.TheVariants.{Real, Virtual}

@@ -5,10 +5,10 @@ use Rattle.std.specs.Prelude.{flat_map, slice_index, ◌==◌, nat_lt, if◌then
 use Rattle.std.specs.Int.{byte_at, bytes_low_first}
 use Rattle.std.proofs.lemmas.List.{length-map}
 use Rattle.grift_base.specs.declared.places.Pos.{Pos}
-use Rattle.rv_isa.specs.declared.real.RealItem.{RealItem}
-use Rattle.rv_isa.specs.declared.real.RealItem.TheVariants.{Op, Mark, Jump, Branch, Address}
+use Rattle.rv_machine.specs.declared.real.RealItem.{RealItem}
+use Rattle.rv_machine.specs.declared.real.RealItem.TheVariants.{Op, Mark, Jump, Branch, Address}
 use Rattle.rv_isa.specs.Encoding.{encode_of}
-use Rattle.rv_machine.specs.Memory.{memory_of, first_address}
+use Rattle.machine_words.specs.Memory.{memory_of, first_address}
 use Rattle.rv_machine.specs.Image.{IsImage, statics_len, code_len, label_count, loaded_part, labels_of}
 use Rattle.rv_machine.proofs.Public.{length-labels_from}
 use Rattle.assembler.specs.Expansion.{insts_of, item_insts, insts_from, code_insts}

@@ -11,13 +11,15 @@ use Rattle.run_laws.specs.Machines.{Go, Machine, seen, run}
 use Rattle.run_laws.specs.Meters.{Spends, OfRest}
 use Rattle.run_laws.proofs.Public.{follows_of, follows_by_trans, follows_by_weaken, follower_never_goes_wrong}
 use Rattle.run_laws.proofs.Public.{spends_through}
-use Rattle.rv_isa.specs.declared.real.RealItem.{RealItem}
-use Rattle.rv_machine.specs.Memory.{first_address}
+use Rattle.rv_machine.specs.declared.real.RealItem.{RealItem}
+use Rattle.machine_words.specs.Memory.{first_address}
 use Rattle.rv_machine.specs.Registers.{Registers, set_reg, zero_regs}
 use Rattle.rv_machine.specs.Image.{IsImage, statics_len, code_len}
-use Rattle.rv_machine.specs.State.{State, Layout, Halt, Lacks, Stack}
+use Rattle.rv_machine.specs.State.{State, Layout}
+use Rattle.machine_words.specs.Halts.{Halt, Lacks, Stack}
 use Rattle.rv_machine.specs.Start.{start_of, start_regs}
-use Rattle.rv_machine.specs.Mach.{run_of, machine_by, IsReading}
+use Rattle.rv_machine.specs.Mach.{run_of, machine_by}
+use Rattle.machine_words.specs.Halts.{IsReading}
 use Rattle.rv_machine.specs.Real.{plain_setting, real_machine}
 use Rattle.low_ir.specs.Procedures.{Proc}
 use Rattle.low_ir.specs.Closed.{is_closed}

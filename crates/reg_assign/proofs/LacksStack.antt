@@ -4,7 +4,7 @@ use Rattle.std.proofs.Common.{ℕ, zero, suc, ◌≡◌, Bool, true, false, Some
 use Rattle.std.specs.Prelude.{if◌then◌else◌, nat_le, slice_get}
 use Rattle.run_laws.specs.Runs.{Ending}
 use Rattle.run_laws.specs.Machines.{Next, Go, Stop, Machine, and_then, steps, seen, run}
-use Rattle.rv_machine.specs.State.{Halt, Lacks, Stack}
+use Rattle.machine_words.specs.Halts.{Halt, Lacks, Stack}
 use Rattle.rv_select.specs.declared.code.Place.{Place}
 use Rattle.rv_select.specs.Run.{Setting, VirtualState, Shown, step_here}
 use Rattle.rv_select.specs.Stacks.{stack_of, if_room, stacked_machine}

@@ -3,10 +3,10 @@ use Rattle.std.proofs.Common.{ℕ, suc, ◌+◌, ◌%◌, ◌^◌, ◌<◌, ◌�
 use Rattle.std.proofs.Common.{[], ◌∷◌, ◌++◌, refl, sym, ◌∙◌, ap, subst, arith}
 use Rattle.std.specs.Prelude.{◌==◌, nat_lt, if◌then◌else◌, length, pos}
 use Rattle.rv_isa.specs.declared.inst.Inst.TheVariants.{Jalr, Ld, Sd, Addi, Lui, Addiw, Add as AddInst, Sub as SubInst}
-use Rattle.rv_isa.specs.declared.inst.Cond.TheVariants.{Ltu}
-use Rattle.rv_isa.specs.declared.real.RealItem.{RealItem}
-use Rattle.rv_isa.specs.declared.real.RealItem.TheVariants.{Op, Branch as RealBranch, Jump as RealJump}
-use Rattle.rv_isa.specs.declared.real.RealItem.TheVariants.{Address}
+use Rattle.machine_words.specs.declared.conditions.Cond.TheVariants.{Ltu}
+use Rattle.rv_machine.specs.declared.real.RealItem.{RealItem}
+use Rattle.rv_machine.specs.declared.real.RealItem.TheVariants.{Op, Branch as RealBranch, Jump as RealJump}
+use Rattle.rv_machine.specs.declared.real.RealItem.TheVariants.{Address}
 use Rattle.rv_select.specs.declared.code.VReg.{VReg}
 use Rattle.rv_select.specs.declared.code.VReg.TheVariants.{Real, Virtual}
 use Rattle.rv_select.specs.declared.code.Place.{Place}

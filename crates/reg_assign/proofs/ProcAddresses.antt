@@ -2,8 +2,8 @@
 use Rattle.std.proofs.Common.{ℕ, zero, suc, ◌+◌, ◌<◌, ◌≡◌, ◌⊎◌, inl, inr, Bool, true, false, List, [], ◌∷◌, ◌++◌}
 use Rattle.std.proofs.Common.{length, Some, ⊎_elim, slice_get, refl, sym, ◌∙◌, ap, subst, append_assoc, arith}
 use Rattle.std.specs.Prelude.{◌==◌, if◌then◌else◌}
-use Rattle.rv_isa.specs.declared.real.RealItem.{RealItem}
-use Rattle.rv_isa.specs.declared.real.RealItem.TheVariants.{Mark as RealMark}
+use Rattle.rv_machine.specs.declared.real.RealItem.{RealItem}
+use Rattle.rv_machine.specs.declared.real.RealItem.TheVariants.{Mark as RealMark}
 use Rattle.rv_machine.specs.Real.{AreAddresses, is_mark, address_from, mark_from, mark_address}
 use Rattle.low_ir.specs.Procedures.{Proc}
 use Rattle.assembler.specs.Assembled.{item_address}

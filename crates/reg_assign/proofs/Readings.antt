@@ -7,11 +7,14 @@ use Rattle.grift_base.specs.declared.verdicts.Verdict.{Verdict as Outcome}
 use Rattle.grift_base.specs.declared.verdicts.Verdict.TheVariants.{StackOut}
 use Rattle.run_laws.specs.Runs.{Ending, Verdict, Exhausted, Wrong, Moment, NeverWrong}
 use Rattle.run_laws.specs.Machines.{Next, Go, Stop, Machine, and_then, steps, seen, run}
-use Rattle.rv_machine.specs.State.{State, Room, Region, Stack, Halt, Ended, Lacks, GoesWrong, Turn, Next as GoesOn}
+use Rattle.rv_machine.specs.State.{State, Turn, Next as GoesOn}
+use Rattle.machine_words.specs.Halts.{Room, Region, Stack, Halt, Ended, Lacks, GoesWrong}
 use Rattle.rv_machine.specs.State.{Stops}
-use Rattle.rv_machine.specs.Turn.{plus, turn_of}
-use Rattle.rv_machine.specs.Mach.{onward, run_of, step_by, machine_by, IsReading}
-use Rattle.rv_machine.specs.Memory.{load_bytes}
+use Rattle.machine_words.specs.Arithmetic.{plus}
+use Rattle.rv_machine.specs.Turn.{turn_of}
+use Rattle.rv_machine.specs.Mach.{onward, run_of, step_by, machine_by}
+use Rattle.machine_words.specs.Halts.{IsReading}
+use Rattle.machine_words.specs.Memory.{load_bytes}
 use Rattle.low_ir.specs.Procedures.{Code, Done, Set, Compute, Load, Store, CodeOf, Build, Request, Take, Environment}
 use Rattle.low_ir.specs.Procedures.{Call, CallAt, If, Return, TailCall, TailCallAt, Proc}
 use Rattle.low_ir.specs.Operations.{compute}

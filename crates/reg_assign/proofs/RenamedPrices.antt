@@ -19,8 +19,8 @@ use Rattle.rv_select.specs.Run.{Found, Frame, VirtualState, may_write, is_own, v
 use Rattle.rv_select.specs.Run.{fits_item, enter, waits, step_here, procedure_from}
 use Rattle.low_ir.specs.Operations.{compute}
 use Rattle.low_ir.specs.Steps.{may_load}
-use Rattle.rv_machine.specs.Memory.{load_bytes}
-use Rattle.rv_machine.specs.Turn.{plus}
+use Rattle.machine_words.specs.Memory.{load_bytes}
+use Rattle.machine_words.specs.Arithmetic.{plus}
 use Rattle.rv_select.specs.Prices.{register_price, giving_up, entering_found, item_price, some_price, virtual_price}
 use Rattle.reg_assign.specs.Rename.{named, name, rename, with_slots}
 use Rattle.reg_assign.proofs.Names.{OwnOr}

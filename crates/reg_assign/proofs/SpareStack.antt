@@ -17,10 +17,10 @@ use Rattle.grift_base.specs.declared.worlds.EnvEffect.TheVariants.{Trapped as Tr
 use Rattle.grift_base.specs.declared.worlds.EnvEffect.TheVariants.{StackOut as StackEnds, Refused, OutOfMemory}
 use Rattle.run_laws.specs.Runs.{Ending, Verdict, Exhausted, Wrong}
 use Rattle.run_laws.specs.Machines.{Next, Go, Stop, Machine, and_then, steps, seen, run}
-use Rattle.rv_machine.specs.Memory.{Memory}
-use Rattle.rv_machine.specs.State.{Lacks, Stack}
-use Rattle.rv_machine.specs.Turn.{plus}
-use Rattle.rv_machine.specs.Real.{holds}
+use Rattle.machine_words.specs.Memory.{Memory}
+use Rattle.machine_words.specs.Halts.{Lacks, Stack}
+use Rattle.machine_words.specs.Arithmetic.{plus}
+use Rattle.machine_words.specs.Conditions.{holds}
 use Rattle.low_ir.specs.Procedures.{Code, Done, Set, Compute, Load, Store, CodeOf, Build, Request, Take, Environment}
 use Rattle.low_ir.specs.Procedures.{Call, CallAt, If, Return, TailCall, TailCallAt, Proc}
 use Rattle.low_ir.specs.Counting.{calls, any_calls}

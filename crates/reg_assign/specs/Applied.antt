@@ -3,9 +3,10 @@ use Rattle.std.specs.Prelude.{ℕ, ◌≤◌, ◌≡◌, true, List, All}
 use Rattle.grift_base.specs.declared.verdicts.Verdict.{Verdict}
 use Rattle.run_laws.specs.Runs.{Ending, Exhausted, NeverWrong}
 use Rattle.run_laws.specs.Machines.{run}
-use Rattle.rv_isa.specs.declared.real.RealItem.{RealItem}
-use Rattle.rv_machine.specs.State.{State, Halt, Lacks, Stack}
-use Rattle.rv_machine.specs.Mach.{IsReading}
+use Rattle.rv_machine.specs.declared.real.RealItem.{RealItem}
+use Rattle.rv_machine.specs.State.{State}
+use Rattle.machine_words.specs.Halts.{Halt, Lacks, Stack}
+use Rattle.machine_words.specs.Halts.{IsReading}
 use Rattle.rv_machine.specs.Real.{Setting as RealSetting, real_machine}
 use Rattle.assembler.specs.Conditions.{CanBeAssembled}
 use Rattle.assembler.specs.Prices.{state_price}

@@ -6,11 +6,13 @@ use Rattle.grift_base.specs.declared.verdicts.Verdict.{Verdict as Outcome}
 use Rattle.run_laws.specs.Runs.{Ending, Verdict, Exhausted, NeverWrong, FollowsBy, Any}
 use Rattle.run_laws.specs.Machines.{Machine, run}
 use Rattle.run_laws.specs.Meters.{unspent, metered, each_one, Spends, OfRest}
-use Rattle.rv_isa.specs.declared.real.RealItem.{RealItem}
+use Rattle.rv_machine.specs.declared.real.RealItem.{RealItem}
 use Rattle.rv_machine.specs.Image.{IsImage, statics_len, code_len}
-use Rattle.rv_machine.specs.State.{State, Halt, Lacks, Stack}
+use Rattle.rv_machine.specs.State.{State}
+use Rattle.machine_words.specs.Halts.{Halt, Lacks, Stack}
 use Rattle.rv_machine.specs.Start.{start_of, IsRegionSize, IsStackSize}
-use Rattle.rv_machine.specs.Mach.{run_of, machine_by, IsReading}
+use Rattle.rv_machine.specs.Mach.{run_of, machine_by}
+use Rattle.machine_words.specs.Halts.{IsReading}
 use Rattle.rv_machine.specs.Real.{mark_address}
 use Rattle.low_ir.specs.Procedures.{Proc}
 use Rattle.low_ir.specs.Counting.{any_calls}

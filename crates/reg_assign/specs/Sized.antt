@@ -3,7 +3,7 @@
 use Rattle.std.specs.Prelude.{ℕ, ◌+◌, ◌≤◌, ◌≡◌, nat_le, if◌then◌else◌, List, [], ◌∷◌, slice_get}
 use Rattle.run_laws.specs.Runs.{Ending}
 use Rattle.run_laws.specs.Machines.{Next, Go, Stop, Machine}
-use Rattle.rv_machine.specs.State.{Halt, Lacks, Stack}
+use Rattle.machine_words.specs.Halts.{Halt, Lacks, Stack}
 use Rattle.rv_select.specs.Run.{Setting, Found, Frame, VirtualState, Shown, step_here, virtual_machine}
 use Rattle.rv_select.specs.Stacks.{frame_size}
 

@@ -13,7 +13,7 @@ ghost use Rattle.reg_assign.specs.Applied.{IsApplied};
 use crate::assignment::{Assignment, place_at};
 use grift_base::lists::OutOfMemory;
 use indexmap::IndexSet;
-use rv_isa::real::RealCode;
+use rv_machine::real::RealCode;
 use rv_select::code::{Place, VReg, VirtualCode, VirtualItem, VirtualItems};
 use rv_slots::slots::slots;
 use std::alloc::Global;

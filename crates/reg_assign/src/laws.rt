@@ -1,7 +1,7 @@
 // Laws of codes with places. A function here has an empty body: its contract is a law, proved for all codes.
 
 ghost use Rattle.std.specs.Prelude.{◌≡◌, ◌≤◌, ℕ, List};
-ghost use Rattle.rv_isa.specs.declared.real.RealItem.{RealItem};
+ghost use Rattle.rv_machine.specs.declared.real.RealItem.{RealItem};
 ghost use Rattle.rv_select.specs.declared.code.Place.{Place};
 ghost use Rattle.rv_select.specs.declared.code.Place.TheVariants.{Slot};
 ghost use Rattle.rv_select.specs.declared.code.VirtualItem.{VirtualItem};

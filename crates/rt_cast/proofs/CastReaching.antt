@@ -3,7 +3,7 @@ use Rattle.std.proofs.Common.{true, ◌≡◌, ℕ, ◌+◌, ◌*◌, ◌≤◌,
 use Rattle.std.proofs.Common.{le_refl, arith}
 use Rattle.grift_base.specs.Types.{TypeHead}
 use Rattle.run_laws.specs.Runs.{Ending, Exhausted}
-use Rattle.rv_machine.specs.State.{Halt, Lacks, Region}
+use Rattle.machine_words.specs.Halts.{Halt, Lacks, Region}
 use Rattle.low_ir.specs.Procedures.{Return, Environment}
 use Rattle.low_ir.specs.Run.{Setting, LowState}
 use Rattle.coercion_norm.specs.Coercions.{Coercion}

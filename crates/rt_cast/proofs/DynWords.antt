@@ -6,7 +6,7 @@ use Rattle.std.specs.Int.{w64}
 use Rattle.std.proofs.lemmas.Bool.{cases_lt, le-ltb}
 use Rattle.std.proofs.lemmas.Int.{to_z_pos}
 use Rattle.std.proofs.lemmas.Nat.{and_mask}
-use Rattle.rv_machine.specs.Turn.{signed_of}
+use Rattle.machine_words.specs.Arithmetic.{signed_of}
 use Rattle.grift_base.specs.Types.{TypeRow, IntRow, BoolRow, UnitRow, DynRow, FunRow, TupleRow, RefRow, VectRow}
 use Rattle.grift_base.specs.Types.{same_head}
 use Rattle.coercion_norm.specs.Coercions.{kind_of}

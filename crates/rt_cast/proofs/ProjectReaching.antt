@@ -2,7 +2,7 @@
 use Rattle.std.proofs.Common.{◌≡◌, ℕ, ◌+◌, ◌*◌, ◌≤◌, List, [], ◌∷◌, refl, arith}
 use Rattle.grift_base.specs.Types.{TypeHead}
 use Rattle.run_laws.specs.Runs.{Ending, Exhausted}
-use Rattle.rv_machine.specs.State.{Halt, Lacks, Region}
+use Rattle.machine_words.specs.Halts.{Halt, Lacks, Region}
 use Rattle.low_ir.specs.Run.{Setting, LowState}
 use Rattle.rt_cast.specs.Costs.{tuple_cost, project_cost}
 use Rattle.rt_cast.specs.PartCosts.{tuple_part_words, tuple_part_price, dyn_part_words, dyn_part_price}

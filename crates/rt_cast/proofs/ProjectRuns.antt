@@ -8,7 +8,7 @@ use Rattle.grift_base.specs.Types.{TypeHead, TypeRow, TypeRows, IntRow, BoolRow,
 use Rattle.grift_base.specs.Types.{RefRow, VectRow, is_dyn, parts_of, row_at, tuple_part, dyn_from, dyn_place}
 use Rattle.low_ir.specs.declared.code.LowSource.TheVariants.{Word, Number}
 use Rattle.low_ir.specs.declared.code.WordOp.TheVariants.{And}
-use Rattle.rv_isa.specs.declared.inst.Cond.TheVariants.{Eq, Ltu}
+use Rattle.machine_words.specs.declared.conditions.Cond.TheVariants.{Eq, Ltu}
 use Rattle.low_ir.specs.Procedures.{Code, Return}
 use Rattle.low_ir.specs.Prices.{leaving}
 use Rattle.low_ir.specs.Steps.{Locals, no_locals, set_local}

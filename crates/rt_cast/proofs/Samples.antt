@@ -6,8 +6,8 @@ use Rattle.grift_base.specs.declared.verdicts.AnswerKind.TheVariants.{Int as Int
 use Rattle.grift_base.specs.declared.verdicts.Verdict.TheVariants.{Answer}
 use Rattle.run_laws.specs.Runs.{Ending, Verdict}
 use Rattle.run_laws.specs.Machines.{run}
-use Rattle.rv_machine.specs.Memory.{Memory, load_bytes, store_bytes}
-use Rattle.rv_machine.specs.State.{Halt, Ended}
+use Rattle.machine_words.specs.Memory.{Memory, load_bytes, store_bytes}
+use Rattle.machine_words.specs.Halts.{Halt, Ended}
 use Rattle.low_ir.specs.declared.code.LowSource.TheVariants.{Word, Number}
 use Rattle.low_ir.specs.Procedures.{Code, Load, Call, Return}
 use Rattle.low_ir.specs.Steps.{no_locals, store_words}

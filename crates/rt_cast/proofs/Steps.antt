@@ -7,11 +7,11 @@ use Rattle.rt_cast.specs.Frames.{frame_room, waiting_room, stack_room}
 use Rattle.rt_cast.specs.States.{Heap, st, Fine}
 use Rattle.run_laws.specs.Machines.{Go, Stop, Machine, Reaches, Onward}
 use Rattle.run_laws.proofs.Public.{by_step}
-use Rattle.rv_isa.specs.declared.inst.Cond.{Cond}
-use Rattle.rv_machine.specs.Memory.{Memory, load_bytes}
-use Rattle.rv_machine.specs.State.{Lacks, Region}
-use Rattle.rv_machine.specs.Turn.{plus}
-use Rattle.rv_machine.specs.Real.{holds}
+use Rattle.machine_words.specs.declared.conditions.Cond.{Cond}
+use Rattle.machine_words.specs.Memory.{Memory, load_bytes}
+use Rattle.machine_words.specs.Halts.{Lacks, Region}
+use Rattle.machine_words.specs.Arithmetic.{plus}
+use Rattle.machine_words.specs.Conditions.{holds}
 use Rattle.low_ir.specs.declared.code.WordOp.{WordOp}
 use Rattle.low_ir.specs.Operations.{compute}
 use Rattle.low_ir.specs.Steps.{Locals, no_locals, set_local, given, only_if, may_load, store_words}

@@ -1,7 +1,7 @@
 -- What all lemmas on the run of a procedure are told.
 use Rattle.std.proofs.Common.{◌≡◌, ℕ, ◌+◌, ◌≤◌, List}
 use Rattle.run_laws.specs.Runs.{Ending, Exhausted}
-use Rattle.rv_machine.specs.State.{Halt, Lacks, Region}
+use Rattle.machine_words.specs.Halts.{Halt, Lacks, Region}
 use Rattle.low_ir.specs.Run.{Setting, Active, Waiting, LowState, code_turns}
 use Rattle.coercion_norm.specs.Objects.{Object}
 use Rattle.coercion_norm.specs.Held.{Layout, TypesStand}

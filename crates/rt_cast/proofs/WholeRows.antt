@@ -6,7 +6,7 @@ use Rattle.std.proofs.Common.{append_assoc, append-nil, map, arith}
 use Rattle.std.specs.Prelude.{◌==◌, ◌&&◌, nat_le, if◌then◌else◌}
 use Rattle.grift_base.specs.Types.{TypeRow, IntRow, BoolRow, UnitRow, DynRow, FunRow, TupleRow, RefRow, VectRow}
 use Rattle.grift_base.specs.Types.{parts_of}
-use Rattle.rv_machine.specs.Memory.{Memory, load_bytes}
+use Rattle.machine_words.specs.Memory.{Memory, load_bytes}
 use Rattle.low_ir.specs.Run.{Setting}
 use Rattle.coercion_norm.specs.declared.middles.MiddleKind.{MiddleKind as Kind}
 use Rattle.coercion_norm.specs.declared.middles.MiddleKind.TheVariants.{Fun as FunKind, Tup as TupKind}

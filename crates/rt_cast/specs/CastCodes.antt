@@ -1,7 +1,7 @@
 -- The code of cast: word 0 is a value, word 1 a coercion; and of project. Which words objects have stands in
 -- `Words.antt`.
 use Rattle.std.specs.Prelude.{ℕ, [], ◌∷◌}
-use Rattle.rv_isa.specs.declared.inst.Cond.TheVariants.{Eq, Ltu}
+use Rattle.machine_words.specs.declared.conditions.Cond.TheVariants.{Eq, Ltu}
 use Rattle.object_layout.specs.declared.kinds.Kind.TheVariants.{Proxy, Dyn, Fail, Inject, Project, DynType, TupleType}
 use Rattle.object_layout.specs.Kinds.{kind_number}
 use Rattle.low_ir.specs.declared.code.LowSource.TheVariants.{Word, Number}

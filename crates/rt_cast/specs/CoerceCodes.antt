@@ -1,6 +1,6 @@
 -- The code of coerce: words 0 and 1 are the addresses of two types, word 2 is a label.
 use Rattle.std.specs.Prelude.{ℕ, [], ◌∷◌}
-use Rattle.rv_isa.specs.declared.inst.Cond.TheVariants.{Eq, Ltu}
+use Rattle.machine_words.specs.declared.conditions.Cond.TheVariants.{Eq, Ltu}
 use Rattle.object_layout.specs.declared.kinds.Kind.TheVariants.{Fail, Ref, Inject, Project, DynType, FunType}
 use Rattle.object_layout.specs.Kinds.{kind_number}
 use Rattle.low_ir.specs.declared.code.LowSource.TheVariants.{Word, Number}

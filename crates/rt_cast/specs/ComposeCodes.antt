@@ -1,7 +1,7 @@
 -- The numbers of the procedures, and the code of compose: words 0 and 1 are two coercions. Which words objects have
 -- stands in `Words.antt`.
 use Rattle.std.specs.Prelude.{ℕ, ◌+◌, [], ◌∷◌}
-use Rattle.rv_isa.specs.declared.inst.Cond.TheVariants.{Eq, Ltu}
+use Rattle.machine_words.specs.declared.conditions.Cond.TheVariants.{Eq, Ltu}
 use Rattle.object_layout.specs.declared.kinds.Kind.TheVariants.{Fail, Inject, Project}
 use Rattle.object_layout.specs.Kinds.{kind_number}
 use Rattle.low_ir.specs.declared.code.LowSource.TheVariants.{Word, Number}

@@ -1,6 +1,6 @@
 -- Objects in a memory of bytes.
 use Rattle.std.specs.Prelude.{◌≡◌, ℕ, ◌+◌, ◌^◌, ◌<◌, List, [], ◌∷◌}
-use Rattle.rv_machine.specs.Memory.{Memory, load_bytes}
+use Rattle.machine_words.specs.Memory.{Memory, load_bytes}
 use Rattle.coercion_norm.specs.Objects.{Object, Fixed, Cell, bytes_of}
 
 pub record HasWord (m : Memory) (at word : ℕ) : Type 0 where

@@ -3,8 +3,8 @@ use Rattle.std.specs.Prelude.{◌≡◌, ℕ, ◌+◌, ◌*◌, ◌%◌, ◌^◌
 use Rattle.grift_base.specs.World.{WorldState}
 use Rattle.run_laws.specs.Runs.{Ending}
 use Rattle.run_laws.specs.Machines.{Reaches}
-use Rattle.rv_machine.specs.Memory.{Memory}
-use Rattle.rv_machine.specs.State.{Halt}
+use Rattle.machine_words.specs.Memory.{Memory}
+use Rattle.machine_words.specs.Halts.{Halt}
 use Rattle.low_ir.specs.declared.code.LowSource.{LowSource}
 use Rattle.low_ir.specs.Procedures.{Code, Proc, Return}
 use Rattle.low_ir.specs.Steps.{Locals, no_locals}

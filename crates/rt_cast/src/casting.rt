@@ -17,8 +17,8 @@ use grift_base::lists::OutOfMemory;
 use low_ir::code::LowSource::{Number, Word};
 use low_ir::code::{LowCode, WordOp};
 use low_ir::programs::LowProc;
+use machine_words::conditions::Cond;
 use object_layout::kinds::Kind;
-use rv_isa::inst::Cond;
 use std::alloc::Global;
 
 // A value in Dyn as an object: word 8 is the type that it keeps, word 9 the value.

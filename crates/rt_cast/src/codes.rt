@@ -9,7 +9,7 @@ use crate::words::{BLAME_CALL, HEIGHT_BITS};
 use grift_base::lists::OutOfMemory;
 use low_ir::code::LowSource::{Number, Word};
 use low_ir::code::{LowCode, LowSource, LowSources, WordOp};
-use rv_isa::inst::Cond;
+use machine_words::conditions::Cond;
 use std::alloc::Global;
 
 /// A word is set, and then the rest is done.

@@ -14,8 +14,8 @@ use grift_base::lists::OutOfMemory;
 use low_ir::code::LowSource::{Number, Word};
 use low_ir::code::{LowCode, WordOp};
 use low_ir::programs::LowProc;
+use machine_words::conditions::Cond;
 use object_layout::kinds::Kind;
-use rv_isa::inst::Cond;
 use std::alloc::Global;
 
 // A failure with the label.

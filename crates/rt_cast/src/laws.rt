@@ -3,8 +3,8 @@
 ghost use Rattle.std.specs.Prelude.{◌≡◌, ℕ, ◌+◌, ◌*◌, ◌<◌, ◌≤◌, ◌^◌, max, true, false, List, [], ◌∷◌, length};
 ghost use Rattle.grift_base.specs.Types.{TypeHead, TypeRows};
 ghost use Rattle.run_laws.specs.Runs.{Ending, Exhausted};
-ghost use Rattle.rv_machine.specs.Memory.{Memory};
-ghost use Rattle.rv_machine.specs.State.{Halt, Lacks, Region};
+ghost use Rattle.machine_words.specs.Memory.{Memory};
+ghost use Rattle.machine_words.specs.Halts.{Halt, Lacks, Region};
 ghost use Rattle.low_ir.specs.Procedures.{Proc};
 ghost use Rattle.low_ir.specs.Closed.{each_closed};
 ghost use Rattle.low_ir.specs.Run.{Setting, LowState};

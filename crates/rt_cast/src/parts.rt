@@ -1,7 +1,7 @@
 // The procedures of heights and of middles that are made part by part.
 
 ghost use Rattle.std.specs.Prelude.{◌≡◌, ℕ, ◌+◌, ◌<◌, ◌≤◌, ◌^◌, ◌∷◌, IfOk};
-ghost use Rattle.rv_isa.specs.declared.inst.Cond.TheVariants.{Eq};
+ghost use Rattle.machine_words.specs.declared.conditions.Cond.TheVariants.{Eq};
 ghost use Rattle.low_ir.specs.declared.code.LowSource.TheVariants.{Word};
 ghost use Rattle.low_ir.specs.Procedures.{TailCall};
 ghost use Rattle.low_ir.specs.Views.{code_of, proc_of};
@@ -16,8 +16,8 @@ use grift_base::lists::OutOfMemory;
 use low_ir::code::LowSource::{Number, Word};
 use low_ir::code::{LowCode, LowSource, WordOp};
 use low_ir::programs::LowProc;
+use machine_words::conditions::Cond;
 use object_layout::kinds::Kind;
-use rv_isa::inst::Cond;
 use std::alloc::Global;
 
 /// The greater of a height and an object's, which stand in words 0 and 1.

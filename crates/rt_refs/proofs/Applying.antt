@@ -4,7 +4,7 @@ use Rattle.std.proofs.Common.{suc, le_refl, arith}
 use Rattle.grift_base.specs.Types.{TypeHead}
 use Rattle.run_laws.specs.Runs.{Ending, Exhausted}
 use Rattle.run_laws.proofs.Public.{reaches_weaken}
-use Rattle.rv_machine.specs.State.{Halt, Lacks, Region}
+use Rattle.machine_words.specs.Halts.{Halt, Lacks, Region}
 use Rattle.low_ir.specs.Prices.{slot_price, leaving}
 use Rattle.low_ir.specs.Steps.{Locals, no_locals, set_local}
 use Rattle.low_ir.specs.Run.{Setting, Waiting, LowState, and_more, bind, low_machine}

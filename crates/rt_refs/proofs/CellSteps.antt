@@ -4,9 +4,9 @@ use Rattle.std.proofs.Common.{nat_eq}
 use Rattle.std.proofs.Common.{List, [], ◌∷◌, length, Some, refl, sym, ap, ◌∙◌, subst, arith, eqb-true}
 use Rattle.std.specs.Prelude.{nat_le, slice_get, pos}
 use Rattle.run_laws.specs.Machines.{Go}
-use Rattle.rv_machine.specs.Memory.{Memory, store_bytes}
-use Rattle.rv_machine.specs.Turn.{plus}
-use Rattle.rv_machine.proofs.Public.{stored_outside, load_same}
+use Rattle.machine_words.specs.Memory.{Memory, store_bytes}
+use Rattle.machine_words.specs.Arithmetic.{plus}
+use Rattle.machine_words.proofs.Public.{stored_outside, load_same}
 use Rattle.low_ir.specs.declared.code.LowSource.{LowSource}
 use Rattle.low_ir.specs.Procedures.{Code, Done, Store}
 use Rattle.low_ir.specs.Steps.{Locals, given, only_if, may_load, may_store}

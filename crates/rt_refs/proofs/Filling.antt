@@ -9,13 +9,13 @@ use Rattle.grift_base.specs.declared.verdicts.Trap.TheVariants.{Length}
 use Rattle.run_laws.specs.Runs.{Ending, Exhausted}
 use Rattle.run_laws.specs.Machines.{Go, Stop, Machine, Reaches, Onward}
 use Rattle.run_laws.proofs.Public.{by_step}
-use Rattle.rv_isa.specs.declared.inst.Cond.{Cond}
-use Rattle.rv_isa.specs.declared.inst.Cond.TheVariants.{Lt}
-use Rattle.rv_machine.specs.Memory.{Memory, store_bytes}
-use Rattle.rv_machine.specs.State.{Halt, Lacks, Region}
-use Rattle.rv_machine.specs.Turn.{plus}
-use Rattle.rv_machine.specs.Real.{holds}
-use Rattle.rv_machine.proofs.Public.{stored_outside, load_stored, load_other}
+use Rattle.machine_words.specs.declared.conditions.Cond.{Cond}
+use Rattle.machine_words.specs.declared.conditions.Cond.TheVariants.{Lt}
+use Rattle.machine_words.specs.Memory.{Memory, store_bytes}
+use Rattle.machine_words.specs.Halts.{Halt, Lacks, Region}
+use Rattle.machine_words.specs.Arithmetic.{plus}
+use Rattle.machine_words.specs.Conditions.{holds}
+use Rattle.machine_words.proofs.Public.{stored_outside, load_stored, load_other}
 use Rattle.low_ir.specs.declared.code.LowSource.{LowSource}
 use Rattle.low_ir.specs.declared.code.LowSource.TheVariants.{Word, Number}
 use Rattle.low_ir.specs.declared.code.WordOp.{WordOp}

@@ -6,7 +6,7 @@ use Rattle.run_laws.proofs.Public.{reaches_weaken}
 use Rattle.std.proofs.Common.{refl, sym, ap, ap₂, ◌∙◌, subst, arith, le_refl}
 use Rattle.grift_base.specs.Types.{TypeHead}
 use Rattle.run_laws.specs.Runs.{Ending, Exhausted}
-use Rattle.rv_machine.specs.State.{Halt, Lacks, Region}
+use Rattle.machine_words.specs.Halts.{Halt, Lacks, Region}
 use Rattle.low_ir.specs.declared.code.LowSource.TheVariants.{Word}
 use Rattle.low_ir.specs.Procedures.{Code, CallAt, Done, TailCall}
 use Rattle.low_ir.specs.Steps.{Locals, set_local}

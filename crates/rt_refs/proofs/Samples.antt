@@ -9,8 +9,8 @@ use Rattle.grift_base.specs.declared.verdicts.Trap.TheVariants.{Index, Length}
 use Rattle.grift_base.specs.declared.verdicts.Verdict.TheVariants.{Answer, Blame, Trap}
 use Rattle.run_laws.specs.Runs.{Ending, Verdict}
 use Rattle.run_laws.specs.Machines.{run}
-use Rattle.rv_machine.specs.Memory.{Memory, load_bytes, store_bytes}
-use Rattle.rv_machine.specs.State.{Halt, Ended, Lacks, Region}
+use Rattle.machine_words.specs.Memory.{Memory, load_bytes, store_bytes}
+use Rattle.machine_words.specs.Halts.{Halt, Ended, Lacks, Region}
 use Rattle.low_ir.specs.declared.code.LowSource.TheVariants.{Word, Number}
 use Rattle.low_ir.specs.declared.code.WordOp.TheVariants.{Add, Sra}
 use Rattle.low_ir.specs.Procedures.{Code, Load, Call, Return, Build, CodeOf, Compute, Proc}

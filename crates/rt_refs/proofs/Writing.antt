@@ -6,7 +6,7 @@ use Rattle.grift_base.specs.Types.{TypeHead}
 use Rattle.grift_base.specs.EnvironmentCall.{environment_call}
 use Rattle.grift_base.specs.declared.verdicts.Trap.TheVariants.{Index}
 use Rattle.run_laws.specs.Runs.{Ending, Exhausted}
-use Rattle.rv_machine.specs.State.{Halt, Lacks, Region}
+use Rattle.machine_words.specs.Halts.{Halt, Lacks, Region}
 use Rattle.low_ir.specs.declared.code.LowSource.TheVariants.{Word, Number}
 use Rattle.low_ir.specs.Procedures.{Code, Return, Call, Store, Environment}
 use Rattle.low_ir.specs.Steps.{Locals, no_locals}
@@ -31,8 +31,8 @@ use Rattle.rt_refs.specs.CellLaws.{cell_behind, under, CellStands, CellInRegion,
 use Rattle.rt_refs.specs.CellLaws.{OnTheWayWriting, ComesWhere, ComesWriting}
 use Rattle.rt_refs.proofs.CellSteps.{in_list, stores, may_be_stored, holds_stored, holds_same}
 use Rattle.rt_refs.proofs.Calling.{cast_behind, Goes}
-use Rattle.rv_machine.specs.Memory.{store_bytes}
-use Rattle.rv_machine.proofs.Public.{stored_outside}
+use Rattle.machine_words.specs.Memory.{store_bytes}
+use Rattle.machine_words.proofs.Public.{stored_outside}
 use Rattle.coercion_norm.proofs.Public.{found_within, object_kept}
 use Rattle.coercion_norm.specs.Objects.{Cell, object_at}
 use Rattle.rt_refs.proofs.Finding.{KeepsCoercion, behind_under, found, part_taken}

@@ -18,8 +18,8 @@ use grift_base::verdicts::Trap;
 use low_ir::code::LowSource::{Number, Word};
 use low_ir::code::{LowCode, WordOp};
 use low_ir::programs::{LowProc, LowProcs};
+use machine_words::conditions::Cond;
 use rt_cast::codes::{choose, compute, set, tail_call};
-use rv_isa::inst::Cond;
 use std::alloc::Global;
 
 /// How many procedures `arithmetic_procs` gives.

@@ -6,10 +6,11 @@ use Rattle.std.specs.Prelude.{nat_le, nat_lt, ◌&&◌, ◌==◌, if◌then◌el
 use Rattle.std.specs.Int.{Width, byte_len}
 use Rattle.rv_isa.specs.declared.inst.Inst.{Inst}
 use Rattle.rv_isa.specs.Decoding.{decode_of}
-use Rattle.rv_machine.specs.Memory.{first_address, Memory, load_bytes, store_bytes, from_base}
+use Rattle.machine_words.specs.Memory.{first_address, Memory, load_bytes, store_bytes, from_base}
 use Rattle.rv_machine.specs.State.{State, Next}
-use Rattle.rv_machine.specs.declared.faults.MachineFault.TheVariants.{BadAddress}
-use Rattle.rv_machine.specs.Turn.{sign_extend, put, load_into, store_from, next_pc, turn_of, act_if, goes_wrong}
+use Rattle.machine_words.specs.declared.faults.MachineFault.TheVariants.{BadAddress}
+use Rattle.machine_words.specs.Arithmetic.{sign_extend}
+use Rattle.rv_machine.specs.Turn.{put, load_into, store_from, next_pc, turn_of, act_if, goes_wrong}
 
 pub load_from_base : (k : ℕ) (m : Memory) (at : ℕ) → first_address ≤ at
     → load_bytes k (from_base m) at ≡ load_bytes k m (at - first_address)

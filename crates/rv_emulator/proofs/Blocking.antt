@@ -9,8 +9,9 @@ use Rattle.grift_base.specs.Outside.{next_count}
 use Rattle.grift_base.specs.World.{WorldState}
 use Rattle.grift_base.specs.declared.sinks.SinkFault.{SinkFault}
 use Rattle.grift_base.specs.declared.sinks.SinkFault.TheVariants.{Failed, OutOfMemory as SinkMemory}
-use Rattle.rv_machine.specs.Memory.{Memory}
-use Rattle.rv_machine.specs.State.{State, Halt, Next}
+use Rattle.machine_words.specs.Memory.{Memory}
+use Rattle.rv_machine.specs.State.{State, Next}
+use Rattle.machine_words.specs.Halts.{Halt}
 use Rattle.rv_machine.specs.Turn.{turn_of}
 use Rattle.rv_machine.specs.Mach.{run_of}
 use Rattle.rv_machine.proofs.Public.{run_none, run_more, run_stops}

@@ -6,8 +6,8 @@ use Rattle.std.proofs.lemmas.List.{get_or_read, get_or_push, get_or_append_left,
 use Rattle.std.specs.Prelude.{◌&&◌, nat_le, nat_lt}
 use Rattle.rv_isa.specs.declared.inst.Inst.{Inst}
 use Rattle.rv_isa.specs.Decoding.{decode_of}
-use Rattle.rv_machine.specs.Memory.{first_address, Memory, load_bytes, memory_of, from_base}
-use Rattle.rv_machine.proofs.Public.{load_same}
+use Rattle.machine_words.specs.Memory.{first_address, Memory, load_bytes, memory_of, from_base}
+use Rattle.machine_words.proofs.Public.{load_same}
 use Rattle.rv_emulator.specs.declared.processor.Places.{Places}
 use Rattle.rv_emulator.specs.Processor.{AreDecoded, IsDecoded}
 use Rattle.rv_emulator.proofs.Based.{load_from_base}

@@ -9,8 +9,8 @@ use Rattle.std.proofs.Math.Path.{fun_ext}
 use Rattle.std.specs.Prelude.{nat_lt, is_some, Result, Ok, Err, OnOk, OnErr}
 use Rattle.std.specs.Int.{byte_len}
 use Rattle.std.specs.Global.{Box}
-use Rattle.rv_machine.specs.Memory.{Memory, memory_of, load_bytes, store_bytes, byte_of}
-use Rattle.rv_machine.proofs.Public.{load_same, stored_inside, stored_outside}
+use Rattle.machine_words.specs.Memory.{Memory, memory_of, load_bytes, store_bytes, byte_of}
+use Rattle.machine_words.proofs.Public.{load_same, stored_inside, stored_outside}
 use Rattle.rv_emulator.specs.declared.ram.Width.{Width}
 use Rattle.rv_emulator.specs.declared.ram.Width.TheVariants.{B1, B2, B4, B8}
 use Rattle.rv_emulator.specs.Widths.{width_of}

@@ -18,9 +18,10 @@ use Rattle.rv_isa.specs.declared.inst.Inst.TheVariants.{Ori, Andi, Slli, Srli, S
 use Rattle.rv_isa.specs.declared.inst.Inst.TheVariants.{Sra, Or, And, Addiw, Slliw, Srliw, Sraiw, Addw, Subw, Sllw}
 use Rattle.rv_isa.specs.declared.inst.Inst.TheVariants.{Srlw, Sraw, Fence, Ecall, Ebreak}
 use Rattle.rv_isa.specs.Decoding.{decode_of}
-use Rattle.rv_machine.specs.Memory.{load_bytes, first_address}
+use Rattle.machine_words.specs.Memory.{load_bytes, first_address}
 use Rattle.rv_machine.specs.State.{State, Turn, Next, Stops, reg}
-use Rattle.rv_machine.specs.Turn.{load_into, store_from, branch_if, jump_and_link, plus, signed_less, comes_to}
+use Rattle.rv_machine.specs.Turn.{load_into, store_from, branch_if, jump_and_link, comes_to}
+use Rattle.machine_words.specs.Arithmetic.{plus, signed_less}
 use Rattle.rv_machine.specs.Turn.{blames, called}
 use Rattle.rv_machine.specs.Turn.{call_environment, act, act_if, turn_of}
 use Rattle.rv_emulator.specs.Blocks.{printed_before}

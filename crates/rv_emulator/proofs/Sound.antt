@@ -9,11 +9,12 @@ use Rattle.grift_base.specs.declared.worlds.EnvEffect.TheVariants.{Next as GoesO
 use Rattle.grift_base.specs.declared.worlds.EnvEffect.TheVariants.{Trapped as Traps, RegionOut as RegionEnds}
 use Rattle.grift_base.specs.declared.worlds.EnvEffect.TheVariants.{StackOut as StackEnds, Refused}
 use Rattle.grift_base.specs.declared.worlds.EnvEffect.TheVariants.{OutOfMemory as NoRoom}
-use Rattle.rv_machine.specs.Memory.{Memory, store_bytes, first_address}
-use Rattle.rv_machine.proofs.Public.{stored_outside}
-use Rattle.rv_machine.specs.declared.faults.MachineFault.TheVariants.{BadAddress, Misaligned}
+use Rattle.machine_words.specs.Memory.{Memory, store_bytes, first_address}
+use Rattle.machine_words.proofs.Public.{stored_outside}
+use Rattle.machine_words.specs.declared.faults.MachineFault.TheVariants.{BadAddress, Misaligned}
 use Rattle.rv_machine.specs.State.{State, Turn, Next, Stops}
-use Rattle.rv_machine.specs.Turn.{load_into, store_from, branch_if, jump_and_link, comes_to, called, blames, plus}
+use Rattle.rv_machine.specs.Turn.{load_into, store_from, branch_if, jump_and_link, comes_to, called, blames}
+use Rattle.machine_words.specs.Arithmetic.{plus}
 use Rattle.rv_machine.specs.Turn.{next_pc, goes_wrong}
 use Rattle.rv_machine.specs.Registers.{set_reg}
 use Rattle.rv_emulator.specs.declared.processor.Action.{Action}

@@ -4,12 +4,12 @@ use Rattle.std.proofs.lemmas.Bool.{cases_lt, cases_eq}
 use Rattle.std.specs.Prelude.{if◌then◌else◌, nat_lt}
 use Rattle.grift_base.specs.World.{WorldState}
 use Rattle.grift_base.specs.declared.places.Pos.{Pos}
-use Rattle.rv_machine.specs.Memory.{first_address, Memory, store_bytes, byte_of, memory_of, from_base}
+use Rattle.machine_words.specs.Memory.{first_address, Memory, store_bytes, byte_of, memory_of, from_base}
 use Rattle.rv_machine.specs.Registers.{Registers, set_reg}
 use Rattle.rv_machine.specs.Image.{IsImage, statics_len, code_len, label_count, entry, loaded_part, labels_of}
 use Rattle.rv_machine.specs.State.{Layout, State}
 use Rattle.rv_machine.specs.Start.{IsRegionSize, IsStackSize, start_regs, start_of}
-use Rattle.rv_machine.proofs.Public.{stored_inside, stored_outside}
+use Rattle.machine_words.proofs.Public.{stored_inside, stored_outside}
 use Rattle.rv_emulator.specs.declared.processor.Places.{Places}
 use Rattle.rv_emulator.specs.Processor.{IsSound}
 

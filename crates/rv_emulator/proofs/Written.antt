@@ -6,8 +6,8 @@ use Rattle.std.proofs.lemmas.List.{get_or-append_right, get_or_append_left, get_
 use borrow.Rule.Slice.PartMut.{put_mid}
 use Rattle.std.proofs.Math.Path.{fun_ext}
 use Rattle.std.specs.Int.{w64, to_le_bytes}
-use Rattle.rv_machine.specs.Memory.{store_bytes, byte_of, memory_of}
-use Rattle.rv_machine.proofs.Public.{stored_inside, stored_outside}
+use Rattle.machine_words.specs.Memory.{store_bytes, byte_of, memory_of}
+use Rattle.machine_words.proofs.Public.{stored_inside, stored_outside}
 use Rattle.assembler.proofs.Public.{byte_in}
 
 written_at : (n at word i : ℕ) (bytes part : List ℕ) → at + n ≤ length bytes → length part ≡ n

@@ -5,7 +5,8 @@ use Rattle.grift_base.specs.Sink.{SinkSeen, Untouched, Takes, Breaks, Adds, Adds
 use Rattle.grift_base.specs.Outside.{next_count}
 use Rattle.grift_base.specs.declared.sinks.SinkFault.{SinkFault}
 use Rattle.grift_base.specs.declared.sinks.SinkFault.TheVariants.{Failed, OutOfMemory as SinkMemory}
-use Rattle.rv_machine.specs.State.{State, Halt}
+use Rattle.rv_machine.specs.State.{State}
+use Rattle.machine_words.specs.Halts.{Halt}
 use Rattle.rv_machine.specs.Mach.{run_of}
 use Rattle.rv_emulator.specs.declared.stops.Stop.{Stop}
 use Rattle.rv_emulator.specs.declared.stops.Stop.TheVariants.{OutOfMemory}

@@ -3,7 +3,7 @@ use Rattle.std.specs.Prelude.{ℕ, ◌/◌, ◌%◌, Bool, nat_lt, if◌then◌e
 use Rattle.std.specs.Prelude.{is_some}
 use Rattle.std.specs.List.{list_all}
 use Rattle.std.specs.Global.{Box}
-use Rattle.rv_machine.specs.Memory.{Memory, memory_of}
+use Rattle.machine_words.specs.Memory.{Memory, memory_of}
 
 -- the bytes of a page, none of one that is missing
 abbrev pub page_bytes : Option (Box (List ℕ)) → List ℕ

@@ -2,7 +2,7 @@
 use Rattle.std.specs.Prelude.{ℕ, length, ◌+◌, ◌*◌, ◌%◌, ◌<◌, ◌≤◌, ◌≡◌, List, Option, None, slice_index_or}
 use Rattle.rv_isa.specs.declared.inst.Inst.{Inst}
 use Rattle.rv_isa.specs.Decoding.{decode_of}
-use Rattle.rv_machine.specs.Memory.{Memory, first_address, from_base, load_bytes}
+use Rattle.machine_words.specs.Memory.{Memory, first_address, from_base, load_bytes}
 use Rattle.rv_machine.specs.State.{State}
 use Rattle.rv_emulator.specs.declared.processor.Processor.{Processor}
 use Rattle.rv_emulator.specs.declared.processor.Places.{Places}

@@ -4,11 +4,12 @@ use Rattle.grift_base.specs.declared.verdicts.Verdict.TheVariants.{Answer, Blame
 use Rattle.rv_isa.specs.declared.inst.Inst.{Inst}
 use Rattle.rv_isa.specs.declared.inst.Inst.TheVariants.{Sb, Sh, Sw, Sd, Ecall}
 use Rattle.rv_isa.specs.Decoding.{decode_of}
-use Rattle.rv_machine.specs.declared.faults.MachineFault.TheVariants.{Undefined as IsUndefined}
-use Rattle.rv_machine.specs.declared.faults.MachineFault.TheVariants.{BadAddress as IsBadAddress}
-use Rattle.rv_machine.specs.declared.faults.MachineFault.TheVariants.{Misaligned as IsMisaligned}
-use Rattle.rv_machine.specs.Memory.{Memory, load_bytes}
-use Rattle.rv_machine.specs.State.{State, Region, Stack, Halt, Ended as HasEnded, Lacks, GoesWrong}
+use Rattle.machine_words.specs.declared.faults.MachineFault.TheVariants.{Undefined as IsUndefined}
+use Rattle.machine_words.specs.declared.faults.MachineFault.TheVariants.{BadAddress as IsBadAddress}
+use Rattle.machine_words.specs.declared.faults.MachineFault.TheVariants.{Misaligned as IsMisaligned}
+use Rattle.machine_words.specs.Memory.{Memory, load_bytes}
+use Rattle.rv_machine.specs.State.{State}
+use Rattle.machine_words.specs.Halts.{Region, Stack, Halt, Ended as HasEnded, Lacks, GoesWrong}
 use Rattle.rv_machine.specs.State.{Turn, Next, Stops}
 use Rattle.rv_machine.specs.Mach.{run_of}
 use Rattle.rv_emulator.specs.declared.processor.Processor.{Processor}

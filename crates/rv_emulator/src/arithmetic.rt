@@ -2,8 +2,9 @@
 
 ghost use Rattle.std.specs.Prelude.{◌≡◌, ◌+◌, ◌-◌, ◌*◌, ◌/◌, ◌%◌, ◌^◌, ◌<◌, ◌≤◌, Bool, if◌then◌else◌};
 ghost use Rattle.std.specs.Int.{byte_len, w32};
-ghost use Rattle.rv_machine.specs.Turn.{flag, half, low_half, half_right_signed, sign_extend, shift_left, shift_right};
-ghost use Rattle.rv_machine.specs.Turn.{shift_right_signed, signed_less};
+ghost use Rattle.machine_words.specs.Arithmetic.{flag, half, low_half, half_right_signed, sign_extend, shift_left};
+ghost use Rattle.machine_words.specs.Arithmetic.{shift_right};
+ghost use Rattle.machine_words.specs.Arithmetic.{shift_right_signed, signed_less};
 ghost use Rattle.rv_emulator.specs.Widths.{width_of};
 
 use crate::ram::Width;

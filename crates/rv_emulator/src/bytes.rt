@@ -1,7 +1,7 @@
 // Numbers that are written into a slice of bytes, the lowest byte first.
 
 ghost use Rattle.std.specs.Prelude.{◌≡◌, ◌≤◌, ◌+◌, length};
-ghost use Rattle.rv_machine.specs.Memory.{store_bytes, memory_of};
+ghost use Rattle.machine_words.specs.Memory.{store_bytes, memory_of};
 
 /// Writes the lowest `WIDTH` bytes of a word from place `at` on.
 pub fn write_number<const WIDTH: usize>(bytes: &mut [u8], at: usize, word: u64)

@@ -1,7 +1,7 @@
 // A memory that is one vector.
 
 ghost use Rattle.std.specs.Prelude.{◌≡◌, ℕ, IfOk, length, true};
-ghost use Rattle.rv_machine.specs.Memory.{memory_of};
+ghost use Rattle.machine_words.specs.Memory.{memory_of};
 ghost use Rattle.std.proofs.lemmas.List.{get_or_past};
 
 use crate::bytes::write_number;

@@ -3,7 +3,7 @@
 ghost use Rattle.std.specs.Prelude.{◌≡◌, ◌≤◌, ◌<◌, ◌+◌, ◌-◌, ◌%◌, ◌*◌, ◌/◌, ◌^◌, ℕ, length, [], true, IfOk};
 ghost use Rattle.std.specs.Prelude.{OnOk, OnErr};
 ghost use Rattle.grift_base.specs.Sink.{sink_seen};
-ghost use Rattle.rv_machine.specs.Memory.{memory_of, first_address};
+ghost use Rattle.machine_words.specs.Memory.{memory_of, first_address};
 ghost use Rattle.rv_machine.specs.Image.{IsImage, statics_len, code_len};
 ghost use Rattle.rv_machine.specs.Start.{IsRegionSize, IsStackSize, start_regs, start_of};
 ghost use Rattle.rv_machine.specs.State.{reg};
@@ -25,9 +25,9 @@ use grift_base::lists::OutOfMemory;
 use grift_base::sinks::{Sink, SinkFault};
 use grift_base::words::Words;
 use grift_base::worlds::World;
+use machine_words::FIRST_ADDRESS;
 use rv_isa::inst::{Inst, decode};
 use rv_isa::number::Reg;
-use rv_machine::FIRST_ADDRESS;
 use std::alloc::Global;
 use std::marker::Model;
 
@@ -218,7 +218,7 @@ impl<R: Ram> Machine<R> {
 }
 
 impl<R: Ram> Words for Machine<R> {
-    ghost use Rattle.rv_machine.specs.Memory.{load_bytes, first_address};
+    ghost use Rattle.machine_words.specs.Memory.{load_bytes, first_address};
     ghost use Rattle.rv_emulator.specs.Processor.{state_of};
 
     ghost first = { λ _. first_address };

@@ -4,7 +4,7 @@ ghost use Rattle.std.specs.Prelude.{◌≡◌, ◌≤◌, ◌<◌, ◌+◌, ◌*
 ghost use Rattle.std.specs.Prelude.{None};
 ghost use Rattle.std.specs.Prelude.{IfOk, OnOk, OnErr, vec_len};
 ghost use Rattle.std.specs.Int.{byte_len};
-ghost use Rattle.rv_machine.specs.Memory.{memory_of, load_bytes, store_bytes};
+ghost use Rattle.machine_words.specs.Memory.{memory_of, load_bytes, store_bytes};
 ghost use Rattle.rv_emulator.specs.Widths.{width_of};
 ghost use Rattle.rv_emulator.specs.Pages.{paged_memory, all_made, page_at, page_bytes, page_byte};
 ghost use Rattle.std.proofs.Common.{ap};

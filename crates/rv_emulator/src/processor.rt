@@ -2,7 +2,8 @@
 
 ghost use Rattle.std.specs.Prelude.{◌≡◌, ◌<◌, ◌≤◌, ◌-◌, ◌*◌, ◌%◌, ◌^◌, ◌⊎◌, ℕ, Bool, length, true, false, Some};
 ghost use Rattle.std.specs.Int.{byte_len};
-ghost use Rattle.rv_machine.specs.Turn.{half, word_of, plus, put, load_into, store_from, branch_if, jump_and_link};
+ghost use Rattle.machine_words.specs.Arithmetic.{half, word_of, plus};
+ghost use Rattle.rv_machine.specs.Turn.{put, load_into, store_from, branch_if, jump_and_link};
 ghost use Rattle.rv_machine.specs.Turn.{call_environment, act, turn_of};
 ghost use Rattle.rv_machine.specs.State.{reg};
 ghost use Rattle.rv_emulator.specs.Consoles.{reserved_by, LacksRoom, PrintsFew, LacksFew};
@@ -22,9 +23,9 @@ use crate::stops::Stop;
 use grift_base::lists::Items;
 use grift_base::places::Pos;
 use grift_base::worlds::EnvEffect;
+use machine_words::FIRST_ADDRESS;
 use rv_isa::inst::Inst;
 use rv_isa::number::{Imm12, Imm13, Reg, Upper};
-use rv_machine::FIRST_ADDRESS;
 
 /// Where code begins, where it ends and the region begins, and where memory ends.
 #[derive(Clone, Copy, PartialEq, Eq, Debug)]

@@ -2,7 +2,7 @@
 
 ghost use Rattle.std.specs.Prelude.{◌≡◌, ◌<◌, ◌≤◌, ◌+◌, ◌%◌, ◌*◌, ◌^◌, ℕ, Bool, true, false, OnOk, OnErr};
 ghost use Rattle.std.specs.Int.{byte_len};
-ghost use Rattle.rv_machine.specs.Memory.{Memory, load_bytes, store_bytes};
+ghost use Rattle.machine_words.specs.Memory.{Memory, load_bytes, store_bytes};
 ghost use Rattle.rv_emulator.specs.Widths.{width_of};
 
 use grift_base::lists::OutOfMemory;

@@ -4,4 +4,3 @@ pub mod Valid
 pub mod Fields
 pub mod Encoding
 pub mod Decoding
-pub mod Conditions

@@ -4,7 +4,6 @@ ghost use Rattle.std.specs.Prelude.{◌≡◌, ◌<◌, ◌^◌, ℕ, Some, IfSo
 ghost use Rattle.rv_isa.specs.Table.{IsWordOf};
 ghost use Rattle.rv_isa.specs.Encoding.{encode_of};
 ghost use Rattle.rv_isa.specs.Decoding.{decode_of};
-ghost use Rattle.rv_isa.specs.Conditions.{branch_when};
 ghost use Rattle.rv_isa.specs.declared.inst.Inst.{Inst};
 
 use crate::decoder::inst_of;
@@ -70,33 +69,6 @@ pub enum Inst {
     Fence(Reg, Reg, Imm12),
     Ecall,
     Ebreak,
-}
-
-/// What a branch asks of rs1 and rs2: `Lt` and `Ge` compare signed words, `Ltu` and `Geu` unsigned ones.
-#[derive(Clone, Copy, PartialEq, Eq, Debug)]
-pub enum Cond {
-    Eq,
-    Ne,
-    Lt,
-    Ge,
-    Ltu,
-    Geu,
-}
-
-impl Inst {
-    /// The branch that is taken where the condition holds of rs1 and rs2.
-    pub fn branch(cond: Cond, rs1: Reg, rs2: Reg, offset: Imm13) -> Inst
-        ensures { result ≡ branch_when cond rs1 rs2 offset }
-    {
-        match cond {
-            Cond::Eq => Inst::Beq(rs1, rs2, offset),
-            Cond::Ne => Inst::Bne(rs1, rs2, offset),
-            Cond::Lt => Inst::Blt(rs1, rs2, offset),
-            Cond::Ge => Inst::Bge(rs1, rs2, offset),
-            Cond::Ltu => Inst::Bltu(rs1, rs2, offset),
-            Cond::Geu => Inst::Bgeu(rs1, rs2, offset),
-        }
-    }
 }
 
 /// The word of an instruction.

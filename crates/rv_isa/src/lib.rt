@@ -6,4 +6,3 @@ mod encoder;
 pub mod fields;
 pub mod inst;
 pub mod number;
-pub mod real;

@@ -1,5 +1,4 @@
 mod Runs
-mod Memory
 mod Image
 mod Tabled
 mod Conditions

@@ -1,8 +1,5 @@
 -- The lemmas that other crates may cite.
 
--- ---- memory
-pub use Rattle.rv_machine.proofs.Memory.{stored_inside, stored_outside, load_same, load_short, load_stored, load_other}
-pub use Rattle.rv_machine.proofs.Memory.{load_below}
 -- ---- the labels of an image
 pub use Rattle.rv_machine.proofs.Image.{length-labels_from, label_within, label_past, labels_none, labels_more}
 -- ---- turns
@@ -12,8 +9,7 @@ pub use Rattle.rv_machine.proofs.Runs.{run_none, run_more, run_stops, later_turn
 pub use Rattle.rv_machine.proofs.Runs.{what_has_stopped_stays-stays, what_has_stopped_stays-stops_again}
 pub use Rattle.rv_machine.proofs.Runs.{run_is_its_turns-states}
 -- ---- readings of stops as endings
-pub use Rattle.rv_machine.proofs.Wrongs.{the_readings_take_faults_as_wrong-endings}
-pub use Rattle.rv_machine.proofs.Wrongs.{the_readings_take_faults_as_wrong-stops, a_run_goes_wrong_under_every_reading}
+pub use Rattle.rv_machine.proofs.Wrongs.{a_run_goes_wrong_under_every_reading}
 -- ---- the program logic of code with marks
 pub use Rattle.rv_machine.proofs.Standing.{Program, At, HasItem, has_item-append, drop_next, at_small, at_aligned}
 pub use Rattle.rv_machine.proofs.Standing.{some_address, behind_mark, NextAt, next_at, MarkAt, mark_at, found_at}

@@ -1,6 +1,7 @@
 -- Runs, one turn after another.
 use Rattle.std.proofs.Common.{ℕ, zero, suc, ◌+◌, ◌-◌, ◌<◌, ◌≤◌, ◌≡◌, Option, Some, None, refl, sym, ◌∙◌, ap, arith}
-use Rattle.rv_machine.specs.State.{State, Halt, Turn, Next, Stops}
+use Rattle.rv_machine.specs.State.{State, Turn, Next, Stops}
+use Rattle.machine_words.specs.Halts.{Halt}
 use Rattle.rv_machine.specs.Turn.{turn_of}
 use Rattle.rv_machine.specs.Mach.{onward, run_of, step_of, machine, moment_of}
 use Rattle.run_laws.specs.Machines.{run, seen, and_then, steps}

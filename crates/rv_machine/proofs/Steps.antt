@@ -7,16 +7,19 @@ use Rattle.run_laws.specs.Machines.{Go, Stop, Machine, Reaches}
 use Rattle.run_laws.proofs.Public.{by_step}
 use Rattle.rv_isa.specs.declared.inst.Inst.{Inst}
 use Rattle.rv_isa.specs.declared.inst.Inst.TheVariants.{Jalr, Ecall}
-use Rattle.rv_isa.specs.declared.inst.Cond.{Cond}
-use Rattle.rv_isa.specs.declared.real.RealItem.{RealItem}
-use Rattle.rv_isa.specs.declared.real.RealItem.TheVariants.{Op, Jump, Branch, Address}
-use Rattle.rv_machine.specs.declared.faults.MachineFault.TheVariants.{Misaligned}
-use Rattle.rv_machine.specs.Memory.{Memory}
+use Rattle.machine_words.specs.declared.conditions.Cond.{Cond}
+use Rattle.rv_machine.specs.declared.real.RealItem.{RealItem}
+use Rattle.rv_machine.specs.declared.real.RealItem.TheVariants.{Op, Jump, Branch, Address}
+use Rattle.machine_words.specs.declared.faults.MachineFault.TheVariants.{Misaligned}
+use Rattle.machine_words.specs.Memory.{Memory}
 use Rattle.rv_machine.specs.Registers.{Registers, set_reg}
-use Rattle.rv_machine.specs.State.{State, Halt, Turn, Next, Stops, reg}
-use Rattle.rv_machine.specs.Turn.{subtract, add, act_with, goes_wrong}
+use Rattle.rv_machine.specs.State.{State, Turn, Next, Stops, reg}
+use Rattle.machine_words.specs.Halts.{Halt}
+use Rattle.machine_words.specs.Arithmetic.{subtract, add}
+use Rattle.rv_machine.specs.Turn.{act_with, goes_wrong}
 use Rattle.rv_machine.specs.Mach.{step_by}
-use Rattle.rv_machine.specs.Real.{is_mark, address_from, mark_address, holds, step_here, item_step, op_step, jump_step}
+use Rattle.rv_machine.specs.Real.{is_mark, address_from, mark_address, step_here, item_step, op_step, jump_step}
+use Rattle.machine_words.specs.Conditions.{holds}
 use Rattle.rv_machine.specs.Real.{branch_step, address_step, goes_to, real_machine}
 use Rattle.rv_machine.proofs.Standing.{Program, At, HasItem, item_here, next_at}
 

@@ -5,7 +5,7 @@ use Rattle.rv_isa.specs.declared.inst.Inst.{Inst}
 use Rattle.rv_isa.specs.Decoding.{decode_of}
 use Rattle.rv_isa.specs.Table.{IsWordOf}
 use Rattle.rv_isa.proofs.Public.{decoded_is_row, row_is_decoded}
-use Rattle.rv_machine.specs.Memory.{load_bytes}
+use Rattle.machine_words.specs.Memory.{load_bytes}
 use Rattle.rv_machine.specs.State.{State}
 use Rattle.rv_machine.specs.Turn.{turn_of, act, act_if, is_undefined, IsFetched}
 

@@ -4,13 +4,17 @@ use Rattle.std.specs.Prelude.{◌==◌, if◌then◌else◌}
 use Rattle.run_laws.specs.Runs.{Ending, Wrong, NeverWrong}
 use Rattle.run_laws.specs.Machines.{Next as Step, Go, Stop, Machine, and_then, steps, seen, run}
 use Rattle.rv_isa.specs.declared.inst.Inst.{Inst}
-use Rattle.rv_isa.specs.declared.real.RealItem.{RealItem}
-use Rattle.rv_isa.specs.declared.real.RealItem.TheVariants.{Op, Mark, Jump, Branch, Address}
-use Rattle.rv_machine.specs.State.{State, Room, Region, Stack, Halt, Ended, Lacks, GoesWrong, Turn, Next, Stops, reg}
-use Rattle.rv_machine.specs.Turn.{act_with, subtract}
-use Rattle.rv_machine.specs.Mach.{ending_of, stop_of, IsReading, step_by}
+use Rattle.rv_machine.specs.declared.real.RealItem.{RealItem}
+use Rattle.rv_machine.specs.declared.real.RealItem.TheVariants.{Op, Mark, Jump, Branch, Address}
+use Rattle.rv_machine.specs.State.{State, Turn, Next, Stops, reg}
+use Rattle.machine_words.specs.Halts.{Halt, Ended, Lacks, GoesWrong}
+use Rattle.rv_machine.specs.Turn.{act_with}
+use Rattle.machine_words.specs.Arithmetic.{subtract}
+use Rattle.machine_words.specs.Halts.{IsReading}
+use Rattle.rv_machine.specs.Mach.{step_by}
 use Rattle.rv_machine.specs.Real.{Setting, Here, mark_address, item_at, is_lost, goes_to, needs_next, last_step}
-use Rattle.rv_machine.specs.Real.{op_step, jump_step, holds, address_step, item_step, step_here, real_machine}
+use Rattle.rv_machine.specs.Real.{op_step, jump_step, address_step, item_step, step_here, real_machine}
+use Rattle.machine_words.specs.Conditions.{holds}
 
 module _ {V W : Type 0} (first : Halt → Ending V) (second : Halt → Ending W)
     (wrong : (halt : Halt) → first halt ≡ Wrong → second halt ≡ Wrong) where
@@ -103,22 +107,6 @@ module _ {V W : Type 0} (first : Halt → Ending V) (second : Halt → Ending W)
 
     pub never_wrong_by : (s : State) → NeverWrong (run Y s) → NeverWrong (run X s)
     never_wrong_by s nw n w = nw n (wrong_both n s w)
-
--- the readings that the project uses
-pub the_readings_take_faults_as_wrong-endings : IsReading ending_of
-the_readings_take_faults_as_wrong-endings = record {
-  wrong = λ fault. refl;
-  ended = λ verdict e. let f : ⊥ = cc in f;
-  lacking = λ room e. let f : ⊥ = cc in f;
-}
-
-lack_is_verdict : (room : Room) → stop_of (Lacks room) ≡ Wrong → ⊥
-lack_is_verdict Region e = cc
-lack_is_verdict Stack e = cc
-
-pub the_readings_take_faults_as_wrong-stops : IsReading stop_of
-the_readings_take_faults_as_wrong-stops =
-    record { wrong = λ fault. refl; ended = λ verdict e. let f : ⊥ = cc in f; lacking = lack_is_verdict }
 
 module _ {V W : Type 0} (first : Halt → Ending V) (second : Halt → Ending W)
     (f : IsReading first) (g : IsReading second) where

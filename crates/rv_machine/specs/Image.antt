@@ -1,7 +1,7 @@
 -- An image: a header of 64 bytes, statics, code and labels, without gaps.
 use Rattle.std.specs.Prelude.{ℕ, zero, suc, ◌+◌, ◌*◌, ◌%◌, ◌<◌, ◌≤◌, ◌≡◌, List, [], ◌∷◌, length, codes, slice_range}
 use Rattle.grift_base.specs.declared.places.Pos.{Pos}
-use Rattle.rv_machine.specs.Memory.{load_bytes, memory_of}
+use Rattle.machine_words.specs.Memory.{load_bytes, memory_of}
 
 -- the number of eight bytes at this offset
 abbrev pub word_at : List ℕ → ℕ → ℕ

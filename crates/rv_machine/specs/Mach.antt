@@ -1,11 +1,10 @@
 -- The run of a state, and that of an image.
-use Rattle.std.specs.Prelude.{ℕ, zero, suc, ◌≡◌, ◌≢◌, List, Option, Some, None}
-use Rattle.std.specs.Option.{option_map_or}
+use Rattle.std.specs.Prelude.{ℕ, zero, suc, List, Option, Some, None}
 use Rattle.grift_base.specs.declared.verdicts.Verdict.{Verdict as Outcome}
-use Rattle.run_laws.specs.Runs.{Ending, Verdict, Exhausted, Wrong, Moment, Run}
+use Rattle.run_laws.specs.Runs.{Ending, Moment, Run}
 use Rattle.run_laws.specs.Machines.{Next as Step, Go, Stop, Machine, run}
-use Rattle.rv_machine.specs.declared.faults.MachineFault.{MachineFault}
-use Rattle.rv_machine.specs.State.{State, Room, Halt, Ended, Lacks, GoesWrong, Turn, Next, Stops, verdict_of}
+use Rattle.rv_machine.specs.State.{State, Turn, Next, Stops}
+use Rattle.machine_words.specs.Halts.{Halt}
 use Rattle.rv_machine.specs.Turn.{turn_of}
 use Rattle.rv_machine.specs.Start.{start_of, fresh_world}
 
@@ -18,22 +17,6 @@ onward next s (Stops halt) = (s, Some halt)
 unfoldable pub run_of : ℕ → State → State × Option Halt
 run_of zero s = (s, None)
 run_of (suc n) s = onward (run_of n) s (turn_of s)
-
--- what a stop is as the end of a run
-abbrev pub ending_of : Halt → Ending Outcome
-ending_of (Ended verdict) = Verdict verdict
-ending_of (Lacks room) = Exhausted
-ending_of (GoesWrong fault) = Wrong
-
--- what a stop is as the end of a run in which want of room is a verdict too
-abbrev pub stop_of : Halt → Ending Outcome
-stop_of halt = option_map_or Verdict (verdict_of halt) Wrong
-
--- a reading of stops as endings takes those gone wrong, and no others, as wrong
-pub record IsReading {V : Type 0} (reading : Halt → Ending V) : Type 0 where
-  pub wrong : (fault : MachineFault) → reading (GoesWrong fault) ≡ Wrong
-  pub ended : (verdict : Outcome) → reading (Ended verdict) ≢ Wrong
-  pub lacking : (room : Room) → reading (Lacks room) ≢ Wrong
 
 -- a turn as a step, under a reading of stops as endings
 abbrev pub step_by : {V : Type 0} → (Halt → Ending V) → State → Turn → Step State V

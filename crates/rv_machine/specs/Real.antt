@@ -6,16 +6,16 @@ use Rattle.run_laws.specs.Runs.{Ending, Wrong}
 use Rattle.run_laws.specs.Machines.{Next as Step, Go, Stop, Machine}
 use Rattle.rv_isa.specs.declared.inst.Inst.{Inst}
 use Rattle.rv_isa.specs.declared.inst.Inst.TheVariants.{Jalr, Ecall, Ebreak}
-use Rattle.rv_isa.specs.declared.inst.Cond.{Cond}
-use Rattle.rv_isa.specs.declared.inst.Cond.TheVariants.{Eq, Ne, Lt, Ge, Ltu, Geu}
-use Rattle.rv_isa.specs.declared.real.RealItem.{RealItem}
-use Rattle.rv_isa.specs.declared.real.RealItem.TheVariants.{Op, Mark, Jump, Branch, Address}
+use Rattle.rv_machine.specs.declared.real.RealItem.{RealItem}
+use Rattle.rv_machine.specs.declared.real.RealItem.TheVariants.{Op, Mark, Jump, Branch, Address}
 use Rattle.rv_isa.specs.Decoding.{decode_of}
-use Rattle.rv_machine.specs.Memory.{load_bytes}
+use Rattle.machine_words.specs.Memory.{load_bytes}
 use Rattle.rv_machine.specs.Registers.{set_reg}
-use Rattle.rv_machine.specs.declared.faults.MachineFault.TheVariants.{BadAddress}
-use Rattle.rv_machine.specs.State.{State, Halt, Turn, Next, Stops, reg}
-use Rattle.rv_machine.specs.Turn.{goes_wrong, subtract, next_pc, signed_less, act_with, act_if, call_environment}
+use Rattle.machine_words.specs.declared.faults.MachineFault.TheVariants.{BadAddress}
+use Rattle.rv_machine.specs.State.{State, Turn, Next, Stops, reg}
+use Rattle.machine_words.specs.Halts.{Halt}
+use Rattle.rv_machine.specs.Turn.{goes_wrong, next_pc, act_with, act_if, call_environment}
+use Rattle.machine_words.specs.Arithmetic.{subtract}
 use Rattle.rv_machine.specs.Turn.{is_undefined}
 use Rattle.rv_machine.specs.Mach.{step_by}
 
@@ -119,15 +119,6 @@ abbrev pub jump_step : {V : Type 0} → ℕ → Option ℕ → Option ℕ → St
 jump_step rd None next s = is_lost s
 jump_step rd (Some target) (Some next) s = Go (record s { regs = set_reg rd next s.regs; pc = target })
 jump_step rd (Some target) None s = if rd == 0 then Go (record s { pc = target }) else is_lost s
-
--- whether a condition holds of two words
-abbrev pub holds : Cond → ℕ → ℕ → Bool
-holds Eq a b = a == b
-holds Ne a b = not (a == b)
-holds Lt a b = signed_less a b
-holds Ge a b = not (signed_less a b)
-holds Ltu a b = nat_lt a b
-holds Geu a b = not (nat_lt a b)
 
 abbrev pub branch_step : {V : Type 0} → Bool → Option ℕ → Option ℕ → State → Step State V
 branch_step taken target next s = goes_to (if taken then target else next) s

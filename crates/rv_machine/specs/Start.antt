@@ -1,7 +1,7 @@
 -- The state in which an image starts.
 use Rattle.std.specs.Prelude.{ℕ, ◌+◌, ◌%◌, ◌≤◌, ◌≡◌, List, []}
 use Rattle.grift_base.specs.World.{WorldState}
-use Rattle.rv_machine.specs.Memory.{memory_of, first_address, from_base}
+use Rattle.machine_words.specs.Memory.{memory_of, first_address, from_base}
 use Rattle.rv_machine.specs.Registers.{Registers, set_reg, zero_regs}
 use Rattle.rv_machine.specs.Image.{statics_len, code_len, entry, loaded_part, labels_of}
 use Rattle.rv_machine.specs.State.{Layout, State}

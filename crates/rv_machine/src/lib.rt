@@ -5,25 +5,26 @@
 //! definitions, proved for all states.
 #![tactic(auto)]
 
-pub mod faults;
+pub mod branches;
+pub mod real;
 
 ghost use Rattle.std.specs.Prelude.{◌≡◌, ℕ, ℤ, ◌+◌, ◌≤◌, List, Some, None};
 ghost use Rattle.run_laws.specs.Machines.{run};
-ghost use Rattle.rv_machine.specs.State.{State, Halt, Stops, reg};
+ghost use Rattle.rv_machine.specs.State.{State, Stops, reg};
+ghost use Rattle.machine_words.specs.Halts.{Halt};
 ghost use Rattle.rv_machine.specs.Turn.{turn_of, act, branch_if, is_undefined, IsFetched};
 ghost use Rattle.rv_machine.specs.Start.{start_of, fresh_world};
-ghost use Rattle.rv_machine.specs.Mach.{run_of, machine, mach, moment_of, ending_of, stop_of, IsReading};
-ghost use Rattle.rv_machine.specs.Memory.{load_bytes};
-ghost use Rattle.rv_machine.specs.Real.{Setting, holds, real_machine};
+ghost use Rattle.rv_machine.specs.Mach.{run_of, machine, mach, moment_of};
+ghost use Rattle.machine_words.specs.Halts.{IsReading};
+ghost use Rattle.machine_words.specs.Memory.{load_bytes};
+ghost use Rattle.rv_machine.specs.Real.{Setting, real_machine};
+ghost use Rattle.machine_words.specs.Conditions.{holds};
 ghost use Rattle.run_laws.specs.Runs.{Ending, NeverWrong};
-ghost use Rattle.rv_isa.specs.declared.real.RealItem.{RealItem};
-ghost use Rattle.rv_isa.specs.declared.inst.Cond.{Cond};
-ghost use Rattle.rv_isa.specs.Conditions.{branch_when};
+ghost use Rattle.rv_machine.specs.declared.real.RealItem.{RealItem};
+ghost use Rattle.machine_words.specs.declared.conditions.Cond.{Cond};
+ghost use Rattle.rv_machine.specs.Branches.{branch_when};
 ghost use Rattle.rv_isa.specs.declared.inst.Inst.{Inst};
 ghost use Rattle.rv_isa.specs.Table.{IsWordOf};
-
-/// The first address of memory.
-pub const FIRST_ADDRESS: u64 = 65_536;
 
 /// The run of a state is what its turns come to, one after another: it shows the state after them and
 /// what was printed, and where a turn has stopped, it has that stop's ending.
@@ -67,10 +68,4 @@ pub fn a_run_goes_wrong_under_every_reading<V, W>()
     ensures { (first : Halt → Ending V) (second : Halt → Ending W) (code : List RealItem)
         (setting : Setting) (s : State) → IsReading first → IsReading second
         → NeverWrong (run (real_machine first code setting) s) → NeverWrong (run (real_machine second code setting) s) }
-{}
-
-/// Both readings are such: that by which want of room is no verdict, and that by which it is one.
-pub fn the_readings_take_faults_as_wrong()
-    ensures endings { IsReading ending_of }
-    ensures stops { IsReading stop_of }
 {}

@@ -1,7 +1,7 @@
 -- Items that are put one after another.
 use Rattle.std.proofs.Common.{append_assoc, ℕ, zero, suc, ◌+◌, ◌*◌, ◌<◌, ◌≡◌, List, [], ◌∷◌, ◌++◌, refl, sym, ◌∙◌}
 use Rattle.std.proofs.Common.{ap, arith, take, get_or, length}
-use Rattle.rv_isa.specs.declared.inst.Cond.{Cond}
+use Rattle.machine_words.specs.declared.conditions.Cond.{Cond}
 use Rattle.low_ir.specs.declared.code.LowSource.{LowSource}
 use Rattle.low_ir.specs.declared.code.WordOp.{WordOp}
 use Rattle.low_ir.specs.Procedures.{Code, If}

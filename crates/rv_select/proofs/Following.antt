@@ -6,9 +6,9 @@ use Rattle.grift_base.specs.World.{WorldState}
 use Rattle.run_laws.specs.Runs.{Ending, NeverWrong, FollowsBy, Any}
 use Rattle.run_laws.specs.Machines.{Alike, run}
 use Rattle.run_laws.specs.Meters.{unspent, metered, OfRest, Spends}
-use Rattle.rv_machine.specs.Memory.{Memory}
+use Rattle.machine_words.specs.Memory.{Memory}
 use Rattle.rv_machine.specs.Registers.{Registers}
-use Rattle.rv_machine.specs.State.{Halt}
+use Rattle.machine_words.specs.Halts.{Halt}
 use Rattle.low_ir.specs.Steps.{no_locals}
 use Rattle.low_ir.specs.Procedures.{Proc}
 use Rattle.low_ir.specs.Run.{Setting as LowSetting, LowState, low_machine, low_start}

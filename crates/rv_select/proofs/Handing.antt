@@ -5,7 +5,7 @@ use Rattle.std.specs.Prelude.{◌%◌, ◌^◌, ◌==◌, ◌&&◌, ◌||◌, if
 use Rattle.run_laws.specs.Runs.{Ending}
 use Rattle.run_laws.specs.Machines.{Go}
 use Rattle.rv_machine.specs.Registers.{Registers, get_reg, set_reg}
-use Rattle.rv_machine.specs.State.{Halt}
+use Rattle.machine_words.specs.Halts.{Halt}
 use Rattle.low_ir.specs.Steps.{Locals, set_local}
 use Rattle.low_ir.specs.declared.code.LowSource.{LowSource}
 use Rattle.low_ir.specs.declared.code.LowSource.TheVariants.{Word, Number}

@@ -8,10 +8,10 @@ use Rattle.run_laws.specs.Runs.{Ending, Verdict, Exhausted, Wrong, Any, NeverWro
 use Rattle.run_laws.specs.Machines.{Next, Go, Stop, Machine, and_then, steps, seen, run, Onward, Alike, OnTheWay}
 use Rattle.run_laws.specs.Machines.{StopsAt, UnlessWrong}
 use Rattle.run_laws.specs.Meters.{unspent, metered, OfRest, Spends}
-use Rattle.rv_machine.specs.Memory.{Memory, load_bytes}
-use Rattle.rv_machine.specs.Turn.{plus}
+use Rattle.machine_words.specs.Memory.{Memory, load_bytes}
+use Rattle.machine_words.specs.Arithmetic.{plus}
 use Rattle.rv_machine.specs.Registers.{Registers}
-use Rattle.rv_machine.specs.State.{Halt, Lacks, Stack, Region}
+use Rattle.machine_words.specs.Halts.{Halt, Lacks, Stack, Region}
 use Rattle.low_ir.specs.Procedures.{Code, Done, Set, Compute, Load, Store, CodeOf, Build, Request, Take, Environment}
 use Rattle.low_ir.specs.Procedures.{Call, CallAt, If, Return, TailCall, TailCallAt, Proc}
 use Rattle.low_ir.specs.Steps.{effect_of, may_load, may_store, store_words}

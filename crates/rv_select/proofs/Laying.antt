@@ -3,7 +3,7 @@ use Rattle.std.proofs.Common.{append_assoc, ℕ, zero, suc, ◌+◌, ◌^◌, �
 use Rattle.std.proofs.Common.{◌∷◌, ◌++◌, Some, refl, sym, ◌∙◌, ap, subst, arith}
 use Rattle.std.specs.Prelude.{◌==◌, if◌then◌else◌, length, slice_get, drop}
 use Rattle.run_laws.specs.Runs.{Ending}
-use Rattle.rv_machine.specs.State.{Halt}
+use Rattle.machine_words.specs.Halts.{Halt}
 use Rattle.low_ir.specs.declared.code.LowSource.{LowSource}
 use Rattle.low_ir.specs.declared.code.LowSource.TheVariants.{Word, Number}
 use Rattle.low_ir.specs.Procedures.{Code, Done, Set, Compute as LowCompute, Load as LowLoad, Store as LowStore}

@@ -9,9 +9,9 @@ use Rattle.grift_base.specs.declared.verdicts.Verdict.TheVariants.{Answer, Regio
 use Rattle.run_laws.specs.Runs.{Verdict}
 use Rattle.run_laws.specs.Machines.{run}
 use Rattle.run_laws.specs.Meters.{metered, unspent}
-use Rattle.rv_isa.specs.declared.inst.Cond.TheVariants.{Ltu, Eq}
-use Rattle.rv_machine.specs.Mach.{stop_of}
-use Rattle.rv_machine.specs.Memory.{Memory, load_bytes, store_bytes}
+use Rattle.machine_words.specs.declared.conditions.Cond.TheVariants.{Ltu, Eq}
+use Rattle.machine_words.specs.Halts.{stop_of}
+use Rattle.machine_words.specs.Memory.{Memory, load_bytes, store_bytes}
 use Rattle.rv_machine.specs.Start.{start_regs}
 use Rattle.low_ir.specs.declared.code.WordOp.TheVariants.{Add}
 use Rattle.low_ir.specs.declared.code.LowSource.TheVariants.{Word, Number}

@@ -10,14 +10,14 @@ use Rattle.grift_base.specs.declared.verdicts.Verdict.TheVariants.{Answer}
 use Rattle.grift_base.specs.declared.verdicts.AnswerKind.TheVariants.{Int as IntKind}
 use Rattle.run_laws.specs.Runs.{Ending, Verdict, Exhausted, Wrong, Any}
 use Rattle.run_laws.specs.Machines.{Next, Go, Stop, Machine, Alike, OnTheWay, StopsAt, UnlessWrong}
-use Rattle.rv_isa.specs.declared.inst.Cond.{Cond}
-use Rattle.rv_isa.specs.declared.inst.Cond.TheVariants.{Ltu}
-use Rattle.rv_machine.specs.Memory.{Memory, load_bytes, store_bytes}
-use Rattle.rv_machine.proofs.Public.{stored_outside}
+use Rattle.machine_words.specs.declared.conditions.Cond.{Cond}
+use Rattle.machine_words.specs.declared.conditions.Cond.TheVariants.{Ltu}
+use Rattle.machine_words.specs.Memory.{Memory, load_bytes, store_bytes}
+use Rattle.machine_words.proofs.Public.{stored_outside}
 use Rattle.rv_machine.specs.Registers.{Registers, set_reg}
-use Rattle.rv_machine.specs.State.{Halt, Lacks, Region, Ended}
-use Rattle.rv_machine.specs.Turn.{plus}
-use Rattle.rv_machine.specs.Real.{holds}
+use Rattle.machine_words.specs.Halts.{Halt, Lacks, Region, Ended}
+use Rattle.machine_words.specs.Arithmetic.{plus}
+use Rattle.machine_words.specs.Conditions.{holds}
 use Rattle.low_ir.specs.declared.code.WordOp.{WordOp}
 use Rattle.low_ir.specs.declared.code.WordOp.TheVariants.{Add, Sub, And, Or, Xor, Sll, Srl, Sra, Slt, Sltu}
 use Rattle.low_ir.specs.Operations.{compute}

@@ -4,7 +4,7 @@ use Rattle.std.proofs.Common.{refl, subst, arith}
 use Rattle.std.specs.Prelude.{◌==◌, if◌then◌else◌, IsSome}
 use Rattle.run_laws.specs.Runs.{Ending}
 use Rattle.run_laws.specs.Machines.{Next, Go}
-use Rattle.rv_machine.specs.State.{Halt}
+use Rattle.machine_words.specs.Halts.{Halt}
 use Rattle.rv_machine.specs.Registers.{get_reg}
 use Rattle.rv_select.specs.declared.code.Place.TheVariants.{InReg}
 use Rattle.rv_select.specs.declared.code.VReg.TheVariants.{Real}

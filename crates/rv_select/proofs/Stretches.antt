@@ -5,7 +5,7 @@ use Rattle.std.specs.Prelude.{slice_get, length}
 use Rattle.run_laws.specs.Runs.{Ending}
 use Rattle.run_laws.specs.Machines.{Next, Go, Onward}
 use Rattle.rv_machine.specs.Registers.{Registers, set_reg}
-use Rattle.rv_machine.specs.State.{Halt}
+use Rattle.machine_words.specs.Halts.{Halt}
 use Rattle.low_ir.specs.Steps.{set_local, given, only_if}
 use Rattle.rv_select.specs.declared.code.VReg.{VReg}
 use Rattle.rv_select.specs.declared.code.VReg.TheVariants.{Virtual}

@@ -1,8 +1,8 @@
 -- The code of a program over words. Each word of a procedure becomes a virtual register of its own; numbers that an
 -- item can't hold go through x5, x6 and x7. A part of code is told what comes behind it.
 use Rattle.std.specs.Prelude.{Bool, true, false, ℕ, zero, suc, ◌+◌, ◌*◌, List, [], ◌∷◌, ◌++◌, length}
-use Rattle.rv_isa.specs.declared.inst.Cond.{Cond}
-use Rattle.rv_isa.specs.declared.inst.Cond.TheVariants.{Ltu}
+use Rattle.machine_words.specs.declared.conditions.Cond.{Cond}
+use Rattle.machine_words.specs.declared.conditions.Cond.TheVariants.{Ltu}
 use Rattle.low_ir.specs.declared.code.WordOp.{WordOp}
 use Rattle.low_ir.specs.declared.code.WordOp.TheVariants.{Add, Sub, Sll, Srl}
 use Rattle.low_ir.specs.declared.code.LowSource.{LowSource}

@@ -5,9 +5,9 @@ use Rattle.grift_base.specs.declared.verdicts.Verdict.{Verdict}
 use Rattle.run_laws.specs.Runs.{Ending, Wrong, NeverWrong, FollowsBy, Any}
 use Rattle.run_laws.specs.Machines.{Machine, run}
 use Rattle.run_laws.specs.Meters.{unspent, metered, Spends, OfRest}
-use Rattle.rv_machine.specs.Memory.{Memory}
+use Rattle.machine_words.specs.Memory.{Memory}
 use Rattle.rv_machine.specs.Registers.{Registers}
-use Rattle.rv_machine.specs.State.{Halt, Lacks, Stack}
+use Rattle.machine_words.specs.Halts.{Halt, Lacks, Stack}
 use Rattle.low_ir.specs.Procedures.{Proc}
 use Rattle.low_ir.specs.Run.{Setting as LowSetting, LowState, LowShown, low_machine, low_start}
 use Rattle.low_ir.specs.Prices.{low_price}

@@ -10,7 +10,7 @@ ghost use Rattle.rv_select.specs.Select.{tail_call_at_items, out_items, answer_i
 use crate::code::{VReg, VirtualItem, VirtualItems};
 use grift_base::lists::OutOfMemory;
 use low_ir::code::{LowSource, LowSources, WordOp};
-use rv_isa::inst::Cond;
+use machine_words::conditions::Cond;
 use rv_isa::number::Reg;
 
 // The first register that hands on words; the answer comes back in it.

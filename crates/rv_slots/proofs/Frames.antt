@@ -6,13 +6,15 @@ use Rattle.std.specs.Prelude.{◌==◌, ◌&&◌, not, nat_lt, nat_le, if◌then
 use Rattle.grift_base.specs.World.{WorldState}
 use Rattle.run_laws.specs.Runs.{Ending, Any}
 use Rattle.run_laws.specs.Machines.{Machine, Alike, OnTheWay}
-use Rattle.rv_isa.specs.declared.real.RealItem.{RealItem}
-use Rattle.rv_machine.specs.Memory.{Memory, load_bytes, store_bytes}
+use Rattle.rv_machine.specs.declared.real.RealItem.{RealItem}
+use Rattle.machine_words.specs.Memory.{Memory, load_bytes, store_bytes}
 use Rattle.rv_machine.specs.Registers.{Registers, get_reg, set_reg}
-use Rattle.rv_machine.specs.State.{Layout, State, Halt}
+use Rattle.rv_machine.specs.State.{Layout, State}
+use Rattle.machine_words.specs.Halts.{Halt}
 use Rattle.rv_machine.specs.Turn.{call_environment}
 use Rattle.rv_machine.specs.Real.{Setting as RealSetting, AreAddresses, MarksStandOnce, mark_address, real_machine}
-use Rattle.rv_machine.proofs.Public.{load_same, load_other, load_stored, stored_outside, Program, HasItem}
+use Rattle.machine_words.proofs.Public.{load_same, load_other, load_stored, stored_outside}
+use Rattle.rv_machine.proofs.Public.{Program, HasItem}
 use Rattle.rv_machine.proofs.Public.{has_item-append}
 use Rattle.low_ir.specs.Steps.{set_local}
 use Rattle.rv_select.specs.declared.code.VirtualItem.{VirtualItem}

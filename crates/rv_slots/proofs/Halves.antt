@@ -2,7 +2,7 @@
 use Rattle.std.proofs.Common.{ℕ, ◌+◌, ◌-◌, ◌*◌, ◌%◌, ◌^◌, ◌<◌, ◌≤◌, ◌≡◌, Bool, true, false, refl, sym}
 use Rattle.std.proofs.Common.{◌∙◌, ap, arith, subst}
 use Rattle.std.specs.Prelude.{nat_lt, if◌then◌else◌, pos, negsuc}
-use Rattle.rv_machine.specs.Turn.{half, plus}
+use Rattle.machine_words.specs.Arithmetic.{half, plus}
 use Rattle.rv_slots.specs.Slots.{is_half, upper_of, lower_of}
 
 half_low : (n : ℕ) → n % 2 ^ 32 < 2 ^ 31 → half n ≡ n % 2 ^ 32

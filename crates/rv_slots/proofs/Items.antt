@@ -5,14 +5,16 @@ use Rattle.std.specs.Prelude.{pos, ◌==◌, length}
 use Rattle.std.proofs.lemmas.List.{length-drop}
 use Rattle.rv_isa.specs.declared.inst.Inst.{Inst}
 use Rattle.rv_isa.specs.declared.inst.Inst.TheVariants.{Jalr}
-use Rattle.rv_isa.specs.declared.inst.Cond.{Cond}
-use Rattle.rv_isa.specs.declared.real.RealItem.{RealItem}
-use Rattle.rv_isa.specs.declared.real.RealItem.TheVariants.{Op, Mark, Jump, Branch, Address}
-use Rattle.rv_machine.specs.Memory.{Memory}
+use Rattle.machine_words.specs.declared.conditions.Cond.{Cond}
+use Rattle.rv_machine.specs.declared.real.RealItem.{RealItem}
+use Rattle.rv_machine.specs.declared.real.RealItem.TheVariants.{Op, Mark, Jump, Branch, Address}
+use Rattle.machine_words.specs.Memory.{Memory}
 use Rattle.rv_machine.specs.Registers.{Registers, get_reg, set_reg}
 use Rattle.rv_machine.specs.State.{State, Turn, Next, reg}
-use Rattle.rv_machine.specs.Turn.{add, act_with}
-use Rattle.rv_machine.specs.Real.{address_from, mark_address, holds}
+use Rattle.machine_words.specs.Arithmetic.{add}
+use Rattle.rv_machine.specs.Turn.{act_with}
+use Rattle.rv_machine.specs.Real.{address_from, mark_address}
+use Rattle.machine_words.specs.Conditions.{holds}
 use Rattle.rv_machine.proofs.Public.{Program, At, HasItem, at_small, at_aligned, behind_mark, mark_at}
 use Rattle.rv_machine.proofs.Public.{drop_next}
 use Rattle.rv_select.specs.Prices.{number_price}

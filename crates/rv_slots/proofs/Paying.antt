@@ -9,16 +9,18 @@ use Rattle.run_laws.specs.Meters.{Metered, metered}
 use Rattle.run_laws.proofs.Public.{by_step_at_cost}
 use Rattle.rv_isa.specs.declared.inst.Inst.{Inst}
 use Rattle.rv_isa.specs.declared.inst.Inst.TheVariants.{Jalr, Ecall}
-use Rattle.rv_isa.specs.declared.inst.Cond.{Cond}
-use Rattle.rv_isa.specs.declared.real.RealItem.{RealItem}
-use Rattle.rv_isa.specs.declared.real.RealItem.TheVariants.{Op, Jump, Branch, Address}
-use Rattle.rv_machine.specs.declared.faults.MachineFault.TheVariants.{Misaligned}
-use Rattle.rv_machine.specs.Memory.{Memory}
+use Rattle.machine_words.specs.declared.conditions.Cond.{Cond}
+use Rattle.rv_machine.specs.declared.real.RealItem.{RealItem}
+use Rattle.rv_machine.specs.declared.real.RealItem.TheVariants.{Op, Jump, Branch, Address}
+use Rattle.machine_words.specs.declared.faults.MachineFault.TheVariants.{Misaligned}
+use Rattle.machine_words.specs.Memory.{Memory}
 use Rattle.rv_machine.specs.Registers.{Registers, set_reg}
 use Rattle.rv_machine.specs.State.{State, Turn, Next, reg}
-use Rattle.rv_machine.specs.Turn.{subtract, add, act_with, goes_wrong}
+use Rattle.machine_words.specs.Arithmetic.{subtract, add}
+use Rattle.rv_machine.specs.Turn.{act_with, goes_wrong}
 use Rattle.rv_machine.specs.Mach.{step_by}
-use Rattle.rv_machine.specs.Real.{is_mark, address_from, mark_address, holds, op_step, jump_step, branch_step}
+use Rattle.rv_machine.specs.Real.{is_mark, address_from, mark_address, op_step, jump_step, branch_step}
+use Rattle.machine_words.specs.Conditions.{holds}
 use Rattle.rv_machine.specs.Real.{address_step, goes_to}
 use Rattle.rv_machine.proofs.Public.{Program, At, HasItem, item_here, next_at, running, step_is}
 use Rattle.assembler.specs.Prices.{real_price, price_here, state_price}

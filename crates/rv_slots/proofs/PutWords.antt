@@ -5,11 +5,12 @@ use Rattle.std.proofs.Math.Nat.{div-div-eq-div-mul}
 use Rattle.std.proofs.lemmas.Nat.{pow-add}
 use Rattle.std.specs.Prelude.{◌==◌, nat_lt, if◌then◌else◌, pos}
 use Rattle.rv_isa.specs.declared.inst.Inst.TheVariants.{Addi, Lui, Addiw}
-use Rattle.rv_isa.specs.declared.real.RealItem.{RealItem}
-use Rattle.rv_isa.specs.declared.real.RealItem.TheVariants.{Op}
+use Rattle.rv_machine.specs.declared.real.RealItem.{RealItem}
+use Rattle.rv_machine.specs.declared.real.RealItem.TheVariants.{Op}
 use Rattle.rv_machine.specs.Registers.{Registers, get_reg, set_reg}
 use Rattle.rv_machine.specs.State.{State}
-use Rattle.rv_machine.specs.Turn.{plus, put, shift_left, half}
+use Rattle.machine_words.specs.Arithmetic.{plus, shift_left, half}
+use Rattle.rv_machine.specs.Turn.{put}
 use Rattle.rv_machine.proofs.Public.{Program, At, HasItem, has_item-append}
 use Rattle.rv_select.specs.Prices.{number_price}
 use Rattle.rv_slots.specs.Slots.{word_items, long_items, chunk_items, chunk_of, is_half, upper_of, lower_of}

@@ -8,14 +8,16 @@ use Rattle.run_laws.specs.Machines.{Go, Stop, Alike, UnlessWrong}
 use Rattle.run_laws.specs.Meters.{metered, unspent}
 use Rattle.run_laws.proofs.Public.{reaches_weaken}
 use Rattle.rv_isa.specs.declared.inst.Inst.TheVariants.{Sd, Addi, Jalr, Ecall, Ebreak, Sub as SubInst}
-use Rattle.rv_isa.specs.declared.inst.Cond.TheVariants.{Ltu}
-use Rattle.rv_isa.specs.declared.real.RealItem.{RealItem}
-use Rattle.rv_isa.specs.declared.real.RealItem.TheVariants.{Op, Branch as RealBranch}
-use Rattle.rv_machine.specs.Memory.{Memory, store_bytes}
+use Rattle.machine_words.specs.declared.conditions.Cond.TheVariants.{Ltu}
+use Rattle.rv_machine.specs.declared.real.RealItem.{RealItem}
+use Rattle.rv_machine.specs.declared.real.RealItem.TheVariants.{Op, Branch as RealBranch}
+use Rattle.machine_words.specs.Memory.{Memory, store_bytes}
 use Rattle.rv_machine.specs.Registers.{Registers, get_reg, set_reg}
-use Rattle.rv_machine.specs.State.{State, Lacks, Stack, Turn, Stops}
+use Rattle.rv_machine.specs.State.{State, Turn, Stops}
+use Rattle.machine_words.specs.Halts.{Lacks, Stack}
 use Rattle.rv_machine.specs.Turn.{put, comes_to, call_environment}
-use Rattle.rv_machine.proofs.Public.{load_stored, stored_outside, has_item-append, call_stops}
+use Rattle.machine_words.proofs.Public.{load_stored, stored_outside}
+use Rattle.rv_machine.proofs.Public.{has_item-append, call_stops}
 use Rattle.low_ir.specs.Prices.{entering}
 use Rattle.low_ir.specs.Steps.{no_locals}
 use Rattle.rv_select.specs.declared.code.VReg.{VReg}

@@ -1,7 +1,7 @@
 -- The code with slots keeps what is claimed of it.
 use Rattle.std.proofs.Common.{ℕ, zero, suc, ◌^◌, ◌<◌, ◌≡◌, List, [], ◌∷◌, Some, subst, sym, refl}
 use Rattle.std.specs.Prelude.{slice_get}
-use Rattle.rv_isa.specs.declared.real.RealItem.{RealItem}
+use Rattle.rv_machine.specs.declared.real.RealItem.{RealItem}
 use Rattle.rv_select.specs.declared.code.VirtualItem.{VirtualItem}
 use Rattle.rv_select.specs.declared.code.VirtualItem.TheVariants.{Procedure}
 use Rattle.rv_slots.specs.Slots.{slots_items}

@@ -8,10 +8,10 @@ use Rattle.std.proofs.lemmas.List.Elements.{All-nil, All-cons, All-head, All-tai
 use Rattle.rv_isa.specs.declared.inst.Inst.{Inst}
 use Rattle.rv_isa.specs.declared.inst.Inst.TheVariants.{Ld, Sd, Addi, Lui, Addiw, Add as AddInst}
 use Rattle.rv_isa.specs.declared.inst.Inst.TheVariants.{Sub as SubInst}
-use Rattle.rv_isa.specs.declared.inst.Cond.TheVariants.{Ltu}
-use Rattle.rv_isa.specs.declared.real.RealItem.{RealItem}
-use Rattle.rv_isa.specs.declared.real.RealItem.TheVariants.{Op, Mark as RealMark, Jump as RealJump}
-use Rattle.rv_isa.specs.declared.real.RealItem.TheVariants.{Branch as RealBranch, Address}
+use Rattle.machine_words.specs.declared.conditions.Cond.TheVariants.{Ltu}
+use Rattle.rv_machine.specs.declared.real.RealItem.{RealItem}
+use Rattle.rv_machine.specs.declared.real.RealItem.TheVariants.{Op, Mark as RealMark, Jump as RealJump}
+use Rattle.rv_machine.specs.declared.real.RealItem.TheVariants.{Branch as RealBranch, Address}
 use Rattle.rv_machine.specs.Real.{is_mark}
 use Rattle.rv_machine.proofs.Public.{drop_next}
 use Rattle.assembler.specs.Conditions.{registers_named, IsPlaced, times, NamesOne}

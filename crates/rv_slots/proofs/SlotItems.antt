@@ -12,15 +12,18 @@ use Rattle.run_laws.specs.Machines.{Next as Step, Go, Stop, Reaches, Alike, Unle
 use Rattle.run_laws.specs.Meters.{Metered, metered, unspent, OnBudget}
 use Rattle.run_laws.proofs.Public.{reaches_weaken}
 use Rattle.rv_isa.specs.declared.inst.Inst.TheVariants.{Ld, Sd, Addi}
-use Rattle.rv_isa.specs.declared.real.RealItem.{RealItem}
-use Rattle.rv_isa.specs.declared.real.RealItem.TheVariants.{Op}
-use Rattle.rv_machine.specs.Memory.{Memory, load_bytes, store_bytes, first_address}
+use Rattle.rv_machine.specs.declared.real.RealItem.{RealItem}
+use Rattle.rv_machine.specs.declared.real.RealItem.TheVariants.{Op}
+use Rattle.machine_words.specs.Memory.{Memory, load_bytes, store_bytes, first_address}
 use Rattle.rv_machine.specs.Registers.{Registers, get_reg, set_reg}
-use Rattle.rv_machine.specs.State.{State, Lacks, Stack, Turn, Next, reg}
-use Rattle.rv_machine.specs.Turn.{add, plus, subtract, put, flag, signed_less, shift_left, shift_right}
-use Rattle.rv_machine.specs.Turn.{shift_right_signed}
+use Rattle.rv_machine.specs.State.{State, Turn, Next, reg}
+use Rattle.machine_words.specs.Halts.{Lacks, Stack}
+use Rattle.machine_words.specs.Arithmetic.{add, plus, subtract, flag, signed_less, shift_left, shift_right}
+use Rattle.rv_machine.specs.Turn.{put}
+use Rattle.machine_words.specs.Arithmetic.{shift_right_signed}
 use Rattle.rv_machine.specs.Turn.{act_with}
-use Rattle.rv_machine.proofs.Public.{load_below, load_same, stored_outside, has_item-append}
+use Rattle.machine_words.proofs.Public.{load_below, load_same, stored_outside}
+use Rattle.rv_machine.proofs.Public.{has_item-append}
 use Rattle.low_ir.specs.declared.code.WordOp.{WordOp}
 use Rattle.low_ir.specs.declared.code.WordOp.TheVariants.{Add, Sub, And, Or, Xor, Sll, Srl, Sra, Slt, Sltu}
 use Rattle.low_ir.specs.Operations.{compute}

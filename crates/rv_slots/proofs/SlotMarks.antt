@@ -5,14 +5,15 @@ use Rattle.std.specs.Prelude.{◌==◌, ◌&&◌, if◌then◌else◌, length, s
 use Rattle.std.proofs.lemmas.Option.{slice_get_within}
 use Rattle.run_laws.specs.Machines.{Go}
 use Rattle.rv_isa.specs.declared.inst.Inst.TheVariants.{Sd, Sub as SubInst}
-use Rattle.rv_isa.specs.declared.inst.Cond.{Cond}
-use Rattle.rv_isa.specs.declared.inst.Cond.TheVariants.{Ltu}
-use Rattle.rv_isa.specs.declared.real.RealItem.{RealItem}
-use Rattle.rv_isa.specs.declared.real.RealItem.TheVariants.{Op, Mark as RealMark}
-use Rattle.rv_isa.specs.declared.real.RealItem.TheVariants.{Branch as RealBranch}
+use Rattle.machine_words.specs.declared.conditions.Cond.{Cond}
+use Rattle.machine_words.specs.declared.conditions.Cond.TheVariants.{Ltu}
+use Rattle.rv_machine.specs.declared.real.RealItem.{RealItem}
+use Rattle.rv_machine.specs.declared.real.RealItem.TheVariants.{Op, Mark as RealMark}
+use Rattle.rv_machine.specs.declared.real.RealItem.TheVariants.{Branch as RealBranch}
 use Rattle.rv_machine.specs.Registers.{Registers, get_reg, set_reg}
 use Rattle.rv_machine.specs.State.{State, reg}
-use Rattle.rv_machine.specs.Real.{holds, mark_address}
+use Rattle.machine_words.specs.Conditions.{holds}
+use Rattle.rv_machine.specs.Real.{mark_address}
 use Rattle.rv_machine.proofs.Public.{drop_next, has_item-append}
 use Rattle.low_ir.specs.Steps.{given}
 use Rattle.rv_select.specs.declared.code.VReg.{VReg}

@@ -4,13 +4,14 @@ use Rattle.std.proofs.Common.{Some, refl, sym, ◌∙◌, ap, subst, arith}
 use Rattle.std.specs.Prelude.{◌==◌, slice_get, pos, nat_le, nat_lt, if◌then◌else◌}
 use Rattle.run_laws.specs.Machines.{Go}
 use Rattle.rv_isa.specs.declared.inst.Inst.TheVariants.{Jalr, Addi, Add as AddInst}
-use Rattle.rv_isa.specs.declared.real.RealItem.{RealItem}
-use Rattle.rv_isa.specs.declared.real.RealItem.TheVariants.{Op, Jump as RealJump}
-use Rattle.rv_machine.specs.Memory.{load_bytes}
+use Rattle.rv_machine.specs.declared.real.RealItem.{RealItem}
+use Rattle.rv_machine.specs.declared.real.RealItem.TheVariants.{Op, Jump as RealJump}
+use Rattle.machine_words.specs.Memory.{load_bytes}
 use Rattle.rv_machine.specs.Registers.{Registers, get_reg, set_reg}
 use Rattle.rv_machine.specs.State.{State}
 use Rattle.rv_machine.specs.Turn.{put}
-use Rattle.rv_machine.proofs.Public.{load_below, HasItem, has_item-append}
+use Rattle.machine_words.proofs.Public.{load_below}
+use Rattle.rv_machine.proofs.Public.{HasItem, has_item-append}
 use Rattle.low_ir.specs.Steps.{no_locals, given}
 use Rattle.rv_select.specs.declared.code.VReg.{VReg}
 use Rattle.rv_select.specs.declared.code.VReg.TheVariants.{Real, Virtual}

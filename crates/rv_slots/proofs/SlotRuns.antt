@@ -6,8 +6,9 @@ use Rattle.run_laws.specs.Machines.{Machine, run}
 use Rattle.run_laws.specs.Meters.{unspent, metered, Spends, OfRest}
 use Rattle.run_laws.proofs.Public.{follows_at_cost, follows_of, follows_by_trans, follows_by_weaken, metered_follows}
 use Rattle.run_laws.proofs.Public.{follows_metered, unmetered_never_wrong, follower_never_goes_wrong, spends_through}
-use Rattle.rv_isa.specs.declared.real.RealItem.{RealItem}
-use Rattle.rv_machine.specs.State.{State, Halt, Lacks, Stack}
+use Rattle.rv_machine.specs.declared.real.RealItem.{RealItem}
+use Rattle.rv_machine.specs.State.{State}
+use Rattle.machine_words.specs.Halts.{Halt, Lacks, Stack}
 use Rattle.rv_machine.specs.Real.{Setting as RealSetting, real_machine}
 use Rattle.rv_select.specs.declared.code.VirtualItem.{VirtualItem}
 use Rattle.rv_select.specs.declared.code.VirtualItem.TheVariants.{Procedure}

@@ -20,10 +20,11 @@ use Rattle.run_laws.specs.Machines.{Next as Step, Go, Stop}
 use Rattle.run_laws.specs.Meters.{metered, unspent, DoesOnBudget, CostSimulation}
 use Rattle.run_laws.proofs.Public.{reaches_weaken, unless_wrong_map}
 use Rattle.rv_isa.specs.declared.inst.Inst.TheVariants.{Ecall}
-use Rattle.rv_isa.specs.declared.real.RealItem.{RealItem}
-use Rattle.rv_isa.specs.declared.real.RealItem.TheVariants.{Op}
+use Rattle.rv_machine.specs.declared.real.RealItem.{RealItem}
+use Rattle.rv_machine.specs.declared.real.RealItem.TheVariants.{Op}
 use Rattle.rv_machine.specs.Registers.{Registers, get_reg, set_reg}
-use Rattle.rv_machine.specs.State.{Layout, State, Halt, Region, Stack, Ended, Lacks, Turn, Stops}
+use Rattle.rv_machine.specs.State.{Layout, State, Turn, Stops}
+use Rattle.machine_words.specs.Halts.{Halt, Region, Stack, Ended, Lacks}
 use Rattle.rv_machine.specs.Turn.{comes_to, blames, call_environment}
 use Rattle.rv_machine.proofs.Public.{At, call_stops}
 use Rattle.low_ir.specs.Steps.{effect_of, blame_of, settle}

@@ -4,13 +4,15 @@ use Rattle.std.proofs.Common.{Some, None, inl, refl, sym, ◌∙◌, ap, subst, 
 use Rattle.std.specs.Prelude.{◌==◌, ◌&&◌, ◌||◌, nat_lt, nat_le, if◌then◌else◌, pos}
 use Rattle.std.specs.Int.{w64}
 use Rattle.rv_isa.specs.declared.inst.Inst.TheVariants.{Ld, Sd, Add as AddInst}
-use Rattle.rv_isa.specs.declared.real.RealItem.{RealItem}
-use Rattle.rv_isa.specs.declared.real.RealItem.TheVariants.{Op}
-use Rattle.rv_machine.specs.Memory.{Memory, load_bytes, store_bytes, first_address}
+use Rattle.rv_machine.specs.declared.real.RealItem.{RealItem}
+use Rattle.rv_machine.specs.declared.real.RealItem.TheVariants.{Op}
+use Rattle.machine_words.specs.Memory.{Memory, load_bytes, store_bytes, first_address}
 use Rattle.rv_machine.specs.Registers.{Registers, get_reg, set_reg}
 use Rattle.rv_machine.specs.State.{State, Turn, Next, reg}
-use Rattle.rv_machine.specs.Turn.{add, put, load_into, store_from, act_with}
-use Rattle.rv_machine.proofs.Public.{load_below, stored_outside, HasItem}
+use Rattle.machine_words.specs.Arithmetic.{add}
+use Rattle.rv_machine.specs.Turn.{put, load_into, store_from, act_with}
+use Rattle.machine_words.proofs.Public.{load_below, stored_outside}
+use Rattle.rv_machine.proofs.Public.{HasItem}
 use Rattle.low_ir.specs.Prices.{slot_price}
 use Rattle.low_ir.specs.Steps.{set_local}
 use Rattle.rv_select.specs.declared.code.VReg.{VReg}

@@ -8,7 +8,8 @@ use Rattle.run_laws.specs.Machines.{Next as Step, Go, Stop, Machine, and_then, s
 use Rattle.run_laws.specs.Machines.{Alike, OnTheWay, StopsAt, Does, Simulation}
 use Rattle.run_laws.specs.Meters.{Metered, metered, unspent, charge}
 use Rattle.run_laws.proofs.Public.{unless_wrong_map, follows_by_simulation, run_go}
-use Rattle.rv_machine.specs.State.{State, Lacks, Stack}
+use Rattle.rv_machine.specs.State.{State}
+use Rattle.machine_words.specs.Halts.{Lacks, Stack}
 use Rattle.rv_select.specs.Run.{VirtualState, Shown, virtual_machine}
 use Rattle.rv_select.specs.Prices.{virtual_price}
 use Rattle.rv_select.specs.Stacks.{stack_of, if_room}

@@ -10,10 +10,10 @@ use Rattle.rv_isa.specs.declared.inst.Inst.TheVariants.{Srai, Add as AddInst, Su
 use Rattle.rv_isa.specs.declared.inst.Inst.TheVariants.{Slt as SltInst, Sltu as SltuInst, Xor as XorInst}
 use Rattle.rv_isa.specs.declared.inst.Inst.TheVariants.{Srl as SrlInst, Sra as SraInst, Or as OrInst, And as AndInst}
 use Rattle.rv_isa.specs.declared.inst.Inst.TheVariants.{Ecall, Ebreak, Lui, Addiw}
-use Rattle.rv_isa.specs.declared.inst.Cond.TheVariants.{Ltu}
-use Rattle.rv_isa.specs.declared.real.RealItem.{RealItem}
-use Rattle.rv_isa.specs.declared.real.RealItem.TheVariants.{Op, Mark as RealMark, Jump as RealJump}
-use Rattle.rv_isa.specs.declared.real.RealItem.TheVariants.{Branch as RealBranch, Address}
+use Rattle.machine_words.specs.declared.conditions.Cond.TheVariants.{Ltu}
+use Rattle.rv_machine.specs.declared.real.RealItem.{RealItem}
+use Rattle.rv_machine.specs.declared.real.RealItem.TheVariants.{Op, Mark as RealMark, Jump as RealJump}
+use Rattle.rv_machine.specs.declared.real.RealItem.TheVariants.{Branch as RealBranch, Address}
 use Rattle.low_ir.specs.declared.code.WordOp.{WordOp}
 use Rattle.low_ir.specs.declared.code.WordOp.TheVariants.{Add, Sub, And, Or, Xor, Sll, Srl, Sra, Slt, Sltu}
 use Rattle.rv_select.specs.Stacks.{frame_size}

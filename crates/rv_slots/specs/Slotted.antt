@@ -5,11 +5,12 @@ use Rattle.grift_base.specs.declared.verdicts.Verdict.{Verdict as Outcome}
 use Rattle.run_laws.specs.Runs.{Ending, Verdict, Exhausted, Moment, NeverWrong, FollowsBy, Any}
 use Rattle.run_laws.specs.Machines.{Go, Machine, steps, run}
 use Rattle.run_laws.specs.Meters.{unspent, metered, Spends, OfRest}
-use Rattle.rv_isa.specs.declared.real.RealItem.{RealItem}
-use Rattle.rv_isa.specs.declared.real.RealItem.TheVariants.{Mark as RealMark}
-use Rattle.rv_machine.specs.Memory.{first_address}
-use Rattle.rv_machine.specs.State.{Layout, State, Halt, Lacks, Stack}
-use Rattle.rv_machine.specs.Mach.{IsReading}
+use Rattle.rv_machine.specs.declared.real.RealItem.{RealItem}
+use Rattle.rv_machine.specs.declared.real.RealItem.TheVariants.{Mark as RealMark}
+use Rattle.machine_words.specs.Memory.{first_address}
+use Rattle.rv_machine.specs.State.{Layout, State}
+use Rattle.machine_words.specs.Halts.{Halt, Lacks, Stack}
+use Rattle.machine_words.specs.Halts.{IsReading}
 use Rattle.rv_machine.specs.Turn.{call_environment}
 use Rattle.rv_machine.specs.Real.{Setting as RealSetting, AreAddresses, is_mark, address_from, mark_address}
 use Rattle.rv_machine.specs.Real.{real_machine}

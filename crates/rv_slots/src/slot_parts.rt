@@ -3,7 +3,7 @@
 ghost use Rattle.std.specs.Prelude.{◌≡◌, ◌+◌, ◌*◌, ◌<◌, ◌≤◌, ◌^◌, ◌++◌, ◌∷◌, [], pos, OnOk};
 ghost use Rattle.rv_isa.specs.Bits.{IsBelow};
 ghost use Rattle.rv_isa.specs.declared.inst.Inst.TheVariants.{Addi, Slli};
-ghost use Rattle.rv_isa.specs.declared.real.RealItem.TheVariants.{Op};
+ghost use Rattle.rv_machine.specs.declared.real.RealItem.TheVariants.{Op};
 ghost use Rattle.std.specs.Prelude.{◌==◌, if◌then◌else◌};
 ghost use Rattle.rv_slots.specs.Slots.{chunk_of, chunk_items, is_half, upper_of, lower_of, long_items, word_items};
 ghost use Rattle.rv_slots.specs.Slots.{slot_offset, register_for, slot_fetch, slot_save_of, slot_save};
@@ -13,9 +13,10 @@ ghost use Rattle.rv_slots.specs.Slots.{leave_items, enter_items, negated};
 ghost use Rattle.rv_slots.specs.Slots.{final_items};
 
 use grift_base::lists::OutOfMemory;
-use rv_isa::inst::{Cond, Inst};
+use machine_words::conditions::Cond;
+use rv_isa::inst::Inst;
 use rv_isa::number::{Imm12, Reg, Shift6, Upper};
-use rv_isa::real::{RealItem, RealItems};
+use rv_machine::real::{RealItem, RealItems};
 use rv_select::code::VReg;
 
 // The register that keeps where a procedure goes back to.

@@ -6,7 +6,7 @@ ghost use Rattle.rv_select.specs.Fitting.{fits, each_fits};
 ghost use Rattle.rv_slots.specs.Slots.{op_inst, op_with, expand, expand_all, fetch_items, save_items};
 ghost use Rattle.rv_select.specs.Marks.{marks};
 ghost use Rattle.rv_slots.specs.Slotted.{above, free_mark, HasFew, EachHasFew, IsSlotsOf};
-ghost use Rattle.rv_isa.specs.declared.real.RealItem.TheVariants.{Op};
+ghost use Rattle.rv_machine.specs.declared.real.RealItem.TheVariants.{Op};
 
 use crate::slot_parts::{
     FIRST, LINK, SECOND, negated, put, put_constant, put_enter, put_fetch, put_final, put_leave,
@@ -14,9 +14,10 @@ use crate::slot_parts::{
 };
 use grift_base::lists::OutOfMemory;
 use low_ir::code::WordOp;
-use rv_isa::inst::{Cond, Inst};
+use machine_words::conditions::Cond;
+use rv_isa::inst::Inst;
 use rv_isa::number::{Reg, Shift6};
-use rv_isa::real::{RealCode, RealItem, RealItems};
+use rv_machine::real::{RealCode, RealItem, RealItems};
 use rv_select::code::{VReg, VirtualCode, VirtualItem};
 use std::alloc::Global;
 

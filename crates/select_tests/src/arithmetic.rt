@@ -7,8 +7,8 @@ use grift_base::words::WordList;
 use low_ir::code::LowSource::{Number, Word};
 use low_ir::code::{LowCode, WordOp};
 use low_ir::programs::{LowProc, LowProgram};
+use machine_words::conditions::Cond;
 use rv_emulator::stops::Stop;
-use rv_isa::inst::Cond;
 use std::alloc::Global;
 use std::process::Abort;
 

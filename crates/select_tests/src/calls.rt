@@ -5,8 +5,8 @@ use crate::programs::{End, Op, Proc, procedure, program, push, step};
 use low_ir::code::LowSource::{Number, Word};
 use low_ir::code::{LowCode, WordOp};
 use low_ir::programs::{LowProc, LowProcs, LowProgram};
+use machine_words::conditions::Cond;
 use rv_emulator::stops::Stop;
-use rv_isa::inst::Cond;
 use std::alloc::Global;
 use std::process::Abort;
 

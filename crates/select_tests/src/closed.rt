@@ -4,8 +4,8 @@ use crate::programs::{End, Op, Proc, alone, program_of, repeated, with_arithmeti
 use low_ir::code::LowSource::{Number, Word};
 use low_ir::code::{LowCode, WordOp};
 use low_ir::programs::LowProgram;
+use machine_words::conditions::Cond;
 use rt_refs::procs::{ARITHMETIC_PROCS, arithmetic_procs};
-use rv_isa::inst::Cond;
 use std::alloc::Global;
 use std::process::Abort;
 

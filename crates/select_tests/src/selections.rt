@@ -4,7 +4,7 @@ use crate::programs::{End, Op, Proc, alone, program_of, step};
 use low_ir::code::LowSource::{Number, Word};
 use low_ir::code::{LowCode, WordOp};
 use low_ir::programs::LowProgram;
-use rv_isa::inst::Cond;
+use machine_words::conditions::Cond;
 use rv_select::code::{VReg, VirtualCode, VirtualItem};
 use rv_select::selection::select;
 use std::alloc::Global;

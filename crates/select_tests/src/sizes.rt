@@ -5,8 +5,8 @@ use crate::programs::{Op, alone, branches, repeated, steps};
 use low_ir::code::LowSource::{Number, Word};
 use low_ir::code::{LowCode, WordOp};
 use low_ir::programs::LowProgram;
+use machine_words::conditions::Cond;
 use rv_emulator::stops::Stop;
-use rv_isa::inst::Cond;
 use std::alloc::Global;
 use std::process::Abort;
 

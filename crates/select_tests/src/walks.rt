@@ -6,14 +6,14 @@ use assembler::image::Image;
 use low_ir::code::LowSource::{Number, Word};
 use low_ir::code::{LowCode, WordOp};
 use low_ir::programs::{LowProc, LowProcs, LowProgram};
+use machine_words::FIRST_ADDRESS;
+use machine_words::conditions::Cond;
 use object_layout::headers::{Header, pack};
 use object_layout::kinds::Kind;
 use object_layout::walks::{SpaceReport, walk};
 use rv_emulator::flat::FlatRam;
 use rv_emulator::machine::Machine;
-use rv_isa::inst::Cond;
 use rv_isa::number::Reg;
-use rv_machine::FIRST_ADDRESS;
 use std::alloc::Global;
 use std::process::Abort;
 

@@ -3,7 +3,7 @@ use Rattle.std.proofs.Common.{true, ℕ, suc, ◌+◌, ◌<◌, ◌≤◌, ◌�
 use Rattle.std.proofs.Common.{Bool, false}
 use Rattle.std.proofs.Common.{refl, sym, subst, arith, ◌&&◌, ◌==◌, nat_le, slice_get}
 use Rattle.std.proofs.lemmas.Bool.{and_from, and_parts, eqb-true, leb-true, cases_eq, cases_lt}
-use Rattle.rv_isa.specs.declared.inst.Cond.TheVariants.{Ne}
+use Rattle.machine_words.specs.declared.conditions.Cond.TheVariants.{Ne}
 use Rattle.low_ir.specs.declared.code.LowSource.{LowSource}
 use Rattle.low_ir.specs.declared.code.LowSource.TheVariants.{Word, Number}
 use Rattle.low_ir.specs.Procedures.{Code, Done, Load, Return, TailCall, TailCallAt, Proc}

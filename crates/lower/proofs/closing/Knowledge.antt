@@ -2,7 +2,7 @@
 use Rattle.std.proofs.Common.{Bool, true, ℕ, ◌<◌, ◌≤◌, ◌≡◌, List, [], ◌∷◌, length, Some}
 use Rattle.std.proofs.Common.{refl, ◌∙◌, ap, nat_lt, nat_le, ◌==◌, slice_get}
 use Rattle.std.proofs.lemmas.Bool.{and_from, and_parts, or_left, or_right, lt-ltb, le-leb, eq-eqb}
-use Rattle.rv_isa.specs.declared.inst.Cond.{Cond}
+use Rattle.machine_words.specs.declared.conditions.Cond.{Cond}
 use Rattle.low_ir.specs.declared.code.WordOp.{WordOp}
 use Rattle.low_ir.specs.declared.code.LowSource.{LowSource}
 use Rattle.low_ir.specs.declared.code.LowSource.TheVariants.{Word, Number}

@@ -10,7 +10,7 @@ use Rattle.grift_base.specs.declared.operators.PrimOp.TheVariants.{Add, Sub, Mul
 use Rattle.grift_base.specs.declared.operators.PrimOp.TheVariants.{Gt, Not, PrintInt, Newline, ReadInt, MakeBox}
 use Rattle.grift_base.specs.declared.operators.PrimOp.TheVariants.{Unbox, BoxSet, MakeVector, VectorRef, VectorSet}
 use Rattle.grift_base.specs.declared.operators.PrimOp.TheVariants.{VectorLength}
-use Rattle.rv_isa.specs.declared.inst.Cond.TheVariants.{Eq, Ne}
+use Rattle.machine_words.specs.declared.conditions.Cond.TheVariants.{Eq, Ne}
 use Rattle.low_ir.specs.declared.code.WordOp.TheVariants.{Add as Plus, Sub as Minus, And, Xor, Sll, Sra, Slt, Sltu}
 use Rattle.low_ir.specs.declared.code.WordOp.{WordOp}
 use Rattle.low_ir.specs.declared.code.LowSource.{LowSource}

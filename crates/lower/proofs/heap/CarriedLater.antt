@@ -6,7 +6,7 @@ use Rattle.std.specs.Prelude.{slice_get, FitsSigned}
 use Rattle.std.specs.Int.{w64}
 use Rattle.std.proofs.lemmas.Int.{SFits-int_wrap}
 use Rattle.std.proofs.Math.Facts.{Fits-of_z}
-use Rattle.rv_machine.specs.Memory.{Memory}
+use Rattle.machine_words.specs.Memory.{Memory}
 use Rattle.low_ir.specs.Run.{Setting}
 use Rattle.coercion_norm.specs.RunValues.{RunInt, RunBool, RunUnit, RunFun, RunTuple, RunLoc, RunWrap, RunInject}
 use Rattle.coercion_norm.specs.RunValues.{NoRunValues, RunValueThen, in_row, row_list}

@@ -3,8 +3,8 @@ use Rattle.std.proofs.Common.{◌≡◌, ◌≢◌, ◌⊎◌, inl, inr, ℕ, ze
 use Rattle.std.proofs.Common.{cond, nat_eq}
 use Rattle.std.proofs.Common.{List, [], ◌∷◌, ◌++◌, length, Some, refl, sym, ap, ◌∙◌, subst, arith, eqb-true}
 use Rattle.std.specs.Prelude.{slice_get, slice_set}
-use Rattle.rv_machine.specs.Memory.{Memory, store_bytes}
-use Rattle.rv_machine.proofs.Public.{stored_outside, load_stored}
+use Rattle.machine_words.specs.Memory.{Memory, store_bytes}
+use Rattle.machine_words.proofs.Public.{stored_outside, load_stored}
 use Rattle.low_ir.specs.Run.{Setting}
 use Rattle.coercion_norm.specs.Objects.{Object, Cell, bytes_of, bytes_of_all, object_at}
 use Rattle.coercion_norm.specs.Held.{Layout, There}

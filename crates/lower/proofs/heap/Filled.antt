@@ -3,7 +3,7 @@ use Rattle.std.proofs.Common.{◌≡◌, inl, inr, ℕ, zero, suc, ◌+◌, ◌*
 use Rattle.std.proofs.Common.{List, [], ◌∷◌, ◌++◌, length, Some}
 use Rattle.std.proofs.Common.{subst, arith}
 use Rattle.std.specs.Prelude.{slice_get}
-use Rattle.rv_machine.specs.Memory.{Memory, load_bytes}
+use Rattle.machine_words.specs.Memory.{Memory, load_bytes}
 use Rattle.low_ir.specs.Steps.{may_load}
 use Rattle.low_ir.specs.Run.{Setting}
 use Rattle.coercion_norm.specs.Objects.{Object, Fixed, header_of, bytes_of, bytes_of_all}

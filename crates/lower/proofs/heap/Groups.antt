@@ -3,7 +3,7 @@ use Rattle.std.proofs.Common.{◌≡◌, inr, ℕ, zero, suc, ◌+◌, ◌*◌, 
 use Rattle.std.proofs.Common.{List, [], ◌∷◌, ◌++◌, length, Some, refl, sym, ap, ◌∙◌, subst, arith}
 use Rattle.std.proofs.Common.{append_assoc, append-nil}
 use Rattle.std.specs.Prelude.{nat_le}
-use Rattle.rv_machine.specs.Memory.{Memory}
+use Rattle.machine_words.specs.Memory.{Memory}
 use Rattle.object_layout.specs.declared.kinds.Kind.TheVariants.{Closure}
 use Rattle.coercion_norm.specs.Objects.{Object, Fixed, bytes_of_all, object_at}
 use Rattle.rt_cast.specs.Objects.{HoldsWords, Holds}

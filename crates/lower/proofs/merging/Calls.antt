@@ -7,7 +7,7 @@ use Rattle.grift_base.specs.Types.{TypeHead}
 use Rattle.grift_base.specs.declared.places.Pos.{Pos}
 use Rattle.grift_base.specs.declared.verdicts.Verdict.TheVariants.{Blame}
 use Rattle.run_laws.specs.Runs.{Verdict as EndsWith}
-use Rattle.rv_machine.specs.Mach.{ending_of}
+use Rattle.machine_words.specs.Halts.{ending_of}
 use Rattle.core_calc.specs.Account.{Measures}
 use Rattle.low_ir.specs.Run.{Setting, Waiting, LowState, with_local}
 use Rattle.coercion_norm.specs.Coercions.{Coercion, rows_of}

@@ -9,7 +9,7 @@ use Rattle.grift_base.specs.Types.{TypeHead, IntHead, row_at, tuple_part, dyn_pl
 use Rattle.grift_base.specs.Types.{IntRow, BoolRow, UnitRow, DynRow, FunRow, TupleRow, RefRow, VectRow}
 use Rattle.type_graph.specs.Trees.{height}
 use Rattle.run_laws.specs.Machines.{Reaches}
-use Rattle.rv_machine.specs.Mach.{ending_of}
+use Rattle.machine_words.specs.Halts.{ending_of}
 use Rattle.core_calc.specs.Account.{Measures}
 use Rattle.low_ir.specs.Prices.{CostsAtMost}
 use Rattle.low_ir.specs.Run.{Setting, LowState, low_machine}

@@ -7,7 +7,7 @@ use Rattle.std.specs.Prelude.{option_map, ◌==◌, ◌++◌}
 use Rattle.grift_base.specs.Types.{TypeHead}
 use Rattle.grift_base.specs.declared.operators.PrimOp.TheVariants.{Unbox, VectorRef, VectorLength}
 use Rattle.grift_base.specs.declared.verdicts.Trap.TheVariants.{Index}
-use Rattle.rv_machine.specs.Mach.{ending_of}
+use Rattle.machine_words.specs.Halts.{ending_of}
 use Rattle.core_calc.specs.Account.{Measures}
 use Rattle.low_ir.specs.Run.{Setting, LowState}
 use Rattle.coercion_norm.specs.Coercions.{Coercion, Id, rows_of}

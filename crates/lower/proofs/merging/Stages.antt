@@ -6,7 +6,7 @@ use Rattle.grift_base.specs.declared.verdicts.Verdict.TheVariants.{Trap as TrapV
 use Rattle.run_laws.specs.Runs.{Verdict as EndsWith}
 use Rattle.run_laws.specs.Machines.{Reaches}
 use Rattle.run_laws.proofs.Public.{reaches_weaken}
-use Rattle.rv_machine.specs.Mach.{ending_of}
+use Rattle.machine_words.specs.Halts.{ending_of}
 use Rattle.core_calc.specs.Account.{Measures}
 use Rattle.low_ir.specs.Prices.{CostsAtMost}
 use Rattle.low_ir.specs.Run.{Setting, LowState, low_machine}

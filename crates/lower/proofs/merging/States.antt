@@ -6,7 +6,7 @@ use Rattle.std.specs.Int.{w64, cast_unsigned, int_wrap}
 use Rattle.grift_base.specs.declared.verdicts.Trap.{Trap}
 use Rattle.grift_base.specs.declared.verdicts.Verdict.TheVariants.{Trap as TrapVerdict}
 use Rattle.run_laws.specs.Runs.{Verdict as EndsWith}
-use Rattle.rv_machine.specs.Mach.{ending_of}
+use Rattle.machine_words.specs.Halts.{ending_of}
 use Rattle.core_calc.specs.Account.{Measures}
 use Rattle.low_ir.specs.Run.{Setting, LowState}
 use Rattle.coercion_norm.specs.Coercions.{Coercion}
@@ -153,7 +153,7 @@ module _ (setting : Setting) (l : Layout) (procs : List Proc) (casts : List Type
     one_of_two false = inl refl
 
     -- a cell of the store, at its address
-    module _ (placed : Placed setting l) (bytes : Rattle.rv_machine.specs.Memory.Memory) (store : FlatStore Coercion)
+    module _ (placed : Placed setting l) (bytes : Rattle.machine_words.specs.Memory.Memory) (store : FlatStore Coercion)
         (cells : Rattle.lower.specs.CarriedValues.CellsHeld l setting.address procs merged_meaning places objects bytes
         places store)
         (is_vector : Bool) (cell : ℕ) (values : List (FlatValue Coercion))

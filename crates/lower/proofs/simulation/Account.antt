@@ -18,8 +18,8 @@ use Rattle.run_laws.specs.Reductions.{unless_ended as step_unless_ended}
 use Rattle.run_laws.proofs.Public.{by_step_at_cost, reaches_weaken, follows_by_behind, within_of}
 use Rattle.run_laws.proofs.Public.{machine_never_wrong, reduction_and_machine_follow_each_other-machine}
 use Rattle.run_laws.proofs.Public.{DoesAt, IndexedSimulation, follows_by_index}
-use Rattle.rv_machine.specs.Mach.{ending_of}
-use Rattle.rv_machine.specs.Memory.{Memory}
+use Rattle.machine_words.specs.Halts.{ending_of}
+use Rattle.machine_words.specs.Memory.{Memory}
 use Rattle.low_ir.specs.Prices.{entering_some, low_price, CostsAtMost}
 use Rattle.low_ir.specs.Procedures.{Proc as LowProc}
 use Rattle.low_ir.specs.Steps.{no_locals}

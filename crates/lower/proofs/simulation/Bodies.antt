@@ -37,7 +37,7 @@ use Rattle.lower.proofs.words.EmitPrices.{choose_body_begins, group_body_begins,
 use Rattle.low_ir.specs.declared.code.LowSource.TheVariants.{Number}
 use Rattle.low_ir.specs.Prices.{step_price, code_price, codes_price}
 use Rattle.low_ir.specs.Procedures.{Done, If}
-use Rattle.rv_isa.specs.declared.inst.Cond.TheVariants.{Ne}
+use Rattle.machine_words.specs.declared.conditions.Cond.TheVariants.{Ne}
 use Rattle.std.specs.Prelude.{max, ◌-◌, ◌*◌}
 use Rattle.lower.proofs.words.Steps.{at, here, Calm, Goal, left_of}
 use Rattle.lower.proofs.words.Scene.{Scene}

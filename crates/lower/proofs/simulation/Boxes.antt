@@ -3,8 +3,8 @@ use Rattle.std.proofs.Common.{◌≡◌, ◌⊎◌, inl, inr, ℕ, zero, suc, �
 use Rattle.std.proofs.Common.{Some}
 use Rattle.std.proofs.Common.{true, false, refl, sym, ap, ◌∙◌, subst, arith}
 use Rattle.std.specs.Prelude.{slice_get, slice_set, ◌&&◌}
-use Rattle.rv_machine.specs.Memory.{Memory, store_bytes}
-use Rattle.rv_machine.proofs.Public.{load_stored, stored_outside}
+use Rattle.machine_words.specs.Memory.{Memory, store_bytes}
+use Rattle.machine_words.proofs.Public.{load_stored, stored_outside}
 use Rattle.object_layout.specs.declared.kinds.Kind.TheVariants.{Boxed}
 use Rattle.low_ir.specs.declared.code.LowSource.{LowSource}
 use Rattle.low_ir.specs.declared.code.LowSource.TheVariants.{Number}

@@ -3,7 +3,7 @@ use Rattle.std.proofs.Common.{◌≡◌, inl, inr, ℕ, suc, ◌+◌, ◌≤◌,
 use Rattle.std.proofs.Common.{sym, ap, ◌∙◌, subst, arith, ◌*◌, Bool, false, Option, None, le_refl}
 use Rattle.std.specs.Prelude.{slice_get, ◌==◌, ◌&&◌, nat_le, ◌-◌, if◌then◌else◌}
 use Rattle.run_laws.specs.Machines.{Go}
-use Rattle.rv_machine.specs.Mach.{ending_of}
+use Rattle.machine_words.specs.Halts.{ending_of}
 use Rattle.low_ir.specs.declared.code.LowSource.{LowSource}
 use Rattle.low_ir.specs.Procedures.{Code, Proc as LowProc}
 use Rattle.low_ir.specs.Prices.{low_price, step_price}

@@ -6,8 +6,8 @@ use Rattle.grift_base.specs.declared.operators.PrimOp.TheVariants.{MakeVector}
 use Rattle.grift_base.specs.declared.verdicts.Trap.TheVariants.{Length}
 use Rattle.grift_base.specs.declared.verdicts.Verdict.TheVariants.{Trap as TrapVerdict}
 use Rattle.run_laws.specs.Runs.{Verdict as EndsWith}
-use Rattle.rv_machine.specs.Mach.{ending_of}
-use Rattle.rv_machine.specs.Memory.{Memory}
+use Rattle.machine_words.specs.Halts.{ending_of}
+use Rattle.machine_words.specs.Memory.{Memory}
 use Rattle.core_calc.specs.Account.{Measures, MakesVector, Acts}
 use Rattle.object_layout.specs.declared.kinds.Kind.TheVariants.{Vector}
 use Rattle.low_ir.specs.declared.code.LowSource.TheVariants.{Word}

@@ -11,8 +11,8 @@ use Rattle.run_laws.specs.Machines.{run}
 use Rattle.run_laws.specs.Reductions.{machine_of, go_or_stop}
 use Rattle.run_laws.proofs.Public.{by_step, reaches_weaken, unless_wrong_map, follows_by_behind}
 use Rattle.run_laws.proofs.Public.{machine_never_wrong, reduction_and_machine_follow_each_other-machine}
-use Rattle.rv_machine.specs.Mach.{ending_of}
-use Rattle.rv_machine.specs.Memory.{Memory}
+use Rattle.machine_words.specs.Halts.{ending_of}
+use Rattle.machine_words.specs.Memory.{Memory}
 use Rattle.low_ir.specs.Procedures.{Code}
 use Rattle.low_ir.specs.Steps.{no_locals}
 use Rattle.low_ir.specs.Run.{LowState, LowShown, low_machine, low_start, bind}

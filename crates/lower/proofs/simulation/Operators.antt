@@ -44,7 +44,7 @@ use Rattle.run_laws.specs.Runs.{Ending, Verdict as EndsWith}
 use Rattle.grift_base.specs.declared.verdicts.Trap.TheVariants.{ZeroDivisor, Input}
 use Rattle.grift_base.specs.declared.verdicts.Verdict.{Verdict}
 use Rattle.grift_base.specs.declared.verdicts.Verdict.TheVariants.{Trap as TrapVerdict}
-use Rattle.rv_machine.specs.Mach.{ending_of}
+use Rattle.machine_words.specs.Halts.{ending_of}
 use Rattle.coercion_norm.specs.ValueSteps.{TrapOf}
 use Rattle.rt_refs.specs.Answering.{Quiet, TrapsNext}
 use Rattle.rt_cast.specs.States.{heap_of}

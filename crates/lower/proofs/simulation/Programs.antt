@@ -10,8 +10,8 @@ use Rattle.run_laws.specs.Accounts.{FollowsWithin}
 use Rattle.run_laws.specs.Runs.{Any, FollowsBy, NeverWrong}
 use Rattle.run_laws.specs.Machines.{run}
 use Rattle.run_laws.specs.Meters.{metered, unspent}
-use Rattle.rv_machine.specs.Mach.{ending_of}
-use Rattle.rv_machine.specs.Memory.{Memory}
+use Rattle.machine_words.specs.Halts.{ending_of}
+use Rattle.machine_words.specs.Memory.{Memory}
 use Rattle.low_ir.specs.Prices.{low_price}
 use Rattle.low_ir.specs.Procedures.{Proc as LowProc}
 use Rattle.low_ir.specs.Run.{Setting, low_machine, low_start}

@@ -25,7 +25,7 @@ use Rattle.lower.specs.SchemeLaws.{Aim, OnWay, StopsNow, Walks, After, Goes, IsP
 use Rattle.lower.proofs.words.Credits.{By, by_then_step}
 use Rattle.lower.proofs.words.Stops.{stops_cheaply}
 use Rattle.low_ir.specs.Prices.{CostsAtMost}
-use Rattle.rv_machine.specs.Mach.{ending_of}
+use Rattle.machine_words.specs.Halts.{ending_of}
 use Rattle.flat_ir.specs.FlatTally.{Cost}
 use Rattle.std.proofs.Common.{le_refl}
 use Rattle.lower.proofs.simulation.Way.{Program, after_wraps, mode_of, N, Seen, Over, Settled}

@@ -4,7 +4,7 @@ use Rattle.std.proofs.Common.{sym, ap, ◌∙◌, subst, arith, slice_get}
 use Rattle.grift_base.specs.World.{WorldState}
 use Rattle.run_laws.specs.Machines.{Go}
 use Rattle.run_laws.proofs.Public.{reaches_weaken}
-use Rattle.rv_machine.specs.Mach.{ending_of}
+use Rattle.machine_words.specs.Halts.{ending_of}
 use Rattle.low_ir.specs.declared.code.LowSource.{LowSource}
 use Rattle.low_ir.specs.Procedures.{Code, Call, Proc as LowProc}
 use Rattle.low_ir.specs.Steps.{Locals, set_local}

@@ -1,9 +1,9 @@
 -- Code that fetches operands, tests the kind of an object, and calls a procedure of the scheme.
 use Rattle.std.proofs.Common.{◌≡◌, ◌⊎◌, inl, inr, ℕ, ◌+◌, ◌*◌, ◌^◌, ◌%◌, ◌<◌, ◌≤◌, List, ◌∷◌, length, Some}
 use Rattle.std.proofs.Common.{true, false, refl, sym, ap, ◌∙◌, subst, arith}
-use Rattle.rv_isa.specs.declared.inst.Cond.TheVariants.{Eq}
-use Rattle.rv_machine.specs.Memory.{load_bytes}
-use Rattle.rv_machine.specs.Real.{holds}
+use Rattle.machine_words.specs.declared.conditions.Cond.TheVariants.{Eq}
+use Rattle.machine_words.specs.Memory.{load_bytes}
+use Rattle.machine_words.specs.Conditions.{holds}
 use Rattle.low_ir.specs.declared.code.LowSource.{LowSource}
 use Rattle.low_ir.specs.Procedures.{Code}
 use Rattle.low_ir.specs.Steps.{Locals, set_local, may_load}

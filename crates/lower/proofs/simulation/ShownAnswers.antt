@@ -26,9 +26,9 @@ use Rattle.coercion_norm.specs.ValueSteps.{Return}
 use Rattle.flat_ir.specs.Machine.{FlatValue, FlatStore, FlatState, flat_arity, flat_state_at}
 use Rattle.std.proofs.lemmas.Nat.{and_mask}
 use Rattle.grift_base.specs.Types.{TypeRows, VectHead, RefHead, parts_of}
-use Rattle.rv_isa.specs.declared.inst.Cond.TheVariants.{Eq}
-use Rattle.rv_machine.specs.Memory.{load_bytes}
-use Rattle.rv_machine.specs.Real.{holds}
+use Rattle.machine_words.specs.declared.conditions.Cond.TheVariants.{Eq}
+use Rattle.machine_words.specs.Memory.{load_bytes}
+use Rattle.machine_words.specs.Conditions.{holds}
 use Rattle.low_ir.specs.declared.code.WordOp.TheVariants.{And, Sra}
 use Rattle.low_ir.specs.Operations.{compute}
 use Rattle.low_ir.specs.Procedures.{Done, If}

@@ -10,7 +10,7 @@ use Rattle.grift_base.specs.World.{WorldState}
 use Rattle.grift_base.specs.declared.verdicts.Verdict.{Verdict}
 use Rattle.run_laws.specs.Runs.{Ending, Verdict as EndsWith, Exhausted, Wrong}
 use Rattle.run_laws.specs.Machines.{Stop, Machine, Reaches, UnlessWrong}
-use Rattle.rv_machine.specs.Mach.{ending_of}
+use Rattle.machine_words.specs.Halts.{ending_of}
 use Rattle.low_ir.specs.Prices.{code_price, codes_price, low_price, CostsAtMost}
 use Rattle.low_ir.specs.Procedures.{Code}
 use Rattle.low_ir.specs.Steps.{Locals}

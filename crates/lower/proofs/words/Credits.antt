@@ -5,7 +5,7 @@ use Rattle.run_laws.specs.Machines.{Next, Go, Stop, Machine, Reaches, Onward, ru
 use Rattle.run_laws.specs.Meters.{Metered, metered, charge}
 use Rattle.run_laws.proofs.Public.{by_step}
 use Rattle.grift_base.specs.declared.verdicts.Verdict.{Verdict}
-use Rattle.rv_machine.specs.Mach.{ending_of}
+use Rattle.machine_words.specs.Halts.{ending_of}
 use Rattle.low_ir.specs.Run.{Setting, LowState, LowShown, low_machine}
 use Rattle.low_ir.specs.Prices.{low_price, CostsAtMost}
 use Rattle.low_ir.proofs.Public.{costs_on, costs_last}

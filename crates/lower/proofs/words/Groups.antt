@@ -5,8 +5,8 @@ use Rattle.std.proofs.Common.{List, [], ◌∷◌, ◌++◌, length, Some, refl,
 use Rattle.std.proofs.Common.{append-nil, append_assoc, length-append, mod-eq_of_lt, ◌-◌, cond}
 use Rattle.std.specs.Prelude.{slice_get, nat_lt, nat_le, ◌&&◌, if◌then◌else◌}
 use Rattle.grift_base.specs.World.{WorldState}
-use Rattle.rv_machine.specs.Memory.{Memory, store_bytes}
-use Rattle.rv_machine.proofs.Public.{stored_outside}
+use Rattle.machine_words.specs.Memory.{Memory, store_bytes}
+use Rattle.machine_words.proofs.Public.{stored_outside}
 use Rattle.low_ir.specs.declared.code.WordOp.TheVariants.{Add as Plus}
 use Rattle.low_ir.specs.declared.code.LowSource.{LowSource}
 use Rattle.low_ir.specs.declared.code.LowSource.TheVariants.{Word, Number}

@@ -7,10 +7,10 @@ use Rattle.std.proofs.Common.{eqb-true, mod-eq_of_lt, ℤ}
 use Rattle.std.specs.Prelude.{FitsSigned}
 use Rattle.std.proofs.lemmas.Int.{SFits-int_wrap}
 use Rattle.std.proofs.Math.Facts.{Fits-of_z}
-use Rattle.rv_machine.specs.Memory.{load_bytes}
+use Rattle.machine_words.specs.Memory.{load_bytes}
 use Rattle.low_ir.specs.Steps.{may_load}
 use Rattle.grift_base.specs.World.{WorldState}
-use Rattle.rv_machine.specs.Turn.{add, subtract}
+use Rattle.machine_words.specs.Arithmetic.{add, subtract}
 use Rattle.low_ir.specs.declared.code.WordOp.TheVariants.{Add as Plus, Sub as Minus}
 use Rattle.low_ir.specs.declared.code.LowSource.{LowSource}
 use Rattle.low_ir.specs.declared.code.LowSource.TheVariants.{Word, Number}

@@ -5,11 +5,11 @@ use Rattle.std.proofs.Common.{List, [], ◌∷◌, ◌++◌, length, Some, refl,
 use Rattle.std.proofs.Common.{eq-eqb, pos}
 use Rattle.std.specs.Prelude.{slice_get, nat_lt, nat_le, ◌&&◌, if◌then◌else◌}
 use Rattle.grift_base.specs.World.{WorldState}
-use Rattle.rv_machine.specs.Memory.{load_bytes}
-use Rattle.rv_machine.specs.Real.{holds}
+use Rattle.machine_words.specs.Memory.{load_bytes}
+use Rattle.machine_words.specs.Conditions.{holds}
 use Rattle.low_ir.specs.Steps.{may_load}
 use Rattle.std.specs.Int.{w64, cast_unsigned}
-use Rattle.rv_isa.specs.declared.inst.Cond.TheVariants.{Eq}
+use Rattle.machine_words.specs.declared.conditions.Cond.TheVariants.{Eq}
 use Rattle.low_ir.specs.declared.code.WordOp.TheVariants.{And}
 use Rattle.low_ir.specs.declared.code.LowSource.{LowSource}
 use Rattle.low_ir.specs.declared.code.LowSource.TheVariants.{Word, Number}

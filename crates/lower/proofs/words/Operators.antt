@@ -9,7 +9,7 @@ use Rattle.grift_base.specs.World.{WorldState, printing}
 use Rattle.grift_base.specs.Reading.{next_number, past_white, past_run, after_reading}
 use Rattle.grift_base.specs.EnvironmentCall.{Called, environment_call, reads}
 use Rattle.grift_base.specs.declared.worlds.EnvEffect.TheVariants.{Next as GoesOn, Trapped}
-use Rattle.rv_machine.specs.Turn.{flag}
+use Rattle.machine_words.specs.Arithmetic.{flag}
 use Rattle.low_ir.specs.declared.code.WordOp.{WordOp}
 use Rattle.low_ir.specs.declared.code.WordOp.TheVariants.{Add as Plus, Sub as Minus, Xor, Slt, Sltu}
 use Rattle.low_ir.specs.declared.code.LowSource.{LowSource}
@@ -39,7 +39,7 @@ use Rattle.grift_base.specs.declared.verdicts.Trap.TheVariants.{ZeroDivisor, Inp
 use Rattle.grift_base.specs.declared.verdicts.Verdict.TheVariants.{Trap as TrapVerdict}
 use Rattle.run_laws.specs.Runs.{Verdict as EndsWith}
 use Rattle.run_laws.specs.Machines.{Stop}
-use Rattle.rv_machine.specs.Mach.{ending_of}
+use Rattle.machine_words.specs.Halts.{ending_of}
 use Rattle.low_ir.specs.Procedures.{Call}
 use Rattle.low_ir.specs.Run.{LowState}
 use Rattle.rt_refs.specs.Answering.{AnswersFor, TrapsNext}

@@ -1,6 +1,6 @@
 -- Products and quotients are answered, wherever the four procedures that make them stand in a program.
 use Rattle.std.proofs.Common.{◌≡◌, ℕ, Some, refl, arith, slice_get}
-use Rattle.rv_machine.specs.Mach.{ending_of}
+use Rattle.machine_words.specs.Halts.{ending_of}
 use Rattle.low_ir.specs.Run.{Setting}
 use Rattle.rt_refs.specs.Products.{product_loop, multiply}
 use Rattle.rt_refs.specs.Quotients.{quotient_loop, divide}

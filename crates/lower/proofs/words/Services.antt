@@ -4,7 +4,7 @@ use Rattle.std.proofs.Common.{Some, refl}
 use Rattle.std.proofs.Common.{sym, ap, ◌∙◌, ◌+◌, subst, arith, Bool, false}
 use Rattle.std.specs.Prelude.{◌==◌, ◌&&◌, nat_le, nat_lt, if◌then◌else◌}
 use Rattle.grift_base.specs.World.{WorldState}
-use Rattle.rv_machine.specs.Mach.{ending_of}
+use Rattle.machine_words.specs.Halts.{ending_of}
 use Rattle.run_laws.specs.Machines.{Go}
 use Rattle.low_ir.specs.declared.code.LowSource.{LowSource}
 use Rattle.low_ir.specs.declared.code.LowSource.TheVariants.{Word, Number}

@@ -8,11 +8,11 @@ use Rattle.run_laws.specs.Machines.{Go, Stop, Machine}
 use Rattle.grift_base.specs.World.{WorldState}
 use Rattle.grift_base.specs.EnvironmentCall.{environment_call}
 use Rattle.grift_base.specs.declared.verdicts.Verdict.{Verdict}
-use Rattle.rv_isa.specs.declared.inst.Cond.{Cond}
-use Rattle.rv_machine.specs.Memory.{load_bytes, store_bytes}
-use Rattle.rv_machine.specs.Mach.{ending_of}
-use Rattle.rv_machine.specs.Turn.{plus}
-use Rattle.rv_machine.specs.Real.{holds}
+use Rattle.machine_words.specs.declared.conditions.Cond.{Cond}
+use Rattle.machine_words.specs.Memory.{load_bytes, store_bytes}
+use Rattle.machine_words.specs.Halts.{ending_of}
+use Rattle.machine_words.specs.Arithmetic.{plus}
+use Rattle.machine_words.specs.Conditions.{holds}
 use Rattle.low_ir.specs.declared.code.WordOp.{WordOp}
 use Rattle.low_ir.specs.declared.code.LowSource.{LowSource}
 use Rattle.low_ir.specs.Operations.{compute}

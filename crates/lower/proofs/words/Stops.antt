@@ -7,12 +7,12 @@ use Rattle.std.specs.Prelude.{◌==◌, ◌&&◌, nat_lt, nat_le, if◌then◌el
 use Rattle.run_laws.specs.Runs.{Ending, Verdict as EndsWith, Exhausted, Wrong}
 use Rattle.run_laws.specs.Machines.{Next, Go, Stop}
 use Rattle.grift_base.specs.declared.verdicts.Verdict.{Verdict}
-use Rattle.rv_machine.specs.Mach.{ending_of}
+use Rattle.machine_words.specs.Halts.{ending_of}
 use Rattle.grift_base.specs.declared.verdicts.AnswerKind.TheVariants.{Int as IntKind}
 use Rattle.grift_base.specs.declared.verdicts.Verdict.TheVariants.{Answer}
 use Rattle.std.specs.Int.{w64, cast_signed}
-use Rattle.rv_machine.specs.State.{Halt, Ended}
-use Rattle.rv_machine.specs.Turn.{plus}
+use Rattle.machine_words.specs.Halts.{Halt, Ended}
+use Rattle.machine_words.specs.Arithmetic.{plus}
 use Rattle.low_ir.specs.Procedures.{Code, Done, Set, Compute, Load, Store, CodeOf, Build, Request, Take, Environment}
 use Rattle.low_ir.specs.Procedures.{Call, CallAt, If, Return, TailCall, TailCallAt, Proc}
 use Rattle.low_ir.specs.Prices.{step_price, low_price}

@@ -1,6 +1,6 @@
 use Rattle.std.proofs.Common.{List, false, ◌^◌, ◌≤◌, ◌≡◌, ◌∙◌, sym, subst, length, arith}
 use Rattle.std.specs.Prelude.{Any}
-use Rattle.rv_isa.specs.declared.real.RealItem.{RealItem}
+use Rattle.rv_machine.specs.declared.real.RealItem.{RealItem}
 use Rattle.assembler.specs.Conditions.{is_mark}
 use Rattle.assembler.proofs.Insts.{words_few, words_some}
 use Rattle.assembler.specs.Imaging.{code_start, assembled}

@@ -1,6 +1,6 @@
 use Rattle.std.proofs.Common.{◌∷◌, ◌++◌, [], ◌≡◌, pos, refl, ap}
 use Rattle.rv_isa.specs.declared.inst.Inst.TheVariants.{Jalr, Addi}
-use Rattle.rv_isa.specs.Conditions.{branch_when}
+use Rattle.rv_machine.specs.Branches.{branch_when}
 use Rattle.assembler.specs.Expansion.{far_insts, opposite}
 use Rattle.assembler.proofs.Insts.{ok_more, put_two, decode_two}
 use Rattle.assembler.proofs.expansion.put_far.Goals as goal

@@ -1,6 +1,6 @@
 use Rattle.std.proofs.Common.{◌≡◌, ◌∙◌, ap, arith, ℕ, ◌++◌, ◌∷◌, [], replicate}
 use Rattle.rv_isa.specs.declared.inst.Inst.{Inst}
-use Rattle.rv_isa.specs.declared.real.RealItem.TheVariants.{Op}
+use Rattle.rv_machine.specs.declared.real.RealItem.TheVariants.{Op}
 use Rattle.machine_tests.proofs.Across.{filler, one_more}
 use Rattle.machine_tests.proofs.assembled.put_fillers.Goals as goal
 

@@ -1,5 +1,5 @@
 use Rattle.std.proofs.Common.{arith}
-use Rattle.rv_machine.specs.Memory.{memory_of}
+use Rattle.machine_words.specs.Memory.{memory_of}
 use Rattle.rv_emulator.proofs.Decoded.{entries_more}
 use Rattle.rv_emulator.proofs.machine.decoded.Goals as goal
 

@@ -1,5 +1,5 @@
 use Rattle.std.proofs.Common.{◌≡◌, length}
-use Rattle.rv_machine.specs.Memory.{memory_of}
+use Rattle.machine_words.specs.Memory.{memory_of}
 use Rattle.rv_emulator.specs.Processor.{AreDecoded}
 use Rattle.rv_emulator.proofs.machine.decoded.Given as goal
 

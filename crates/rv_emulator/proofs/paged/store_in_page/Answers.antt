@@ -1,6 +1,6 @@
 use Rattle.std.proofs.Common.{◌≡◌, sym, ◌∙◌, ap}
 use Rattle.std.specs.Int.{byte_len}
-use Rattle.rv_machine.specs.Memory.{Memory, store_bytes, memory_of}
+use Rattle.machine_words.specs.Memory.{Memory, store_bytes, memory_of}
 use Rattle.rv_emulator.specs.Widths.{width_of}
 use Rattle.rv_emulator.specs.Pages.{page_bytes}
 use Rattle.rv_emulator.proofs.Paging.{made_page}

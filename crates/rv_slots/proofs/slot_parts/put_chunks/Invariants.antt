@@ -1,6 +1,6 @@
 use Rattle.std.proofs.Common.{◌≡◌, ◌≤◌, ◌++◌, ◌∷◌, pos}
 use Rattle.rv_isa.specs.declared.inst.Inst.TheVariants.{Addi}
-use Rattle.rv_isa.specs.declared.real.RealItem.TheVariants.{Op}
+use Rattle.rv_machine.specs.declared.real.RealItem.TheVariants.{Op}
 use Rattle.rv_slots.specs.Slots.{chunk_of, chunk_items}
 use Rattle.rv_slots.proofs.slot_parts.put_chunks.Given as goal
 

@@ -1,6 +1,6 @@
 use Rattle.std.proofs.Common.{◌≡◌, ◌∙◌, ◌+◌, length, sym, ap, arith}
 use Rattle.grift_base.specs.declared.places.Pos.{Pos}
-use Rattle.rv_machine.specs.Memory.{first_address, from_base, memory_of}
+use Rattle.machine_words.specs.Memory.{first_address, from_base, memory_of}
 use Rattle.rv_machine.specs.Image.{statics_len, code_len, label_count}
 use Rattle.rv_machine.proofs.Public.{length-labels_from}
 use Rattle.rv_machine.specs.Start.{start_of}

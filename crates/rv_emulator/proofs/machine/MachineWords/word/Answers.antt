@@ -1,6 +1,6 @@
 use Rattle.std.proofs.Common.{ℕ, ◌+◌, ◌-◌, ◌%◌, ◌≤◌, ◌≡◌, true, Some, None, sym, ◌∙◌, ap, arith}
 use Rattle.std.specs.Prelude.{◌==◌, ◌&&◌, nat_le, if◌then◌else◌}
-use Rattle.rv_machine.specs.Memory.{first_address, Memory, load_bytes, from_base}
+use Rattle.machine_words.specs.Memory.{first_address, Memory, load_bytes, from_base}
 use Rattle.rv_emulator.proofs.Based.{load_from_base}
 use Rattle.rv_emulator.proofs.machine.MachineWords.word.Goals as goal
 

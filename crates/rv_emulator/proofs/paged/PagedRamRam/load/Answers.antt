@@ -1,7 +1,7 @@
 use Rattle.std.proofs.Common.{◌/◌, ◌%◌, length, None, sym, ◌∙◌, ap, arith}
 use Rattle.std.proofs.lemmas.List.{get_or_read}
 use Rattle.std.specs.Int.{byte_len}
-use Rattle.rv_machine.specs.Memory.{load_bytes, memory_of}
+use Rattle.machine_words.specs.Memory.{load_bytes, memory_of}
 use Rattle.rv_emulator.specs.Widths.{width_of}
 use Rattle.rv_emulator.specs.Pages.{page_bytes}
 use Rattle.rv_emulator.proofs.Paging.{in_one_page, page_there, load_paged, load_missing}

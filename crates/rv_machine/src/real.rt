@@ -1,8 +1,9 @@
 // Code whose jumps, branches and addresses name marks.
 
-use crate::inst::{Cond, Inst};
-use crate::number::Reg;
 use grift_base::lists::Items;
+use machine_words::conditions::Cond;
+use rv_isa::inst::Inst;
+use rv_isa::number::Reg;
 
 /// An item of code. Marks are told by numbers, and have the address of the next item that isn't a mark.
 #[derive(Clone, Copy, PartialEq, Eq, Debug)]

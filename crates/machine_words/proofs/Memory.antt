@@ -2,7 +2,7 @@
 use Rattle.std.proofs.Common.{mod-eq_of_lt, ℕ, zero, suc, ◌+◌, ◌-◌, ◌*◌, ◌/◌, ◌%◌, ◌^◌, ◌<◌, ◌≤◌, ◌≡◌, ◌⊎◌, refl, ◌∙◌}
 use Rattle.std.proofs.Common.{arith}
 use Rattle.std.proofs.lemmas.Nat.{mod-pow-add, mul-le, pow-add}
-use Rattle.rv_machine.specs.Memory.{Memory, load_bytes, store_bytes, byte_of}
+use Rattle.machine_words.specs.Memory.{Memory, load_bytes, store_bytes, byte_of}
 
 -- the byte at an address inside a store, and outside
 pub stored_inside : (count : ℕ) (m : Memory) (at word i : ℕ) → at ≤ i → i < at + count →

@@ -2,8 +2,8 @@
 use Rattle.std.specs.Prelude.{ℕ, ℤ}
 use Rattle.rv_isa.specs.declared.inst.Inst.{Inst}
 use Rattle.rv_isa.specs.declared.inst.Inst.TheVariants.{Beq, Bne, Blt, Bge, Bltu, Bgeu}
-use Rattle.rv_isa.specs.declared.inst.Cond.{Cond}
-use Rattle.rv_isa.specs.declared.inst.Cond.TheVariants.{Eq, Ne, Lt, Ge, Ltu, Geu}
+use Rattle.machine_words.specs.declared.conditions.Cond.{Cond}
+use Rattle.machine_words.specs.declared.conditions.Cond.TheVariants.{Eq, Ne, Lt, Ge, Ltu, Geu}
 
 abbrev pub branch_when : Cond → ℕ → ℕ → ℤ → Inst
 branch_when Eq rs1 rs2 offset = Beq rs1 rs2 offset

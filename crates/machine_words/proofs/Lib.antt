@@ -1,0 +1,3 @@
+mod Memory
+mod Readings
+pub mod Public

@@ -1,0 +1,4 @@
+pub mod Memory
+pub mod Arithmetic
+pub mod Conditions
+pub mod Halts
