@@ -9,9 +9,9 @@ use Rattle.grift_base.specs.declared.operators.PrimOp.{PrimOp}
 use Rattle.grift_base.specs.declared.operators.PrimOp.TheVariants.{MakeBox, MakeVector}
 use Rattle.core_calc.specs.Account.{Measures, Makes}
 use Rattle.coercion_norm.specs.Coercions.{Coercion}
-use Rattle.coercion_norm.specs.Modes.{Mode, Shape, Decision, Wrapping, Rewrapping, Injecting}
-use Rattle.coercion_norm.specs.RunValues.{RunInt, shape_of}
-use Rattle.coercion_norm.specs.ValueSteps.{CastFrame, PrimFrame, Own, Return, onto, decision_words, operator_words}
+use Rattle.cast_modes.specs.Modes.{Mode, Shape, Decision, Wrapping, Rewrapping, Injecting}
+use Rattle.cast_modes.specs.RunValues.{RunInt, shape_of}
+use Rattle.cast_modes.specs.ValueSteps.{CastFrame, PrimFrame, Own, Return, onto, decision_words, operator_words}
 use Rattle.coer_core.specs.Tally.{decision_kind, kind_asks}
 use Rattle.coer_core.specs.MergedTally.{effort, half_charge, effort_asks}
 use Rattle.flat_ir.specs.declared.code.Operand.{Operand}

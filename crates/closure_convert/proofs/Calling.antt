@@ -6,13 +6,13 @@ use Rattle.std.proofs.Common.{arith, eq-eqb, if◌then◌else◌}
 use Rattle.grift_base.specs.World.{WorldState}
 use Rattle.core_calc.specs.Terms.{both_in_front}
 use Rattle.core_calc.specs.Substitution.{bind}
-use Rattle.coercion_norm.specs.Modes.{Mode}
-use Rattle.coercion_norm.specs.RunValues.{RunInt, RunBool, RunUnit, RunFun, RunTuple, RunLoc, RunWrap, RunInject}
-use Rattle.coercion_norm.specs.RunValues.{Pending}
-use Rattle.coercion_norm.specs.RunValues.{all_plain}
-use Rattle.coercion_norm.specs.ValueSteps.{CastFrame, EnterFrame, Own, Entering, on_some}
-use Rattle.coercion_norm.specs.ValueSteps.{onto, pendings_onto, casts_onto, cast_all, goes, apply}
-use Rattle.coercion_norm.specs.ValueSteps.{next_argument, enter_plain, enter}
+use Rattle.cast_modes.specs.Modes.{Mode}
+use Rattle.cast_modes.specs.RunValues.{RunInt, RunBool, RunUnit, RunFun, RunTuple, RunLoc, RunWrap, RunInject}
+use Rattle.cast_modes.specs.RunValues.{Pending}
+use Rattle.cast_modes.specs.RunValues.{all_plain}
+use Rattle.cast_modes.specs.ValueSteps.{CastFrame, EnterFrame, Own, Entering, on_some}
+use Rattle.cast_modes.specs.ValueSteps.{onto, pendings_onto, casts_onto, cast_all, goes, apply}
+use Rattle.cast_modes.specs.ValueSteps.{next_argument, enter_plain, enter}
 use Rattle.coer_core.specs.Terms.{RowTerm, RowMembers, NoRowMembers, RowMemberThen}
 use Rattle.coer_core.specs.Counts.{names_besides, free_names, free_names_of_members, row_member_names, row_member_count}
 use Rattle.coer_core.specs.Machine.{Code, LambdaCode, MemberCode, code_arity, CoerValue, CoerValues, CoerPending}

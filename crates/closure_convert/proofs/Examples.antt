@@ -17,7 +17,7 @@ use Rattle.core_calc.specs.Terms.{Term, Terms, IntLit, BoolLit, Var, Lambda, Gro
 use Rattle.core_calc.specs.Terms.{ProjDyn, Tuple, Prim, NoTerms, TermThen, NoMembers, MemberThen, NoBindings}
 use Rattle.core_calc.specs.Terms.{BindingThen, terms_from}
 use Rattle.core_calc.specs.Calculus.{answer, Program}
-use Rattle.coercion_norm.specs.Modes.{piling}
+use Rattle.cast_modes.specs.Modes.{piling}
 use Rattle.coercion_norm.specs.MergedMode.{merging}
 use Rattle.coer_core.specs.Conversion.{converted as rows_of}
 use Rattle.core_calc.specs.Account.{measures_of}

@@ -13,11 +13,12 @@ use Rattle.grift_base.specs.World.{WorldState}
 use Rattle.grift_base.specs.declared.verdicts.Verdict.{Verdict}
 use Rattle.grift_base.specs.declared.verdicts.Verdict.TheVariants.{Answer as AnswerVerdict}
 use Rattle.core_calc.specs.Calculus.{CalcEnd, Answered, NoStep}
-use Rattle.coercion_norm.specs.Modes.{Mode}
-use Rattle.coercion_norm.specs.RunValues.{shown}
-use Rattle.coercion_norm.specs.ValueSteps.{Own, Return, Entering}
-use Rattle.coercion_norm.specs.ValueSteps.{On}
-use Rattle.coercion_norm.specs.AnswerTypes.{Told}
+use Rattle.cast_modes.specs.Modes.{Mode}
+use Rattle.cast_modes.specs.RunValues.{shown}
+use Rattle.cast_modes.specs.ValueSteps.{Own, Return, Entering}
+use Rattle.cast_modes.specs.ValueSteps.{On}
+use Rattle.cast_modes.specs.AnswerTypes.{Told}
+use Rattle.cast_modes.specs.Counting.{Counted, Counts}
 use Rattle.coer_core.specs.Machine.{CoerValue, CoerStore}
 use Rattle.coer_core.specs.Machine.{CoerFrame, CoerFocus, CoerAfter}
 use Rattle.coer_core.specs.Machine.{Eval}
@@ -25,12 +26,12 @@ use Rattle.coer_core.specs.Machine.{turn, RunState, ended_at, state_at, after_tu
 use Rattle.coer_core.specs.Machine.{ending_at}
 use Rattle.coer_core.specs.Counts.{turn_words}
 use Rattle.coer_core.specs.Counts.{turn_wraps}
-use Rattle.coer_core.specs.Counts.{Counts, Counted, counting}
+use Rattle.coer_core.specs.Counts.{counting}
 use Rattle.flat_ir.specs.Bodies.{Proc}
 use Rattle.flat_ir.specs.Machine.{FlatStore, FlatFrame, FlatFocus, FlatAfter}
 use Rattle.flat_ir.specs.Machine.{flat_turn}
 use Rattle.flat_ir.specs.Machine.{FlatState, answer_at, flat_state_at, after_flat}
-use Rattle.flat_ir.specs.Counts.{flat_turn_words, flat_turn_wraps, FlatCounts, FlatCounted}
+use Rattle.flat_ir.specs.Counts.{flat_turn_words, flat_turn_wraps}
 use Rattle.flat_ir.specs.Counts.{flat_counting}
 use Rattle.closure_convert.specs.Bounds.{CountsKept}
 use Rattle.closure_convert.proofs.Relation.{Cells}
@@ -41,7 +42,7 @@ use Rattle.coer_core.specs.Tally.{kind_acts}
 use Rattle.flat_ir.specs.FlatTally.{no_cost, Prices}
 use Rattle.closure_convert.proofs.Moves.{measure, no_more_frames, Over, Pair, left_on, Moves, each_turn}
 
-abbrev pub size : {C : Type 0} → Counted C → ℕ
+abbrev pub size : {C : Type 0} → Counted (RunState C) → ℕ
 size m = measure m.state.ended m.state.focus m.state.frames
 
 plus_none : (n : ℕ) → n + 0 ≡ n
@@ -66,37 +67,34 @@ plain_act C kind a b = refl
 
 -- ---- states that go together, with what was counted
 
-abbrev counted : {C : Type 0} → ℕ → ℕ → ℕ → RunState C → Counted C
-counted words turns wraps s = record { words = words; turns = turns; wraps = wraps; state = s }
-
-abbrev flat_counted : {C : Type 0} → ℕ → ℕ → ℕ → FlatState C → FlatCounted C
-flat_counted words turns wraps t = record { words = words; turns = turns; wraps = wraps; state = t }
+abbrev so_far : {S : Type 0} → ℕ → ℕ → ℕ → S → Counted S
+so_far words turns wraps s = record { words = words; turns = turns; wraps = wraps; state = s }
 
 module _ {C : Type 0} (procs : List Proc) (mode : Mode C) (told : Told) where
-  abbrev pub M : Machine (Counted C) Counts Verdict
+  abbrev pub M : Machine (Counted (RunState C)) Counts Verdict
   M = machine_of (counting mode told)
 
-  abbrev pub N : Machine (FlatCounted C) FlatCounts Verdict
+  abbrev pub N : Machine (Counted (FlatState C)) Counts Verdict
   N = machine_of (flat_counting procs mode told)
 
-  abbrev pub Goes : Counted C → FlatCounted C → Type 0
+  abbrev pub Goes : Counted (RunState C) → Counted (FlatState C) → Type 0
   Goes m n =
       (n.wraps ≡ m.wraps) × (n.words ≤ m.words) × (n.turns ≤ 2 * m.turns) × Pair procs mode told m.state n.state
 
-  abbrev Sim : Counted C → FlatCounted C → Next (Counted C) Verdict → Type 0
+  abbrev Sim : Counted (RunState C) → Counted (FlatState C) → Next (Counted (RunState C)) Verdict → Type 0
   Sim m n x = Does CountsKept Any M N Goes size m n x
 
   -- the step of the procedures
   step_is : (cells : FlatStore C) (world : WorldState) (w1 t1 z : ℕ) (g : FlatFocus C) (others : List (FlatFrame C))
       (y : FlatAfter C) → answer_at procs told g others ≡ None → flat_turn procs mode cells world g others ≡ y
-      → N.step (flat_counted w1 t1 z (flat_state_at procs told g others cells world))
-      ≡ Go (flat_counted (w1 + flat_turn_words procs mode g others) (suc t1)
+      → N.step (so_far w1 t1 z (flat_state_at procs told g others cells world))
+      ≡ Go (so_far (w1 + flat_turn_words procs mode g others) (suc t1)
       (z + flat_turn_wraps procs mode g others)
       (after_flat procs told (flat_state_at procs told g others cells world) y))
   step_is cells world w1 t1 z g others y none e =
       let s = flat_state_at procs told g others cells world in
-      ap (λ o. go_or_stop o (flat_counting procs mode told).step (flat_counted w1 t1 z s)) none
-      ∙ ap (λ y. Go (flat_counted (w1 + flat_turn_words procs mode g others) (suc t1)
+      ap (λ o. go_or_stop o (flat_counting procs mode told).step (so_far w1 t1 z s)) none
+      ∙ ap (λ y. Go (so_far (w1 + flat_turn_words procs mode g others) (suc t1)
       (z + flat_turn_wraps procs mode g others) (after_flat procs told s y))) e
 
   -- with these words, turns and wrap steps of the first so far, and these words of the second
@@ -110,12 +108,12 @@ module _ {C : Type 0} (procs : List Proc) (mode : Mode C) (told : Told) where
 
     abbrev SimAt : ℕ → CoerFocus C → List (CoerFrame C) → FlatFocus C → List (FlatFrame C) → CoerAfter C → Type 0
     SimAt t1 focus k g others x =
-        Sim (counted w t z (S focus k)) (flat_counted w1 t1 z (T g others))
-        (Go (counted (w + turn_words mode focus k) (suc t) (z + turn_wraps mode focus k) (after_turn (S focus k) x)))
+        Sim (so_far w t z (S focus k)) (so_far w1 t1 z (T g others))
+        (Go (so_far (w + turn_words mode focus k) (suc t) (z + turn_wraps mode focus k) (after_turn (S focus k) x)))
 
     like : (t1 : ℕ) → t1 ≤ 2 * t + 1 → (focus : CoerFocus C) (k : List (CoerFrame C)) (g : FlatFocus C)
         (others : List (FlatFrame C)) → length others ≤ length k
-        → Alike CountsKept M N (counted w t z (S focus k)) (flat_counted w1 t1 z (T g others))
+        → Alike CountsKept M N (so_far w t z (S focus k)) (so_far w1 t1 z (T g others))
     like t1 soon focus k g others fr =
         record { output = refl; shown = record { wraps = refl; words = few; turns = soon; frames = fr } }
 
@@ -132,7 +130,7 @@ module _ {C : Type 0} (procs : List Proc) (mode : Mode C) (told : Told) where
     counts_once t1 p soon focus k g others x (inr (inl m)) = (
       1,
       inl (omega arith),
-      by_step N _ _ 0 (flat_counted w1 t1 z (T g others)) (Go (flat_counted
+      by_step N _ _ 0 (so_far w1 t1 z (T g others)) (Go (so_far
           (w1 + flat_turn_words procs mode g others) (suc t1) (z + flat_turn_wraps procs mode g others)
           (after_flat procs told (T g others) m.y))) (step_is cells world w1 t1 z g others m.y m.none m.turn) (
             inl (like t1 soon focus k g others m.frames),
@@ -154,8 +152,8 @@ module _ {C : Type 0} (procs : List Proc) (mode : Mode C) (told : Told) where
         let b = flat_turn_words procs mode m.g1 others in
         let q = flat_turn_wraps procs mode g others in
         let r = flat_turn_wraps procs mode m.g1 others in
-        let mid = flat_counted (w1 + a) (suc t1) (z + q) (T m.g1 others) in
-        let last = flat_counted (w1 + a + b) (suc (suc t1)) (z + q + r) (T (Return m.u) others) in
+        let mid = so_far (w1 + a) (suc t1) (z + q) (T m.g1 others) in
+        let last = so_far (w1 + a + b) (suc (suc t1)) (z + q + r) (T (Return m.u) others) in
         let asked = m.words in
         let none_more = m.words1 in
         let free = m.free in
@@ -163,7 +161,7 @@ module _ {C : Type 0} (procs : List Proc) (mode : Mode C) (told : Told) where
         let calm = m.calm in (
           2,
           inl (omega arith),
-          by_step N _ _ 1 (flat_counted w1 t1 z (T g others)) (Go mid)
+          by_step N _ _ 1 (so_far w1 t1 z (T g others)) (Go mid)
               (step_is cells world w1 t1 z g others (On m.g1 others cells world) m.none m.turn)
               (inl (like t1 (omega (arith, start)) focus k g others m.frames), tt)
               (by_step N _ _ 0 mid (Go last)
@@ -190,14 +188,14 @@ module _ {C : Type 0} (procs : List Proc) (mode : Mode C) (told : Told) where
         let sim = counts_once (suc t1) p (omega (arith, start)) focus k m.g1 m.others1 x m.next in
         let a = flat_turn_words procs mode g others in
         let q = flat_turn_wraps procs mode g others in
-        let plain : Go (flat_counted (w1 + a) (suc t1) (z + q) (T m.g1 m.others1))
-        ≡ Go (flat_counted w1 (suc t1) z (T m.g1 m.others1)) =
-        ap₂ (λ a b. Go (flat_counted a (suc t1) b (T m.g1 m.others1)))
+        let plain : Go (so_far (w1 + a) (suc t1) (z + q) (T m.g1 m.others1))
+        ≡ Go (so_far w1 (suc t1) z (T m.g1 m.others1)) =
+        ap₂ (λ a b. Go (so_far a (suc t1) b (T m.g1 m.others1)))
         (ap (λ n. w1 + n) m.words ∙ plus_none w1) (ap (λ n. z + n) m.wraps ∙ plus_none z) in (
           suc sim.0,
           inl (omega arith),
-          by_step N _ _ sim.0 (flat_counted w1 t1 z (T g others))
-              (Go (flat_counted w1 (suc t1) z (T m.g1 m.others1)))
+          by_step N _ _ sim.0 (so_far w1 t1 z (T g others))
+              (Go (so_far w1 (suc t1) z (T m.g1 m.others1)))
               (step_is cells world w1 t1 z g others (On m.g1 m.others1 cells world) m.none m.turn ∙ plain)
               (inl (like t1 (omega (arith, start)) focus k g others m.frames), tt) sim.2,
         )
@@ -215,24 +213,24 @@ module _ {C : Type 0} (procs : List Proc) (mode : Mode C) (told : Told) where
       -- the answer
       ends : (v : CoerValue C) (g : FlatFocus C) (others : List (FlatFrame C))
           → FocusOn procs mode (Return v) [] g others
-          → Sim (counted w t z (S (Return v) [])) (flat_counted w1 t1 z (T g others))
-          (Stop (ending_at told (Answered (shown v)) (Return v)) (counted w t z (S (Return v) [])))
+          → Sim (so_far w t z (S (Return v) [])) (so_far w1 t1 z (T g others))
+          (Stop (ending_at told (Answered (shown v)) (Return v)) (so_far w t z (S (Return v) [])))
       ends v g [] (inl h) =
           let i = h.0 in
-          let s = counted w t z (S (Return v) []) in
-          let t2 = flat_counted w1 t1 z (T (Return i.u) []) in
+          let s = so_far w t z (S (Return v) []) in
+          let t2 = so_far w1 t1 z (T (Return i.u) []) in
           let step : N.step t2 ≡ Stop (ending_at told (Answered (shown v)) (Return v)) t2 =
           ap₂ (λ b a. Stop (if b then EndsWith (AnswerVerdict a) else Wrong) t2)
           (sym (same_fits procs told.types told.answer v i.u i.carries)) (sym (same_shown procs v i.u i.carries)) in
           let a = like t1 (omega (arith, start)) (Return v) [] (Return i.u) [] (omega arith) in
-          subst (λ x. Sim s (flat_counted w1 t1 z (T x [])) (Stop (ending_at told (Answered (shown v)) (Return v)) s))
+          subst (λ x. Sim s (so_far w1 t1 z (T x [])) (Stop (ending_at told (Answered (shown v)) (Return v)) s))
           (sym i.gives) (unless (ending_at told (Answered (shown v)) (Return v)) (0, ((inl a, tt), (t2, step, a, tt))))
       ends v g (other ∷ others) (inl h) = absurd h.1
       ends v g others (inr h) = absurd h
 
   -- ---- the simulation
 
-  by_ending : (m : Counted C) (n : FlatCounted C) (o : Option CalcEnd) → m.state.ended ≡ o
+  by_ending : (m : Counted (RunState C)) (n : Counted (FlatState C)) (o : Option CalcEnd) → m.state.ended ≡ o
       → Sim m n (go_or_stop (option_map (λ e. ending_at told e m.state.focus) o) (counting mode told).step m)
       → Sim m n (M.step m)
   by_ending m n o e sim =
@@ -241,7 +239,7 @@ module _ {C : Type 0} (procs : List Proc) (mode : Mode C) (told : Told) where
 
   -- which states they are
   Sources : ℕ → ℕ → ℕ → ℕ → ℕ → RunState C → FlatState C → Type 0
-  Sources w t z w1 t1 s u = Sim (counted w t z s) (flat_counted w1 t1 z u) (M.step (counted w t z s))
+  Sources w t z w1 t1 s u = Sim (so_far w t z s) (so_far w1 t1 z u) (M.step (so_far w t z s))
 
   live_at : (focus : CoerFocus C) (k : List (CoerFrame C)) (store : CoerStore C) (world : WorldState)
       (g : FlatFocus C) (others : List (FlatFrame C)) (cells : FlatStore C) (w t z w1 t1 : ℕ) → w1 ≤ w → t1 ≤ 2 * t
@@ -261,8 +259,8 @@ module _ {C : Type 0} (procs : List Proc) (mode : Mode C) (told : Told) where
       → Sources w t z w1 t1 s u
   unfolding Sources
   over_does s u w t z w1 t1 few start o =
-      let m = counted w t z s in
-      let n = flat_counted w1 t1 z u in
+      let m = so_far w t z s in
+      let n = so_far w1 t1 z u in
       let a : Alike CountsKept M N m n = record {
         output = o.output;
         shown = record { wraps = refl; words = few; turns = omega (arith, start); frames = o.frames };
@@ -294,7 +292,7 @@ module _ {C : Type 0} (procs : List Proc) (mode : Mode C) (told : Told) where
       (live_at s.focus s.frames s.store s.world u.focus u.frames u.store w t z w1 t1 few start h.cells h.on))
   does s u w t z w1 t1 few start (inr (inl h)) = over_does s u w t z w1 t1 few start h
   does s u w t z w1 t1 few start (inr (inr h)) =
-      by_ending (counted w t z s) (flat_counted w1 t1 z u) (Some NoStep) h.ended tt
+      by_ending (so_far w t z s) (so_far w1 t1 z u) (Some NoStep) h.ended tt
 
   pub same_output : (s : RunState C) (u : FlatState C) → Pair procs mode told s u → u.world.output ≡ s.world.output
   same_output s u (inl h) = ap (λ x. x.output) h.world
@@ -321,7 +319,7 @@ module _ {C : Type 0} (procs : List Proc) (mode : Mode C) (told : Told) where
       },
       tt,
     );
-    does = λ m n r. subst (λ x. Sim m (flat_counted n.words n.turns x n.state) (M.step m)) (sym r.0)
+    does = λ m n r. subst (λ x. Sim m (so_far n.words n.turns x n.state) (M.step m)) (sym r.0)
         (does m.state n.state m.words m.turns m.wraps n.words n.turns r.1 r.2 r.3);
     still_allowed = λ b s l. tt;
   }

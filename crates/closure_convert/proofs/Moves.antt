@@ -15,15 +15,15 @@ use Rattle.grift_base.specs.declared.operators.PrimOp.{PrimOp}
 use Rattle.grift_base.specs.declared.operators.PrimOp.TheVariants.{MakeBox, MakeVector}
 use Rattle.core_calc.specs.Substitution.{is_among}
 use Rattle.core_calc.specs.Calculus.{CalcEnd, Blamed, Trapped, NoStep, blame_at}
-use Rattle.coercion_norm.specs.Modes.{Mode, Decision, Keeping, Wrapping, Rewrapping, Unwrapping, Injecting, Opening}
-use Rattle.coercion_norm.specs.Modes.{Making, Blaming, NoCast, DynPart, PartCast, NoPart, NoType}
-use Rattle.coercion_norm.specs.RunValues.{RunInt, RunBool, RunUnit, RunFun, RunTuple, RunLoc, RunWrap, RunInject}
-use Rattle.coercion_norm.specs.RunValues.{RunValue, Pending, in_row, all_plain, shape_of}
-use Rattle.coercion_norm.specs.ValueSteps.{CastFrame, ProjFrame, PrimFrame, EnterFrame, OwnFrame, Own, Return, Entering}
-use Rattle.coercion_norm.specs.ValueSteps.{On, BlameOf, TrapOf, NoNext, on_some, onto, goes, gives, make}
-use Rattle.coercion_norm.specs.ValueSteps.{run_cast, enter, run_proj, run_proj_dyn, operate, decision_words}
-use Rattle.coercion_norm.specs.ValueSteps.{operator_words, decision_wraps, blame_or_proj, next_argument, enter_plain}
-use Rattle.coercion_norm.specs.AnswerTypes.{Told}
+use Rattle.cast_modes.specs.Modes.{Mode, Decision, Keeping, Wrapping, Rewrapping, Unwrapping, Injecting, Opening}
+use Rattle.cast_modes.specs.Modes.{Making, Blaming, NoCast, DynPart, PartCast, NoPart, NoType}
+use Rattle.cast_modes.specs.RunValues.{RunInt, RunBool, RunUnit, RunFun, RunTuple, RunLoc, RunWrap, RunInject}
+use Rattle.cast_modes.specs.RunValues.{RunValue, Pending, in_row, all_plain, shape_of}
+use Rattle.cast_modes.specs.ValueSteps.{CastFrame, ProjFrame, PrimFrame, EnterFrame, OwnFrame, Own, Return, Entering}
+use Rattle.cast_modes.specs.ValueSteps.{On, BlameOf, TrapOf, NoNext, on_some, onto, goes, gives, make}
+use Rattle.cast_modes.specs.ValueSteps.{run_cast, enter, run_proj, run_proj_dyn, operate, decision_words}
+use Rattle.cast_modes.specs.ValueSteps.{operator_words, decision_wraps, blame_or_proj, next_argument, enter_plain}
+use Rattle.cast_modes.specs.AnswerTypes.{Told}
 use Rattle.coer_core.specs.Terms.{RowTerm, RowTerms, RowMembers, RowBindings, RowInt, RowBool, RowUnit, RowVar}
 use Rattle.coer_core.specs.Terms.{RowLambda, RowGroup, RowLet, RowCall, RowIf, RowSeq, RowCast, RowProj, RowProjDyn}
 use Rattle.coer_core.specs.Terms.{RowTuple, RowPrim, NoRowTerms, RowTermThen, NoRowMembers, RowMemberThen}

@@ -3,9 +3,9 @@ use Rattle.std.specs.Prelude.{ℕ, List}
 use Rattle.run_laws.specs.Runs.{Any, FollowsBy, NeverWrong}
 use Rattle.grift_base.specs.Types.{TypeRows}
 use Rattle.core_calc.specs.Typing.{ProgramTermHasType}
-use Rattle.coercion_norm.specs.AnswerTypes.{Told}
+use Rattle.cast_modes.specs.AnswerTypes.{Told}
 use Rattle.coercion_norm.specs.MergedMode.{merging}
-use Rattle.coercion_norm.specs.Modes.{TypeCast}
+use Rattle.cast_modes.specs.Modes.{TypeCast}
 use Rattle.coer_core.specs.Counts.{run_in}
 use Rattle.coer_core.specs.Terms.{RowTerm, core_of}
 use Rattle.flat_ir.specs.Counts.{flat_run_in}

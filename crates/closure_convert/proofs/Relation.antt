@@ -2,10 +2,10 @@
 use Rattle.std.proofs.Common.{◌≡◌, ◌⊎◌, ℕ, ◌≤◌, List, [], ◌∷◌, ◌++◌}
 use Rattle.std.proofs.Common.{Some, sym, ◌∙◌, subst}
 use Rattle.grift_base.specs.declared.operators.PrimOp.{PrimOp}
-use Rattle.coercion_norm.specs.Modes.{Mode}
-use Rattle.coercion_norm.specs.RunValues.{Pending}
-use Rattle.coercion_norm.specs.ValueSteps.{CastFrame, ProjFrame, PrimFrame, EnterFrame, OwnFrame, Own, Return, Entering}
-use Rattle.coercion_norm.specs.ValueSteps.{onto}
+use Rattle.cast_modes.specs.Modes.{Mode}
+use Rattle.cast_modes.specs.RunValues.{Pending}
+use Rattle.cast_modes.specs.ValueSteps.{CastFrame, ProjFrame, PrimFrame, EnterFrame, OwnFrame, Own, Return, Entering}
+use Rattle.cast_modes.specs.ValueSteps.{onto}
 use Rattle.coer_core.specs.Terms.{RowTerm, RowTerms, RowBindings, RowTermThen}
 use Rattle.coer_core.specs.Counts.{names_besides, free_names, free_names_of_all, free_names_of_bindings}
 use Rattle.coer_core.specs.Counts.{row_binding_names}

@@ -9,19 +9,20 @@ use Rattle.run_laws.proofs.Public.{machine_never_wrong, machine_never_wrong_back
 use Rattle.run_laws.proofs.Public.{reduction_and_machine_follow_each_other-machine}
 use Rattle.run_laws.proofs.Public.{reduction_and_machine_follow_each_other-reduction}
 use Rattle.core_calc.specs.Substitution.{is_among}
-use Rattle.coercion_norm.specs.Modes.{Mode}
-use Rattle.coercion_norm.specs.RunValues.{RunUnit}
-use Rattle.coercion_norm.specs.ValueSteps.{Own}
-use Rattle.coercion_norm.specs.AnswerTypes.{Told}
+use Rattle.cast_modes.specs.Modes.{Mode}
+use Rattle.cast_modes.specs.RunValues.{RunUnit}
+use Rattle.cast_modes.specs.ValueSteps.{Own}
+use Rattle.cast_modes.specs.AnswerTypes.{Told}
+use Rattle.cast_modes.specs.Counting.{uncounted}
 use Rattle.coer_core.specs.Terms.{RowTerm, RowTerms, RowMembers, RowBindings, RowInt, RowBool, RowUnit, RowVar}
 use Rattle.coer_core.specs.Terms.{RowLambda, RowGroup, RowLet, RowCall, RowIf, RowSeq, RowCast, RowProj, RowProjDyn}
 use Rattle.coer_core.specs.Terms.{RowTuple, RowPrim, NoRowTerms, RowTermThen, NoRowMembers, RowMemberThen}
 use Rattle.coer_core.specs.Terms.{NoRowBindings, RowBindingThen}
 use Rattle.coer_core.specs.Machine.{run_start}
-use Rattle.coer_core.specs.Counts.{free_names, row_member_names, row_member_count, counting, uncounted, run_in}
+use Rattle.coer_core.specs.Counts.{free_names, row_member_names, row_member_count, counting, run_in}
 use Rattle.flat_ir.specs.Bodies.{Body, Proc}
 use Rattle.flat_ir.specs.Machine.{FlatState, Inside, new_group, first_world, flat_state_at, entry_body}
-use Rattle.flat_ir.specs.Counts.{flat_counting, flat_uncounted, flat_run_in}
+use Rattle.flat_ir.specs.Counts.{flat_counting, flat_run_in}
 use Rattle.closure_convert.specs.Conversion.{captures, alone, nothing_known, made, made_for, made_in, made_by}
 use Rattle.closure_convert.specs.Conversion.{own_procs, procs_of, procs_for, procs_in, procs_by, entry_proc, converted}
 use Rattle.closure_convert.specs.Bounds.{CountsKept}
@@ -251,11 +252,11 @@ module _ {C : Type 0} (mode : Mode C) (told : Told) (term : RowTerm) (input : Li
 
   starts : IsClosedTerm term
       → Goes (converted term) mode told (uncounted (run_start term input))
-      (flat_uncounted (start_of (entry_body (slice_get (converted term) (made term)))))
+      (uncounted (start_of (entry_body (slice_get (converted term) (made term)))))
   unfolding start_of
   starts closed =
       subst (λ o. Goes (converted term) mode told (uncounted (run_start term input))
-      (flat_uncounted (start_of (entry_body o)))) (sym (entry_stands term)) (
+      (uncounted (start_of (entry_body o)))) (sym (entry_stands term)) (
         refl,
         omega arith,
         omega arith,
@@ -288,7 +289,7 @@ module _ {C : Type 0} (mode : Mode C) (told : Told) (term : RowTerm) (input : Li
   converted_follows closed never =
       let procs = converted term in
       let s = uncounted (run_start term input) in
-      let t = flat_uncounted (start_of (entry_body (slice_get procs (made term)))) in
+      let t = uncounted (start_of (entry_body (slice_get procs (made term)))) in
       let by : FollowsBy CountsKept Any (run (N procs mode told) t) (run (M procs mode told) s) =
       follows_by_simulation (simulation procs mode told) s t (starts closed)
       (machine_never_wrong (counting mode told) s never) in

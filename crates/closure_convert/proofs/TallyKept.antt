@@ -16,11 +16,12 @@ use Rattle.core_calc.specs.Calculus.{Program}
 use Rattle.core_calc.specs.Typing.{ProgramTermHasType}
 use Rattle.coercion_norm.specs.Coercions.{Coercion}
 use Rattle.coercion_norm.specs.MergedMode.{merging}
-use Rattle.coercion_norm.specs.Modes.{Mode, TypeCast, piling}
-use Rattle.coercion_norm.specs.RunValues.{RunUnit}
-use Rattle.coercion_norm.specs.ValueSteps.{CastFrame, OwnFrame, Own, Return}
-use Rattle.coercion_norm.specs.AnswerTypes.{Told}
-use Rattle.coer_core.specs.Counts.{counting, uncounted, run_in, told_of}
+use Rattle.cast_modes.specs.Modes.{Mode, TypeCast, piling}
+use Rattle.cast_modes.specs.RunValues.{RunUnit}
+use Rattle.cast_modes.specs.ValueSteps.{CastFrame, OwnFrame, Own, Return}
+use Rattle.cast_modes.specs.AnswerTypes.{Told}
+use Rattle.cast_modes.specs.Counting.{uncounted}
+use Rattle.coer_core.specs.Counts.{counting, run_in, told_of}
 use Rattle.coer_core.specs.Machine.{CoerFrame, CoerFocus, ProjDynFrame, RunState, running, run_start}
 use Rattle.coer_core.specs.MergedTally.{effort_at, effort_acts, merged_asks, merged_budget, by_effort, merged_tallying}
 use Rattle.coer_core.specs.MergedTally.{merged_tally_in, StorageBelow}

@@ -12,10 +12,10 @@ use Rattle.grift_base.specs.declared.verdicts.Verdict.TheVariants.{Answer as Ans
 use Rattle.core_calc.specs.Redex.{where_some}
 use Rattle.core_calc.specs.Account.{StepKind}
 use Rattle.core_calc.specs.Calculus.{CalcEnd, Answered, NoStep}
-use Rattle.coercion_norm.specs.Modes.{Mode}
-use Rattle.coercion_norm.specs.RunValues.{shown}
-use Rattle.coercion_norm.specs.ValueSteps.{Own, Return, Entering, On}
-use Rattle.coercion_norm.specs.AnswerTypes.{Told}
+use Rattle.cast_modes.specs.Modes.{Mode}
+use Rattle.cast_modes.specs.RunValues.{shown}
+use Rattle.cast_modes.specs.ValueSteps.{Own, Return, Entering, On}
+use Rattle.cast_modes.specs.AnswerTypes.{Told}
 use Rattle.coer_core.specs.Machine.{CoerValue, CoerStore, CoerFrame, CoerFocus, CoerAfter, Eval, turn, RunState}
 use Rattle.coer_core.specs.Machine.{ended_at, state_at, after_turn, ending_at, running}
 use Rattle.coer_core.specs.Tally.{Tally, Tallied}

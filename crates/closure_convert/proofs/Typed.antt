@@ -19,7 +19,7 @@ use Rattle.core_calc.specs.Terms.{both_in_front}
 use Rattle.core_calc.specs.Substitution.{is_among, bind, entry_of}
 use Rattle.core_calc.specs.Typing.{Context, CellType, HasType, HaveTypes, LastHasType, MembersHaveTypes}
 use Rattle.core_calc.specs.Typing.{BindingsHaveTypes, OperatorHasType, member_types}
-use Rattle.coercion_norm.specs.Modes.{TypeCast}
+use Rattle.cast_modes.specs.Modes.{TypeCast}
 use Rattle.coer_core.specs.Terms.{RowTerm, RowTerms, RowMembers, RowBindings, RowInt, RowBool, RowUnit, RowVar}
 use Rattle.coer_core.specs.Terms.{RowLambda, RowGroup, RowLet, RowCall, RowIf, RowSeq, RowCast, RowProj, RowProjDyn}
 use Rattle.coer_core.specs.Terms.{RowTuple, RowPrim, NoRowTerms, RowTermThen, NoRowMembers, RowMemberThen}

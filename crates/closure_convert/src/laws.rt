@@ -11,10 +11,10 @@ ghost use Rattle.core_calc.specs.Account.{Measures, account, extent, measures_of
 ghost use Rattle.core_calc.specs.Calculus.{Program};
 ghost use Rattle.core_calc.specs.Substitution.{is_among};
 ghost use Rattle.core_calc.specs.Typing.{ProgramTermHasType};
-ghost use Rattle.coercion_norm.specs.AnswerTypes.{Told};
+ghost use Rattle.cast_modes.specs.AnswerTypes.{Told};
 ghost use Rattle.coercion_norm.specs.Coercions.{Coercion};
 ghost use Rattle.coercion_norm.specs.MergedMode.{merging};
-ghost use Rattle.coercion_norm.specs.Modes.{TypeCast, piling};
+ghost use Rattle.cast_modes.specs.Modes.{TypeCast, piling};
 ghost use Rattle.coer_core.specs.Counts.{each_once, free_names, free_names_of_members, names_besides, run_in};
 ghost use Rattle.coer_core.specs.Counts.{told_of};
 ghost use Rattle.coer_core.specs.MergedTally.{merged_tally_in};

@@ -15,10 +15,10 @@ use Rattle.core_calc.specs.Calculus.{ending_of, calculus}
 use Rattle.core_calc.specs.Account.{Measures, wrap_charge, StepKind, Wraps, Casts, Makes, MakesVector, Multiplies, Acts}
 use Rattle.core_calc.specs.Account.{kind_of_step, charge, more_work, Account, Accounted, first_account}
 use Rattle.core_calc.specs.Account.{account_of, accounting}
-use Rattle.coercion_norm.specs.Modes.{TypeCast, piling}
-use Rattle.coercion_norm.specs.ValueSteps.{CastFrame, ProjFrame, PrimFrame, EnterFrame, OwnFrame, Own, Return, Entering}
-use Rattle.coercion_norm.specs.ValueSteps.{On, BlameOf, TrapOf, NoNext}
-use Rattle.coercion_norm.specs.AnswerTypes.{Told}
+use Rattle.cast_modes.specs.Modes.{TypeCast, piling}
+use Rattle.cast_modes.specs.ValueSteps.{CastFrame, ProjFrame, PrimFrame, EnterFrame, OwnFrame, Own, Return, Entering}
+use Rattle.cast_modes.specs.ValueSteps.{On, BlameOf, TrapOf, NoNext}
+use Rattle.cast_modes.specs.AnswerTypes.{Told}
 use Rattle.coer_core.specs.Terms.{RowTerm, core_of, RowInt, RowBool, RowUnit, RowVar, RowLambda, RowGroup, RowLet}
 use Rattle.coer_core.specs.Terms.{RowCall, RowIf, RowSeq, RowCast, RowProj, RowProjDyn, RowTuple, RowPrim, NoRowTerms}
 use Rattle.coer_core.specs.Terms.{RowTermThen}

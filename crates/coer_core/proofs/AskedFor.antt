@@ -7,10 +7,10 @@ use Rattle.grift_base.specs.declared.operators.PrimOp.{PrimOp}
 use Rattle.grift_base.specs.declared.operators.PrimOp.TheVariants.{MakeBox, MakeVector}
 use Rattle.core_calc.specs.Account.{Measures}
 use Rattle.coercion_norm.specs.Coercions.{Coercion}
-use Rattle.coercion_norm.specs.Modes.{Mode, Shape, Decision, Wrapping, Rewrapping, Injecting}
-use Rattle.coercion_norm.specs.RunValues.{RunInt, shape_of}
-use Rattle.coercion_norm.specs.ValueSteps.{CastFrame, PrimFrame, OwnFrame, Own, Return, onto}
-use Rattle.coercion_norm.specs.ValueSteps.{decision_words, operator_words}
+use Rattle.cast_modes.specs.Modes.{Mode, Shape, Decision, Wrapping, Rewrapping, Injecting}
+use Rattle.cast_modes.specs.RunValues.{RunInt, shape_of}
+use Rattle.cast_modes.specs.ValueSteps.{CastFrame, PrimFrame, OwnFrame, Own, Return, onto}
+use Rattle.cast_modes.specs.ValueSteps.{decision_words, operator_words}
 use Rattle.coer_core.specs.Terms.{RowTerm, RowLambda, RowGroup, NoRowTerms}
 use Rattle.coer_core.specs.Machine.{code_arity, CoerValue, CoerFocus, CoerFrame, Eval, Tupling, Operating}
 use Rattle.coer_core.specs.Machine.{GatherFrame}

@@ -11,9 +11,9 @@ use Rattle.grift_base.specs.declared.verdicts.Verdict.{Verdict}
 use Rattle.core_calc.specs.Redex.{where_some}
 use Rattle.core_calc.specs.Account.{Measures}
 use Rattle.core_calc.specs.Calculus.{Blamed, ending_of}
-use Rattle.coercion_norm.specs.Modes.{Decision, Wrapping, Mode}
-use Rattle.coercion_norm.specs.RunValues.{shape_of}
-use Rattle.coercion_norm.specs.ValueSteps.{CastFrame, Return, casts_onto}
+use Rattle.cast_modes.specs.Modes.{Decision, Wrapping, Mode}
+use Rattle.cast_modes.specs.RunValues.{shape_of}
+use Rattle.cast_modes.specs.ValueSteps.{CastFrame, Return, casts_onto}
 use Rattle.coer_core.specs.Machine.{code_arity, CoerValue, CoerStore, CoerFrame, RunState, state_at, ending_at, running}
 use Rattle.coer_core.specs.Results.{Result, Got, BlamedBy, NoResult, Unfinished, pile, SameResult, IsFine}
 use Rattle.coer_core.specs.Tally.{kind_asks, decision_kind}

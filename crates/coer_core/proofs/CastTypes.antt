@@ -22,7 +22,7 @@ use Rattle.core_calc.specs.Typing.{AreWritten}
 use Rattle.core_calc.specs.Typing.{AreWrittenMembers, AreWrittenBindings}
 use Rattle.coercion_norm.specs.declared.casts.Cast.{Cast as RustCast}
 use Rattle.coercion_norm.specs.CoercionTables.{IsCast}
-use Rattle.coercion_norm.specs.Modes.{TypeCast, type_cast}
+use Rattle.cast_modes.specs.Modes.{TypeCast, type_cast}
 use Rattle.coer_core.specs.Conversion.{casts_in, casts_in_all, casts_in_members, casts_in_bindings, same_cast}
 use Rattle.coer_core.specs.Conversion.{with_cast}
 use Rattle.coer_core.specs.Conversion.{with_casts, cast_views}

@@ -14,7 +14,7 @@ use Rattle.core_calc.specs.Terms.{Term, Terms, Members, Bindings, IntLit, BoolLi
 use Rattle.core_calc.specs.Terms.{Call, Enter, If, Seq, Cast, Proj, ProjDyn, Tuple, Prim, ValueTerm, NoTerms, TermThen}
 use Rattle.core_calc.specs.Terms.{NoMembers, MemberThen, NoBindings, BindingThen}
 use Rattle.core_calc.specs.Typing.{IsWritten, AreWritten, AreWrittenMembers, AreWrittenBindings}
-use Rattle.coercion_norm.specs.Modes.{TypeCast, type_cast}
+use Rattle.cast_modes.specs.Modes.{TypeCast, type_cast}
 use Rattle.coer_core.specs.Terms.{cast_by, core_of, core_terms, core_members, core_bindings}
 use Rattle.coer_core.specs.Conversion.{casts_in, casts_in_all, casts_in_members, casts_in_bindings, same_cast}
 use Rattle.coer_core.specs.Conversion.{number_of, with_cast, with_casts, converted, converted_all, converted_members}

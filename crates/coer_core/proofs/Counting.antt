@@ -1,6 +1,6 @@
 -- A counted run is the run itself, with what was counted beside it.
 use Rattle.std.proofs.Common.{◌≡◌, inl, inr, ⊎_elim, ℕ, zero, suc, Option, Some, None, refl, sym, ap, ◌∙◌}
-use Rattle.std.proofs.Common.{subst}
+use Rattle.std.proofs.Common.{length, subst}
 use Rattle.run_laws.specs.Runs.{Ending, Moment, Run, IsPrefix, EndsAs, HasVerdictOf, Backed}
 use Rattle.run_laws.specs.Runs.{Reached}
 use Rattle.run_laws.specs.Runs.{Follows, FollowsBy, Any}
@@ -8,10 +8,12 @@ use Rattle.run_laws.specs.Reductions.{Reduction, unless_ended, state_after, mome
 use Rattle.run_laws.specs.Meters.{Metered, metered_reduction, SpendSame}
 use Rattle.grift_base.specs.declared.verdicts.Verdict.{Verdict}
 use Rattle.core_calc.specs.Calculus.{CalcState}
-use Rattle.coercion_norm.specs.Modes.{Mode}
-use Rattle.coercion_norm.specs.AnswerTypes.{Told}
+use Rattle.cast_modes.specs.Modes.{Mode}
+use Rattle.cast_modes.specs.AnswerTypes.{Told}
+use Rattle.cast_modes.specs.Counting.{Counted}
+use Rattle.cast_modes.proofs.Public.{counting_changes_no_state}
 use Rattle.coer_core.specs.Machine.{RunState, running}
-use Rattle.coer_core.specs.Counts.{wraps_of_turn, Counted, counting, SameWraps}
+use Rattle.coer_core.specs.Counts.{words_of_turn, wraps_of_turn, counting, SameWraps}
 
 -- two runs have the same output and the same ending after each number of steps
 abbrev pub SameMoments : {A B V : Type 0} → Run A V → Run B V → Type 0
@@ -55,15 +57,15 @@ module _ {C : Type 0} (mode : Mode C) (told : Told) where
   wrapping = metered_reduction (wraps_of_turn mode) (running mode told)
 
   -- the wrap steps alone
-  abbrev wraps_only : Counted C → Metered (RunState C)
+  abbrev wraps_only : Counted (RunState C) → Metered (RunState C)
   wraps_only s = record { spent = s.wraps; rest = s.state }
 
-  same_step : (o : Option (Ending Verdict)) (s : Counted C)
+  same_step : (o : Option (Ending Verdict)) (s : Counted (RunState C))
       → wraps_only (unless_ended o (counting mode told).step s) ≡ unless_ended o wrapping.step (wraps_only s)
   same_step (Some e) s = refl
   same_step None s = refl
 
-  pub counted_after : (n : ℕ) (s : Counted C)
+  pub counted_after : (n : ℕ) (s : Counted (RunState C))
       → wraps_only (state_after (counting mode told) s n) ≡ state_after wrapping (wraps_only s) n
   counted_after zero s = refl
   counted_after (suc n) s =
@@ -71,39 +73,28 @@ module _ {C : Type 0} (mode : Mode C) (told : Told) where
       counted_after n (unless_ended o (counting mode told).step s)
       ∙ ap (λ t. state_after wrapping t n) (same_step o s)
 
-  same_plain : (o : Option (Ending Verdict)) (s : Counted C)
-      → (unless_ended o (counting mode told).step s).state ≡ unless_ended o (running mode told).step s.state
-  same_plain (Some e) s = refl
-  same_plain None s = refl
-
-  pub state_counted : (n : ℕ) (s : Counted C)
-      → (state_after (counting mode told) s n).state ≡ state_after (running mode told) s.state n
-  state_counted zero s = refl
-  state_counted (suc n) s =
-      let o : Option (Ending Verdict) = (running mode told).ending s.state in
-      state_counted n (unless_ended o (counting mode told).step s)
-      ∙ ap (λ t. state_after (running mode told) t n) (same_plain o s)
-
-  pub counted_moments : (s : Counted C)
+  pub counted_moments : (s : Counted (RunState C))
       → SameMoments (reduction_run (counting mode told) s) (reduction_run (running mode told) s.state)
   counted_moments s n =
-      let e = state_counted n s in (
+      let e =
+      counting_changes_no_state (running mode told) (words_of_turn mode) (wraps_of_turn mode)
+      (λ state. length state.frames) n s in (
         ap (λ (t : RunState C). (running mode told).output t) e,
         ap (λ (t : RunState C). (running mode told).ending
             t) e,
       )
 
-  backed_counted : (s : Counted C) (y : Moment (Metered CalcState) Verdict)
+  backed_counted : (s : Counted (RunState C)) (y : Moment (Metered CalcState) Verdict)
       → Backed SpendSame (moment_at wrapping (wraps_only s)) y → Backed SameWraps (moment_at (counting mode told) s) y
   backed_counted s y b = (record { output = b.0.output; shown = b.0.shown }, b.1)
 
-  reached_counted : (s : Counted C) (y : Moment (Metered CalcState) Verdict)
+  reached_counted : (s : Counted (RunState C)) (y : Moment (Metered CalcState) Verdict)
       → Reached SpendSame (moment_at wrapping (wraps_only s)) y
       → Reached SameWraps (moment_at (counting mode told) s) y
   reached_counted s y (inl e) = inl e
   reached_counted s y (inr r) = inr (record { output = r.0.output; shown = r.0.shown }, r.1)
 
-  pub follows_counted : (Y : Run (Metered CalcState) Verdict) (s : Counted C)
+  pub follows_counted : (Y : Run (Metered CalcState) Verdict) (s : Counted (RunState C))
       → FollowsBy SpendSame Any (reduction_run wrapping (wraps_only s)) Y
       → FollowsBy SameWraps Any (reduction_run (counting mode told) s) Y
   follows_counted Y s f = record {

@@ -17,7 +17,7 @@ use Rattle.core_calc.specs.Terms.{Term, Terms, IntLit, BoolLit, Var, Lambda, Gro
 use Rattle.core_calc.specs.Terms.{ProjDyn, Tuple, Prim, NoTerms, TermThen, NoMembers, MemberThen, NoBindings}
 use Rattle.core_calc.specs.Terms.{BindingThen, terms_from}
 use Rattle.core_calc.specs.Calculus.{answer, Program, calc}
-use Rattle.coercion_norm.specs.Modes.{piling}
+use Rattle.cast_modes.specs.Modes.{piling}
 use Rattle.coercion_norm.specs.MergedMode.{merging}
 use Rattle.coer_core.specs.Conversion.{converted}
 use Rattle.coer_core.specs.Counts.{run_in, told_of, calc_with_wraps}

@@ -17,10 +17,10 @@ use Rattle.core_calc.specs.Account.{StepKind, kind_at, kind_of_step}
 use Rattle.core_calc.specs.Calculus.{shown_value, CalcEnd, Answered, Blamed, Trapped, NoStep, CalcState, start}
 use Rattle.core_calc.specs.Calculus.{state_of, state_after_step, ending_of, calculus}
 use Rattle.core_calc.proofs.Public.{nothing_put_in}
-use Rattle.coercion_norm.specs.Modes.{TypeCast, piling}
-use Rattle.coercion_norm.specs.RunValues.{shown}
-use Rattle.coercion_norm.specs.ValueSteps.{CastFrame, Own, Return, Entering, On, BlameOf, TrapOf, NoNext}
-use Rattle.coercion_norm.specs.AnswerTypes.{Told, fits_type}
+use Rattle.cast_modes.specs.Modes.{TypeCast, piling}
+use Rattle.cast_modes.specs.RunValues.{shown}
+use Rattle.cast_modes.specs.ValueSteps.{CastFrame, Own, Return, Entering, On, BlameOf, TrapOf, NoNext}
+use Rattle.cast_modes.specs.AnswerTypes.{Told, fits_type}
 use Rattle.coer_core.specs.Terms.{RowTerm, core_of}
 use Rattle.coer_core.specs.Counts.{wraps_of_turn, wraps_of_step, kind_wraps}
 use Rattle.coer_core.specs.Machine.{code_arity, Eval, turn, ended_at, ending_at, state_at, after_turn, running}

@@ -18,7 +18,8 @@ use Rattle.coercion_norm.specs.CoercionTables.{cast_of}
 use Rattle.coercion_norm.specs.Nodes.{Node, PartsBefore, Grows, IsTree}
 use Rattle.coercion_norm.proofs.Public.{IsTree-kept}
 use Rattle.coer_core.specs.Programs.{HaveCoercions, cast_height, tallest_of}
-use Rattle.coercion_norm.specs.Modes.{TypeCast, row_cast, row_casts}
+use Rattle.cast_modes.specs.Modes.{TypeCast}
+use Rattle.coercion_norm.specs.CastRows.{row_cast, row_casts}
 use Rattle.coer_core.specs.Conversion.{cast_view, cast_views}
 use Rattle.coer_core.proofs.Joining.{ap2, ap3}
 

@@ -10,9 +10,9 @@ use Rattle.grift_base.specs.declared.verdicts.Verdict.{Verdict}
 use Rattle.core_calc.specs.Redex.{where_some}
 use Rattle.core_calc.specs.Account.{Measures}
 use Rattle.core_calc.specs.Calculus.{CalcEnd, Blamed, Trapped, ending_of}
-use Rattle.coercion_norm.specs.Modes.{Mode}
-use Rattle.coercion_norm.specs.ValueSteps.{CastFrame, Return, On, BlameOf, TrapOf, NoNext}
-use Rattle.coercion_norm.specs.AnswerTypes.{Told}
+use Rattle.cast_modes.specs.Modes.{Mode}
+use Rattle.cast_modes.specs.ValueSteps.{CastFrame, Return, On, BlameOf, TrapOf, NoNext}
+use Rattle.cast_modes.specs.AnswerTypes.{Told}
 use Rattle.coer_core.specs.Machine.{CoerStore, CoerFocus, CoerFrame, CoerAfter, turn, RunState, ended_at}
 use Rattle.coer_core.specs.Machine.{state_at, after_turn, ending_at, running}
 use Rattle.coer_core.specs.Tally.{turn_kind, kind_asks, kind_acts, kind_budget, function_words, made_words}

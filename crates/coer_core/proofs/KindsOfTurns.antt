@@ -2,11 +2,11 @@
 use Rattle.std.proofs.Common.{◌≡◌, List, [], ◌∷◌, refl, sym, pos, negsuc}
 use Rattle.grift_base.specs.declared.operators.PrimOp.{PrimOp}
 use Rattle.grift_base.specs.declared.operators.PrimOp.TheVariants.{MakeVector}
-use Rattle.coercion_norm.specs.Modes.{Decision, Keeping, Wrapping, Rewrapping, Unwrapping, Injecting, Opening, Making}
-use Rattle.coercion_norm.specs.Modes.{Blaming, NoCast, Mode}
-use Rattle.coercion_norm.specs.RunValues.{RunInt, RunWrap, shape_of}
-use Rattle.coercion_norm.specs.ValueSteps.{CastFrame, ProjFrame, PrimFrame, EnterFrame, OwnFrame, Own, Return, Entering}
-use Rattle.coercion_norm.specs.ValueSteps.{decision_wraps, onto}
+use Rattle.cast_modes.specs.Modes.{Decision, Keeping, Wrapping, Rewrapping, Unwrapping, Injecting, Opening, Making}
+use Rattle.cast_modes.specs.Modes.{Blaming, NoCast, Mode}
+use Rattle.cast_modes.specs.RunValues.{RunInt, RunWrap, shape_of}
+use Rattle.cast_modes.specs.ValueSteps.{CastFrame, ProjFrame, PrimFrame, EnterFrame, OwnFrame, Own, Return, Entering}
+use Rattle.cast_modes.specs.ValueSteps.{decision_wraps, onto}
 use Rattle.coer_core.specs.Terms.{RowTerm, RowTerms, RowBindings, RowLet, RowSeq, RowTuple, RowPrim}
 use Rattle.coer_core.specs.Terms.{NoRowTerms, RowTermThen, NoRowBindings, RowBindingThen}
 use Rattle.coer_core.specs.Machine.{code_arity, CoerValue, CoerPending, CoerFocus, CoerFrame, Job, Eval, Calling}

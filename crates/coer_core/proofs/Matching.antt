@@ -14,13 +14,13 @@ use Rattle.core_calc.specs.Outcome.{Outcome, Goes, Blames, Traps, Stuck, if_some
 use Rattle.core_calc.specs.Casts.{with_rows, with_part_of_both, cast_out, cast_step}
 use Rattle.core_calc.specs.Calls.{cast_arguments, enter_wrapped, enter_body, enter_member, value_at, proj_step}
 use Rattle.core_calc.specs.Calls.{proj_to_dyn, proj_dyn_step}
-use Rattle.coercion_norm.specs.Modes.{Decision, Keeping, Wrapping, Blaming, and_some, or_none, TypeCast, type_cast}
-use Rattle.coercion_norm.specs.Modes.{opening, fits, casts_between, function_casts, of_both, of_parts, cast_to_dyn}
-use Rattle.coercion_norm.specs.Modes.{part_to_dyn, kept_part, piling}
-use Rattle.coercion_norm.specs.RunValues.{RunFun, RunTuple, RunWrap, RunInject, in_row, row_list, shape_of}
-use Rattle.coercion_norm.specs.ValueSteps.{CastFrame, ProjFrame, Own, Return, Entering, On, BlameOf, TrapOf, NoNext}
-use Rattle.coercion_norm.specs.ValueSteps.{on_some, element_at, pendings_onto, cast_all, make, run_cast, apply}
-use Rattle.coercion_norm.specs.ValueSteps.{run_enter_wrapped, run_proj, blame_or_proj, run_proj_dyn}
+use Rattle.cast_modes.specs.Modes.{Decision, Keeping, Wrapping, Blaming, and_some, or_none, TypeCast, type_cast}
+use Rattle.cast_modes.specs.Modes.{opening, fits, casts_between, function_casts, of_both, of_parts, cast_to_dyn}
+use Rattle.cast_modes.specs.Modes.{part_to_dyn, kept_part, piling}
+use Rattle.cast_modes.specs.RunValues.{RunFun, RunTuple, RunWrap, RunInject, in_row, row_list, shape_of}
+use Rattle.cast_modes.specs.ValueSteps.{CastFrame, ProjFrame, Own, Return, Entering, On, BlameOf, TrapOf, NoNext}
+use Rattle.cast_modes.specs.ValueSteps.{on_some, element_at, pendings_onto, cast_all, make, run_cast, apply}
+use Rattle.cast_modes.specs.ValueSteps.{run_enter_wrapped, run_proj, blame_or_proj, run_proj_dyn}
 use Rattle.coer_core.specs.Terms.{RowTerm, RowMembers, NoRowMembers, RowMemberThen, core_of, core_members}
 use Rattle.coer_core.specs.Machine.{Code, LambdaCode, MemberCode, code_arity, env_names, env_values, paired}
 use Rattle.coer_core.specs.Machine.{captured_env, members_in, group_env, Evaluation, Eval, entered_body, entered_member}

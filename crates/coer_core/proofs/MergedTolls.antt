@@ -9,10 +9,10 @@ use Rattle.coercion_norm.specs.declared.middles.MiddleKind.{MiddleKind as Kind}
 use Rattle.coercion_norm.specs.Coercions.{Coercion, Coercions, Id, Fail, Middle, Inject, Project, rows_of}
 use Rattle.coercion_norm.specs.CoercionTables.{cast_of, composition_of}
 use Rattle.coercion_norm.specs.Normal.{IsNormal, is_project}
-use Rattle.coercion_norm.specs.Modes.{Shape, Bare, Wrapped, Injected, Decision, Keeping, Wrapping, Rewrapping}
-use Rattle.coercion_norm.specs.Modes.{Unwrapping, Injecting, Opening, Making, NoCast, Mode, TypeCast}
+use Rattle.cast_modes.specs.Modes.{Shape, Bare, Wrapped, Injected, Decision, Keeping, Wrapping, Rewrapping}
+use Rattle.cast_modes.specs.Modes.{Unwrapping, Injecting, Opening, Making, NoCast, Mode, TypeCast}
 use Rattle.coercion_norm.specs.MergedMode.{width, middle_head, shape_has_head, rewrapped, proxied, merging}
-use Rattle.coercion_norm.specs.RunValues.{RunWrap, RunInject, shape_of}
+use Rattle.cast_modes.specs.RunValues.{RunWrap, RunInject, shape_of}
 use Rattle.coer_core.specs.Machine.{code_arity, CoerValue}
 use Rattle.coer_core.specs.MergedTally.{Effort, Splits, effort, half_charge, effort_asks, effort_acts}
 use Rattle.coer_core.specs.MergedTally.{effort_budget}

@@ -12,19 +12,19 @@ use Rattle.core_calc.specs.Substitution.{entry_of, without, value_or_name, subst
 use Rattle.core_calc.specs.Outcome.{Outcome, Goes, inside}
 use Rattle.core_calc.specs.Redex.{Focus, here, below, where_some, enter_focus, focus_terms, redex}
 use Rattle.core_calc.specs.Step.{step, step_terms, if_step}
-use Rattle.coercion_norm.specs.Modes.{Shape, Bare, Wrapped, Injected, Decision, Keeping, Wrapping, Injecting, Blaming}
-use Rattle.coercion_norm.specs.Modes.{and_some, or_none, TypeCast, opening, fits, decide_fitting, piling}
-use Rattle.coercion_norm.specs.RunValues.{RunBool, RunFun, RunWrap, plain, all_plain, shape_of}
-use Rattle.coercion_norm.specs.ValueSteps.{CastFrame, ProjFrame, PrimFrame, EnterFrame, OwnFrame, Own, Return, Entering}
-use Rattle.coercion_norm.specs.ValueSteps.{On, on_some, onto, pendings_onto, casts_onto, next_argument, enter_plain}
-use Rattle.coercion_norm.specs.ValueSteps.{enter}
+use Rattle.cast_modes.specs.Modes.{Shape, Bare, Wrapped, Injected, Decision, Keeping, Wrapping, Injecting, Blaming}
+use Rattle.cast_modes.specs.Modes.{and_some, or_none, TypeCast, opening, fits, decide_fitting, piling}
+use Rattle.cast_modes.specs.RunValues.{RunBool, RunFun, RunWrap, plain, all_plain, shape_of}
+use Rattle.cast_modes.specs.ValueSteps.{CastFrame, ProjFrame, PrimFrame, EnterFrame, OwnFrame, Own, Return, Entering}
+use Rattle.cast_modes.specs.ValueSteps.{On, on_some, onto, pendings_onto, casts_onto, next_argument, enter_plain}
+use Rattle.cast_modes.specs.ValueSteps.{enter}
 use Rattle.grift_base.specs.declared.operators.PrimOp.{PrimOp}
 use Rattle.grift_base.specs.declared.operators.PrimOp.TheVariants.{Add, Sub, Mul, Quot, Rem, Lt, Le, Eq, Ge, Gt, Not}
 use Rattle.grift_base.specs.declared.operators.PrimOp.TheVariants.{PrintInt, Newline, ReadInt, MakeBox, Unbox, BoxSet}
 use Rattle.grift_base.specs.declared.operators.PrimOp.TheVariants.{VectorRef, VectorSet, VectorLength, MakeVector}
 use Rattle.core_calc.specs.Account.{prim_kind, vector_kind}
 use Rattle.coer_core.specs.Tally.{made_vector}
-use Rattle.coercion_norm.specs.RunValues.{RunInt, RunUnit, RunTuple, RunLoc, RunInject}
+use Rattle.cast_modes.specs.RunValues.{RunInt, RunUnit, RunTuple, RunLoc, RunInject}
 use Rattle.std.proofs.Common.{pos, negsuc}
 use Rattle.coer_core.specs.Terms.{RowTerm, RowInt, RowBool, RowUnit, RowVar, RowLambda, RowGroup, RowLet, RowCall}
 use Rattle.coer_core.specs.Terms.{RowIf, RowSeq, RowCast, RowProj, RowProjDyn, RowTuple, RowPrim, RowTerms, NoRowTerms}

@@ -9,11 +9,12 @@ use Rattle.grift_base.specs.declared.places.Pos.{Pos}
 use Rattle.core_calc.specs.Calculus.{Program, calculus, calc, start}
 use Rattle.core_calc.specs.Typing.{ProgramTermHasType, Stands}
 use Rattle.core_calc.proofs.Public.{typed_programs_never_go_wrong-typed, typed_programs_never_go_wrong-never_wrong}
-use Rattle.coercion_norm.specs.Modes.{TypeCast, piling}
-use Rattle.coercion_norm.specs.AnswerTypes.{Told}
+use Rattle.cast_modes.specs.Modes.{TypeCast, piling}
+use Rattle.cast_modes.specs.AnswerTypes.{Told}
+use Rattle.cast_modes.specs.Counting.{uncounted}
 use Rattle.coer_core.specs.Terms.{RowTerm, core_of}
 use Rattle.coer_core.specs.Machine.{run_start}
-use Rattle.coer_core.specs.Counts.{run_in, told_of, calc_with_wraps, uncounted, wraps_of_step, SameWraps}
+use Rattle.coer_core.specs.Counts.{run_in, told_of, calc_with_wraps, wraps_of_step, SameWraps}
 use Rattle.coer_core.proofs.Counting.{SameMoments, follows_counted, followed_as}
 use Rattle.coer_core.proofs.Following.{piled_follows}
 use Rattle.coer_core.proofs.Typed.{typing_keeps}

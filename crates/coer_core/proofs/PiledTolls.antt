@@ -8,9 +8,9 @@ use Rattle.grift_base.specs.Types.{TypeRow, TypeRows, row_at, is_dyn, is_base, s
 use Rattle.core_calc.specs.Account.{Measures, StepKind, Wraps, Casts, rows_kind}
 use Rattle.coercion_norm.specs.Coercions.{rows_of}
 use Rattle.coercion_norm.specs.Paths.{Steps, Stop, Edge, last_type, in_front, solid, first_clash}
-use Rattle.coercion_norm.specs.Modes.{Injected, Decision, Keeping, Wrapping, Injecting, Opening, Blaming}
-use Rattle.coercion_norm.specs.Modes.{Mode, TypeCast, type_cast, decide, opening, piling}
-use Rattle.coercion_norm.specs.RunValues.{RunWrap, RunInject, shape_of}
+use Rattle.cast_modes.specs.Modes.{Injected, Decision, Keeping, Wrapping, Injecting, Opening, Blaming}
+use Rattle.cast_modes.specs.Modes.{Mode, TypeCast, type_cast, decide, opening, piling}
+use Rattle.cast_modes.specs.RunValues.{RunWrap, RunInject, shape_of}
 use Rattle.coercion_norm.proofs.Public.{row_is, no_both}
 use Rattle.coer_core.specs.Machine.{code_arity, CoerValue}
 use Rattle.coer_core.specs.Results.{go_on, pile, IsFine}

@@ -11,9 +11,9 @@ use Rattle.core_calc.specs.Calls.{enter_body, enter_member, enter_step}
 use Rattle.core_calc.specs.Redex.{Focus, here, below, along, where_some, enter_focus, focus, focus_terms}
 use Rattle.core_calc.specs.Redex.{focus_bindings, redex}
 use Rattle.core_calc.specs.Step.{step, step_terms, step_bindings}
-use Rattle.coercion_norm.specs.Modes.{TypeCast}
-use Rattle.coercion_norm.specs.RunValues.{RunFun, RunWrap}
-use Rattle.coercion_norm.specs.ValueSteps.{CastFrame, ProjFrame, PrimFrame, EnterFrame, OwnFrame, onto}
+use Rattle.cast_modes.specs.Modes.{TypeCast}
+use Rattle.cast_modes.specs.RunValues.{RunFun, RunWrap}
+use Rattle.cast_modes.specs.ValueSteps.{CastFrame, ProjFrame, PrimFrame, EnterFrame, OwnFrame, onto}
 use Rattle.coer_core.specs.Terms.{core_bindings}
 use Rattle.coer_core.specs.Machine.{LambdaCode, MemberCode, env_names, Calling, Tupling, Operating, IfFrame, SeqFrame}
 use Rattle.coer_core.specs.Machine.{FunFrame, ProjDynFrame, GatherFrame, LetFrame}

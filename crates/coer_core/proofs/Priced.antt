@@ -10,9 +10,9 @@ use Rattle.run_laws.proofs.Public.{Along, goes_within_after, goes_within_later}
 use Rattle.grift_base.specs.declared.verdicts.Verdict.{Verdict}
 use Rattle.core_calc.specs.Redex.{where_some}
 use Rattle.core_calc.specs.Account.{Measures}
-use Rattle.coercion_norm.specs.Modes.{Mode}
-use Rattle.coercion_norm.specs.ValueSteps.{CastFrame, Return}
-use Rattle.coercion_norm.specs.AnswerTypes.{Told}
+use Rattle.cast_modes.specs.Modes.{Mode}
+use Rattle.cast_modes.specs.ValueSteps.{CastFrame, Return}
+use Rattle.cast_modes.specs.AnswerTypes.{Told}
 use Rattle.coer_core.specs.Machine.{CoerValue, CoerFrame, RunState, running}
 use Rattle.coer_core.specs.Tolls.{Toll, no_toll, one_toll, both_tolls, Price, kind_price}
 

@@ -6,8 +6,8 @@ use Rattle.run_laws.specs.Accounts.{FollowsWithin}
 use Rattle.run_laws.specs.Reductions.{Reduction, unless_ended, state_after, reduction_run}
 use Rattle.run_laws.proofs.Public.{follows_of}
 use Rattle.grift_base.specs.declared.verdicts.Verdict.{Verdict}
-use Rattle.coercion_norm.specs.Modes.{Mode}
-use Rattle.coercion_norm.specs.AnswerTypes.{Told}
+use Rattle.cast_modes.specs.Modes.{Mode}
+use Rattle.cast_modes.specs.AnswerTypes.{Told}
 use Rattle.coer_core.specs.Machine.{RunState, running}
 use Rattle.coer_core.specs.Tally.{Tally, Tallied}
 use Rattle.coer_core.specs.MergedTally.{NoMoreStorage, NoMoreSpent}

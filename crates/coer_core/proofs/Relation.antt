@@ -3,9 +3,9 @@ use Rattle.std.proofs.Common.{◌≡◌, ℕ, suc, ◌+◌, List, [], ◌∷◌,
 use Rattle.core_calc.specs.Terms.{Term, Terms, Bindings, Let, Call, Enter, If, Seq, Cast, Proj, ProjDyn, Tuple, Prim}
 use Rattle.core_calc.specs.Terms.{NoTerms, TermThen, NoBindings, BindingThen, as_value, binding_names}
 use Rattle.core_calc.specs.Substitution.{without, substitute, substitute_terms, substitute_bindings}
-use Rattle.coercion_norm.specs.Modes.{TypeCast}
-use Rattle.coercion_norm.specs.RunValues.{RunWrap}
-use Rattle.coercion_norm.specs.ValueSteps.{CastFrame, ProjFrame, PrimFrame, EnterFrame, OwnFrame, Own, Return, Entering}
+use Rattle.cast_modes.specs.Modes.{TypeCast}
+use Rattle.cast_modes.specs.RunValues.{RunWrap}
+use Rattle.cast_modes.specs.ValueSteps.{CastFrame, ProjFrame, PrimFrame, EnterFrame, OwnFrame, Own, Return, Entering}
 use Rattle.coer_core.specs.Terms.{RowTerm, RowInt, RowBool, RowUnit, RowVar, RowLambda, RowGroup, RowLet, RowCall}
 use Rattle.coer_core.specs.Terms.{RowIf, RowSeq, RowCast, RowProj, RowProjDyn, RowTuple, RowPrim, RowTerms, NoRowTerms}
 use Rattle.coer_core.specs.Terms.{RowTermThen, RowBindings, NoRowBindings, RowBindingThen, core_of, core_terms}

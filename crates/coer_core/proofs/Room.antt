@@ -12,19 +12,19 @@ use Rattle.grift_base.specs.declared.operators.PrimOp.TheVariants.{PrintInt, New
 use Rattle.grift_base.specs.declared.operators.PrimOp.TheVariants.{MakeVector, VectorRef, VectorSet, VectorLength}
 use Rattle.core_calc.specs.Terms.{both_in_front}
 use Rattle.core_calc.specs.Substitution.{entry_of, bind}
-use Rattle.coercion_norm.specs.Modes.{Mode, Decision, Keeping, Wrapping, Rewrapping, Unwrapping, Injecting, Opening}
-use Rattle.coercion_norm.specs.Modes.{Making, Blaming, NoCast, DynPart, PartCast, NoPart, NoType}
-use Rattle.coercion_norm.specs.RunValues.{RunInt, RunBool, RunUnit, RunFun, RunTuple, RunLoc, RunWrap, RunInject}
-use Rattle.coercion_norm.specs.RunValues.{NoRunValues, RunValueThen, in_row, row_list, all_plain, plain, shape_of}
-use Rattle.coercion_norm.specs.RunValues.{run_cell_behind}
-use Rattle.coercion_norm.specs.ValueSteps.{CastFrame, ProjFrame, PrimFrame, EnterFrame, OwnFrame, Own, Return, Entering}
-use Rattle.coercion_norm.specs.ValueSteps.{On, BlameOf, TrapOf, NoNext, on_some, element_at, onto, pendings_onto}
-use Rattle.coercion_norm.specs.ValueSteps.{casts_onto, cast_all, make, apply, next_argument}
-use Rattle.coercion_norm.specs.ValueSteps.{enter_plain, enter, run_proj, blame_or_proj, run_proj_dyn, run_on_int}
-use Rattle.coercion_norm.specs.ValueSteps.{run_on_ints, run_on_bool, element_or_trap, run_with_element, operate}
-use Rattle.coercion_norm.specs.ValueSteps.{run_make_box, run_unbox_cell, run_unbox, run_box_set, run_make_vector}
-use Rattle.coercion_norm.specs.ValueSteps.{run_vector_ref, run_vector_set, run_vector_length, run_newline, run_reads}
-use Rattle.coercion_norm.specs.ValueSteps.{run_read}
+use Rattle.cast_modes.specs.Modes.{Mode, Decision, Keeping, Wrapping, Rewrapping, Unwrapping, Injecting, Opening}
+use Rattle.cast_modes.specs.Modes.{Making, Blaming, NoCast, DynPart, PartCast, NoPart, NoType}
+use Rattle.cast_modes.specs.RunValues.{RunInt, RunBool, RunUnit, RunFun, RunTuple, RunLoc, RunWrap, RunInject}
+use Rattle.cast_modes.specs.RunValues.{NoRunValues, RunValueThen, in_row, row_list, all_plain, plain, shape_of}
+use Rattle.cast_modes.specs.RunValues.{run_cell_behind}
+use Rattle.cast_modes.specs.ValueSteps.{CastFrame, ProjFrame, PrimFrame, EnterFrame, OwnFrame, Own, Return, Entering}
+use Rattle.cast_modes.specs.ValueSteps.{On, BlameOf, TrapOf, NoNext, on_some, element_at, onto, pendings_onto}
+use Rattle.cast_modes.specs.ValueSteps.{casts_onto, cast_all, make, apply, next_argument}
+use Rattle.cast_modes.specs.ValueSteps.{enter_plain, enter, run_proj, blame_or_proj, run_proj_dyn, run_on_int}
+use Rattle.cast_modes.specs.ValueSteps.{run_on_ints, run_on_bool, element_or_trap, run_with_element, operate}
+use Rattle.cast_modes.specs.ValueSteps.{run_make_box, run_unbox_cell, run_unbox, run_box_set, run_make_vector}
+use Rattle.cast_modes.specs.ValueSteps.{run_vector_ref, run_vector_set, run_vector_length, run_newline, run_reads}
+use Rattle.cast_modes.specs.ValueSteps.{run_read}
 use Rattle.coer_core.specs.Terms.{RowTerm, RowTerms, RowMembers, RowBindings, RowInt, RowBool, RowUnit, RowVar}
 use Rattle.coer_core.specs.Terms.{RowLambda, RowGroup, RowLet, RowCall, RowIf, RowSeq, RowCast, RowProj, RowProjDyn}
 use Rattle.coer_core.specs.Terms.{RowTuple, RowPrim, NoRowTerms, RowTermThen, NoRowMembers, RowMemberThen}

@@ -3,9 +3,9 @@ use Rattle.std.proofs.Common.{◌≡◌, pos, negsuc, List, [], ◌∷◌, Some,
 use Rattle.grift_base.specs.World.{WorldState}
 use Rattle.grift_base.specs.declared.operators.PrimOp.{PrimOp}
 use Rattle.grift_base.specs.declared.operators.PrimOp.TheVariants.{Mul, Quot, Rem, MakeBox, MakeVector}
-use Rattle.coercion_norm.specs.Modes.{Mode}
-use Rattle.coercion_norm.specs.RunValues.{RunInt, RunBool, RunUnit, RunFun, RunTuple, RunLoc, RunWrap, RunInject}
-use Rattle.coercion_norm.specs.ValueSteps.{operate}
+use Rattle.cast_modes.specs.Modes.{Mode}
+use Rattle.cast_modes.specs.RunValues.{RunInt, RunBool, RunUnit, RunFun, RunTuple, RunLoc, RunWrap, RunInject}
+use Rattle.cast_modes.specs.ValueSteps.{operate}
 use Rattle.coer_core.specs.Terms.{RowTerm, RowTerms, RowInt, RowBool, RowUnit, RowVar, RowLambda, RowGroup, RowLet}
 use Rattle.coer_core.specs.Terms.{RowCall, RowIf, RowSeq, RowCast, RowProj, RowProjDyn, RowTuple, RowPrim}
 use Rattle.coer_core.specs.Terms.{NoRowTerms, RowTermThen}

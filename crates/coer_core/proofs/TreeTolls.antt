@@ -15,9 +15,9 @@ use Rattle.coercion_norm.specs.CoercionTables.{cast_of, composition_of}
 use Rattle.coercion_norm.specs.Paths.{Steps, Stop, Edge, last_type, solid, first_clash}
 use Rattle.coercion_norm.specs.StandsFor.{MiddleIf, FinalIf, WholeIf, MiddleAgrees, AgreesTo, StandsFor}
 use Rattle.coercion_norm.specs.Normal.{IsNormal, is_flat, is_project}
-use Rattle.coercion_norm.specs.Modes.{Mode, TypeCast, piling}
+use Rattle.cast_modes.specs.Modes.{Mode, TypeCast, piling}
 use Rattle.coercion_norm.specs.MergedMode.{merging}
-use Rattle.coercion_norm.specs.RunValues.{RunInject}
+use Rattle.cast_modes.specs.RunValues.{RunInject}
 use Rattle.coercion_norm.proofs.Public.{row_is, heads_exact}
 use Rattle.coer_core.specs.Machine.{CoerValue}
 use Rattle.coer_core.specs.Results.{pile, IsFine}

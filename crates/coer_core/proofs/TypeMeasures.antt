@@ -7,7 +7,7 @@ use Rattle.type_graph.specs.TypeTables.{IsOrderedTable}
 use Rattle.core_calc.specs.Account.{greatest, widest}
 use Rattle.coercion_norm.specs.Coercions.{kind_of, rows_of}
 use Rattle.coercion_norm.specs.Heights.{AreHeights}
-use Rattle.coercion_norm.specs.Modes.{TypeCast}
+use Rattle.cast_modes.specs.Modes.{TypeCast}
 use Rattle.coercion_norm.specs.Widths.{NoWider}
 use Rattle.coercion_norm.proofs.Public.{coerce_no_higher, heights_of_a_table}
 use Rattle.coer_core.specs.Programs.{tallest_of}

@@ -8,7 +8,7 @@ use Rattle.grift_base.specs.Types.{TypeHead, IntHead, BoolHead, UnitHead, FunHea
 use Rattle.grift_base.specs.Types.{TypeRows, row_at, head_of, equal_heads, is_dyn}
 use Rattle.grift_base.specs.declared.places.Pos.{Pos}
 use Rattle.grift_base.specs.Types.{DynHead}
-use Rattle.coercion_norm.specs.AnswerTypes.{fits_type, row_has_head, run_head}
+use Rattle.cast_modes.specs.AnswerTypes.{fits_type, row_has_head, run_head}
 use Rattle.coercion_norm.proofs.Public.{heads_exact}
 use Rattle.coer_core.proofs.Joining.{ap2}
 use Rattle.core_calc.specs.Terms.{Term, Terms, Bindings, NoTerms, TermThen}
@@ -19,10 +19,10 @@ use Rattle.core_calc.specs.Typing.{Context, CellType, HasType, HaveTypes, Bindin
 use Rattle.core_calc.specs.Typing.{MemberHasType, ValueHasType, ValuesHaveTypes, Stands}
 use Rattle.core_calc.proofs.Public.{both_row, value_of_term, bind_length}
 use Rattle.core_calc.proofs.Public.{stands_on}
-use Rattle.coercion_norm.specs.Modes.{TypeCast, fits}
-use Rattle.coercion_norm.specs.RunValues.{RunInt, RunBool, RunUnit, RunFun, RunTuple, RunLoc, RunWrap, RunInject}
-use Rattle.coercion_norm.specs.RunValues.{NoRunValues, RunValueThen, row_list, shape_of}
-use Rattle.coercion_norm.specs.ValueSteps.{CastFrame, ProjFrame, PrimFrame, EnterFrame, OwnFrame}
+use Rattle.cast_modes.specs.Modes.{TypeCast, fits}
+use Rattle.cast_modes.specs.RunValues.{RunInt, RunBool, RunUnit, RunFun, RunTuple, RunLoc, RunWrap, RunInject}
+use Rattle.cast_modes.specs.RunValues.{NoRunValues, RunValueThen, row_list, shape_of}
+use Rattle.cast_modes.specs.ValueSteps.{CastFrame, ProjFrame, PrimFrame, EnterFrame, OwnFrame}
 use Rattle.coer_core.specs.Terms.{RowMembers, NoRowMembers, RowMemberThen, core_members, core_bindings}
 use Rattle.coer_core.specs.Machine.{LambdaCode, MemberCode, member_width, code_arity, Calling, Tupling, Operating}
 use Rattle.coer_core.specs.Machine.{IfFrame, SeqFrame, FunFrame, ProjDynFrame, GatherFrame, LetFrame}

@@ -11,9 +11,9 @@ use Rattle.core_calc.specs.Substitution.{Substitution, entry_of, without, substi
 use Rattle.core_calc.specs.Substitution.{members_from}
 use Rattle.core_calc.specs.Outcome.{Store}
 use Rattle.core_calc.specs.Calculus.{shown_value}
-use Rattle.coercion_norm.specs.Modes.{TypeCast}
-use Rattle.coercion_norm.specs.RunValues.{RunInt, RunBool, RunUnit, RunFun, RunTuple, RunLoc, RunWrap, RunInject}
-use Rattle.coercion_norm.specs.RunValues.{NoRunValues, RunValueThen, in_row, row_list, shown}
+use Rattle.cast_modes.specs.Modes.{TypeCast}
+use Rattle.cast_modes.specs.RunValues.{RunInt, RunBool, RunUnit, RunFun, RunTuple, RunLoc, RunWrap, RunInject}
+use Rattle.cast_modes.specs.RunValues.{NoRunValues, RunValueThen, in_row, row_list, shown}
 use Rattle.coer_core.specs.Terms.{RowMembers, NoRowMembers, RowMemberThen, core_of, core_members}
 use Rattle.coer_core.specs.Machine.{Code, LambdaCode, MemberCode, CoerValue, CoerValues, CoerStore, CoerPending, Env}
 use Rattle.coer_core.specs.Machine.{CoerFrame, CoerFocus, CoerAfter, Job, RunState, env_names, env_values, paired}

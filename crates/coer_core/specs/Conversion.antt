@@ -6,7 +6,7 @@ use Rattle.core_calc.specs.Terms.{Call, Enter, If, Seq, Cast as CastTerm, Proj, 
 use Rattle.core_calc.specs.Terms.{NoTerms, TermThen}
 use Rattle.core_calc.specs.Terms.{NoMembers, MemberThen, NoBindings, BindingThen}
 use Rattle.coercion_norm.specs.declared.casts.Cast.{Cast}
-use Rattle.coercion_norm.specs.Modes.{TypeCast, type_cast}
+use Rattle.cast_modes.specs.Modes.{TypeCast, type_cast}
 use Rattle.coer_core.specs.Terms.{RowTerm, RowTerms, RowMembers, RowBindings, RowInt, RowBool, RowUnit, RowVar}
 use Rattle.coer_core.specs.Terms.{RowLambda, RowGroup, RowLet, RowCall, RowIf, RowSeq, RowCast, RowProj, RowProjDyn}
 use Rattle.coer_core.specs.Terms.{RowTuple, RowPrim, NoRowTerms, RowTermThen, NoRowMembers, RowMemberThen}

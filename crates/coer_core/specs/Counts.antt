@@ -8,11 +8,12 @@ use Rattle.grift_base.specs.declared.verdicts.Verdict.{Verdict}
 use Rattle.core_calc.specs.Substitution.{is_among}
 use Rattle.core_calc.specs.Account.{StepKind, Wraps, kind_of_step}
 use Rattle.core_calc.specs.Calculus.{CalcState, Program, calculus, start}
-use Rattle.coercion_norm.specs.Modes.{Mode}
-use Rattle.coercion_norm.specs.RunValues.{shape_of}
-use Rattle.coercion_norm.specs.ValueSteps.{CastFrame, PrimFrame, OwnFrame, Own, Return, onto}
-use Rattle.coercion_norm.specs.ValueSteps.{decision_words, operator_words, decision_wraps}
-use Rattle.coercion_norm.specs.AnswerTypes.{Told}
+use Rattle.cast_modes.specs.Modes.{Mode}
+use Rattle.cast_modes.specs.RunValues.{shape_of}
+use Rattle.cast_modes.specs.ValueSteps.{CastFrame, PrimFrame, OwnFrame, Own, Return, onto}
+use Rattle.cast_modes.specs.ValueSteps.{decision_words, operator_words, decision_wraps}
+use Rattle.cast_modes.specs.AnswerTypes.{Told}
+use Rattle.cast_modes.specs.Counting.{Counted, Counts, counted, uncounted}
 use Rattle.coer_core.specs.Terms.{RowTerm, RowTerms, RowMembers, RowBindings, RowInt, RowBool, RowUnit, RowVar}
 use Rattle.coer_core.specs.Terms.{RowLambda, RowGroup, RowLet, RowCall, RowIf, RowSeq, RowCast, RowProj, RowProjDyn}
 use Rattle.coer_core.specs.Terms.{RowTuple, RowPrim, NoRowTerms, RowTermThen, NoRowMembers, RowMemberThen}
@@ -136,41 +137,10 @@ wraps_of_step types state = kind_wraps (kind_of_step types state)
 
 -- ---- counted runs
 
--- what a run in a mode shows: the words asked for, the turns and the wrap steps so far, and the frames that are pending
-pub record Counts : Type 0 where
-  pub words : ℕ
-  pub turns : ℕ
-  pub frames : ℕ
-  pub wraps : ℕ
-
--- a state with what was counted so far
-pub record Counted (C : Type 0) : Type 0 where
-  pub words : ℕ
-  pub turns : ℕ
-  pub wraps : ℕ
-  pub state : RunState C
-
--- at first
-abbrev pub uncounted : {C : Type 0} → RunState C → Counted C
-uncounted state = record { words = 0; turns = 0; wraps = 0; state = state }
-
--- what is shown of it
-abbrev pub counts_of : {C : Type 0} → Counted C → Counts
-counts_of s = record { words = s.words; turns = s.turns; frames = length s.state.frames; wraps = s.wraps }
-
 -- the run in a mode, with what is counted
-abbrev pub counting : {C : Type 0} → Mode C → Told → Reduction (Counted C) Counts Verdict
-counting mode told = record {
-  step = λ s. record {
-    words = s.words + words_of_turn mode s.state;
-    turns = suc s.turns;
-    wraps = s.wraps + wraps_of_turn mode s.state;
-    state = (running mode told).step s.state;
-  };
-  ending = λ s. (running mode told).ending s.state;
-  output = λ s. (running mode told).output s.state;
-  shown = λ s. counts_of s;
-}
+abbrev pub counting : {C : Type 0} → Mode C → Told → Reduction (Counted (RunState C)) Counts Verdict
+counting mode told =
+    counted (words_of_turn mode) (wraps_of_turn mode) (λ state. length state.frames) (running mode told)
 
 -- the run of a term in a mode, told these, on an input
 abbrev pub run_in : {C : Type 0} → Mode C → Told → RowTerm → List ℕ → Run Counts Verdict

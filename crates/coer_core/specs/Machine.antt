@@ -10,14 +10,14 @@ use Rattle.grift_base.specs.declared.operators.PrimOp.{PrimOp}
 use Rattle.grift_base.specs.declared.verdicts.Verdict.{Verdict}
 use Rattle.core_calc.specs.Substitution.{bind, entry_of}
 use Rattle.core_calc.specs.Calculus.{CalcEnd, Answered, Blamed, Trapped, NoStep, ending_of}
-use Rattle.coercion_norm.specs.Modes.{Mode}
-use Rattle.coercion_norm.specs.RunValues.{RunValue, RunValues, RunInt, RunBool, RunUnit, RunFun, RunTuple, RunStore}
-use Rattle.coercion_norm.specs.RunValues.{Pending, all_plain, in_row, row_list, shown}
-use Rattle.coercion_norm.specs.ValueSteps.{Frame, CastFrame, ProjFrame, PrimFrame, EnterFrame, OwnFrame, Focus, Own}
-use Rattle.coercion_norm.specs.ValueSteps.{Return, Entering, After, On, BlameOf, TrapOf, NoNext, on_some, onto}
-use Rattle.coercion_norm.specs.ValueSteps.{run_cast}
-use Rattle.coercion_norm.specs.ValueSteps.{enter, run_proj, run_proj_dyn, operate}
-use Rattle.coercion_norm.specs.AnswerTypes.{Told, fits_type}
+use Rattle.cast_modes.specs.Modes.{Mode}
+use Rattle.cast_modes.specs.RunValues.{RunValue, RunValues, RunInt, RunBool, RunUnit, RunFun, RunTuple, RunStore}
+use Rattle.cast_modes.specs.RunValues.{Pending, all_plain, in_row, row_list, shown}
+use Rattle.cast_modes.specs.ValueSteps.{Frame, CastFrame, ProjFrame, PrimFrame, EnterFrame, OwnFrame, Focus, Own}
+use Rattle.cast_modes.specs.ValueSteps.{Return, Entering, After, On, BlameOf, TrapOf, NoNext, on_some, onto}
+use Rattle.cast_modes.specs.ValueSteps.{run_cast}
+use Rattle.cast_modes.specs.ValueSteps.{enter, run_proj, run_proj_dyn, operate}
+use Rattle.cast_modes.specs.AnswerTypes.{Told, fits_type}
 use Rattle.coer_core.specs.Terms.{RowTerm, RowTerms, RowMembers, RowBindings, RowInt, RowBool, RowUnit, RowVar}
 use Rattle.coer_core.specs.Terms.{RowLambda, RowGroup, RowLet, RowCall, RowIf, RowSeq, RowCast, RowProj, RowProjDyn}
 use Rattle.coer_core.specs.Terms.{RowTuple, RowPrim, NoRowTerms, RowTermThen, NoRowMembers, RowMemberThen}

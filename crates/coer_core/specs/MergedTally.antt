@@ -8,11 +8,11 @@ use Rattle.grift_base.specs.declared.verdicts.Verdict.{Verdict}
 use Rattle.core_calc.specs.Redex.{where_some}
 use Rattle.core_calc.specs.Account.{Measures, StepKind, Wraps, Casts, cast_kind, Account}
 use Rattle.coercion_norm.specs.Coercions.{Coercion, Project}
-use Rattle.coercion_norm.specs.Modes.{Shape, Injected, Decision, Wrapping, Rewrapping, Unwrapping, Injecting, Opening}
-use Rattle.coercion_norm.specs.Modes.{Making, Mode}
-use Rattle.coercion_norm.specs.RunValues.{shape_of}
-use Rattle.coercion_norm.specs.ValueSteps.{CastFrame, OwnFrame, Return}
-use Rattle.coercion_norm.specs.AnswerTypes.{Told}
+use Rattle.cast_modes.specs.Modes.{Shape, Injected, Decision, Wrapping, Rewrapping, Unwrapping, Injecting, Opening}
+use Rattle.cast_modes.specs.Modes.{Making, Mode}
+use Rattle.cast_modes.specs.RunValues.{shape_of}
+use Rattle.cast_modes.specs.ValueSteps.{CastFrame, OwnFrame, Return}
+use Rattle.cast_modes.specs.AnswerTypes.{Told}
 use Rattle.coer_core.specs.Terms.{RowTerm}
 use Rattle.coer_core.specs.Machine.{code_arity, CoerFocus, CoerFrame, ProjDynFrame, RunState, running, run_start}
 use Rattle.coer_core.specs.Tally.{turn_kind, kind_asks, kind_budget, kind_acts, kind_elements, kind_products}

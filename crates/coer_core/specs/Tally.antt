@@ -10,11 +10,11 @@ use Rattle.grift_base.specs.declared.verdicts.Verdict.{Verdict}
 use Rattle.core_calc.specs.Redex.{where_some}
 use Rattle.core_calc.specs.Account.{Measures, wrap_charge, StepKind, Wraps, Casts, Makes, MakesVector, Multiplies, Acts}
 use Rattle.core_calc.specs.Account.{Account}
-use Rattle.coercion_norm.specs.Modes.{Decision, Wrapping, Mode}
-use Rattle.coercion_norm.specs.RunValues.{RunInt, RunWrap, shape_of}
-use Rattle.coercion_norm.specs.ValueSteps.{CastFrame, ProjFrame, PrimFrame, EnterFrame, OwnFrame, Own, Return, Entering}
-use Rattle.coercion_norm.specs.ValueSteps.{onto}
-use Rattle.coercion_norm.specs.AnswerTypes.{Told}
+use Rattle.cast_modes.specs.Modes.{Decision, Wrapping, Mode}
+use Rattle.cast_modes.specs.RunValues.{RunInt, RunWrap, shape_of}
+use Rattle.cast_modes.specs.ValueSteps.{CastFrame, ProjFrame, PrimFrame, EnterFrame, OwnFrame, Own, Return, Entering}
+use Rattle.cast_modes.specs.ValueSteps.{onto}
+use Rattle.cast_modes.specs.AnswerTypes.{Told}
 use Rattle.coer_core.specs.Terms.{RowTerm, RowTerms, RowBindings, RowLambda, RowGroup, RowLet, RowSeq, RowTuple}
 use Rattle.coer_core.specs.Terms.{RowPrim}
 use Rattle.coer_core.specs.Terms.{NoRowTerms, RowTermThen, NoRowBindings, RowBindingThen}

@@ -4,7 +4,7 @@ use Rattle.grift_base.specs.declared.operators.PrimOp.{PrimOp}
 use Rattle.core_calc.specs.Terms.{Term, Terms, Members, Bindings, IntLit, BoolLit, UnitLit, Var, Lambda, Group, Let}
 use Rattle.core_calc.specs.Terms.{Call, If, Seq, Cast, Proj, ProjDyn, Tuple, Prim, NoTerms, TermThen, NoMembers}
 use Rattle.core_calc.specs.Terms.{MemberThen, NoBindings, BindingThen}
-use Rattle.coercion_norm.specs.Modes.{TypeCast}
+use Rattle.cast_modes.specs.Modes.{TypeCast}
 
 mutual
   pub data RowTerm : Type 0 where

@@ -3,10 +3,10 @@ use Rattle.std.specs.Prelude.{ℕ, zero, suc, ◌+◌, ◌≤◌, max, List, [],
 use Rattle.grift_base.specs.Types.{TypeRows}
 use Rattle.core_calc.specs.Account.{Measures}
 use Rattle.coercion_norm.specs.Coercions.{Coercion}
-use Rattle.coercion_norm.specs.Modes.{Decision, Keeping, Wrapping, Rewrapping, Unwrapping, Injecting, Opening, Making}
-use Rattle.coercion_norm.specs.Modes.{Mode}
-use Rattle.coercion_norm.specs.RunValues.{RunWrap, RunInject, shape_of}
-use Rattle.coercion_norm.specs.ValueSteps.{CastFrame, Return}
+use Rattle.cast_modes.specs.Modes.{Decision, Keeping, Wrapping, Rewrapping, Unwrapping, Injecting, Opening, Making}
+use Rattle.cast_modes.specs.Modes.{Mode}
+use Rattle.cast_modes.specs.RunValues.{RunWrap, RunInject, shape_of}
+use Rattle.cast_modes.specs.ValueSteps.{CastFrame, Return}
 use Rattle.coer_core.specs.Machine.{code_arity, CoerValue, CoerFocus, CoerFrame}
 use Rattle.coer_core.specs.Tally.{turn_kind, kind_asks, kind_budget, kind_acts, function_words, made_words}
 use Rattle.coer_core.specs.MergedTally.{merged_asks, merged_acts, merged_budget}

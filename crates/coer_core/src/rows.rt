@@ -2,7 +2,7 @@
 
 ghost use Rattle.std.specs.Prelude.{◌≡◌, ◌++◌, ◌∷◌, [], All, Contains, IfOk, OnOk};
 ghost use Rattle.coercion_norm.specs.CoercionTables.{FitsTypes, IsCast};
-ghost use Rattle.coercion_norm.specs.Modes.{row_cast, row_casts};
+ghost use Rattle.coercion_norm.specs.CastRows.{row_cast, row_casts};
 ghost use Rattle.coer_core.specs.Conversion.{cast_view, cast_views};
 ghost use Rattle.coer_core.specs.Programs.{HaveCoercions, cast_height, tallest_of};
 

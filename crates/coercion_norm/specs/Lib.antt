@@ -15,8 +15,5 @@ pub mod Held
 pub mod Widths
 pub mod Statics
 pub mod Placed
-pub mod Modes
+pub mod CastRows
 pub mod MergedMode
-pub mod RunValues
-pub mod ValueSteps
-pub mod AnswerTypes

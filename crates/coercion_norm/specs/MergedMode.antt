@@ -6,9 +6,9 @@ use Rattle.grift_base.specs.Types.{head_of, TypeRows, row_at}
 use Rattle.coercion_norm.specs.Coercions.{Kind, FunKind, TupKind, RefKind, VecKind, Coercion, Coercions, Id, Fail}
 use Rattle.coercion_norm.specs.Coercions.{Middle, Inject, Project, NoCoercions, CoercionThen, is_id, rows_of}
 use Rattle.coercion_norm.specs.CoercionTables.{cast_of, composition_of}
-use Rattle.coercion_norm.specs.Modes.{Shape, Bare, Wrapped, Injected, Decision, Keeping, Wrapping, Rewrapping}
-use Rattle.coercion_norm.specs.Modes.{Unwrapping, Injecting, Opening, Making, Blaming, NoCast, Mode, TypeCast}
-use Rattle.coercion_norm.specs.Modes.{kept_part}
+use Rattle.cast_modes.specs.Modes.{Shape, Bare, Wrapped, Injected, Decision, Keeping, Wrapping, Rewrapping}
+use Rattle.cast_modes.specs.Modes.{Unwrapping, Injecting, Opening, Making, Blaming, NoCast, Mode, TypeCast}
+use Rattle.cast_modes.specs.Modes.{kept_part}
 
 -- ---- parts of a coercion
 

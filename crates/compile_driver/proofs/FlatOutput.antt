@@ -12,20 +12,20 @@ use Rattle.grift_base.specs.declared.operators.PrimOp.{PrimOp}
 use Rattle.grift_base.specs.declared.operators.PrimOp.TheVariants.{Add, Sub, Mul, Quot, Rem, Lt, Le, Eq, Ge, Gt, Not}
 use Rattle.grift_base.specs.declared.operators.PrimOp.TheVariants.{PrintInt, Newline, ReadInt, MakeBox, Unbox, BoxSet}
 use Rattle.grift_base.specs.declared.operators.PrimOp.TheVariants.{MakeVector, VectorRef, VectorSet, VectorLength}
-use Rattle.coercion_norm.specs.AnswerTypes.{Told}
-use Rattle.coercion_norm.specs.Modes.{Decision, Keeping, Wrapping, Rewrapping, Unwrapping, Injecting, Opening, Making}
-use Rattle.coercion_norm.specs.Modes.{Blaming, DynPart, PartCast, NoPart, NoType, Mode}
-use Rattle.coercion_norm.specs.RunValues.{RunValue, RunValues, RunInt, RunBool, RunFun, RunTuple, RunLoc}
-use Rattle.coercion_norm.specs.RunValues.{RunWrap, RunInject, RunStore, Pending, row_list, shape_of}
-use Rattle.coercion_norm.specs.RunValues.{run_cell_behind}
-use Rattle.coercion_norm.specs.ValueSteps.{Frame, CastFrame, ProjFrame, PrimFrame, EnterFrame, OwnFrame, Own}
-use Rattle.coercion_norm.specs.ValueSteps.{Return, Entering, After, On, BlameOf, TrapOf, NoNext, on_some, onto}
-use Rattle.coercion_norm.specs.ValueSteps.{element_at, pendings_onto, cast_all, make, run_cast, apply, next_argument}
-use Rattle.coercion_norm.specs.ValueSteps.{enter_plain, enter, run_proj, blame_or_proj, run_proj_dyn}
-use Rattle.coercion_norm.specs.ValueSteps.{run_on_int, run_on_ints, run_on_bool}
-use Rattle.coercion_norm.specs.ValueSteps.{run_newline, run_reads, run_read, element_or_trap, run_with_element}
-use Rattle.coercion_norm.specs.ValueSteps.{run_make_box, run_unbox_cell, run_unbox, run_box_set, run_make_vector}
-use Rattle.coercion_norm.specs.ValueSteps.{run_vector_ref, run_vector_set, run_vector_length, operate}
+use Rattle.cast_modes.specs.AnswerTypes.{Told}
+use Rattle.cast_modes.specs.Modes.{Decision, Keeping, Wrapping, Rewrapping, Unwrapping, Injecting, Opening, Making}
+use Rattle.cast_modes.specs.Modes.{Blaming, DynPart, PartCast, NoPart, NoType, Mode}
+use Rattle.cast_modes.specs.RunValues.{RunValue, RunValues, RunInt, RunBool, RunFun, RunTuple, RunLoc}
+use Rattle.cast_modes.specs.RunValues.{RunWrap, RunInject, RunStore, Pending, row_list, shape_of}
+use Rattle.cast_modes.specs.RunValues.{run_cell_behind}
+use Rattle.cast_modes.specs.ValueSteps.{Frame, CastFrame, ProjFrame, PrimFrame, EnterFrame, OwnFrame, Own}
+use Rattle.cast_modes.specs.ValueSteps.{Return, Entering, After, On, BlameOf, TrapOf, NoNext, on_some, onto}
+use Rattle.cast_modes.specs.ValueSteps.{element_at, pendings_onto, cast_all, make, run_cast, apply, next_argument}
+use Rattle.cast_modes.specs.ValueSteps.{enter_plain, enter, run_proj, blame_or_proj, run_proj_dyn}
+use Rattle.cast_modes.specs.ValueSteps.{run_on_int, run_on_ints, run_on_bool}
+use Rattle.cast_modes.specs.ValueSteps.{run_newline, run_reads, run_read, element_or_trap, run_with_element}
+use Rattle.cast_modes.specs.ValueSteps.{run_make_box, run_unbox_cell, run_unbox, run_box_set, run_make_vector}
+use Rattle.cast_modes.specs.ValueSteps.{run_vector_ref, run_vector_set, run_vector_length, operate}
 use Rattle.flat_ir.specs.declared.code.Operation.{Operation}
 use Rattle.flat_ir.specs.declared.code.Operation.TheVariants.{Move, Prim, Cast, Tuple, Proj, ProjDyn}
 use Rattle.flat_ir.specs.Bodies.{Body, Give, Call, Choose, LetBody, LetGroup, Proc}

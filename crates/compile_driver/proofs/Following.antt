@@ -46,7 +46,9 @@ use Rattle.core_calc.specs.Account.{measures_of}
 use Rattle.core_calc.specs.Calculus.{Program, calc}
 use Rattle.core_calc.specs.Typing.{ProgramTermHasType}
 use Rattle.coercion_norm.specs.MergedMode.{merging}
-use Rattle.coercion_norm.specs.Modes.{TypeCast, row_casts}
+use Rattle.cast_modes.specs.Modes.{TypeCast}
+use Rattle.cast_modes.specs.Counting.{Counts}
+use Rattle.coercion_norm.specs.CastRows.{row_casts}
 use Rattle.coercion_norm.specs.CoercionTables.{cast_of}
 use Rattle.coercion_norm.specs.Nodes.{Node, IsTree}
 use Rattle.coercion_norm.specs.Statics.{AreStatics}
@@ -59,7 +61,7 @@ use Rattle.coer_core.proofs.Public.{no_wider, merged_runs_follow_the_calculus-fo
 use Rattle.coer_core.proofs.Public.{merged_runs_follow_the_calculus-never_wrong}
 use Rattle.flat_ir.specs.Bodies.{Proc as FlatProc}
 use Rattle.flat_ir.specs.Closed.{is_closed}
-use Rattle.flat_ir.specs.Counts.{FlatCounts, flat_run_in}
+use Rattle.flat_ir.specs.Counts.{flat_run_in}
 use Rattle.closure_convert.specs.Conversion.{converted, made}
 use Rattle.closure_convert.specs.Programs.{HasNoFreeNames}
 use Rattle.closure_convert.proofs.Public.{procedures_follow_their_term-merged}
@@ -218,7 +220,7 @@ module _ {program : Program} {rows : List CastRow} {term : RowTerm} {answer : â„
     abbrev words_run : Run LowShown Verdict
     words_run = run (low_machine ending_of set) (low_start set (entry_proc (made term) row) begin.memory begin.world)
 
-    abbrev flat_run : Run FlatCounts Verdict
+    abbrev flat_run : Run Counts Verdict
     flat_run =
         flat_run_in (converted term) (made term) (merging program.types (row_casts rows)) (told_of program answer) input
 

@@ -13,7 +13,8 @@ use Rattle.coercion_norm.specs.Coercions.{rows_of}
 use Rattle.coercion_norm.specs.CoercionTables.{cast_of}
 use Rattle.coercion_norm.specs.Heights.{AreHeights}
 use Rattle.coercion_norm.specs.Held.{Layout, Held}
-use Rattle.coercion_norm.specs.Modes.{TypeCast, row_cast, row_casts}
+use Rattle.cast_modes.specs.Modes.{TypeCast}
+use Rattle.coercion_norm.specs.CastRows.{row_cast, row_casts}
 use Rattle.coercion_norm.specs.Nodes.{Node, IsTree, tree_of}
 use Rattle.coercion_norm.specs.Statics.{AreStatics, layout_of}
 use Rattle.coercion_norm.specs.Widths.{CoercionNoWider}

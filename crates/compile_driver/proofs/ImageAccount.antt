@@ -32,7 +32,7 @@ use Rattle.machine_words.specs.Halts.{Halt, Ended, Lacks, GoesWrong, Room, Regio
 use Rattle.core_calc.specs.Account.{Account, account, measures_of}
 use Rattle.core_calc.specs.Calculus.{Program, calc}
 use Rattle.coercion_norm.specs.MergedMode.{merging}
-use Rattle.coercion_norm.specs.Modes.{row_casts}
+use Rattle.coercion_norm.specs.CastRows.{row_casts}
 use Rattle.coercion_norm.specs.Nodes.{Node}
 use Rattle.coercion_norm.specs.declared.cast_rows.CastRow.{CastRow}
 use Rattle.coer_core.specs.Counts.{told_of}

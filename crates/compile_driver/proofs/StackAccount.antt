@@ -12,8 +12,8 @@ use Rattle.run_laws.specs.Runs.{Ending, IsPrefix, OutputGrows, Run}
 use Rattle.rv_machine.specs.State.{State}
 use Rattle.core_calc.specs.Account.{Account, account, measures_of}
 use Rattle.core_calc.specs.Calculus.{Program, calc}
-use Rattle.coercion_norm.specs.AnswerTypes.{Told}
-use Rattle.coercion_norm.specs.Modes.{Mode}
+use Rattle.cast_modes.specs.AnswerTypes.{Told}
+use Rattle.cast_modes.specs.Modes.{Mode}
 use Rattle.flat_ir.specs.Bodies.{Proc as FlatProc}
 use Rattle.flat_ir.specs.FlatTally.{FlatBelow, FlatTallied, FlatTally, Prices, flat_tally_in, flat_tally_of}
 use Rattle.flat_ir.specs.FlatTally.{flat_tallying, flat_untallied}

@@ -14,15 +14,16 @@ use Rattle.grift_base.specs.declared.verdicts.AnswerKind.TheVariants.{Int as Num
 use Rattle.grift_base.specs.declared.verdicts.Trap.TheVariants.{ZeroDivisor}
 use Rattle.grift_base.specs.declared.verdicts.Verdict.{Verdict}
 use Rattle.grift_base.specs.declared.verdicts.Verdict.TheVariants.{Answer as AnswerVerdict, Blame, Trap as TrapVerdict}
-use Rattle.coercion_norm.specs.Modes.{TypeCast, type_cast, piling}
-use Rattle.coercion_norm.specs.AnswerTypes.{Told}
+use Rattle.cast_modes.specs.Modes.{TypeCast, type_cast, piling}
+use Rattle.cast_modes.specs.AnswerTypes.{Told}
+use Rattle.cast_modes.specs.Counting.{Counts}
 use Rattle.flat_ir.specs.declared.code.Operand.{Operand}
 use Rattle.flat_ir.specs.declared.code.Operand.TheVariants.{Local, Captured, Sibling, Int, Bool as BoolCase}
 use Rattle.flat_ir.specs.declared.code.Operand.TheVariants.{Unit as UnitCase}
 use Rattle.flat_ir.specs.declared.code.Operation.TheVariants.{Move, Prim, Cast, Tuple, Proj, ProjDyn}
 use Rattle.flat_ir.specs.Bodies.{Body, Give, Call, Choose, LetBody, LetGroup, Proc}
 use Rattle.flat_ir.specs.Closed.{is_closed}
-use Rattle.flat_ir.specs.Counts.{FlatCounts, flat_run_in}
+use Rattle.flat_ir.specs.Counts.{flat_run_in}
 
 abbrev types : TypeRows
 types =
@@ -56,14 +57,14 @@ number n = AnswerVerdict (record { kind = Number; word = pos n })
 
 -- the program begins with the procedure of this number, is closed, and within 60 turns ends so, with this output and
 -- these counts, where casts pile up
-abbrev Ends : List TypeCast → List Proc → ℕ → ℕ → Verdict → List ℕ → FlatCounts → Type 0
+abbrev Ends : List TypeCast → List Proc → ℕ → ℕ → Verdict → List ℕ → Counts → Type 0
 Ends casts procs first answer verdict output counts =
     (is_closed procs first ≡ true)
     × ((flat_run_in procs first (piling types casts) (told answer) [] 60).ending ≡ Some (EndsWith verdict))
     × ((flat_run_in procs first (piling types casts) (told answer) [] 60).output ≡ output)
     × ((flat_run_in procs first (piling types casts) (told answer) [] 60).shown ≡ counts)
 
-abbrev counts : ℕ → ℕ → ℕ → FlatCounts
+abbrev counts : ℕ → ℕ → ℕ → Counts
 counts words turns wraps = record { words = words; turns = turns; frames = 0; wraps = wraps }
 
 -- ---- closed and not

@@ -3,11 +3,12 @@ use Rattle.std.specs.Prelude.{ℕ, suc, ◌+◌, ◌*◌, List, [], ◌∷◌, l
 use Rattle.run_laws.specs.Runs.{Run}
 use Rattle.run_laws.specs.Reductions.{Reduction, reduction_run}
 use Rattle.grift_base.specs.declared.verdicts.Verdict.{Verdict}
-use Rattle.coercion_norm.specs.Modes.{Decision, NoCast, Mode}
-use Rattle.coercion_norm.specs.RunValues.{shape_of}
-use Rattle.coercion_norm.specs.ValueSteps.{CastFrame, PrimFrame, Own, Return, onto}
-use Rattle.coercion_norm.specs.ValueSteps.{decision_words, operator_words, decision_wraps}
-use Rattle.coercion_norm.specs.AnswerTypes.{Told}
+use Rattle.cast_modes.specs.Modes.{Decision, NoCast, Mode}
+use Rattle.cast_modes.specs.RunValues.{shape_of}
+use Rattle.cast_modes.specs.ValueSteps.{CastFrame, PrimFrame, Own, Return, onto}
+use Rattle.cast_modes.specs.ValueSteps.{decision_words, operator_words, decision_wraps}
+use Rattle.cast_modes.specs.AnswerTypes.{Told}
+use Rattle.cast_modes.specs.Counting.{Counted, Counts, counted, uncounted}
 use Rattle.flat_ir.specs.declared.code.Operand.{Operand}
 use Rattle.flat_ir.specs.declared.code.Operation.{Operation}
 use Rattle.flat_ir.specs.declared.code.Operation.TheVariants.{Prim, Cast, Tuple}
@@ -55,45 +56,23 @@ module _ {C : Type 0} (procs : List Proc) (mode : Mode C) where
   flat_turn_wraps (Return v) (CastFrame cast ∷ k) = decision_wraps (decision_at (Some cast) v)
   flat_turn_wraps _ k = 0
 
+  -- ---- of the next turn of a state
+
+  abbrev pub flat_words_of_turn : FlatState C → ℕ
+  flat_words_of_turn state = flat_turn_words state.focus state.frames
+
+  abbrev pub flat_wraps_of_turn : FlatState C → ℕ
+  flat_wraps_of_turn state = flat_turn_wraps state.focus state.frames
+
 -- ---- counted runs
 
--- what a run in a mode shows: the words asked for, the turns and the wrap steps so far, and the frames that are active
-pub record FlatCounts : Type 0 where
-  pub words : ℕ
-  pub turns : ℕ
-  pub frames : ℕ
-  pub wraps : ℕ
-
--- a state with what was counted so far
-pub record FlatCounted (C : Type 0) : Type 0 where
-  pub words : ℕ
-  pub turns : ℕ
-  pub wraps : ℕ
-  pub state : FlatState C
-
--- at first
-abbrev pub flat_uncounted : {C : Type 0} → FlatState C → FlatCounted C
-flat_uncounted state = record { words = 0; turns = 0; wraps = 0; state = state }
-
--- what is shown of it
-abbrev pub flat_counts_of : {C : Type 0} → FlatCounted C → FlatCounts
-flat_counts_of s = record { words = s.words; turns = s.turns; frames = length s.state.frames; wraps = s.wraps }
-
 -- the run in a mode, with what is counted
-abbrev pub flat_counting : {C : Type 0} → List Proc → Mode C → Told → Reduction (FlatCounted C) FlatCounts Verdict
-flat_counting procs mode told = record {
-  step = λ s. record {
-    words = s.words + flat_turn_words procs mode s.state.focus s.state.frames;
-    turns = suc s.turns;
-    wraps = s.wraps + flat_turn_wraps procs mode s.state.focus s.state.frames;
-    state = (flat_running procs mode told).step s.state;
-  };
-  ending = λ s. (flat_running procs mode told).ending s.state;
-  output = λ s. (flat_running procs mode told).output s.state;
-  shown = λ s. flat_counts_of s;
-}
+abbrev pub flat_counting : {C : Type 0} → List Proc → Mode C → Told → Reduction (Counted (FlatState C)) Counts Verdict
+flat_counting procs mode told =
+    counted (flat_words_of_turn procs mode) (flat_wraps_of_turn procs mode) (λ state. length state.frames)
+    (flat_running procs mode told)
 
 -- the run of a program in a mode, told these, on an input: its procedures and the number of the one that it begins with
-abbrev pub flat_run_in : {C : Type 0} → List Proc → ℕ → Mode C → Told → List ℕ → Run FlatCounts Verdict
+abbrev pub flat_run_in : {C : Type 0} → List Proc → ℕ → Mode C → Told → List ℕ → Run Counts Verdict
 flat_run_in procs entry mode told input =
-    reduction_run (flat_counting procs mode told) (flat_uncounted (flat_start procs told entry input))
+    reduction_run (flat_counting procs mode told) (uncounted (flat_start procs told entry input))

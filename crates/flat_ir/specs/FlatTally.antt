@@ -10,11 +10,11 @@ use Rattle.grift_base.specs.declared.verdicts.Verdict.{Verdict}
 use Rattle.core_calc.specs.Redex.{where_some}
 use Rattle.core_calc.specs.Account.{Measures, StepKind, Casts, Makes, MakesVector, Acts, Account}
 use Rattle.coercion_norm.specs.Coercions.{Coercion}
-use Rattle.coercion_norm.specs.Modes.{Shape, Mode}
-use Rattle.coercion_norm.specs.RunValues.{Pending, RunInt, RunWrap, shape_of}
-use Rattle.coercion_norm.specs.ValueSteps.{CastFrame, ProjFrame, PrimFrame, EnterFrame, OwnFrame, Own, Return, Entering}
-use Rattle.coercion_norm.specs.ValueSteps.{onto}
-use Rattle.coercion_norm.specs.AnswerTypes.{Told}
+use Rattle.cast_modes.specs.Modes.{Shape, Mode}
+use Rattle.cast_modes.specs.RunValues.{Pending, RunInt, RunWrap, shape_of}
+use Rattle.cast_modes.specs.ValueSteps.{CastFrame, ProjFrame, PrimFrame, EnterFrame, OwnFrame, Own, Return, Entering}
+use Rattle.cast_modes.specs.ValueSteps.{onto}
+use Rattle.cast_modes.specs.AnswerTypes.{Told}
 use Rattle.coer_core.specs.Tally.{operating_kind, decision_kind, kind_asks, kind_budget, kind_acts, Tally, reach}
 use Rattle.coer_core.specs.MergedTally.{Effort, Opens, effort, effort_acts, effort_asks, effort_budget, other_asks}
 use Rattle.flat_ir.specs.declared.code.Operation.{Operation}

@@ -8,13 +8,13 @@ use Rattle.grift_base.specs.declared.places.Pos.{Pos}
 use Rattle.grift_base.specs.declared.verdicts.Verdict.{Verdict}
 use Rattle.grift_base.specs.declared.verdicts.Verdict.TheVariants.{Answer as AnswerVerdict, Blame, Trap as TrapVerdict}
 use Rattle.grift_base.specs.declared.operators.PrimOp.{PrimOp}
-use Rattle.coercion_norm.specs.Modes.{Mode}
-use Rattle.coercion_norm.specs.RunValues.{RunValue, RunValues, RunInt, RunBool, RunUnit, RunFun, RunTuple, RunStore}
-use Rattle.coercion_norm.specs.RunValues.{in_row, row_list, all_plain, shown}
-use Rattle.coercion_norm.specs.ValueSteps.{Frame, CastFrame, ProjFrame, PrimFrame, EnterFrame, OwnFrame, Focus, Own}
-use Rattle.coercion_norm.specs.ValueSteps.{Return, Entering, After, On, BlameOf, TrapOf, NoNext, on_some, onto}
-use Rattle.coercion_norm.specs.ValueSteps.{run_cast, enter, run_proj, run_proj_dyn, operate}
-use Rattle.coercion_norm.specs.AnswerTypes.{Told, fits_type}
+use Rattle.cast_modes.specs.Modes.{Mode}
+use Rattle.cast_modes.specs.RunValues.{RunValue, RunValues, RunInt, RunBool, RunUnit, RunFun, RunTuple, RunStore}
+use Rattle.cast_modes.specs.RunValues.{in_row, row_list, all_plain, shown}
+use Rattle.cast_modes.specs.ValueSteps.{Frame, CastFrame, ProjFrame, PrimFrame, EnterFrame, OwnFrame, Focus, Own}
+use Rattle.cast_modes.specs.ValueSteps.{Return, Entering, After, On, BlameOf, TrapOf, NoNext, on_some, onto}
+use Rattle.cast_modes.specs.ValueSteps.{run_cast, enter, run_proj, run_proj_dyn, operate}
+use Rattle.cast_modes.specs.AnswerTypes.{Told, fits_type}
 use Rattle.flat_ir.specs.declared.code.Operand.{Operand}
 use Rattle.flat_ir.specs.declared.code.Operand.TheVariants.{Local, Captured, Sibling, Int, Bool as BoolCase}
 use Rattle.flat_ir.specs.declared.code.Operand.TheVariants.{Unit as UnitCase}

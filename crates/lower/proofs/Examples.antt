@@ -14,8 +14,8 @@ use Rattle.grift_base.specs.declared.verdicts.AnswerKind.TheVariants.{Int as Int
 use Rattle.grift_base.specs.declared.verdicts.AnswerKind.TheVariants.{Bool as BoolKind}
 use Rattle.grift_base.specs.declared.verdicts.Verdict.{Verdict}
 use Rattle.grift_base.specs.declared.verdicts.Verdict.TheVariants.{Answer}
-use Rattle.coercion_norm.specs.Modes.{piling}
-use Rattle.coercion_norm.specs.AnswerTypes.{Told}
+use Rattle.cast_modes.specs.Modes.{piling}
+use Rattle.cast_modes.specs.AnswerTypes.{Told}
 use Rattle.machine_words.specs.Halts.{ending_of}
 use Rattle.machine_words.specs.Memory.{load_bytes, store_bytes}
 use Rattle.low_ir.specs.declared.code.LowSource.TheVariants.{Number}

@@ -5,8 +5,8 @@ use Rattle.std.specs.Prelude.{Some, slice_get}
 use Rattle.std.specs.Int.{w64, cast_unsigned, int_wrap}
 use Rattle.grift_base.specs.Types.{is_dyn}
 use Rattle.machine_words.specs.Memory.{Memory}
-use Rattle.coercion_norm.specs.RunValues.{RunInt, RunBool, RunUnit, RunFun, RunTuple, RunLoc, RunWrap, RunInject}
-use Rattle.coercion_norm.specs.RunValues.{NoRunValues, RunValueThen, in_row}
+use Rattle.cast_modes.specs.RunValues.{RunInt, RunBool, RunUnit, RunFun, RunTuple, RunLoc, RunWrap, RunInject}
+use Rattle.cast_modes.specs.RunValues.{NoRunValues, RunValueThen, in_row}
 use Rattle.coercion_norm.specs.Objects.{Object, Fixed, Cell, object_at}
 use Rattle.rt_cast.specs.Objects.{HoldsWords}
 use Rattle.rt_cast.specs.DynWords.{IsDyn}

@@ -7,7 +7,7 @@ use Rattle.object_layout.specs.DynWords.{int_tag, bool_tag, unit_tag, is_narrow,
 use Rattle.low_ir.specs.declared.code.WordOp.TheVariants.{Sra}
 use Rattle.low_ir.specs.Operations.{compute}
 use Rattle.coercion_norm.specs.Coercions.{rows_of}
-use Rattle.coercion_norm.specs.Modes.{TypeCast}
+use Rattle.cast_modes.specs.Modes.{TypeCast}
 use Rattle.lower.specs.declared.served.Tag.{Tag}
 use Rattle.lower.specs.declared.served.Tag.TheVariants.{Int, Bool, Unit}
 use Rattle.lower.specs.declared.served.CastWay.{CastWay}

@@ -11,8 +11,8 @@ use Rattle.low_ir.specs.Prices.{low_price}
 use Rattle.low_ir.specs.Procedures.{Proc as LowProc}
 use Rattle.low_ir.specs.Run.{Setting, low_machine, low_start}
 use Rattle.core_calc.specs.Account.{Measures}
-use Rattle.coercion_norm.specs.AnswerTypes.{Told}
-use Rattle.coercion_norm.specs.Modes.{TypeCast}
+use Rattle.cast_modes.specs.AnswerTypes.{Told}
+use Rattle.cast_modes.specs.Modes.{TypeCast}
 use Rattle.coercion_norm.specs.Held.{Layout, TypesStand}
 use Rattle.flat_ir.specs.Bodies.{Proc}
 use Rattle.flat_ir.specs.Closed.{is_closed}

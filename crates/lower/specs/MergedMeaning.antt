@@ -6,7 +6,7 @@ use Rattle.coercion_norm.specs.Coercions.{Coercion, Id, Fail, Middle, Inject, Pr
 use Rattle.coercion_norm.specs.declared.middles.MiddleKind.TheVariants.{Fun, Tup, Ref, Vec}
 use Rattle.coercion_norm.specs.CoercionTables.{cast_of}
 use Rattle.coercion_norm.specs.MergedMode.{merging}
-use Rattle.coercion_norm.specs.Modes.{TypeCast}
+use Rattle.cast_modes.specs.Modes.{TypeCast}
 use Rattle.coercion_norm.specs.Objects.{Object, Fixed, Cell}
 use Rattle.coercion_norm.specs.Held.{Layout, There, Held, height_in}
 use Rattle.coercion_norm.specs.ObjectsOfRows.{header}

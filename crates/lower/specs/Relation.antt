@@ -6,9 +6,9 @@ use Rattle.low_ir.specs.declared.code.LowSource.{LowSource}
 use Rattle.low_ir.specs.Procedures.{Code, Done, Return as ReturnCode}
 use Rattle.low_ir.specs.Steps.{Locals, no_locals}
 use Rattle.low_ir.specs.Run.{Setting, Active, Waiting as LowWaiting, LowState, word_of}
-use Rattle.coercion_norm.specs.RunValues.{Pending}
-use Rattle.coercion_norm.specs.ValueSteps.{CastFrame, ProjFrame, PrimFrame, EnterFrame, OwnFrame, Own, Return, Entering}
-use Rattle.coercion_norm.specs.ValueSteps.{onto, casts_onto}
+use Rattle.cast_modes.specs.RunValues.{Pending}
+use Rattle.cast_modes.specs.ValueSteps.{CastFrame, ProjFrame, PrimFrame, EnterFrame, OwnFrame, Own, Return, Entering}
+use Rattle.cast_modes.specs.ValueSteps.{onto, casts_onto}
 use Rattle.flat_ir.specs.declared.code.Operand.{Operand}
 use Rattle.flat_ir.specs.Bodies.{Body, Call, Proc}
 use Rattle.flat_ir.specs.Closed.{body_bound}

@@ -21,15 +21,15 @@ use Rattle.low_ir.specs.Run.{Setting, Waiting, LowState, low_machine, with_local
 use Rattle.low_ir.specs.Prices.{CostsAtMost}
 use Rattle.core_calc.specs.Account.{Measures}
 use Rattle.flat_ir.specs.FlatTally.{Cost, Prices, flat_cost, act_cost, cast_cost, operator_cost}
-use Rattle.coercion_norm.specs.Modes.{Mode, TypeCast}
-use Rattle.coercion_norm.specs.RunValues.{RunFun, RunWrap, in_row, all_plain}
-use Rattle.coercion_norm.specs.ValueSteps.{CastFrame, Own, Return, Entering, On, BlameOf, TrapOf, NoNext, casts_onto}
-use Rattle.coercion_norm.specs.ValueSteps.{run_proj_dyn}
+use Rattle.cast_modes.specs.Modes.{Mode, TypeCast}
+use Rattle.cast_modes.specs.RunValues.{RunFun, RunWrap, in_row, all_plain}
+use Rattle.cast_modes.specs.ValueSteps.{CastFrame, Own, Return, Entering, On, BlameOf, TrapOf, NoNext, casts_onto}
+use Rattle.cast_modes.specs.ValueSteps.{run_proj_dyn}
 use Rattle.coercion_norm.specs.Objects.{Object}
 use Rattle.coercion_norm.specs.Held.{Layout}
 use Rattle.flat_ir.specs.Bodies.{Proc}
 use Rattle.flat_ir.specs.Counts.{decision_at, flat_turn_wraps}
-use Rattle.coercion_norm.specs.ValueSteps.{decision_wraps}
+use Rattle.cast_modes.specs.ValueSteps.{decision_wraps}
 use Rattle.flat_ir.specs.Machine.{FlatCode, FlatValue, FlatValues, FlatFocus, FlatFrame, FlatStore, FlatAfter, Inside}
 use Rattle.flat_ir.specs.Machine.{locals_of}
 use Rattle.flat_ir.specs.Machine.{flat_turn, flat_cast, flat_proj, flat_operate, flat_arity, flat_entered}

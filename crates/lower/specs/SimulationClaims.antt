@@ -5,10 +5,10 @@ use Rattle.machine_words.specs.Memory.{Memory}
 use Rattle.low_ir.specs.Procedures.{Proc}
 use Rattle.low_ir.specs.Run.{Setting, LowShown}
 use Rattle.flat_ir.specs.Bodies.{Proc as FlatProc}
-use Rattle.flat_ir.specs.Counts.{FlatCounts}
 use Rattle.coercion_norm.specs.Objects.{Object}
 use Rattle.rt_cast.specs.Objects.{Holds}
 use Rattle.coercion_norm.specs.Held.{Layout}
+use Rattle.cast_modes.specs.Counting.{Counts}
 use Rattle.rt_cast.specs.States.{Placed, Filled}
 use Rattle.rt_cast.specs.ToldRows.{IsFilled}
 use Rattle.lower.specs.declared.served.Served.{Served}
@@ -36,11 +36,11 @@ pub record IsLowered (setting : Setting) (l : Layout) (run : Served) (procs : Li
   pub statics : Holds memory l.first l.statics
 
 -- whole objects fill the region up to the allocation word
-abbrev pub StorageIsWhole : Setting → Layout → LowShown → FlatCounts → Type 0
+abbrev pub StorageIsWhole : Setting → Layout → LowShown → Counts → Type 0
 StorageIsWhole setting l shown counts =
     (objects : List Object)
     × Filled setting l objects (record { memory = shown.memory; alloc = shown.alloc; words = shown.words })
 
 -- so a walk of the region finds a row of whole objects without gaps
-abbrev pub RegionIsRow : Setting → Layout → LowShown → FlatCounts → Type 0
+abbrev pub RegionIsRow : Setting → Layout → LowShown → Counts → Type 0
 RegionIsRow setting l shown counts = IsFilled setting.top shown.memory l.region shown.alloc

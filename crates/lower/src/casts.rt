@@ -2,7 +2,7 @@
 
 ghost use Rattle.std.specs.Prelude.{◌≡◌, IfOk, OnOk, slice_get};
 ghost use Rattle.coercion_norm.specs.Coercions.{rows_of};
-ghost use Rattle.coercion_norm.specs.Modes.{row_cast, row_casts};
+ghost use Rattle.coercion_norm.specs.CastRows.{row_cast, row_casts};
 ghost use Rattle.grift_base.specs.Types.{is_dyn};
 ghost use Rattle.low_ir.specs.Procedures.{Done};
 ghost use Rattle.low_ir.specs.Views.{code_of};

@@ -4,7 +4,7 @@ ghost use Rattle.std.specs.Prelude.{◌≡◌, ◌<◌, ◌^◌, ℕ, suc, true,
 ghost use Rattle.grift_base.specs.Types.{TypeRow, row_at};
 ghost use Rattle.machine_words.specs.declared.TheConstants.{FIRST_ADDRESS};
 ghost use Rattle.coercion_norm.specs.CoercionTables.{FitsTypes};
-ghost use Rattle.coercion_norm.specs.Modes.{row_casts};
+ghost use Rattle.coercion_norm.specs.CastRows.{row_casts};
 ghost use Rattle.coercion_norm.specs.Statics.{AreStatics};
 ghost use Rattle.flat_ir.specs.Closed.{is_closed as is_closed_flat};
 ghost use Rattle.flat_ir.specs.Views.{procs_of as flat_procs_of};

@@ -18,11 +18,11 @@ use Rattle.low_ir.specs.Procedures.{Code, Done, Build, Return as ReturnCode}
 use Rattle.low_ir.specs.Steps.{Locals, no_locals, set_local, store_words}
 use Rattle.low_ir.specs.Run.{Setting, LowState, bind}
 use Rattle.coercion_norm.specs.Coercions.{rows_of}
-use Rattle.coercion_norm.specs.Modes.{TypeCast, Shape, Decision, Keeping, Wrapping, Blaming, NoCast, piling}
-use Rattle.coercion_norm.specs.Modes.{fits}
-use Rattle.coercion_norm.specs.RunValues.{RunInt, RunBool, RunUnit, RunFun, RunTuple, RunLoc, RunWrap, RunInject}
-use Rattle.coercion_norm.specs.RunValues.{shape_of}
-use Rattle.coercion_norm.specs.ValueSteps.{Return, decision_wraps}
+use Rattle.cast_modes.specs.Modes.{TypeCast, Shape, Decision, Keeping, Wrapping, Blaming, NoCast, piling}
+use Rattle.cast_modes.specs.Modes.{fits}
+use Rattle.cast_modes.specs.RunValues.{RunInt, RunBool, RunUnit, RunFun, RunTuple, RunLoc, RunWrap, RunInject}
+use Rattle.cast_modes.specs.RunValues.{shape_of}
+use Rattle.cast_modes.specs.ValueSteps.{Return, decision_wraps}
 use Rattle.coercion_norm.specs.Held.{Layout, There}
 use Rattle.coercion_norm.specs.Objects.{Object, object_at}
 use Rattle.coercion_norm.proofs.Public.{last_stands}

@@ -3,8 +3,8 @@ use Rattle.std.proofs.Common.{◌≡◌, ℕ, ◌<◌, Bool, true, false, List, 
 use Rattle.std.specs.Prelude.{if◌then◌else◌, not}
 use Rattle.grift_base.specs.Types.{TypeRow, TypeRows, IntRow, BoolRow, UnitRow, DynRow, FunRow, TupleRow, RefRow}
 use Rattle.grift_base.specs.Types.{VectRow, row_at, same_head, is_base, is_dyn}
-use Rattle.coercion_norm.specs.Modes.{TypeCast, type_cast, Shape, Decision, Keeping, Wrapping, Blaming, NoCast, piling}
-use Rattle.coercion_norm.specs.Modes.{fits}
+use Rattle.cast_modes.specs.Modes.{TypeCast, type_cast, Shape, Decision, Keeping, Wrapping, Blaming, NoCast, piling}
+use Rattle.cast_modes.specs.Modes.{fits}
 use Rattle.piled_scheme.specs.Piling.{IsKnown, PlainType, BoxType, fate, IsBoxCast, most_labels}
 
 -- a cast between plain types, and what it does

@@ -14,11 +14,11 @@ use Rattle.low_ir.specs.Prices.{entering_some}
 use Rattle.low_ir.specs.Procedures.{Code, Done, Store, Return as ReturnCode, Proc as LowProc}
 use Rattle.low_ir.specs.Steps.{Locals, no_locals, set_local}
 use Rattle.low_ir.specs.Run.{Setting, LowState, bind}
-use Rattle.coercion_norm.specs.Modes.{TypeCast, piling}
-use Rattle.coercion_norm.specs.RunValues.{RunInt, RunBool, RunUnit, RunFun, RunTuple, RunLoc, RunWrap, RunInject}
-use Rattle.coercion_norm.specs.RunValues.{in_row}
-use Rattle.coercion_norm.specs.ValueSteps.{CastFrame, PrimFrame, Return, On, TrapOf, NoNext, on_some, element_or_trap}
-use Rattle.coercion_norm.specs.ValueSteps.{run_with_element}
+use Rattle.cast_modes.specs.Modes.{TypeCast, piling}
+use Rattle.cast_modes.specs.RunValues.{RunInt, RunBool, RunUnit, RunFun, RunTuple, RunLoc, RunWrap, RunInject}
+use Rattle.cast_modes.specs.RunValues.{in_row}
+use Rattle.cast_modes.specs.ValueSteps.{CastFrame, PrimFrame, Return, On, TrapOf, NoNext, on_some, element_or_trap}
+use Rattle.cast_modes.specs.ValueSteps.{run_with_element}
 use Rattle.coercion_norm.specs.Held.{Layout}
 use Rattle.coercion_norm.specs.Objects.{Object}
 use Rattle.coercion_norm.specs.ObjectsOfRows.{header}

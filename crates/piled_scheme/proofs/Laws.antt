@@ -1,7 +1,7 @@
 -- The laws of the meaning: wrappers stay as objects are added, are told from other objects, and are counted.
 use Rattle.std.proofs.Common.{◌≡◌, inl, inr, ℕ, suc, ◌+◌, List, [], ◌∷◌, ◌++◌, Some, refl, sym, subst, arith, le_refl}
 use Rattle.std.proofs.Common.{append-nil, append_assoc}
-use Rattle.coercion_norm.specs.Modes.{TypeCast}
+use Rattle.cast_modes.specs.Modes.{TypeCast}
 use Rattle.coercion_norm.specs.Objects.{Object}
 use Rattle.coercion_norm.specs.Held.{Layout, There}
 use Rattle.coer_core.specs.Tally.{kind_budget}

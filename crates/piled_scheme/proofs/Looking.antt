@@ -10,7 +10,7 @@ use Rattle.low_ir.specs.Operations.{compute}
 use Rattle.low_ir.specs.Procedures.{Code, Load}
 use Rattle.low_ir.specs.Steps.{Locals, set_local, may_load}
 use Rattle.low_ir.specs.Run.{Setting, LowState, word_of}
-use Rattle.coercion_norm.specs.Modes.{TypeCast}
+use Rattle.cast_modes.specs.Modes.{TypeCast}
 use Rattle.coercion_norm.specs.Held.{Layout, There}
 use Rattle.coercion_norm.specs.Objects.{Object, Fixed, header_of}
 use Rattle.flat_ir.specs.Bodies.{Proc}

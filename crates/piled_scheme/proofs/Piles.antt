@@ -4,9 +4,9 @@ use Rattle.std.proofs.Common.{None, refl, sym, subst, arith}
 use Rattle.object_layout.specs.declared.kinds.Kind.TheVariants.{Boxed, Vector}
 use Rattle.object_layout.specs.Kinds.{kind_number}
 use Rattle.low_ir.specs.Run.{Setting}
-use Rattle.coercion_norm.specs.Modes.{TypeCast}
-use Rattle.coercion_norm.specs.RunValues.{RunInt, RunBool, RunUnit, RunFun, RunTuple, RunLoc, RunWrap, RunInject}
-use Rattle.coercion_norm.specs.RunValues.{run_cell_behind}
+use Rattle.cast_modes.specs.Modes.{TypeCast}
+use Rattle.cast_modes.specs.RunValues.{RunInt, RunBool, RunUnit, RunFun, RunTuple, RunLoc, RunWrap, RunInject}
+use Rattle.cast_modes.specs.RunValues.{run_cell_behind}
 use Rattle.coercion_norm.specs.Objects.{Object, Cell}
 use Rattle.coercion_norm.specs.Held.{Layout, There}
 use Rattle.coercion_norm.specs.ObjectsOfRows.{header}

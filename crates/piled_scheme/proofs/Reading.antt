@@ -15,10 +15,10 @@ use Rattle.low_ir.specs.Prices.{entering_some}
 use Rattle.low_ir.specs.Procedures.{Code, Done, Return as ReturnCode, TailCall}
 use Rattle.low_ir.specs.Steps.{Locals, no_locals, set_local, may_load}
 use Rattle.low_ir.specs.Run.{Setting, LowState, bind}
-use Rattle.coercion_norm.specs.Modes.{TypeCast, piling}
-use Rattle.coercion_norm.specs.RunValues.{RunInt, RunBool, RunUnit, RunFun, RunTuple, RunLoc, RunWrap, RunInject}
-use Rattle.coercion_norm.specs.RunValues.{in_row}
-use Rattle.coercion_norm.specs.ValueSteps.{CastFrame, PrimFrame, Return, On, on_some, casts_onto, run_unbox_cell}
+use Rattle.cast_modes.specs.Modes.{TypeCast, piling}
+use Rattle.cast_modes.specs.RunValues.{RunInt, RunBool, RunUnit, RunFun, RunTuple, RunLoc, RunWrap, RunInject}
+use Rattle.cast_modes.specs.RunValues.{in_row}
+use Rattle.cast_modes.specs.ValueSteps.{CastFrame, PrimFrame, Return, On, on_some, casts_onto, run_unbox_cell}
 use Rattle.coercion_norm.specs.Held.{Layout, There}
 use Rattle.coercion_norm.specs.Objects.{Object, Cell, object_at}
 use Rattle.coercion_norm.specs.ObjectsOfRows.{header}

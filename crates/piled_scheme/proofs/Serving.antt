@@ -6,11 +6,11 @@ use Rattle.grift_base.specs.declared.operators.PrimOp.TheVariants.{Unbox, BoxSet
 use Rattle.grift_base.specs.Types.{TypeRows}
 use Rattle.core_calc.specs.Account.{Measures}
 use Rattle.low_ir.specs.Run.{Setting, LowState}
-use Rattle.coercion_norm.specs.Modes.{TypeCast, piling}
-use Rattle.coercion_norm.specs.RunValues.{RunInt, RunBool, RunUnit, RunFun, RunTuple, RunLoc, RunWrap, RunInject}
-use Rattle.coercion_norm.specs.RunValues.{in_row, all_plain}
-use Rattle.coercion_norm.specs.ValueSteps.{CastFrame, ProjFrame, Return, On, on_some}
-use Rattle.coercion_norm.specs.ValueSteps.{run_enter_wrapped, run_proj_dyn}
+use Rattle.cast_modes.specs.Modes.{TypeCast, piling}
+use Rattle.cast_modes.specs.RunValues.{RunInt, RunBool, RunUnit, RunFun, RunTuple, RunLoc, RunWrap, RunInject}
+use Rattle.cast_modes.specs.RunValues.{in_row, all_plain}
+use Rattle.cast_modes.specs.ValueSteps.{CastFrame, ProjFrame, Return, On, on_some}
+use Rattle.cast_modes.specs.ValueSteps.{run_enter_wrapped, run_proj_dyn}
 use Rattle.coercion_norm.specs.Held.{Layout}
 use Rattle.coercion_norm.specs.Objects.{Object}
 use Rattle.flat_ir.specs.Bodies.{Proc}

@@ -9,8 +9,8 @@ use Rattle.low_ir.specs.Procedures.{Return as ReturnCode}
 use Rattle.low_ir.specs.declared.code.LowSource.TheVariants.{Number}
 use Rattle.low_ir.specs.Steps.{may_store}
 use Rattle.low_ir.specs.Run.{Setting, LowState}
-use Rattle.coercion_norm.specs.Modes.{TypeCast}
-use Rattle.coercion_norm.specs.RunValues.{RunUnit, in_row}
+use Rattle.cast_modes.specs.Modes.{TypeCast}
+use Rattle.cast_modes.specs.RunValues.{RunUnit, in_row}
 use Rattle.coercion_norm.specs.Held.{Layout}
 use Rattle.coercion_norm.specs.Objects.{Object, Cell}
 use Rattle.flat_ir.specs.Bodies.{Proc}

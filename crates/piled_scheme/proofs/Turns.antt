@@ -7,9 +7,9 @@ use Rattle.core_calc.specs.Account.{Measures}
 use Rattle.low_ir.specs.declared.code.LowSource.{LowSource}
 use Rattle.low_ir.specs.Procedures.{Return as ReturnCode}
 use Rattle.low_ir.specs.Run.{Setting, LowState, word_of}
-use Rattle.coercion_norm.specs.Modes.{TypeCast, Decision, Keeping, Blaming, NoCast, piling, fits}
-use Rattle.coercion_norm.specs.RunValues.{shape_of}
-use Rattle.coercion_norm.specs.ValueSteps.{make, decision_wraps}
+use Rattle.cast_modes.specs.Modes.{TypeCast, Decision, Keeping, Blaming, NoCast, piling, fits}
+use Rattle.cast_modes.specs.RunValues.{shape_of}
+use Rattle.cast_modes.specs.ValueSteps.{make, decision_wraps}
 use Rattle.coercion_norm.specs.Held.{Layout}
 use Rattle.coercion_norm.specs.Objects.{Object}
 use Rattle.coer_core.specs.Tally.{decision_kind}

@@ -18,11 +18,11 @@ use Rattle.low_ir.specs.Prices.{entering, entering_some}
 use Rattle.low_ir.specs.Procedures.{Code, Done, Load, Compute, Return as ReturnCode, Proc as LowProc}
 use Rattle.low_ir.specs.Steps.{Locals, no_locals, set_local, may_load}
 use Rattle.low_ir.specs.Run.{Setting, LowState, bind, word_of}
-use Rattle.coercion_norm.specs.Modes.{TypeCast, piling}
-use Rattle.coercion_norm.specs.RunValues.{RunInt, RunLoc}
-use Rattle.coercion_norm.specs.RunValues.{in_row}
-use Rattle.coercion_norm.specs.ValueSteps.{Return, On, TrapOf, on_some, element_or_trap}
-use Rattle.coercion_norm.specs.ValueSteps.{run_with_element}
+use Rattle.cast_modes.specs.Modes.{TypeCast, piling}
+use Rattle.cast_modes.specs.RunValues.{RunInt, RunLoc}
+use Rattle.cast_modes.specs.RunValues.{in_row}
+use Rattle.cast_modes.specs.ValueSteps.{Return, On, TrapOf, on_some, element_or_trap}
+use Rattle.cast_modes.specs.ValueSteps.{run_with_element}
 use Rattle.coercion_norm.specs.Held.{Layout, There}
 use Rattle.coercion_norm.specs.Objects.{Object, Cell}
 use Rattle.coercion_norm.specs.ObjectsOfRows.{header}

@@ -6,7 +6,7 @@ use Rattle.grift_base.specs.Types.{TypeRow, TypeRows, RefRow}
 use Rattle.grift_base.specs.Types.{row_at, same_head, is_base}
 use Rattle.object_layout.specs.declared.kinds.Kind.TheVariants.{Boxed}
 use Rattle.object_layout.specs.Kinds.{kind_number}
-use Rattle.coercion_norm.specs.Modes.{TypeCast, piling}
+use Rattle.cast_modes.specs.Modes.{TypeCast, piling}
 use Rattle.coercion_norm.specs.Objects.{Object, Fixed, Cell}
 use Rattle.coercion_norm.specs.Held.{Layout, There}
 use Rattle.coercion_norm.specs.ObjectsOfRows.{header}

@@ -2,7 +2,7 @@
 
 ghost use Rattle.std.specs.Prelude.{◌≡◌, ◌≤◌, ◌^◌, IfOk, map};
 ghost use Rattle.grift_base.specs.Types.{row_at};
-ghost use Rattle.coercion_norm.specs.Modes.{row_cast, row_casts};
+ghost use Rattle.coercion_norm.specs.CastRows.{row_cast, row_casts};
 ghost use Rattle.piled_scheme.specs.Piling.{are_alike, fate_by, word_of};
 
 use coercion_norm::cast_rows::{CastRow, CastRows};

@@ -9,7 +9,7 @@ use Rattle.coercion_norm.specs.Composition.{coerce_to, compose_to, compose_below
 use Rattle.coercion_norm.specs.Composition.{after_middle, after_inner}
 use Rattle.coercion_norm.specs.Heights.{coercion_height, NoHigher}
 use Rattle.coercion_norm.specs.Normal.{IsNormal, is_flat, is_project}
-use Rattle.coercion_norm.specs.Modes.{Bare, Wrapped, Injected, Decision, NoCast, Injecting}
+use Rattle.cast_modes.specs.Modes.{Bare, Wrapped, Injected, Decision, NoCast, Injecting}
 use Rattle.coercion_norm.specs.MergedMode.{applied, proxied, rewrapped, shape_has_head, middle_head, width}
 use Rattle.coercion_norm.proofs.Public.{coerce_enough, compose_enough, bound_from_height, height_from_bound}
 use Rattle.coercion_norm.proofs.Public.{coerce_height, coerce_normal, flat_after_middle, compose_height, compose_normal}

@@ -9,7 +9,7 @@ use Rattle.coercion_norm.specs.declared.middles.MiddleKind.{MiddleKind as Kind}
 use Rattle.coercion_norm.specs.Coercions.{Coercion, Coercions, Id, Fail, Middle, Inject, Project, kind_of, rows_of}
 use Rattle.coercion_norm.specs.CoercionTables.{cast_of, composition_of}
 use Rattle.coercion_norm.specs.Composition.{coerce_below, coerce_by, coerce_middle}
-use Rattle.coercion_norm.specs.Modes.{Bare, Wrapped, Injected, Decision, NoCast}
+use Rattle.cast_modes.specs.Modes.{Bare, Wrapped, Injected, Decision, NoCast}
 use Rattle.coercion_norm.specs.MergedMode.{applied, middle_head, proxied, rewrapped, shape_has_head, width}
 use Rattle.coercion_norm.specs.Normal.{IsNormal, is_project}
 use Rattle.rt_cast.specs.HeavyTurns.{has_heavy_turn, is_heavy, opens_parts, turns_heavily}

@@ -20,7 +20,7 @@ use Rattle.coercion_norm.specs.Coercions.{CoercionThen, kind_of, rows_of}
 use Rattle.coercion_norm.specs.CoercionTables.{cast_of}
 use Rattle.coercion_norm.specs.Composition.{coerce_by, coerce_below}
 use Rattle.coercion_norm.specs.Heights.{coercion_height, highest, TypeNoHigher}
-use Rattle.coercion_norm.specs.Modes.{part_to_dyn, cast_to_dyn, kept_part}
+use Rattle.cast_modes.specs.Modes.{part_to_dyn, cast_to_dyn, kept_part}
 use Rattle.coercion_norm.specs.MergedMode.{part_at, tuple_coercion}
 use Rattle.coercion_norm.specs.Normal.{IsNormal, AreNormal}
 use Rattle.rt_cast.specs.Costs.{tuple_cost, project_cost}

@@ -4,7 +4,7 @@ use Rattle.std.specs.Prelude.{ℕ, zero, suc, Bool, true, false, ◌&&◌, ◌||
 use Rattle.grift_base.specs.Types.{TypeHead, TypeRow, TypeRows, same_head}
 use Rattle.coercion_norm.specs.Coercions.{Coercion, Project, kind_of, rows_of}
 use Rattle.coercion_norm.specs.CoercionTables.{cast_of, composition_of}
-use Rattle.coercion_norm.specs.Modes.{Decision, Wrapping, Rewrapping, Unwrapping, Opening, Making}
+use Rattle.cast_modes.specs.Modes.{Decision, Wrapping, Rewrapping, Unwrapping, Opening, Making}
 use Rattle.coercion_norm.specs.MergedMode.{applied}
 use Rattle.rt_cast.specs.LightCasts.{has_none}
 use Rattle.rt_cast.specs.MergedValues.{Merged, InDyn, shape_of}

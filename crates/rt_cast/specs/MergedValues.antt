@@ -3,8 +3,8 @@ use Rattle.std.specs.Prelude.{ℕ, zero, suc}
 use Rattle.grift_base.specs.Types.{TypeHead, TypeRows}
 use Rattle.coercion_norm.specs.Coercions.{Coercion}
 use Rattle.coercion_norm.specs.CoercionTables.{cast_of, composition_of}
-use Rattle.coercion_norm.specs.Modes.{Shape, Bare, Wrapped, Injected, Decision, Keeping, Wrapping, Rewrapping}
-use Rattle.coercion_norm.specs.Modes.{Unwrapping, Injecting, Opening, Making, Blaming}
+use Rattle.cast_modes.specs.Modes.{Shape, Bare, Wrapped, Injected, Decision, Keeping, Wrapping, Rewrapping}
+use Rattle.cast_modes.specs.Modes.{Unwrapping, Injecting, Opening, Making, Blaming}
 use Rattle.coercion_norm.specs.MergedMode.{applied}
 
 pub data Merged (A : Type 0) : Type 0 where

@@ -3,7 +3,7 @@ use Rattle.std.specs.Prelude.{ℕ, pos, List, Option, Some, None, slice_get}
 use Rattle.grift_base.specs.Types.{TypeHead, TypeRows, row_at}
 use Rattle.coercion_norm.specs.Coercions.{Coercion}
 use Rattle.coercion_norm.specs.CoercionTables.{cast_of}
-use Rattle.coercion_norm.specs.Modes.{DynPart, PartCast, NoPart, NoType, kept_part}
+use Rattle.cast_modes.specs.Modes.{DynPart, PartCast, NoPart, NoType, kept_part}
 use Rattle.coercion_norm.specs.MergedMode.{tuple_coercion}
 use Rattle.rt_cast.specs.MergedValues.{Merged, Base, Solid, Proxied, InDyn, Outcome, Stuck, Gives, Blames, then_outcome}
 use Rattle.rt_cast.specs.MergedValues.{cast_value}

@@ -8,8 +8,8 @@ use Rattle.std.proofs.lemmas.Int.{SFits-int_wrap}
 use Rattle.std.proofs.Math.Facts.{Fits-of_z}
 use Rattle.machine_words.specs.Memory.{Memory}
 use Rattle.low_ir.specs.Run.{Setting}
-use Rattle.coercion_norm.specs.RunValues.{RunInt, RunBool, RunUnit, RunFun, RunTuple, RunLoc, RunWrap, RunInject}
-use Rattle.coercion_norm.specs.RunValues.{NoRunValues, RunValueThen, in_row, row_list}
+use Rattle.cast_modes.specs.RunValues.{RunInt, RunBool, RunUnit, RunFun, RunTuple, RunLoc, RunWrap, RunInject}
+use Rattle.cast_modes.specs.RunValues.{NoRunValues, RunValueThen, in_row, row_list}
 use Rattle.coercion_norm.specs.Objects.{Object, Fixed, Cell}
 use Rattle.coercion_norm.specs.Held.{rows_in, Layout, There}
 use Rattle.rt_cast.specs.States.{Placed}

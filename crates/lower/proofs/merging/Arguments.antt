@@ -12,11 +12,11 @@ use Rattle.coercion_norm.specs.MergedMode.{function_parts, split_parts}
 use Rattle.coercion_norm.specs.Normal.{IsNormal, AreNormal}
 use Rattle.coercion_norm.specs.Objects.{Object, Fixed}
 use Rattle.coercion_norm.specs.ObjectsOfRows.{header}
-use Rattle.coercion_norm.specs.RunValues.{RunInt, RunBool, RunUnit, RunFun, RunTuple, RunLoc, RunWrap, RunInject}
-use Rattle.coercion_norm.specs.RunValues.{Pending}
-use Rattle.coercion_norm.specs.RunValues.{all_plain, in_row}
-use Rattle.coercion_norm.specs.ValueSteps.{onto}
-use Rattle.coercion_norm.specs.ValueSteps.{cast_all}
+use Rattle.cast_modes.specs.RunValues.{RunInt, RunBool, RunUnit, RunFun, RunTuple, RunLoc, RunWrap, RunInject}
+use Rattle.cast_modes.specs.RunValues.{Pending}
+use Rattle.cast_modes.specs.RunValues.{all_plain, in_row}
+use Rattle.cast_modes.specs.ValueSteps.{onto}
+use Rattle.cast_modes.specs.ValueSteps.{cast_all}
 use Rattle.flat_ir.specs.Bodies.{Proc}
 use Rattle.flat_ir.specs.Machine.{FlatCode, FlatValue}
 use Rattle.rt_cast.specs.Carried.{IsVery}

@@ -13,14 +13,14 @@ use Rattle.low_ir.specs.Run.{Setting, Waiting, LowState, with_local}
 use Rattle.coercion_norm.specs.Coercions.{Coercion, rows_of}
 use Rattle.coercion_norm.specs.Held.{Layout, There, TypesStand}
 use Rattle.coercion_norm.specs.MergedMode.{merging, function_parts}
-use Rattle.coercion_norm.specs.Modes.{TypeCast}
+use Rattle.cast_modes.specs.Modes.{TypeCast}
 use Rattle.coercion_norm.specs.Normal.{IsNormal}
 use Rattle.coercion_norm.specs.Objects.{Object, Fixed}
 use Rattle.coercion_norm.specs.ObjectsOfRows.{header}
-use Rattle.coercion_norm.specs.RunValues.{RunInt, RunBool, RunUnit, RunFun, RunTuple, RunLoc, RunWrap, RunInject}
-use Rattle.coercion_norm.specs.RunValues.{Pending, all_plain, in_row}
-use Rattle.coercion_norm.specs.ValueSteps.{CastFrame, EnterFrame, Own, Entering, Return, On, on_some, onto}
-use Rattle.coercion_norm.specs.ValueSteps.{cast_all, casts_onto, apply, enter_plain, decision_wraps}
+use Rattle.cast_modes.specs.RunValues.{RunInt, RunBool, RunUnit, RunFun, RunTuple, RunLoc, RunWrap, RunInject}
+use Rattle.cast_modes.specs.RunValues.{Pending, all_plain, in_row}
+use Rattle.cast_modes.specs.ValueSteps.{CastFrame, EnterFrame, Own, Entering, Return, On, on_some, onto}
+use Rattle.cast_modes.specs.ValueSteps.{cast_all, casts_onto, apply, enter_plain, decision_wraps}
 use Rattle.flat_ir.specs.Bodies.{Proc}
 use Rattle.flat_ir.specs.Counts.{decision_at}
 use Rattle.flat_ir.specs.FlatTally.{Cost, Prices, act_cost, cast_cost, enter_cost, plain_cost, merged_prices, no_cost}

@@ -12,8 +12,8 @@ use Rattle.low_ir.specs.Run.{Setting, LowState, low_machine}
 use Rattle.coercion_norm.specs.Coercions.{Coercion}
 use Rattle.coercion_norm.specs.CoercionTables.{cast_of}
 use Rattle.coercion_norm.specs.MergedMode.{merging}
-use Rattle.coercion_norm.specs.Modes.{TypeCast}
-use Rattle.coercion_norm.specs.ValueSteps.{decision_wraps}
+use Rattle.cast_modes.specs.Modes.{TypeCast}
+use Rattle.cast_modes.specs.ValueSteps.{decision_wraps}
 use Rattle.coercion_norm.specs.Held.{Layout, Held, TypesStand, rows_in}
 use Rattle.coercion_norm.specs.Objects.{Object}
 use Rattle.flat_ir.specs.Bodies.{Proc}

@@ -9,9 +9,9 @@ use Rattle.object_layout.specs.declared.kinds.Kind.TheVariants.{Closure, Tuple a
 use Rattle.low_ir.specs.Run.{Setting}
 use Rattle.coercion_norm.specs.Coercions.{Coercion, rows_of}
 use Rattle.coercion_norm.specs.Normal.{IsNormal}
-use Rattle.coercion_norm.specs.RunValues.{RunInt, RunBool, RunUnit, RunFun, RunTuple, RunLoc, RunWrap, RunInject}
-use Rattle.coercion_norm.specs.RunValues.{shape_of}
-use Rattle.coercion_norm.specs.AnswerTypes.{run_head}
+use Rattle.cast_modes.specs.RunValues.{RunInt, RunBool, RunUnit, RunFun, RunTuple, RunLoc, RunWrap, RunInject}
+use Rattle.cast_modes.specs.RunValues.{shape_of}
+use Rattle.cast_modes.specs.AnswerTypes.{run_head}
 use Rattle.coercion_norm.specs.Held.{Layout, There}
 use Rattle.coercion_norm.specs.Objects.{Object, Fixed, Cell}
 use Rattle.coercion_norm.specs.ObjectsOfRows.{header}
@@ -29,7 +29,7 @@ use Rattle.lower.proofs.heap.Objects.{none_some, same_some}
 use Rattle.lower.proofs.merging.Laws.{merged_laws, kind_later}
 use Rattle.lower.proofs.words.Arithmetic.{header_is}
 use Rattle.std.proofs.Common.{nat_eq, eqb-true, eq-eqb}
-use Rattle.coercion_norm.specs.RunValues.{NoRunValues, RunValueThen, row_list}
+use Rattle.cast_modes.specs.RunValues.{NoRunValues, RunValueThen, row_list}
 use Rattle.rt_cast.specs.Carried.{HoldsParts, HaveParts}
 
 module _ (setting : Setting) (l : Layout) (procs : List Proc) (places : List ℕ) (objects : List Object) where

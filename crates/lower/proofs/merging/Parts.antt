@@ -18,10 +18,10 @@ use Rattle.coercion_norm.specs.declared.middles.MiddleKind.TheVariants.{Fun, Tup
 use Rattle.coercion_norm.specs.Normal.{IsNormal}
 use Rattle.coercion_norm.specs.CoercionTables.{cast_of}
 use Rattle.coercion_norm.specs.MergedMode.{merging, tuple_coercion}
-use Rattle.coercion_norm.specs.Modes.{TypeCast, DynPart, PartCast, NoPart, NoType, kept_part, part_to_dyn, cast_to_dyn}
-use Rattle.coercion_norm.specs.RunValues.{RunInt, RunBool, RunUnit, RunFun, RunTuple, RunLoc, RunWrap, RunInject}
-use Rattle.coercion_norm.specs.ValueSteps.{CastFrame, Return, On, BlameOf, blame_or_proj, on_some, ProjFrame}
-use Rattle.coercion_norm.specs.ValueSteps.{run_proj_dyn}
+use Rattle.cast_modes.specs.Modes.{TypeCast, DynPart, PartCast, NoPart, NoType, kept_part, part_to_dyn, cast_to_dyn}
+use Rattle.cast_modes.specs.RunValues.{RunInt, RunBool, RunUnit, RunFun, RunTuple, RunLoc, RunWrap, RunInject}
+use Rattle.cast_modes.specs.ValueSteps.{CastFrame, Return, On, BlameOf, blame_or_proj, on_some, ProjFrame}
+use Rattle.cast_modes.specs.ValueSteps.{run_proj_dyn}
 use Rattle.coercion_norm.specs.Held.{Layout, TypesStand}
 use Rattle.coercion_norm.specs.Objects.{Object}
 use Rattle.coercion_norm.proofs.Public.{coerce_normal}

@@ -11,13 +11,13 @@ use Rattle.machine_words.specs.Halts.{ending_of}
 use Rattle.core_calc.specs.Account.{Measures}
 use Rattle.low_ir.specs.Run.{Setting, LowState}
 use Rattle.coercion_norm.specs.Coercions.{Coercion, Id, rows_of}
-use Rattle.coercion_norm.specs.Modes.{TypeCast}
+use Rattle.cast_modes.specs.Modes.{TypeCast}
 use Rattle.coercion_norm.specs.Normal.{IsNormal}
 use Rattle.coercion_norm.specs.MergedMode.{merging, cell_coercion}
-use Rattle.coercion_norm.specs.RunValues.{RunInt, RunBool, RunUnit, RunFun, RunTuple, RunLoc, RunWrap, RunInject}
-use Rattle.coercion_norm.specs.RunValues.{in_row}
-use Rattle.coercion_norm.specs.ValueSteps.{Return, On, TrapOf, NoNext, CastFrame, PrimFrame, on_some, element_or_trap}
-use Rattle.coercion_norm.specs.ValueSteps.{run_with_element, run_unbox_cell}
+use Rattle.cast_modes.specs.RunValues.{RunInt, RunBool, RunUnit, RunFun, RunTuple, RunLoc, RunWrap, RunInject}
+use Rattle.cast_modes.specs.RunValues.{in_row}
+use Rattle.cast_modes.specs.ValueSteps.{Return, On, TrapOf, NoNext, CastFrame, PrimFrame, on_some, element_or_trap}
+use Rattle.cast_modes.specs.ValueSteps.{run_with_element, run_unbox_cell}
 use Rattle.coercion_norm.specs.Objects.{Object}
 use Rattle.coercion_norm.specs.Held.{Layout, TypesStand}
 use Rattle.flat_ir.specs.Bodies.{Proc}

@@ -10,8 +10,8 @@ use Rattle.machine_words.specs.Halts.{ending_of}
 use Rattle.core_calc.specs.Account.{Measures}
 use Rattle.low_ir.specs.Prices.{CostsAtMost}
 use Rattle.low_ir.specs.Run.{Setting, LowState, low_machine}
-use Rattle.coercion_norm.specs.Modes.{TypeCast}
-use Rattle.coercion_norm.specs.ValueSteps.{TrapOf}
+use Rattle.cast_modes.specs.Modes.{TypeCast}
+use Rattle.cast_modes.specs.ValueSteps.{TrapOf}
 use Rattle.coercion_norm.specs.Held.{Layout}
 use Rattle.coercion_norm.specs.Objects.{Object}
 use Rattle.flat_ir.specs.Bodies.{Proc}

@@ -15,10 +15,10 @@ use Rattle.coercion_norm.specs.Coercions.{Coercion, Id, Fail, Inject, Project, r
 use Rattle.coercion_norm.specs.Composition.{coerce_below, coerce_by, coerce_middle}
 use Rattle.coercion_norm.specs.CoercionTables.{cast_of, composition_of}
 use Rattle.coercion_norm.specs.MergedMode.{merging, shape_has_head}
-use Rattle.coercion_norm.specs.Modes.{Injecting, NoCast, TypeCast}
-use Rattle.coercion_norm.specs.RunValues.{RunInt, RunBool, RunUnit, RunFun, RunTuple, RunLoc, RunWrap, RunInject}
-use Rattle.coercion_norm.specs.RunValues.{shape_of}
-use Rattle.coercion_norm.specs.ValueSteps.{CastFrame, Return, decision_wraps, make}
+use Rattle.cast_modes.specs.Modes.{Injecting, NoCast, TypeCast}
+use Rattle.cast_modes.specs.RunValues.{RunInt, RunBool, RunUnit, RunFun, RunTuple, RunLoc, RunWrap, RunInject}
+use Rattle.cast_modes.specs.RunValues.{shape_of}
+use Rattle.cast_modes.specs.ValueSteps.{CastFrame, Return, decision_wraps, make}
 use Rattle.coercion_norm.specs.Held.{Layout, There, Held, rows_in, height_in}
 use Rattle.coercion_norm.specs.Objects.{Object, Fixed}
 use Rattle.coercion_norm.specs.ObjectsOfRows.{header}

@@ -11,10 +11,10 @@ use Rattle.coercion_norm.specs.Coercions.{Coercion, Id, Fail, Middle, Inject, Pr
 use Rattle.coercion_norm.specs.Normal.{IsNormal, is_project}
 use Rattle.coercion_norm.specs.CoercionTables.{cast_of, composition_of}
 use Rattle.coercion_norm.specs.MergedMode.{merging, shape_has_head, applied, rewrapped, middle_head, width}
-use Rattle.coercion_norm.specs.Modes.{TypeCast, Decision, Wrapping, Rewrapping, Unwrapping, Injecting, NoCast}
-use Rattle.coercion_norm.specs.RunValues.{RunInt, RunBool, RunUnit, RunFun, RunTuple, RunLoc, RunWrap, RunInject}
-use Rattle.coercion_norm.specs.RunValues.{shape_of}
-use Rattle.coercion_norm.specs.ValueSteps.{CastFrame, Return, On, BlameOf, NoNext, make, decision_wraps}
+use Rattle.cast_modes.specs.Modes.{TypeCast, Decision, Wrapping, Rewrapping, Unwrapping, Injecting, NoCast}
+use Rattle.cast_modes.specs.RunValues.{RunInt, RunBool, RunUnit, RunFun, RunTuple, RunLoc, RunWrap, RunInject}
+use Rattle.cast_modes.specs.RunValues.{shape_of}
+use Rattle.cast_modes.specs.ValueSteps.{CastFrame, Return, On, BlameOf, NoNext, make, decision_wraps}
 use Rattle.coercion_norm.specs.Held.{Layout}
 use Rattle.coercion_norm.specs.Objects.{Object}
 use Rattle.flat_ir.specs.Bodies.{Proc}
@@ -36,15 +36,15 @@ use Rattle.coercion_norm.specs.Coercions.{Coercions, NoCoercions, CoercionThen, 
 use Rattle.coercion_norm.specs.Composition.{compose_below, follow_parts}
 use Rattle.coercion_norm.specs.Heights.{coercion_height}
 use Rattle.coercion_norm.specs.Held.{There}
-use Rattle.coercion_norm.specs.Modes.{Wrapped}
+use Rattle.cast_modes.specs.Modes.{Wrapped}
 use Rattle.coercion_norm.specs.Objects.{Fixed}
 use Rattle.coercion_norm.specs.ObjectsOfRows.{header}
 use Rattle.coercion_norm.specs.declared.middles.MiddleKind.{MiddleKind as Kind}
 use Rattle.coercion_norm.specs.declared.middles.MiddleKind.TheVariants.{Fun, Tup, Ref, Vec}
 use Rattle.coercion_norm.specs.MergedMode.{tuple_coercion, cell_coercion, part_at}
 use Rattle.coercion_norm.specs.Normal.{AreNormal}
-use Rattle.coercion_norm.specs.RunValues.{row_list}
-use Rattle.coercion_norm.specs.ValueSteps.{on_some, ProjFrame}
+use Rattle.cast_modes.specs.RunValues.{row_list}
+use Rattle.cast_modes.specs.ValueSteps.{on_some, ProjFrame}
 use Rattle.flat_ir.specs.Machine.{flat_proj}
 use Rattle.rt_cast.specs.PartValues.{part_value, with_some}
 use Rattle.lower.proofs.merging.Like.{Like, solid_head, like_shape, KnownAt, KnownUnder}
@@ -57,7 +57,7 @@ use Rattle.core_calc.specs.Account.{Measures, Wraps, Casts, rows_kind, cast_kind
 use Rattle.coercion_norm.specs.Coercions.{kind_of}
 use Rattle.coercion_norm.specs.Composition.{coerce_below, coerce_by, coerce_middle}
 use Rattle.coercion_norm.specs.MergedMode.{proxied}
-use Rattle.coercion_norm.specs.Modes.{Shape, Bare, Injected}
+use Rattle.cast_modes.specs.Modes.{Shape, Bare, Injected}
 use Rattle.coer_core.specs.MergedTally.{Effort, Heavy, Injects, Splits, Keeps, effort, effort_asks, effort_budget}
 use Rattle.coer_core.specs.MergedTally.{half_charge, opening_of_kind}
 use Rattle.flat_ir.specs.FlatTally.{Cost, act_cost, cast_cost, merged_prices, effort_cost}
@@ -270,7 +270,7 @@ module _ (setting : Setting) (l : Layout) (procs : List Proc) (casts : List Type
   abbrev made_at : Decision Coercion → FlatValue Coercion → List (FlatFrame Coercion) → FlatAfter Coercion
   made_at d u frames = make (merging l.types casts) (flat_arity procs) (flat_entered procs) store s.world d u frames
 
-  abbrev apply_to : Coercion → Rattle.coercion_norm.specs.Modes.Shape Coercion → Decision Coercion
+  abbrev apply_to : Coercion → Rattle.cast_modes.specs.Modes.Shape Coercion → Decision Coercion
   apply_to z shape = applied (cast_of l.types) (composition_of l.types) l.types z shape
 
   abbrev turn : Coercion → FlatValue Coercion → List (FlatFrame Coercion) → FlatAfter Coercion
@@ -502,15 +502,15 @@ module _ (setting : Setting) (l : Layout) (procs : List Proc) (casts : List Type
   abbrev pub act : Cost
   act = act_cost procs (merging l.types casts) (merged_prices l.types (merging l.types casts) m)
 
-  abbrev effort_of : Coercion → Rattle.coercion_norm.specs.Modes.Shape Coercion → Effort
+  abbrev effort_of : Coercion → Rattle.cast_modes.specs.Modes.Shape Coercion → Effort
   effort_of z shape = effort l.types z shape (apply_to z shape)
 
   -- a middle is heavy, where it goes on
-  middle_effort : (kind : Kind) (cs : Coercions) (shape : Rattle.coercion_norm.specs.Modes.Shape Coercion)
+  middle_effort : (kind : Kind) (cs : Coercions) (shape : Rattle.cast_modes.specs.Modes.Shape Coercion)
       → (effort_of (Middle kind cs) shape ≡ Heavy) ⊎ (apply_to (Middle kind cs) shape ≡ NoCast)
   middle_effort kind cs shape = by shape (shape_has_head shape (middle_head kind (width cs)))
     where
-      rewraps : (z : Coercion) (shape : Rattle.coercion_norm.specs.Modes.Shape Coercion)
+      rewraps : (z : Coercion) (shape : Rattle.cast_modes.specs.Modes.Shape Coercion)
           → (effort l.types (Middle kind cs) shape (rewrapped z) ≡ Heavy) ⊎ (rewrapped z ≡ NoCast)
       rewraps Id shape = inl refl
       rewraps (Fail label) shape = inl refl
@@ -518,7 +518,7 @@ module _ (setting : Setting) (l : Layout) (procs : List Proc) (casts : List Type
       rewraps (Inject g kept) shape = inl refl
       rewraps (Project wanted label i) shape = inl refl
 
-      by : (shape : Rattle.coercion_norm.specs.Modes.Shape Coercion) (b : Bool)
+      by : (shape : Rattle.cast_modes.specs.Modes.Shape Coercion) (b : Bool)
           → (effort l.types (Middle kind cs) shape
           (if b then proxied (cast_of l.types) (composition_of l.types) l.types (Middle kind cs) shape else NoCast)
           ≡ Heavy)
@@ -530,7 +530,7 @@ module _ (setting : Setting) (l : Layout) (procs : List Proc) (casts : List Type
       by (Injected kept) true = inr refl
 
   -- so is what puts a value into Dyn
-  inject_effort : (kept : ℕ) (shape : Rattle.coercion_norm.specs.Modes.Shape Coercion)
+  inject_effort : (kept : ℕ) (shape : Rattle.cast_modes.specs.Modes.Shape Coercion)
       → (effort_of (Inject Id kept) shape ≡ Injects) ⊎ (apply_to (Inject Id kept) shape ≡ NoCast)
   inject_effort kept shape = by (shape_has_head shape (head_of (rows_of l.types kept)))
     where

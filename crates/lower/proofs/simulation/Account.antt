@@ -24,15 +24,17 @@ use Rattle.low_ir.specs.Prices.{entering_some, low_price, CostsAtMost}
 use Rattle.low_ir.specs.Procedures.{Proc as LowProc}
 use Rattle.low_ir.specs.Steps.{no_locals}
 use Rattle.low_ir.specs.Run.{Setting, LowState, LowShown, low_machine, low_start, bind, held_by}
-use Rattle.coercion_norm.specs.Modes.{Mode}
-use Rattle.coercion_norm.specs.AnswerTypes.{Told}
-use Rattle.coercion_norm.specs.RunValues.{RunUnit}
-use Rattle.coercion_norm.specs.ValueSteps.{Own, Return, Entering, On, BlameOf, TrapOf, NoNext}
+use Rattle.cast_modes.specs.Modes.{Mode}
+use Rattle.cast_modes.specs.AnswerTypes.{Told}
+use Rattle.cast_modes.specs.RunValues.{RunUnit}
+use Rattle.cast_modes.specs.ValueSteps.{Own, Return, Entering, On, BlameOf, TrapOf, NoNext}
+use Rattle.cast_modes.specs.Counting.{Counted, Counts, uncounted}
+use Rattle.cast_modes.proofs.Public.{counting_changes_no_state}
 use Rattle.coercion_norm.specs.Held.{TypesStand}
 use Rattle.core_calc.specs.Redex.{where_some}
 use Rattle.flat_ir.specs.Bodies.{Proc}
 use Rattle.flat_ir.specs.Closed.{takes_nothing}
-use Rattle.flat_ir.specs.Counts.{FlatCounted, FlatCounts, flat_counting, flat_uncounted, flat_run_in}
+use Rattle.flat_ir.specs.Counts.{flat_counting, flat_run_in, flat_words_of_turn, flat_wraps_of_turn}
 use Rattle.flat_ir.specs.FlatTally.{Prices, FlatTally, FlatTallied, flat_tallying, flat_untallied, flat_tally_in}
 use Rattle.flat_ir.specs.FlatTally.{flat_atoms}
 use Rattle.flat_ir.specs.Levels.{levels}
@@ -174,7 +176,7 @@ module _ {C : Type 0} (procs : List Proc) (mode : Mode C) (prices : Prices C) (t
   abbrev Tallying : Reduction (FlatTallied C) FlatTally Verdict
   Tallying = flat_tallying procs mode prices told
 
-  abbrev Counting : Reduction (FlatCounted C) FlatCounts Verdict
+  abbrev Counting : Reduction (Counted (FlatState C)) Counts Verdict
   Counting = flat_counting procs mode told
 
   tallied_next : (s : FlatTallied C) (o : Option (Ending Verdict))
@@ -182,28 +184,19 @@ module _ {C : Type 0} (procs : List Proc) (mode : Mode C) (prices : Prices C) (t
   tallied_next s None = refl
   tallied_next s (Some e) = refl
 
-  counted_next : (s : FlatCounted C) (o : Option (Ending Verdict))
-      → (step_unless_ended o Counting.step s).state ≡ step_unless_ended o Plainly.step s.state
-  counted_next s None = refl
-  counted_next s (Some e) = refl
-
   tallied_after : (n : ℕ) (s : FlatTallied C) → (state_after Tallying s n).state ≡ state_after Plainly s.state n
   tallied_after zero s = refl
   tallied_after (suc n) s =
       tallied_after n (step_unless_ended s.state.ended Tallying.step s)
       ∙ ap (λ x. state_after Plainly x n) (tallied_next s s.state.ended)
 
-  counted_after : (n : ℕ) (s : FlatCounted C) → (state_after Counting s n).state ≡ state_after Plainly s.state n
-  counted_after zero s = refl
-  counted_after (suc n) s =
-      counted_after n (step_unless_ended s.state.ended Counting.step s)
-      ∙ ap (λ x. state_after Plainly x n) (counted_next s s.state.ended)
-
   -- so the run with its account goes wrong no more than the one with counts
-  tallied_never_wrong : (start : FlatState C) → NeverWrong (reduction_run Counting (flat_uncounted start))
+  tallied_never_wrong : (start : FlatState C) → NeverWrong (reduction_run Counting (uncounted start))
       → NeverWrong (reduction_run Tallying (flat_untallied start))
   tallied_never_wrong start never n e =
-      never n (ap (λ x. x.ended) (counted_after n (flat_uncounted start) ∙ sym (tallied_after n (flat_untallied start)))
+      never n (ap (λ x. x.ended) (counting_changes_no_state Plainly (flat_words_of_turn procs mode)
+      (flat_wraps_of_turn procs mode) (λ state. length state.frames) n (uncounted start)
+      ∙ sym (tallied_after n (flat_untallied start)))
       ∙ e)
 
 -- ---- sums

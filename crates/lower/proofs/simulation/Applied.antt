@@ -8,8 +8,8 @@ use Rattle.low_ir.specs.declared.code.LowSource.TheVariants.{Word}
 use Rattle.low_ir.specs.Procedures.{Code, Done, Load, TailCall, TailCallAt, CallAt, Call as CallOf}
 use Rattle.low_ir.specs.Steps.{Locals}
 use Rattle.low_ir.specs.Run.{Waiting as LowWaiting, LowState, word_of, words_of, and_more}
-use Rattle.coercion_norm.specs.RunValues.{RunWrap, Pending, plain, all_plain, in_row}
-use Rattle.coercion_norm.specs.ValueSteps.{Entering, onto, pendings_onto}
+use Rattle.cast_modes.specs.RunValues.{RunWrap, Pending, plain, all_plain, in_row}
+use Rattle.cast_modes.specs.ValueSteps.{Entering, onto, pendings_onto}
 use Rattle.coercion_norm.specs.Held.{TypesStand}
 use Rattle.coercion_norm.specs.Objects.{Object}
 use Rattle.flat_ir.specs.declared.code.Operand.{Operand}

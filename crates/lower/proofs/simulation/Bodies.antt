@@ -5,8 +5,8 @@ use Rattle.std.specs.Prelude.{slice_get, ◌==◌, ◌&&◌}
 use Rattle.low_ir.specs.Procedures.{Code, Done}
 use Rattle.low_ir.specs.Steps.{Locals}
 use Rattle.low_ir.specs.Run.{Active, Waiting as LowWaiting, LowState, word_of}
-use Rattle.coercion_norm.specs.RunValues.{RunTuple, RunWrap, RunInt, RunBool, RunUnit, RunFun, RunLoc, RunInject}
-use Rattle.coercion_norm.specs.ValueSteps.{Own, On, OwnFrame}
+use Rattle.cast_modes.specs.RunValues.{RunTuple, RunWrap, RunInt, RunBool, RunUnit, RunFun, RunLoc, RunInject}
+use Rattle.cast_modes.specs.ValueSteps.{Own, On, OwnFrame}
 use Rattle.flat_ir.specs.declared.code.Operand.{Operand}
 use Rattle.flat_ir.specs.Bodies.{Body, Choose, LetBody, LetGroup}
 use Rattle.flat_ir.specs.Closed.{operand_bound, operands_bound, body_bound, begins_group}

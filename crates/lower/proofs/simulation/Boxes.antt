@@ -11,8 +11,8 @@ use Rattle.low_ir.specs.declared.code.LowSource.TheVariants.{Number}
 use Rattle.low_ir.specs.Procedures.{Code, Done, Load, Store, Set, Build}
 use Rattle.low_ir.specs.Steps.{Locals, set_local, store_words, may_store}
 use Rattle.low_ir.specs.Run.{Waiting as LowWaiting, LowState, word_of, words_of}
-use Rattle.coercion_norm.specs.RunValues.{RunLoc, RunUnit, in_row}
-use Rattle.coercion_norm.specs.ValueSteps.{On, Return}
+use Rattle.cast_modes.specs.RunValues.{RunLoc, RunUnit, in_row}
+use Rattle.cast_modes.specs.ValueSteps.{On, Return}
 use Rattle.coercion_norm.specs.Held.{TypesStand, There}
 use Rattle.coercion_norm.specs.ObjectsOfRows.{header}
 use Rattle.coercion_norm.specs.Objects.{Object, Cell, bytes_of, bytes_of_all, object_at}

@@ -7,10 +7,10 @@ use Rattle.low_ir.specs.declared.code.LowSource.TheVariants.{Word}
 use Rattle.low_ir.specs.Procedures.{Code, Done, Load, TailCall, TailCallAt, CallAt, Call as CallOf, Proc as LowProc}
 use Rattle.low_ir.specs.Steps.{Locals, no_locals, set_local}
 use Rattle.low_ir.specs.Run.{Waiting as LowWaiting, LowState, word_of, words_of, and_more, bind, proc_from}
-use Rattle.coercion_norm.specs.RunValues.{RunFun}
-use Rattle.coercion_norm.specs.RunValues.{in_row}
-use Rattle.coercion_norm.specs.RunValues.{row_list}
-use Rattle.coercion_norm.specs.ValueSteps.{Own, On}
+use Rattle.cast_modes.specs.RunValues.{RunFun}
+use Rattle.cast_modes.specs.RunValues.{in_row}
+use Rattle.cast_modes.specs.RunValues.{row_list}
+use Rattle.cast_modes.specs.ValueSteps.{Own, On}
 use Rattle.flat_ir.specs.declared.code.Operand.{Operand}
 use Rattle.flat_ir.specs.Bodies.{Call, Proc}
 use Rattle.flat_ir.specs.Closed.{operand_bound, operands_bound}

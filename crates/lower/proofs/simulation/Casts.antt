@@ -12,7 +12,7 @@ use Rattle.low_ir.specs.declared.code.LowSource.TheVariants.{Word, Number}
 use Rattle.low_ir.specs.Procedures.{Code, Compute, Done, If}
 use Rattle.low_ir.specs.Steps.{Locals, set_local}
 use Rattle.low_ir.specs.Run.{Waiting as LowWaiting, LowState, word_of, words_of}
-use Rattle.coercion_norm.specs.ValueSteps.{on_some, decision_wraps}
+use Rattle.cast_modes.specs.ValueSteps.{on_some, decision_wraps}
 use Rattle.coercion_norm.specs.Held.{TypesStand}
 use Rattle.coercion_norm.specs.Objects.{Object}
 use Rattle.flat_ir.specs.declared.code.Operand.{Operand}

@@ -10,7 +10,7 @@ use Rattle.low_ir.specs.declared.code.LowSource.TheVariants.{Number}
 use Rattle.low_ir.specs.Procedures.{Code, Done, Load, Store, Set, Call, Proc as LowProc}
 use Rattle.low_ir.specs.Steps.{Locals}
 use Rattle.low_ir.specs.Run.{Waiting as LowWaiting, word_of, words_of}
-use Rattle.coercion_norm.specs.RunValues.{RunWrap, in_row}
+use Rattle.cast_modes.specs.RunValues.{RunWrap, in_row}
 use Rattle.coercion_norm.specs.Held.{TypesStand}
 use Rattle.coercion_norm.specs.Objects.{Object}
 use Rattle.flat_ir.specs.declared.code.Operand.{Operand}

@@ -9,8 +9,8 @@ use Rattle.low_ir.specs.Procedures.{Code, Proc as LowProc}
 use Rattle.low_ir.specs.Prices.{low_price, step_price}
 use Rattle.low_ir.specs.Steps.{Locals, no_locals}
 use Rattle.low_ir.specs.Run.{Waiting as LowWaiting, LowState, bind, code_step, word_of, words_of, and_more}
-use Rattle.coercion_norm.specs.RunValues.{RunFun}
-use Rattle.coercion_norm.specs.ValueSteps.{Own, Return, Entering}
+use Rattle.cast_modes.specs.RunValues.{RunFun}
+use Rattle.cast_modes.specs.ValueSteps.{Own, Return, Entering}
 use Rattle.coercion_norm.specs.Held.{TypesStand}
 use Rattle.coercion_norm.specs.Objects.{Object}
 use Rattle.flat_ir.specs.Bodies.{Proc}

@@ -14,10 +14,10 @@ use Rattle.low_ir.specs.declared.code.LowSource.TheVariants.{Word}
 use Rattle.low_ir.specs.Procedures.{Code, Done, Return as ReturnCode}
 use Rattle.low_ir.specs.Steps.{Locals}
 use Rattle.low_ir.specs.Run.{Setting, Waiting, LowState, goes_on}
-use Rattle.coercion_norm.specs.Modes.{TypeCast}
-use Rattle.coercion_norm.specs.RunValues.{RunInt, RunBool, RunUnit, RunFun, RunTuple, RunLoc, RunWrap, RunInject}
-use Rattle.coercion_norm.specs.RunValues.{in_row}
-use Rattle.coercion_norm.specs.ValueSteps.{Return, On, TrapOf}
+use Rattle.cast_modes.specs.Modes.{TypeCast}
+use Rattle.cast_modes.specs.RunValues.{RunInt, RunBool, RunUnit, RunFun, RunTuple, RunLoc, RunWrap, RunInject}
+use Rattle.cast_modes.specs.RunValues.{in_row}
+use Rattle.cast_modes.specs.ValueSteps.{Return, On, TrapOf}
 use Rattle.coercion_norm.specs.Objects.{Object, Fixed, Cell, bytes_of_all, object_at}
 use Rattle.coercion_norm.specs.ObjectsOfRows.{header}
 use Rattle.coercion_norm.specs.Held.{Layout}

@@ -16,17 +16,18 @@ use Rattle.machine_words.specs.Memory.{Memory}
 use Rattle.low_ir.specs.Procedures.{Code}
 use Rattle.low_ir.specs.Steps.{no_locals}
 use Rattle.low_ir.specs.Run.{LowState, LowShown, low_machine, low_start, bind}
-use Rattle.coercion_norm.specs.ValueSteps.{Own, Return, Entering}
+use Rattle.cast_modes.specs.ValueSteps.{Own, Return, Entering}
 use Rattle.flat_ir.specs.Bodies.{Proc}
 use Rattle.flat_ir.specs.Closed.{takes_nothing}
-use Rattle.flat_ir.specs.Counts.{FlatCounted, FlatCounts, flat_counting, flat_uncounted, flat_run_in}
+use Rattle.flat_ir.specs.Counts.{flat_counting, flat_run_in}
 use Rattle.flat_ir.specs.Machine.{FlatFocus, FlatFrame, FlatStore, FlatState, Inside, flat_start, first_world}
 use Rattle.flat_ir.specs.Machine.{flat_turn, flat_state_at, entry_body, new_group}
 use Rattle.std.proofs.Common.{eqb-true, le_refl}
 use Rattle.std.specs.Prelude.{nat_le}
 use Rattle.low_ir.specs.Steps.{Locals}
 use Rattle.low_ir.specs.Run.{Waiting as LowWaiting}
-use Rattle.coercion_norm.specs.RunValues.{RunUnit}
+use Rattle.cast_modes.specs.RunValues.{RunUnit}
+use Rattle.cast_modes.specs.Counting.{Counted, Counts, uncounted}
 use Rattle.lower.specs.Emit.{ToCaller}
 use Rattle.lower.specs.CarriedValues.{CellsHeld}
 use Rattle.lower.specs.Relation.{entry_waiting}
@@ -141,51 +142,51 @@ module _ (program : Program) (typed : TypesStand program.l) where
 module _ (program : Program) (typed : TypesStand program.l) where
   -- ---- the simulation
 
-  abbrev Counted : Type 0
-  Counted = FlatCounted program.meaning.Cast
+  abbrev FlatCounted : Type 0
+  FlatCounted = Counted (FlatState program.meaning.Cast)
 
-  abbrev M : Machine (FlatCounted program.meaning.Cast) FlatCounts Verdict
+  abbrev M : Machine FlatCounted Counts Verdict
   M = machine_of (flat_counting program.procs (mode_of program) program.told)
 
   abbrev N : Machine LowState LowShown Verdict
   N = low_machine ending_of program.setting
 
   -- the test holds of what is shown, and of the number of wrap steps
-  abbrev K : LowShown → FlatCounts → Type 0
+  abbrev K : LowShown → Counts → Type 0
   K shown counts = Passes program.meaning program.setting program.l shown counts.wraps
 
-  abbrev here_at : FlatCounted program.meaning.Cast → Program
+  abbrev here_at : FlatCounted → Program
   here_at s = after_wraps program s.wraps
 
-  abbrev Rel : ℕ → FlatCounted program.meaning.Cast → LowState → Type 0
+  abbrev Rel : ℕ → FlatCounted → LowState → Type 0
   Rel j s t =
       (((due : ℕ) × Live (after_wraps program s.wraps) s.state due t) × (j ≡ size_of s.state))
       ⊎ (Over (after_wraps program s.wraps) s.state t
       ⊎ ((low : ℕ) × (i : ℕ) × (j ≡ suc (i + low)) × (room have before left : ℕ)
       × Waits program room low have before (suc i) left s.state s.wraps t))
 
-  abbrev SomeRel : FlatCounted program.meaning.Cast → LowState → Type 0
+  abbrev SomeRel : FlatCounted → LowState → Type 0
   SomeRel s t = (j : ℕ) × Rel j s t
 
-  abbrev stepped : FlatCounted program.meaning.Cast → FlatCounted program.meaning.Cast
+  abbrev stepped : FlatCounted → FlatCounted
   stepped s = (flat_counting program.procs (mode_of program) program.told).step s
 
-  abbrev wraps_in : FlatCounted program.meaning.Cast → ℕ
+  abbrev wraps_in : FlatCounted → ℕ
   wraps_in s = flat_turn_wraps program.procs (mode_of program) s.state.focus s.state.frames
 
-  seen_alike : (s : FlatCounted program.meaning.Cast) (t : LowState) → t.world.output ≡ s.state.world.output
+  seen_alike : (s : FlatCounted) (t : LowState) → t.world.output ≡ s.state.world.output
       → FillingAt program s.wraps t → Alike K M N s t
   seen_alike s t e filling = record { output = e; shown = filling }
 
   -- a turn in place
-  on_way : (s : FlatCounted program.meaning.Cast) → wraps_in s ≡ 0 → (base room : ℕ) (t : LowState)
+  on_way : (s : FlatCounted) → wraps_in s ≡ 0 → (base room : ℕ) (t : LowState)
       → Way (after_wraps program s.wraps) s.state (stepped s).state base room t → OnTheWay K Any M N s (stepped s) t
   on_way s none base room t (inl e, filling, fits) = (inl (seen_alike s t e.0 filling), tt)
   on_way s none base room t (inr e, filling, fits) =
       let more : s.wraps ≡ s.wraps + wraps_in s = omega (arith, none) in
       (inr (seen_alike (stepped s) t e.0 (subst (λ n. FillingAt program n t) more filling)), tt)
 
-  lands_in : (s : FlatCounted program.meaning.Cast) → wraps_in s ≡ 0 → (due : ℕ) (t : LowState)
+  lands_in : (s : FlatCounted) → wraps_in s ≡ 0 → (due : ℕ) (t : LowState)
       → R (after_wraps program s.wraps) (stepped s).state due t → Rel (size_of (stepped s).state) (stepped s) t
   lands_in s none due t r =
       let more : s.wraps ≡ s.wraps + wraps_in s = omega (arith, none) in by_way more r
@@ -199,7 +200,7 @@ module _ (program : Program) (typed : TypesStand program.l) where
       by_way more (inr (inr z)) = absurd z
 
   -- a turn in which a procedure serves
-  on_served : (s : FlatCounted program.meaning.Cast) → (stepped s).state.world.output ≡ s.state.world.output
+  on_served : (s : FlatCounted) → (stepped s).state.world.output ≡ s.state.world.output
       → (limit room : ℕ) (t : LowState)
       → OnServed program s.state.world.output s.wraps (s.wraps + wraps_in s) limit room t
       → OnTheWay K Any M N s (stepped s) t
@@ -210,25 +211,25 @@ module _ (program : Program) (typed : TypesStand program.l) where
       by_filling (inl x) = (inl (seen_alike s t o.same x), tt)
       by_filling (inr x) = (inr (seen_alike (stepped s) t (o.same ∙ sym silent) x), tt)
 
-  settled_in : (s : FlatCounted program.meaning.Cast) (due : ℕ) (t : LowState)
+  settled_in : (s : FlatCounted) (due : ℕ) (t : LowState)
       → Settled (after_wraps program s.wraps) s.state due t → SomeRel s t
   settled_in s due t (inl l) = (size_of s.state, inl ((due, l), refl))
   settled_in s due t (inr o) = (0, inr (inl o))
 
-  waits_in : (s : FlatCounted program.meaning.Cast) (t : LowState) (room low have before i left : ℕ)
+  waits_in : (s : FlatCounted) (t : LowState) (room low have before i left : ℕ)
       → Waits program room low have before i left s.state s.wraps t → SomeRel s t
   waits_in s t room low have before zero left (inl o) = (0, inr (inl o.0))
   waits_in s t room low have before zero left (inr x) = settled_in s x.0 t x.1
   waits_in s t room low have before (suc i) left x =
       (suc (i + low), inr (inr (low, i, refl, room, have, before, left, x)))
 
-  abbrev Goes_on : ℕ → FlatCounted program.meaning.Cast → LowState → Type 0
+  abbrev Goes_on : ℕ → FlatCounted → LowState → Type 0
   Goes_on j s t =
       ((j' : ℕ) × (j' < j) × Rel j' (stepped s) t)
       ⊎ ((k : ℕ) × Reaches N (OnTheWay K Any M N s (stepped s)) (SomeRel (stepped s)) (suc k) t)
 
   -- steps that come to what the measure says
-  by_count : (s : FlatCounted program.meaning.Cast) (P Q : LowState → Type 0)
+  by_count : (s : FlatCounted) (P Q : LowState → Type 0)
       → ((u : LowState) → P u → OnTheWay K Any M N s (stepped s) u) → ((u : LowState) → Q u → SomeRel (stepped s) u)
       → (j k : ℕ) (t : LowState) → Reaches N P Q k t
       → (k ≡ 0 → Q t → (j' : ℕ) × (j' < j) × Rel j' (stepped s) t) → Goes_on j s t
@@ -236,7 +237,7 @@ module _ (program : Program) (typed : TypesStand program.l) where
   by_count s P Q p q j (suc k) t r none =
       inr (k, reaches_weaken N P Q (OnTheWay K Any M N s (stepped s)) (SomeRel (stepped s)) p q (suc k) t r)
 
-  from_live : (s : FlatCounted program.meaning.Cast) (t : LowState) (w own : ℕ) → wraps_in s ≡ w
+  from_live : (s : FlatCounted) (t : LowState) (w own : ℕ) → wraps_in s ≡ w
       → DoesDue (after_wraps program s.wraps) typed s.state
       (flat_turn program.procs (mode_of program) s.state.store s.state.world s.state.focus s.state.frames) w own t
       → Goes_on (size_of s.state) s t
@@ -268,7 +269,7 @@ module _ (program : Program) (typed : TypesStand program.l) where
       (sym e) q.1.2)) (size_of s.state) served.3.0.steps t served.3.0.reach
       (λ k q. absurd (let y = served.3.1 in omega (arith, y, k)))
 
-  from_waits : (s : FlatCounted program.meaning.Cast) (t : LowState) (room low have before i left : ℕ)
+  from_waits : (s : FlatCounted) (t : LowState) (room low have before i left : ℕ)
       → (next_of program s.state).world.output ≡ s.state.world.output
       → Next program (Waits program room low have before i) room low (i ≡ 0) s.state.world.output (next_of program
       s.state)
@@ -302,7 +303,7 @@ module _ (program : Program) (typed : TypesStand program.l) where
       c.0.reach
       (λ k q. (suc (i + low), omega arith, inr (inr (low, i, refl, room, have, before, c.0.left, q.1))))
 
-  over_does : (j : ℕ) (s : FlatCounted program.meaning.Cast) (t : LowState)
+  over_does : (j : ℕ) (s : FlatCounted) (t : LowState)
       → Over (after_wraps program s.wraps) s.state t → DoesAt K Any M N Rel j s t (M.step s)
   over_does j s t o =
       subst (λ e. DoesAt K Any M N Rel j s t (go_or_stop e stepped s)) (sym o.is)
@@ -321,7 +322,7 @@ module _ (program : Program) (typed : TypesStand program.l) where
             )) ends.steps t ends.reach,
       )) o.ends)
 
-  does : (j : ℕ) (s : FlatCounted program.meaning.Cast) (t : LowState) → Rel j s t
+  does : (j : ℕ) (s : FlatCounted) (t : LowState) → Rel j s t
       → DoesAt K Any M N Rel j s t (M.step s)
   does j s t (inl ((due, l), e)) =
       subst (λ o. DoesAt K Any M N Rel j s t (go_or_stop o stepped s)) (sym l.is)
@@ -334,7 +335,7 @@ module _ (program : Program) (typed : TypesStand program.l) where
       subst (λ o. DoesAt K Any M N Rel j s t (go_or_stop o stepped s)) (sym x.0)
       (subst (λ n. Goes_on n s t) (sym e) (from_waits s t room low have before i left x.2 x.3))
 
-  alike : (j : ℕ) (s : FlatCounted program.meaning.Cast) (t : LowState) → Rel j s t
+  alike : (j : ℕ) (s : FlatCounted) (t : LowState) → Rel j s t
       → Alike K M N s t × Any (N.shown t) (M.shown s)
   alike j s t (inl ((due, l), e)) =
       (seen_alike s t (ap (λ w. w.output) l.related.world) (l.related.objects, l.related.filled), tt)
@@ -351,8 +352,8 @@ module _ (program : Program) (typed : TypesStand program.l) where
   module _ (entry : ℕ) (takes : takes_nothing (slice_get program.procs entry) ≡ true) (memory : Memory)
       (statics : Holds memory program.l.first program.l.statics) (fits : program.setting.region ≤ program.setting.top)
       (input : List ℕ) where
-    abbrev s0 : FlatCounted program.meaning.Cast
-    s0 = flat_uncounted (flat_start program.procs program.told entry input)
+    abbrev s0 : FlatCounted
+    s0 = uncounted (flat_start program.procs program.told entry input)
 
     abbrev t0 : LowState
     t0 = low_start program.setting (entry_proc entry program.answer) memory (first_world input)
@@ -383,9 +384,9 @@ module _ (program : Program) (typed : TypesStand program.l) where
         let fine = enters (suc p.params) (levels p.params p.body + 10) (omega (arith, none)) (omega arith) in
         by_step N (λ t. Alike K M N s0 t × Any (N.shown t) (M.shown s0)) (SomeRel s0) 0 t0 (Go t1) (rw (low, fine) refl)
         (seen_alike s0 t0 refl ([], filled0), tt)
-        (subst (λ o. SomeRel (flat_uncounted (flat_state_at program.procs program.told
+        (subst (λ o. SomeRel (uncounted (flat_state_at program.procs program.told
         (Own (Inside (entry_body o) (λ level. RunUnit) (new_group 0 []))) [] [] (first_world input))) t1) (sym there)
-        (settled_in (flat_uncounted (flat_state_at program.procs program.told
+        (settled_in (uncounted (flat_state_at program.procs program.told
         (Own (Inside p.body (λ level. RunUnit) (new_group 0 []))) [] [] (first_world input))) 0 t1 (inl (record {
           is = refl;
           related = record {

@@ -13,12 +13,12 @@ use Rattle.grift_base.specs.declared.operators.PrimOp.TheVariants.{VectorLength}
 use Rattle.low_ir.specs.Procedures.{Code, Return as ReturnCode}
 use Rattle.low_ir.specs.Steps.{Locals, set_local}
 use Rattle.low_ir.specs.Run.{Waiting as LowWaiting, LowState, word_of}
-use Rattle.coercion_norm.specs.RunValues.{RunTuple, RunWrap, RunInt, RunBool, RunUnit, RunFun, RunLoc, RunInject}
-use Rattle.coercion_norm.specs.RunValues.{Pending}
-use Rattle.coercion_norm.specs.RunValues.{all_plain, row_list}
-use Rattle.coercion_norm.specs.ValueSteps.{CastFrame, ProjFrame, PrimFrame, EnterFrame, OwnFrame, Own, Return, Entering}
-use Rattle.coercion_norm.specs.ValueSteps.{On, NoNext, onto, next_argument, enter, on_some, run_on_ints, run_on_int}
-use Rattle.coercion_norm.specs.ValueSteps.{run_on_bool, run_newline, run_reads, run_read}
+use Rattle.cast_modes.specs.RunValues.{RunTuple, RunWrap, RunInt, RunBool, RunUnit, RunFun, RunLoc, RunInject}
+use Rattle.cast_modes.specs.RunValues.{Pending}
+use Rattle.cast_modes.specs.RunValues.{all_plain, row_list}
+use Rattle.cast_modes.specs.ValueSteps.{CastFrame, ProjFrame, PrimFrame, EnterFrame, OwnFrame, Own, Return, Entering}
+use Rattle.cast_modes.specs.ValueSteps.{On, NoNext, onto, next_argument, enter, on_some, run_on_ints, run_on_int}
+use Rattle.cast_modes.specs.ValueSteps.{run_on_bool, run_newline, run_reads, run_read}
 use Rattle.grift_base.specs.World.{printing}
 use Rattle.std.specs.Prelude.{codes, not, int_lt, int_le, ◌+ℤ◌, ◌-ℤ◌}
 use Rattle.std.specs.Int.{w64, int_wrap}
@@ -26,9 +26,9 @@ use Rattle.std.specs.Fmt.{signed_decimal}
 use Rattle.std.specs.Prelude.{◌*ℤ◌, int_rem}
 use Rattle.std.specs.Int.{int_wrapping_div}
 use Rattle.grift_base.specs.declared.verdicts.Trap.TheVariants.{ZeroDivisor}
-use Rattle.coercion_norm.specs.ValueSteps.{TrapOf}
+use Rattle.cast_modes.specs.ValueSteps.{TrapOf}
 use Rattle.std.specs.Ordering.{int_eq}
-use Rattle.coercion_norm.specs.RunValues.{in_row}
+use Rattle.cast_modes.specs.RunValues.{in_row}
 use Rattle.flat_ir.specs.Machine.{flat_operate}
 use Rattle.flat_ir.specs.declared.code.Operand.{Operand}
 use Rattle.flat_ir.specs.declared.code.Operation.{Operation}
@@ -68,7 +68,7 @@ use Rattle.lower.proofs.simulation.Way.{frames_weight}
 use Rattle.lower.proofs.simulation.Gives.{CarriedHere, RestHere, CallersHere, put_in, word_fits, word_for, code_for}
 use Rattle.lower.proofs.simulation.Operations.{wrong_by, move_turns, tuple_turns, part_turns}
 use Rattle.flat_ir.specs.Machine.{flat_cast, set_group, new_group}
-use Rattle.coercion_norm.specs.ValueSteps.{casts_onto, decision_wraps, run_enter_wrapped}
+use Rattle.cast_modes.specs.ValueSteps.{casts_onto, decision_wraps, run_enter_wrapped}
 use Rattle.flat_ir.specs.Counts.{decision_at, flat_turn_wraps}
 use Rattle.lower.proofs.simulation.Services.{Served}
 use Rattle.lower.proofs.simulation.Casts.{cast_served}
@@ -79,7 +79,7 @@ use Rattle.lower.proofs.simulation.Cells.{vector_made, vector_read, vector_writt
 use Rattle.lower.proofs.simulation.Cells.{box_written}
 use Rattle.lower.proofs.simulation.Boxes.{box_made, box_read_here, box_written_here}
 use Rattle.lower.proofs.simulation.Operators.{one_operand, two_operands}
-use Rattle.coercion_norm.specs.ValueSteps.{run_unbox_cell, run_writes_cell}
+use Rattle.cast_modes.specs.ValueSteps.{run_unbox_cell, run_writes_cell}
 use Rattle.std.specs.Prelude.{slice_set, ◌++◌, nat_lt, nat_le, ◌*◌, ◌≤◌}
 use Rattle.lower.proofs.simulation.Operators.{is_plain, operator_turns, needed as needed_of}
 use Rattle.lower.proofs.simulation.Bodies.{branch_turns, let_turns, group_turns, gave_turns}

@@ -7,10 +7,10 @@ use Rattle.grift_base.specs.World.{WorldState}
 use Rattle.low_ir.specs.Procedures.{Code, Return as ReturnCode}
 use Rattle.low_ir.specs.Steps.{Locals}
 use Rattle.low_ir.specs.Run.{LowState, Waiting as LowWaiting}
-use Rattle.coercion_norm.specs.RunValues.{RunTuple, RunWrap, RunInt, RunBool, RunUnit, RunFun, RunLoc, RunInject}
-use Rattle.coercion_norm.specs.RunValues.{in_row}
-use Rattle.coercion_norm.specs.RunValues.{row_list}
-use Rattle.coercion_norm.specs.ValueSteps.{Return, On, NoNext, on_some}
+use Rattle.cast_modes.specs.RunValues.{RunTuple, RunWrap, RunInt, RunBool, RunUnit, RunFun, RunLoc, RunInject}
+use Rattle.cast_modes.specs.RunValues.{in_row}
+use Rattle.cast_modes.specs.RunValues.{row_list}
+use Rattle.cast_modes.specs.ValueSteps.{Return, On, NoNext, on_some}
 use Rattle.flat_ir.specs.declared.code.Operand.{Operand}
 use Rattle.flat_ir.specs.declared.code.Operation.{Operation}
 use Rattle.flat_ir.specs.declared.code.Operation.TheVariants.{Move, Tuple, Proj}
@@ -52,7 +52,7 @@ use Rattle.grift_base.specs.declared.verdicts.Verdict.{Verdict}
 use Rattle.lower.proofs.simulation.Gives.{CarriedHere, RestHere, CallersHere, given, word_for, code_for, word_fits}
 use Rattle.lower.proofs.simulation.Gives.{Fitting, due_for}
 use Rattle.lower.proofs.simulation.ShownAnswers.{answered}
-use Rattle.coercion_norm.specs.ValueSteps.{CastFrame, casts_onto}
+use Rattle.cast_modes.specs.ValueSteps.{CastFrame, casts_onto}
 
 -- where a return is next, no branches around it are ended
 returned_kept : (o : Option (Ending Verdict)) (code k rests own waits budget : ℕ) → code + 28 ≤ k + budget

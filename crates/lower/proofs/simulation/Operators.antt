@@ -18,9 +18,9 @@ use Rattle.low_ir.specs.declared.code.LowSource.TheVariants.{Number}
 use Rattle.low_ir.specs.Procedures.{Code, Done, Environment}
 use Rattle.low_ir.specs.Steps.{Locals}
 use Rattle.low_ir.specs.Run.{Waiting as LowWaiting, LowState}
-use Rattle.coercion_norm.specs.RunValues.{RunInt, RunBool, RunUnit}
-use Rattle.coercion_norm.specs.ValueSteps.{Return, On, NoNext, run_on_ints, run_on_int, run_on_bool, run_newline}
-use Rattle.coercion_norm.specs.ValueSteps.{run_reads, run_read}
+use Rattle.cast_modes.specs.RunValues.{RunInt, RunBool, RunUnit}
+use Rattle.cast_modes.specs.ValueSteps.{Return, On, NoNext, run_on_ints, run_on_int, run_on_bool, run_newline}
+use Rattle.cast_modes.specs.ValueSteps.{run_reads, run_read}
 use Rattle.flat_ir.specs.declared.code.Operand.{Operand}
 use Rattle.flat_ir.specs.declared.code.Operation.TheVariants.{Prim}
 use Rattle.flat_ir.specs.Bodies.{Give}
@@ -45,7 +45,7 @@ use Rattle.grift_base.specs.declared.verdicts.Trap.TheVariants.{ZeroDivisor, Inp
 use Rattle.grift_base.specs.declared.verdicts.Verdict.{Verdict}
 use Rattle.grift_base.specs.declared.verdicts.Verdict.TheVariants.{Trap as TrapVerdict}
 use Rattle.machine_words.specs.Halts.{ending_of}
-use Rattle.coercion_norm.specs.ValueSteps.{TrapOf}
+use Rattle.cast_modes.specs.ValueSteps.{TrapOf}
 use Rattle.rt_refs.specs.Answering.{Quiet, TrapsNext}
 use Rattle.rt_cast.specs.States.{heap_of}
 use Rattle.lower.proofs.words.Operands.{and_true}

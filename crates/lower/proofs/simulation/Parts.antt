@@ -9,8 +9,8 @@ use Rattle.low_ir.specs.declared.code.LowSource.TheVariants.{Number}
 use Rattle.low_ir.specs.Procedures.{Code, Done, Load, Call}
 use Rattle.low_ir.specs.Steps.{Locals}
 use Rattle.low_ir.specs.Run.{Waiting as LowWaiting, LowState, word_of, words_of, and_more}
-use Rattle.coercion_norm.specs.RunValues.{RunWrap, in_row}
-use Rattle.coercion_norm.specs.ValueSteps.{run_proj_dyn}
+use Rattle.cast_modes.specs.RunValues.{RunWrap, in_row}
+use Rattle.cast_modes.specs.ValueSteps.{run_proj_dyn}
 use Rattle.coercion_norm.specs.Held.{TypesStand}
 use Rattle.coercion_norm.specs.Objects.{Object}
 use Rattle.flat_ir.specs.declared.code.Operand.{Operand}

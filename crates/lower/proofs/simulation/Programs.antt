@@ -15,8 +15,8 @@ use Rattle.machine_words.specs.Memory.{Memory}
 use Rattle.low_ir.specs.Prices.{low_price}
 use Rattle.low_ir.specs.Procedures.{Proc as LowProc}
 use Rattle.low_ir.specs.Run.{Setting, low_machine, low_start}
-use Rattle.coercion_norm.specs.AnswerTypes.{Told}
-use Rattle.coercion_norm.specs.Modes.{TypeCast}
+use Rattle.cast_modes.specs.AnswerTypes.{Told}
+use Rattle.cast_modes.specs.Modes.{TypeCast}
 use Rattle.flat_ir.specs.Bodies.{Proc}
 use Rattle.flat_ir.specs.Closed.{is_closed, takes_nothing, each_closed}
 use Rattle.flat_ir.specs.Counts.{flat_run_in}

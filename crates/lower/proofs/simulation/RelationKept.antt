@@ -8,7 +8,7 @@ use Rattle.grift_base.specs.Types.{TypeRow}
 use Rattle.low_ir.specs.Procedures.{Code, Done}
 use Rattle.low_ir.specs.Steps.{Locals, set_local}
 use Rattle.low_ir.specs.Run.{Setting, Waiting as LowWaiting}
-use Rattle.coercion_norm.specs.ValueSteps.{CastFrame, ProjFrame, PrimFrame, EnterFrame, OwnFrame}
+use Rattle.cast_modes.specs.ValueSteps.{CastFrame, ProjFrame, PrimFrame, EnterFrame, OwnFrame}
 use Rattle.flat_ir.specs.Bodies.{Proc}
 use Rattle.flat_ir.specs.Machine.{FlatValue, FlatFrame, Group, Locals as FlatLocals, Waiting}
 use Rattle.flat_ir.specs.Machine.{set_local as set_flat}

@@ -7,7 +7,7 @@ use Rattle.low_ir.specs.declared.code.LowSource.{LowSource}
 use Rattle.low_ir.specs.Procedures.{Code, Return as ReturnCode}
 use Rattle.low_ir.specs.Steps.{Locals}
 use Rattle.low_ir.specs.Run.{Waiting as LowWaiting, LowState, word_of, with_local}
-use Rattle.coercion_norm.specs.ValueSteps.{Own, Return, Entering, CastFrame, casts_onto, decision_wraps}
+use Rattle.cast_modes.specs.ValueSteps.{Own, Return, Entering, CastFrame, casts_onto, decision_wraps}
 use Rattle.coercion_norm.specs.Held.{TypesStand}
 use Rattle.coercion_norm.specs.Objects.{Object}
 use Rattle.flat_ir.specs.Counts.{decision_at}

@@ -13,7 +13,7 @@ use Rattle.run_laws.proofs.Public.{reaches_weaken}
 use Rattle.low_ir.specs.Run.{Setting, LowState}
 use Rattle.coercion_norm.specs.Held.{Layout}
 use Rattle.lower.specs.Meanings.{Meaning}
-use Rattle.coercion_norm.specs.ValueSteps.{Own, Return, Entering, On, BlameOf, TrapOf, NoNext}
+use Rattle.cast_modes.specs.ValueSteps.{Own, Return, Entering, On, BlameOf, TrapOf, NoNext}
 use Rattle.flat_ir.specs.Counts.{flat_turn_wraps}
 use Rattle.flat_ir.specs.Machine.{FlatFrame, FlatFocus, FlatAfter, FlatState, FlatStore, flat_state_at}
 use Rattle.flat_ir.specs.Machine.{flat_turn, blame_ending, answer_at}

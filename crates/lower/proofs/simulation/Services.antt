@@ -9,7 +9,7 @@ use Rattle.low_ir.specs.declared.code.LowSource.{LowSource}
 use Rattle.low_ir.specs.Procedures.{Code, Call, Proc as LowProc}
 use Rattle.low_ir.specs.Steps.{Locals, set_local}
 use Rattle.low_ir.specs.Run.{Waiting as LowWaiting, LowState, words_of, code_step}
-use Rattle.coercion_norm.specs.ValueSteps.{Own, Return, Entering}
+use Rattle.cast_modes.specs.ValueSteps.{Own, Return, Entering}
 use Rattle.coercion_norm.specs.Held.{TypesStand}
 use Rattle.coercion_norm.specs.Objects.{Object}
 use Rattle.flat_ir.specs.Machine.{FlatValue, FlatFrame, FlatFocus, FlatAfter, FlatState, FlatStore, Group}

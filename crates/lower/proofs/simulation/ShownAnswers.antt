@@ -20,9 +20,9 @@ use Rattle.low_ir.specs.declared.code.LowSource.TheVariants.{Word, Number}
 use Rattle.low_ir.specs.Procedures.{Code, Return as ReturnCode}
 use Rattle.low_ir.specs.Steps.{Locals, no_locals, set_local}
 use Rattle.low_ir.specs.Run.{LowState, word_of}
-use Rattle.coercion_norm.specs.AnswerTypes.{fits_type, run_head, row_has_head}
-use Rattle.coercion_norm.specs.RunValues.{RunInt, RunBool, RunUnit, RunFun, RunTuple, RunLoc, RunWrap, RunInject, shown}
-use Rattle.coercion_norm.specs.ValueSteps.{Return}
+use Rattle.cast_modes.specs.AnswerTypes.{fits_type, run_head, row_has_head}
+use Rattle.cast_modes.specs.RunValues.{RunInt, RunBool, RunUnit, RunFun, RunTuple, RunLoc, RunWrap, RunInject, shown}
+use Rattle.cast_modes.specs.ValueSteps.{Return}
 use Rattle.flat_ir.specs.Machine.{FlatValue, FlatStore, FlatState, flat_arity, flat_state_at}
 use Rattle.std.proofs.lemmas.Nat.{and_mask}
 use Rattle.grift_base.specs.Types.{TypeRows, VectHead, RefHead, parts_of}

@@ -8,8 +8,8 @@ use Rattle.low_ir.specs.Steps.{Locals}
 use Rattle.low_ir.specs.Run.{Setting, Active, Waiting as LowWaiting, LowState, held_by}
 use Rattle.coercion_norm.specs.Held.{Layout}
 use Rattle.coercion_norm.specs.Objects.{Object}
-use Rattle.coercion_norm.specs.ValueSteps.{CastFrame, ProjFrame, PrimFrame, EnterFrame, OwnFrame, Own, Return, Entering}
-use Rattle.coercion_norm.specs.ValueSteps.{casts_onto}
+use Rattle.cast_modes.specs.ValueSteps.{CastFrame, ProjFrame, PrimFrame, EnterFrame, OwnFrame, Own, Return, Entering}
+use Rattle.cast_modes.specs.ValueSteps.{casts_onto}
 use Rattle.flat_ir.specs.Bodies.{Proc}
 use Rattle.flat_ir.specs.Machine.{FlatFrame, FlatFocus, FlatState, Group, Inside, Waiting}
 use Rattle.rt_cast.specs.Frames.{frame_room, waiting_room, stack_room}

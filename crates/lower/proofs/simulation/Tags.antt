@@ -7,7 +7,7 @@ use Rattle.low_ir.specs.Operations.{compute}
 use Rattle.low_ir.specs.Procedures.{Code, Done, Compute}
 use Rattle.low_ir.specs.Steps.{Locals, set_local}
 use Rattle.low_ir.specs.Run.{Waiting as LowWaiting, LowState, word_of}
-use Rattle.coercion_norm.specs.ValueSteps.{Own, Return, Entering}
+use Rattle.cast_modes.specs.ValueSteps.{Own, Return, Entering}
 use Rattle.coercion_norm.specs.Held.{TypesStand}
 use Rattle.coercion_norm.specs.Objects.{Object}
 use Rattle.flat_ir.specs.Machine.{FlatValue, FlatFrame, FlatFocus, FlatAfter, FlatState, FlatStore, Group}

@@ -15,9 +15,9 @@ use Rattle.low_ir.specs.Prices.{code_price, codes_price, low_price, CostsAtMost}
 use Rattle.low_ir.specs.Procedures.{Code}
 use Rattle.low_ir.specs.Steps.{Locals}
 use Rattle.low_ir.specs.Run.{Setting, LowState, LowShown, Waiting as LowWaiting, low_machine}
-use Rattle.coercion_norm.specs.AnswerTypes.{Told}
-use Rattle.coercion_norm.specs.Modes.{Mode, TypeCast}
-use Rattle.coercion_norm.specs.ValueSteps.{CastFrame, ProjFrame, PrimFrame, EnterFrame, OwnFrame, Own, Return, Entering}
+use Rattle.cast_modes.specs.AnswerTypes.{Told}
+use Rattle.cast_modes.specs.Modes.{Mode, TypeCast}
+use Rattle.cast_modes.specs.ValueSteps.{CastFrame, ProjFrame, PrimFrame, EnterFrame, OwnFrame, Own, Return, Entering}
 use Rattle.flat_ir.specs.Bodies.{Body, Give, Call, Choose, LetBody, LetGroup, Proc}
 use Rattle.flat_ir.specs.Closed.{each_closed}
 use Rattle.flat_ir.specs.FlatTally.{Cost, Prices, flat_cost, flat_atoms}

@@ -13,7 +13,7 @@ use Rattle.low_ir.specs.declared.code.LowSource.TheVariants.{Word, Number}
 use Rattle.low_ir.specs.Procedures.{Code, Compute, Store, CodeOf, Take, Proc}
 use Rattle.low_ir.specs.Steps.{Locals, set_local, may_store}
 use Rattle.low_ir.specs.Run.{Waiting, word_of}
-use Rattle.coercion_norm.specs.RunValues.{in_row}
+use Rattle.cast_modes.specs.RunValues.{in_row}
 use Rattle.flat_ir.specs.declared.code.Operand.{Operand}
 use Rattle.flat_ir.specs.Closed.{operand_bound, operands_bound}
 use Rattle.flat_ir.specs.Machine.{Group, Locals as FlatLocals, value, values, member, new_group, set_group}

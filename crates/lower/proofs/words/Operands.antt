@@ -17,7 +17,7 @@ use Rattle.low_ir.specs.declared.code.LowSource.TheVariants.{Word, Number}
 use Rattle.low_ir.specs.Procedures.{Code, Compute, Load}
 use Rattle.low_ir.specs.Steps.{Locals, set_local}
 use Rattle.low_ir.specs.Run.{Waiting, word_of, words_of, and_more}
-use Rattle.coercion_norm.specs.RunValues.{in_row}
+use Rattle.cast_modes.specs.RunValues.{in_row}
 use Rattle.flat_ir.specs.declared.code.Operand.{Operand}
 use Rattle.flat_ir.specs.declared.code.Operand.TheVariants.{Local, Captured, Sibling, Int, Bool as BoolCase}
 use Rattle.flat_ir.specs.declared.code.Operand.TheVariants.{Unit as UnitCase}

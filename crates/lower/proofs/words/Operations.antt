@@ -17,7 +17,7 @@ use Rattle.low_ir.specs.Procedures.{Code, Done, Set, Load, Build, Compute, If, C
 use Rattle.low_ir.specs.Steps.{Locals, set_local, store_words}
 use Rattle.low_ir.specs.Run.{Waiting, word_of, words_of, and_more}
 use Rattle.object_layout.specs.declared.kinds.Kind.TheVariants.{Tuple as TupleKind}
-use Rattle.coercion_norm.specs.RunValues.{RunTuple, in_row, row_list}
+use Rattle.cast_modes.specs.RunValues.{RunTuple, in_row, row_list}
 use Rattle.flat_ir.specs.declared.code.Operand.{Operand}
 use Rattle.flat_ir.specs.declared.code.Operation.TheVariants.{Move, Tuple, Proj}
 use Rattle.flat_ir.specs.Closed.{operand_bound, operands_bound, operation_bound}

@@ -18,7 +18,7 @@ use Rattle.low_ir.specs.Operations.{compute}
 use Rattle.low_ir.specs.Procedures.{Code, Done, Compute, Set, Environment}
 use Rattle.low_ir.specs.Steps.{Locals, set_local}
 use Rattle.low_ir.specs.Run.{Setting, Waiting, word_of, words_of, and_more, code_step}
-use Rattle.coercion_norm.specs.RunValues.{RunInt, RunBool, in_row}
+use Rattle.cast_modes.specs.RunValues.{RunInt, RunBool, in_row}
 use Rattle.flat_ir.specs.declared.code.Operand.{Operand}
 use Rattle.flat_ir.specs.Closed.{operands_bound}
 use Rattle.flat_ir.specs.Machine.{FlatValue, Group, Locals as FlatLocals, value, values}

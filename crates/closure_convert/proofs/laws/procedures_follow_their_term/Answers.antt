@@ -1,4 +1,4 @@
-use Rattle.coercion_norm.specs.Modes.{piling}
+use Rattle.cast_modes.specs.Modes.{piling}
 use Rattle.coercion_norm.specs.MergedMode.{merging}
 use Rattle.closure_convert.proofs.Standing.{converted_follows}
 use Rattle.closure_convert.proofs.laws.procedures_follow_their_term.Goals as goal

@@ -1,7 +1,7 @@
 use Rattle.std.proofs.Common.{◌≡◌, length, true, subst, sym}
 use Rattle.run_laws.specs.Accounts.{FollowsWithin}
 use Rattle.run_laws.specs.Runs.{Any, FollowsBy}
-use Rattle.coercion_norm.specs.Modes.{piling}
+use Rattle.cast_modes.specs.Modes.{piling}
 use Rattle.coercion_norm.specs.MergedMode.{merging}
 use Rattle.coer_core.specs.Counts.{run_in, told_of}
 use Rattle.core_calc.specs.Account.{account, extent, measures_of}

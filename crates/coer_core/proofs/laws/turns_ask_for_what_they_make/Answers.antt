@@ -1,5 +1,5 @@
 use Rattle.coercion_norm.specs.MergedMode.{merging}
-use Rattle.coercion_norm.specs.Modes.{piling}
+use Rattle.cast_modes.specs.Modes.{piling}
 use Rattle.coer_core.proofs.AskedFor.{kinds_asked, efforts_asked}
 use Rattle.coer_core.proofs.laws.turns_ask_for_what_they_make.Goals as goal
 

@@ -1,6 +1,6 @@
 use Rattle.std.proofs.Common.{ap, ◌∙◌}
 use Rattle.std.proofs.lemmas.List.{map-append}
-use Rattle.coercion_norm.specs.Modes.{row_cast, row_casts}
+use Rattle.coercion_norm.specs.CastRows.{row_cast, row_casts}
 use Rattle.type_graph.specs.Trees.{height}
 use Rattle.coercion_norm.specs.Heights.{coercion_height}
 use Rattle.coer_core.proofs.FreshRows.{coercions_kept}

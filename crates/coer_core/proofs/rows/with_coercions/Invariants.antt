@@ -1,6 +1,6 @@
 use Rattle.std.proofs.Common.{◌≡◌, take}
 use Rattle.coercion_norm.specs.CoercionTables.{FitsTypes}
-use Rattle.coercion_norm.specs.Modes.{row_casts}
+use Rattle.coercion_norm.specs.CastRows.{row_casts}
 use Rattle.coer_core.specs.Conversion.{cast_views}
 use Rattle.coer_core.specs.Programs.{HaveCoercions, tallest_of}
 use Rattle.coer_core.proofs.rows.with_coercions.Given as goal

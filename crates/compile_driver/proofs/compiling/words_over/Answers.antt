@@ -19,7 +19,7 @@ use Rattle.closure_convert.specs.Conversion.{made}
 use Rattle.low_ir.specs.Closed.{is_closed}
 use Rattle.low_ir.specs.Views.{procs_of}
 use Rattle.reg_assign.specs.Images.{IsImageOfWords}
-use Rattle.coercion_norm.specs.Modes.{row_casts}
+use Rattle.coercion_norm.specs.CastRows.{row_casts}
 use Rattle.coer_core.specs.Programs.{tallest_of}
 use Rattle.coer_core.specs.Terms.{core_of}
 use Rattle.coer_core.specs.Views.{row_term_of}

@@ -1,5 +1,5 @@
 use Rattle.std.proofs.Common.{◌≡◌, ◌++◌, length}
-use Rattle.coercion_norm.specs.Modes.{row_casts}
+use Rattle.coercion_norm.specs.CastRows.{row_casts}
 use Rattle.lower.specs.CastWays.{cast_ways}
 use Rattle.lower.proofs.casts.cast_ways.Given as goal
 

@@ -4,7 +4,7 @@ use Rattle.grift_base.specs.Types.{row_at}
 use Rattle.type_graph.specs.Rows.{row_of}
 use Rattle.flat_ir.specs.Views.{proc_of as flat_proc_of, procs_of as flat_procs_of}
 use Rattle.low_ir.specs.Views.{procs_of}
-use Rattle.coercion_norm.specs.Modes.{row_casts}
+use Rattle.coercion_norm.specs.CastRows.{row_casts}
 use Rattle.lower.specs.CastWays.{cast_ways}
 use Rattle.lower.specs.Sets.{numbers_of, with_casts}
 use Rattle.lower.proofs.closing.Schemes.{program_is_closed, program_is_lowered}

@@ -1,5 +1,5 @@
 use Rattle.std.proofs.Common.{◌≡◌, ◌++◌, length, map}
-use Rattle.coercion_norm.specs.Modes.{row_casts}
+use Rattle.coercion_norm.specs.CastRows.{row_casts}
 use Rattle.piled_scheme.specs.Piling.{word_of}
 use Rattle.piled_scheme.proofs.words.words_of.Given as goal
 

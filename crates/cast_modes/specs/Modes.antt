@@ -1,9 +1,8 @@
 -- What casts do to values, in a mode. A mode knows nothing of how values are made: of a value it sees its shape alone.
-use Rattle.std.specs.Prelude.{ℕ, nat_eq, ℤ, Bool, ◌&&◌, not, if◌then◌else◌, List, [], ◌∷◌, map, Option, Some, None}
+use Rattle.std.specs.Prelude.{ℕ, nat_eq, ℤ, Bool, ◌&&◌, not, if◌then◌else◌, List, [], ◌∷◌, Option, Some, None}
 use Rattle.std.specs.Prelude.{option_map, slice_get}
 use Rattle.grift_base.specs.Types.{TypeHead, equal_heads, head_of, TypeRow, FunRow, TypeRows, row_at, is_dyn, is_base}
 use Rattle.grift_base.specs.Types.{same_head, tuple_part, content_of, dyn_place}
-use Rattle.coercion_norm.specs.declared.cast_rows.CastRow.{CastRow}
 
 -- what is seen of a value whose casts are of type C: it is bare and has the head of its type, it is wrapped by a cast,
 -- or it is in Dyn with the type that it keeps
@@ -80,14 +79,6 @@ pub record TypeCast : Type 0 where
 -- the cast from a type, under a label, to a type
 abbrev pub type_cast : ℕ → ℕ → ℕ → TypeCast
 type_cast from label to = record { from = from; label = label; to = to }
-
--- the cast of a row
-abbrev pub row_cast : CastRow → TypeCast
-row_cast row = type_cast row.from.0 row.label.0 row.to.0
-
--- the casts of rows
-abbrev pub row_casts : List CastRow → List TypeCast
-row_casts rows = map row_cast rows
 
 -- a cast out of Dyn: what is there is cast from the type that it keeps
 abbrev pub opening : Shape TypeCast → TypeCast → Decision TypeCast

@@ -4,8 +4,8 @@ use Rattle.grift_base.specs.Types.{TypeHead, IntHead, BoolHead, UnitHead, DynHea
 use Rattle.grift_base.specs.Types.{VectHead}
 use Rattle.grift_base.specs.Types.{TypeRow, TypeRows, equal_heads, head_of, row_at}
 use Rattle.grift_base.specs.declared.places.Pos.{Pos}
-use Rattle.coercion_norm.specs.RunValues.{RunValue, RunInt, RunBool, RunUnit, RunFun, RunTuple, RunLoc, RunWrap}
-use Rattle.coercion_norm.specs.RunValues.{RunInject, row_list}
+use Rattle.cast_modes.specs.RunValues.{RunValue, RunInt, RunBool, RunUnit, RunFun, RunTuple, RunLoc, RunWrap}
+use Rattle.cast_modes.specs.RunValues.{RunInject, row_list}
 
 -- what a run is told: the places of the labels, the types, and which of them the program has
 pub record Told : Type 0 where

@@ -14,11 +14,11 @@ use Rattle.grift_base.specs.declared.operators.PrimOp.TheVariants.{PrintInt, New
 use Rattle.grift_base.specs.declared.operators.PrimOp.TheVariants.{MakeVector, VectorRef, VectorSet, VectorLength}
 use Rattle.grift_base.specs.declared.verdicts.Trap.{Trap}
 use Rattle.grift_base.specs.declared.verdicts.Trap.TheVariants.{ZeroDivisor, Index, Length, Input}
-use Rattle.coercion_norm.specs.Modes.{Decision, Keeping, Wrapping, Rewrapping, Unwrapping, Injecting, Opening, Making}
-use Rattle.coercion_norm.specs.Modes.{Blaming, DynPart, PartCast, NoPart, NoType, Mode}
-use Rattle.coercion_norm.specs.RunValues.{RunValue, RunValues, RunInt, RunBool, RunUnit, RunFun, RunTuple, RunLoc}
-use Rattle.coercion_norm.specs.RunValues.{RunWrap, RunInject, RunStore, Pending, plain, row_list, shape_of}
-use Rattle.coercion_norm.specs.RunValues.{run_cell_behind}
+use Rattle.cast_modes.specs.Modes.{Decision, Keeping, Wrapping, Rewrapping, Unwrapping, Injecting, Opening, Making}
+use Rattle.cast_modes.specs.Modes.{Blaming, DynPart, PartCast, NoPart, NoType, Mode}
+use Rattle.cast_modes.specs.RunValues.{RunValue, RunValues, RunInt, RunBool, RunUnit, RunFun, RunTuple, RunLoc}
+use Rattle.cast_modes.specs.RunValues.{RunWrap, RunInject, RunStore, Pending, plain, row_list, shape_of}
+use Rattle.cast_modes.specs.RunValues.{run_cell_behind}
 
 -- what waits for a value
 pub data Frame (C K F : Type 0) : Type 0 where

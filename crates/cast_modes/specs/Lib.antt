@@ -1,0 +1,5 @@
+pub mod Modes
+pub mod RunValues
+pub mod ValueSteps
+pub mod AnswerTypes
+pub mod Counting
