@@ -22,6 +22,7 @@ use grift_base::lists::OutOfMemory;
 use grift_base::refusals::FrontFault;
 use low_ir::programs::LowProgram;
 use lower::merged::lower;
+use machine_words::words::are_words;
 use reg_assign::images::image_of;
 use std::alloc::Global;
 use type_graph::tables::TypeTable;
@@ -49,17 +50,6 @@ struct Words {
 struct Made {
     image: Image,
     tallest: u32,
-}
-
-// Nothing to do: each word of a list is below 2 ^ 64.
-fn are_words(words: &[u64])
-    ensures { All (λ w. w < 2 ^ 64) words.now }
-{
-    let mut left = words;
-    while let [word, rest @ ..] = left {
-        let _word = *word;
-        left = rest;
-    }
 }
 
 // The most bytes that statics and code may have: with every region they end below 2 ^ 34.

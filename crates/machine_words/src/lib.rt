@@ -6,6 +6,7 @@
 
 pub mod conditions;
 pub mod faults;
+pub mod words;
 
 ghost use Rattle.machine_words.specs.Halts.{ending_of, stop_of, IsReading};
 

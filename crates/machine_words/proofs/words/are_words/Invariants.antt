@@ -1,6 +1,6 @@
 use Rattle.std.proofs.Common.{◌<◌, ◌^◌, length}
 use Rattle.std.specs.Prelude.{All}
-use Rattle.compile_driver.proofs.compiling.are_words.Given as goal
+use Rattle.machine_words.proofs.words.are_words.Given as goal
 
 -- where what is left is below, so is the whole
 abbrev pub invariant-loop-left : goal.invariant-loop-left
