@@ -88,7 +88,8 @@ use Rattle.reg_assign.specs.Images.{ExceedsStack, FollowsWords, HasRegionOf, IsI
 use Rattle.compile_driver.specs.Compiling.{FollowsProgram}
 use Rattle.compile_driver.specs.Space.{KeepsSpace, KeepsStorage}
 use Rattle.compile_driver.proofs.FewWords.{procedures_have_few_words}
-use Rattle.compile_driver.proofs.HeldCasts.{casts_held, tallest_low, width_of}
+use Rattle.lower.specs.MergedMeaning.{width_of}
+use Rattle.lower.proofs.Public.{casts_held, entry_there, tallest_low}
 use Rattle.compile_driver.proofs.Kept.{kept}
 use Rattle.compile_driver.proofs.Layouts.{layout_stays}
 use Rattle.compile_driver.proofs.Starting.{told, setting, layout, runs_in, code_addresses, are_placed}
@@ -153,14 +154,6 @@ reads_right = record {
 }
 
 -- ---- from numbered procedures to an image
-
--- the procedure to begin with stands behind the flat ones
-pub entry_there : (xs : List Proc) (p : Proc) (rest : List Proc) (n : ℕ) → length xs ≡ n
-    → slice_get (xs ++ p ∷ rest) n ≡ Some p
-entry_there [] p rest zero e = refl
-entry_there [] p rest (suc n) e = cc
-entry_there (x ∷ xs) p rest zero e = cc
-entry_there (x ∷ xs) p rest (suc n) e = entry_there xs p rest n (omega (arith, e))
 
 -- the procedures behind those of a program, and the numbers of those that its code calls
 abbrev pub serving : List FlatProc → List Proc

@@ -28,7 +28,7 @@ use Rattle.rt_cast.specs.States.{Filled, Heap}
 use Rattle.rt_cast.proofs.Public.{objects_fill_the_region}
 use Rattle.reg_assign.specs.Images.{HasRegionOf, IsImageOfWords}
 use Rattle.coer_core.proofs.Public.{no_wider}
-use Rattle.compile_driver.proofs.HeldCasts.{width_of}
+use Rattle.lower.specs.MergedMeaning.{width_of}
 use Rattle.compile_driver.specs.Space.{IsStored, KeepsStorage, told_by}
 use Rattle.compile_driver.proofs.Matching.{Fit, fit_match, starts, statics_fit, words_hold}
 use Rattle.compile_driver.proofs.Starting.{are_placed, layout, setting, start}

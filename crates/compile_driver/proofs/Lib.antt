@@ -1,5 +1,4 @@
 pub mod LabelsLow
-pub mod HeldCasts
 pub mod Starting
 pub mod Layouts
 pub mod Matching

@@ -28,7 +28,7 @@ use Rattle.rt_cast.specs.Objects.{Holds, HoldsWords, HasWord}
 use Rattle.rt_cast.specs.States.{Placed}
 use Rattle.rt_cast.proofs.Public.{objects_stand_where_their_words_do}
 use Rattle.lower.specs.SimulationClaims.{AreCodeAddresses}
-use Rattle.compile_driver.proofs.HeldCasts.{width_of}
+use Rattle.lower.specs.MergedMeaning.{width_of}
 
 -- ---- code addresses
 

@@ -17,3 +17,4 @@ pub mod Arguments
 pub mod Calls
 pub mod Products
 pub mod Serving
+pub mod HeldCasts

@@ -23,5 +23,6 @@ pub mod Cells
 pub mod Moves
 pub mod Following
 pub mod Programs
+pub mod Made
 pub mod SizedStates
 pub mod Account

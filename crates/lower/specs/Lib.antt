@@ -15,4 +15,5 @@ pub mod SchemeLaws
 pub mod SimulationClaims
 pub mod Keeping
 pub mod Following
+pub mod MadePrograms
 pub mod MergedMeaning

@@ -1,7 +1,12 @@
 -- The meaning of the merged scheme: a value in a wrapper is one proxy with one coercion.
-use Rattle.std.specs.Prelude.{◌≡◌, ℕ, suc, ◌+◌, ◌*◌, ◌^◌, ◌<◌, ◌≤◌, List, [], ◌∷◌, length, Some, slice_get}
+use Rattle.std.specs.Prelude.{◌≡◌, ℕ, suc, ◌+◌, ◌*◌, ◌^◌, ◌<◌, ◌≤◌, max, List, [], ◌∷◌, length, Some, slice_get}
+use Rattle.grift_base.specs.Types.{TypeRows}
+use Rattle.grift_base.specs.declared.words.Statics.{Statics}
 use Rattle.low_ir.specs.Run.{Setting, Waiting}
 use Rattle.type_graph.specs.declared.tables.TheConstants.{MOST_HEIGHT}
+use Rattle.core_calc.specs.Account.{widest}
+use Rattle.coercion_norm.specs.declared.cast_rows.CastRow.{CastRow}
+use Rattle.coercion_norm.specs.CastRows.{row_casts}
 use Rattle.coercion_norm.specs.Coercions.{Coercion, Id, Fail, Middle, Inject, Project}
 use Rattle.coercion_norm.specs.declared.middles.MiddleKind.TheVariants.{Fun, Tup, Ref, Vec}
 use Rattle.coercion_norm.specs.CoercionTables.{cast_of}
@@ -9,7 +14,10 @@ use Rattle.coercion_norm.specs.MergedMode.{merging}
 use Rattle.cast_modes.specs.Modes.{TypeCast}
 use Rattle.coercion_norm.specs.Objects.{Object, Fixed, Cell}
 use Rattle.coercion_norm.specs.Held.{Layout, There, Held, height_in}
+use Rattle.coercion_norm.specs.Nodes.{Node}
 use Rattle.coercion_norm.specs.ObjectsOfRows.{header}
+use Rattle.coercion_norm.specs.Statics.{layout_of}
+use Rattle.coer_core.specs.Programs.{tallest_of}
 use Rattle.flat_ir.specs.FlatTally.{merged_prices}
 use Rattle.rt_cast.specs.Carried.{IsLow}
 use Rattle.rt_cast.specs.Procs.{Stand}
@@ -52,6 +60,16 @@ merged_resumes setting l objects waiting [] = ⊥
 merged_resumes setting l objects waiting (c ∷ d ∷ casts) = ⊥
 merged_resumes setting l objects waiting (c ∷ []) =
     (first : ℕ) × Stand setting.procs first × Resumes l first objects waiting c
+
+-- the width of the types, two at least
+abbrev pub width_of : TypeRows → ℕ
+width_of types = max 2 (widest types)
+
+-- what runs are told: types and coercions stand in front of the region, and no proxy's coercion is higher than the
+-- tallest of the casts
+abbrev pub merged_layout : TypeRows → List Node → List CastRow → ℕ → Statics → ℕ → Layout
+merged_layout types nodes casts start statics region =
+    layout_of types nodes start statics [] region (tallest_of types (row_casts casts)) (width_of types)
 
 abbrev pub merged_meaning : Meaning
 merged_meaning = record {

@@ -21,11 +21,12 @@ use crate::served::ProcSet;
 use coercion_norm::cast_rows::CastRows;
 use coercion_norm::placing::place_rows;
 use coercion_norm::tables::CoercionTable;
-use flat_ir::programs::{FlatProcs, FlatProgram};
+use flat_ir::programs::FlatProgram;
 use grift_base::lists::OutOfMemory;
 use grift_base::words::Statics;
 use low_ir::programs::{LowProcs, LowProgram};
 use machine_words::FIRST_ADDRESS;
+use machine_words::words::are_words;
 use rt_cast::numbers::{CAST_PROCS, CastProc};
 use rt_cast::procs::cast_procs;
 use rt_refs::numbers::RefProc;
@@ -49,7 +50,8 @@ fn merged_procs(alloc: Global, first: u32) -> Result<LowProcs, OutOfMemory>
 }
 
 impl Scheme for Merged {
-    ghost use Rattle.lower.specs.MergedMeaning.{merged_meaning};
+    ghost use Rattle.coer_core.specs.Programs.{HaveCoercions};
+    ghost use Rattle.lower.specs.MergedMeaning.{merged_layout, merged_meaning};
     ghost use Rattle.lower.specs.Sets.{merged_numbers, merged_procs};
 
     ghost meaning = { λ _. merged_meaning };
@@ -57,6 +59,10 @@ impl Scheme for Merged {
     ghost procs_from = { λ _ first. merged_procs first };
 
     ghost numbers_from = { λ _ first. merged_numbers first };
+
+    ghost covers = { λ _ types nodes casts. HaveCoercions types nodes casts };
+
+    ghost layout = { λ _ types nodes casts start statics region. merged_layout types nodes casts start statics region };
 
     fn statics(
         &self,
@@ -66,7 +72,9 @@ impl Scheme for Merged {
         casts: &CastRows,
         start: u64,
     ) -> Result<Statics, OutOfMemory> {
-        place_rows(alloc, types, table, casts, start)
+        let placed = place_rows(alloc, types, table, casts, start)?;
+        are_words(placed.cast_at.as_slice());
+        Ok(placed)
     }
 
     fn procs(&self, alloc: Global, first: u32) -> Result<ProcSet, OutOfMemory> {
@@ -85,23 +93,6 @@ impl Scheme for Merged {
     }
 
     fn serves(&self) {}
-}
-
-// One more than the greatest number of 32 bits.
-const BEYOND: u64 = 4_294_967_296;
-
-// Whether the captured names of each procedure, and one more, can be counted by a number of 32 bits.
-fn are_narrow(procs: &FlatProcs) -> bool
-    ensures { result ≡ all_narrow (flat_procs_of procs.now) }
-{
-    let mut left = procs.as_slice();
-    while let [proc, rest @ ..] = left {
-        if proc.captured as u64 + 1 >= BEYOND || proc.group as u64 >= BEYOND {
-            return false;
-        }
-        left = rest;
-    }
-    true
 }
 
 /// The program over words of a flat program over the merged scheme. What stands in memory are its types and coercions,
@@ -127,9 +118,6 @@ pub fn lower(
         → is_closed (procs_of low.procs) low.entry ≡ true) }
     ensures narrow { IfOk result (λ low. all_narrow (flat_procs_of flat.now.procs) ≡ true) }
 {
-    if !are_narrow(&flat.procs) {
-        return Err(OutOfMemory);
-    }
     let statics = place_rows(alloc, types, coercions, casts, FIRST_ADDRESS)?;
     lower_over(alloc, flat, types, casts, statics, &Merged)
 }

@@ -2,8 +2,13 @@
 
 ghost use Rattle.std.specs.Prelude.{ℕ, suc, true, List, Some, All, IfOk, length};
 ghost use Rattle.std.specs.Prelude.{◌≡◌, ◌<◌, ◌≤◌, ◌%◌, ◌^◌};
-ghost use Rattle.grift_base.specs.Types.{TypeRow, row_at};
+ghost use Rattle.grift_base.specs.Types.{TypeRow, TypeRows, row_at};
+ghost use Rattle.grift_base.specs.declared.words.Statics.{Statics};
+ghost use Rattle.machine_words.specs.declared.TheConstants.{FIRST_ADDRESS};
+ghost use Rattle.coercion_norm.specs.declared.cast_rows.CastRow.{CastRow};
 ghost use Rattle.coercion_norm.specs.CoercionTables.{FitsTypes};
+ghost use Rattle.coercion_norm.specs.Held.{Layout};
+ghost use Rattle.coercion_norm.specs.Nodes.{Node};
 ghost use Rattle.coercion_norm.specs.CastRows.{row_casts};
 ghost use Rattle.flat_ir.specs.Closed.{is_closed as is_closed_flat};
 ghost use Rattle.flat_ir.specs.Views.{procs_of as flat_procs_of};
@@ -14,7 +19,9 @@ ghost use Rattle.lower.specs.declared.served.Served.{Served};
 ghost use Rattle.lower.specs.CastWays.{cast_ways};
 ghost use Rattle.lower.specs.Following.{ServesEverywhere};
 ghost use Rattle.lower.specs.Lowered.{lowered};
+ghost use Rattle.lower.specs.MadePrograms.{MadeFollows, MadeKeeps, StaticsServe};
 ghost use Rattle.lower.specs.Meanings.{Meaning, MeaningLaws};
+ghost use Rattle.lower.specs.Serving.{all_narrow};
 ghost use Rattle.lower.specs.Sets.{ServesAnywhere, numbers_of, with_casts};
 
 use crate::casts::cast_ways;
@@ -23,7 +30,7 @@ use crate::lowering::lowered;
 use crate::served::{CastWays, ProcSet, Served};
 use coercion_norm::cast_rows::CastRows;
 use coercion_norm::tables::CoercionTable;
-use flat_ir::programs::FlatProgram;
+use flat_ir::programs::{FlatProcs, FlatProgram};
 use grift_base::lists::OutOfMemory;
 use grift_base::words::{Statics, WordList};
 use low_ir::programs::LowProgram;
@@ -45,7 +52,14 @@ pub trait Scheme {
     // the numbers of those that code calls
     ghost numbers_from: { Self → ℕ → Served };
 
-    /// What stands in memory from the address `start` on, before the code, with a word for each cast.
+    // the casts, with their coercions in a table, that it is for
+    ghost covers: { Self → TypeRows → List Node → List CastRow → Type 0 };
+
+    // what runs are told of statics for these, from an address on, where a region follows
+    ghost layout: { Self → TypeRows → List Node → List CastRow → ℕ → Statics → ℕ → Layout };
+
+    /// What stands in memory from the address `start` on, before the code, with a word for each cast. Where the scheme
+    /// covers the casts, types stand there, and the words are those that it hands on for them.
     fn statics(
         &self,
         alloc: Global,
@@ -58,7 +72,10 @@ pub trait Scheme {
         requires low { start < 2 ^ 32 }
         requires fits { FitsTypes types.now table.now }
         requires casts { All (λ cast. cast.coercion.0 < length table.now.nodes) casts.now }
-        ensures { IfOk result (λ statics. length statics.cast_at ≡ length casts.now) };
+        ensures many { IfOk result (λ statics. length statics.cast_at ≡ length casts.now) }
+        ensures serves { IfOk result (λ statics. covers self.now types.now table.now.nodes casts.now
+            → (region : ℕ) → StaticsServe (meaning self.now) types.now (row_casts casts.now) start statics region
+            (layout self.now types.now table.now.nodes casts.now start statics region)) };
 
     /// The procedures, numbered from `first` on, 64 at most, the last two of which are those of products and quotients.
     /// Wherever they stand in a program, they are closed there, and take what they are handed.
@@ -100,8 +117,26 @@ fn served_by(
     })
 }
 
+// One more than the greatest number of 32 bits.
+const BEYOND: u64 = 4_294_967_296;
+
+// Whether the captured names of each procedure, and one more, can be counted by a number of 32 bits.
+fn are_narrow(procs: &FlatProcs) -> bool
+    ensures { result ≡ all_narrow (flat_procs_of procs.now) }
+{
+    let mut left = procs.as_slice();
+    while let [proc, rest @ ..] = left {
+        if proc.captured as u64 + 1 >= BEYOND || proc.group as u64 >= BEYOND {
+            return false;
+        }
+        left = rest;
+    }
+    true
+}
+
 /// The program over words of a flat program, over what stands in memory for its casts: the procedures that the
-/// definition gives, and behind them those of the scheme.
+/// definition gives, and behind them those of the scheme. More captured names, or functions in a group, than 32 bits
+/// count are answered by want of memory.
 pub fn lower_over<S: Scheme>(
     alloc: Global,
     flat: &FlatProgram,
@@ -120,9 +155,10 @@ pub fn lower_over<S: Scheme>(
     ensures statics { IfOk result (λ low. low.statics ≡ statics) }
     ensures closed { IfOk result (λ low. is_closed_flat (flat_procs_of flat.now.procs) flat.now.entry ≡ true
         → is_closed (procs_of low.procs) low.entry ≡ true) }
+    ensures narrow { IfOk result (λ low. all_narrow (flat_procs_of flat.now.procs) ≡ true) }
 {
     let entry = flat.procs.len();
-    if entry > MOST_PROCS {
+    if entry > MOST_PROCS || !are_narrow(&flat.procs) {
         return Err(OutOfMemory);
     }
     let entry = entry as u32;
@@ -140,7 +176,8 @@ pub fn lower_over<S: Scheme>(
 
 /// The program over words of a flat program, whose casts are made as the scheme says where they aren't made in
 /// place: the procedures that the definition gives, behind them those of the scheme, and what stands in memory for its
-/// casts. It is closed where the flat program is.
+/// casts. It is closed where the flat program is. Then, and where the scheme covers the casts, its run follows that of
+/// the numbered procedures in the mode of the scheme, wherever it is loaded, within their account.
 pub fn lower_with<S: Scheme>(
     alloc: Global,
     flat: &FlatProgram,
@@ -161,7 +198,19 @@ pub fn lower_with<S: Scheme>(
     ensures casts { IfOk result (λ low. length low.statics.cast_at ≡ length casts.now) }
     ensures closed { IfOk result (λ low. is_closed_flat (flat_procs_of flat.now.procs) flat.now.entry ≡ true
         → is_closed (procs_of low.procs) low.entry ≡ true) }
+    ensures follows { IfOk result (λ low. S.covers scheme.now types.now coercions.now.nodes casts.now
+        → is_closed_flat (flat_procs_of flat.now.procs) flat.now.entry ≡ true
+        → MadeFollows (S.meaning scheme.now)
+        (S.layout scheme.now types.now coercions.now.nodes casts.now FIRST_ADDRESS low.statics)
+        flat.now types.now (row_casts casts.now) low) }
+    ensures keeps { IfOk result (λ low. S.covers scheme.now types.now coercions.now.nodes casts.now
+        → is_closed_flat (flat_procs_of flat.now.procs) flat.now.entry ≡ true
+        → MadeKeeps (S.meaning scheme.now)
+        (S.layout scheme.now types.now coercions.now.nodes casts.now FIRST_ADDRESS low.statics)
+        flat.now types.now (row_casts casts.now) low) }
 {
+    scheme.serves();
+    types.row(flat.answer);
     let statics = scheme.statics(alloc, types, coercions, casts, FIRST_ADDRESS)?;
     lower_over(alloc, flat, types, casts, statics, scheme)
 }

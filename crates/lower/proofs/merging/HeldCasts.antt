@@ -16,19 +16,16 @@ use Rattle.coercion_norm.specs.Held.{Layout, Held}
 use Rattle.cast_modes.specs.Modes.{TypeCast}
 use Rattle.coercion_norm.specs.CastRows.{row_cast, row_casts}
 use Rattle.coercion_norm.specs.Nodes.{Node, IsTree, tree_of}
-use Rattle.coercion_norm.specs.Statics.{AreStatics, layout_of}
+use Rattle.coercion_norm.specs.Objects.{words_of_all}
+use Rattle.coercion_norm.specs.Statics.{AreStatics, objects_of}
 use Rattle.coercion_norm.specs.Widths.{CoercionNoWider}
 use Rattle.coercion_norm.specs.declared.cast_rows.CastRow.{CastRow}
 use Rattle.coercion_norm.proofs.Public.{cast_no_wider, coerce_no_higher, coerce_normal}
-use Rattle.core_calc.specs.Account.{widest}
 use Rattle.coer_core.proofs.Public.{no_wider}
 use Rattle.coer_core.specs.Programs.{HaveCoercions, cast_height, tallest_of}
 use Rattle.lower.specs.Emit.{cast_word}
-use Rattle.lower.specs.MergedMeaning.{MergedCasts}
-
--- the width of the types, as the account is told it
-abbrev pub width_of : TypeRows → ℕ
-width_of types = max 2 (widest types)
+use Rattle.lower.specs.MadePrograms.{StaticsServe}
+use Rattle.lower.specs.MergedMeaning.{MergedCasts, merged_layout, merged_meaning, width_of}
 
 -- what holds of each element holds of the one at a place
 at : {X : Type 0} (P : X → Type 0) (xs : List X) → All P xs → (k : ℕ) (x : X) → slice_get xs k ≡ Some x → P x
@@ -79,7 +76,7 @@ module _ {types : TypeRows} {nodes : List Node} {rows : List CastRow} {start : �
     (words : All (λ w. w < 2 ^ 64) statics.cast_at) (region : ℕ)
     (low : tallest_of types (row_casts rows) ≤ 65534) where
   abbrev layout : Layout
-  layout = layout_of types nodes start statics [] region (tallest_of types (row_casts rows)) (width_of types)
+  layout = merged_layout types nodes rows start statics region
 
   as_many : length statics.cast_at ≡ length rows
   as_many =
@@ -114,3 +111,21 @@ module _ {types : TypeRows} {nodes : List Node} {rows : List CastRow} {start : �
               (word_there statics.cast_at number less)),
         );
   }
+
+-- so they serve the scheme, where the casts have their coercions in the table
+pub merged_statics_serve : (types : TypeRows) (nodes : List Node) (rows : List CastRow) (start : ℕ) (statics : Statics)
+    → AreStatics types nodes rows start statics → All (λ w. w < 2 ^ 64) statics.cast_at
+    → HaveCoercions types nodes rows → (region : ℕ)
+    → StaticsServe merged_meaning types (row_casts rows) start statics region
+    (merged_layout types nodes rows start statics region)
+merged_statics_serve types nodes rows start statics placed words made region =
+    let tallest = tallest_of types (row_casts rows) in
+    let stand = placed.types_stand [] region tallest (width_of types) (no_wider types) in
+    record {
+      types_are = refl;
+      first_is = refl;
+      region_is = refl;
+      says = placed.says ∙ ap words_of_all (sym (append-nil (objects_of types nodes statics)));
+      types_stand = stand;
+      cast_words = casts_held placed made words region (tallest_low types stand.heights stand.low (row_casts rows));
+    }

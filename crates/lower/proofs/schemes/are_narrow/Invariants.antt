@@ -1,7 +1,7 @@
 use Rattle.std.proofs.Common.{◌≡◌, length}
 use Rattle.flat_ir.specs.Views.{procs_of}
 use Rattle.lower.specs.Serving.{all_narrow}
-use Rattle.lower.proofs.merged.are_narrow.Given as goal
+use Rattle.lower.proofs.schemes.are_narrow.Given as goal
 
 -- those that are left are narrow where all are
 abbrev pub invariant-loop-left : goal.invariant-loop-left
