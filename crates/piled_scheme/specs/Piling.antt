@@ -4,14 +4,18 @@ use Rattle.std.specs.Prelude.{◌≡◌, ℕ, suc, ◌+◌, ◌*◌, ◌<◌, �
 use Rattle.std.specs.Prelude.{◌⊎◌, List, [], ◌∷◌, ◌++◌, Some, slice_get, map, Option}
 use Rattle.grift_base.specs.Types.{TypeRow, TypeRows, RefRow}
 use Rattle.grift_base.specs.Types.{row_at, same_head, is_base}
+use Rattle.grift_base.specs.declared.words.Statics.{Statics}
 use Rattle.object_layout.specs.declared.kinds.Kind.TheVariants.{Boxed}
 use Rattle.object_layout.specs.Kinds.{kind_number}
 use Rattle.cast_modes.specs.Modes.{TypeCast, piling}
 use Rattle.coercion_norm.specs.Objects.{Object, Fixed, Cell}
 use Rattle.coercion_norm.specs.Held.{Layout, There}
+use Rattle.coercion_norm.specs.Nodes.{Node}
 use Rattle.coercion_norm.specs.ObjectsOfRows.{header}
+use Rattle.coercion_norm.specs.Statics.{layout_of}
 use Rattle.flat_ir.specs.FlatTally.{piled_prices}
 use Rattle.lower.specs.Meanings.{Meaning, IsOwn}
+use Rattle.lower.specs.MergedMeaning.{width_of}
 
 -- ---- types and the words of casts
 
@@ -62,11 +66,13 @@ pub record IsPiled (types : TypeRows) (cast : TypeCast) : Type 0 where
   pub known_other : IsKnown types other
   pub small : cast.label < most_labels
 
--- all are known, and these words are handed on for them
+-- all are known
+abbrev pub AreKnown : TypeRows → List TypeCast → Type 0
+AreKnown types casts = (number : ℕ) (cast : TypeCast) → slice_get casts number ≡ Some cast → IsPiled types cast
+
+-- and these words are handed on for them
 abbrev pub ArePiled : Layout → List TypeCast → List ℕ → Type 0
-ArePiled l casts words =
-    ((number : ℕ) (cast : TypeCast) → slice_get casts number ≡ Some cast → IsPiled l.types cast)
-    × (words ≡ map (word_of l.types) casts)
+ArePiled l casts words = AreKnown l.types casts × (words ≡ map (word_of l.types) casts)
 
 -- ---- wrappers
 
@@ -125,6 +131,10 @@ AreStacked l before (o ∷ objects) number =
     (IsOwn o × AreStacked l (before ++ o ∷ []) objects number)
     ⊎ ((inner part : ℕ) × (under : Object) × (fewer : ℕ) × (o ≡ wrapper_object inner part)
     × There l before inner under × (number ≡ suc fewer) × AreStacked l (before ++ o ∷ []) objects fewer)
+
+-- what runs are told: types and coercions stand in front of the region, and there are no proxies
+abbrev pub piled_layout : TypeRows → List Node → ℕ → Statics → ℕ → Layout
+piled_layout types nodes start statics region = layout_of types nodes start statics [] region 0 (width_of types)
 
 -- Casts are made one by one. There are as many wrappers as wrap steps were made. No value is in Dyn, and no function is
 -- wrapped, so nothing waits for what one gives.

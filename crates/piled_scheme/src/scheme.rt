@@ -18,13 +18,18 @@ pub struct Piled;
 
 impl Scheme for Piled {
     ghost use Rattle.piled_scheme.specs.Codes.{piled_numbers, piled_procs};
-    ghost use Rattle.piled_scheme.specs.Piling.{piled_meaning};
+    ghost use Rattle.coercion_norm.specs.CastRows.{row_casts};
+    ghost use Rattle.piled_scheme.specs.Piling.{AreKnown, piled_layout, piled_meaning};
 
     ghost meaning = { λ _. piled_meaning };
 
     ghost procs_from = { λ _ first. piled_procs first };
 
     ghost numbers_from = { λ _ first. piled_numbers first };
+
+    ghost covers = { λ _ types nodes casts. AreKnown types (row_casts casts) };
+
+    ghost layout = { λ _ types nodes casts start statics region. piled_layout types nodes start statics region };
 
     fn statics(
         &self,
