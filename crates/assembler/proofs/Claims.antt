@@ -202,7 +202,8 @@ module _ {items : List RealItem} {statics : List ℕ} {labels : List Pos} (facts
             intact = λ at a b. refl;
           } in
           uncounted (machine_in reading items setting) (real_machine reading items setting)
-          (state_price items setting) s (follows_at_cost (simulates reading l s.memory items ecall ebreak p) s s r nw) nw
+          (state_price items setting) s
+          (follows_at_cost (simulates reading l s.memory items ecall ebreak p) s s r nw) nw
 
   module _ {V : Type 0} (reading : Halt → Ending V) where
     abbrev sizes_of : {region stack : ℕ} {world : WorldState} {s : State} →

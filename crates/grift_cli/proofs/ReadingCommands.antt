@@ -3,7 +3,8 @@ use Rattle.std.proofs.Common.{ℕ, ◌≡◌, ◌⊎◌, List, [], ◌∷◌, �
 use Rattle.std.specs.Prelude.{codes, sum, ◌≢◌, Bool, false, MatchOption, Option, Some, None}
 use Rattle.std.specs.Borrow.{Bor}
 use Rattle.grift_cli.specs.Commands.{AreNoCommand, Command, Run, Exec, Check, Audit, Casts, Code, ImageOf, Model, Gen}
-use Rattle.grift_cli.specs.Commands.{IsCommand, IsExec, IsFlag, IsGen, IsModel, IsNameOption, IsOfFile, IsRun, number_of}
+use Rattle.grift_cli.specs.Commands.{IsCommand, IsExec, IsFlag, IsGen, IsModel, IsNameOption, IsOfFile, IsRun}
+use Rattle.grift_cli.specs.Commands.{number_of}
 use Rattle.grift_cli.specs.declared.commands.Limits.{Limits}
 use Rattle.grift_cli.specs.ReadCommands.{BeginOtherwise, FlagAtFront, GivesImage, LimitsAtFront, NameAtFront}
 use Rattle.grift_cli.specs.ReadCommands.{GivesNoImage, StepsAtFront, name_bytes}

@@ -169,19 +169,20 @@ abbrev pub is_compiled : (call : CallSeen) (file : List ℕ) (limits : Limits) (
     → IsTold text compiled → IsImage compiled.image → FollowsProgram compiled.image (program_of compiled)
     → KeepsSpace compiled.image compiled.types compiled.tallest → KeepsAccount compiled.image (program_of compiled)
     → IsCompiled call limits space compiled.image input
-is_compiled call file limits input_name space name text input compiled l source told whole follows keeps account = record {
-  file = file;
-  input_name = input_name;
-  name = name;
-  text = text;
-  loaded = l;
-  program = program_of compiled;
-  source = source;
-  whole = whole;
-  follows = follows;
-  keeps = subst (KeepsSpace compiled.image compiled.types) told.tallest keeps;
-  account = account;
-}
+is_compiled call file limits input_name space name text input compiled l source told whole follows keeps account =
+    record {
+      file = file;
+      input_name = input_name;
+      name = name;
+      text = text;
+      loaded = l;
+      program = program_of compiled;
+      source = source;
+      whole = whole;
+      follows = follows;
+      keeps = subst (KeepsSpace compiled.image compiled.types) told.tallest keeps;
+      account = account;
+    }
 
 -- the image of the source is run
 pub says_run : (call : CallSeen) (limits : Limits) (image input : List ℕ) (report : Report)

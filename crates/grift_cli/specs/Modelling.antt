@@ -33,8 +33,8 @@ Models program steps input out _ = ⊥
 
 -- ---- calls
 
--- the file of a model holds a source that is elaborated to this program, which is typed; its calculus is to be run for so
--- many steps at most on this input; no image is put
+-- the file of a model holds a source that is elaborated to this program, which is typed; its calculus is to be run for
+-- so many steps at most on this input; no image is put
 pub record IsModelFile (call : CallSeen) (program : Program) (steps : ℕ) (input : List ℕ) : Type 0 where
   pub file : List ℕ
   pub input_name : Option (List ℕ)

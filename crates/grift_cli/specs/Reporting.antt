@@ -124,8 +124,8 @@ IsMadeLine (HasFault fault) = Unit {0}
 IsMadeLine (Refused refusal) = Unit {0}
 IsMadeLine _ = ⊥
 
--- a check, an audit or a listing that went well puts nothing; else the report's line was put, or, where no memory was left to
--- make it, that of want of memory
+-- a check, an audit or a listing that went well puts nothing; else the report's line was put, or, where no memory was
+-- left to make it, that of want of memory
 abbrev pub PutsReport : Report → SinkSeen → ℕ → Type 0
 PutsReport Checked err status = (status ≡ 0) × Untouched err
 PutsReport Audited err status = (status ≡ 0) × Untouched err
