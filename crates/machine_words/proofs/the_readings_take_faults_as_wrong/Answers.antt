@@ -1,4 +1,5 @@
-use Rattle.machine_words.proofs.Readings.{the_readings_take_faults_as_wrong-endings, the_readings_take_faults_as_wrong-stops}
+use Rattle.machine_words.proofs.Readings.{the_readings_take_faults_as_wrong-endings}
+use Rattle.machine_words.proofs.Readings.{the_readings_take_faults_as_wrong-stops}
 use Rattle.machine_words.proofs.the_readings_take_faults_as_wrong.Goals as goal
 
 pub returns-clause-endings : goal.returns-clause-endings
