@@ -2,7 +2,7 @@
 -- account.
 use Rattle.std.proofs.Common.{◌≡◌, ℕ, zero, suc, ◌<◌, ◌≤◌, true, List, [], ◌∷◌, ◌++◌, length, map, Some, refl, sym}
 use Rattle.std.proofs.Common.{ap, ◌∙◌, subst, slice_get, arith}
-use Rattle.std.specs.Prelude.{◌&&◌, nat_lt, All}
+use Rattle.std.specs.Prelude.{◌&&◌, ◌%◌, nat_lt, All}
 use Rattle.std.proofs.lemmas.Bool.{and_parts}
 use Rattle.std.proofs.lemmas.List.{length-map}
 use Rattle.grift_base.specs.Types.{TypeRow, TypeRows, row_at}
