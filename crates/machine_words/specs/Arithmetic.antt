@@ -31,7 +31,7 @@ flag b = if b then 1 else 0
 abbrev pub signed_less : ℕ → ℕ → Bool
 signed_less a b = int_lt (signed_of a) (signed_of b)
 
--- shifts; a shift by a register takes the low six bits of the amount
+-- shifts by a number of bits
 abbrev pub shift_left : ℕ → ℕ → ℕ
 shift_left a n = a * 2 ^ n % 2 ^ 64
 
@@ -41,7 +41,7 @@ shift_right a n = a / 2 ^ n
 abbrev pub shift_right_signed : ℕ → ℕ → ℕ
 shift_right_signed a n = word_of (int_shr (signed_of a) n)
 
--- ---- the low 32 bits, whose result is sign-extended; a shift by a register takes the low five bits of the amount
+-- ---- the low 32 bits, whose result is sign-extended
 
 abbrev pub low_half : ℕ → ℕ
 low_half a = a % 2 ^ 32

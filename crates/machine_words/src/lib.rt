@@ -1,7 +1,7 @@
 //! Words of 64 bits and the memory they stand in, whatever runs over them: their arithmetic, what conditions compare,
 //! what stores and loads give, and how a run halts.
 //!
-//! The definitions stand in `specs`. A function here has an empty body: its contract is a law of them.
+//! The definitions stand in `specs`. A function here does nothing: its contract is a law of them.
 #![tactic(auto)]
 
 pub mod conditions;

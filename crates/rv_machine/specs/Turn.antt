@@ -105,6 +105,7 @@ call_environment s = comes_to (called s).effect (called s).world s
 
 -- ---- what each instruction does, told what ECALL and EBREAK do
 
+-- a shift by a register takes the low six bits of the amount, and one of the low 32 bits its low five
 abbrev pub act_with : (State → Turn) → (State → Turn) → Inst → State → Turn
 act_with ecall ebreak (Lui rd n) s = put rd (half (n * 2 ^ 12)) s
 act_with ecall ebreak (Auipc rd n) s = put rd (add s.pc (half (n * 2 ^ 12))) s
