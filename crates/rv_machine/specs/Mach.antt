@@ -4,7 +4,7 @@ use Rattle.grift_base.specs.declared.verdicts.Verdict.{Verdict as Outcome}
 use Rattle.run_laws.specs.Runs.{Ending, Moment, Run}
 use Rattle.run_laws.specs.Machines.{Next as Step, Go, Stop, Machine, run}
 use Rattle.rv_machine.specs.State.{State, Turn, Next, Stops}
-use Rattle.machine_words.specs.Halts.{Halt}
+use Rattle.machine_words.specs.Halts.{Halt, ending_of}
 use Rattle.rv_machine.specs.Turn.{turn_of}
 use Rattle.rv_machine.specs.Start.{start_of, fresh_world}
 
