@@ -13,7 +13,6 @@ use Rattle.machine_words.specs.Memory.{load_bytes}
 use Rattle.rv_machine.specs.Registers.{set_reg}
 use Rattle.machine_words.specs.declared.faults.MachineFault.TheVariants.{BadAddress}
 use Rattle.rv_machine.specs.State.{State, Turn, Next, Stops, reg}
-use Rattle.machine_words.specs.Conditions.{holds}
 use Rattle.machine_words.specs.Halts.{Halt}
 use Rattle.rv_machine.specs.Turn.{goes_wrong, next_pc, act_with, act_if, call_environment}
 use Rattle.machine_words.specs.Arithmetic.{subtract}

@@ -3,7 +3,6 @@ use Rattle.std.specs.Prelude.{ℕ, List}
 use Rattle.grift_base.specs.World.{WorldState}
 use Rattle.grift_base.specs.declared.places.Pos.{Pos}
 use Rattle.machine_words.specs.Halts.{Halt}
-use Rattle.machine_words.specs.Halts.{Halt}
 use Rattle.machine_words.specs.Memory.{Memory}
 use Rattle.rv_machine.specs.Registers.{Registers, get_reg}
 
