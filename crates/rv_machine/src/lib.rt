@@ -1,4 +1,4 @@
-//! The machine as definitions: its memory, registers and state, what a turn does, the state in which an
+//! The machine as definitions: its registers and state, what a turn does, the state in which an
 //! image starts, and its run.
 //!
 //! The definitions stand in `specs`. Each function here has an empty body: its contract is a law of the
