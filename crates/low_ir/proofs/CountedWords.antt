@@ -1,20 +1,12 @@
 -- In each state of a run over words those that were taken fill the region up to the allocation word.
-use Rattle.std.proofs.Common.{Bool, true, false, ◌&&◌, ◌||◌, ℕ, zero, suc, ◌+◌, ◌*◌, ◌%◌, ◌^◌, ◌<◌, ◌≤◌, ◌≡◌, ◌≢◌}
+use Rattle.std.proofs.Common.{Bool, true, false, ◌&&◌, ℕ, zero, suc, ◌+◌, ◌*◌, ◌%◌, ◌^◌, ◌<◌, ◌≤◌, ◌≡◌, ◌≢◌}
 use Rattle.std.proofs.Common.{◌⊎◌, inl, inr, List, [], ◌∷◌, Option, Some, None, length, refl, ap, subst, All, arith}
-use Rattle.std.specs.Prelude.{ℤ, pos, nat_lt, nat_le, ◌==◌, slice_get, if◌then◌else◌}
+use Rattle.std.specs.Prelude.{pos, nat_lt, nat_le, ◌==◌, slice_get, if◌then◌else◌}
+use Rattle.std.proofs.lemmas.Bool.{or_parts}
 use Rattle.std.proofs.lemmas.List.Elements.{All-head, All-tail}
 use Rattle.grift_base.specs.World.{WorldState}
-use Rattle.grift_base.specs.Reading.{next_number}
-use Rattle.grift_base.specs.EnvironmentCall.{Called, environment_call, ends, ends_plain, traps, reads}
-use Rattle.grift_base.specs.declared.places.Pos.{Pos}
-use Rattle.grift_base.specs.declared.verdicts.Answer.{Answer}
-use Rattle.grift_base.specs.declared.verdicts.AnswerKind.{AnswerKind}
-use Rattle.grift_base.specs.declared.verdicts.Trap.{Trap}
+use Rattle.grift_base.specs.EnvironmentCall.{environment_call}
 use Rattle.grift_base.specs.declared.verdicts.Verdict.{Verdict}
-use Rattle.grift_base.specs.declared.worlds.EnvEffect.{EnvEffect}
-use Rattle.grift_base.specs.declared.worlds.EnvEffect.TheVariants.{Next as GoesOn, Ended as Answers, Blamed as Blames}
-use Rattle.grift_base.specs.declared.worlds.EnvEffect.TheVariants.{Trapped as Traps, RegionOut as RegionEnds}
-use Rattle.grift_base.specs.declared.worlds.EnvEffect.TheVariants.{StackOut as StackEnds, Refused, OutOfMemory}
 use Rattle.run_laws.specs.Runs.{Ending, Wrong}
 use Rattle.run_laws.specs.Machines.{Next, Go, Stop, Machine, and_then, steps, seen, run}
 use Rattle.machine_words.specs.Memory.{Memory}
@@ -23,97 +15,15 @@ use Rattle.machine_words.specs.Arithmetic.{plus}
 use Rattle.machine_words.specs.Conditions.{holds}
 use Rattle.low_ir.specs.Procedures.{Code, Done, Set, Compute, Load, Store, CodeOf, Build, Request, Take, Environment}
 use Rattle.low_ir.specs.Procedures.{Call, CallAt, If, Return, TailCall, TailCallAt, Proc}
-use Rattle.low_ir.specs.Steps.{no_locals, given, only_if, may_load, may_store, Effect, Goes, Halts, Lost, blame_of}
+use Rattle.low_ir.specs.Steps.{no_locals, given, only_if, may_load, may_store, Effect, Goes, Halts, Lost}
 use Rattle.low_ir.specs.Steps.{effect_of, settle, store_words}
 use Rattle.low_ir.specs.declared.code.LowSource.{LowSource}
 use Rattle.low_ir.specs.Run.{Setting, Waiting, LowState, LowShown, proc_from, bind, word_of, words_of, with_local}
 use Rattle.low_ir.specs.Run.{goes_on, sets, enter_some}
 use Rattle.low_ir.specs.Run.{waits, answers, held_by, falls, request, take_words, build}
 use Rattle.low_ir.specs.Run.{finds_no_room, call_environment, code_step, low_machine, low_start}
+use Rattle.low_ir.proofs.CallEndings.{call_has_room}
 use Rattle.low_ir.specs.Counting.{calls, any_calls, FillsUpTo, Exceeds, IsWantOfRegion, CountsWords}
-
-neither : (a b : Bool) → (a || b) ≡ false → (a ≡ false) × (b ≡ false)
-neither true b e = absurd (let z : ⊥ = cc in z)
-neither false b e = (refl, e)
-
--- ---- environment calls that end for want of region
-
-by_test : (b : Bool) (x y : EnvEffect) → (b ≡ true → x ≢ RegionEnds) → (b ≡ false → y ≢ RegionEnds)
-    → (if b then x else y) ≢ RegionEnds
-by_test true x y h k = h refl
-by_test false x y h k = k refl
-
-either : (b : Bool) (x y : EnvEffect) → x ≢ RegionEnds → y ≢ RegionEnds → (if b then x else y) ≢ RegionEnds
-either b x y h k = by_test b x y (λ e. h) (λ e. k)
-
-answers_end : (a : Answer) → Answers a ≢ RegionEnds
-answers_end a e = cc
-
-traps_end : (t : Trap) → Traps t ≢ RegionEnds
-traps_end t e = cc
-
-refused_ends : Refused ≢ RegionEnds
-refused_ends e = cc
-
-plain_end : (kind : AnswerKind) (word : ℕ) → ends_plain kind word ≢ RegionEnds
-plain_end kind word = either (word == 0) _ _ (answers_end _) refused_ends
-
-ends_end : (kind word : ℕ) → ends kind word ≢ RegionEnds
-ends_end kind word =
-    either (kind == 0) _ _ (answers_end _) (
-    either (kind == 1) _ _ (either (nat_le word 1) _ _ (answers_end _) refused_ends) (
-    either (kind == 2) _ _ (plain_end _ word) (
-    either (kind == 3) _ _ (plain_end _ word) (
-    either (kind == 4) _ _ (plain_end _ word) (
-    either (kind == 5) _ _ (plain_end _ word) (
-    either (kind == 6) _ _ (plain_end _ word) refused_ends))))))
-
-trap_ends : (kind : ℕ) → traps kind ≢ RegionEnds
-trap_ends kind =
-    either (kind == 1) _ _ (traps_end _) (
-    either (kind == 2) _ _ (traps_end _) (
-    either (kind == 3) _ _ (traps_end _) (
-    either (kind == 4) _ _ (traps_end _) refused_ends)))
-
-read_ends : (o : Option ℤ) → reads o ≢ RegionEnds
-read_ends (Some n) e = cc
-read_ends None e = cc
-
--- of a choice between calls
-chosen : (b : Bool) (x y : Called) → (b ≡ true → x.effect ≢ RegionEnds) → y.effect ≢ RegionEnds
-    → (if b then x else y).effect ≢ RegionEnds
-chosen true x y h k = h refl
-chosen false x y h k = k
-
--- a call of another number than 5
-no_region : (number a b labels : ℕ) (w : WorldState) → (number == 5) ≡ false
-    → (environment_call number a b labels w).effect ≢ RegionEnds
-unfolding environment_call
-no_region number a b labels w h =
-    chosen (number == 0) _ _ (λ e. ends_end a b) (
-    chosen (number == 1) _ _ (λ e n. cc) (
-    chosen (number == 2) _ _ (λ e n. cc) (
-    chosen (number == 3) _ _ (λ e. either (nat_lt a labels) _ _ (λ n. cc) refused_ends) (
-    chosen (number == 4) _ _ (λ e. trap_ends a) (
-    chosen (number == 5) _ _ (λ e. absurd (let z : ⊥ = cc in z)) (
-    chosen (number == 6) _ _ (λ e n. cc) (
-    chosen (number == 7) _ _ (λ e. read_ends (next_number w)) refused_ends)))))))
-
-blames_halt : (o : Option Pos) → blame_of o ≢ Halts (Lacks Region)
-blames_halt None e = cc
-blames_halt (Some label) e = cc
-
--- what stops for want of region has come of call 5
-halts_so : (labels : List Pos) (effect : EnvEffect) → effect_of labels effect ≡ Halts (Lacks Region)
-    → effect ≡ RegionEnds
-halts_so labels (GoesOn a b) e = absurd (let z : ⊥ = cc in z)
-halts_so labels (Answers answer) e = absurd (let z : ⊥ = cc in z)
-halts_so labels (Blames label) e = absurd (blames_halt (slice_get labels label) e)
-halts_so labels (Traps trap) e = absurd (let z : ⊥ = cc in z)
-halts_so labels RegionEnds e = refl
-halts_so labels StackEnds e = absurd (let z : ⊥ = cc in z)
-halts_so labels Refused e = absurd (let z : ⊥ = cc in z)
-halts_so labels OutOfMemory e = absurd (let z : ⊥ = cc in z)
 
 -- ---- what holds of each procedure
 
@@ -143,7 +53,7 @@ Spares code = calls 5 code ≡ false
 
 each_spares : (ps : List Proc) → any_calls 5 ps ≡ false → Each (λ p. Spares p.code) ps
 each_spares [] h = tt
-each_spares (p ∷ ps) h = let n = neither _ _ h in (n.0, each_spares ps n.1)
+each_spares (p ∷ ps) h = let n = or_parts _ _ h in (n.0, each_spares ps n.1)
 
 each_holds : (most : ℕ) (ps : List Proc) → All (λ (p : Proc). p.words ≤ most) ps → Each (λ p. p.words ≤ most) ps
 each_holds most [] h = tt
@@ -315,9 +225,8 @@ module _ {V : Type 0} (reading : Halt → Ending V) (setting : Setting) (most : 
       let called = environment_call (number % 2 ^ 64) a b (length setting.labels) s.world in
       if_test s (nat_lt d s.active.count) _ g.0 g.2 (λ h.
       if_test s (nat_lt e s.active.count) _ g.0 g.2 (λ k.
-      settles (effect_of setting.labels called.effect) s _ g.0 g.2 (λ x y. g) (λ c is.
-      no_region (number % 2 ^ 64) a b (length setting.labels) s.world (n c)
-      (halts_so setting.labels called.effect is))))
+      settles (effect_of setting.labels called.effect) s _ g.0 g.2 (λ x y. g) (λ c.
+      call_has_room Region setting.labels (number % 2 ^ 64) a b (length setting.labels) s.world (n c))))
 
   word_at : (a : LowSource) (s : LowState) (go : ℕ → Next LowState V) → Filled s → Holds s
       → ((x : ℕ) → Leads (go x)) → Leads (given s (word_of s.active.locals a) go)
@@ -350,8 +259,8 @@ module _ {V : Type 0} (reading : Halt → Ending V) (setting : Setting) (most : 
   step (Environment number a b d e rest) s g =
       word_at a s _ g.0 g.2 (λ x. word_at b s _ g.0 g.2 (λ y.
       calls_out number x y d e (goes_on rest s.active.rests s)
-      (g.0, λ c. let q = g.1 c in ((neither _ _ q.0).1, q.1, q.2), g.2)
-      (λ c. (neither _ _ (g.1 c).0).0)))
+      (g.0, λ c. let q = g.1 c in ((or_parts _ _ q.0).1, q.1, q.2), g.2)
+      (λ c. (or_parts _ _ (g.1 c).0).0)))
   step (Call d k args rest) s g =
       words_at args s _ g.0 g.2 (λ ws.
       enters (slice_get setting.procs k) ws (waits reading setting d (goes_on rest s.active.rests s)) g.0
@@ -368,13 +277,13 @@ module _ {V : Type 0} (reading : Halt → Ending V) (setting : Setting) (most : 
       branches : (test : Bool) → Good (goes_on (if test then one else other) (rest ∷ s.active.rests) s)
       branches true = (
         g.0,
-        λ c. let q = g.1 c in let n = neither _ _ q.0 in
-            (n.0, ((neither _ _ n.1).1, q.1), q.2),
+        λ c. let q = g.1 c in let n = or_parts _ _ q.0 in
+            (n.0, ((or_parts _ _ n.1).1, q.1), q.2),
         g.2,
       )
       branches false = (
         g.0,
-        λ c. let q = g.1 c in let n = neither _ _ (neither _ _ q.0).1 in
+        λ c. let q = g.1 c in let n = or_parts _ _ (or_parts _ _ q.0).1 in
             (n.0, (n.1, q.1), q.2),
         g.2,
       )

@@ -2,5 +2,6 @@ pub mod Public
 mod OneByOne
 mod WindowLemmas
 mod ClosedInWindows
+mod CallEndings
 pub mod CountedWords
 mod Priced

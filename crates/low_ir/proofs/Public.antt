@@ -2,3 +2,5 @@
 pub use Rattle.low_ir.proofs.CountedWords.{words_are_counted_where_they_are_taken, active_procedures_hold_their_words}
 -- What is left to pay of a procedure, step by step; and prices of several steps, one by one.
 pub use Rattle.low_ir.proofs.Priced.{step_pays as steps_are_paid, costs_on, costs_last}
+-- an environment call that isn't the one for want of a room doesn't halt for want of it
+pub use Rattle.low_ir.proofs.CallEndings.{call_of, call_has_room}

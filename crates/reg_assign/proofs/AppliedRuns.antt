@@ -24,13 +24,13 @@ use Rattle.rv_select.specs.Stacks.{frame_size, stacked_machine}
 use Rattle.rv_slots.specs.Slotted.{Starts, setting_in, room_in, start_in, IsSeenAs, FollowsVirtual, EntersBeyond}
 use Rattle.rv_slots.specs.Slotted.{EndsToo, EndsAsVirtual, frames_of, last_frame}
 use Rattle.rv_slots.proofs.Public.{follows_in_stack, stops_as_virtual}
+use Rattle.rv_slots.proofs.Public.{fitting_never_wrong, fitting_simulates}
 use Rattle.reg_assign.specs.Rename.{Naming, densely, rename_all, renamed}
 use Rattle.reg_assign.specs.Sized.{stack_by, sized_machine, SameOrFewer}
 use Rattle.reg_assign.specs.Applied.{applied, slots_of, frames_by, last_frame_by, DoesInSlots, DoesAsVirtual}
 use Rattle.reg_assign.specs.Applied.{StopsInSlots}
 use Rattle.reg_assign.proofs.Renaming.{Pass, Related, IsFound}
 use Rattle.reg_assign.proofs.Dense.{dense_naming}
-use Rattle.reg_assign.proofs.InSlots.{sized_never_wrong, sized_bound_simulates}
 use Rattle.reg_assign.proofs.Follows.{free_simulates, sized_simulates, related_start, comes_back, frames_same}
 
 -- ---- marks and procedures of the renamed code
@@ -154,7 +154,8 @@ module _ {V : Type 0} (reading : Halt → Ending V) (items : List VirtualItem) (
 
     sized_never : reading (Lacks Stack) ≢ Wrong → NeverWrong (run sized (start_in s))
     sized_never lacking =
-        sized_never_wrong reading (setting_in items told s) (slots_of place) (room_in s) lacking (start_in s) never
+        fitting_never_wrong reading (setting_in items told s) (stack_by (slots_of place)) (room_in s) lacking
+        (start_in s) never
 
     pub follows_in_slots : reading (Lacks Stack) ≢ Wrong → FollowsVirtual real price sized work s
     follows_in_slots lacking =
@@ -173,9 +174,9 @@ module _ {V : Type 0} (reading : Halt → Ending V) (items : List VirtualItem) (
     pub follows_virtual : reading (Lacks Stack) ≡ Exhausted → FollowsVirtual real price free work s
     follows_virtual out =
         let lacking : reading (Lacks Stack) ≢ Wrong = (λ e. not_both (reading (Lacks Stack)) out e) in
-        let upper = follows_at_cost (sized_bound_simulates reading (setting_in items told s) (slots_of place) (room_in
-        s)
-        work out) (start_in s) (start_in s) refl never in
+        let bytes = stack_by (slots_of place) in
+        let upper = follows_at_cost (fitting_simulates reading (setting_in items told s) bytes (room_in s) work out)
+        (start_in s) (start_in s) refl never in
         let turns = follows_by_weaken (OfRest (IsSeenAs (s.regs 25))) (Spends 1)
         (λ a b k. subst (λ x. IsSeenAs (s.regs 25) a.rest x) k.2 k.1) (λ a b k. spends_through 1 1 a b k)
         (follows_by_trans (follows_in_slots lacking).turns upper) in

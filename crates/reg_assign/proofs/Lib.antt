@@ -3,7 +3,6 @@ mod Renaming
 mod Dense
 mod RenamedPrices
 mod Follows
-mod InSlots
 mod AppliedRuns
 mod Keeps
 mod Checks

@@ -1,20 +1,12 @@
 -- A run over words of procedures that make no environment call 6 never stops for want of stack.
-use Rattle.std.proofs.Common.{Bool, true, false, ◌&&◌, ◌||◌, ℕ, zero, suc, ◌+◌, ◌*◌, ◌%◌, ◌^◌, ◌≡◌, ◌≢◌, ap, subst}
+use Rattle.std.proofs.Common.{Bool, true, false, ◌&&◌, ℕ, zero, suc, ◌+◌, ◌*◌, ◌%◌, ◌^◌, ◌≡◌, ◌≢◌, ap, subst}
 use Rattle.std.proofs.Common.{List, [], ◌∷◌, Option, Some, None, length, refl, sym}
-use Rattle.std.specs.Prelude.{ℤ, pos, nat_lt, nat_le, ◌==◌, slice_get, if◌then◌else◌}
+use Rattle.std.specs.Prelude.{pos, nat_lt, nat_le, ◌==◌, slice_get, if◌then◌else◌}
+use Rattle.std.proofs.lemmas.Bool.{or_parts}
 use Rattle.grift_base.specs.World.{WorldState}
-use Rattle.grift_base.specs.Reading.{next_number}
-use Rattle.grift_base.specs.EnvironmentCall.{Called, environment_call, ends, ends_plain, traps, reads}
-use Rattle.grift_base.specs.declared.places.Pos.{Pos}
-use Rattle.grift_base.specs.declared.verdicts.Answer.{Answer}
-use Rattle.grift_base.specs.declared.verdicts.AnswerKind.{AnswerKind}
-use Rattle.grift_base.specs.declared.verdicts.Trap.{Trap}
+use Rattle.grift_base.specs.EnvironmentCall.{environment_call}
 use Rattle.grift_base.specs.declared.verdicts.Verdict.{Verdict as Outcome}
 use Rattle.grift_base.specs.declared.verdicts.Verdict.TheVariants.{StackOut}
-use Rattle.grift_base.specs.declared.worlds.EnvEffect.{EnvEffect}
-use Rattle.grift_base.specs.declared.worlds.EnvEffect.TheVariants.{Next as GoesOn, Ended as Answers, Blamed as Blames}
-use Rattle.grift_base.specs.declared.worlds.EnvEffect.TheVariants.{Trapped as Traps, RegionOut as RegionEnds}
-use Rattle.grift_base.specs.declared.worlds.EnvEffect.TheVariants.{StackOut as StackEnds, Refused, OutOfMemory}
 use Rattle.run_laws.specs.Runs.{Ending, Verdict, Exhausted, Wrong}
 use Rattle.run_laws.specs.Machines.{Next, Go, Stop, Machine, and_then, steps, seen, run}
 use Rattle.machine_words.specs.Memory.{Memory}
@@ -24,92 +16,14 @@ use Rattle.machine_words.specs.Conditions.{holds}
 use Rattle.low_ir.specs.Procedures.{Code, Done, Set, Compute, Load, Store, CodeOf, Build, Request, Take, Environment}
 use Rattle.low_ir.specs.Procedures.{Call, CallAt, If, Return, TailCall, TailCallAt, Proc}
 use Rattle.low_ir.specs.Counting.{calls, any_calls}
-use Rattle.low_ir.specs.Steps.{no_locals, given, only_if, may_load, may_store, Effect, Goes, Halts, Lost, blame_of}
+use Rattle.low_ir.specs.Steps.{no_locals, given, only_if, may_load, may_store, Effect, Goes, Halts, Lost}
 use Rattle.low_ir.specs.Steps.{effect_of, settle, store_words}
 use Rattle.low_ir.specs.declared.code.LowSource.{LowSource}
 use Rattle.low_ir.specs.Run.{Setting, Waiting, LowState, LowShown, proc_from, bind, word_of, words_of, with_local}
 use Rattle.low_ir.specs.Run.{goes_on, sets, enter_some, waits, answers, falls, call_environment, code_step}
 use Rattle.low_ir.specs.Run.{low_machine, low_start}
+use Rattle.low_ir.proofs.Public.{call_has_room}
 use Rattle.reg_assign.proofs.Readings.{of_stack, stack_alone}
-
-neither : (a b : Bool) → (a || b) ≡ false → (a ≡ false) × (b ≡ false)
-neither true b e = absurd (let z : ⊥ = cc in z)
-neither false b e = (refl, e)
-
--- ---- environment calls that end for want of stack
-
-either : (b : Bool) (x y : EnvEffect) → x ≢ StackEnds → y ≢ StackEnds → (if b then x else y) ≢ StackEnds
-either true x y h k = h
-either false x y h k = k
-
-answers_end : (a : Answer) → Answers a ≢ StackEnds
-answers_end a e = cc
-
-traps_end : (t : Trap) → Traps t ≢ StackEnds
-traps_end t e = cc
-
-refused_ends : Refused ≢ StackEnds
-refused_ends e = cc
-
-plain_end : (kind : AnswerKind) (word : ℕ) → ends_plain kind word ≢ StackEnds
-plain_end kind word = either (word == 0) _ _ (answers_end _) refused_ends
-
-ends_end : (kind word : ℕ) → ends kind word ≢ StackEnds
-ends_end kind word =
-    either (kind == 0) _ _ (answers_end _) (
-    either (kind == 1) _ _ (either (nat_le word 1) _ _ (answers_end _) refused_ends) (
-    either (kind == 2) _ _ (plain_end _ word) (
-    either (kind == 3) _ _ (plain_end _ word) (
-    either (kind == 4) _ _ (plain_end _ word) (
-    either (kind == 5) _ _ (plain_end _ word) (
-    either (kind == 6) _ _ (plain_end _ word) refused_ends))))))
-
-trap_ends : (kind : ℕ) → traps kind ≢ StackEnds
-trap_ends kind =
-    either (kind == 1) _ _ (traps_end _) (
-    either (kind == 2) _ _ (traps_end _) (
-    either (kind == 3) _ _ (traps_end _) (
-    either (kind == 4) _ _ (traps_end _) refused_ends)))
-
-read_ends : (o : Option ℤ) → reads o ≢ StackEnds
-read_ends (Some n) e = cc
-read_ends None e = cc
-
--- of a choice between calls
-chosen : (b : Bool) (x y : Called) → (b ≡ true → x.effect ≢ StackEnds) → y.effect ≢ StackEnds
-    → (if b then x else y).effect ≢ StackEnds
-chosen true x y h k = h refl
-chosen false x y h k = k
-
--- a call of another number than 6
-no_stack : (number a b labels : ℕ) (w : WorldState) → (number == 6) ≡ false
-    → (environment_call number a b labels w).effect ≢ StackEnds
-unfolding environment_call
-no_stack number a b labels w h =
-    chosen (number == 0) _ _ (λ e. ends_end a b) (
-    chosen (number == 1) _ _ (λ e n. cc) (
-    chosen (number == 2) _ _ (λ e n. cc) (
-    chosen (number == 3) _ _ (λ e. either (nat_lt a labels) _ _ (λ n. cc) refused_ends) (
-    chosen (number == 4) _ _ (λ e. trap_ends a) (
-    chosen (number == 5) _ _ (λ e n. cc) (
-    chosen (number == 6) _ _ (λ e. absurd (let z : ⊥ = cc in z)) (
-    chosen (number == 7) _ _ (λ e. read_ends (next_number w)) refused_ends)))))))
-
-blames_halt : (o : Option Pos) → blame_of o ≢ Halts (Lacks Stack)
-blames_halt None e = cc
-blames_halt (Some label) e = cc
-
--- what stops for want of stack has come of call 6
-halts_so : (labels : List Pos) (effect : EnvEffect) → effect_of labels effect ≡ Halts (Lacks Stack)
-    → effect ≡ StackEnds
-halts_so labels (GoesOn a b) e = absurd (let z : ⊥ = cc in z)
-halts_so labels (Answers answer) e = absurd (let z : ⊥ = cc in z)
-halts_so labels (Blames label) e = absurd (blames_halt (slice_get labels label) e)
-halts_so labels (Traps trap) e = absurd (let z : ⊥ = cc in z)
-halts_so labels RegionEnds e = absurd (let z : ⊥ = cc in z)
-halts_so labels StackEnds e = refl
-halts_so labels Refused e = absurd (let z : ⊥ = cc in z)
-halts_so labels OutOfMemory e = absurd (let z : ⊥ = cc in z)
 
 -- ---- what holds of each procedure
 
@@ -120,19 +34,19 @@ Spares code = calls 6 code ≡ false
 numbered : (ps : List Proc) (k : ℕ) (p : Proc) → any_calls 6 ps ≡ false → slice_get ps k ≡ Some p → Spares p.code
 numbered [] k p c e = absurd (let z : ⊥ = cc in z)
 numbered (q ∷ ps) zero p c e =
-    let is : q ≡ p = cc in subst (λ (x : Proc). Spares x.code) is (neither _ _ c).0
-numbered (q ∷ ps) (suc k) p c e = numbered ps k p (neither _ _ c).1 e
+    let is : q ≡ p = cc in subst (λ (x : Proc). Spares x.code) is (or_parts _ _ c).0
+numbered (q ∷ ps) (suc k) p c e = numbered ps k p (or_parts _ _ c).1 e
 
 addressed : (address : ℕ → ℕ) (at k : ℕ) (ps : List Proc) (p : Proc) → any_calls 6 ps ≡ false
     → proc_from address at k ps ≡ Some p → Spares p.code
 addressed address at k [] p c e = absurd (let z : ⊥ = cc in z)
 addressed address at k (q ∷ ps) p c e =
-    by_address (address k == at) e (λ f. addressed address at (suc k) ps p (neither _ _ c).1 f)
+    by_address (address k == at) e (λ f. addressed address at (suc k) ps p (or_parts _ _ c).1 f)
   where
     by_address : (b : Bool) → (if b then Some q else proc_from address at (suc k) ps) ≡ Some p
         → (proc_from address at (suc k) ps ≡ Some p → Spares p.code) → Spares p.code
     by_address true f later =
-        let is : q ≡ p = cc in subst (λ (x : Proc). Spares x.code) is (neither _ _ c).0
+        let is : q ≡ p = cc in subst (λ (x : Proc). Spares x.code) is (or_parts _ _ c).0
     by_address false f later = later f
 
 abbrev EachSpares : List Code → Type 0
@@ -214,9 +128,8 @@ module _ (setting : Setting) (calm : any_calls 6 setting.procs ≡ false) where
   calls_out number a b d e s g n =
       let called = environment_call (number % 2 ^ 64) a b (length setting.labels) s.world in
       if_test s (nat_lt d s.active.count) _ (if_test s (nat_lt e s.active.count) _ (
-      settles (effect_of setting.labels called.effect) s _ (λ x y. g) (λ is.
-      no_stack (number % 2 ^ 64) a b (length setting.labels) s.world n
-      (halts_so setting.labels called.effect is))))
+      settles (effect_of setting.labels called.effect) s _ (λ x y. g)
+      (call_has_room Stack setting.labels (number % 2 ^ 64) a b (length setting.labels) s.world n)))
 
   word_at : (a : LowSource) (s : LowState) (go : ℕ → Next LowState Outcome) → ((x : ℕ) → Leads (go x))
       → Leads (given s (word_of s.active.locals a) go)
@@ -255,7 +168,7 @@ module _ (setting : Setting) (calm : any_calls 6 setting.procs ≡ false) where
   step (Take a rest) s g = word_at a s _ (λ n. if_test (on s rest) (nat_le (s.alloc + 8 * n) setting.top) _ g)
   step (Environment number a b d e rest) s g =
       word_at a s _ (λ x. word_at b s _ (λ y.
-      calls_out number x y d e (on s rest) ((neither _ _ g.0).1, g.1, g.2) (neither _ _ g.0).0))
+      calls_out number x y d e (on s rest) ((or_parts _ _ g.0).1, g.1, g.2) (or_parts _ _ g.0).0))
   step (Call d k args rest) s g =
       words_at args s _ (λ ws.
       enters (slice_get setting.procs k) ws (waits of_stack setting d (on s rest))
@@ -268,8 +181,8 @@ module _ (setting : Setting) (calm : any_calls 6 setting.procs ≡ false) where
       word_at a s _ (λ x. word_at b s _ (λ y. branches (holds cond x y)))
     where
       branches : (test : Bool) → Good (goes_on (if test then one else other) (rest ∷ s.active.rests) s)
-      branches true = let n = neither _ _ g.0 in (n.0, ((neither _ _ n.1).1, g.1), g.2)
-      branches false = let n = neither _ _ (neither _ _ g.0).1 in (n.0, (n.1, g.1), g.2)
+      branches true = let n = or_parts _ _ g.0 in (n.0, ((or_parts _ _ n.1).1, g.1), g.2)
+      branches false = let n = or_parts _ _ (or_parts _ _ g.0).1 in (n.0, (n.1, g.1), g.2)
   step (Return a) s g = word_at a s _ (λ x. answered s.waiting x s g.2)
   step (TailCall k args) s g =
       words_at args s _ (λ ws.

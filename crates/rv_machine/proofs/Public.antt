@@ -17,3 +17,6 @@ pub use Rattle.rv_machine.proofs.Standing.{item_here}
 pub use Rattle.rv_machine.proofs.Steps.{running, step_is, call_stops, Comes, ComesOn, comes_there, is_there}
 pub use Rattle.rv_machine.proofs.Steps.{comes_later, comes_on_later, goes, op, call, jump, falls_through, is_taken}
 pub use Rattle.rv_machine.proofs.Steps.{puts_address, jumps_to}
+-- what the step of each kind of item comes to
+pub use Rattle.rv_machine.proofs.Steps.{op_step_is, call_step_is, jump_step_is, fall_step_is, branch_step_is}
+pub use Rattle.rv_machine.proofs.Steps.{address_step_is, register_jump_step_is}

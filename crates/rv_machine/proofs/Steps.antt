@@ -49,6 +49,105 @@ module _ {V : Type 0} (program : Program V) where
       next.is_next
       ∙ ap (λ turn. step_by program.reading s turn) (stops (subtract next.pc 4)))
 
+  -- an instruction that changes registers and memory and goes on
+  pub op_step_is : {s : State} {i : Inst} {xs : List RealItem} (regs : Registers) (memory : Memory)
+      (at : At program s (Op i ∷ xs)) (h : HasItem xs) →
+      ((ecall ebreak : State → Turn) (pc : ℕ) → act_with ecall ebreak i (record s { pc = pc })
+      ≡ Next (record s { regs = regs; memory = memory; pc = add pc 4 })) →
+      running.step s ≡ Go (record s { regs = regs; memory = memory; pc = (next_at program at h).pc })
+  op_step_is {s} {i} regs memory at h act =
+      let next = next_at program at h in
+      let ecall = program.setting.ecall at.place in
+      let ebreak = program.setting.ebreak at.place in
+      step_is at refl
+      ∙ (ap (λ o. op_step program.reading ecall ebreak i o s) next.is_next
+      ∙ (ap (λ turn. step_by program.reading s turn) (act ecall ebreak (subtract next.pc 4))
+      ∙ ap (λ q. Go (record s { regs = regs; memory = memory; pc = q })) (back_again next.pc next.small)))
+
+  -- an ECALL that goes on
+  pub call_step_is : {s : State} {xs : List RealItem} (regs : Registers) (world : WorldState)
+      (at : At program s (Op Ecall ∷ xs)) (h : HasItem xs) →
+      ((pc : ℕ) → program.setting.ecall at.place (record s { pc = pc })
+      ≡ Next (record s { regs = regs; world = world; pc = add pc 4 })) →
+      running.step s ≡ Go (record s { regs = regs; world = world; pc = (next_at program at h).pc })
+  call_step_is {s} regs world at h act =
+      let next = next_at program at h in
+      let ecall = program.setting.ecall at.place in
+      let ebreak = program.setting.ebreak at.place in
+      step_is at refl
+      ∙ (ap (λ o. op_step program.reading ecall ebreak Ecall o s) next.is_next
+      ∙ (ap (λ turn. step_by program.reading s turn) (act (subtract next.pc 4))
+      ∙ ap (λ q. Go (record s { regs = regs; world = world; pc = q })) (back_again next.pc next.small)))
+
+  -- a jump to a mark, which keeps the next item's address
+  pub jump_step_is : {s : State} {rd mark : ℕ} {xs : List RealItem} (target : ℕ)
+      (at : At program s (Jump rd mark ∷ xs)) (h : HasItem xs) →
+      mark_address program.setting.address program.code mark ≡ Some target →
+      running.step s ≡ Go (record s { regs = set_reg rd (next_at program at h).pc s.regs; pc = target })
+  jump_step_is {s} {rd} {mark} {xs} target at h there =
+      step_is at refl
+      ∙ (ap (λ to. jump_step rd to (address_from program.setting.address (suc at.place) xs) s) there
+      ∙ ap (λ o. jump_step rd (Some target) o s) (next_at program at h).is_next)
+
+  -- a branch that isn't taken, and one that is
+  pub fall_step_is : {s : State} {cond : Cond} {a b mark : ℕ} {xs : List RealItem}
+      (at : At program s (Branch cond a b mark ∷ xs)) (h : HasItem xs) →
+      holds cond (reg s a) (reg s b) ≡ false → running.step s ≡ Go (record s { pc = (next_at program at h).pc })
+  fall_step_is {s} {cond} {a} {b} {mark} {xs} at h test =
+      let to = mark_address program.setting.address program.code mark in
+      step_is at refl
+      ∙ (ap (λ c. branch_step c to (address_from program.setting.address (suc at.place) xs) s) test
+      ∙ ap (λ o. goes_to o s) (next_at program at h).is_next)
+
+  pub branch_step_is : {s : State} {cond : Cond} {a b mark : ℕ} {xs : List RealItem} (target : ℕ)
+      (at : At program s (Branch cond a b mark ∷ xs)) → holds cond (reg s a) (reg s b) ≡ true →
+      mark_address program.setting.address program.code mark ≡ Some target →
+      running.step s ≡ Go (record s { pc = target })
+  branch_step_is {s} {cond} {a} {b} {mark} {xs} target at test there =
+      let to = mark_address program.setting.address program.code mark in
+      step_is at refl
+      ∙ (ap (λ c. branch_step c to (address_from program.setting.address (suc at.place) xs) s) test
+      ∙ ap (λ o. goes_to o s) there)
+
+  -- the address of a mark is put into a register
+  pub address_step_is : {s : State} {rd mark : ℕ} {xs : List RealItem} (target : ℕ)
+      (at : At program s (Address rd mark ∷ xs)) (h : HasItem xs) →
+      mark_address program.setting.address program.code mark ≡ Some target →
+      running.step s ≡ Go (record s { regs = set_reg rd target s.regs; pc = (next_at program at h).pc })
+  address_step_is {s} {rd} {mark} {xs} target at h there =
+      step_is at refl
+      ∙ (ap (λ to. address_step rd to (address_from program.setting.address (suc at.place) xs) s) there
+      ∙ ap (λ o. address_step rd (Some target) o s) (next_at program at h).is_next)
+
+  -- a jump to the address in a register, which keeps the next item's address
+  pub register_jump_step_is : {s : State} {rd a : ℕ} {xs : List RealItem} (target : ℕ)
+      (at : At program s (Op (Jalr rd a (pos 0)) ∷ xs)) (h : HasItem xs) → reg s a ≡ target → target < 2 ^ 64 →
+      target % 4 ≡ 0 →
+      running.step s ≡ Go (record s { regs = set_reg rd (next_at program at h).pc s.regs; pc = target })
+  register_jump_step_is {s} {rd} {a} {xs} target at h is_target small aligned =
+      let next = next_at program at h in
+      let ecall = program.setting.ecall at.place in
+      let ebreak = program.setting.ebreak at.place in
+      let whole : (target + 0) % 2 ^ 64 - (target + 0) % 2 ^ 64 % 2 ≡ target = omega arith in
+      let even : (target % 4 == 0) ≡ true = ap (λ x. x == 0) aligned in
+      step_is at refl
+      ∙ (ap (λ o. op_step program.reading ecall ebreak (Jalr rd a (pos 0)) o s) next.is_next
+      ∙ (ap (λ w. step_by program.reading s (lands rd w (subtract next.pc 4))) is_target
+      ∙ (ap (λ w. step_by program.reading s (lands_at rd w (subtract next.pc 4))) whole
+      ∙ (ap (λ (c : Bool). step_by program.reading s (if c then arrives rd target (subtract next.pc 4)
+      else goes_wrong Misaligned (record s { pc = subtract next.pc 4 }))) even
+      ∙ ap (λ q. Go (record s { regs = set_reg rd q s.regs; pc = target })) (back_again next.pc next.small)))))
+    where
+      arrives : ℕ → ℕ → ℕ → Turn
+      arrives rd to pc = Next (record s { regs = set_reg rd (add pc 4) s.regs; pc = to })
+
+      lands_at : ℕ → ℕ → ℕ → Turn
+      lands_at rd to pc =
+          if to % 4 == 0 then arrives rd to pc else goes_wrong Misaligned (record s { pc = pc })
+
+      lands : ℕ → ℕ → ℕ → Turn
+      lands rd word pc = lands_at rd ((word + 0) % 2 ^ 64 - (word + 0) % 2 ^ 64 % 2) pc
+
   module _ (P Q : State → Type 0) where
     -- within so many steps the run comes to where Q holds, or is exhausted before; P holds at each state that it leaves
     pub record Comes (most : ℕ) (s : State) : Type 0 where
@@ -95,16 +194,10 @@ module _ {V : Type 0} (program : Program V) where
         ((pc : ℕ) → At program (record s { regs = regs; memory = memory; pc = pc }) xs →
         Comes most (record s { regs = regs; memory = memory; pc = pc })) →
         ComesOn (suc most) s
-    op {most} {s} {i} {xs} regs memory at h act p go =
+    op {s = s} regs memory at h act p go =
         let next = next_at program at h in
-        let ecall = program.setting.ecall at.place in
-        let ebreak = program.setting.ebreak at.place in
         let t : State = record s { regs = regs; memory = memory; pc = next.pc } in
-        goes t (step_is at refl
-        ∙ (ap (λ o. op_step program.reading ecall ebreak i o s) next.is_next
-        ∙ (ap (λ turn. step_by program.reading s turn) (act ecall ebreak (subtract next.pc 4))
-        ∙ ap (λ q. Go (record s { regs = regs; memory = memory; pc = q })) (back_again next.pc next.small))))
-        p (go next.pc (next.at t refl))
+        goes t (op_step_is regs memory at h act) p (go next.pc (next.at t refl))
 
     -- an ECALL that goes on
     pub call : {most : ℕ} {s : State} {xs : List RealItem} (regs : Registers) (world : WorldState)
@@ -115,16 +208,10 @@ module _ {V : Type 0} (program : Program V) where
         ((pc : ℕ) → At program (record s { regs = regs; world = world; pc = pc }) xs →
         Comes most (record s { regs = regs; world = world; pc = pc })) →
         ComesOn (suc most) s
-    call {most} {s} {xs} regs world at h act p go =
+    call {s = s} regs world at h act p go =
         let next = next_at program at h in
-        let ecall = program.setting.ecall at.place in
-        let ebreak = program.setting.ebreak at.place in
         let t : State = record s { regs = regs; world = world; pc = next.pc } in
-        goes t (step_is at refl
-        ∙ (ap (λ o. op_step program.reading ecall ebreak Ecall o s) next.is_next
-        ∙ (ap (λ turn. step_by program.reading s turn) (act (subtract next.pc 4))
-        ∙ ap (λ q. Go (record s { regs = regs; world = world; pc = q })) (back_again next.pc next.small))))
-        p (go next.pc (next.at t refl))
+        goes t (call_step_is regs world at h act) p (go next.pc (next.at t refl))
 
     -- a jump to a mark, which keeps the next item's address
     pub jump : {most : ℕ} {s : State} {rd mark : ℕ} {xs : List RealItem} (target : ℕ) →
@@ -133,36 +220,23 @@ module _ {V : Type 0} (program : Program V) where
         ((pc : ℕ) → ((t : State) → t.pc ≡ pc → At program t xs) →
         Comes most (record s { regs = set_reg rd pc s.regs; pc = target })) →
         ComesOn (suc most) s
-    jump {most} {s} {rd} {mark} {xs} target at h there p go =
-        let next = next_at program at h in
-        goes (record s { regs = set_reg rd next.pc s.regs; pc = target }) (step_is at refl
-        ∙ (ap (λ to. jump_step rd to (address_from program.setting.address (suc at.place) xs) s) there
-        ∙ ap (λ o. jump_step rd (Some target) o s) next.is_next))
-        p (go next.pc next.at)
+    jump target at h there p go =
+        let next = next_at program at h in goes _ (jump_step_is target at h there) p (go next.pc next.at)
 
     -- a branch that isn't taken, and one that is
     pub falls_through : {most : ℕ} {s : State} {cond : Cond} {a b mark : ℕ} {xs : List RealItem} →
         At program s (Branch cond a b mark ∷ xs) → HasItem xs → holds cond (reg s a) (reg s b) ≡ false → P s →
         ((pc : ℕ) → At program (record s { pc = pc }) xs → Comes most (record s { pc = pc })) → ComesOn (suc most) s
-    falls_through {most} {s} {cond} {a} {b} {mark} {xs} at h test p go =
+    falls_through {s = s} at h test p go =
         let next = next_at program at h in
         let t : State = record s { pc = next.pc } in
-        let to = mark_address program.setting.address program.code mark in
-        goes t (step_is at refl
-        ∙ (ap (λ c. branch_step c to (address_from program.setting.address (suc at.place) xs) s) test
-        ∙ ap (λ o. goes_to o s) next.is_next))
-        p (go next.pc (next.at t refl))
+        goes t (fall_step_is at h test) p (go next.pc (next.at t refl))
 
     pub is_taken : {most : ℕ} {s : State} {cond : Cond} {a b mark : ℕ} {xs : List RealItem} (target : ℕ) →
         At program s (Branch cond a b mark ∷ xs) → holds cond (reg s a) (reg s b) ≡ true →
         mark_address program.setting.address program.code mark ≡ Some target → P s →
         Comes most (record s { pc = target }) → ComesOn (suc most) s
-    is_taken {most} {s} {cond} {a} {b} {mark} {xs} target at test there p go =
-        let to = mark_address program.setting.address program.code mark in
-        goes (record s { pc = target }) (step_is at refl
-        ∙ (ap (λ c. branch_step c to (address_from program.setting.address (suc at.place) xs) s) test
-        ∙ ap (λ o. goes_to o s) there))
-        p go
+    is_taken target at test there p go = goes _ (branch_step_is target at test there) p go
 
     -- the address of a mark is put into a register
     pub puts_address : {most : ℕ} {s : State} {rd mark : ℕ} {xs : List RealItem} (target : ℕ) →
@@ -171,13 +245,10 @@ module _ {V : Type 0} (program : Program V) where
         ((pc : ℕ) → At program (record s { regs = set_reg rd target s.regs; pc = pc }) xs →
         Comes most (record s { regs = set_reg rd target s.regs; pc = pc })) →
         ComesOn (suc most) s
-    puts_address {most} {s} {rd} {mark} {xs} target at h there p go =
+    puts_address {s = s} {rd = rd} target at h there p go =
         let next = next_at program at h in
         let t : State = record s { regs = set_reg rd target s.regs; pc = next.pc } in
-        goes t (step_is at refl
-        ∙ (ap (λ to. address_step rd to (address_from program.setting.address (suc at.place) xs) s) there
-        ∙ ap (λ o. address_step rd (Some target) o s) next.is_next))
-        p (go next.pc (next.at t refl))
+        goes t (address_step_is target at h there) p (go next.pc (next.at t refl))
 
     -- a jump to the address in a register, which keeps the next item's address
     pub jumps_to : {most : ℕ} {s : State} {rd a : ℕ} {xs : List RealItem} (target : ℕ) →
@@ -186,27 +257,6 @@ module _ {V : Type 0} (program : Program V) where
         ((pc : ℕ) → ((t : State) → t.pc ≡ pc → At program t xs) →
         Comes most (record s { regs = set_reg rd pc s.regs; pc = target })) →
         ComesOn (suc most) s
-    jumps_to {most} {s} {rd} {a} {xs} target at h is_target small aligned p go =
+    jumps_to target at h is_target small aligned p go =
         let next = next_at program at h in
-        let ecall = program.setting.ecall at.place in
-        let ebreak = program.setting.ebreak at.place in
-        let whole : (target + 0) % 2 ^ 64 - (target + 0) % 2 ^ 64 % 2 ≡ target = omega arith in
-        let even : (target % 4 == 0) ≡ true = ap (λ x. x == 0) aligned in
-        goes (record s { regs = set_reg rd next.pc s.regs; pc = target }) (step_is at refl
-        ∙ (ap (λ o. op_step program.reading ecall ebreak (Jalr rd a (pos 0)) o s) next.is_next
-        ∙ (ap (λ w. step_by program.reading s (lands rd w (subtract next.pc 4))) is_target
-        ∙ (ap (λ w. step_by program.reading s (lands_at rd w (subtract next.pc 4))) whole
-        ∙ (ap (λ (c : Bool). step_by program.reading s (if c then arrives rd target (subtract next.pc 4)
-        else goes_wrong Misaligned (record s { pc = subtract next.pc 4 }))) even
-        ∙ ap (λ q. Go (record s { regs = set_reg rd q s.regs; pc = target })) (back_again next.pc next.small))))))
-        p (go next.pc next.at)
-      where
-        arrives : ℕ → ℕ → ℕ → Turn
-        arrives rd to pc = Next (record s { regs = set_reg rd (add pc 4) s.regs; pc = to })
-
-        lands_at : ℕ → ℕ → ℕ → Turn
-        lands_at rd to pc =
-            if to % 4 == 0 then arrives rd to pc else goes_wrong Misaligned (record s { pc = pc })
-
-        lands : ℕ → ℕ → ℕ → Turn
-        lands rd word pc = lands_at rd ((word + 0) % 2 ^ 64 - (word + 0) % 2 ^ 64 % 2) pc
+        goes _ (register_jump_step_is target at h is_target small aligned) p (go next.pc next.at)

@@ -23,8 +23,9 @@ use Rattle.grift_base.specs.declared.verdicts.Verdict.TheVariants.{Answer, Blame
 use Rattle.machine_words.specs.declared.faults.MachineFault.{MachineFault}
 use Rattle.machine_words.specs.declared.faults.MachineFault.TheVariants.{Undefined, BadAddress, Misaligned}
 use Rattle.rv_machine.specs.State.{State, Turn, Next, Stops, reg}
-use Rattle.machine_words.specs.Arithmetic.{word_of, signed_of, sign_extend, add, plus, subtract, flag, signed_less, shift_left}
-use Rattle.machine_words.specs.Arithmetic.{shift_right, shift_right_signed, low_half, half, half_right_signed}
+use Rattle.machine_words.specs.Arithmetic.{word_of, signed_of, sign_extend, add, plus, subtract, flag, signed_less}
+use Rattle.machine_words.specs.Arithmetic.{shift_left, shift_right, shift_right_signed, low_half, half}
+use Rattle.machine_words.specs.Arithmetic.{half_right_signed}
 use Rattle.machine_words.specs.Halts.{Region, Stack, Ended, Lacks, GoesWrong}
 
 -- ---- what a turn may do

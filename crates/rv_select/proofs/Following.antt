@@ -23,7 +23,8 @@ use Rattle.rv_select.specs.Selected.{setting_of, SameRegion}
 use Rattle.rv_select.proofs.Paying.{follows_paid, unmetered}
 use Rattle.rv_select.proofs.Pricing.{entering_most}
 use Rattle.rv_select.proofs.Stretches.{PaidWay, does_item, given_is}
-use Rattle.rv_select.proofs.Selecting.{OnWith, all_owed, selected, Laid, Lies, as_alike}
+use Rattle.rv_select.proofs.Relation.{Program, OnWith, all_owed, Laid, Lies, as_alike}
+use Rattle.rv_select.proofs.Moves.{selected}
 use Rattle.rv_select.proofs.Laying.{laid}
 
 module _ {V : Type 0} (reading : Halt → Ending V) (low : LowSetting) (entry : ℕ) (p : Proc) (regs : Registers)
@@ -39,7 +40,10 @@ module _ {V : Type 0} (reading : Halt → Ending V) (low : LowSetting) (entry : 
   abbrev t0 : VirtualState
   t0 = virtual_start regs memory world
 
-  pub all : Laid reading low items (regs 25) small
+  abbrev program : Program V
+  program = record { reading = reading; low = low; items = items; stack = regs 25; small = small }
+
+  pub all : Laid program
   all = laid reading low (regs 25) small entry
 
   first_words : (f : Found) → f.count ≡ p.words → f.count + 0 ≡ p.words + 0
@@ -50,7 +54,7 @@ module _ {V : Type 0} (reading : Halt → Ending V) (low : LowSetting) (entry : 
 
   -- one item enters the program's first procedure, and what is left pays the end
   pub starts : (P : VirtualState → Type 0) → P t0 → PaidWay reading setting P
-      (λ left u. OnWith reading low items (regs 25) small left s0 u) 1 start_price t0
+      (λ left u. OnWith program left s0 u) 1 start_price t0
   starts P h =
       let l = all.by_number entry p found in
       let f : Found = l.0 in
@@ -63,9 +67,9 @@ module _ {V : Type 0} (reading : Halt → Ending V) (low : LowSetting) (entry : 
       } in
       let few : entering_found (procedure_from entry 0 items) ≤ 25 =
       subst (λ o. entering_found o ≤ 25) (sym l.1) (entering_most f.count) in
-      let way : PaidWay reading setting P (λ left u. OnWith reading low items (regs 25) small left s0 u) 1
+      let way : PaidWay reading setting P (λ left u. OnWith program left s0 u) 1
       (item_price setting t0.active.found (Call entry 0) + end_price) t0 =
-      does_item reading setting P (λ left u. OnWith reading low items (regs 25) small left s0 u) 0 end_price t0 t1
+      does_item reading setting P (λ left u. OnWith program left s0 u) 0 end_price t0 t1
       (Call entry 0) refl (given_is _ _ f _ l.1) h (
         record {
           active = record {
@@ -73,7 +77,7 @@ module _ {V : Type 0} (reading : Halt → Ending V) (low : LowSetting) (entry : 
             out = l.2.out;
             homed = l.2.homed;
             locals = λ i. refl;
-            lies = subst (λ n. Lies reading low items (regs 25) small f l.2.out f.home (params_items f.first 0 n
+            lies = subst (λ n. Lies program f l.2.out f.home (params_items f.first 0 n
                 ++ code_items f.first l.2.out l.2.mark p.code) []) none l.2.lies;
           };
           behind = (refl, (refl, (refl, (refl, (refl, tt)))));
@@ -84,7 +88,7 @@ module _ {V : Type 0} (reading : Halt → Ending V) (low : LowSetting) (entry : 
       let paid = way.2 in (way.0, way.1, omega (arith, paid, few), way.3)
 
   first : Alike (SameRegion (regs 25) low.top) (low_machine reading low) (virtual_machine reading setting) s0 t0
-  first = as_alike reading low items (regs 25) small s0 t0 (
+  first = as_alike program s0 t0 (
     (λ at h. refl),
     alloc,
     (omega arith, omega arith),
@@ -100,7 +104,7 @@ module _ {V : Type 0} (reading : Halt → Ending V) (low : LowSetting) (entry : 
       (run (metered (virtual_price setting) (virtual_machine reading setting)) (unspent t0))
       (run (metered (low_price low.procs) (low_machine reading low)) (record { spent = start_price; rest = s0 }))
   costs_select never =
-      follows_paid (selected reading low items (regs 25) small all) start_price s0 1 t0 (starts _ first) never
+      follows_paid (selected program all) start_price s0 1 t0 (starts _ first) never
 
   pub follows_select : NeverWrong (run (low_machine reading low) s0)
       → FollowsBy (SameRegion (regs 25) low.top) Any (run (virtual_machine reading setting) t0)

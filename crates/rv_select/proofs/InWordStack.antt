@@ -31,7 +31,9 @@ use Rattle.rv_select.specs.Selected.{setting_of, SameRegion}
 use Rattle.rv_select.proofs.StackSizes.{stack_held}
 use Rattle.rv_select.proofs.Paying.{Pays, pays_weaken, DoesPaid, PaidSimulation, does_with_more, follows_paid}
 use Rattle.rv_select.proofs.Paying.{unmetered}
-use Rattle.rv_select.proofs.Selecting.{On, OnWith, purse_of, Laid, as_alike, seen as seen_as, do_code}
+use Rattle.rv_select.proofs.Relation.{Program, On, OnWith, Laid, as_alike, seen as seen_as}
+use Rattle.rv_select.proofs.Stepping.{purse_of}
+use Rattle.rv_select.proofs.Moves.{do_code}
 use Rattle.rv_select.proofs.Following.{all, starts}
 
 unless : {V P : Type 0} (e : Ending V) → P → UnlessWrong e P
@@ -210,6 +212,9 @@ module _ {V : Type 0} (reading : Halt → Ending V) (low : LowSetting) (room : �
 
 module _ {V : Type 0} (reading : Halt → Ending V) (low : LowSetting) (items : List VirtualItem) (stack : ℕ)
     (small : low.top < 2 ^ 64) (room : ℕ) where
+  abbrev pub program : Program V
+  program = record { reading = reading; low = low; items = items; stack = stack; small = small }
+
   abbrev K : Shown → LowShown → Type 0
   K = SameRegion stack low.top
 
@@ -240,14 +245,14 @@ module _ {V : Type 0} (reading : Halt → Ending V) (low : LowSetting) (items : 
   -- the purse has what is owed, or pays the item that doesn't do it
   abbrev Both : ℕ → LowState → VirtualState → Type 0
   Both purse s t =
-      ((bytes s ≤ room) × OnWith reading low items stack small purse s t)
+      ((bytes s ≤ room) × OnWith program purse s t)
       ⊎ ((room < bytes s) × Waits s t × (cost t ≤ purse))
 
   abbrev In : LowState → ℕ → VirtualState → Type 0
   In s purse t = Both purse s t
 
   abbrev At : LowState → ℕ → VirtualState → Type 0
-  At s purse t = OnWith reading low items stack small purse s t
+  At s purse t = OnWith program purse s t
 
   -- a step that stops may follow one that was not done
   abbrev size : LowState → ℕ
@@ -259,7 +264,7 @@ module _ {V : Type 0} (reading : Halt → Ending V) (low : LowSetting) (items : 
       let f = a.shown.frames in
       let h = a.shown.held in omega (arith, e, f, h)
 
-  as_many : (s : LowState) (t : VirtualState) → On reading low items stack small s t → filled t ≡ bytes s
+  as_many : (s : LowState) (t : VirtualState) → On program s t → filled t ≡ bytes s
   as_many s t on =
       let e = stack_held t.active.found t.frames in
       let f = on.body.2.0 in
@@ -472,9 +477,9 @@ module _ {V : Type 0} (reading : Halt → Ending V) (low : LowSetting) (items : 
       let f = is_beyond (bytes s1) k in
       subst (λ b. size s1 < (if b then 1 else 0)) (sym e) (subst (λ b. (if b then 1 else 0) < 1) (sym f) (omega arith))
 
-  fitting : (c : ℕ) (s : LowState) (t : VirtualState) → bytes s ≤ room → On reading low items stack small s t
+  fitting : (c : ℕ) (s : LowState) (t : VirtualState) → bytes s ≤ room → On program s t
       → (y : Next LowState V) → Grows reading low s y
-      → DoesPaid K M N cost (OnWith reading low items stack small) (λ x. 0) c s t y → Does c s t y
+      → DoesPaid K M N cost (OnWith program) (λ x. 0) c s t y → Does c s t y
   fitting c s t h on (Go s1) g d = by_fit (nat_le (bytes s1) room) refl
     where
       positive : (0 < d.0) ⊎ (0 < 0) → 0 < d.0
@@ -508,17 +513,17 @@ module _ {V : Type 0} (reading : Halt → Ending V) (low : LowSetting) (items : 
   fitting c s t h on (Stop Exhausted s1) g d = stops c s s1 t Exhausted h g d
   fitting c s t h on (Stop Wrong s1) g d = tt
 
-  does_both : Laid reading low items stack small → (purse : ℕ) (s : LowState) (t : VirtualState) → Both purse s t
+  does_both : Laid program → (purse : ℕ) (s : LowState) (t : VirtualState) → Both purse s t
       → Does (purse + low_price low.procs s) s t (MS.step s)
   does_both laid purse s t (inl r) =
       let whole : ℕ = purse + low_price low.procs s in
       subst (λ b. Does whole s t (if b then code_step reading low s.active.code s
       else Stop (reading (Lacks Stack)) s)) (sym (is_within (bytes s) r.0))
       (fitting whole s t r.0 r.1.0 (code_step reading low s.active.code s) (grows reading low s s.active.code)
-      (does_with_more K M N cost (OnWith reading low items stack small) (λ x. 0) s t
-      (purse_of reading low items stack small s s.active.code) whole
+      (does_with_more K M N cost (OnWith program) (λ x. 0) s t
+      (purse_of program s s.active.code) whole
       (code_step reading low s.active.code s) (let owed = r.1.1 in omega (arith, owed))
-      (do_code reading low items stack small laid s t r.1.0 s.active.code r.1.0.active.lies)))
+      (do_code program laid s t r.1.0 s.active.code r.1.0.active.lies)))
   does_both laid purse s t (inr r) =
       let whole : ℕ = purse + low_price low.procs s in
       subst (λ b. Does whole s t (if b then code_step reading low s.active.code s
@@ -532,11 +537,11 @@ module _ {V : Type 0} (reading : Halt → Ending V) (low : LowSetting) (items : 
 
   alike_both : (purse : ℕ) (s : LowState) (t : VirtualState) → Both purse s t → Alike K MS NS s t
   alike_both purse s t (inl r) =
-      alike_in s t (as_alike reading low items stack small s t (seen_as reading low items stack small s t r.1.0.body))
+      alike_in s t (as_alike program s t (seen_as program s t r.1.0.body))
   alike_both purse s t (inr r) = r.1.alike
 
   -- the code in its stack simulates the program in it, each step at no more than its price
-  pub simulates_in_stack : Laid reading low items stack small
+  pub simulates_in_stack : Laid program
       → PaidSimulation K MS NS (low_price low.procs) cost Both size
   simulates_in_stack laid = record {
     alike = λ purse s t r. alike_both purse s t r;
@@ -587,12 +592,12 @@ module _ {V : Type 0} (reading : Halt → Ending V) (low : LowSetting) (entry : 
   abbrev t0 : VirtualState
   t0 = virtual_start regs memory world
 
-  laid_out : Laid reading low code (regs 25) small
+  laid_out : Laid (program reading low code (regs 25) small room)
   laid_out = all reading low entry p regs memory world small fits even found none alloc top
 
   first : Alike (SameRegion (regs 25) low.top) (low_machine reading low)
       (virtual_machine reading (setting_of low code)) s0 t0
-  first = as_alike reading low code (regs 25) small s0 t0 (
+  first = as_alike (program reading low code (regs 25) small room) s0 t0 (
     (λ at h. refl),
     alloc,
     (omega arith, omega arith),

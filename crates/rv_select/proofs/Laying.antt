@@ -23,7 +23,7 @@ use Rattle.rv_select.specs.Select.{procs_items, select_items}
 use Rattle.rv_select.specs.Marks.{NotIn, Distinct, marks}
 use Rattle.rv_select.proofs.Marks.{Each, body_fresh}
 use Rattle.rv_select.proofs.Stretches.{Stands, stands_front, stands_past, beyond}
-use Rattle.rv_select.proofs.Selecting.{Finds, finds_front, finds_past, Entered, Laid}
+use Rattle.rv_select.proofs.Relation.{Program, Finds, finds_front, finds_past, Entered, Laid}
 use Rattle.rv_select.specs.Selected.{setting_of}
 
 -- items that are no procedures
@@ -167,6 +167,9 @@ equal_self n = grind arith
 
 module _ {V : Type 0} (reading : Halt → Ending V) (low : LowSetting) (items : List VirtualItem) (stack : ℕ)
     (small : low.top < 2 ^ 64) where
+  abbrev program : Program V
+  program = record { reading = reading; low = low; items = items; stack = stack; small = small }
+
   abbrev From : ℕ → List VirtualItem → Type 0
   From p xs = drop p items ≡ xs
 
@@ -194,7 +197,7 @@ module _ {V : Type 0} (reading : Halt → Ending V) (low : LowSetting) (items : 
   -- distinct marks are found where they stand
   all_found : (home : ℕ) (xs tail : List VirtualItem) (p : ℕ) → AreBody xs → Distinct (marks xs)
       → Each (λ w. mark_place items home w ≡ mark_from w p (xs ++ tail)) (marks xs)
-      → Finds reading low items stack small home p xs
+      → Finds program home p xs
   all_found home [] tail p b d e = tt
   all_found home (Mark m ∷ xs) tail p b d e = (
     e.0 ∙ ap (λ c. if c then Some p else mark_from m (suc p) (xs ++ tail)) (equal_self m),
@@ -210,7 +213,7 @@ module _ {V : Type 0} (reading : Halt → Ending V) (low : LowSetting) (items : 
 
   -- a procedure whose body lies from a place on
   entered : (p : Proc) (first mark home : ℕ) (tail : List VirtualItem) → From home (body_items first mark p ++ tail)
-      → Entered reading low items stack small p (record { home = home; first = first; count = p.words })
+      → Entered program p (record { home = home; first = first; count = p.words })
   entered p first mark home tail e = record {
     mark = suc mark;
     out = mark;
@@ -218,8 +221,8 @@ module _ {V : Type 0} (reading : Halt → Ending V) (low : LowSetting) (items : 
       count = refl;
       room = (
         beyond code (beyond params home),
-        (finds_past reading low items stack small home code (out_items mark) (beyond params home)
-            (finds_past reading low items stack small home params (code ++ out_items mark) home finds)).0,
+        (finds_past program home code (out_items mark) (beyond params home)
+            (finds_past program home params (code ++ out_items mark) home finds)).0,
         stands_past reading setting code (out_items mark) (beyond params home)
             (stands_past reading setting params (code ++ out_items mark) home stands),
       );
@@ -227,8 +230,8 @@ module _ {V : Type 0} (reading : Halt → Ending V) (low : LowSetting) (items : 
     lies = record {
       stands = stands_front reading setting (params ++ code) (out_items mark) home
           (subst (Here home) (sym (append_assoc params code (out_items mark))) stands);
-      finds = finds_front reading low items stack small home (params ++ code) (out_items mark) home
-          (subst (Finds reading low items stack small home home) (sym (append_assoc params code (out_items mark)))
+      finds = finds_front program home (params ++ code) (out_items mark) home
+          (subst (Finds program home home) (sym (append_assoc params code (out_items mark)))
           finds);
       leads = tt;
     };
@@ -246,7 +249,7 @@ module _ {V : Type 0} (reading : Halt → Ending V) (low : LowSetting) (items : 
       stands : Here home (body_items first mark p)
       stands = from_stands (body_items first mark p) tail home e
 
-      finds : Finds reading low items stack small home home (body_items first mark p)
+      finds : Finds program home home (body_items first mark p)
       finds =
           all_found home (body_items first mark p) tail home (body_is_body first mark p) (body_fresh first mark p).1
           (every _ (marks (body_items first mark p)) (λ w. ap (λ xs. mark_from w home xs) e))
@@ -266,19 +269,19 @@ module _ {V : Type 0} (reading : Halt → Ending V) (low : LowSetting) (items : 
 
   numbers : (ps : List Proc) (k first mark j at w : ℕ) (p : Proc) → w ≡ k + j → slice_get ps j ≡ Some p
       → From at (procs_items k first mark ps) → (f : Found)
-      × (procedure_from w at (procs_items k first mark ps) ≡ Some f) × Entered reading low items stack small p f
+      × (procedure_from w at (procs_items k first mark ps) ≡ Some f) × Entered program p f
   numbers [] k first mark zero at w p n g e = absurd (cc)
   numbers [] k first mark (suc j) at w p n g e = absurd (cc)
   numbers (q ∷ ps) k first mark zero at w p n g e =
       let same : q ≡ p = cc in
       let found : Found = record { home = suc at; first = first; count = q.words } in
       let test : (k == w) ≡ true = ap (λ x. x == w) (let h : k ≡ w = omega (arith, n) in h) ∙ equal_self w in
-      let r : Entered reading low items stack small q found =
+      let r : Entered program q found =
       entered q first mark (suc at) (tail_of k first mark q ps) (proc_split k first mark at q ps e) in (
         found,
         ap (λ c. if c then Some found else procedure_from w (suc at) (body_items first mark q
             ++ tail_of k first mark q ps)) test,
-        subst (λ c. Entered reading low items stack small c found) same r,
+        subst (λ c. Entered program c found) same r,
       )
   numbers (q ∷ ps) k first mark (suc j) at w p n g e =
       let body : List VirtualItem = body_items first mark q in
@@ -295,7 +298,7 @@ module _ {V : Type 0} (reading : Halt → Ending V) (low : LowSetting) (items : 
   addresses : (ps : List Proc) (k first mark at to : ℕ) (p : Proc) → proc_from low.address to k ps ≡ Some p
       → From at (procs_items k first mark ps) → (f : Found)
       × (procedure_at low.address to at (procs_items k first mark ps) ≡ Some f)
-      × Entered reading low items stack small p f
+      × Entered program p f
   addresses [] k first mark at to p g e = absurd (cc)
   addresses (q ∷ ps) k first mark at to p g e =
       here (λ i. addresses ps (suc k) (first + q.words) (suc mark + marks_in q.code)
@@ -313,17 +316,17 @@ module _ {V : Type 0} (reading : Halt → Ending V) (low : LowSetting) (items : 
 
       here : (proc_from low.address to (suc k) ps ≡ Some p → (f : Found)
           × (procedure_at low.address to (beyond body (suc at)) tail ≡ Some f)
-          × Entered reading low items stack small p f) → (c : Bool) → (low.address k == to) ≡ c
+          × Entered program p f) → (c : Bool) → (low.address k == to) ≡ c
           → (if c then Some q else proc_from low.address to (suc k) ps) ≡ Some p → (f : Found)
           × (procedure_at low.address to at (procs_items k first mark (q ∷ ps)) ≡ Some f)
-          × Entered reading low items stack small p f
+          × Entered program p f
       here later true h i =
           let same : q ≡ p = cc in
-          let r : Entered reading low items stack small q found =
+          let r : Entered program q found =
           entered q first mark (suc at) tail (proc_split k first mark at q ps e) in (
             found,
             ap (λ c. if c then Some found else procedure_at low.address to (suc at) (body ++ tail)) h,
-            subst (λ c. Entered reading low items stack small c found) same r,
+            subst (λ c. Entered program c found) same r,
           )
       here later false h i =
           let r = later i in (
@@ -333,9 +336,15 @@ module _ {V : Type 0} (reading : Halt → Ending V) (low : LowSetting) (items : 
             r.2,
           )
 
+-- the program of the code of `select`
+abbrev pub selected_program : {V : Type 0} → (Halt → Ending V) → (low : LowSetting) → ℕ → low.top < 2 ^ 64 → ℕ
+    → Program V
+selected_program reading low stack small entry =
+    record { reading = reading; low = low; items = select_items entry low.procs; stack = stack; small = small }
+
 -- the code of `select` has all procedures
 pub laid : {V : Type 0} (reading : Halt → Ending V) (low : LowSetting) (stack : ℕ) (small : low.top < 2 ^ 64)
-    (entry : ℕ) → Laid reading low (select_items entry low.procs) stack small
+    (entry : ℕ) → Laid (selected_program reading low stack small entry)
 laid reading low stack small entry =
     let items : List VirtualItem = select_items entry low.procs in
     record {

@@ -7,7 +7,15 @@ mod Pricing
 mod Stretches
 mod Fetching
 mod Handing
-mod Selecting
+mod Relation
+mod Stepping
+mod Straight
+mod Allocating
+mod Outside
+mod Branching
+mod Calling
+mod Leaving
+mod Moves
 mod Marks
 mod Laying
 mod Following

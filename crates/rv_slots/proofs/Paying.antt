@@ -1,8 +1,8 @@
 -- What a code with marks comes to within a budget, item by item: one lemma a kind of item, each over what the run comes
 -- to from there.
-use Rattle.std.proofs.Common.{ℕ, suc, ◌+◌, ◌-◌, ◌%◌, ◌^◌, ◌<◌, ◌≤◌, ◌≡◌, Bool, true, false, List, ◌∷◌}
+use Rattle.std.proofs.Common.{ℕ, suc, ◌+◌, ◌%◌, ◌^◌, ◌<◌, ◌≤◌, ◌≡◌, true, false, List, ◌∷◌}
 use Rattle.std.proofs.Common.{Some, refl, sym, ◌∙◌, ap, subst, arith}
-use Rattle.std.specs.Prelude.{◌==◌, if◌then◌else◌, pos}
+use Rattle.std.specs.Prelude.{pos}
 use Rattle.grift_base.specs.World.{WorldState}
 use Rattle.run_laws.specs.Machines.{Go, Reaches}
 use Rattle.run_laws.specs.Meters.{Metered, metered}
@@ -12,21 +12,17 @@ use Rattle.rv_isa.specs.declared.inst.Inst.TheVariants.{Jalr, Ecall}
 use Rattle.machine_words.specs.declared.conditions.Cond.{Cond}
 use Rattle.rv_machine.specs.declared.real.RealItem.{RealItem}
 use Rattle.rv_machine.specs.declared.real.RealItem.TheVariants.{Op, Jump, Branch, Address}
-use Rattle.machine_words.specs.declared.faults.MachineFault.TheVariants.{Misaligned}
 use Rattle.machine_words.specs.Memory.{Memory}
 use Rattle.rv_machine.specs.Registers.{Registers, set_reg}
 use Rattle.rv_machine.specs.State.{State, Turn, Next, reg}
-use Rattle.machine_words.specs.Arithmetic.{subtract, add}
-use Rattle.rv_machine.specs.Turn.{act_with, goes_wrong}
-use Rattle.rv_machine.specs.Mach.{step_by}
-use Rattle.rv_machine.specs.Real.{is_mark, address_from, mark_address, op_step, jump_step, branch_step}
+use Rattle.machine_words.specs.Arithmetic.{add}
+use Rattle.rv_machine.specs.Turn.{act_with}
+use Rattle.rv_machine.specs.Real.{is_mark, mark_address}
 use Rattle.machine_words.specs.Conditions.{holds}
-use Rattle.rv_machine.specs.Real.{address_step, goes_to}
-use Rattle.rv_machine.proofs.Public.{Program, At, HasItem, item_here, next_at, running, step_is}
+use Rattle.rv_machine.proofs.Public.{Program, At, HasItem, item_here, next_at, running}
+use Rattle.rv_machine.proofs.Public.{op_step_is, call_step_is, jump_step_is, fall_step_is, branch_step_is}
+use Rattle.rv_machine.proofs.Public.{address_step_is, register_jump_step_is}
 use Rattle.assembler.specs.Prices.{real_price, price_here, state_price}
-
-back_again : (n : ℕ) → n < 2 ^ 64 → add (subtract n 4) 4 ≡ n
-back_again n h = omega arith
 
 module _ {V : Type 0} (program : Program V) where
   -- the price of the item that a state is at
@@ -98,16 +94,11 @@ module _ {V : Type 0} (program : Program V) where
         ((pc : ℕ) → At program (record s { regs = regs; memory = memory; pc = pc }) xs →
         Comes most (record s { regs = regs; memory = memory; pc = pc })) →
         ComesOn (suc most) s
-    op {most} {s} {i} {xs} regs memory at h act p go =
+    op {most} {s} regs memory at h act p go =
         let next = next_at program at h in
-        let ecall = program.setting.ecall at.place in
-        let ebreak = program.setting.ebreak at.place in
         let t : State = record s { regs = regs; memory = memory; pc = next.pc } in
-        comes_on_later (suc most) (omega arith) (goes 1 t at refl refl (step_is program at refl
-        ∙ (ap (λ o. op_step program.reading ecall ebreak i o s) next.is_next
-        ∙ (ap (λ turn. step_by program.reading s turn) (act ecall ebreak (subtract next.pc 4))
-        ∙ ap (λ q. Go (record s { regs = regs; memory = memory; pc = q })) (back_again next.pc next.small))))
-        p (go next.pc (next.at t refl)))
+        comes_on_later (suc most) (omega arith)
+        (goes 1 t at refl refl (op_step_is program regs memory at h act) p (go next.pc (next.at t refl)))
 
     -- an ECALL that goes on
     pub call : {most : ℕ} {s : State} {xs : List RealItem} (regs : Registers) (world : WorldState)
@@ -118,16 +109,11 @@ module _ {V : Type 0} (program : Program V) where
         ((pc : ℕ) → At program (record s { regs = regs; world = world; pc = pc }) xs →
         Comes most (record s { regs = regs; world = world; pc = pc })) →
         ComesOn (suc most) s
-    call {most} {s} {xs} regs world at h act p go =
+    call {most} {s} regs world at h act p go =
         let next = next_at program at h in
-        let ecall = program.setting.ecall at.place in
-        let ebreak = program.setting.ebreak at.place in
         let t : State = record s { regs = regs; world = world; pc = next.pc } in
-        comes_on_later (suc most) (omega arith) (goes 1 t at refl refl (step_is program at refl
-        ∙ (ap (λ o. op_step program.reading ecall ebreak Ecall o s) next.is_next
-        ∙ (ap (λ turn. step_by program.reading s turn) (act (subtract next.pc 4))
-        ∙ ap (λ q. Go (record s { regs = regs; world = world; pc = q })) (back_again next.pc next.small))))
-        p (go next.pc (next.at t refl)))
+        comes_on_later (suc most) (omega arith)
+        (goes 1 t at refl refl (call_step_is program regs world at h act) p (go next.pc (next.at t refl)))
 
     -- a jump to a mark, which keeps the next item's address
     pub jump : {most : ℕ} {s : State} {rd mark : ℕ} {xs : List RealItem} (target : ℕ) →
@@ -136,36 +122,25 @@ module _ {V : Type 0} (program : Program V) where
         ((pc : ℕ) → ((t : State) → t.pc ≡ pc → At program t xs) →
         Comes most (record s { regs = set_reg rd pc s.regs; pc = target })) →
         ComesOn (10 + most) s
-    jump {most} {s} {rd} {mark} {xs} target at h there p go =
+    jump target at h there p go =
         let next = next_at program at h in
-        goes 10 (record s { regs = set_reg rd next.pc s.regs; pc = target }) at refl refl (step_is program at refl
-        ∙ (ap (λ to. jump_step rd to (address_from program.setting.address (suc at.place) xs) s) there
-        ∙ ap (λ o. jump_step rd (Some target) o s) next.is_next))
-        p (go next.pc next.at)
+        goes 10 _ at refl refl (jump_step_is program target at h there) p (go next.pc next.at)
 
     -- a branch that isn't taken, and one that is
     pub falls_through : {most : ℕ} {s : State} {cond : Cond} {a b mark : ℕ} {xs : List RealItem} →
         At program s (Branch cond a b mark ∷ xs) → HasItem xs → holds cond (reg s a) (reg s b) ≡ false → P s →
         ((pc : ℕ) → At program (record s { pc = pc }) xs → Comes most (record s { pc = pc })) → ComesOn (11 + most) s
-    falls_through {most} {s} {cond} {a} {b} {mark} {xs} at h test p go =
+    falls_through {s = s} at h test p go =
         let next = next_at program at h in
         let t : State = record s { pc = next.pc } in
-        let to = mark_address program.setting.address program.code mark in
-        goes 11 t at refl refl (step_is program at refl
-        ∙ (ap (λ c. branch_step c to (address_from program.setting.address (suc at.place) xs) s) test
-        ∙ ap (λ o. goes_to o s) next.is_next))
-        p (go next.pc (next.at t refl))
+        goes 11 t at refl refl (fall_step_is program at h test) p (go next.pc (next.at t refl))
 
     pub is_taken : {most : ℕ} {s : State} {cond : Cond} {a b mark : ℕ} {xs : List RealItem} (target : ℕ) →
         At program s (Branch cond a b mark ∷ xs) → holds cond (reg s a) (reg s b) ≡ true →
         mark_address program.setting.address program.code mark ≡ Some target → P s →
         Comes most (record s { pc = target }) → ComesOn (11 + most) s
-    is_taken {most} {s} {cond} {a} {b} {mark} {xs} target at test there p go =
-        let to = mark_address program.setting.address program.code mark in
-        goes 11 (record s { pc = target }) at refl refl (step_is program at refl
-        ∙ (ap (λ c. branch_step c to (address_from program.setting.address (suc at.place) xs) s) test
-        ∙ ap (λ o. goes_to o s) there))
-        p go
+    is_taken target at test there p go =
+        goes 11 _ at refl refl (branch_step_is program target at test there) p go
 
     -- the address of a mark is put into a register
     pub puts_address : {most : ℕ} {s : State} {rd mark : ℕ} {xs : List RealItem} (target : ℕ) →
@@ -174,13 +149,10 @@ module _ {V : Type 0} (program : Program V) where
         ((pc : ℕ) → At program (record s { regs = set_reg rd target s.regs; pc = pc }) xs →
         Comes most (record s { regs = set_reg rd target s.regs; pc = pc })) →
         ComesOn (10 + most) s
-    puts_address {most} {s} {rd} {mark} {xs} target at h there p go =
+    puts_address {s = s} {rd = rd} target at h there p go =
         let next = next_at program at h in
         let t : State = record s { regs = set_reg rd target s.regs; pc = next.pc } in
-        goes 10 t at refl refl (step_is program at refl
-        ∙ (ap (λ to. address_step rd to (address_from program.setting.address (suc at.place) xs) s) there
-        ∙ ap (λ o. address_step rd (Some target) o s) next.is_next))
-        p (go next.pc (next.at t refl))
+        goes 10 t at refl refl (address_step_is program target at h there) p (go next.pc (next.at t refl))
 
     -- a jump to the address in a register, which keeps the next item's address
     pub jumps_to : {most : ℕ} {s : State} {rd a : ℕ} {xs : List RealItem} (target : ℕ) →
@@ -189,28 +161,8 @@ module _ {V : Type 0} (program : Program V) where
         ((pc : ℕ) → ((t : State) → t.pc ≡ pc → At program t xs) →
         Comes most (record s { regs = set_reg rd pc s.regs; pc = target })) →
         ComesOn (suc most) s
-    jumps_to {most} {s} {rd} {a} {xs} target at h is_target small aligned p go =
+    jumps_to {most} target at h is_target small aligned p go =
         let next = next_at program at h in
-        let ecall = program.setting.ecall at.place in
-        let ebreak = program.setting.ebreak at.place in
-        let whole : (target + 0) % 2 ^ 64 - (target + 0) % 2 ^ 64 % 2 ≡ target = omega arith in
-        let even : (target % 4 == 0) ≡ true = ap (λ x. x == 0) aligned in
-        comes_on_later (suc most) (omega arith) (
-        goes 1 (record s { regs = set_reg rd next.pc s.regs; pc = target }) at refl refl (step_is program at refl
-        ∙ (ap (λ o. op_step program.reading ecall ebreak (Jalr rd a (pos 0)) o s) next.is_next
-        ∙ (ap (λ w. step_by program.reading s (lands rd w (subtract next.pc 4))) is_target
-        ∙ (ap (λ w. step_by program.reading s (lands_at rd w (subtract next.pc 4))) whole
-        ∙ (ap (λ (c : Bool). step_by program.reading s (if c then arrives rd target (subtract next.pc 4)
-        else goes_wrong Misaligned (record s { pc = subtract next.pc 4 }))) even
-        ∙ ap (λ q. Go (record s { regs = set_reg rd q s.regs; pc = target })) (back_again next.pc next.small))))))
-        p (go next.pc next.at))
-      where
-        arrives : ℕ → ℕ → ℕ → Turn
-        arrives rd to pc = Next (record s { regs = set_reg rd (add pc 4) s.regs; pc = to })
-
-        lands_at : ℕ → ℕ → ℕ → Turn
-        lands_at rd to pc =
-            if to % 4 == 0 then arrives rd to pc else goes_wrong Misaligned (record s { pc = pc })
-
-        lands : ℕ → ℕ → ℕ → Turn
-        lands rd word pc = lands_at rd ((word + 0) % 2 ^ 64 - (word + 0) % 2 ^ 64 % 2) pc
+        comes_on_later (suc most) (omega arith)
+        (goes 1 _ at refl refl (register_jump_step_is program target at h is_target small aligned) p
+        (go next.pc next.at))

@@ -18,14 +18,14 @@ use Rattle.rv_select.specs.Prices.{virtual_price}
 use Rattle.rv_select.proofs.Public.{unmetered}
 use Rattle.rv_select.specs.Marks.{marks, Distinct}
 use Rattle.rv_slots.specs.Slots.{slots_items}
-use Rattle.rv_select.specs.Stacks.{stacked_machine}
+use Rattle.rv_select.specs.Stacks.{stack_of, stacked_machine}
 use Rattle.rv_slots.specs.Slotted.{free_mark, Starts, setting_in, room_in, start_in, IsSeenAs, FollowsVirtual}
 use Rattle.rv_slots.specs.Slotted.{DoesInStack, DoesAsVirtual, StopsAsVirtual, EndsAsVirtual, frames_of, last_frame}
 use Rattle.rv_slots.proofs.Frames.{Slotting, On}
 use Rattle.rv_slots.proofs.SlotSteps.{slots_simulate}
 use Rattle.rv_slots.proofs.SlotDistinct.{slots_once}
 use Rattle.rv_slots.proofs.Stopping.{ends_as_virtual}
-use Rattle.rv_slots.proofs.InStack.{stacked_never_wrong, stacked_simulates}
+use Rattle.rv_slots.proofs.InStack.{fitting_never_wrong, fitting_simulates}
 
 module _ {V : Type 0} (reading : Halt → Ending V) (items : List VirtualItem) (distinct : Distinct (marks items))
     (counts : (p k first count : ℕ) → slice_get items p ≡ Some (Procedure k first count) → count < 2 ^ 32) where
@@ -85,7 +85,8 @@ module _ {V : Type 0} (reading : Halt → Ending V) (items : List VirtualItem) (
 
     pub follows_in_stack : reading (Lacks Stack) ≢ Wrong → FollowsVirtual real price bound work s
     follows_in_stack lacking =
-        let never1 = stacked_never_wrong reading (setting_in items told s) (room_in s) lacking (start_in s) never in
+        let never1 = fitting_never_wrong reading (setting_in items told s) stack_of (room_in s) lacking (start_in s)
+        never in
         let turns = follows_at_cost (slots_simulate slotting) (start_in s) s at_start never1 in
         record {
           follows = unmetered bound real work price (unspent (start_in s)) s never1 turns;
@@ -95,7 +96,7 @@ module _ {V : Type 0} (reading : Halt → Ending V) (items : List VirtualItem) (
     pub follows_virtual : reading (Lacks Stack) ≡ Exhausted → FollowsVirtual real price free work s
     follows_virtual out =
         let lacking : reading (Lacks Stack) ≢ Wrong = (λ e. not_both (reading (Lacks Stack)) out e) in
-        let upper = follows_at_cost (stacked_simulates reading (setting_in items told s) (room_in s) work out)
+        let upper = follows_at_cost (fitting_simulates reading (setting_in items told s) stack_of (room_in s) work out)
         (start_in s) (start_in s) refl never in
         let turns = follows_by_weaken (OfRest (IsSeenAs (s.regs 25))) (Spends 1)
         (λ a b k. subst (λ x. IsSeenAs (s.regs 25) a.rest x) k.2 k.1) (λ a b k. spends_through 1 1 a b k)
@@ -111,7 +112,8 @@ module _ {V : Type 0} (reading : Halt → Ending V) (items : List VirtualItem) (
     pub stops_as_virtual : reading (Lacks Stack) ≢ Wrong → EndsAsVirtual reading items frames_of last_frame real free s
     stops_as_virtual lacking m verdict h =
         ends_as_virtual slotting (start_in s) s at_start
-        (stacked_never_wrong reading (setting_in items told s) (room_in s) lacking (start_in s) never) m verdict h
+        (fitting_never_wrong reading (setting_in items told s) stack_of (room_in s) lacking (start_in s) never) m
+        verdict h
 
   -- the claims of the definition
   pub does_in_stack : DoesInStack reading items code
