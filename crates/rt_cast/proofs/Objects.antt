@@ -1,4 +1,4 @@
--- Objects in memory: what stands at a place, and what stays as words are stored and objects are added.
+-- Objects in memory: what stands at a place, what stays as words are stored and objects are added, and headers.
 use Rattle.std.proofs.Common.{◌≡◌, inl, inr, ℕ, zero, suc, ◌+◌, ◌*◌, ◌^◌, ◌<◌, ◌≤◌, Bool, true, false}
 use Rattle.std.proofs.Common.{cond, nat_eq, List, [], ◌∷◌, ◌++◌, length, Some, None, refl, sym, ap, ◌∙◌}
 use Rattle.std.proofs.Common.{subst, arith, eqb-true}
@@ -6,6 +6,10 @@ use Rattle.std.specs.Prelude.{slice_get}
 use Rattle.machine_words.specs.Memory.{Memory, store_bytes}
 use Rattle.machine_words.proofs.Public.{stored_outside, load_stored, load_other, load_same}
 use Rattle.low_ir.specs.Steps.{store_words}
+use Rattle.object_layout.specs.declared.kinds.Kind.TheVariants.{Closure, Proxy, Dyn, Tuple as TupleKind, Boxed, Vector}
+use Rattle.object_layout.specs.declared.kinds.Kind.TheVariants.{Fail, Inject, Project}
+use Rattle.object_layout.specs.Kinds.{kind_number}
+use Rattle.coercion_norm.specs.ObjectsOfRows.{header}
 use Rattle.coercion_norm.specs.Objects.{Object, Fixed, Cell, header_of, bytes_of, bytes_of_all, object_at}
 use Rattle.coercion_norm.specs.Objects.{words_of, words_of_all}
 use Rattle.coercion_norm.proofs.Public.{bytes_of_words, found_within}
@@ -204,3 +208,33 @@ holds_stored m (x ∷ os) at w head count p y h e low high =
               (λ i a b. stored_outside 8 m p y i (inl (omega (arith, b, low, z.low)))) h.0,
           ih f,
         )
+
+-- ---- headers of objects, told how many words are behind them where their kind leaves it open
+
+abbrev pub closure_header : ℕ → ℕ
+closure_header count = header (kind_number Closure) 0 count
+
+abbrev pub tuple_header : ℕ → ℕ
+tuple_header count = header (kind_number TupleKind) 0 count
+
+abbrev pub box_header : ℕ → ℕ
+box_header count = header (kind_number Boxed) 0 count
+
+abbrev pub vector_header : ℕ → ℕ
+vector_header count = header (kind_number Vector) 0 count
+
+abbrev pub proxy_header : ℕ
+proxy_header = header (kind_number Proxy) 0 2
+
+abbrev pub dyn_header : ℕ
+dyn_header = header (kind_number Dyn) 0 2
+
+abbrev pub fail_header : ℕ
+fail_header = header (kind_number Fail) 0 1
+
+-- told their heights
+abbrev pub inject_header : ℕ → ℕ
+inject_header height = header (kind_number Inject) height 2
+
+abbrev pub project_header : ℕ → ℕ
+project_header height = header (kind_number Project) height 3
