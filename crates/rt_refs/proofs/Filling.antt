@@ -37,11 +37,11 @@ use Rattle.rt_cast.specs.Frames.{frame_room, waiting_room}
 use Rattle.rt_cast.specs.Objects.{HasWord, HoldsWords}
 use Rattle.rt_cast.specs.States.{Heap, Fine, Filled, Placed, OnTheWay, Within as IsWithin, around, heap_of, entered, st}
 use Rattle.rt_cast.specs.WholeObjects.{WholeOther}
-use Rattle.rt_cast.proofs.Public.{eq_true, eq_false, holds_append, wholes_more}
+use Rattle.rt_cast.proofs.Public.{eq_true, eq_false, holds_append, holds_same, wholes_more}
 use Rattle.rt_refs.specs.FillCodes.{fill_loop, fill_code, fill_proc, trap_length}
 use Rattle.rt_refs.specs.FillLaws.{MadeAt, ComesToVector}
 use Rattle.rt_refs.specs.CellLaws.{TrapsAt, ComesWhere}
-use Rattle.rt_refs.proofs.CellSteps.{may_be_stored, le_true, le_cases, holds_same}
+use Rattle.rt_refs.proofs.CellSteps.{may_be_stored, le_true, le_cases}
 use Rattle.rt_refs.proofs.Signs.{Signed, signed, Positive, Negative}
 
 plus_is : (x n : ℕ) → x + n < 2 ^ 64 → plus x (pos n) ≡ x + n

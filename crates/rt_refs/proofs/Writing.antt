@@ -25,11 +25,11 @@ use Rattle.rt_cast.specs.States.{Grows, Heap, Fine, Filled, IsReady, Within, aro
 use Rattle.rt_cast.specs.MergedValues.{Merged, Outcome, Stuck, Gives, Blames, cast_value}
 use Rattle.rt_cast.specs.Carried.{CarriedBy}
 use Rattle.rt_cast.proofs.Public.{Walk, lt_true, lt_false, End, More, at_most, computes, if_true, if_false, calls}
-use Rattle.rt_cast.proofs.Public.{ReachedIn, at_first, walk}
+use Rattle.rt_cast.proofs.Public.{ReachedIn, at_first, walk, holds_stored, holds_same}
 use Rattle.rt_refs.specs.CellCodes.{write_code, write_proc, write_element, trap_index, test_index, find_element}
 use Rattle.rt_refs.specs.CellLaws.{cell_behind, under, CellStands, CellInRegion, TrapsAt, WriteComes}
 use Rattle.rt_refs.specs.CellLaws.{OnTheWayWriting, ComesWhere, ComesWriting}
-use Rattle.rt_refs.proofs.CellSteps.{in_list, stores, may_be_stored, holds_stored, holds_same}
+use Rattle.rt_refs.proofs.CellSteps.{in_list, stores, may_be_stored}
 use Rattle.rt_refs.proofs.Calling.{cast_behind, Goes}
 use Rattle.machine_words.specs.Memory.{store_bytes}
 use Rattle.machine_words.proofs.Public.{stored_outside}
