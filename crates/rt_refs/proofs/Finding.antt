@@ -25,6 +25,7 @@ use Rattle.rt_refs.specs.CellCodes.{find_cell, take_part}
 use Rattle.rt_refs.specs.CellLaws.{cell_behind, under, CellStands}
 use Rattle.rt_refs.proofs.Calling.{mapped, part_held, part_low}
 use Rattle.rt_refs.proofs.CellSteps.{ends_branch}
+use Rattle.rt_cast.proofs.Public.{proxy_header}
 
 zero_more : (n : ℕ) → n ≡ n + 0
 zero_more n = omega arith
@@ -125,11 +126,11 @@ module _ {V : Type 0} (walk : Walk V) (low : walk.l.tallest ≤ 65534) (A : Type
         let head0 = header cell.kind 0 (length ws) in
         let ws2 = hv.0 ∷ hv.1 ∷ [] in
         at_most walk
-        (loads walk objects fine wv (header 2 0 2) ws2 0 (header 2 0 2) wv_is hv.2 refl refl refl
-        (computes walk objects fine (header 2 0 2) 255 2 refl refl (kind_read 2 0 2 (omega arith)) refl
+        (loads walk objects fine wv proxy_header ws2 0 proxy_header wv_is hv.2 refl refl refl
+        (computes walk objects fine proxy_header 255 2 refl refl (kind_read 2 0 2 (omega arith)) refl
         (if_true walk objects fine 2 2 refl refl refl
-        (loads walk objects fine wv (header 2 0 2) ws2 2 hv.1 wv_is hv.2 refl refl refl
-        (loads walk objects fine wv (header 2 0 2) ws2 1 hv.0 wv_is hv.2 refl refl refl
+        (loads walk objects fine wv proxy_header ws2 2 hv.1 wv_is hv.2 refl refl refl
+        (loads walk objects fine wv proxy_header ws2 1 hv.0 wv_is hv.2 refl refl refl
         (loads_at walk objects fine hv.0 head0 refl (cell_header hv.0 cell) refl
         (ends_branch walk objects fine
         (computes walk objects fine head0 32 (length ws) refl refl

@@ -39,6 +39,7 @@ use Rattle.rt_refs.proofs.CellSteps.{ends_branch}
 use Rattle.std.proofs.Common.{subst, ◌<◌, ◌∙◌}
 use Rattle.low_ir.specs.Steps.{set_local}
 use Rattle.rt_refs.proofs.Finding.{one_kind, behind_under, found, part_taken}
+use Rattle.rt_cast.proofs.Public.{proxy_header}
 
 module _ {V : Type 0} (reading : Halt → Ending V) (setting : Setting) (l : Layout) (first : ℕ) (s : LowState)
     (exhausts : reading (Lacks Region) ≡ Exhausted) (ready : IsReady setting l first) {A : Type 0} (head : A → TypeHead)
@@ -242,10 +243,10 @@ module _ {V : Type 0} (reading : Halt → Ending V) (setting : Setting) (l : Lay
       (st (around s) 6 (bind 0 (2 ∷ wv ∷ i ∷ []) no_locals) (read_code (cast first)) [] s.waiting (heap_of s)) =
       at_most q
       (if_true q objects fine_here 2 2 refl refl refl
-      (loads q objects fine_here wv (header 2 0 2) ws2 0 (header 2 0 2) refl hv.2 refl refl refl
-      (computes q objects fine_here (header 2 0 2) 255 2 refl refl (kind_read 2 0 2 (omega arith)) refl
+      (loads q objects fine_here wv proxy_header ws2 0 proxy_header refl hv.2 refl refl refl
+      (computes q objects fine_here proxy_header 255 2 refl refl (kind_read 2 0 2 (omega arith)) refl
       (if_true q objects fine_here 2 2 refl refl refl
-      (loads q objects fine_here wv (header 2 0 2) ws2 1 hv.0 refl hv.2 refl refl refl
+      (loads q objects fine_here wv proxy_header ws2 1 hv.0 refl hv.2 refl refl refl
       (loads_at q objects fine_here hv.0 head0 refl (at_header hv.0 here) refl
       (ends_branch q objects fine_here (told hv.0 _ _ here head0 here.kind refl z.0 refl))))))))
       (omega arith, omega arith, omega arith, omega arith) in (
