@@ -80,6 +80,7 @@ use Rattle.coercion_norm.specs.Coercions.{kind_of}
 use Rattle.std.proofs.Common.{◌⊎◌, sym, cond, nat_eq, not}
 use Rattle.std.specs.Prelude.{◌&&◌, ◌||◌, if◌then◌else◌}
 use Rattle.grift_base.specs.Types.{IntRow, BoolRow, UnitRow, DynRow, FunRow, TupleRow, RefRow, VectRow, is_dyn}
+use Rattle.rt_cast.proofs.Objects.{proxy_header, dyn_header, fail_header, inject_header, project_header}
 
 small_kind : (kind : ObjectKind) → number_of kind < 256
 small_kind Closure = omega arith
@@ -304,7 +305,7 @@ module _ {V : Type 0} (walk : Walk V) (low : walk.l.tallest ≤ 65534) (A : Type
       at_most walk
       (reads objects h fine waiting wv wc 8 0 1 (label ∷ []) hc (omega arith)
       (λ rests. if_true walk objects fine 8 8 refl refl refl
-      (loads walk objects fine wc (header 8 0 1) (label ∷ []) 1 label refl hc refl refl refl
+      (loads walk objects fine wc fail_header (label ∷ []) 1 label refl hc refl refl refl
       (go objects h 10 _ _ waiting (Word 4) (Number 0) 4 5 (Return (Number 0)) (grows_not objects) fine refl refl
       (omega arith) (omega arith)))))
       (omega arith, omega arith, omega arith, omega arith)
@@ -388,7 +389,7 @@ module _ {V : Type 0} (walk : Walk V) (low : walk.l.tallest ≤ 65534) (A : Type
       wrapped : (e : Coercion) → IsNormal R e → NoHigher R e n → (new : List Object) (grows : Grows objects new)
           (h' : Heap) (fine' : Fine walk.setting walk.l walk.around new h') (w : ℕ) → Held walk.l new e w
           → (rests : List Code) → GoesOn B objects waiting (rewrap a e) → Reached (More 2 0 3 60 B)
-          (state 10 (set_local 7 hv.0 (set_local 6 w (set_local 6 hv.1 (set_local 5 2 (set_local 4 (header 2 0 2)
+          (state 10 (set_local 7 hv.0 (set_local 6 w (set_local 6 hv.1 (set_local 5 2 (set_local 4 proxy_header
           (cast_read wv wc (header (kind_number kind) (coercion_height (height_in walk.l) (Middle kind cs))
           (length hc.0)) (kind_number kind))))))) (either Eq (Word 6) (Number 0) (Return (Word 7))
           (Build 8 (Number 8589934594 ∷ Word 7 ∷ Word 6 ∷ []) (Return (Word 8)))) rests waiting h')
@@ -418,15 +419,15 @@ module _ {V : Type 0} (walk : Walk V) (low : walk.l.tallest ≤ 65534) (A : Type
           (λ rests. if_false walk objects fine (kind_number kind) 8 refl refl (no_middle kind 8 (inl refl))
           (if_false walk objects fine (kind_number kind) 13 refl refl (no_middle kind 13 (inr (omega arith)))
           (if_false walk objects fine (kind_number kind) 14 refl refl (no_middle kind 14 (inr (omega arith)))
-          (loads walk objects fine wv (header 2 0 2) (hv.0 ∷ hv.1 ∷ []) 0 (header 2 0 2) refl hv.2 refl refl refl
-          (computes walk objects fine (header 2 0 2) 255 2 refl refl (kind_read 2 0 2 (omega arith)) refl
+          (loads walk objects fine wv proxy_header (hv.0 ∷ hv.1 ∷ []) 0 proxy_header refl hv.2 refl refl refl
+          (computes walk objects fine proxy_header 255 2 refl refl (kind_read 2 0 2 (omega arith)) refl
           (if_true walk objects fine 2 2 refl refl refl
-          (loads walk objects fine wv (header 2 0 2) (hv.0 ∷ hv.1 ∷ []) 2 hv.1 refl hv.2 refl refl refl
+          (loads walk objects fine wv proxy_header (hv.0 ∷ hv.1 ∷ []) 2 hv.1 refl hv.2 refl refl refl
           (calls walk objects fine (hv.1 ∷ wc ∷ []) (proc 2 12 (compose_code walk.first)) refl
           (walk.stands 1 _ refl) refl
           (does _ objects h fine _ hv.1 wc hv.4 hc
           (λ new h' w count locals rests' b grows fine' held is. comes_back walk new fine' w is refl
-          (loads walk new fine' wv (header 2 0 2) (hv.0 ∷ hv.1 ∷ []) 1 hv.0 refl
+          (loads walk new fine' wv proxy_header (hv.0 ∷ hv.1 ∷ []) 1 hv.0 refl
           (there_still walk.l objects new wv _ grows
           hv.2) refl refl refl
           (wrapped (compose_to R n d (Middle kind cs)) (compose_normal R n d (Middle kind cs) hv.5.normal nc)
@@ -487,12 +488,13 @@ module _ {V : Type 0} (walk : Walk V) (low : walk.l.tallest ≤ 65534) (A : Type
       (reads objects h fine waiting wv wc 13 y1 2 ws hc.2 (omega arith)
       (λ rests. if_false walk objects fine 13 8 refl refl refl
       (if_true walk objects fine 13 13 refl refl refl
-      (loads walk objects fine wc (header 13 y1 2) ws 1 hc.0 refl hc.2 refl refl refl
+      (loads walk objects fine wc (inject_header y1) ws 1 hc.0 refl hc.2 refl refl refl
       (calls walk objects fine (wv ∷ hc.0 ∷ []) (proc 2 10 (cast_code walk.first)) refl (walk.stands 2 _ refl) refl
       (does _ objects h fine _ wv hc.0 hv hc.3
       (after B _ objects waiting _ 9 refl (apply_plain R n g u) (λ y. GivesValue (InDyn kept y)) go
       (λ y go' new h' w grows fine' held.
-      loads walk new fine' wc (header 13 y1 2) ws 2 hc.1 refl (there_still walk.l objects new wc _ grows hc.2) refl refl
+      loads walk new fine' wc (inject_header y1) ws 2 hc.1 refl
+      (there_still walk.l objects new wc _ grows hc.2) refl refl
       refl
       (kind_there walk new h' fine' waiting 10 _ _ into_dyn kept hc.1 (type_still walk objects new hc.1 kept hc.4) refl
       refl
@@ -552,10 +554,10 @@ module _ {V : Type 0} (walk : Walk V) (low : walk.l.tallest ≤ 65534) (A : Type
             ws = hc.0 ∷ label ∷ hc.1 ∷ []
 
             L : Locals
-            L = cast_read wv wc (header 14 y1 3) 14
+            L = cast_read wv wc (project_header y1) 14
 
             -- what is in an object
-            from_object : (o : (wt : ℕ) × There walk.l objects wv (Fixed (header 3 0 2) (wt ∷ hv.0 ∷ []))
+            from_object : (o : (wt : ℕ) × There walk.l objects wv (Fixed dyn_header (wt ∷ hv.0 ∷ []))
                 × HoldsType walk.l objects wt kept) → (locals : Locals) → locals 0 ≡ Some wv → locals 1 ≡ Some wc
                 → (rests : List Code)
                 → Reached (More (cost0 + cost1 + cost2 + 18) (suc above) (asks0 + asks1 + asks2)
@@ -564,16 +566,17 @@ module _ {V : Type 0} (walk : Walk V) (low : walk.l.tallest ≤ 65534) (A : Type
                 let lk = (walk.types.heights kept n).1 hv.2 in
                 let e2 = compose_to R n e1 i in
                 at_most walk
-                (loads walk objects fine wv (header 3 0 2) (o.0 ∷ hv.0 ∷ []) 1 o.0 l0 o.1 refl refl refl
-                (loads walk objects fine wv (header 3 0 2) (o.0 ∷ hv.0 ∷ []) 2 hv.0 l0 o.1 refl refl refl
-                (loads walk objects fine wc (header 14 y1 3) ws 1 hc.0 l1 hc.2 refl refl refl
-                (loads walk objects fine wc (header 14 y1 3) ws 2 label l1 hc.2 refl refl refl
+                (loads walk objects fine wv dyn_header (o.0 ∷ hv.0 ∷ []) 1 o.0 l0 o.1 refl refl refl
+                (loads walk objects fine wv dyn_header (o.0 ∷ hv.0 ∷ []) 2 hv.0 l0 o.1 refl refl refl
+                (loads walk objects fine wc (project_header y1) ws 1 hc.0 l1 hc.2 refl refl refl
+                (loads walk objects fine wc (project_header y1) ws 2 label l1 hc.2 refl refl refl
                 (calls walk objects fine (o.0 ∷ hc.0 ∷ label ∷ []) (coerce_proc walk.first) refl
                 (walk.stands 0 _ refl) refl
                 (casts hv.3 lk _ objects h fine _ o.0 hc.0 o.2 hc.3
-                (part_small walk objects h fine wc (header 14 y1 3) ws hc.2 2 label refl)
+                (part_small walk objects h fine wc (project_header y1) ws hc.2 2 label refl)
                 (λ new h' w count locals' rests' b grows fine' held is. comes_back walk new fine' w is refl
-                (loads walk new fine' wc (header 14 y1 3) ws 3 hc.1 l1 (there_still walk.l objects new wc _ grows hc.2)
+                (loads walk new fine' wc (project_header y1) ws 3 hc.1 l1
+                (there_still walk.l objects new wc _ grows hc.2)
                 refl
                 refl refl
                 (calls walk new fine' (w ∷ hc.1 ∷ []) (compose_proc walk.first) refl (walk.stands 1 _ refl) refl
@@ -596,7 +599,7 @@ module _ {V : Type 0} (walk : Walk V) (low : walk.l.tallest ≤ 65534) (A : Type
                 (125 + price0 + price1 + price2) B) (state 10 locals (project_small walk.first) rests waiting h)
             from_tag small s is locals l0 l1 l4 rests =
                 at_most walk
-                (loads walk objects fine wc (header 14 y1 3) ws 1 hc.0 l1 hc.2 refl refl refl
+                (loads walk objects fine wc (project_header y1) ws 1 hc.0 l1 hc.2 refl refl refl
                 (loads walk objects fine hc.0 head (map walk.l.type_at (parts_of (R wanted))) 0 head refl
                 (type_there walk objects hc.0 wanted hc.3) refl refl refl
                 (computes walk objects fine head 255 (type_kind (R wanted)) refl refl
@@ -639,7 +642,7 @@ module _ {V : Type 0} (walk : Walk V) (low : walk.l.tallest ≤ 65534) (A : Type
                     (computes walk objects fine wv 3 hv.0 l0 refl
                     (ap (λ y. compute Sra y 3) full ∙ untagged s.tag hv.0 (let f = s.few in omega
                     (arith, f)) s.narrow) refl
-                    (loads walk objects fine wc (header 14 y1 3) ws 3 hc.1 l1 hc.2 refl refl refl
+                    (loads walk objects fine wc (project_header y1) ws 3 hc.1 l1 hc.2 refl refl refl
                     (tail_calls walk objects fine (hv.0 ∷ hc.1 ∷ []) (cast_proc walk.first) refl
                     (walk.stands 2 _ refl) refl
                     (subst (λ c. CastDoes cost2 (suc above) asks2 price2 (compose_to R n c i) x
@@ -652,7 +655,7 @@ module _ {V : Type 0} (walk : Walk V) (low : walk.l.tallest ≤ 65534) (A : Type
                     solid ∙ other_base R (coerce_below R n) kept wanted label s.tag s.has (heads ∙ other) in
                     at_most walk
                     (if_false walk objects fine (s.tag + 15) (type_kind (R wanted)) refl refl other
-                    (loads walk objects fine wc (header 14 y1 3) ws 2 label l1 hc.2 refl refl refl
+                    (loads walk objects fine wc (project_header y1) ws 2 label l1 hc.2 refl refl refl
                     (subst (λ c. GoesOn B objects waiting (apply_final R n (compose_to R n c i) x)) is_fail go
                     objects h 10 _ _ waiting (Word 7) (Number 0) 4 5 (Return (Number 0))
                     (grows_not objects) fine refl refl

@@ -56,6 +56,7 @@ use Rattle.rt_cast.proofs.ComposeSteps.{type_numbers, in_order, picks, part_runs
 use Rattle.rt_cast.proofs.ComposeSteps.{type_small, type_still, parts_less, words_less, price_less, CoerceDoes}
 use Rattle.rt_cast.proofs.ComposeRuns.{AllCasts}
 use Rattle.rt_cast.proofs.Walks.{Walk}
+use Rattle.rt_cast.proofs.Objects.{inject_header, project_header}
 
 long_fun : (ps qs : List ℕ) (a b : ℕ) → nat_eq (length ps) (length qs) ≡ (length (ps ++ a ∷ []) == length
     (qs ++ b ∷ []))
@@ -569,7 +570,7 @@ module _ {V : Type 0} (walk : Walk V) where
   projected to label small objects h fine waiting from wf wt dyn ht go rests =
       let tk = walk.types.low to in
       let H = max 0 (tall to) in
-      let o = Fixed (header 14 H 3) (wt ∷ label ∷ 0 ∷ []) in
+      let o = Fixed (project_header H) (wt ∷ label ∷ 0 ∷ []) in
       let e : max 0 (tall to) ≡ max (tall to) 0 = omega arith in
       at_most walk
       (if_true walk objects fine (type_kind (R from)) 19 refl refl (eq_true (type_kind (R from)) 19 dyn)
@@ -577,22 +578,22 @@ module _ {V : Type 0} (walk : Walk V) where
       (raised walk objects h fine _ 0 wt (tall to) (type_tall walk objects wt to ht)
       (λ count2 locals2 rests2 a2 is2. comes_back walk objects fine H is2 refl
       (computes walk objects fine H 16 (compute Sll H 16) refl refl refl refl
-      (computes walk objects fine (compute Sll H 16) 12884901902 (header 14 H 3) refl refl (header_made 14 H 3
+      (computes walk objects fine (compute Sll H 16) 12884901902 (project_header H) refl refl (header_made 14 H 3
       (omega arith) (omega (arith, tk)) (omega arith)) refl
-      (builds walk objects fine (header 14 H 3) (wt ∷ label ∷ 0 ∷ []) refl (omega arith) (omega arith) (
+      (builds walk objects fine (project_header H) (wt ∷ label ∷ 0 ∷ []) refl (omega arith) (omega arith) (
         header_small 14
             H 3 (omega arith) (omega (arith, tk)) (omega arith),
         (
           type_small walk objects h fine wt to ht,
           (small, (omega arith, tt)),
         ),
-      ) (WholeProject wt label 0 0 to (ap (λ n. Fixed (header 14 n 3) (wt ∷ label ∷ 0 ∷
+      ) (WholeProject wt label 0 0 to (ap (λ n. Fixed (project_header n) (wt ∷ label ∷ 0 ∷
       [])) e) ht (IdWord refl refl)) refl
       (λ h' fine'. go (objects ++ o ∷ []) h' h.alloc 11 _ _ (Word 10) (one_more walk objects o) fine' (
         wt,
         0,
         subst
-            (λ n. There walk.l (objects ++ o ∷ []) h.alloc (Fixed (header 14 n 3) (wt ∷ label ∷ 0 ∷ []))) e
+            (λ n. There walk.l (objects ++ o ∷ []) h.alloc (Fixed (project_header n) (wt ∷ label ∷ 0 ∷ []))) e
             (added walk objects h fine o),
         type_still walk objects (objects ++ o ∷ []) wt to ht,
         refl,
@@ -608,7 +609,7 @@ module _ {V : Type 0} (walk : Walk V) where
   injected from to label objects h fine waiting wf wt other dyn hf go rests =
       let tk = walk.types.low from in
       let H = max 0 (tall from) in
-      let o = Fixed (header 13 H 2) (0 ∷ wf ∷ []) in
+      let o = Fixed (inject_header H) (0 ∷ wf ∷ []) in
       at_most walk
       (if_false walk objects fine (type_kind (R from)) 19 refl refl other
       (if_true walk objects fine (type_kind (R to)) 19 refl refl (eq_true (type_kind (R to)) 19 dyn)
@@ -616,9 +617,9 @@ module _ {V : Type 0} (walk : Walk V) where
       (raised walk objects h fine _ 0 wf (tall from) (type_tall walk objects wf from hf)
       (λ count2 locals2 rests2 a2 is2. comes_back walk objects fine H is2 refl
       (computes walk objects fine H 16 (compute Sll H 16) refl refl refl refl
-      (computes walk objects fine (compute Sll H 16) 8589934605 (header 13 H 2) refl refl (header_made 13 H 2
+      (computes walk objects fine (compute Sll H 16) 8589934605 (inject_header H) refl refl (header_made 13 H 2
       (omega arith) (omega (arith, tk)) (omega arith)) refl
-      (builds walk objects fine (header 13 H 2) (0 ∷ wf ∷ []) refl (omega arith) (omega arith) (
+      (builds walk objects fine (inject_header H) (0 ∷ wf ∷ []) refl (omega arith) (omega arith) (
         header_small 13 H 2
             (omega arith) (omega (arith, tk)) (omega arith),
         (

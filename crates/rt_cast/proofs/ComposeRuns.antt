@@ -31,6 +31,7 @@ use Rattle.rt_cast.proofs.PartWords.{count, nth, nth_normal, nth_low, follow_at}
 use Rattle.rt_cast.proofs.ComposeSteps.{ComposeDoes, CoerceDoes, id_first, fail_first, id_second, reads_both, no_middle}
 use Rattle.rt_cast.proofs.ComposeSteps.{onto, projects, meets, both}
 use Rattle.rt_cast.proofs.Walks.{Walk}
+use Rattle.rt_cast.proofs.Objects.{inject_header}
 
 -- no Inject and no Project
 abbrev pub is_plain : Coercion → Bool
@@ -288,7 +289,7 @@ module _ {V : Type 0} (walk : Walk V) where
 
   -- nothing follows an Inject but Id, Fail and Project
   lost : {B : Budget} → (objects : List Object) (h : Heap) (fine : Fine walk.setting walk.l walk.around objects h)
-      (waiting : List Waiting) (wc wd y : ℕ) (ws : List ℕ) → There walk.l objects wc (Fixed (header 13 y 2) ws)
+      (waiting : List Waiting) (wc wd y : ℕ) (ws : List ℕ) → There walk.l objects wc (Fixed (inject_header y) ws)
       → (k2 y2 m2 : ℕ) (ws2 : List ℕ) → There walk.l objects wd (Fixed (header k2 y2 m2) ws2) → k2 < 256 → (k2 == 8) ≡
       false → (k2 == 14) ≡ false → Answers walk B objects waiting Id → ReachedIn walk (More 12 0 0 121 B)
       (st walk.around 12

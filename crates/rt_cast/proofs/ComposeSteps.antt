@@ -46,6 +46,7 @@ use Rattle.rt_cast.proofs.Middles.{middle_made, has_height, coercion_word}
 use Rattle.rt_cast.proofs.PartWords.{count, nth, word_at, got, as_many, nth_held, follow_at}
 use Rattle.rt_cast.proofs.PartWords.{follow_list}
 use Rattle.rt_cast.proofs.Walks.{Walk}
+use Rattle.rt_cast.proofs.Objects.{inject_header, project_header}
 
 pub type_numbers : (row : TypeRow) → type_kind row < 256
 type_numbers IntRow = omega arith
@@ -385,11 +386,12 @@ module _ {V : Type 0} (walk : Walk V) where
       (λ rests. if_false walk objects fine 13 8 refl refl refl
       (if_false walk objects fine hk 13 refl refl (no_middle kind 13 (inr (omega arith)))
       (if_true walk objects fine 13 13 refl refl refl
-      (loads walk objects fine wd (header 13 y2 2) words2 1 hd.0 refl hd.2 refl refl refl
+      (loads walk objects fine wd (inject_header y2) words2 1 hd.0 refl hd.2 refl refl refl
       (calls walk objects fine (wc ∷ hd.0 ∷ []) (proc 2 12 (compose_code walk.first)) refl (walk.stands 1 _ refl) refl
       (rec _ objects h fine _ wc hd.0 hc hd.3
       (λ new h' w count locals rests' a grows fine' held is. comes_back walk new fine' w is refl
-      (loads walk new fine' wd (header 13 y2 2) words2 2 hd.1 refl (there_still walk.l objects new wd _ grows hd.2) refl
+      (loads walk new fine' wd (inject_header y2) words2 2 hd.1 refl
+      (there_still walk.l objects new wd _ grows hd.2) refl
       refl refl
       (calls walk new fine' (0 ∷ w ∷ []) (proc 2 3 raise_code) refl (walk.stands 5 _ refl) refl
       (raised walk new h' fine' _ 0 w y (has_height walk.l new e w (omega (arith, low)) held)
@@ -399,28 +401,29 @@ module _ {V : Type 0} (walk : Walk V) where
       hd.4))
       (λ count3 locals3 rests3 a3 is3. comes_back walk new fine' H is3 refl
       (computes walk new fine' H 16 (compute Sll H 16) refl refl refl refl
-      (computes walk new fine' (compute Sll H 16) 8589934605 (header 13 H 2) refl refl (header_made 13 H 2 (omega arith)
+      (computes walk new fine' (compute Sll H 16) 8589934605 (inject_header H) refl refl
+      (header_made 13 H 2 (omega arith)
       (omega (arith, low, tk)) (omega arith)) refl
-      (builds walk new fine' (header 13 H 2) (w ∷ hd.1 ∷ []) refl (omega arith) (omega arith) (
+      (builds walk new fine' (inject_header H) (w ∷ hd.1 ∷ []) refl (omega arith) (omega arith) (
         header_small 13 H 2
             (omega arith) (omega (arith, low, tk)) (omega arith),
         (
           held_small walk new h' fine' e w held,
           (type_small objects h fine hd.1 kept hd.4, tt),
         ),
-      ) (WholeInject w hd.1 y kept (ap (λ n. Fixed (header 13 n 2)
+      ) (WholeInject w hd.1 y kept (ap (λ n. Fixed (inject_header n)
       (w ∷ hd.1 ∷ [])) (no_max y (th kept))) (coercion_word walk.l new e w (omega (arith, low)) held)
       (type_still objects new hd.1 kept
       hd.4)) refl
-      (λ h'' fine''. let later = new ++ Fixed (header 13 H 2) (w ∷ hd.1 ∷ []) ∷ [] in go later h'' h'.alloc 12 _ _
-      (Word 10) (grows_on objects new later grows (one_more walk new (Fixed (header 13 H 2) (w ∷ hd.1 ∷ []))))
+      (λ h'' fine''. let later = new ++ Fixed (inject_header H) (w ∷ hd.1 ∷ []) ∷ [] in go later h'' h'.alloc 12 _ _
+      (Word 10) (grows_on objects new later grows (one_more walk new (Fixed (inject_header H) (w ∷ hd.1 ∷ []))))
       fine'' (
         w,
         hd.1,
-        subst (λ n. There walk.l later h'.alloc (Fixed (header 13 n 2) (w ∷ hd.1 ∷ [])))
-            (no_max y (th kept)) (added walk new h' fine' (Fixed (header 13 H 2) (w ∷ hd.1 ∷ []))),
+        subst (λ n. There walk.l later h'.alloc (Fixed (inject_header n) (w ∷ hd.1 ∷ [])))
+            (no_max y (th kept)) (added walk new h' fine' (Fixed (inject_header H) (w ∷ hd.1 ∷ []))),
         held_still walk.l new
-            later (one_more walk new (Fixed (header 13 H 2) (w ∷ hd.1 ∷ []))) e w held,
+            later (one_more walk new (Fixed (inject_header H) (w ∷ hd.1 ∷ []))) e w held,
         type_still objects later hd.1 kept
             hd.4,
       ) refl)))))))))))))))))))
@@ -447,16 +450,16 @@ module _ {V : Type 0} (walk : Walk V) where
       at_most walk
       (reads_first objects h fine waiting wc wd 14 y1 3 ws hc.2 (omega arith)
       (λ rests. if_true walk objects fine 14 14 refl refl refl
-      (loads walk objects fine wc (header 14 y1 3) ws 3 hc.1 refl hc.2 refl refl refl
+      (loads walk objects fine wc (project_header y1) ws 3 hc.1 refl hc.2 refl refl refl
       (calls walk objects fine (hc.1 ∷ wd ∷ []) (proc 2 12 (compose_code walk.first)) refl (walk.stands 1 _ refl) refl
       (rec _ objects h fine _ hc.1 wd hc.4 hd
       (λ new h' w count locals rests' a grows fine' held is. comes_back walk new fine' w is refl
       (calls walk new fine' (w ∷ []) (proc 1 2 final_code) refl (walk.stands 6 _ refl) refl
       (finals walk new h' fine' _ e w held
       (λ count1 locals1 rests1 a1 is1. comes_back walk new fine' (final_word e w) is1 refl
-      (loads walk new fine' wc (header 14 y1 3) ws 1 hc.0 refl (there_still walk.l objects new wc _ grows hc.2) refl
+      (loads walk new fine' wc (project_header y1) ws 1 hc.0 refl (there_still walk.l objects new wc _ grows hc.2) refl
       refl refl
-      (loads walk new fine' wc (header 14 y1 3) ws 2 label refl (there_still walk.l objects new wc _ grows hc.2) refl
+      (loads walk new fine' wc (project_header y1) ws 2 label refl (there_still walk.l objects new wc _ grows hc.2) refl
       refl refl
       (calls walk new fine' (0 ∷ hc.0 ∷ []) (proc 2 3 raise_code) refl (walk.stands 5 _ refl) refl
       (raised walk new h' fine' _ 0 hc.0 (th wanted) (type_tall new hc.0 wanted (type_still objects new hc.0 wanted
@@ -468,15 +471,15 @@ module _ {V : Type 0} (walk : Walk V) where
       w) (omega (arith, low)) (final_held walk.l new e w held))
       (λ count3 locals3 rests3 a3 is3. comes_back walk new fine' H is3 refl
       (computes walk new fine' H 16 (compute Sll H 16) refl refl refl refl
-      (computes walk new fine' (compute Sll H 16) 12884901902 (header 14 H 3) refl refl (header_made 14 H 3
+      (computes walk new fine' (compute Sll H 16) 12884901902 (project_header H) refl refl (header_made 14 H 3
       (omega arith) (omega (arith, low, tk)) (omega arith)) refl
-      (builds walk new fine' (header 14 H 3) (hc.0 ∷ label ∷ final_word e w ∷ []) refl (omega arith) (omega arith) (
+      (builds walk new fine' (project_header H) (hc.0 ∷ label ∷ final_word e w ∷ []) refl (omega arith) (omega arith) (
         header_small 14 H 3 (omega arith) (omega (arith, low, tk)) (omega arith),
         (
           type_small objects h fine hc.0
               wanted hc.3,
           (
-            part_small objects h fine wc (header 14 y1 3) ws hc.2 2 label refl,
+            part_small objects h fine wc (project_header y1) ws hc.2 2 label refl,
             (
               held_small walk new h'
                   fine' (final e) (final_word e w) (final_held walk.l new e w held),
@@ -485,20 +488,21 @@ module _ {V : Type 0} (walk : Walk V) where
           ),
         ),
       ) (WholeProject hc.0 label
-      (final_word e w) y wanted (ap (λ n. Fixed (header 14 n 3) (hc.0 ∷ label ∷ final_word e w ∷ []))
+      (final_word e w) y wanted (ap (λ n. Fixed (project_header n) (hc.0 ∷ label ∷ final_word e w ∷ []))
       (no_max (th wanted) y)) (type_still objects new hc.0 wanted hc.3) (coercion_word walk.l new (final e)
       (final_word e w) (omega (arith, low)) (final_held walk.l new e w held))) refl
-      (λ h'' fine''. let later = new ++ Fixed (header 14 H 3) (hc.0 ∷ label ∷ final_word e w ∷ []) ∷ [] in go later h''
-      h'.alloc 12 _ _ (Word 10) (grows_on objects new later grows (one_more walk new (Fixed (header 14 H 3)
+      (λ h'' fine''. let later = new ++ Fixed (project_header H) (hc.0 ∷ label ∷ final_word e w ∷ []) ∷ []
+      in go later h''
+      h'.alloc 12 _ _ (Word 10) (grows_on objects new later grows (one_more walk new (Fixed (project_header H)
       (hc.0 ∷ label ∷ final_word e w ∷ [])))) fine'' (
         hc.0,
         final_word e w,
         subst (λ n. There walk.l later h'.alloc
-            (Fixed (header 14 n 3) (hc.0 ∷ label ∷ final_word e w ∷ []))) (no_max (th wanted) y) (added walk new h'
+            (Fixed (project_header n) (hc.0 ∷ label ∷ final_word e w ∷ []))) (no_max (th wanted) y) (added walk new h'
             fine'
-            (Fixed (header 14 H 3) (hc.0 ∷ label ∷ final_word e w ∷ []))),
+            (Fixed (project_header H) (hc.0 ∷ label ∷ final_word e w ∷ []))),
         type_still objects later hc.0 wanted hc.3,
-        held_still walk.l new later (one_more walk new (Fixed (header 14 H 3) (hc.0 ∷ label ∷ final_word e w ∷ [])))
+        held_still walk.l new later (one_more walk new (Fixed (project_header H) (hc.0 ∷ label ∷ final_word e w ∷ [])))
             (final e) (final_word e w) (final_held walk.l new e w held),
       ) refl)))))))))))))))))))))
       (omega arith, omega arith, omega arith, omega arith)
@@ -528,21 +532,21 @@ module _ {V : Type 0} (walk : Walk V) where
       (λ rests. if_false walk objects fine 14 8 refl refl refl
       (if_true walk objects fine 13 13 refl refl refl
       (if_true walk objects fine 14 14 refl refl refl
-      (loads walk objects fine wc (header 13 y1 2) ws1 2 hc.1 refl hc.2 refl refl refl
-      (loads walk objects fine wd (header 14 y2 3) ws2 1 hd.0 refl hd.2 refl refl refl
-      (loads walk objects fine wd (header 14 y2 3) ws2 2 label refl hd.2 refl refl refl
+      (loads walk objects fine wc (inject_header y1) ws1 2 hc.1 refl hc.2 refl refl refl
+      (loads walk objects fine wd (project_header y2) ws2 1 hd.0 refl hd.2 refl refl refl
+      (loads walk objects fine wd (project_header y2) ws2 2 label refl hd.2 refl refl refl
       (calls walk objects fine (hc.1 ∷ hd.0 ∷ label ∷ []) (proc 3 11 (coerce_code walk.first)) refl (walk.stands 0 _
       refl) refl
-      (casts _ objects h fine _ hc.1 hd.0 hc.4 hd.3 (part_small objects h fine wd (header 14 y2 3) ws2 hd.2 2 label
+      (casts _ objects h fine _ hc.1 hd.0 hc.4 hd.3 (part_small objects h fine wd (project_header y2) ws2 hd.2 2 label
       refl)
       (λ new h' w count locals rests' a grows fine' held is. comes_back walk new fine' w is refl
-      (loads walk new fine' wd (header 14 y2 3) ws2 3 hd.1 refl (there_still walk.l objects new wd _ grows hd.2) refl
+      (loads walk new fine' wd (project_header y2) ws2 3 hd.1 refl (there_still walk.l objects new wd _ grows hd.2) refl
       refl refl
       (calls walk new fine' (w ∷ hd.1 ∷ []) (proc 2 12 (compose_code walk.first)) refl (walk.stands 1 _ refl) refl
       (rec1 _ new h' fine' _ w hd.1 held (held_still walk.l objects new grows i hd.1 hd.4)
       (λ new2 h2 w2 count2 locals2 rests2 a2 grows2 fine2 held2 is2. comes_back walk new2 fine2 w2 is2 refl
       (let far2 = grows_on objects new new2 grows grows2 in
-      loads walk new2 fine2 wc (header 13 y1 2) ws1 1 hc.0 refl (there_still walk.l objects new2 wc _ far2 hc.2) refl
+      loads walk new2 fine2 wc (inject_header y1) ws1 1 hc.0 refl (there_still walk.l objects new2 wc _ far2 hc.2) refl
       refl refl
       (tail_calls walk new2 fine2 (hc.0 ∷ w2 ∷ []) (proc 2 12 (compose_code walk.first)) refl (walk.stands 1 _ refl)
       refl

@@ -55,13 +55,6 @@ narrow_is x e = by (cases_lt x (2 ^ 60))
 wide_is : (x : ℕ) → is_narrow x ≡ false → x < 2 ^ 64 → (2 ^ 60 ≤ x) × (x < 2 ^ 64 - 2 ^ 60)
 wide_is x e fits = (grind (arith, e), grind (arith, e, fits))
 
-pub narrow_small : (x : ℕ) → is_narrow x ≡ true → x < 2 ^ 64
-narrow_small x e = by (narrow_is x e)
-  where
-    by : Narrow x → x < 2 ^ 64
-    by (inl l) = omega (arith, l)
-    by (inr g) = g.1
-
 -- a narrow word is found again behind a tag
 pub untagged : (tag x : ℕ) → tag < 8 → is_narrow x ≡ true → compute Sra (tagged tag x) 3 ≡ x
 untagged tag x t e = by (narrow_is x e) (signed (tagged tag x) (omega (arith, t)))

@@ -1,13 +1,18 @@
--- Objects are only added, and what is held stays held.
-use Rattle.std.proofs.Common.{◌≡◌, inl, ℕ, zero, suc, ◌+◌, ◌*◌, ◌^◌, ◌<◌, ◌≤◌, Bool, true, false}
+-- Objects in memory: what stands at a place, what stays as words are stored and objects are added, and headers.
+use Rattle.std.proofs.Common.{◌≡◌, inl, inr, ℕ, zero, suc, ◌+◌, ◌*◌, ◌^◌, ◌<◌, ◌≤◌, Bool, true, false}
 use Rattle.std.proofs.Common.{cond, nat_eq, List, [], ◌∷◌, ◌++◌, length, Some, None, refl, sym, ap, ◌∙◌}
 use Rattle.std.proofs.Common.{subst, arith, eqb-true}
 use Rattle.std.specs.Prelude.{slice_get}
 use Rattle.machine_words.specs.Memory.{Memory, store_bytes}
-use Rattle.machine_words.proofs.Public.{stored_outside, load_stored, load_other}
+use Rattle.machine_words.proofs.Public.{stored_outside, load_stored, load_other, load_same}
 use Rattle.low_ir.specs.Steps.{store_words}
-use Rattle.coercion_norm.specs.Objects.{Object, Fixed, Cell, bytes_of, bytes_of_all, object_at, words_of, words_of_all}
-use Rattle.coercion_norm.proofs.Public.{bytes_of_words}
+use Rattle.object_layout.specs.declared.kinds.Kind.TheVariants.{Closure, Proxy, Dyn, Tuple as TupleKind, Boxed, Vector}
+use Rattle.object_layout.specs.declared.kinds.Kind.TheVariants.{Fail, Inject, Project}
+use Rattle.object_layout.specs.Kinds.{kind_number}
+use Rattle.coercion_norm.specs.ObjectsOfRows.{header}
+use Rattle.coercion_norm.specs.Objects.{Object, Fixed, Cell, header_of, bytes_of, bytes_of_all, object_at}
+use Rattle.coercion_norm.specs.Objects.{words_of, words_of_all}
+use Rattle.coercion_norm.proofs.Public.{bytes_of_words, found_within}
 use Rattle.rt_cast.specs.Objects.{HasWord, HoldsWords}
 use Rattle.rt_cast.specs.Objects.{HoldsObject, Holds}
 
@@ -22,9 +27,6 @@ same_some a b e = cc
 
 pub chosen_true : {A : Type 0} (b : Bool) (x y : A) → b ≡ true → cond b x y ≡ x
 chosen_true b x y e = ap (λ c. cond c x y) e
-
-pub chosen_false : {A : Type 0} (b : Bool) (x y : A) → b ≡ false → cond b x y ≡ y
-chosen_false b x y e = ap (λ c. cond c x y) e
 
 -- what stands at the place of an object
 pub holds_found : (m : Memory) (from : ℕ) (os : List Object) (at : ℕ) (o : Object) → Holds m from os → object_at os from
@@ -47,7 +49,17 @@ word_found m at (x ∷ ws) (suc i) w to h e t = word_found m (at + 8) ws i w to 
 
 -- ---- words of objects
 
-words_split : (m : Memory) (at : ℕ) (xs ys : List ℕ) → HoldsWords m at (xs ++ ys)
+-- an object has its header, and room for it
+pub header_held : (m : Memory) (at : ℕ) (o : Object) → HoldsObject m at o → HasWord m at (header_of o)
+header_held m at (Fixed header words) h = h.0
+header_held m at (Cell header count) h = h
+
+pub header_room : (o : Object) → 8 ≤ bytes_of o
+header_room (Fixed header words) = omega arith
+header_room (Cell header count) = omega arith
+
+-- words one behind another are held each in its place
+pub words_split : (m : Memory) (at : ℕ) (xs ys : List ℕ) → HoldsWords m at (xs ++ ys)
     → HoldsWords m at xs × HoldsWords m (at + 8 * length xs) ys
 words_split m at [] ys h =
     let e : at ≡ at + 8 * 0 = omega arith in (tt, subst (λ n. HoldsWords m n ys) e h)
@@ -135,3 +147,94 @@ holds_append m at [] ys h k = let e : at + 0 ≡ at = omega arith in subst (λ n
 holds_append m at (x ∷ xs) ys h k =
     let e : at + (bytes_of x + bytes_of_all xs) ≡ at + bytes_of x + bytes_of_all xs = omega arith in
     (h.0, holds_append m (at + bytes_of x) xs ys h.1 (subst (λ n. Holds m n ys) e k))
+
+-- ---- memory that is the same somewhere
+
+pub word_same : (m n : Memory) (at w : ℕ) → ((i : ℕ) → at ≤ i → i < at + 8 → n i ≡ m i) → HasWord m at w
+    → HasWord n at w
+word_same m n at w same h = record {
+  is = load_same 8 n m at at (λ i lt. same (at + i) (omega arith) (omega arith)) ∙ h.is;
+  small = h.small;
+}
+
+pub words_same : (m n : Memory) (at : ℕ) (ws : List ℕ) → ((i : ℕ) → at ≤ i → i < at + 8 * length ws → n i ≡ m i)
+    → HoldsWords m at ws → HoldsWords n at ws
+words_same m n at [] same h = tt
+words_same m n at (w ∷ ws) same h = (
+  word_same m n at w (λ i a b. same i a (omega arith)) h.0,
+  words_same m n (at + 8) ws (λ i a b. same i (omega arith) (omega arith)) h.1,
+)
+
+pub object_same : (m n : Memory) (at : ℕ) (o : Object) → ((i : ℕ) → at ≤ i → i < at + bytes_of o → n i ≡ m i)
+    → HoldsObject m at o → HoldsObject n at o
+object_same m n at (Fixed header words) same h =
+    words_same m n at (header ∷ words) (λ i a b. same i a (omega arith)) h
+object_same m n at (Cell header count) same h = word_same m n at header (λ i a b. same i a (omega arith)) h
+
+pub holds_same : (m n : Memory) (at : ℕ) (os : List Object) → ((i : ℕ) → at ≤ i → i < at + bytes_of_all os → n i ≡ m i)
+    → Holds m at os → Holds n at os
+holds_same m n at [] same h = tt
+holds_same m n at (o ∷ os) same h = (
+  object_same m n at o (λ i a b. same i a (omega arith)) h.0,
+  holds_same m n (at + bytes_of o) os (λ i a b. same i (let z = header_room o in omega arith) (omega arith)) h.1,
+)
+
+-- a store into the words of a cell leaves all objects
+pub holds_stored : (m : Memory) (os : List Object) (at w head count p y : ℕ) → Holds m at os
+    → object_at os at w ≡ Some (Cell head count) → w + 8 ≤ p → p + 8 ≤ w + 8 + 8 * count
+    → Holds (store_bytes 8 m p y) at os
+holds_stored m [] at w head count p y h e low high = tt
+holds_stored m (x ∷ os) at w head count p y h e low high =
+    by_test (λ f. holds_stored m os (at + bytes_of x) w head count p y h.1 f low high) (nat_eq w at) refl e
+  where
+    by_test : (object_at os (at + bytes_of x) w ≡ Some (Cell head count)
+        → Holds (store_bytes 8 m p y) (at + bytes_of x) os)
+        → (t : Bool) → nat_eq w at ≡ t → cond t (Some x) (object_at os (at + bytes_of x) w) ≡ Some (Cell head count)
+        → HoldsObject (store_bytes 8 m p y) at x × Holds (store_bytes 8 m p y) (at + bytes_of x) os
+    by_test ih true q f =
+        let here : w ≡ at = eqb-true w at q in
+        let is : x ≡ Cell head count = same_some x (Cell head count) f in
+        let size : bytes_of x ≡ 8 + 8 * count = ap bytes_of is in (
+          subst (λ z. HoldsObject (store_bytes 8 m p y) at z) (sym is)
+              (word_same m (store_bytes 8 m p y) at head
+              (λ i a b. stored_outside 8 m p y i (inl (omega (arith, b, low, here))))
+              (subst (λ z. HoldsObject m at z) is h.0)),
+          holds_same m (store_bytes 8 m p y) (at + bytes_of x) os
+              (λ i a b. stored_outside 8 m p y i (inr (omega (arith, a, high, here, size)))) h.1,
+        )
+    by_test ih false q f =
+        let z = found_within os (at + bytes_of x) w (Cell head count) f in (
+          object_same m (store_bytes 8 m p y) at x
+              (λ i a b. stored_outside 8 m p y i (inl (omega (arith, b, low, z.low)))) h.0,
+          ih f,
+        )
+
+-- ---- headers of objects, told how many words are behind them where their kind leaves it open
+
+abbrev pub closure_header : ℕ → ℕ
+closure_header count = header (kind_number Closure) 0 count
+
+abbrev pub tuple_header : ℕ → ℕ
+tuple_header count = header (kind_number TupleKind) 0 count
+
+abbrev pub box_header : ℕ → ℕ
+box_header count = header (kind_number Boxed) 0 count
+
+abbrev pub vector_header : ℕ → ℕ
+vector_header count = header (kind_number Vector) 0 count
+
+abbrev pub proxy_header : ℕ
+proxy_header = header (kind_number Proxy) 0 2
+
+abbrev pub dyn_header : ℕ
+dyn_header = header (kind_number Dyn) 0 2
+
+abbrev pub fail_header : ℕ
+fail_header = header (kind_number Fail) 0 1
+
+-- told their heights
+abbrev pub inject_header : ℕ → ℕ
+inject_header height = header (kind_number Inject) height 2
+
+abbrev pub project_header : ℕ → ℕ
+project_header height = header (kind_number Project) height 3

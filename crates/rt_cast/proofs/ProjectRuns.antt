@@ -54,6 +54,7 @@ use Rattle.rt_cast.proofs.ComposeSteps.{type_there, type_numbers}
 use Rattle.rt_cast.proofs.CastRuns.{rebased, after, GoesOn, whole_above, no_higher, carried_still, carried_small}
 use Rattle.rt_cast.proofs.CastRuns.{by_either}
 use Rattle.rt_cast.proofs.CastDecisions.{low_of, by_inject, by_cast as decided_cast}
+use Rattle.rt_cast.proofs.Objects.{proxy_header, dyn_header, tuple_header}
 
 -- ---- lists and rows
 
@@ -221,7 +222,7 @@ module _ {V : Type 0} (walk : Walk V) (low : walk.l.tallest ≤ 65534) (A : Type
   -- a part of a tuple that has it
   pub record PartThere (objects : List Object) (wa k : ℕ) (x : Merged A) : Type 0 where
     pub ws : List ℕ
-    pub there : There walk.l objects wa (Fixed (header 4 0 (length ws)) ws)
+    pub there : There walk.l objects wa (Fixed (tuple_header (length ws)) ws)
     pub word : ℕ
     pub got : slice_get ws k ≡ Some word
     pub carried : Carried objects x word
@@ -277,7 +278,7 @@ module _ {V : Type 0} (walk : Walk V) (low : walk.l.tallest ≤ 65534) (A : Type
       by None f g = absurd (some (sym g))
       by (Some x) f g =
           let p = part_there objects tuples a wv k x hv f in
-          let head4 = header 4 0 (length p.ws) in
+          let head4 = tuple_header (length p.ws) in
           let w = word_there walk objects h fine wv head4 p.ws p.there (suc k) p.word (wv + 8 * k + 8) p.got
           (omega arith) in
           at_most walk
@@ -305,7 +306,7 @@ module _ {V : Type 0} (walk : Walk V) (low : walk.l.tallest ≤ 65534) (A : Type
           } in
           let p = part_there objects tuples a hv.0 k x hv.3 f in
           let q = part_held objects ps hc.0 k d hc.2 at in
-          let head4 = header 4 0 (length p.ws) in
+          let head4 = tuple_header (length p.ws) in
           let head10 = header 10 (coercion_height (height_in walk.l) (Middle TupKind ps)) (length hc.0) in
           let w = word_there walk objects h fine hv.0 head4 p.ws p.there (suc k) p.word (hv.0 + 8 * k + 8) p.got
           (omega arith) in
@@ -322,13 +323,13 @@ module _ {V : Type 0} (walk : Walk V) (low : walk.l.tallest ≤ 65534) (A : Type
           at_most walk
           (if_false walk objects fine 1 0 refl refl refl
           (computes walk objects fine k 3 (8 * k) refl refl (let z = w.end in omega (arith, z)) refl
-          (loads walk objects fine wv (header 2 0 2) ws2 0 (header 2 0 2) refl hv.2 refl refl refl
-          (computes walk objects fine (header 2 0 2) 255 2 refl refl (kind_read 2 0 2 (omega arith)) refl
+          (loads walk objects fine wv proxy_header ws2 0 proxy_header refl hv.2 refl refl refl
+          (computes walk objects fine proxy_header 255 2 refl refl (kind_read 2 0 2 (omega arith)) refl
           (if_true walk objects fine 2 2 refl refl refl
-          (loads walk objects fine wv (header 2 0 2) ws2 1 hv.0 refl hv.2 refl refl refl
+          (loads walk objects fine wv proxy_header ws2 1 hv.0 refl hv.2 refl refl refl
           (computes walk objects fine hv.0 (8 * k) (hv.0 + 8 * k) refl refl (let z = w.end in omega (arith, z)) refl
           (loads_at walk objects fine (hv.0 + 8 * k) p.word refl w refl
-          (loads walk objects fine wv (header 2 0 2) ws2 2 hv.1 refl hv.2 refl refl refl
+          (loads walk objects fine wv proxy_header ws2 2 hv.1 refl hv.2 refl refl refl
           (computes walk objects fine hv.1 (8 * k) (hv.1 + 8 * k) refl refl (let z = v.end in omega (arith, z)) refl
           (loads_at walk objects fine (hv.1 + 8 * k) q.0 refl v refl
           (tail_calls walk objects fine (p.word ∷ q.0 ∷ []) (cast_proc walk.first) refl (walk.stands 2 _ refl) refl
@@ -502,7 +503,7 @@ module _ {V : Type 0} (walk : Walk V) (low : walk.l.tallest ≤ 65534) (A : Type
 
       InObject : Type 0
       InObject =
-          (wt : ℕ) × There walk.l objects wv (Fixed (header 3 0 2) (wt ∷ hv.0 ∷ [])) × HoldsType walk.l objects wt kept
+          (wt : ℕ) × There walk.l objects wv (Fixed dyn_header (wt ∷ hv.0 ∷ [])) × HoldsType walk.l objects wt kept
 
       from_object : (d : InObject) → (rests : List Code)
           → ReachedIn walk (More (tuple_cost walk.l.width n + 30) (suc (whole_above walk low A IsHeld still is_solid))
@@ -510,8 +511,8 @@ module _ {V : Type 0} (walk : Walk V) (low : walk.l.tallest ≤ 65534) (A : Type
           (state 12 (set_local 4 0 (asked wv k 0 label)) (project_dyn_object walk.first) rests waiting h)
       from_object d rests =
           at_most walk
-          (loads walk objects fine wv (header 3 0 2) (d.0 ∷ hv.0 ∷ []) 1 d.0 refl d.1 refl refl refl
-          (loads walk objects fine wv (header 3 0 2) (d.0 ∷ hv.0 ∷ []) 2 hv.0 refl d.1 refl refl refl
+          (loads walk objects fine wv dyn_header (d.0 ∷ hv.0 ∷ []) 1 d.0 refl d.1 refl refl refl
+          (loads walk objects fine wv dyn_header (d.0 ∷ hv.0 ∷ []) 2 hv.0 refl d.1 refl refl refl
           (loads walk objects fine d.0 type_head type_words 0 type_head refl (type_there walk objects d.0 kept d.2) refl
           refl refl
           (computes walk objects fine type_head 255 (type_kind (R kept)) refl refl

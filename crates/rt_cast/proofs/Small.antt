@@ -25,6 +25,7 @@ use Rattle.rt_cast.proofs.HeaderNumbers.{eq_true, eq_false, lt_true, lt_false, l
 use Rattle.rt_cast.proofs.Steps.{Budget, Pay, More, return_price, at_most, word_there, Comes, loads}
 use Rattle.rt_cast.proofs.Steps.{computes, if_true, if_false}
 use Rattle.rt_cast.proofs.Walks.{Walk}
+use Rattle.rt_cast.proofs.Objects.{project_header}
 
 pub grows_not : (os : List Object) → Grows os os
 grows_not os = record { more = []; is = sym (append-nil os) }
@@ -146,9 +147,9 @@ module _ {V : Type 0} (walk : Walk V) where
   finals objects h fine waiting (Inject g kept) w held go = keeps objects h fine waiting w 13 (coercion_height
       (height_in walk.l) (Inject g kept)) 2 (held.0 ∷ held.1 ∷ []) held.2 (omega arith) refl go
   finals objects h fine waiting (Project wanted label i) w held go =
-      let n = not_zero objects h fine w (header 14 (coercion_height (height_in walk.l) (Project wanted label i)) 3)
+      let n = not_zero objects h fine w (project_header (coercion_height (height_in walk.l) (Project wanted label i)))
       (held.0 ∷ label ∷ held.1 ∷ []) held.2 in
-      let head = header 14 (coercion_height (height_in walk.l) (Project wanted label i)) 3 in
+      let head = project_header (coercion_height (height_in walk.l) (Project wanted label i)) in
       at_most walk
       (if_false walk objects fine w 0 refl refl (eq_false w 0 (λ e. omega (arith, n.0)))
       (loads walk objects fine w head (held.0 ∷ label ∷ held.1 ∷ []) 0 head refl held.2 refl refl refl

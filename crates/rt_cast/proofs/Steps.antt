@@ -8,7 +8,7 @@ use Rattle.rt_cast.specs.States.{Heap, st, Fine}
 use Rattle.run_laws.specs.Machines.{Go, Stop, Machine, Reaches, Onward}
 use Rattle.run_laws.proofs.Public.{by_step}
 use Rattle.machine_words.specs.declared.conditions.Cond.{Cond}
-use Rattle.machine_words.specs.Memory.{Memory, load_bytes}
+use Rattle.machine_words.specs.Memory.{load_bytes}
 use Rattle.machine_words.specs.Halts.{Lacks, Region}
 use Rattle.machine_words.specs.Arithmetic.{plus}
 use Rattle.machine_words.specs.Conditions.{holds}
@@ -22,15 +22,14 @@ use Rattle.low_ir.specs.Run.{low_machine, load, sets, and_more, code_turns}
 use Rattle.low_ir.specs.Prices.{source_price, sources_price, slot_price, entering, entering_some, leaving, step_price}
 use Rattle.low_ir.specs.Prices.{low_price, CostsAtMost}
 use Rattle.low_ir.proofs.Public.{costs_on, costs_last}
-use Rattle.coercion_norm.specs.Objects.{Object, Fixed, Cell, header_of, bytes_of}
-use Rattle.rt_cast.specs.Objects.{HasWord}
-use Rattle.rt_cast.specs.Objects.{HoldsWords, HoldsObject, Holds}
+use Rattle.coercion_norm.specs.Objects.{Object, Fixed, header_of}
+use Rattle.rt_cast.specs.Objects.{HoldsWords, Holds}
 use Rattle.coercion_norm.specs.Held.{Layout, There}
 use Rattle.rt_cast.specs.WholeObjects.{IsWhole, Wholes}
 use Rattle.coercion_norm.proofs.Public.{found_within}
 use Rattle.rt_cast.proofs.Objects.{holds_found, word_found, AreSmall, stored_words, bytes_below}
 use Rattle.coercion_norm.proofs.Public.{bytes_append}
-use Rattle.rt_cast.proofs.Objects.{holds_below, holds_append}
+use Rattle.rt_cast.proofs.Objects.{holds_below, holds_append, header_held, header_room}
 use Rattle.rt_cast.proofs.Objects.{none_some, same_some}
 use Rattle.rt_cast.proofs.Walks.{Walk}
 
@@ -229,14 +228,6 @@ module _ {V : Type 0} (walk : Walk V) where
         place = omega (arith, z.low, walk.placed.low, walk.placed.before, t);
         end = omega (arith, z.high, f.filled.ends, f.filled.fits, t, n, walk.placed.top);
       }
-
-  header_held : (m : Memory) (at : ℕ) (o : Object) → HoldsObject m at o → HasWord m at (header_of o)
-  header_held m at (Fixed header words) h = h.0
-  header_held m at (Cell header count) h = h
-
-  header_room : (o : Object) → 8 ≤ bytes_of o
-  header_room (Fixed header words) = omega arith
-  header_room (Cell header count) = omega arith
 
   -- the header of any object
   pub header_there : (objects : List Object) (h : Heap) → Fi objects h → (at : ℕ) (o : Object) → There walk.l objects at

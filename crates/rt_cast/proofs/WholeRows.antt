@@ -41,6 +41,7 @@ use Rattle.rt_cast.specs.States.{Heap, Filled, Placed}
 use Rattle.rt_cast.specs.ToldRows.{telling, IsFilled}
 use Rattle.coercion_norm.proofs.Public.{found_within, object_kept, bytes_append}
 use Rattle.rt_cast.proofs.Objects.{holds_found}
+use Rattle.rt_cast.proofs.Objects.{proxy_header, dyn_header, fail_header, inject_header, project_header}
 
 free_target : (kind : ObjectKind) → is_free kind ≡ true → is_target kind ≡ true
 free_target Closure e = refl
@@ -335,8 +336,8 @@ module _ (setting : Setting) (l : Layout) (m : Memory) (objects : List Object) (
       whole_here : (o : Object) → HoldsObject m own o → own + bytes_of o ≤ l.region + bytes_of_all objects
           → IsWhole l before o → Here o
       whole_here o h le (WholeFail label e) =
-          as_told o (Fixed (header 8 0 1) (label ∷ [])) e h le (λ h2 le2.
-          here (Fixed (header 8 0 1) (label ∷ [])) FailObject 0 1 h2 le2 refl (omega arith) refl refl tt refl refl)
+          as_told o (Fixed fail_header (label ∷ [])) e h le (λ h2 le2.
+          here (Fixed fail_header (label ∷ [])) FailObject 0 1 h2 le2 refl (omega arith) refl refl tt refl refl)
       whole_here o h le (WholeMiddle kind y ws e width lt highs) =
           let other = Fixed (header (kind_number kind) (suc y) (length ws)) ws in
           as_told o other e h le (λ h2 le2.
@@ -348,7 +349,7 @@ module _ (setting : Setting) (l : Layout) (m : Memory) (objects : List Object) (
           (sym (ap (λ x. highest T (own + 8) x) (middle_wanted kind (length ws)) ∙ each.1)) (middle_high kind y))
           (middle_stands kind))
       whole_here o h le (WholeInject wg wt y type e word held) =
-          let other = Fixed (header 13 (max y (height_in l type)) 2) (wg ∷ wt ∷ []) in
+          let other = Fixed (inject_header (max y (height_in l type))) (wg ∷ wt ∷ []) in
           as_told o other e h le (λ h2 le2.
           let first = tells (own + 8) wg (omega (arith, even)) (omega (arith, le2, fits)) h2.1.0 in
           let second = tells (own + 8 + 8) wt (omega (arith, even)) (omega (arith, le2, fits)) h2.1.1.0 in
@@ -361,7 +362,7 @@ module _ (setting : Setting) (l : Layout) (m : Memory) (objects : List Object) (
           here other InjectObject (max y (height_in l type)) 2 h2 le2 refl (omega (arith, lt, tall)) refl refl
           ((wg, first, g.0), ((wt, second, k.0), tt)) (omega (arith, a, b)) refl)
       whole_here o h le (WholeProject wt label wi y type e held word) =
-          let other = Fixed (header 14 (max (height_in l type) y) 3) (wt ∷ label ∷ wi ∷ []) in
+          let other = Fixed (project_header (max (height_in l type) y)) (wt ∷ label ∷ wi ∷ []) in
           as_told o other e h le (λ h2 le2.
           let first = tells (own + 8) wt (omega (arith, even)) (omega (arith, le2, fits)) h2.1.0 in
           let second = tells (own + 8 + 8) label (omega (arith, even)) (omega (arith, le2, fits)) h2.1.1.0 in
@@ -375,7 +376,7 @@ module _ (setting : Setting) (l : Layout) (m : Memory) (objects : List Object) (
           here other ProjectObject (max (height_in l type) y) 3 h2 le2 refl (omega (arith, lt, tall)) refl refl
           ((wt, first, k.0), ((label, second, tt), ((wi, third, g.0), tt))) (omega (arith, a, b)) refl)
       whole_here o h le (WholeProxy wa wc kind y ws e solid there lower) =
-          let other = Fixed (header 2 0 2) (wa ∷ wc ∷ []) in
+          let other = Fixed proxy_header (wa ∷ wc ∷ []) in
           as_told o other e h le (λ h2 le2.
           let first = tells (own + 8) wa (omega (arith, even)) (omega (arith, le2, fits)) h2.1.0 in
           let second = tells (own + 8 + 8) wc (omega (arith, even)) (omega (arith, le2, fits)) h2.1.1.0 in
@@ -399,7 +400,7 @@ module _ (setting : Setting) (l : Layout) (m : Memory) (objects : List Object) (
             ),
           ) tt refl)
       whole_here o h le (WholeDyn wt wx type e held lower) =
-          let other = Fixed (header 3 0 2) (wt ∷ wx ∷ []) in
+          let other = Fixed dyn_header (wt ∷ wx ∷ []) in
           as_told o other e h le (λ h2 le2.
           here other Dyn 0 2 h2 le2 refl (omega arith) refl refl tt tt refl)
       whole_here o h le (WholeOther kind count e long free allowed) =

@@ -14,7 +14,6 @@ use Rattle.coercion_norm.specs.declared.middles.MiddleKind.TheVariants.{Ref as R
 use Rattle.coercion_norm.specs.MergedMode.{split_parts, function_parts}
 use Rattle.coercion_norm.specs.Objects.{Object, Fixed}
 use Rattle.coercion_norm.specs.Held.{Layout, There, rows_in}
-use Rattle.coercion_norm.specs.ObjectsOfRows.{header}
 use Rattle.rt_cast.specs.WholeObjects.{IsSolid}
 use Rattle.rt_cast.specs.Costs.{cast_cost}
 use Rattle.rt_cast.specs.LightCasts.{cast_words_of, cast_price_of}
@@ -30,6 +29,7 @@ use Rattle.rt_refs.specs.CallCodes.{cast_arguments, unwrap_code, call_function, 
 use Rattle.rt_refs.proofs.Calling.{Has, word_here, word_other, casts_of}
 use Rattle.rt_refs.specs.CallLaws.{CastInTurn, ComesToCall, GoesOnTo, Resumes}
 use Rattle.rt_refs.proofs.InTurn.{arguments_cast_in_turn}
+use Rattle.rt_cast.proofs.Public.{proxy_header}
 
 -- no word is farther, and no procedure is left for more
 slot_low : (i : ℕ) → slot_price i ≤ 13
@@ -133,8 +133,8 @@ module _ {V : Type 0} (reading : Halt → Ending V) (setting : Setting) (l : Lay
             );
           } in
           at_most w
-          (loads w objects fine wv (header 2 0 2) (hv.0 ∷ hv.1 ∷ []) 1 hv.0 refl hv.2 refl refl refl
-          (loads w objects fine wv (header 2 0 2) (hv.0 ∷ hv.1 ∷ []) 2 hv.1 refl hv.2 refl refl refl
+          (loads w objects fine wv proxy_header (hv.0 ∷ hv.1 ∷ []) 1 hv.0 refl hv.2 refl refl refl
+          (loads w objects fine wv proxy_header (hv.0 ∷ hv.1 ∷ []) 2 hv.1 refl hv.2 refl refl refl
           (loads w objects fine hv.0 c.0 (address ∷ c.1) 1 address refl c.2 refl refl refl last)))
           (omega arith, omega arith, omega arith, omega arith)
 

@@ -1,24 +1,22 @@
 -- Steps that the procedures of boxes and vectors make beside those of casts, and the words of cells.
-use Rattle.std.proofs.Common.{◌≡◌, ◌⊎◌, inl, inr, ℕ, zero, suc, ◌+◌, ◌*◌, ◌%◌, ◌^◌, ◌<◌, ◌≤◌, Bool, true, false, cond}
-use Rattle.std.proofs.Common.{nat_eq}
-use Rattle.std.proofs.Common.{List, [], ◌∷◌, length, Some, refl, sym, ap, ◌∙◌, subst, arith, eqb-true}
+use Rattle.std.proofs.Common.{◌≡◌, ◌⊎◌, inl, inr, ℕ, zero, suc, ◌+◌, ◌*◌, ◌%◌, ◌^◌, ◌<◌, ◌≤◌, Bool, true, false}
+use Rattle.std.proofs.Common.{List, [], ◌∷◌, length, Some, refl, ap, ◌∙◌, arith}
 use Rattle.std.specs.Prelude.{nat_le, slice_get, pos}
 use Rattle.run_laws.specs.Machines.{Go}
-use Rattle.machine_words.specs.Memory.{Memory, store_bytes}
+use Rattle.machine_words.specs.Memory.{store_bytes}
 use Rattle.machine_words.specs.Arithmetic.{plus}
-use Rattle.machine_words.proofs.Public.{stored_outside, load_same}
 use Rattle.low_ir.specs.declared.code.LowSource.{LowSource}
 use Rattle.low_ir.specs.Procedures.{Code, Done, Store}
 use Rattle.low_ir.specs.Steps.{Locals, given, only_if, may_load, may_store}
 use Rattle.low_ir.specs.Run.{Waiting, LowState, word_of, store, code_turns}
-use Rattle.coercion_norm.specs.Objects.{Object, Fixed, Cell, bytes_of, bytes_of_all, object_at}
+use Rattle.coercion_norm.specs.Objects.{Object, Cell}
 use Rattle.coercion_norm.specs.Held.{There}
 use Rattle.coercion_norm.proofs.Public.{found_within}
 use Rattle.rt_cast.specs.Frames.{frame_room, waiting_room}
-use Rattle.rt_cast.specs.Objects.{HasWord, HoldsWords, HoldsObject, Holds}
+use Rattle.rt_cast.specs.Objects.{HoldsWords}
 use Rattle.rt_cast.specs.States.{Heap, Fine, st}
 use Rattle.low_ir.specs.Prices.{source_price}
-use Rattle.rt_cast.proofs.Public.{Pay, paid_for, Walk, none_some, same_some, word_found, Budget, One, Spare, Comes}
+use Rattle.rt_cast.proofs.Public.{Pay, paid_for, Walk, none_some, word_found, Budget, One, Spare, Comes}
 use Rattle.rt_cast.proofs.Public.{goes, WordThere}
 use Rattle.rt_cast.proofs.Public.{one_less}
 
@@ -42,71 +40,6 @@ pub in_list : (xs : List ℕ) (i w : ℕ) → slice_get xs i ≡ Some w → i < 
 in_list [] i w e = none_some e
 in_list (x ∷ xs) zero w e = omega arith
 in_list (x ∷ xs) (suc i) w e = let h = in_list xs i w e in omega arith
-
--- ---- memory that is the same somewhere
-
-pub word_same : (m n : Memory) (at w : ℕ) → ((i : ℕ) → at ≤ i → i < at + 8 → n i ≡ m i) → HasWord m at w
-    → HasWord n at w
-word_same m n at w same h = record {
-  is = load_same 8 n m at at (λ i lt. same (at + i) (omega arith) (omega arith)) ∙ h.is;
-  small = h.small;
-}
-
-pub words_same : (m n : Memory) (at : ℕ) (ws : List ℕ) → ((i : ℕ) → at ≤ i → i < at + 8 * length ws → n i ≡ m i)
-    → HoldsWords m at ws → HoldsWords n at ws
-words_same m n at [] same h = tt
-words_same m n at (w ∷ ws) same h = (
-  word_same m n at w (λ i a b. same i a (omega arith)) h.0,
-  words_same m n (at + 8) ws (λ i a b. same i (omega arith) (omega arith)) h.1,
-)
-
-object_same : (m n : Memory) (at : ℕ) (o : Object) → ((i : ℕ) → at ≤ i → i < at + bytes_of o → n i ≡ m i)
-    → HoldsObject m at o → HoldsObject n at o
-object_same m n at (Fixed header words) same h =
-    words_same m n at (header ∷ words) (λ i a b. same i a (omega arith)) h
-object_same m n at (Cell header count) same h = word_same m n at header (λ i a b. same i a (omega arith)) h
-
-some_bytes : (o : Object) → 8 ≤ bytes_of o
-some_bytes (Fixed header words) = omega arith
-some_bytes (Cell header count) = omega arith
-
-pub holds_same : (m n : Memory) (at : ℕ) (os : List Object) → ((i : ℕ) → at ≤ i → i < at + bytes_of_all os → n i ≡ m i)
-    → Holds m at os → Holds n at os
-holds_same m n at [] same h = tt
-holds_same m n at (o ∷ os) same h = (
-  object_same m n at o (λ i a b. same i a (omega arith)) h.0,
-  holds_same m n (at + bytes_of o) os (λ i a b. same i (let z = some_bytes o in omega arith) (omega arith)) h.1,
-)
-
--- a store into the words of a cell leaves all objects
-pub holds_stored : (m : Memory) (os : List Object) (at w head count p y : ℕ) → Holds m at os
-    → object_at os at w ≡ Some (Cell head count) → w + 8 ≤ p → p + 8 ≤ w + 8 + 8 * count
-    → Holds (store_bytes 8 m p y) at os
-holds_stored m [] at w head count p y h e low high = tt
-holds_stored m (x ∷ os) at w head count p y h e low high =
-    by_test (λ f. holds_stored m os (at + bytes_of x) w head count p y h.1 f low high) (nat_eq w at) refl e
-  where
-    by_test : (object_at os (at + bytes_of x) w ≡ Some (Cell head count)
-        → Holds (store_bytes 8 m p y) (at + bytes_of x) os)
-        → (t : Bool) → nat_eq w at ≡ t → cond t (Some x) (object_at os (at + bytes_of x) w) ≡ Some (Cell head count)
-        → HoldsObject (store_bytes 8 m p y) at x × Holds (store_bytes 8 m p y) (at + bytes_of x) os
-    by_test ih true q f =
-        let here : w ≡ at = eqb-true w at q in
-        let is : x ≡ Cell head count = same_some x (Cell head count) f in
-        let size : bytes_of x ≡ 8 + 8 * count = ap bytes_of is in (
-          subst (λ z. HoldsObject (store_bytes 8 m p y) at z) (sym is)
-              (word_same m (store_bytes 8 m p y) at head
-              (λ i a b. stored_outside 8 m p y i (inl (omega (arith, b, low, here))))
-              (subst (λ z. HoldsObject m at z) is h.0)),
-          holds_same m (store_bytes 8 m p y) (at + bytes_of x) os
-              (λ i a b. stored_outside 8 m p y i (inr (omega (arith, a, high, here, size)))) h.1,
-        )
-    by_test ih false q f =
-        let z = found_within os (at + bytes_of x) w (Cell head count) f in (
-          object_same m (store_bytes 8 m p y) at x
-              (λ i a b. stored_outside 8 m p y i (inl (omega (arith, b, low, z.low)))) h.0,
-          ih f,
-        )
 
 module _ {V : Type 0} (walk : Walk V) where
   abbrev St : ℕ → Locals → Code → List Code → List Waiting → Heap → LowState

@@ -37,12 +37,13 @@ use Rattle.rt_cast.specs.Frames.{frame_room, waiting_room}
 use Rattle.rt_cast.specs.Objects.{HasWord, HoldsWords}
 use Rattle.rt_cast.specs.States.{Heap, Fine, Filled, Placed, OnTheWay, Within as IsWithin, around, heap_of, entered, st}
 use Rattle.rt_cast.specs.WholeObjects.{WholeOther}
-use Rattle.rt_cast.proofs.Public.{eq_true, eq_false, holds_append, wholes_more}
+use Rattle.rt_cast.proofs.Public.{eq_true, eq_false, holds_append, holds_same, wholes_more}
 use Rattle.rt_refs.specs.FillCodes.{fill_loop, fill_code, fill_proc, trap_length}
 use Rattle.rt_refs.specs.FillLaws.{MadeAt, ComesToVector}
 use Rattle.rt_refs.specs.CellLaws.{TrapsAt, ComesWhere}
-use Rattle.rt_refs.proofs.CellSteps.{may_be_stored, le_true, le_cases, holds_same}
+use Rattle.rt_refs.proofs.CellSteps.{may_be_stored, le_true, le_cases}
 use Rattle.rt_refs.proofs.Signs.{Signed, signed, Positive, Negative}
+use Rattle.rt_cast.proofs.Public.{vector_header}
 
 plus_is : (x n : ℕ) → x + n < 2 ^ 64 → plus x (pos n) ≡ x + n
 plus_is x n h = grind arith
@@ -52,7 +53,7 @@ bytes_even [] = refl
 bytes_even (Fixed head ws ∷ os) = let z = bytes_even os in omega (arith, z)
 bytes_even (Cell head n ∷ os) = let z = bytes_even os in omega (arith, z)
 
-header_is : (n : ℕ) → n < 2 ^ 32 → compute Add (compute Sll n 32) 6 ≡ header 6 0 n
+header_is : (n : ℕ) → n < 2 ^ 32 → compute Add (compute Sll n 32) 6 ≡ vector_header n
 header_is n lt = omega (arith, lt)
 
 add_is : (a b : ℕ) → a + b < 2 ^ 64 → compute Add a b ≡ a + b
@@ -190,7 +191,7 @@ module _ {V : Type 0} (reading : Halt → Ending V) (setting : Setting) (s : Low
   -- so many elements are stored
   record Wrote (i : ℕ) (m : Memory) : Type 0 where
     pub below : Below s m
-    pub head : HasWord m s.alloc (header 6 0 n)
+    pub head : HasWord m s.alloc (vector_header n)
     pub each : (j : ℕ) → j < i → HasWord m (s.alloc + 8 + 8 * j) w
 
   -- where there is room
@@ -285,12 +286,12 @@ module _ {V : Type 0} (reading : Halt → Ending V) (setting : Setting) (s : Low
         (omega arith) (omega arith)
 
     -- the header is stored, and nothing else yet
-    begins_with : n < 2 ^ 32 → Wrote 0 (store_bytes 8 s.memory s.alloc (header 6 0 n))
+    begins_with : n < 2 ^ 32 → Wrote 0 (store_bytes 8 s.memory s.alloc (vector_header n))
     begins_with lt = record {
-      below = λ j less. stored_outside 8 s.memory s.alloc (header 6 0 n) j (inl less);
+      below = λ j less. stored_outside 8 s.memory s.alloc (vector_header n) j (inl less);
       head =
-          let z : header 6 0 n < 2 ^ 64 = omega (arith, lt) in
-          record { is = load_stored 8 s.memory s.alloc (header 6 0 n) z; small = z };
+          let z : vector_header n < 2 ^ 64 = omega (arith, lt) in
+          record { is = load_stored 8 s.memory s.alloc (vector_header n) z; small = z };
       each = λ j less. absurd (omega (arith, less));
     }
 
@@ -327,7 +328,7 @@ module _ {V : Type 0} (reading : Halt → Ending V) (setting : Setting) (s : Low
         Take (Word 2) (Return (Word 3)))))))))) rests s.waiting (heap s.memory))
     filled_in rests =
         let few : n < 2 ^ 32 = omega (arith, room, narrow, above) in
-        let head = header 6 0 n in
+        let head = vector_header n in
         let m1 = store_bytes 8 s.memory s.alloc head in
         let h1 = begins_with few in
         let untouched : Below s s.memory = λ j lt. refl in
@@ -526,35 +527,36 @@ module _ {V : Type 0} (reading : Halt → Ending V) (setting : Setting) (l : Lay
       (let z = bytes_even objects in omega (arith, z, filled.ends, placed.even_region))
       (omega (arith, narrow, begins)) placed.top way reached positive
     where
-      fine : (m : Memory) → Below s m → HasWord m s.alloc (header 6 0 n) → s.alloc + 8 * (n + 1) ≤ setting.top
-          → Fine setting l (around s) (objects ++ Cell (header 6 0 n) n ∷ [])
+      fine : (m : Memory) → Below s m → HasWord m s.alloc (vector_header n) → s.alloc + 8 * (n + 1) ≤ setting.top
+          → Fine setting l (around s) (objects ++ Cell (vector_header n) n ∷ [])
           (record { memory = m; alloc = s.alloc + 8 * (n + 1); words = s.words + (n + 1) })
       fine m same head room = record {
         filled = record {
           objects_stand =
-              holds_append m l.region objects (Cell (header 6 0 n) n ∷ [])
+              holds_append m l.region objects (Cell (vector_header n) n ∷ [])
               (fine_at m s.words same).filled.objects_stand
-              (subst (λ p. HasWord m p (header 6 0 n)) filled.ends head, tt);
+              (subst (λ p. HasWord m p (vector_header n)) filled.ends head, tt);
           statics_stand = (fine_at m s.words same).filled.statics_stand;
           ends =
-              let b = bytes_append objects (Cell (header 6 0 n) n ∷ []) in
+              let b = bytes_append objects (Cell (vector_header n) n ∷ []) in
               let e = filled.ends in omega (arith, b, e);
           fits = room;
           whole =
-              wholes_more l [] objects (Cell (header 6 0 n) n) filled.whole (WholeOther Vector n refl refl refl refl);
+              wholes_more l [] objects (Cell (vector_header n) n) filled.whole
+              (WholeOther Vector n refl refl refl refl);
         };
         beyond = omega arith;
         kept = same;
       }
 
-      reached : (m : Memory) (locals : Locals) (rests : List Code) → Below s m → HasWord m s.alloc (header 6 0 n)
+      reached : (m : Memory) (locals : Locals) (rests : List Code) → Below s m → HasWord m s.alloc (vector_header n)
           → HoldsWords m (s.alloc + 8) (replicate n w) → s.alloc + 8 * (n + 1) ≤ setting.top
           → locals 3 ≡ Some s.alloc
           → MadeAt setting l s objects n w (st (around s) 6 locals (Return (Word 3)) rests s.waiting
           (record { memory = m; alloc = s.alloc + 8 * (n + 1); words = s.words + (n + 1) }))
       reached m locals rests same head held room is = record {
         fine = fine m same head room;
-        there = last_stands objects [] (Cell (header 6 0 n) n) l.region s.alloc filled.ends;
+        there = last_stands objects [] (Cell (vector_header n) n) l.region s.alloc filled.ends;
         held = held;
         taken = refl;
         source = Word 3;

@@ -1,10 +1,14 @@
--- The cell behind a proxy, or without one, and the part of the proxy's coercion.
+-- The cell behind a proxy, or without one, the part of the proxy's coercion, and an index that is none of the cell's.
 use Rattle.std.proofs.Common.{◌≡◌, ◌⊎◌, inl, inr, ℕ, suc, ◌+◌, ◌*◌, ◌<◌, ◌≤◌, false}
-use Rattle.std.proofs.Common.{List, [], ◌∷◌, length, Some, refl, ap, subst, arith}
+use Rattle.std.proofs.Common.{List, [], ◌∷◌, length, Some, refl, ap, subst, arith, le_refl}
 use Rattle.std.specs.Prelude.{◌==◌}
+use Rattle.grift_base.specs.EnvironmentCall.{environment_call}
+use Rattle.grift_base.specs.declared.verdicts.Trap.TheVariants.{Index}
+use Rattle.run_laws.specs.Runs.{Ending, Exhausted}
+use Rattle.machine_words.specs.Halts.{Halt, Lacks, Region}
 use Rattle.low_ir.specs.Procedures.{Code}
 use Rattle.low_ir.specs.Steps.{Locals}
-use Rattle.low_ir.specs.Run.{Waiting, LowState}
+use Rattle.low_ir.specs.Run.{Setting, Waiting, LowState}
 use Rattle.coercion_norm.specs.Coercions.{Coercion, Coercions, Id, Fail, Middle, Inject, Project}
 use Rattle.coercion_norm.specs.declared.middles.MiddleKind.{MiddleKind as Kind}
 use Rattle.coercion_norm.specs.declared.middles.MiddleKind.TheVariants.{Fun as FunKind, Tup as TupKind}
@@ -12,19 +16,20 @@ use Rattle.coercion_norm.specs.declared.middles.MiddleKind.TheVariants.{Ref as R
 use Rattle.coercion_norm.specs.Heights.{coercion_height}
 use Rattle.coercion_norm.specs.MergedMode.{part_at, cell_coercion}
 use Rattle.coercion_norm.specs.Objects.{Object, Cell}
-use Rattle.coercion_norm.specs.Held.{Held, height_in}
+use Rattle.coercion_norm.specs.Held.{Layout, Held, height_in}
 use Rattle.coercion_norm.specs.ObjectsOfRows.{header, kind_number}
 use Rattle.rt_cast.specs.WholeObjects.{IsSolid}
-use Rattle.rt_cast.specs.States.{Grows, Heap, Fine, st}
+use Rattle.rt_cast.specs.States.{Grows, Heap, Fine, IsReady, around, heap_of, st}
 use Rattle.rt_cast.specs.MergedValues.{Merged, Base, Solid, Proxied, InDyn}
 use Rattle.rt_cast.specs.Carried.{CarriedBy, IsLow}
 use Rattle.rt_cast.proofs.Public.{Walk, none_some, same_some, eq_true, eq_false, kind_read, count_read, not_zero}
 use Rattle.rt_cast.proofs.Public.{Budget, More, at_most, WordThere, loads, loads_at, computes, sets_word, if_true}
-use Rattle.rt_cast.proofs.Public.{if_false, header_there, ReachedIn}
-use Rattle.rt_refs.specs.CellCodes.{find_cell, take_part}
-use Rattle.rt_refs.specs.CellLaws.{cell_behind, under, CellStands}
+use Rattle.rt_cast.proofs.Public.{if_false, header_there, ReachedIn, End, lt_false, walk as walk_from}
+use Rattle.rt_refs.specs.CellCodes.{find_cell, take_part, test_index, trap_index}
+use Rattle.rt_refs.specs.CellLaws.{cell_behind, under, CellStands, TrapsAt}
 use Rattle.rt_refs.proofs.Calling.{mapped, part_held, part_low}
 use Rattle.rt_refs.proofs.CellSteps.{ends_branch}
+use Rattle.rt_cast.proofs.Public.{proxy_header}
 
 zero_more : (n : ℕ) → n ≡ n + 0
 zero_more n = omega arith
@@ -125,11 +130,11 @@ module _ {V : Type 0} (walk : Walk V) (low : walk.l.tallest ≤ 65534) (A : Type
         let head0 = header cell.kind 0 (length ws) in
         let ws2 = hv.0 ∷ hv.1 ∷ [] in
         at_most walk
-        (loads walk objects fine wv (header 2 0 2) ws2 0 (header 2 0 2) wv_is hv.2 refl refl refl
-        (computes walk objects fine (header 2 0 2) 255 2 refl refl (kind_read 2 0 2 (omega arith)) refl
+        (loads walk objects fine wv proxy_header ws2 0 proxy_header wv_is hv.2 refl refl refl
+        (computes walk objects fine proxy_header 255 2 refl refl (kind_read 2 0 2 (omega arith)) refl
         (if_true walk objects fine 2 2 refl refl refl
-        (loads walk objects fine wv (header 2 0 2) ws2 2 hv.1 wv_is hv.2 refl refl refl
-        (loads walk objects fine wv (header 2 0 2) ws2 1 hv.0 wv_is hv.2 refl refl refl
+        (loads walk objects fine wv proxy_header ws2 2 hv.1 wv_is hv.2 refl refl refl
+        (loads walk objects fine wv proxy_header ws2 1 hv.0 wv_is hv.2 refl refl refl
         (loads_at walk objects fine hv.0 head0 refl (cell_header hv.0 cell) refl
         (ends_branch walk objects fine
         (computes walk objects fine head0 32 (length ws) refl refl
@@ -196,3 +201,43 @@ module _ {V : Type 0} (walk : Walk V) (low : walk.l.tallest ≤ 65534) (A : Type
         let q : A × Coercion = (a, d) in
         let m = mapped (λ x. (b, x)) (cell_coercion k c) q e in
         subst (λ z. PartGo z.1 → Takes) m.2 (λ g. one_part c m.0 keeps.0 keeps.1 m.1 g) go
+
+-- an index outside the cell traps
+module _ {V : Type 0} (reading : Halt → Ending V) (setting : Setting) (l : Layout) (first : ℕ) (s : LowState)
+    (exhausts : reading (Lacks Region) ≡ Exhausted) (ready : IsReady setting l first) (objects : List Object)
+    (fine : Fine setting l (around s) objects (heap_of s)) where
+  abbrev trapping : Walk V
+  trapping = walk_from reading setting l first s exhausts ready (TrapsAt reading setting l s Index) 0 0
+
+  pub index_traps : (locals : Locals) (rests : List Code) (rest : Code) (i n : ℕ) → locals 2 ≡ Some i
+      → locals 4 ≡ Some n → n ≤ i
+      → ReachedIn trapping (More 1 0 0 13 End)
+      (st (around s) 6 locals (test_index rest) rests s.waiting (heap_of s))
+  unfolding environment_call
+  index_traps locals rests rest i n is many outside =
+      at_most trapping
+      (if_false trapping objects fine i n is many (lt_false i n outside) (last _))
+      (omega arith, omega arith, omega arith, omega arith)
+    where
+      last : (rests' : List Code)
+          → ReachedIn trapping End (st (around s) 6 locals trap_index rests' s.waiting (heap_of s))
+      last rests' = record {
+        steps = 0;
+        few = le_refl 0;
+        cheap = omega arith;
+        reach = λ spare. (
+          record {
+            room = let p = spare.room in omega (arith, p);
+            asked = let p = spare.left in omega (arith, p);
+          },
+          record {
+            objects = objects;
+            fine = fine;
+            last = _;
+            stops = refl;
+            stays = refl;
+            same = refl;
+            same_after = refl;
+          },
+        );
+      }

@@ -3,7 +3,6 @@ use Rattle.std.proofs.Common.{◌≡◌, ℕ, ◌+◌, ◌*◌, ◌≤◌, false
 use Rattle.std.proofs.Common.{List, [], ◌∷◌, length, Some, refl, ap, arith, le_refl}
 use Rattle.std.specs.Prelude.{◌==◌, slice_get}
 use Rattle.grift_base.specs.Types.{TypeHead}
-use Rattle.grift_base.specs.EnvironmentCall.{environment_call}
 use Rattle.grift_base.specs.declared.verdicts.Trap.TheVariants.{Index}
 use Rattle.run_laws.specs.Runs.{Ending, Exhausted}
 use Rattle.machine_words.specs.Halts.{Halt, Lacks, Region}
@@ -23,11 +22,11 @@ use Rattle.rt_cast.specs.Procs.{cast_proc}
 use Rattle.rt_cast.specs.States.{Grows, Fine, Filled, IsReady, around, heap_of, st}
 use Rattle.rt_cast.specs.MergedValues.{Merged, Outcome, Stuck, cast_value}
 use Rattle.rt_cast.specs.Carried.{CarriedBy, ComesTo}
-use Rattle.rt_cast.proofs.Public.{Walk, lt_true, lt_false, End, More, at_most, loads_at, computes, if_true, if_false}
+use Rattle.rt_cast.proofs.Public.{Walk, lt_true, End, More, at_most, loads_at, computes, if_true, if_false}
 use Rattle.rt_cast.proofs.Public.{tail_calls, ReachedIn, at_first, walk, apply, no_higher, by_either, low_of}
 use Rattle.rt_cast.proofs.Public.{decided_cast, ends, kind_read, count_read, none_some, same_some, WordThere}
 use Rattle.rt_cast.proofs.Public.{header_there, loads}
-use Rattle.rt_refs.specs.CellCodes.{read_code, read_proc, trap_index, test_index, take_part, find_element}
+use Rattle.rt_refs.specs.CellCodes.{read_code, read_proc, test_index, take_part, find_element}
 use Rattle.rt_refs.specs.CellLaws.{under, cell_behind, CellStands, TrapsAt, TellsAt, ComesWhere}
 use Rattle.rt_refs.proofs.CellSteps.{cell_word, in_list}
 use Rattle.low_ir.specs.Operations.{compute}
@@ -38,7 +37,8 @@ use Rattle.rt_cast.specs.MergedValues.{Base, Solid, Proxied, InDyn}
 use Rattle.rt_refs.proofs.CellSteps.{ends_branch}
 use Rattle.std.proofs.Common.{subst, ◌<◌, ◌∙◌}
 use Rattle.low_ir.specs.Steps.{set_local}
-use Rattle.rt_refs.proofs.Finding.{one_kind, behind_under, found, part_taken}
+use Rattle.rt_refs.proofs.Finding.{one_kind, behind_under, found, part_taken, index_traps}
+use Rattle.rt_cast.proofs.Public.{proxy_header}
 
 module _ {V : Type 0} (reading : Halt → Ending V) (setting : Setting) (l : Layout) (first : ℕ) (s : LowState)
     (exhausts : reading (Lacks Region) ≡ Exhausted) (ready : IsReady setting l first) {A : Type 0} (head : A → TypeHead)
@@ -119,7 +119,6 @@ module _ {V : Type 0} (reading : Halt → Ending V) (setting : Setting) (l : Lay
   pub outside_reads : under u ≡ Some a → (which i : ℕ) → (which == 2) ≡ false → length ws ≤ i
       → ComesWhere reading setting l s (read_proc (cast first)) (which ∷ wv ∷ i ∷ [])
       (TrapsAt reading setting l s Index) 10 0 0 73
-  unfolding environment_call
   outside_reads stands which i other outside =
       let z = begun in (
         z.steps,
@@ -139,30 +138,7 @@ module _ {V : Type 0} (reading : Halt → Ending V) (setting : Setting) (l : Lay
           (found v low A IsHeld still is_solid (More 1 0 0 13 End) objects (heap_of s) fine s.waiting _ (start which i)
           (test_index (take_part 8 element_code)) wv refl ws u a stands hv cell
           (λ wa wc found rests ha cell_is keeps e1 e2 e3 e4 e5.
-          let last : (rests' : List Code)
-          → ReachedIn v End (st (around s) 6 found trap_index rests' s.waiting (heap_of s)) = λ rests'. record {
-            steps = 0;
-            few = le_refl 0;
-            cheap = omega arith;
-            reach = λ spare. (
-              record {
-                room = let p = spare.room in omega (arith, p);
-                asked = let p = spare.left in omega (arith, p);
-              },
-              record {
-                objects = objects;
-                fine = fine;
-                last = _;
-                stops = refl;
-                stays = refl;
-                same = refl;
-                same_after = refl;
-              },
-            );
-          } in
-          at_most v
-          (if_false v objects fine i (length ws) e2 e4 (lt_false i (length ws) outside) (last _))
-          (omega arith, omega arith, omega arith, omega arith))))
+          index_traps reading setting l first s exhausts ready objects fine found _ _ i (length ws) e2 e4 outside)))
           (omega arith, omega arith, omega arith, omega arith)
 
 -- how many elements a vector has, whatever its proxy is
@@ -242,10 +218,10 @@ module _ {V : Type 0} (reading : Halt → Ending V) (setting : Setting) (l : Lay
       (st (around s) 6 (bind 0 (2 ∷ wv ∷ i ∷ []) no_locals) (read_code (cast first)) [] s.waiting (heap_of s)) =
       at_most q
       (if_true q objects fine_here 2 2 refl refl refl
-      (loads q objects fine_here wv (header 2 0 2) ws2 0 (header 2 0 2) refl hv.2 refl refl refl
-      (computes q objects fine_here (header 2 0 2) 255 2 refl refl (kind_read 2 0 2 (omega arith)) refl
+      (loads q objects fine_here wv proxy_header ws2 0 proxy_header refl hv.2 refl refl refl
+      (computes q objects fine_here proxy_header 255 2 refl refl (kind_read 2 0 2 (omega arith)) refl
       (if_true q objects fine_here 2 2 refl refl refl
-      (loads q objects fine_here wv (header 2 0 2) ws2 1 hv.0 refl hv.2 refl refl refl
+      (loads q objects fine_here wv proxy_header ws2 1 hv.0 refl hv.2 refl refl refl
       (loads_at q objects fine_here hv.0 head0 refl (at_header hv.0 here) refl
       (ends_branch q objects fine_here (told hv.0 _ _ here head0 here.kind refl z.0 refl))))))))
       (omega arith, omega arith, omega arith, omega arith) in (

@@ -3,7 +3,6 @@ use Rattle.std.proofs.Common.{◌≡◌, inl, inr, ℕ, ◌+◌, ◌*◌, ◌^�
 use Rattle.std.proofs.Common.{List, [], ◌∷◌, length, Some, refl, sym, ap, ap₂, ◌∙◌, subst, arith, le_refl}
 use Rattle.std.specs.Prelude.{◌==◌, slice_get}
 use Rattle.grift_base.specs.Types.{TypeHead}
-use Rattle.grift_base.specs.EnvironmentCall.{environment_call}
 use Rattle.grift_base.specs.declared.verdicts.Trap.TheVariants.{Index}
 use Rattle.run_laws.specs.Runs.{Ending, Exhausted}
 use Rattle.machine_words.specs.Halts.{Halt, Lacks, Region}
@@ -24,18 +23,18 @@ use Rattle.rt_cast.specs.Procs.{cast_proc}
 use Rattle.rt_cast.specs.States.{Grows, Heap, Fine, Filled, IsReady, Within, around, heap_of, st}
 use Rattle.rt_cast.specs.MergedValues.{Merged, Outcome, Stuck, Gives, Blames, cast_value}
 use Rattle.rt_cast.specs.Carried.{CarriedBy}
-use Rattle.rt_cast.proofs.Public.{Walk, lt_true, lt_false, End, More, at_most, computes, if_true, if_false, calls}
-use Rattle.rt_cast.proofs.Public.{ReachedIn, at_first, walk}
-use Rattle.rt_refs.specs.CellCodes.{write_code, write_proc, write_element, trap_index, test_index, find_element}
+use Rattle.rt_cast.proofs.Public.{Walk, lt_true, End, More, at_most, computes, if_true, if_false, calls}
+use Rattle.rt_cast.proofs.Public.{ReachedIn, at_first, walk, holds_stored, holds_same}
+use Rattle.rt_refs.specs.CellCodes.{write_code, write_proc, write_element, test_index, find_element}
 use Rattle.rt_refs.specs.CellLaws.{cell_behind, under, CellStands, CellInRegion, TrapsAt, WriteComes}
 use Rattle.rt_refs.specs.CellLaws.{OnTheWayWriting, ComesWhere, ComesWriting}
-use Rattle.rt_refs.proofs.CellSteps.{in_list, stores, may_be_stored, holds_stored, holds_same}
+use Rattle.rt_refs.proofs.CellSteps.{in_list, stores, may_be_stored}
 use Rattle.rt_refs.proofs.Calling.{cast_behind, Goes}
 use Rattle.machine_words.specs.Memory.{store_bytes}
 use Rattle.machine_words.proofs.Public.{stored_outside}
 use Rattle.coercion_norm.proofs.Public.{found_within, object_kept}
 use Rattle.coercion_norm.specs.Objects.{Cell, object_at}
-use Rattle.rt_refs.proofs.Finding.{KeepsCoercion, behind_under, found, part_taken}
+use Rattle.rt_refs.proofs.Finding.{KeepsCoercion, behind_under, found, part_taken, index_traps}
 
 abbrev store_code : Code
 store_code = find_element (Store (Word 3) (Word 2) 8 (Return (Number 0)))
@@ -332,7 +331,6 @@ module _ {V : Type 0} (reading : Halt → Ending V) (setting : Setting) (l : Lay
   pub outside_writes : under u ≡ Some a → (which i word : ℕ) → (which == 0) ≡ false → length ws ≤ i
       → ComesWhere reading setting l s (write_proc (cast first)) (which ∷ wv ∷ i ∷ word ∷ [])
       (TrapsAt reading setting l s Index) 10 0 0 73
-  unfolding environment_call
   outside_writes stands which i word other outside =
       let z = begun in (
         z.steps,
@@ -353,28 +351,6 @@ module _ {V : Type 0} (reading : Halt → Ending V) (setting : Setting) (l : Lay
           (found v low A IsHeld still is_solid (More 1 0 0 13 End) objects (heap_of s) fine_here s.waiting _
           (bind 0 (which ∷ wv ∷ i ∷ word ∷ []) no_locals) (test_index (part_code first)) wv refl ws u a stands hv cell
           (λ wa wc found rests ha cell_is keeps e1 e2 e3 e4 e5.
-          let last : (rests' : List Code)
-          → ReachedIn v End (st (around s) 6 found trap_index rests' s.waiting (heap_of s)) = λ rests'. record {
-            steps = 0;
-            few = le_refl 0;
-            cheap = omega arith;
-            reach = λ spare. (
-              record {
-                room = let p = spare.room in omega (arith, p);
-                asked = let p = spare.left in omega (arith, p);
-              },
-              record {
-                objects = objects;
-                fine = fine_here;
-                last = _;
-                stops = refl;
-                stays = refl;
-                same = refl;
-                same_after = refl;
-              },
-            );
-          } in
-          at_most v
-          (if_false v objects fine_here i (length ws) e2 e4 (lt_false i (length ws) outside) (last _))
-          (omega arith, omega arith, omega arith, omega arith))))
+          index_traps reading setting l first s exhausts ready objects fine_here found _ _ i (length ws) e2 e4
+          outside)))
           (omega arith, omega arith, omega arith, omega arith)

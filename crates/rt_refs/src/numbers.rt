@@ -3,9 +3,6 @@
 ghost use Rattle.std.specs.Prelude.{◌≡◌, ◌+◌, ◌≤◌, ◌^◌};
 ghost use Rattle.rt_refs.specs.RefProcs.{ref_proc_number};
 
-/// How many procedures there are.
-pub const REF_PROCS: u32 = 9;
-
 /// A procedure, in the order of their numbers.
 #[derive(Clone, Copy)]
 pub enum RefProc {
