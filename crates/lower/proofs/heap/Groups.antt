@@ -30,10 +30,6 @@ abbrev pub group_objects : (ℕ → ℕ) → ℕ → ℕ → List ℕ → List O
 group_objects address first others words =
     Fixed (header 1 0 (suc (length words))) (address first ∷ words) ∷ other_objects address first 0 others
 
-pub other_words_long : (address : ℕ → ℕ) (first i n : ℕ) → length (other_words address first i n) ≡ 2 * n
-other_words_long address first i zero = refl
-other_words_long address first i (suc n) = let z = other_words_long address first (suc i) n in omega (arith, z)
-
 pub other_bytes : (address : ℕ → ℕ) (first i n : ℕ) → bytes_of_all (other_objects address first i n) ≡ 16 * n
 other_bytes address first i zero = refl
 other_bytes address first i (suc n) = let z = other_bytes address first (suc i) n in omega (arith, z)

@@ -423,9 +423,6 @@ module _ (program : Program) (typed : TypesStand program.l)
     other' = Call (word_for program places objects s next) program.run.write
         (Number 0 ∷ found s (operand_word s 0) b ∷ Number 0 ∷ found s (operand_word s 1) o ∷ []) Done
 
-    abbrev v' : FlatValue program.meaning.Cast
-    v' = value locals group o
-
     abbrev pub written_after : FlatAfter program.meaning.Cast
     written_after =
         On (Return RunUnit) f.frames (slice_set f.store cell (value locals group o ∷ [])) f.world

@@ -341,15 +341,6 @@ module _ (procs : List Proc) (count : ℕ) where
           (Rattle.low_ir.specs.Procedures.Call d run.project args k) in
           let y = call_price run.project args k in omega (arith, x, y)
 
-      pub proj_dyn_price : (o : Operand) (i : ℤ) (label : Rattle.grift_base.specs.declared.places.LabelId.LabelId)
-          (k : Code) → code_price procs count (perform run s d (ProjDyn o i label) k) ≤ 194 + code_price procs count k
-      proj_dyn_price o i label k =
-          let t = operand_word s 0 in
-          let args = found s t o ∷ Number (cast_unsigned w64 i) ∷ Number 0 ∷ Number label.0 ∷ [] in
-          let x = fetch_price t (computing_near 0 (omega arith)) o
-          (Rattle.low_ir.specs.Procedures.Call d run.project args k) in
-          let y = call_price run.project args k in omega (arith, x, y)
-
       pub prim_price : (op : PrimOp) (os : List Operand) → length os ≤ 8 → (k : Code)
           → code_price procs count (perform run s d (Prim op os) k) ≤ 150 + 37 * length os + code_price procs count k
       prim_price op os le k =
