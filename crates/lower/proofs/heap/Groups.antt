@@ -11,7 +11,7 @@ use Rattle.coercion_norm.specs.Held.{Layout, There}
 use Rattle.coercion_norm.specs.ObjectsOfRows.{header}
 use Rattle.lower.specs.Meanings.{Meaning, MeaningLaws, IsOwn}
 use Rattle.lower.specs.Numbering.{function_offset}
-use Rattle.lower.proofs.heap.Objects.{words_front, words_back, bytes_append}
+use Rattle.lower.proofs.heap.Objects.{words_split, bytes_append}
 use Rattle.lower.proofs.words.Operations.{added_there}
 
 -- the words of the functions of a group from one on, and their objects
@@ -49,11 +49,12 @@ pub group_holds : (address : ℕ → ℕ) (m : Memory) (at first others : ℕ) (
     → HoldsWords m at (header 1 0 (suc (length words)) ∷ address first ∷ (words ++ other_words address first 0 others))
     → Holds m at (group_objects address first others words)
 group_holds address m at first others words h =
-    let e : at + 8 + 8 + 8 * length words ≡ at + (8 + 8 * length (address first ∷ words)) = omega arith in (
-      (h.0, (h.1.0, words_front m (at + 8 + 8) words (other_words address first 0 others) h.1.1)),
+    let e : at + 8 + 8 + 8 * length words ≡ at + (8 + 8 * length (address first ∷ words)) = omega arith in
+    let both = words_split m (at + 8 + 8) words (other_words address first 0 others) h.1.1 in (
+      (h.0, (h.1.0, both.0)),
       others_hold address m (at + (8 + 8 * length (address first ∷ words))) first 0 others
           (subst (λ a. HoldsWords m a (other_words address first 0 others)) e
-          (words_back m (at + 8 + 8) words (other_words address first 0 others) h.1.1)),
+          both.1),
     )
 
 pub group_bytes : (address : ℕ → ℕ) (first others : ℕ) (words : List ℕ)
