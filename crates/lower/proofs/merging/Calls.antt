@@ -16,7 +16,6 @@ use Rattle.coercion_norm.specs.MergedMode.{merging, function_parts}
 use Rattle.cast_modes.specs.Modes.{TypeCast}
 use Rattle.coercion_norm.specs.Normal.{IsNormal}
 use Rattle.coercion_norm.specs.Objects.{Object, Fixed}
-use Rattle.coercion_norm.specs.ObjectsOfRows.{header}
 use Rattle.cast_modes.specs.RunValues.{RunInt, RunBool, RunUnit, RunFun, RunTuple, RunLoc, RunWrap, RunInject}
 use Rattle.cast_modes.specs.RunValues.{Pending, all_plain, in_row}
 use Rattle.cast_modes.specs.ValueSteps.{CastFrame, EnterFrame, Own, Entering, Return, On, on_some, onto}
@@ -46,6 +45,7 @@ use Rattle.lower.specs.Keeping.{FitsMeasures}
 use Rattle.lower.specs.MergedMeaning.{merged_meaning, merged_resumes, WrapsKind}
 use Rattle.lower.specs.SchemeLaws.{Here, StopsNow, Aim, After, Goes, Serves, Answers, Calls, CallsAt, CallsMade}
 use Rattle.lower.specs.SchemeLaws.{call_leaves, resumed_leaves}
+use Rattle.lower.proofs.heap.Objects.{closure_header}
 use Rattle.lower.proofs.heap.CarriedLater.{later, cells_later, cells_below}
 use Rattle.lower.proofs.merging.Arguments.{AllNormal, of_function, pendings, all_cast, onto_before, handed_is, AllLike}
 use Rattle.lower.proofs.merging.Arguments.{onto_like, all_back, CodeAt, all_like, called}
@@ -472,7 +472,8 @@ module _ (setting : Setting) (l : Layout) (procs : List Proc) (casts : List Type
         (z.1, z.2, z.3, z.4)
 
     parts : AllNormal (rows_of l.types) ds
-        × (code : ℕ) × (rest : List ℕ) × There l objects seen.0 (Fixed (header 1 0 (suc (length rest))) (code ∷ rest))
+        × (code : ℕ) × (rest : List ℕ)
+        × There l objects seen.0 (Fixed (closure_header (suc (length rest))) (code ∷ rest))
     parts = of_function l objects seen.0 cast ds e split seen.2.5.normal seen.3
 
     closure : (head address : ℕ) × (words : List ℕ) × There l objects seen.0 (Fixed head (address ∷ words))
