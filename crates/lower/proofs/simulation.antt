@@ -21,6 +21,7 @@ pub mod Resumed
 pub mod Boxes
 pub mod Cells
 pub mod Moves
+pub mod Starts
 pub mod Following
 pub mod Programs
 pub mod Made

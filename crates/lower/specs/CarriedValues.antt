@@ -7,6 +7,8 @@ use Rattle.grift_base.specs.Types.{is_dyn}
 use Rattle.machine_words.specs.Memory.{Memory}
 use Rattle.cast_modes.specs.RunValues.{RunInt, RunBool, RunUnit, RunFun, RunTuple, RunLoc, RunWrap, RunInject}
 use Rattle.cast_modes.specs.RunValues.{NoRunValues, RunValueThen, in_row}
+use Rattle.object_layout.specs.declared.kinds.Kind.TheVariants.{Closure, Tuple, Boxed, Vector}
+use Rattle.object_layout.specs.Kinds.{kind_number}
 use Rattle.coercion_norm.specs.Objects.{Object, Fixed, Cell, object_at}
 use Rattle.rt_cast.specs.Objects.{HoldsWords}
 use Rattle.rt_cast.specs.DynWords.{IsDyn}
@@ -33,9 +35,10 @@ module _ (l : Layout) (address : ℕ → ℕ) (procs : List Proc) (meaning : Mea
   -- the functions of a group lie one behind another: the first, at this address, holds what the group has captured
   pub record IsGroup (first leader count : ℕ) (words : List ℕ) : Type 0 where
     pub members : (place : ℕ) → place < count → IsMember procs first count (length words) place
-    pub leads : There l objects leader (Fixed (header 1 0 (suc (length words))) (address first ∷ words))
+    pub leads : There l objects leader
+        (Fixed (header (kind_number Closure) 0 (suc (length words))) (address first ∷ words))
     pub others : (i : ℕ) → suc i < count → There l objects (leader + function_offset (length words) (suc i))
-        (Fixed (header 1 0 1) (address (first + suc i) ∷ []))
+        (Fixed (header (kind_number Closure) 0 1) (address (first + suc i) ∷ []))
 
   -- the word is that of what these casts wrap, the innermost first, or, where there are none, the word itself
   abbrev pub Under : List meaning.Cast → ℕ → (ℕ → Type 0) → Type 0
@@ -58,11 +61,12 @@ module _ (l : Layout) (address : ℕ → ℕ) (procs : List Proc) (meaning : Mea
         × (x ≡ leader + function_offset (length words) code.place) × (code.place < count)
         × IsGroup code.first leader count words × AreCarried captured words)
     CarriedIn (RunTuple values) casts w =
-        Under casts w (λ x. (words : List ℕ) × There l objects x (Fixed (header 4 0 (length words)) words)
+        Under casts w (λ x. (words : List ℕ)
+        × There l objects x (Fixed (header (kind_number Tuple) 0 (length words)) words)
         × AreCarried values words × (length words ≤ 8))
     CarriedIn (RunLoc cell is_vector) casts w =
         Under casts w (λ x. (count : ℕ) × (slice_get places cell ≡ Some x)
-        × There l objects x (Cell (header (if is_vector then 6 else 5) 0 count) count)
+        × There l objects x (Cell (header (if is_vector then kind_number Vector else kind_number Boxed) 0 count) count)
         × (is_vector ≡ false → count ≡ 1))
     CarriedIn (RunWrap v cast) casts w = CarriedIn v (cast ∷ casts) w
     CarriedIn (RunInject v kept) casts w =

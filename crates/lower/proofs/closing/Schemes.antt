@@ -8,7 +8,8 @@ use Rattle.low_ir.specs.Closed.{is_closed}
 use Rattle.low_ir.specs.Views.{procs_of}
 use Rattle.flat_ir.specs.Bodies.{Proc as FlatProc}
 use Rattle.flat_ir.specs.Closed.{is_closed as flat_is_closed}
-use Rattle.rt_cast.specs.Procs.{cast_procs}
+use Rattle.rt_cast.specs.ComposeCodes.{cast}
+use Rattle.rt_cast.specs.Procs.{cast_procs, how_many_cast_procs}
 use Rattle.rt_refs.specs.RefProcs.{ref_procs}
 use Rattle.lower.specs.declared.served.CastWay.{CastWay}
 use Rattle.lower.specs.declared.served.Served.{Served}
@@ -49,7 +50,7 @@ module _ (numbers_from : ℕ → Served) (procs_from : ℕ → List Proc) (run g
       ∙ programs_with_sets_are_closed (procs_from first) (numbers_from first) words ways flat entry told anywhere h)
 
 pub merged_list : (first : ℕ) (start more others whole : List LowProc) → procs_of start ≡ cast_procs first
-    → more ≡ others → procs_of others ≡ ref_procs (27 + first) (2 + first)
+    → more ≡ others → procs_of others ≡ ref_procs (how_many_cast_procs + first) (cast first)
     → procs_of whole ≡ procs_of start ++ procs_of more → procs_of whole ≡ merged_procs first
 merged_list first start more others whole casts same proxies all =
     all ∙ (ap (λ ps. ps ++ procs_of more) casts ∙ ap (λ ps. cast_procs first ++ ps) (ap procs_of same ∙ proxies))

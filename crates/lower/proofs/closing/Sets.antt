@@ -7,9 +7,11 @@ use Rattle.low_ir.specs.Procedures.{Proc}
 use Rattle.low_ir.specs.Closed.{proc_closed, each_closed, is_closed}
 use Rattle.flat_ir.specs.Bodies.{Proc as FlatProc}
 use Rattle.flat_ir.specs.Closed.{is_closed as flat_is_closed}
-use Rattle.rt_cast.specs.Procs.{cast_proc, cast_procs}
+use Rattle.rt_cast.specs.ComposeCodes.{cast}
+use Rattle.rt_cast.specs.Procs.{cast_proc, cast_procs, how_many_cast_procs}
 use Rattle.rt_cast.proofs.Public.{procedures_are_closed-closed as casts_are_closed}
-use Rattle.rt_refs.specs.RefProcs.{ref_procs}
+use Rattle.rt_refs.specs.declared.numbers.RefProc.TheVariants.{Apply, Read, Write, Fill, Multiply, Divide}
+use Rattle.rt_refs.specs.RefProcs.{ref_procs, ref_place}
 use Rattle.rt_refs.proofs.Public.{procedures_are_closed-closed as proxies_are_closed}
 use Rattle.lower.specs.declared.served.CastWay.{CastWay}
 use Rattle.lower.specs.declared.served.Served.{Served}
@@ -82,31 +84,32 @@ programs_with_sets_are_closed set numbers words ways flat entry answer serves h 
 
 module _ (procs : List Proc) (first : ℕ) (s : StandFrom procs first (merged_procs first)) where
   pub cast_stand : StandFrom procs first (cast_procs first)
-  cast_stand k p e = s k p (get_front (cast_procs first) (ref_procs (27 + first) (2 + first)) k p e)
+  cast_stand k p e = s k p (get_front (cast_procs first) (ref_procs (how_many_cast_procs + first) (cast first)) k p e)
 
-  pub proxy_stand : StandFrom procs (27 + first) (ref_procs (27 + first) (2 + first))
+  pub proxy_stand : StandFrom procs (how_many_cast_procs + first) (ref_procs (how_many_cast_procs + first) (cast first))
   proxy_stand k p e =
-      let at : slice_get (merged_procs first) (27 + k) ≡ Some p =
-      get_behind (cast_procs first) (ref_procs (27 + first) (2 + first)) k ∙ e in
-      ap (slice_get procs) (omega arith) ∙ s (27 + k) p at
+      let at : slice_get (merged_procs first) (how_many_cast_procs + k) ≡ Some p =
+      get_behind (cast_procs first) (ref_procs (how_many_cast_procs + first) (cast first)) k ∙ e in
+      ap (slice_get procs) (omega arith) ∙ s (how_many_cast_procs + k) p at
 
   pub merged_serves : Serve (merged_numbers first) procs
   merged_serves = record {
     cast = ap (takes 2) (s 2 _ refl);
     project = ap (takes 4) (s 3 _ refl);
-    apply = ap (takes 8) (s 27 _ refl);
-    read = ap (takes 3) (s 28 _ refl);
-    write = ap (takes 4) (s 29 _ refl);
-    fill = ap (takes 2) (s 30 _ refl);
-    multiply = ap (takes 2) (s 34 _ refl);
-    divide = ap (takes 3) (s 35 _ refl);
+    apply = ap (takes 8) (s (how_many_cast_procs + ref_place Apply) _ refl);
+    read = ap (takes 3) (s (how_many_cast_procs + ref_place Read) _ refl);
+    write = ap (takes 4) (s (how_many_cast_procs + ref_place Write) _ refl);
+    fill = ap (takes 2) (s (how_many_cast_procs + ref_place Fill) _ refl);
+    multiply = ap (takes 2) (s (how_many_cast_procs + ref_place Multiply) _ refl);
+    divide = ap (takes 3) (s (how_many_cast_procs + ref_place Divide) _ refl);
   }
 
   merged_closed : each_closed procs (merged_procs first) ≡ true
   merged_closed =
-      each_append procs (cast_procs first) (ref_procs (27 + first) (2 + first))
+      each_append procs (cast_procs first) (ref_procs (how_many_cast_procs + first) (cast first))
       (casts_are_closed procs first cast_stand)
-      (proxies_are_closed procs (27 + first) (2 + first) proxy_stand (cast_proc first) (s 2 _ refl) refl)
+      (proxies_are_closed procs (how_many_cast_procs + first) (cast first) proxy_stand (cast_proc first)
+      (s 2 _ refl) refl)
 
 pub merged_serves_anywhere : (first : ℕ) → ServesAnywhere (merged_procs first) first (merged_numbers first)
 merged_serves_anywhere first = record {

@@ -114,11 +114,6 @@ module _ (l : Layout) (address : ℕ → ℕ) (procs : List Proc) (meaning : Mea
     abbrev same : (i w : ℕ) → slice_get places i ≡ Some w → slice_get places i ≡ Some w
     same i w e = e
 
-    pub group_later : (first leader count : ℕ) (words : List ℕ)
-        → IsGroup l address procs meaning places objects first leader count words
-        → IsGroup l address procs meaning places (objects ++ more) first leader count words
-    group_later = group_grown l address procs meaning laws places places same objects more
-
     pub later : (v : FlatValue meaning.Cast) (w : ℕ) → IsCarried l address procs meaning places objects v w
         → IsCarried l address procs meaning places (objects ++ more) v w
     later v w c = grown l address procs meaning laws places places same objects more v [] w c

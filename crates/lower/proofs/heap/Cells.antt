@@ -10,14 +10,13 @@ use Rattle.coercion_norm.specs.Objects.{Object, Cell, bytes_of, bytes_of_all, ob
 use Rattle.coercion_norm.specs.Held.{Layout, There}
 use Rattle.flat_ir.specs.Bodies.{Proc}
 use Rattle.flat_ir.specs.Machine.{FlatValue, FlatStore}
-use Rattle.rt_cast.specs.Objects.{HasWord, HoldsWords, HoldsObject, Holds}
+use Rattle.rt_cast.specs.Objects.{HasWord, HoldsWords}
 use Rattle.rt_cast.specs.States.{Heap, Placed}
 use Rattle.lower.specs.Storage.{Filled}
 use Rattle.lower.specs.Meanings.{Meaning}
 use Rattle.lower.specs.CarriedValues.{CellHeld, CellsFrom}
-use Rattle.lower.proofs.heap.Objects.{none_some, same_some, found_within, some_bytes, word_same, words_same}
-use Rattle.lower.proofs.heap.Objects.{object_same}
-use Rattle.lower.proofs.heap.Objects.{holds_same}
+use Rattle.lower.proofs.heap.Objects.{none_some, same_some, found_within, header_room, word_same, words_same}
+pub use Rattle.rt_cast.proofs.Public.{holds_stored}
 use Rattle.lower.proofs.heap.Filled.{stands, WordThere, may}
 
 -- two objects at different addresses lie apart
@@ -45,36 +44,6 @@ objects_apart (x ∷ os) from a b o p e f ne =
         let at_start = eqb-true b from r in
         inr (omega (arith, w.low, same, at_start))
     by_tests ih false false q r e f = ih e f ne
-
--- a store into the words of a cell leaves all objects
-pub holds_stored : (m : Memory) (os : List Object) (at w head count p y : ℕ) → Holds m at os
-    → object_at os at w ≡ Some (Cell head count) → w + 8 ≤ p → p + 8 ≤ w + 8 + 8 * count
-    → Holds (store_bytes 8 m p y) at os
-holds_stored m [] at w head count p y h e low high = tt
-holds_stored m (x ∷ os) at w head count p y h e low high =
-    by_test (λ f. holds_stored m os (at + bytes_of x) w head count p y h.1 f low high) (nat_eq w at) refl e
-  where
-    by_test : (object_at os (at + bytes_of x) w ≡ Some (Cell head count)
-        → Holds (store_bytes 8 m p y) (at + bytes_of x) os)
-        → (t : Bool) → nat_eq w at ≡ t → cond t (Some x) (object_at os (at + bytes_of x) w) ≡ Some (Cell head count)
-        → HoldsObject (store_bytes 8 m p y) at x × Holds (store_bytes 8 m p y) (at + bytes_of x) os
-    by_test ih true q f =
-        let here : w ≡ at = eqb-true w at q in
-        let is : x ≡ Cell head count = same_some x (Cell head count) f in
-        let size : bytes_of x ≡ 8 + 8 * count = ap bytes_of is in (
-          subst (λ z. HoldsObject (store_bytes 8 m p y) at z) (sym is)
-              (word_same m (store_bytes 8 m p y) at head
-              (λ i a b. stored_outside 8 m p y i (inl (omega (arith, b, low, here))))
-              (subst (λ z. HoldsObject m at z) is h.0)),
-          holds_same m (store_bytes 8 m p y) (at + bytes_of x) os
-              (λ i a b. stored_outside 8 m p y i (inr (omega (arith, a, high, here, size)))) h.1,
-        )
-    by_test ih false q f =
-        let z = found_within os (at + bytes_of x) w (Cell head count) f in (
-          object_same m (store_bytes 8 m p y) at x
-              (λ i a b. stored_outside 8 m p y i (inl (omega (arith, b, low, z.low)))) h.0,
-          ih f,
-        )
 
 -- a word of a list is another one, and so it is in memory
 pub set_length : {A : Type 0} (xs : List A) (i : ℕ) (x : A) → length (slice_set xs i x) ≡ length xs
@@ -108,12 +77,12 @@ there_is l objects w o p before (inr e) f = same_some o p (sym e ∙ f)
 there_is l objects w o p before (inl e) f =
     let x = found_within l.statics l.first w o e in
     let y = found_within objects l.region w p f in
-    let z = some_bytes o in
+    let z = header_room o in
     absurd (omega (arith, x.high, y.low, z, before))
 
 -- one object stands at an address
-pub there_same : (l : Layout) (objects : List Object) (w : ℕ) (o p : Object) → l.first + bytes_of_all l.statics ≤ l.region
-    → There l objects w o → There l objects w p → o ≡ p
+pub there_same : (l : Layout) (objects : List Object) (w : ℕ) (o p : Object)
+    → l.first + bytes_of_all l.statics ≤ l.region → There l objects w o → There l objects w p → o ≡ p
 there_same l objects w o p before (inl e) (inl f) = same_some o p (sym e ∙ f)
 there_same l objects w o p before (inl e) (inr f) = there_is l objects w o p before (inl e) f
 there_same l objects w o p before (inr e) (inl f) = sym (there_is l objects w p o before (inl f) e)

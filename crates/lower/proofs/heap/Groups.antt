@@ -8,31 +8,26 @@ use Rattle.object_layout.specs.declared.kinds.Kind.TheVariants.{Closure}
 use Rattle.coercion_norm.specs.Objects.{Object, Fixed, bytes_of_all, object_at}
 use Rattle.rt_cast.specs.Objects.{HoldsWords, Holds}
 use Rattle.coercion_norm.specs.Held.{Layout, There}
-use Rattle.coercion_norm.specs.ObjectsOfRows.{header}
 use Rattle.lower.specs.Meanings.{Meaning, MeaningLaws, IsOwn}
 use Rattle.lower.specs.Numbering.{function_offset}
-use Rattle.lower.proofs.heap.Objects.{words_front, words_back, bytes_append}
+use Rattle.lower.proofs.heap.Objects.{words_split, bytes_append, closure_header}
 use Rattle.lower.proofs.words.Operations.{added_there}
 
 -- the words of the functions of a group from one on, and their objects
 abbrev pub other_words : (ℕ → ℕ) → ℕ → ℕ → ℕ → List ℕ
 other_words address first i zero = []
 other_words address first i (suc n) =
-    header 1 0 1 ∷ address (first + suc i) ∷ other_words address first (suc i) n
+    closure_header 1 ∷ address (first + suc i) ∷ other_words address first (suc i) n
 
 abbrev pub other_objects : (ℕ → ℕ) → ℕ → ℕ → ℕ → List Object
 other_objects address first i zero = []
 other_objects address first i (suc n) =
-    Fixed (header 1 0 1) (address (first + suc i) ∷ []) ∷ other_objects address first (suc i) n
+    Fixed (closure_header 1) (address (first + suc i) ∷ []) ∷ other_objects address first (suc i) n
 
 -- those of a whole group, of one function and so many others
 abbrev pub group_objects : (ℕ → ℕ) → ℕ → ℕ → List ℕ → List Object
 group_objects address first others words =
-    Fixed (header 1 0 (suc (length words))) (address first ∷ words) ∷ other_objects address first 0 others
-
-pub other_words_long : (address : ℕ → ℕ) (first i n : ℕ) → length (other_words address first i n) ≡ 2 * n
-other_words_long address first i zero = refl
-other_words_long address first i (suc n) = let z = other_words_long address first (suc i) n in omega (arith, z)
+    Fixed (closure_header (suc (length words))) (address first ∷ words) ∷ other_objects address first 0 others
 
 pub other_bytes : (address : ℕ → ℕ) (first i n : ℕ) → bytes_of_all (other_objects address first i n) ≡ 16 * n
 other_bytes address first i zero = refl
@@ -50,14 +45,16 @@ others_hold address m at first i (suc n) h =
 
 -- the words hold the objects
 pub group_holds : (address : ℕ → ℕ) (m : Memory) (at first others : ℕ) (words : List ℕ)
-    → HoldsWords m at (header 1 0 (suc (length words)) ∷ address first ∷ (words ++ other_words address first 0 others))
+    → HoldsWords m at
+    (closure_header (suc (length words)) ∷ address first ∷ (words ++ other_words address first 0 others))
     → Holds m at (group_objects address first others words)
 group_holds address m at first others words h =
-    let e : at + 8 + 8 + 8 * length words ≡ at + (8 + 8 * length (address first ∷ words)) = omega arith in (
-      (h.0, (h.1.0, words_front m (at + 8 + 8) words (other_words address first 0 others) h.1.1)),
+    let e : at + 8 + 8 + 8 * length words ≡ at + (8 + 8 * length (address first ∷ words)) = omega arith in
+    let both = words_split m (at + 8 + 8) words (other_words address first 0 others) h.1.1 in (
+      (h.0, (h.1.0, both.0)),
       others_hold address m (at + (8 + 8 * length (address first ∷ words))) first 0 others
           (subst (λ a. HoldsWords m a (other_words address first 0 others)) e
-          (words_back m (at + 8 + 8) words (other_words address first 0 others) h.1.1)),
+          both.1),
     )
 
 pub group_bytes : (address : ℕ → ℕ) (first others : ℕ) (words : List ℕ)
@@ -69,7 +66,7 @@ group_bytes address first others words = let z = other_bytes address first 0 oth
 at_least_one : (n : ℕ) → nat_le 1 (suc n) ≡ true
 at_least_one n = grind arith
 
-own_closure : (address : ℕ) (words : List ℕ) → IsOwn (Fixed (header 1 0 (suc (length words))) (address ∷ words))
+own_closure : (address : ℕ) (words : List ℕ) → IsOwn (Fixed (closure_header (suc (length words))) (address ∷ words))
 own_closure address words = record {
   kind = Closure;
   count = suc (length words);
@@ -85,7 +82,7 @@ others_kept : (meaning : Meaning) (laws : MeaningLaws meaning) (l : Layout) (num
 others_kept meaning laws l number address before first i zero k =
     subst (λ os. meaning.Keeps l os number) (sym (append-nil before)) k
 others_kept meaning laws l number address before first i (suc n) k =
-    let o : Object = Fixed (header 1 0 1) (address (first + suc i) ∷ []) in
+    let o : Object = Fixed (closure_header 1) (address (first + suc i) ∷ []) in
     subst (λ os. meaning.Keeps l os number) (append_assoc before (o ∷ []) (other_objects address first (suc i) n))
     (others_kept meaning laws l number address (before ++ o ∷ []) first (suc i) n
     (laws.keeps_more l before number o (own_closure (address (first + suc i)) []) k))
@@ -95,7 +92,7 @@ pub group_kept : (meaning : Meaning) (laws : MeaningLaws meaning) (l : Layout) (
     (before : List Object) (first others : ℕ) (words : List ℕ) → meaning.Keeps l before number
     → meaning.Keeps l (before ++ group_objects address first others words) number
 group_kept meaning laws l number address before first others words k =
-    let o : Object = Fixed (header 1 0 (suc (length words))) (address first ∷ words) in
+    let o : Object = Fixed (closure_header (suc (length words))) (address first ∷ words) in
     subst (λ os. meaning.Keeps l os number) (append_assoc before (o ∷ []) (other_objects address first 0 others))
     (others_kept meaning laws l number address (before ++ o ∷ []) first 0 others
     (laws.keeps_more l before number o (own_closure (address first) words) k))
@@ -105,16 +102,16 @@ group_kept meaning laws l number address before first others words k =
 -- one of the others, so many behind the one from which they are counted
 other_there : (address : ℕ → ℕ) (region : ℕ) (before : List Object) (first i n j : ℕ) → j < n
     → object_at (before ++ other_objects address first i n) region (region + bytes_of_all before + 16 * j)
-    ≡ Some (Fixed (header 1 0 1) (address (first + suc (i + j)) ∷ []))
+    ≡ Some (Fixed (closure_header 1) (address (first + suc (i + j)) ∷ []))
 other_there address region before first i zero j lt = absurd (omega (arith, lt))
 other_there address region before first i (suc n) zero lt =
-    let o : Object = Fixed (header 1 0 1) (address (first + suc i) ∷ []) in
+    let o : Object = Fixed (closure_header 1) (address (first + suc i) ∷ []) in
     let e : i ≡ i + 0 = omega arith in
     added_there region before o (other_objects address first (suc i) n) (region + bytes_of_all before + 16 * 0)
     (omega arith)
-    ∙ ap (λ k. Some (Fixed (header 1 0 1) (address (first + suc k) ∷ []))) e
+    ∙ ap (λ k. Some (Fixed (closure_header 1) (address (first + suc k) ∷ []))) e
 other_there address region before first i (suc n) (suc j) lt =
-    let o : Object = Fixed (header 1 0 1) (address (first + suc i) ∷ []) in
+    let o : Object = Fixed (closure_header 1) (address (first + suc i) ∷ []) in
     let sum = bytes_append before (o ∷ []) in
     let e : region + bytes_of_all (before ++ o ∷ []) + 16 * j ≡ region + bytes_of_all before + 16 * suc j =
     omega (arith, sum) in
@@ -123,21 +120,21 @@ other_there address region before first i (suc n) (suc j) lt =
     (sym (append_assoc before (o ∷ []) (other_objects address first (suc i) n)))
     ∙ (ap (object_at ((before ++ o ∷ []) ++ other_objects address first (suc i) n) region) (sym e)
     ∙ (other_there address region (before ++ o ∷ []) first (suc i) n j (omega (arith, lt))
-    ∙ ap (λ k. Some (Fixed (header 1 0 1) (address (first + suc k) ∷ []))) f))
+    ∙ ap (λ k. Some (Fixed (closure_header 1) (address (first + suc k) ∷ []))) f))
 
 module _ (l : Layout) (address : ℕ → ℕ) (objects : List Object) (first others : ℕ) (words : List ℕ) (at : ℕ)
     (e : at ≡ l.region + bytes_of_all objects) where
   pub leader_added : There l (objects ++ group_objects address first others words) at
-      (Fixed (header 1 0 (suc (length words))) (address first ∷ words))
+      (Fixed (closure_header (suc (length words))) (address first ∷ words))
   leader_added =
-      inr (added_there l.region objects (Fixed (header 1 0 (suc (length words))) (address first ∷ words))
+      inr (added_there l.region objects (Fixed (closure_header (suc (length words))) (address first ∷ words))
       (other_objects address first 0 others) at e)
 
   pub other_added : (i : ℕ) → i < others
       → There l (objects ++ group_objects address first others words) (at + function_offset (length words) (suc i))
-      (Fixed (header 1 0 1) (address (first + suc i) ∷ []))
+      (Fixed (closure_header 1) (address (first + suc i) ∷ []))
   other_added i lt =
-      let o : Object = Fixed (header 1 0 (suc (length words))) (address first ∷ words) in
+      let o : Object = Fixed (closure_header (suc (length words))) (address first ∷ words) in
       let sum = bytes_append objects (o ∷ []) in
       let f : l.region + bytes_of_all (objects ++ o ∷ []) + 16 * i ≡ at + function_offset (length words) (suc i) =
       omega (arith, sum, e) in
@@ -146,4 +143,4 @@ module _ (l : Layout) (address : ℕ → ℕ) (objects : List Object) (first oth
       (sym (append_assoc objects (o ∷ []) (other_objects address first 0 others)))
       ∙ (ap (object_at ((objects ++ o ∷ []) ++ other_objects address first 0 others) l.region) (sym f)
       ∙ (other_there address l.region (objects ++ o ∷ []) first 0 others i lt
-      ∙ ap (λ k. Some (Fixed (header 1 0 1) (address (first + suc k) ∷ []))) none)))
+      ∙ ap (λ k. Some (Fixed (closure_header 1) (address (first + suc k) ∷ []))) none)))

@@ -11,7 +11,6 @@ use Rattle.coercion_norm.specs.Held.{Layout, There}
 use Rattle.coercion_norm.specs.MergedMode.{function_parts, split_parts}
 use Rattle.coercion_norm.specs.Normal.{IsNormal, AreNormal}
 use Rattle.coercion_norm.specs.Objects.{Object, Fixed}
-use Rattle.coercion_norm.specs.ObjectsOfRows.{header}
 use Rattle.cast_modes.specs.RunValues.{RunInt, RunBool, RunUnit, RunFun, RunTuple, RunLoc, RunWrap, RunInject}
 use Rattle.cast_modes.specs.RunValues.{Pending}
 use Rattle.cast_modes.specs.RunValues.{all_plain, in_row}
@@ -30,7 +29,7 @@ use Rattle.lower.specs.MergedMeaning.{merged_meaning, WrapsKind}
 use Rattle.lower.specs.SchemeLaws.{at_or_zero}
 use Rattle.lower.specs.Storage.{Filled}
 use Rattle.lower.proofs.heap.CarriedLater.{function_there}
-use Rattle.lower.proofs.heap.Objects.{none_some, same_some}
+use Rattle.lower.proofs.heap.Objects.{none_some, same_some, closure_header}
 use Rattle.lower.proofs.merging.Laws.{merged_laws}
 use Rattle.lower.proofs.merging.Like.{Like, like_of, like_back}
 
@@ -60,7 +59,7 @@ parts_normal rows (CoercionThen c (CoercionThen d rest)) ds e n h =
 pub of_function : (l : Layout) (objects : List Object) (a : ℕ) (c : Coercion) (ds : List Coercion) (e : Coercion)
     → function_parts c ≡ Some (ds, e) → IsNormal (rows_of l.types) c → WrapsKind l objects c a
     → AllNormal (rows_of l.types) ds
-    × (code : ℕ) × (rest : List ℕ) × There l objects a (Fixed (header 1 0 (suc (length rest))) (code ∷ rest))
+    × (code : ℕ) × (rest : List ℕ) × There l objects a (Fixed (closure_header (suc (length rest))) (code ∷ rest))
 of_function l objects a (Middle Fun parts) ds e split n f =
     (parts_normal (rows_of l.types) parts ds e n.1 split, f.0, f.1, f.2)
 of_function l objects a (Middle Tup parts) ds e split n f = none_some split
@@ -166,7 +165,7 @@ module _ (setting : Setting) (l : Layout) (procs : List Proc) (places : List ℕ
 
     -- what is called, told that some function stands there
     pub called : (f : FlatValue Coercion) (a : ℕ) → Like setting l procs places objects f (Solid a)
-        → (code : ℕ) (rest : List ℕ) → There l objects a (Fixed (header 1 0 (suc (length rest))) (code ∷ rest))
+        → (code : ℕ) (rest : List ℕ) → There l objects a (Fixed (closure_header (suc (length rest))) (code ∷ rest))
         → (head address : ℕ) × (words : List ℕ) × There l objects a (Fixed head (address ∷ words)) × CodeAt f address
     called (RunFun code captured) a k other rest there =
         let c = k.2 in
@@ -182,10 +181,10 @@ module _ (setting : Setting) (l : Layout) (procs : List Proc) (places : List ℕ
       where
         solid_same : (x y : ℕ) → Solid x ≡ Solid y → x ≡ y
         solid_same x y e = cc
-    called (RunTuple values) a k code rest there = (header 1 0 (suc (length rest)), code, rest, there, tt)
-    called (RunLoc cell is_vector) a k code rest there = (header 1 0 (suc (length rest)), code, rest, there, tt)
-    called (RunInt n) a k code rest there = (header 1 0 (suc (length rest)), code, rest, there, tt)
-    called (RunBool b) a k code rest there = (header 1 0 (suc (length rest)), code, rest, there, tt)
-    called RunUnit a k code rest there = (header 1 0 (suc (length rest)), code, rest, there, tt)
-    called (RunWrap v c) a k code rest there = (header 1 0 (suc (length rest)), code, rest, there, tt)
-    called (RunInject v kept) a k code rest there = (header 1 0 (suc (length rest)), code, rest, there, tt)
+    called (RunTuple values) a k code rest there = (closure_header (suc (length rest)), code, rest, there, tt)
+    called (RunLoc cell is_vector) a k code rest there = (closure_header (suc (length rest)), code, rest, there, tt)
+    called (RunInt n) a k code rest there = (closure_header (suc (length rest)), code, rest, there, tt)
+    called (RunBool b) a k code rest there = (closure_header (suc (length rest)), code, rest, there, tt)
+    called RunUnit a k code rest there = (closure_header (suc (length rest)), code, rest, there, tt)
+    called (RunWrap v c) a k code rest there = (closure_header (suc (length rest)), code, rest, there, tt)
+    called (RunInject v kept) a k code rest there = (closure_header (suc (length rest)), code, rest, there, tt)

@@ -16,7 +16,6 @@ use Rattle.coercion_norm.specs.MergedMode.{merging, function_parts}
 use Rattle.cast_modes.specs.Modes.{TypeCast}
 use Rattle.coercion_norm.specs.Normal.{IsNormal}
 use Rattle.coercion_norm.specs.Objects.{Object, Fixed}
-use Rattle.coercion_norm.specs.ObjectsOfRows.{header}
 use Rattle.cast_modes.specs.RunValues.{RunInt, RunBool, RunUnit, RunFun, RunTuple, RunLoc, RunWrap, RunInject}
 use Rattle.cast_modes.specs.RunValues.{Pending, all_plain, in_row}
 use Rattle.cast_modes.specs.ValueSteps.{CastFrame, EnterFrame, Own, Entering, Return, On, on_some, onto}
@@ -31,13 +30,14 @@ use Rattle.rt_cast.specs.Carried.{AreCarried as RtCarried}
 use Rattle.rt_cast.specs.ComposeCodes.{cast as cast_number}
 use Rattle.rt_cast.specs.LightCasts.{cast_words_of, cast_price_of}
 use Rattle.rt_cast.specs.MergedValues.{Merged, Solid, Proxied, Outcome, Stuck, Gives, Blames, cast_value}
-use Rattle.rt_cast.specs.Procs.{Stand}
+use Rattle.rt_cast.specs.Procs.{Stand, how_many_cast_procs}
 use Rattle.rt_cast.specs.States.{Placed, IsReady, Grows, Fine, Heap, Filled as RtFilled, around, entered, heap_of}
 use Rattle.rt_refs.specs.Arguments.{handed}
 use Rattle.rt_refs.specs.CallCodes.{apply_proc}
 use Rattle.rt_refs.specs.CallLaws.{AtArgument, CastInTurn, Resumes, where_comes}
 use Rattle.rt_refs.specs.CallLaws.{CallsAt as RtCallsAt}
-use Rattle.rt_refs.specs.RefProcs.{Stand as RefsStand}
+use Rattle.rt_refs.specs.declared.numbers.RefProc.TheVariants.{Apply}
+use Rattle.rt_refs.specs.RefProcs.{Stand as RefsStand, ref_place}
 use Rattle.rt_refs.proofs.Public.{calls_are_made, answers_are_cast}
 use Rattle.lower.specs.declared.served.Served.{Served}
 use Rattle.lower.specs.CarriedValues.{CarriedIn, AreCarried}
@@ -45,6 +45,7 @@ use Rattle.lower.specs.Keeping.{FitsMeasures}
 use Rattle.lower.specs.MergedMeaning.{merged_meaning, merged_resumes, WrapsKind}
 use Rattle.lower.specs.SchemeLaws.{Here, StopsNow, Aim, After, Goes, Serves, Answers, Calls, CallsAt, CallsMade}
 use Rattle.lower.specs.SchemeLaws.{call_leaves, resumed_leaves}
+use Rattle.lower.proofs.heap.Objects.{closure_header}
 use Rattle.lower.proofs.heap.CarriedLater.{later, cells_later, cells_below}
 use Rattle.lower.proofs.merging.Arguments.{AllNormal, of_function, pendings, all_cast, onto_before, handed_is, AllLike}
 use Rattle.lower.proofs.merging.Arguments.{onto_like, all_back, CodeAt, all_like, called}
@@ -471,7 +472,8 @@ module _ (setting : Setting) (l : Layout) (procs : List Proc) (casts : List Type
         (z.1, z.2, z.3, z.4)
 
     parts : AllNormal (rows_of l.types) ds
-        × (code : ℕ) × (rest : List ℕ) × There l objects seen.0 (Fixed (header 1 0 (suc (length rest))) (code ∷ rest))
+        × (code : ℕ) × (rest : List ℕ)
+        × There l objects seen.0 (Fixed (closure_header (suc (length rest))) (code ∷ rest))
     parts = of_function l objects seen.0 cast ds e split seen.2.5.normal seen.3
 
     closure : (head address : ℕ) × (words : List ℕ) × There l objects seen.0 (Fixed head (address ∷ words))
@@ -576,14 +578,16 @@ module _ (setting : Setting) (l : Layout) (procs : List Proc) (casts : List Type
 -- Calls of functions through proxies are made by apply, and what they give is cast, wherever the procedures stand.
 pub merged_calls_made : (setting : Setting) (l : Layout) (procs : List Proc) (casts : List TypeCast) (m : Measures)
     (first : ℕ) (run_by : Served) → FitsMeasures l m → Placed setting l → TypesStand l → l.tallest ≤ 65534
-    → Stand setting.procs first → RefsStand setting.procs (27 + first) (2 + first) → run_by.apply ≡ 27 + first
+    → Stand setting.procs first → RefsStand setting.procs (how_many_cast_procs + first) (cast_number first)
+    → run_by.apply ≡ how_many_cast_procs + ref_place Apply + first
     → CallsMade merged_meaning setting l procs casts m run_by
 merged_calls_made setting l procs casts m first run_by measured placed types tallest ready refs number_is = record {
-  proc = apply_proc (2 + first);
+  proc = apply_proc (cast_number first);
   stands = record {
     there =
-        let z : 27 + first ≡ 0 + (27 + first) = omega arith in
-        ap (slice_get setting.procs) (number_is ∙ z) ∙ refs 0 (apply_proc (2 + first)) refl;
+        let z : how_many_cast_procs + ref_place Apply + first ≡ ref_place Apply + (how_many_cast_procs + first) =
+        omega arith in
+        ap (slice_get setting.procs) (number_is ∙ z) ∙ refs (ref_place Apply) (apply_proc (cast_number first)) refl;
     takes = refl;
     few = omega arith;
     room = omega arith;
@@ -594,7 +598,7 @@ merged_calls_made setting l procs casts m first run_by measured placed types tal
       (Calls merged_meaning setting l procs casts m s places objects base)
       (flat_turn procs (merging l.types casts) store s.world (Entering (RunWrap v cast) [] (all_plain vs)) base)
       (act_cost procs (merging l.types casts) (merged_prices l.types (merging l.types casts) m)) number
-      0 (entered s (apply_proc (2 + first)) words)) (handed_is w ws)
+      0 (entered s (apply_proc (cast_number first)) words)) (handed_is w ws)
       (calls_for setting l procs casts m measured first placed types tallest ready s number places objects store here
       base v cast w c vs ws cs few);
   goes_on = λ s number places objects store here base waiting cast results resumes v w c.

@@ -20,6 +20,7 @@ use Rattle.flat_ir.specs.Bodies.{Proc}
 use Rattle.flat_ir.specs.Counts.{decision_at}
 use Rattle.flat_ir.specs.FlatTally.{cast_cost, merged_prices}
 use Rattle.flat_ir.specs.Machine.{FlatValue, FlatFrame, FlatStore, flat_cast}
+use Rattle.rt_cast.specs.ComposeCodes.{cast as cast_number}
 use Rattle.rt_cast.specs.Carried.{IsLow, IsVery, Carries, ComesTo}
 use Rattle.rt_cast.specs.Costs.{cast_words, cast_price}
 use Rattle.rt_cast.specs.LightCasts.{is_light, light_words, light_price, cast_words_of, cast_price_of}
@@ -152,7 +153,7 @@ row_of types (Some cast) c e =
 -- The procedure for casts of the merged scheme makes them, wherever the procedures stand.
 pub merged_casts_made : (setting : Setting) (l : Layout) (procs : List Proc) (casts : List TypeCast) (m : Measures)
     (words : List ℕ) (first : ℕ) (run_by : Served) → FitsMeasures l m → Placed setting l → TypesStand l
-    → MergedCasts l casts words → Stand setting.procs first → run_by.cast ≡ 2 + first → run_by.cast_at ≡ words
+    → MergedCasts l casts words → Stand setting.procs first → run_by.cast ≡ cast_number first → run_by.cast_at ≡ words
     → CastsMade merged_meaning setting l procs casts m run_by
 merged_casts_made setting l procs casts m words first run_by measured placed types held ready number_is words_are =
     record {

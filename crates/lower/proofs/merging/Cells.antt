@@ -7,11 +7,12 @@ use Rattle.cast_modes.specs.Modes.{TypeCast}
 use Rattle.coercion_norm.specs.Held.{Layout, TypesStand}
 use Rattle.flat_ir.specs.Bodies.{Proc}
 use Rattle.rt_cast.specs.ComposeCodes.{cast}
-use Rattle.rt_cast.specs.Procs.{Stand}
+use Rattle.rt_cast.specs.Procs.{Stand, how_many_cast_procs}
 use Rattle.rt_cast.specs.States.{Placed}
 use Rattle.rt_refs.specs.CellCodes.{read_proc, write_proc}
 use Rattle.rt_refs.specs.FillCodes.{fill_proc}
-use Rattle.rt_refs.specs.RefProcs.{Stand as RefsStand, ref_procs}
+use Rattle.rt_refs.specs.declared.numbers.RefProc.TheVariants.{Read, Write, Fill, FillLoop}
+use Rattle.rt_refs.specs.RefProcs.{Stand as RefsStand, ref_procs, ref_place, ref_proc_number}
 use Rattle.lower.specs.declared.served.Served.{Served}
 use Rattle.lower.specs.Keeping.{FitsMeasures}
 use Rattle.lower.specs.MergedMeaning.{merged_meaning, MergedCasts}
@@ -30,23 +31,29 @@ merged_lets l casts m = record {
   traps = omega arith;
 }
 
--- Behind the procedures for casts, of which there are 27, stand those for calls, reads, writes and vectors.
+-- Behind the procedures for casts stand those for calls, reads, writes and vectors.
 module _ (setting : Setting) (l : Layout) (procs : List Proc) (casts : List TypeCast) (m : Measures)
     (measured : FitsMeasures l m) (words : List ℕ) (first : ℕ) (run : Served) (placed : Placed setting l)
     (types : TypesStand l) (held : MergedCasts l casts words)
-    (ready : Stand setting.procs first) (refs : RefsStand setting.procs (27 + first) (cast first))
-    (region : l.region ≡ setting.region) (narrow : setting.top < 2 ^ 34) (read_is : run.read ≡ 28 + first)
-    (write_is : run.write ≡ 29 + first) (fill_is : run.fill ≡ 30 + first) where
-  stands_at : (k n : ℕ) (p : LowProc) → slice_get (ref_procs (27 + first) (cast first)) k ≡ Some p → k + (27 +
-      first) ≡ n
+    (ready : Stand setting.procs first) (refs : RefsStand setting.procs (how_many_cast_procs + first) (cast first))
+    (region : l.region ≡ setting.region) (narrow : setting.top < 2 ^ 34)
+    (read_is : run.read ≡ how_many_cast_procs + ref_place Read + first)
+    (write_is : run.write ≡ how_many_cast_procs + ref_place Write + first)
+    (fill_is : run.fill ≡ how_many_cast_procs + ref_place Fill + first) where
+  stands_at : (k n : ℕ) (p : LowProc) → slice_get (ref_procs (how_many_cast_procs + first) (cast first)) k ≡ Some p
+      → k + (how_many_cast_procs + first) ≡ n
       → slice_get setting.procs n ≡ Some p
   stands_at k n p there e = ap (λ i. slice_get setting.procs i) (sym e) ∙ refs k p there
+
+  abbrev fill_loop_number : ℕ
+  fill_loop_number = ref_proc_number FillLoop (how_many_cast_procs + first)
 
   pub merged_cells_served : CellsServed merged_meaning setting l procs casts m run
   merged_cells_served = record {
     read = read_proc (cast first);
     read_stands = record {
-      there = ap (λ n. slice_get setting.procs n) read_is ∙ stands_at 1 (28 + first) _ refl (omega arith);
+      there = ap (λ n. slice_get setting.procs n) read_is ∙ stands_at (ref_place Read)
+          (how_many_cast_procs + ref_place Read + first) _ refl (omega arith);
       takes = refl;
       few = omega arith;
       room = omega arith;
@@ -57,7 +64,8 @@ module _ (setting : Setting) (l : Layout) (procs : List Proc) (casts : List Type
     measures = merged_measures setting l procs casts m measured first run placed types held.tallest ready;
     write = write_proc (cast first);
     write_stands = record {
-      there = ap (λ n. slice_get setting.procs n) write_is ∙ stands_at 2 (29 + first) _ refl (omega arith);
+      there = ap (λ n. slice_get setting.procs n) write_is ∙ stands_at (ref_place Write)
+          (how_many_cast_procs + ref_place Write + first) _ refl (omega arith);
       takes = refl;
       few = omega arith;
       room = omega arith;
@@ -65,14 +73,15 @@ module _ (setting : Setting) (l : Layout) (procs : List Proc) (casts : List Type
     };
     sets = merged_sets setting l procs casts m measured first run placed types held.tallest ready region;
     writes = merged_writes setting l procs casts m measured first run placed types held.tallest ready region;
-    fill = fill_proc (4 + (27 + first));
+    fill = fill_proc fill_loop_number;
     fill_stands = record {
-      there = ap (λ n. slice_get setting.procs n) fill_is ∙ stands_at 3 (30 + first) _ refl (omega arith);
+      there = ap (λ n. slice_get setting.procs n) fill_is ∙ stands_at (ref_place Fill)
+          (how_many_cast_procs + ref_place Fill + first) _ refl (omega arith);
       takes = refl;
       few = omega arith;
       room = omega arith;
       small = omega arith;
     };
     fills = vectors_are_served merged_meaning merged_laws setting l procs casts m (merged_lets l casts m) placed region
-        narrow (4 + (27 + first)) (stands_at 4 (4 + (27 + first)) _ refl refl) run;
+        narrow fill_loop_number (stands_at (ref_place FillLoop) fill_loop_number _ refl refl) run;
   }

@@ -14,7 +14,6 @@ use Rattle.cast_modes.specs.RunValues.{shape_of}
 use Rattle.cast_modes.specs.AnswerTypes.{run_head}
 use Rattle.coercion_norm.specs.Held.{Layout, There}
 use Rattle.coercion_norm.specs.Objects.{Object, Fixed, Cell}
-use Rattle.coercion_norm.specs.ObjectsOfRows.{header}
 use Rattle.flat_ir.specs.Bodies.{Proc}
 use Rattle.flat_ir.specs.Machine.{FlatValue, flat_arity}
 use Rattle.rt_cast.specs.Carried.{IsVery, Carries}
@@ -25,7 +24,7 @@ use Rattle.lower.specs.CarriedValues.{CarriedIn}
 use Rattle.lower.specs.MergedMeaning.{merged_meaning, WrapsKind}
 use Rattle.lower.specs.Storage.{Filled}
 use Rattle.lower.proofs.heap.CarriedLater.{later, function_there, carried_small}
-use Rattle.lower.proofs.heap.Objects.{none_some, same_some}
+use Rattle.lower.proofs.heap.Objects.{none_some, same_some, tuple_header, vector_header, box_header}
 use Rattle.lower.proofs.merging.Laws.{merged_laws, kind_later}
 use Rattle.lower.proofs.words.Arithmetic.{header_is}
 use Rattle.std.proofs.Common.{nat_eq, eqb-true, eq-eqb}
@@ -95,7 +94,7 @@ module _ (setting : Setting) (l : Layout) (procs : List Proc) (places : List ℕ
     solid (RunTuple values) w c k = record {
       is = refl;
       solid = record {
-        object = Fixed (header 4 0 (length c.0)) c.0;
+        object = Fixed (tuple_header (length c.0)) c.0;
         there = c.1;
         kind = TupleKind;
         count = length c.0;
@@ -106,7 +105,7 @@ module _ (setting : Setting) (l : Layout) (procs : List Proc) (places : List ℕ
     solid (RunLoc cell true) w c k = record {
       is = refl;
       solid = record {
-        object = Cell (header 6 0 c.0) c.0;
+        object = Cell (vector_header c.0) c.0;
         there = c.2;
         kind = Vector;
         count = c.0;
@@ -117,7 +116,7 @@ module _ (setting : Setting) (l : Layout) (procs : List Proc) (places : List ℕ
     solid (RunLoc cell false) w c k = record {
       is = refl;
       solid = record {
-        object = Cell (header 5 0 c.0) c.0;
+        object = Cell (box_header c.0) c.0;
         there = c.2;
         kind = Boxed;
         count = c.0;
@@ -364,7 +363,7 @@ module _ (setting : Setting) (l : Layout) (procs : List Proc) (places : List ℕ
         holds b w v true q =
             inr (
               stands.0,
-              subst (λ n. There l objects n (Fixed (header 4 0 (length stands.0)) stands.0))
+              subst (λ n. There l objects n (Fixed (tuple_header (length stands.0)) stands.0))
                   (sym (v.is ∙ (eqb-true b a q ∙ solid_same a like.0 like.1))) stands.1,
               ms.1,
             )

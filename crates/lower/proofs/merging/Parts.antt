@@ -29,6 +29,7 @@ use Rattle.coer_core.specs.MergedTally.{Opens}
 use Rattle.flat_ir.specs.Bodies.{Proc}
 use Rattle.flat_ir.specs.FlatTally.{Cost, act_cost, merged_prices, effort_cost}
 use Rattle.flat_ir.specs.Machine.{FlatValue, FlatFrame, FlatStore, FlatAfter, flat_arity, flat_entered, flat_proj}
+use Rattle.rt_cast.specs.ComposeCodes.{project as project_number}
 use Rattle.rt_cast.specs.Carried.{IsVery, Carries, ComesTo}
 use Rattle.rt_cast.specs.LightCasts.{cast_words_of, cast_price_of}
 use Rattle.rt_cast.specs.MergedValues.{Merged, Base, Solid, Proxied, InDyn, Outcome, Stuck, Gives, cast_value}
@@ -579,7 +580,8 @@ module _ (setting : Setting) (l : Layout) (procs : List Proc) (casts : List Type
 -- The procedure for parts of the merged scheme gives them, wherever the procedures stand.
 pub merged_parts_given : (setting : Setting) (l : Layout) (procs : List Proc) (casts : List TypeCast) (m : Measures)
     (first : ℕ) (run_by : Served) → FitsMeasures l m → Placed setting l → TypesStand l → l.tallest ≤ 65534
-    → Stand setting.procs first → run_by.project ≡ 3 + first → PartsGiven merged_meaning setting l procs casts m run_by
+    → Stand setting.procs first → run_by.project ≡ project_number first
+    → PartsGiven merged_meaning setting l procs casts m run_by
 merged_parts_given setting l procs casts m first run_by measured placed types tallest ready number_is = record {
   proc = project_proc first;
   stands = record {

@@ -9,6 +9,8 @@ use Rattle.run_laws.specs.Runs.{Verdict as EndsWith}
 use Rattle.machine_words.specs.Halts.{ending_of}
 use Rattle.core_calc.specs.Account.{Measures}
 use Rattle.low_ir.specs.Run.{Setting, LowState}
+use Rattle.object_layout.specs.declared.kinds.Kind.TheVariants.{Boxed, Vector}
+use Rattle.object_layout.specs.Kinds.{kind_number}
 use Rattle.coercion_norm.specs.Coercions.{Coercion}
 use Rattle.cast_modes.specs.Modes.{TypeCast}
 use Rattle.cast_modes.specs.RunValues.{RunLoc, in_row}
@@ -146,9 +148,10 @@ module _ (setting : Setting) (l : Layout) (procs : List Proc) (casts : List Type
     counts_same x y n k e = cc
 
     abbrev cell_kind : Bool → ℕ
-    cell_kind is_vector = if is_vector then 6 else 5
+    cell_kind is_vector = if is_vector then kind_number Vector else kind_number Boxed
 
-    one_of_two : (is_vector : Bool) → (cell_kind is_vector ≡ 5) ⊎ (cell_kind is_vector ≡ 6)
+    one_of_two : (is_vector : Bool)
+        → (cell_kind is_vector ≡ kind_number Boxed) ⊎ (cell_kind is_vector ≡ kind_number Vector)
     one_of_two true = inr refl
     one_of_two false = inl refl
 

@@ -21,7 +21,6 @@ use Rattle.cast_modes.specs.RunValues.{shape_of}
 use Rattle.cast_modes.specs.ValueSteps.{CastFrame, Return, decision_wraps, make}
 use Rattle.coercion_norm.specs.Held.{Layout, There, Held, rows_in, height_in}
 use Rattle.coercion_norm.specs.Objects.{Object, Fixed}
-use Rattle.coercion_norm.specs.ObjectsOfRows.{header}
 use Rattle.flat_ir.specs.Bodies.{Proc}
 use Rattle.coer_core.specs.MergedTally.{effort}
 use Rattle.flat_ir.specs.Counts.{decision_at, flat_turn_wraps}
@@ -44,7 +43,7 @@ use Rattle.lower.specs.Emit.{cast_word}
 use Rattle.lower.specs.MergedMeaning.{merged_meaning, MergedCasts}
 use Rattle.lower.specs.Keeping.{FitsMeasures}
 use Rattle.lower.specs.SchemeLaws.{Here, OnWay, After, Serves, GivesInPlace, CastsInPlace, Aim}
-use Rattle.lower.proofs.heap.Objects.{none_some, same_some, found_within}
+use Rattle.lower.proofs.heap.Objects.{none_some, same_some, found_within, dyn_header}
 use Rattle.lower.proofs.merging.Casts.{row_of}
 use Rattle.lower.proofs.words.Arithmetic.{tag_some}
 
@@ -274,11 +273,11 @@ module _ (setting : Setting) (l : Layout) (procs : List Proc) (casts : List Type
           )
       by None e d = absurd (let even = by_place d.1 in let z : ⊥ = omega (arith, even, found, some) in z)
         where
-          by_place : There l objects w (Fixed (header 3 0 2) (d.0 ∷ x ∷ [])) → w % 8 ≡ 0
+          by_place : There l objects w (Fixed dyn_header (d.0 ∷ x ∷ [])) → w % 8 ≡ 0
           by_place (inl p) =
-              (found_within l.statics l.first w (Fixed (header 3 0 2) (d.0 ∷ x ∷ [])) p).even placed.even_first
+              (found_within l.statics l.first w (Fixed dyn_header (d.0 ∷ x ∷ [])) p).even placed.even_first
           by_place (inr p) =
-              (found_within objects l.region w (Fixed (header 3 0 2) (d.0 ∷ x ∷ [])) p).even placed.even_region
+              (found_within objects l.region w (Fixed dyn_header (d.0 ∷ x ∷ [])) p).even placed.even_region
 
   -- out of Dyn: the Dyn is opened in one turn, and a cast that is none is made in the next
   opened : (u : FlatValue Coercion) (kept w to label : ℕ) (tag : Tag) → C (RunInject u kept) w

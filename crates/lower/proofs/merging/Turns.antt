@@ -30,7 +30,7 @@ use Rattle.lower.specs.MergedMeaning.{merged_meaning, WrapsKind}
 use Rattle.lower.specs.Keeping.{FitsMeasures}
 use Rattle.lower.specs.SchemeLaws.{StopsNow, After, Goes, Aim}
 use Rattle.lower.proofs.merging.Opened.{opened, no_int, no_bool, no_unit, no_dyn}
-use Rattle.lower.proofs.heap.Objects.{none_some, same_some}
+use Rattle.lower.proofs.heap.Objects.{none_some, same_some, closure_header}
 use Rattle.std.proofs.Common.{pos}
 use Rattle.coercion_norm.specs.Coercions.{Coercions, NoCoercions, CoercionThen, same_kind}
 use Rattle.coercion_norm.specs.Composition.{compose_below, follow_parts}
@@ -38,7 +38,6 @@ use Rattle.coercion_norm.specs.Heights.{coercion_height}
 use Rattle.coercion_norm.specs.Held.{There}
 use Rattle.cast_modes.specs.Modes.{Wrapped}
 use Rattle.coercion_norm.specs.Objects.{Fixed}
-use Rattle.coercion_norm.specs.ObjectsOfRows.{header}
 use Rattle.coercion_norm.specs.declared.middles.MiddleKind.{MiddleKind as Kind}
 use Rattle.coercion_norm.specs.declared.middles.MiddleKind.TheVariants.{Fun, Tup, Ref, Vec}
 use Rattle.coercion_norm.specs.MergedMode.{tuple_coercion, cell_coercion, part_at}
@@ -379,7 +378,8 @@ module _ (setting : Setting) (l : Layout) (procs : List Proc) (casts : List Type
           let e : leader ≡ leader + function_offset (length words) zero = omega arith in (
             setting.address first,
             words,
-            subst (λ n. There l objects n (Fixed (header 1 0 (suc (length words))) (setting.address first ∷ words))) e
+            subst (λ n. There l objects n (Fixed (closure_header (suc (length words))) (setting.address first ∷ words)))
+                e
                 g.leads,
           )
       member_there first leader count (suc i) words lt g = (setting.address (first + suc i), [], g.others i lt)

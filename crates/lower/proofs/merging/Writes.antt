@@ -53,7 +53,7 @@ use Rattle.lower.specs.SchemeLaws.{Here, StopsNow, After, Goes, Returns, Returns
 use Rattle.lower.specs.SchemeLaws.{OperatorDone, Aim, at_or_zero, operator_leaves}
 use Rattle.lower.proofs.heap.CarriedLater.{cells_later, cells_below, carried_small, all_later, function_there}
 use Rattle.lower.proofs.heap.Cells.{cells_stored, as_many_cells, set_length, words_stored, there_same}
-use Rattle.lower.proofs.heap.Objects.{none_some, words_same}
+use Rattle.lower.proofs.heap.Objects.{none_some, words_same, box_header, vector_header, tuple_header}
 use Rattle.lower.proofs.merging.Laws.{merged_laws}
 use Rattle.lower.proofs.merging.Like.{Like, solid_head, like_of, like_back, solid}
 use Rattle.lower.proofs.merging.Reads.{no_proxy, solid_same}
@@ -754,11 +754,11 @@ module _ (setting : Setting) (l : Layout) (procs : List Proc) (casts : List Type
     no_cell (Middle Fun cs) d e k head words it_is = none_some e
     no_cell (Middle Tup cs) d e k head words it_is = none_some e
     no_cell (Middle Ref cs) d e k head words it_is =
-        fixed_or_cell head (header 5 0 k.0) words k.0
-        (there_same l objects a (Fixed head words) (Cell (header 5 0 k.0) k.0) placed.before it_is k.1)
+        fixed_or_cell head (box_header k.0) words k.0
+        (there_same l objects a (Fixed head words) (Cell (box_header k.0) k.0) placed.before it_is k.1)
     no_cell (Middle Vec cs) d e k head words it_is =
-        fixed_or_cell head (header 6 0 k.0) words k.0
-        (there_same l objects a (Fixed head words) (Cell (header 6 0 k.0) k.0) placed.before it_is k.1)
+        fixed_or_cell head (vector_header k.0) words k.0
+        (there_same l objects a (Fixed head words) (Cell (vector_header k.0) k.0) placed.before it_is k.1)
 
     -- what is no cell
     by_no_cell : (box : FlatValue Coercion) → WrapsKind l objects wrapper a → (head : ℕ) (words : List ℕ)
@@ -787,7 +787,7 @@ module _ (setting : Setting) (l : Layout) (procs : List Proc) (casts : List Type
         (setting.address (code.first + code.place) ∷ z.0))) (sym c.3) z.1) (cell_coercion 1 wrapper) refl
     by_box (RunTuple values) k kind =
         let c = subst (C (RunTuple values)) (sym (solid_same a k.0 k.1)) k.2 in
-        by_no_cell (RunTuple values) kind (header 4 0 (length c.0)) c.0 c.1 (cell_coercion 1 wrapper) refl
+        by_no_cell (RunTuple values) kind (tuple_header (length c.0)) c.0 c.1 (cell_coercion 1 wrapper) refl
     by_box (RunInt x) k kind = absurd (no_base a IntHead k.0 k.1)
     by_box (RunBool x) k kind = absurd (no_base a BoolHead k.0 k.1)
     by_box RunUnit k kind = absurd (no_base a UnitHead k.0 k.1)

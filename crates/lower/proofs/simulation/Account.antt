@@ -22,8 +22,7 @@ use Rattle.machine_words.specs.Halts.{ending_of}
 use Rattle.machine_words.specs.Memory.{Memory}
 use Rattle.low_ir.specs.Prices.{entering_some, low_price, CostsAtMost}
 use Rattle.low_ir.specs.Procedures.{Proc as LowProc}
-use Rattle.low_ir.specs.Steps.{no_locals}
-use Rattle.low_ir.specs.Run.{Setting, LowState, LowShown, low_machine, low_start, bind, held_by}
+use Rattle.low_ir.specs.Run.{Setting, LowState, LowShown, low_machine, low_start, held_by}
 use Rattle.cast_modes.specs.Modes.{Mode}
 use Rattle.cast_modes.specs.AnswerTypes.{Told}
 use Rattle.cast_modes.specs.RunValues.{RunUnit}
@@ -43,14 +42,9 @@ use Rattle.flat_ir.specs.Machine.{first_world, flat_running, flat_state_at, answ
 use Rattle.flat_ir.specs.Machine.{entry_body, new_group}
 use Rattle.rt_cast.specs.Frames.{frame_room, waiting_room, stack_room}
 use Rattle.rt_cast.specs.Objects.{Holds}
-use Rattle.rt_cast.specs.States.{Heap}
-use Rattle.lower.specs.Emit.{ToCaller}
 use Rattle.lower.specs.Keeping.{KeepsFlat, PaysFlat}
-use Rattle.lower.specs.Lowered.{low_proc, entry_proc, shape_of, show_by}
-use Rattle.lower.specs.Relation.{entry_waiting}
-use Rattle.lower.specs.Storage.{Filled}
+use Rattle.lower.specs.Lowered.{low_proc, entry_proc, show_by}
 use Rattle.lower.proofs.simulation.ShownAnswers.{true_false}
-use Rattle.lower.proofs.simulation.Groups.{proc_is_closed}
 use Rattle.lower.proofs.simulation.Served.{OnServed, Waits, Next, Ended, next_of, wraps_of}
 use Rattle.lower.proofs.simulation.Services.{OnTurn, Landing}
 use Rattle.lower.proofs.simulation.Following.{turn}
@@ -61,9 +55,9 @@ use Rattle.lower.proofs.simulation.Way.{asks_of, budget_of, cost_of, due_most, d
 use Rattle.lower.proofs.simulation.Way.{over_price, prices_of, size_of, turn_aim, turn_of, zero_once_ended}
 use Rattle.lower.proofs.simulation.Way.{stays_in, turn_room}
 use Rattle.lower.proofs.simulation.SizedStates.{related_room, shown_room}
+use Rattle.lower.proofs.simulation.Starts.{entered_flat, entered_low, first_live}
 use Rattle.lower.proofs.words.Credits.{costs_first, costs_rest}
 use Rattle.lower.proofs.words.Operands.{and_true}
-use Rattle.lower.proofs.words.Steps.{at}
 use Rattle.lower.proofs.words.Stops.{AreSized, Sized, Grows, Stepped, stepped as step_grows, stops_cheaply, frame_most}
 use Rattle.lower.proofs.words.Stops.{numbered_words}
 
@@ -963,18 +957,6 @@ module _ (program : Program) (typed : TypesStand program.l) (most : ℕ)
     abbrev t0 : LowState
     t0 = low_start program.setting (entry_proc entry program.answer) memory (first_world input)
 
-    abbrev h0 : Heap
-    h0 = record { memory = memory; alloc = program.setting.region; words = 0 }
-
-    filled0 : Filled program.meaning program.setting program.l 0 [] h0
-    filled0 = record {
-      objects_stand = tt;
-      statics_stand = statics;
-      ends = let e = program.begins in omega (arith, e);
-      fits = fits;
-      keeps = program.laws.begins program.l;
-    }
-
     begun : (o : Option Proc) → slice_get program.procs entry ≡ o → takes_nothing o ≡ true
         → Reaches N (λ m. Alike K M N s0 m × L (N.shown m) (M.shown s0)) (SomeRel s0) 1 (unspent t0)
     begun None there e = true_false e
@@ -982,10 +964,8 @@ module _ (program : Program) (typed : TypesStand program.l) (most : ℕ)
         let x = and_true (p.params == 0) ((p.captured == 0) && (p.group == 0)) e in
         let y = and_true (p.captured == 0) (p.group == 0) x.1 in
         let none : p.params ≡ 0 = eqb-true p.params 0 x.0 in
-        let c = proc_is_closed program.procs program.closed entry p there in
         let low = program.stand entry p there in
-        let t1 = at (first_world input) h0 (entry_waiting program.answer ∷ []) (levels p.params p.body + 10) []
-        (bind 0 (0 ∷ []) no_locals) (low_proc program.run p).code in
+        let t1 = entered_low program memory statics fits input p in
         let fine = enters (suc p.params) (levels p.params p.body + 10) (omega (arith, none)) (omega arith) in
         by_step_at_cost (low_machine ending_of program.setting) (low_price program.setting.procs)
         (λ m. Alike K M N s0 m × L (N.shown m) (M.shown s0)) (SomeRel s0) 0 (unspent t0) (Go t1) (rw (low, fine) refl) (
@@ -998,8 +978,8 @@ module _ (program : Program) (typed : TypesStand program.l) (most : ℕ)
         (subst (λ o. SomeRel (flat_untallied (flat_state_at program.procs program.told
         (Own (Inside (entry_body o) (λ level. RunUnit) (new_group 0 []))) [] [] (first_world input)))
         (record { spent = 0 + low_price program.setting.procs t0; rest = t1 })) (sym there)
-        (let s1 : FlatTallied program.meaning.Cast = flat_untallied (flat_state_at program.procs program.told
-        (Own (Inside p.body (λ level. RunUnit) (new_group 0 []))) [] [] (first_world input)) in
+        (let s1 : FlatTallied program.meaning.Cast =
+        flat_untallied (entered_flat program memory statics fits input p) in
         let m1 : Metered LowState = record { spent = 0 + low_price program.setting.procs t0; rest = t1 } in
         let z = settles 0 s1 0 m1 (record {
           fine = none_out Exhausted;
@@ -1007,36 +987,7 @@ module _ (program : Program) (typed : TypesStand program.l) (most : ℕ)
           words = zero_least 0;
           sized = first_sized;
         })
-        (inl (record {
-          is = refl;
-          related = record {
-            places = [];
-            objects = [];
-            filled = filled0;
-            cells = tt;
-            world = refl;
-            goes = record {
-              s = shape_of p;
-              count = p.group;
-              depth = p.params;
-              next = ToCaller;
-              is = refl;
-              fits = record {
-                bound = c.bound;
-                params = le_refl p.params;
-                few = c.params;
-                room = le_refl (levels p.params p.body + 10);
-                knows = record {
-                  own = 0;
-                  own_is = refl;
-                  own_group = inl (eqb-true p.captured 0 y.0, eqb-true p.group 0 y.1);
-                  local = λ i lt. absurd (omega (arith, lt, none));
-                };
-              };
-              rest = inl (refl, refl, refl);
-            };
-          };
-        }))
+        (inl (first_live program memory statics fits input entry p there none y.0 y.1))
         (first_paid (low_price program.setting.procs t0)
         (due_of (low_proc program.run p).code []) (due_of (show_by program.answer) []) entering_most
         (due_most (low_proc program.run p).code []) (due_most (show_by program.answer) []))
@@ -1048,8 +999,7 @@ module _ (program : Program) (typed : TypesStand program.l) (most : ℕ)
         first_few = numbered_words most program.setting.procs entry (low_proc program.run p) each
             (program.stand entry p there)
 
-        first_sized : Sized most (at (first_world input) h0 (entry_waiting program.answer ∷ [])
-            (levels p.params p.body + 10) [] (bind 0 (0 ∷ []) no_locals) (low_proc program.run p).code)
+        first_sized : Sized most (entered_low program memory statics fits input p)
         first_sized = record { active = first_few; waiting = (let z = first_few in omega (arith, z), tt) }
 
         -- the procedure that the run begins with, and the program's first over it

@@ -14,7 +14,6 @@ use Rattle.low_ir.specs.Run.{Waiting as LowWaiting, LowState, word_of, words_of}
 use Rattle.cast_modes.specs.RunValues.{RunLoc, RunUnit, in_row}
 use Rattle.cast_modes.specs.ValueSteps.{On, Return}
 use Rattle.coercion_norm.specs.Held.{TypesStand, There}
-use Rattle.coercion_norm.specs.ObjectsOfRows.{header}
 use Rattle.coercion_norm.specs.Objects.{Object, Cell, bytes_of, bytes_of_all, object_at}
 use Rattle.flat_ir.specs.declared.code.Operand.{Operand}
 use Rattle.flat_ir.specs.declared.code.Operation.{Operation}
@@ -30,7 +29,7 @@ use Rattle.lower.specs.Numbering.{operand_word, test_word}
 use Rattle.lower.specs.Emit.{Then, found, found_all, fetch_all, of_kind}
 use Rattle.lower.specs.CarriedValues.{AreCarried, CellHeld, CellsHeld}
 use Rattle.lower.specs.Relation.{Fits}
-use Rattle.lower.proofs.heap.Objects.{Within, found_within, stored_words, bytes_below, holds_same}
+use Rattle.lower.proofs.heap.Objects.{Within, found_within, stored_words, bytes_below, holds_same, box_header}
 use Rattle.lower.proofs.heap.Filled.{WordThere, header_there, Stands, stands, filled_above, filled_more}
 use Rattle.lower.proofs.heap.Cells.{there_is, holds_stored, cell_of, as_many_cells, cells_stored, cells_append}
 use Rattle.lower.proofs.heap.Cells.{cells_end, cell_word_there}
@@ -124,7 +123,7 @@ module _ (program : Program) (typed : TypesStand program.l)
         On (Return (RunLoc (length f.store) false)) f.frames (f.store ++ (value locals group o ∷ []) ∷ []) f.world
 
     abbrev box : Object
-    box = Cell (header 5 0 1) 1
+    box = Cell (box_header 1) 1
 
     abbrev scene : Scene
     scene = scene_for program f (next_state program f made) h.words (room_over program size waiting)
@@ -167,7 +166,7 @@ module _ (program : Program) (typed : TypesStand program.l)
               (objects, filled),
               stays_in program size waiting,
             ))
-            (header 5 0 1 ∷ w ∷ [])
+            (box_header 1 ∷ w ∷ [])
             (both_words _ _ _ _ refl (both_words _ _ _ _ (one_word (word_of new (found s (operand_word s 0) o)) w are)
             refl)) (omega arith) less
             (λ rests locals code. (
@@ -181,41 +180,41 @@ module _ (program : Program) (typed : TypesStand program.l)
             )) (let z = fit.paid in omega (arith, z)) (λ room. stored room)
           where
             m : Memory
-            m = store_words (header 5 0 1 ∷ w ∷ []) h.alloc h.memory
+            m = store_words (box_header 1 ∷ w ∷ []) h.alloc h.memory
 
             h' : Heap
             h' = record {
-              memory = store_words (header 5 0 1 ∷ w ∷ []) h.alloc h.memory;
-              alloc = h.alloc + 8 * length (header 5 0 1 ∷ w ∷ []);
-              words = h.words + length (header 5 0 1 ∷ w ∷ []);
+              memory = store_words (box_header 1 ∷ w ∷ []) h.alloc h.memory;
+              alloc = h.alloc + 8 * length (box_header 1 ∷ w ∷ []);
+              words = h.words + length (box_header 1 ∷ w ∷ []);
             }
 
-            below : (i : ℕ) → i < h.alloc → store_words (header 5 0 1 ∷ w ∷ []) h.alloc h.memory i ≡ h.memory i
-            below i lt = bytes_below (header 5 0 1 ∷ w ∷ []) h.alloc h.memory i lt
+            below : (i : ℕ) → i < h.alloc → store_words (box_header 1 ∷ w ∷ []) h.alloc h.memory i ≡ h.memory i
+            below i lt = bytes_below (box_header 1 ∷ w ∷ []) h.alloc h.memory i lt
 
             small : w < 2 ^ 64
             small = carried_small program.l program.setting.address program.procs program.meaning program.laws places
                 objects program.setting program.placed h filled (value locals group o) w carried.0
 
-            held : HoldsWords (store_words (header 5 0 1 ∷ w ∷ []) h.alloc h.memory) h.alloc (header 5 0 1 ∷ w ∷ [])
-            held = stored_words (header 5 0 1 ∷ w ∷ []) h.alloc h.memory (omega arith, (small, tt))
+            held : HoldsWords (store_words (box_header 1 ∷ w ∷ []) h.alloc h.memory) h.alloc (box_header 1 ∷ w ∷ [])
+            held = stored_words (box_header 1 ∷ w ∷ []) h.alloc h.memory (omega arith, (small, tt))
 
             kept : (i x : ℕ) → slice_get places i ≡ Some x → slice_get (places ++ h.alloc ∷ []) i ≡ Some x
             kept = kept_in_front places (h.alloc ∷ [])
 
-            stored : h.alloc + 8 * length (header 5 0 1 ∷ w ∷ []) ≤ program.setting.top
+            stored : h.alloc + 8 * length (box_header 1 ∷ w ∷ []) ≤ program.setting.top
                 → Comes program.setting (Way program f (next_state program f made) h.words
                 (room_over program size waiting))
                 (turn_goal program f (next_state program f made) (start_of MakeBox (o ∷ [])))
                 (at f.world (record {
-                  memory = store_words (header 5 0 1 ∷ w ∷ []) h.alloc h.memory;
-                  alloc = h.alloc + 8 * length (header 5 0 1 ∷ w ∷ []);
-                  words = h.words + length (header 5 0 1 ∷ w ∷ []);
+                  memory = store_words (box_header 1 ∷ w ∷ []) h.alloc h.memory;
+                  alloc = h.alloc + 8 * length (box_header 1 ∷ w ∷ []);
+                  words = h.words + length (box_header 1 ∷ w ∷ []);
                 }) waiting size rests (set_local d h.alloc new) k)
             stored top =
                 let filled' = filled_more program.meaning program.setting program.l program.placed objects (box ∷ []) h
                 m
-                (h.alloc + 8 * length (header 5 0 1 ∷ w ∷ [])) (h.words + length (header 5 0 1 ∷ w ∷ [])) filled below
+                (h.alloc + 8 * length (box_header 1 ∷ w ∷ [])) (h.words + length (box_header 1 ∷ w ∷ [])) filled below
                 (held.0, tt) (program.laws.keeps_more program.l objects program.number box (record {
                   kind = Boxed;
                   count = 1;
@@ -238,7 +237,7 @@ module _ (program : Program) (typed : TypesStand program.l)
                 (places ++ h.alloc ∷ []) (objects ++ box ∷ []) 0 m places f.store h.alloc (value locals group o ∷ [])
                 old
                 ends (record {
-                  head = header 5 0 1;
+                  head = box_header 1;
                   words = w ∷ [];
                   is = stands_there;
                   held = held.1;
@@ -278,7 +277,7 @@ module _ (program : Program) (typed : TypesStand program.l)
 
   -- the box of a cell stands in the region
   module _ (cell w n : ℕ) (values : List (FlatValue program.meaning.Cast)) (at_place : slice_get places cell ≡ Some w)
-      (there : There program.l objects w (Cell (header 5 0 n) n)) (one_word_long : n ≡ 1)
+      (there : There program.l objects w (Cell (box_header n) n)) (one_word_long : n ≡ 1)
       (in_store : slice_get f.store cell ≡ Some values) where
     held_cell : CellHeld program.l program.setting.address program.procs program.meaning places objects h.memory w
         values
@@ -286,12 +285,12 @@ module _ (program : Program) (typed : TypesStand program.l)
         cell_of program.l program.setting.address program.procs program.meaning places objects 0 h.memory places f.store
         cells cell w values at_place in_store
 
-    same_object : Cell (header 5 0 n) n ≡ Cell held_cell.head (length held_cell.words)
-    same_object = there_is program.l objects w (Cell (header 5 0 n) n) (Cell held_cell.head (length held_cell.words))
+    same_object : Cell (box_header n) n ≡ Cell held_cell.head (length held_cell.words)
+    same_object = there_is program.l objects w (Cell (box_header n) n) (Cell held_cell.head (length held_cell.words))
         program.placed.before there held_cell.is
 
     one_long : length held_cell.words ≡ 1
-    one_long = sym (counts (header 5 0 n) held_cell.head n (length held_cell.words) same_object) ∙ one_word_long
+    one_long = sym (counts (box_header n) held_cell.head n (length held_cell.words) same_object) ∙ one_word_long
       where
         counts : (a b c e : ℕ) → Cell a c ≡ Cell b e → c ≡ e
         counts a b c e q = cc
@@ -299,7 +298,7 @@ module _ (program : Program) (typed : TypesStand program.l)
     kind_there : WordThere program.meaning program.setting program.l program.placed h.memory w (5 + 4294967296 * n)
     kind_there = subst (WordThere program.meaning program.setting program.l program.placed h.memory w) (header_is 5 n)
         (header_there program.meaning program.setting program.l program.placed objects h filled w
-        (Cell (header 5 0 n) n) there)
+        (Cell (box_header n) n) there)
 
   -- ---- a box is read
 
@@ -357,11 +356,11 @@ module _ (program : Program) (typed : TypesStand program.l)
         by_words (w ∷ []) new carried are changed =
             by_cell c.0 c.1 c.2 c.3
           where
-            c : (n : ℕ) × (slice_get places cell ≡ Some w) × There program.l objects w (Cell (header 5 0 n) n)
+            c : (n : ℕ) × (slice_get places cell ≡ Some w) × There program.l objects w (Cell (box_header n) n)
                 × (false ≡ false → n ≡ 1)
             c = subst (λ u. CarriedHere program places objects u w) is carried.0
 
-            by_cell : (n : ℕ) → slice_get places cell ≡ Some w → There program.l objects w (Cell (header 5 0 n) n)
+            by_cell : (n : ℕ) → slice_get places cell ≡ Some w → There program.l objects w (Cell (box_header n) n)
                 → (false ≡ false → n ≡ 1)
                 → Comes program.setting (Way program f (next_state program f read_after) h.words
                 (room_over program size waiting))
@@ -423,9 +422,6 @@ module _ (program : Program) (typed : TypesStand program.l)
     other' = Call (word_for program places objects s next) program.run.write
         (Number 0 ∷ found s (operand_word s 0) b ∷ Number 0 ∷ found s (operand_word s 1) o ∷ []) Done
 
-    abbrev v' : FlatValue program.meaning.Cast
-    v' = value locals group o
-
     abbrev pub written_after : FlatAfter program.meaning.Cast
     written_after =
         On (Return RunUnit) f.frames (slice_set f.store cell (value locals group o ∷ [])) f.world
@@ -480,7 +476,7 @@ module _ (program : Program) (typed : TypesStand program.l)
         by_words (w ∷ y ∷ z ∷ ws) new carried are changed = absurd carried.1.1
         by_words (w ∷ y ∷ []) new carried are changed = by_cell c.0 c.1 c.2 c.3
           where
-            c : (n : ℕ) × (slice_get places cell ≡ Some w) × There program.l objects w (Cell (header 5 0 n) n)
+            c : (n : ℕ) × (slice_get places cell ≡ Some w) × There program.l objects w (Cell (box_header n) n)
                 × (false ≡ false → n ≡ 1)
             c = subst (λ u. CarriedHere program places objects u w) is carried.0
 
@@ -488,7 +484,7 @@ module _ (program : Program) (typed : TypesStand program.l)
             small = carried_small program.l program.setting.address program.procs program.meaning program.laws places
                 objects program.setting program.placed h filled (value locals group o) y carried.1.0
 
-            by_cell : (n : ℕ) → slice_get places cell ≡ Some w → There program.l objects w (Cell (header 5 0 n) n)
+            by_cell : (n : ℕ) → slice_get places cell ≡ Some w → There program.l objects w (Cell (box_header n) n)
                 → (false ≡ false → n ≡ 1)
                 → Comes program.setting (Way program f (next_state program f written_after) h.words
                 (room_over program size waiting))

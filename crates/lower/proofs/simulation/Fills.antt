@@ -19,7 +19,6 @@ use Rattle.cast_modes.specs.RunValues.{RunInt, RunBool, RunUnit, RunFun, RunTupl
 use Rattle.cast_modes.specs.RunValues.{in_row}
 use Rattle.cast_modes.specs.ValueSteps.{Return, On, TrapOf}
 use Rattle.coercion_norm.specs.Objects.{Object, Fixed, Cell, bytes_of_all, object_at}
-use Rattle.coercion_norm.specs.ObjectsOfRows.{header}
 use Rattle.coercion_norm.specs.Held.{Layout}
 use Rattle.coercion_norm.proofs.Public.{last_stands}
 use Rattle.flat_ir.specs.Bodies.{Proc}
@@ -36,6 +35,7 @@ use Rattle.lower.specs.CarriedValues.{AreCarried}
 use Rattle.lower.specs.SchemeLaws.{Here, OnWay, StopsNow, Returns, ReturnsAt, Answers, OperatorDone}
 use Rattle.lower.specs.SchemeLaws.{at_or_zero, operator_leaves}
 use Rattle.lower.specs.Storage.{Filled}
+use Rattle.lower.proofs.heap.Objects.{vector_header}
 use Rattle.lower.proofs.heap.CarriedLater.{grown, cells_grown, cells_below, carried_small}
 use Rattle.lower.proofs.heap.Cells.{as_many_cells, cells_append, cells_end}
 use Rattle.lower.proofs.heap.Filled.{filled_above, filled_more}
@@ -76,13 +76,13 @@ module _ (meaning : Meaning) (laws : MeaningLaws meaning) (setting : Setting) (l
     module _ (n w : ℕ) (v : FlatValue meaning.Cast)
         (cv : AreCarried l setting.address procs meaning places objects (in_row (v ∷ [])) (w ∷ []))
         (memory : Memory) (same : (j : ℕ) → j < s.alloc → memory j ≡ s.memory j)
-        (head : HasWord memory s.alloc (header 6 0 n)) (held : HoldsWords memory (s.alloc + 8) (replicate n w))
+        (head : HasWord memory s.alloc (vector_header n)) (held : HoldsWords memory (s.alloc + 8) (replicate n w))
         (room : s.alloc + 8 * (n + 1) ≤ setting.top) (t : LowState)
         (heap : heap_of t ≡ record { memory = memory; alloc = s.alloc + 8 * (n + 1); words = s.words + (n + 1) })
         (code : t.active.code ≡ ReturnCode (Word 3)) (local : t.active.locals 3 ≡ Some s.alloc)
         (waits : t.waiting ≡ s.waiting) (world : t.world ≡ s.world) where
       abbrev vector : Object
-      vector = Cell (header 6 0 n) n
+      vector = Cell (vector_header n) n
 
       abbrev bigger : List ℕ
       bigger = places ++ s.alloc ∷ []
@@ -99,15 +99,16 @@ module _ (meaning : Meaning) (laws : MeaningLaws meaning) (setting : Setting) (l
       long : length (replicate n w) ≡ n
       long = length_of_same n w
 
-      there_now : object_at (objects ++ Cell (header 6 0 n) n ∷ []) l.region s.alloc ≡ Some (Cell (header 6 0 n) n)
-      there_now = last_stands objects [] (Cell (header 6 0 n) n) l.region s.alloc here.filled.ends
+      there_now : object_at (objects ++ Cell (vector_header n) n ∷ []) l.region s.alloc
+          ≡ Some (Cell (vector_header n) n)
+      there_now = last_stands objects [] (Cell (vector_header n) n) l.region s.alloc here.filled.ends
 
-      full : Filled meaning setting l number (objects ++ Cell (header 6 0 n) n ∷ [])
+      full : Filled meaning setting l number (objects ++ Cell (vector_header n) n ∷ [])
           (record { memory = memory; alloc = s.alloc + 8 * (n + 1); words = s.words + (n + 1) })
       full =
-          filled_more meaning setting l placed objects (Cell (header 6 0 n) n ∷ []) (heap_of s) memory
+          filled_more meaning setting l placed objects (Cell (vector_header n) n ∷ []) (heap_of s) memory
           (s.alloc + 8 * (n + 1)) (s.words + (n + 1)) here.filled same (head, tt)
-          (laws.keeps_more l objects number (Cell (header 6 0 n) n) (record {
+          (laws.keeps_more l objects number (Cell (vector_header n) n) (record {
             kind = Vector;
             count = n;
             head = refl;
@@ -131,9 +132,9 @@ module _ (meaning : Meaning) (laws : MeaningLaws meaning) (setting : Setting) (l
             (cells_end l setting.address procs meaning places objects setting placed (heap_of s) here.filled 0 places
             store here.cells (omega arith))
             (record {
-              head = header 6 0 n;
+              head = vector_header n;
               words = replicate n w;
-              is = there_now ∙ ap (λ k. Some (Cell (header 6 0 n) k)) (sym long);
+              is = there_now ∙ ap (λ k. Some (Cell (vector_header n) k)) (sym long);
               held = held;
               carried = all_carried n;
             });

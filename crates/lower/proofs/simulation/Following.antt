@@ -1,5 +1,5 @@
 -- The run over words follows that of the numbered procedures, and the scheme's test holds at each of its moments.
-use Rattle.std.proofs.Common.{◌≡◌, ◌⊎◌, ◌<◌, ◌∙◌, zero, inl, inr, ℕ, suc, ◌+◌, ◌≤◌, List, [], ◌∷◌, Some}
+use Rattle.std.proofs.Common.{◌≡◌, ◌⊎◌, ◌<◌, ◌∙◌, zero, inl, inr, ℕ, suc, ◌+◌, ◌≤◌, List, [], Some}
 use Rattle.std.proofs.Common.{None}
 use Rattle.std.proofs.Common.{true, refl, sym, ap, subst, arith, Option, slice_get}
 use Rattle.std.specs.Prelude.{◌==◌, ◌&&◌}
@@ -14,38 +14,35 @@ use Rattle.run_laws.proofs.Public.{machine_never_wrong, reduction_and_machine_fo
 use Rattle.machine_words.specs.Halts.{ending_of}
 use Rattle.machine_words.specs.Memory.{Memory}
 use Rattle.low_ir.specs.Procedures.{Code}
-use Rattle.low_ir.specs.Steps.{no_locals}
-use Rattle.low_ir.specs.Run.{LowState, LowShown, low_machine, low_start, bind}
+use Rattle.low_ir.specs.Run.{LowState, LowShown, low_machine, low_start}
 use Rattle.cast_modes.specs.ValueSteps.{Own, Return, Entering}
 use Rattle.flat_ir.specs.Bodies.{Proc}
 use Rattle.flat_ir.specs.Closed.{takes_nothing}
 use Rattle.flat_ir.specs.Counts.{flat_counting, flat_run_in}
 use Rattle.flat_ir.specs.Machine.{FlatFocus, FlatFrame, FlatStore, FlatState, Inside, flat_start, first_world}
 use Rattle.flat_ir.specs.Machine.{flat_turn, flat_state_at, entry_body, new_group}
-use Rattle.std.proofs.Common.{eqb-true, le_refl}
+use Rattle.std.proofs.Common.{eqb-true}
 use Rattle.std.specs.Prelude.{nat_le}
 use Rattle.low_ir.specs.Steps.{Locals}
 use Rattle.low_ir.specs.Run.{Waiting as LowWaiting}
 use Rattle.cast_modes.specs.RunValues.{RunUnit}
 use Rattle.cast_modes.specs.Counting.{Counted, Counts, uncounted}
-use Rattle.lower.specs.Emit.{ToCaller}
 use Rattle.lower.specs.CarriedValues.{CellsHeld}
-use Rattle.lower.specs.Relation.{entry_waiting}
 use Rattle.lower.proofs.simulation.ShownAnswers.{true_false}
-use Rattle.lower.proofs.simulation.Groups.{proc_is_closed}
 use Rattle.coercion_norm.specs.Held.{TypesStand}
 use Rattle.coercion_norm.specs.Objects.{Object}
 use Rattle.rt_cast.specs.Objects.{Holds}
 use Rattle.rt_cast.specs.Frames.{stack_room}
 use Rattle.rt_cast.specs.States.{Heap, heap_of}
 use Rattle.lower.specs.Storage.{Filled}
-use Rattle.lower.specs.Lowered.{low_proc, entry_proc, shape_of}
+use Rattle.lower.specs.Lowered.{entry_proc}
 use Rattle.lower.specs.Relation.{Goes, Related}
 use Rattle.lower.specs.Storage.{Passes}
 use Rattle.run_laws.proofs.Public.{DoesAt, IndexedSimulation, follows_by_index}
 use Rattle.lower.proofs.simulation.Served.{FillingAt, OnServed, Waits, Next, next_of}
 use Rattle.flat_ir.specs.Counts.{flat_turn_wraps}
 use Rattle.flat_ir.specs.Levels.{levels}
+use Rattle.lower.proofs.simulation.Starts.{entered_flat, entered_low, first_filled, first_live}
 use Rattle.lower.proofs.words.Steps.{at}
 use Rattle.lower.proofs.words.Operands.{and_true}
 use Rattle.lower.proofs.simulation.Way.{mode_of}
@@ -358,18 +355,6 @@ module _ (program : Program) (typed : TypesStand program.l) where
     abbrev t0 : LowState
     t0 = low_start program.setting (entry_proc entry program.answer) memory (first_world input)
 
-    abbrev h0 : Heap
-    h0 = record { memory = memory; alloc = program.setting.region; words = 0 }
-
-    filled0 : Filled program.meaning program.setting program.l 0 [] h0
-    filled0 = record {
-      objects_stand = tt;
-      statics_stand = statics;
-      ends = let e = program.begins in omega (arith, e);
-      fits = fits;
-      keeps = program.laws.begins program.l;
-    }
-
     begun : (o : Option Proc) → slice_get program.procs entry ≡ o → takes_nothing o ≡ true
         → Reaches N (λ t. Alike K M N s0 t × Any (N.shown t) (M.shown s0)) (SomeRel s0) 1 t0
     begun None there e = true_false e
@@ -377,46 +362,15 @@ module _ (program : Program) (typed : TypesStand program.l) where
         let x = and_true (p.params == 0) ((p.captured == 0) && (p.group == 0)) e in
         let y = and_true (p.captured == 0) (p.group == 0) x.1 in
         let none : p.params ≡ 0 = eqb-true p.params 0 x.0 in
-        let c = proc_is_closed program.procs program.closed entry p there in
         let low = program.stand entry p there in
-        let t1 = at (first_world input) h0 (entry_waiting program.answer ∷ []) (levels p.params p.body + 10) []
-        (bind 0 (0 ∷ []) no_locals) (low_proc program.run p).code in
+        let t1 = entered_low program memory statics fits input p in
         let fine = enters (suc p.params) (levels p.params p.body + 10) (omega (arith, none)) (omega arith) in
         by_step N (λ t. Alike K M N s0 t × Any (N.shown t) (M.shown s0)) (SomeRel s0) 0 t0 (Go t1) (rw (low, fine) refl)
-        (seen_alike s0 t0 refl ([], filled0), tt)
+        (seen_alike s0 t0 refl ([], first_filled program memory statics fits input), tt)
         (subst (λ o. SomeRel (uncounted (flat_state_at program.procs program.told
         (Own (Inside (entry_body o) (λ level. RunUnit) (new_group 0 []))) [] [] (first_world input))) t1) (sym there)
-        (settled_in (uncounted (flat_state_at program.procs program.told
-        (Own (Inside p.body (λ level. RunUnit) (new_group 0 []))) [] [] (first_world input))) 0 t1 (inl (record {
-          is = refl;
-          related = record {
-            places = [];
-            objects = [];
-            filled = filled0;
-            cells = tt;
-            world = refl;
-            goes = record {
-              s = shape_of p;
-              count = p.group;
-              depth = p.params;
-              next = ToCaller;
-              is = refl;
-              fits = record {
-                bound = c.bound;
-                params = le_refl p.params;
-                few = c.params;
-                room = le_refl (levels p.params p.body + 10);
-                knows = record {
-                  own = 0;
-                  own_is = refl;
-                  own_group = inl (eqb-true p.captured 0 y.0, eqb-true p.group 0 y.1);
-                  local = λ i lt. absurd (omega (arith, lt, none));
-                };
-              };
-              rest = inl (refl, refl, refl);
-            };
-          };
-        }))))
+        (settled_in (uncounted (entered_flat program memory statics fits input p)) 0 t1
+        (inl (first_live program memory statics fits input entry p there none y.0 y.1))))
       where
         enters : (n k : ℕ) → n ≡ 1 → 10 ≤ k → ((1 == n) && (nat_le n 8 && nat_le n k)) ≡ true
         enters n k a b = grind (arith, a, b)

@@ -39,6 +39,7 @@ use Rattle.coercion_norm.specs.ObjectsOfRows.{header, type_kind}
 use Rattle.lower.specs.Lowered.{show_kept, open_object, open_small}
 use Rattle.rt_cast.specs.DynWords.{small_dyn, IsDynBy}
 use Rattle.rt_cast.proofs.Public.{SmallIs, small_is, tag_read, no_tag, untagged, eq_false}
+use Rattle.lower.proofs.heap.Objects.{dyn_header}
 use Rattle.lower.proofs.heap.Filled.{stands, word_there, header_there}
 use Rattle.lower.proofs.words.Steps.{Comes, Calm, Goal, here, loads, computes, if_true, if_false, falls_through}
 use Rattle.lower.proofs.words.Steps.{left_of}
@@ -326,15 +327,15 @@ module _ (program : Program) (typed : TypesStand program.l) (places : List ℕ) 
 
       InObject : Type 0
       InObject =
-          (wt : ℕ) × There program.l objects w (Fixed (header 3 0 2) (wt ∷ c.0 ∷ []))
+          (wt : ℕ) × There program.l objects w (Fixed dyn_header (wt ∷ c.0 ∷ []))
           × HoldsType program.l objects wt kept
 
       from_object : (d : InObject) → Shows (shown u) (show_kept ∷ []) (tested 0) open_object
       from_object d =
           let type_there = word_there program.meaning program.setting program.l program.placed objects h filled w
-          (header 3 0 2) (d.0 ∷ c.0 ∷ []) d.1 1 d.0 (w + 8) refl (omega arith) in
+          dyn_header (d.0 ∷ c.0 ∷ []) d.1 1 d.0 (w + 8) refl (omega arith) in
           let inner_there = word_there program.meaning program.setting program.l program.placed objects h filled w
-          (header 3 0 2) (d.0 ∷ c.0 ∷ []) d.1 2 c.0 (w + 16) refl (omega arith) in
+          dyn_header (d.0 ∷ c.0 ∷ []) d.1 2 c.0 (w + 16) refl (omega arith) in
           let head_there = header_there program.meaning program.setting program.l program.placed objects h filled d.0
           (type_object program.l kept)
           (subst (λ n. There program.l objects n (type_object program.l kept)) (sym d.2.is)

@@ -19,6 +19,8 @@ use Rattle.flat_ir.specs.declared.code.Operand.TheVariants.{Local, Captured, Sib
 use Rattle.flat_ir.specs.declared.code.Operand.TheVariants.{Unit as UnitCase}
 use Rattle.flat_ir.specs.declared.code.Operation.{Operation}
 use Rattle.flat_ir.specs.declared.code.Operation.TheVariants.{Move, Prim, Cast, Tuple, Proj, ProjDyn}
+use Rattle.object_layout.specs.declared.kinds.Kind.TheVariants.{Boxed, Tuple as TupleKind, Closure}
+use Rattle.object_layout.specs.Kinds.{kind_number}
 use Rattle.lower.specs.declared.numbering.Shape.{Shape}
 use Rattle.lower.specs.declared.served.CastWay.{CastWay}
 use Rattle.lower.specs.declared.served.CastWay.TheVariants.{Called, IntoDyn, OutOfDyn}
@@ -228,7 +230,7 @@ module _ (procs : List Proc) (count : ℕ) where
           let o = slot_near (operand_word s 0) (computing_near 0 (omega arith)) in grind (arith, z, t, o)
       operator_price MakeBox a b c k =
           let x = source_most a in
-          let n = number_most (header 5 1) in let z = slot_most d in omega (arith, x, z, n)
+          let n = number_most (header (kind_number Boxed) 1) in let z = slot_most d in omega (arith, x, z, n)
       operator_price Unbox a b c k =
           let one : Code = Load d a 8 Done in
           let other : Code = Rattle.low_ir.specs.Procedures.Call d run.read (Number 0 ∷ a ∷ Number 0 ∷ []) Done in
@@ -292,7 +294,7 @@ module _ (procs : List Proc) (count : ℕ) where
       part_price a (pos i) k = by (nat_lt i 8)
         where
           by : (b : Bool) → code_price procs count (if b
-              then of_kind s a 4 (Load d a (8 + 8 * i) Done)
+              then of_kind s a (kind_number TupleKind) (Load d a (8 + 8 * i) Done)
               (Rattle.low_ir.specs.Procedures.Call d run.project (a ∷ Number i ∷ Number 1 ∷ Number 0 ∷ []) Done) k
               else Rattle.low_ir.specs.Procedures.Call d run.project
               (a ∷ Number (cast_unsigned w64 (pos i)) ∷ Number 1 ∷ Number 0 ∷ []) k)
@@ -341,15 +343,6 @@ module _ (procs : List Proc) (count : ℕ) where
           (Rattle.low_ir.specs.Procedures.Call d run.project args k) in
           let y = call_price run.project args k in omega (arith, x, y)
 
-      pub proj_dyn_price : (o : Operand) (i : ℤ) (label : Rattle.grift_base.specs.declared.places.LabelId.LabelId)
-          (k : Code) → code_price procs count (perform run s d (ProjDyn o i label) k) ≤ 194 + code_price procs count k
-      proj_dyn_price o i label k =
-          let t = operand_word s 0 in
-          let args = found s t o ∷ Number (cast_unsigned w64 i) ∷ Number 0 ∷ Number label.0 ∷ [] in
-          let x = fetch_price t (computing_near 0 (omega arith)) o
-          (Rattle.low_ir.specs.Procedures.Call d run.project args k) in
-          let y = call_price run.project args k in omega (arith, x, y)
-
       pub prim_price : (op : PrimOp) (os : List Operand) → length os ≤ 8 → (k : Code)
           → code_price procs count (perform run s d (Prim op os) k) ≤ 150 + 37 * length os + code_price procs count k
       prim_price op os le k =
@@ -363,8 +356,8 @@ module _ (procs : List Proc) (count : ℕ) where
       tuple_price os le k =
           let f = found_all s 0 os in
           let x = fetch_all_price os 0 (omega (arith, le))
-          (Rattle.low_ir.specs.Procedures.Build d (Number (header 4 (length os)) ∷ f) k) in
-          let y = number_most (header 4 (length os)) in
+          (Rattle.low_ir.specs.Procedures.Build d (Number (header (kind_number TupleKind) (length os)) ∷ f) k) in
+          let y = number_most (header (kind_number TupleKind) (length os)) in
           let z = slot_most d in omega (arith, x, y, z, le)
 
       pub move_price : (o : Operand) (k : Code)
@@ -394,13 +387,14 @@ module _ (procs : List Proc) (count : ℕ) where
     others_price d captured first i (suc n) k =
         let next = store_others s d captured first (suc i) n k in
         let second = store_far (test_word s) d (Word (operand_word s 0)) (function_offset captured i + 8) next in
-        let x = store_far_price (test_word s) d test_near (Number (header 1 1)) (function_offset captured i)
+        let x = store_far_price (test_word s) d test_near (Number (header (kind_number Closure) 1))
+        (function_offset captured i)
         (Rattle.low_ir.specs.Procedures.CodeOf (operand_word s 0) (first + i) second) in
         let y = store_far_price (test_word s) d test_near (Word (operand_word s 0))
         (function_offset captured i + 8) next
         in
         let o = slot_near (operand_word s 0) (computing_near 0 (omega arith)) in
-        let h = number_most (header 1 1) in
+        let h = number_most (header (kind_number Closure) 1) in
         let z = others_price d captured first (suc i) n k in omega (arith, x, y, z, o, h)
 
     pub names_price : (slot captured i n : ℕ) (k : Code)
@@ -427,7 +421,7 @@ module _ (procs : List Proc) (count : ℕ) where
         let c = captured_price d captured 0 rest in
         let o = slot_near (operand_word s 0) (computing_near 0 (omega arith)) in
         let y = slot_most d in
-        let h = number_most (header 1 (suc n)) in
+        let h = number_most (header (kind_number Closure) (suc n)) in
         let w = number_most (group_words n others) in omega (arith, a, b, c, o, y, h, w)
 
     -- ---- calls
@@ -592,7 +586,7 @@ module _ (run : Served) (s : Shape) where
   part_begins d a (pos i) k = by (nat_lt i 8)
     where
       by : (b : Bool) → Begins (if b
-          then of_kind s a 4 (Load d a (8 + 8 * i) Done)
+          then of_kind s a (kind_number TupleKind) (Load d a (8 + 8 * i) Done)
           (Rattle.low_ir.specs.Procedures.Call d run.project (a ∷ Number i ∷ Number 1 ∷ Number 0 ∷ []) Done) k
           else Rattle.low_ir.specs.Procedures.Call d run.project
           (a ∷ Number (cast_unsigned w64 (pos i)) ∷ Number 1 ∷ Number 0 ∷ []) k)

@@ -17,6 +17,8 @@ use Rattle.cast_modes.specs.RunValues.{in_row}
 use Rattle.flat_ir.specs.declared.code.Operand.{Operand}
 use Rattle.flat_ir.specs.Closed.{operand_bound, operands_bound}
 use Rattle.flat_ir.specs.Machine.{Group, Locals as FlatLocals, value, values, member, new_group, set_group}
+use Rattle.object_layout.specs.declared.kinds.Kind.TheVariants.{Closure}
+use Rattle.object_layout.specs.Kinds.{kind_number}
 use Rattle.coercion_norm.specs.Objects.{Object, Fixed, Cell, bytes_of, bytes_of_all}
 use Rattle.rt_cast.specs.Objects.{HoldsWords}
 use Rattle.coercion_norm.specs.ObjectsOfRows.{header}
@@ -28,7 +30,7 @@ use Rattle.lower.specs.Numbering.{operand_word, test_word, local_word, function_
 use Rattle.lower.specs.Emit.{found, store_far, store_captured, store_others, name_others, group_words}
 use Rattle.lower.specs.Emit.{make_group, header as word_header}
 use Rattle.lower.specs.CarriedValues.{IsMember, IsGroup}
-use Rattle.lower.proofs.heap.Objects.{stored_behind}
+use Rattle.lower.proofs.heap.Objects.{stored_behind, closure_header}
 use Rattle.lower.proofs.heap.Filled.{filled_above, filled_more}
 use Rattle.lower.proofs.heap.Groups.{other_words, group_objects, group_holds, group_bytes, group_kept}
 use Rattle.lower.proofs.heap.Groups.{leader_added, other_added}
@@ -246,29 +248,30 @@ module _ (scene : Scene) (world : WorldState) (h : Heap) (allowed : scene.allowe
       let next = store_others s (local_word s slot) captured first (suc (suc i)) n k in
       let p = procs 0 (omega arith) in
       let same : first + suc (i + 0) ≡ first + suc i = omega arith in
-      stores_far (Number (word_header 1 1)) (header 1 0 1) (function_offset captured (suc i)) m ws new
+      stores_far (Number (word_header (kind_number Closure) 1)) (closure_header 1)
+      (function_offset captured (suc i)) m ws new
       (CodeOf x (first + suc i)
       (store_far (test_word s) (local_word s slot) (Word x) (function_offset captured (suc i) + 8) next))
       (λ now changed. refl) (omega arith) st ing (omega (arith, long)) (omega (arith, fits))
       (λ m' now st' ing' changed.
-      code_addresses scene.setting scene.P scene.Q (calm_by m' (ws ++ header 1 0 1 ∷ []) st') p.0
+      code_addresses scene.setting scene.P scene.Q (calm_by m' (ws ++ closure_header 1 ∷ []) st') p.0
       (ap (slice_get scene.setting.procs) (sym same) ∙ p.1) (omega (arith, room, params))
-      (stores_far (Word x) code (function_offset captured (suc i) + 8) m' (ws ++ header 1 0 1 ∷ [])
+      (stores_far (Word x) code (function_offset captured (suc i) + 8) m' (ws ++ closure_header 1 ∷ [])
       (set_local x code now) next
       (λ last changed'. changed' x (λ e. omega (arith, e)) ∙ word_here x code now)
       (small (first + suc i) p.0 (ap (slice_get scene.setting.procs) (sym same) ∙ p.1)) st'
       (storing_set x code now free (λ e. omega (arith, d_is, e, params)) ing')
-      (let z = length-append ws (header 1 0 1 ∷ []) in omega (arith, z, long)) (omega (arith, fits))
+      (let z = length-append ws (closure_header 1 ∷ []) in omega (arith, z, long)) (omega (arith, fits))
       (λ m'' last st'' ing'' changed'.
-      others_stored captured first (suc i) n m'' ((ws ++ header 1 0 1 ∷ []) ++ code ∷ []) last k
-      (let z = length-append ws (header 1 0 1 ∷ []) in
-      let y = length-append (ws ++ header 1 0 1 ∷ []) (code ∷ []) in omega (arith, z, y, long)) st'' ing''
+      others_stored captured first (suc i) n m'' ((ws ++ closure_header 1 ∷ []) ++ code ∷ []) last k
+      (let z = length-append ws (closure_header 1 ∷ []) in
+      let y = length-append (ws ++ closure_header 1 ∷ []) (code ∷ []) in omega (arith, z, y, long)) st'' ing''
       (omega (arith, fits))
       (λ j lt. let q = procs (suc j) (omega (arith, lt)) in
       let e : first + suc (i + suc j) ≡ first + suc (suc i + j) = omega arith in
       (q.0, ap (slice_get scene.setting.procs) (sym e) ∙ q.1)) small
       (λ m3 end st3 ing3. go m3 end (record {
-        held = subst (HoldsWords m3 h.alloc) (twice ws (header 1 0 1) code
+        held = subst (HoldsWords m3 h.alloc) (twice ws (closure_header 1) code
             (other_words scene.setting.address first (suc i) n)) st3.held;
         below = st3.below;
       }) ing3))))
@@ -464,14 +467,14 @@ module _ (scene : Scene) (world : WorldState) (h : Heap) (allowed : scene.allowe
     -- all words are stored
     takes_group : (k : Code) → Makes k → h.alloc + 8 * total ≤ scene.setting.top → (cs : List ℕ) (m : Memory)
         (new : Locals) → CarryAll scene objects (in_row (values locals group captured)) cs
-        → Stored m (header 1 0 (suc (length captured)) ∷ scene.setting.address first
+        → Stored m (closure_header (suc (length captured)) ∷ scene.setting.address first
         ∷ (cs ++ other_words scene.setting.address first 0 others))
         → Storing new → On m new (taking k)
     takes_group k go fits cs m new carried st ing =
         let size_is = long cs carried in
         let bytes = group_bytes scene.setting.address first others cs in
         let more = group_objects scene.setting.address first others cs in
-        let heads = subst (λ n. HoldsWords m h.alloc (header 1 0 (suc n) ∷ scene.setting.address first
+        let heads = subst (λ n. HoldsWords m h.alloc (closure_header (suc n) ∷ scene.setting.address first
         ∷ (cs ++ other_words scene.setting.address first 0 others))) (sym size_is) st.held in
         let h' : Heap = record { memory = m; alloc = h.alloc + 8 * total; words = h.words + total } in
         let all : Filled scene.meaning scene.setting scene.l scene.number (bigger cs) h' =
@@ -481,7 +484,7 @@ module _ (scene : Scene) (world : WorldState) (h : Heap) (allowed : scene.allowe
         (group_kept scene.meaning scene.laws scene.l scene.number scene.setting.address objects first others cs
         filled.keeps) (omega (arith, bytes, size_is)) fits in
         takes scene.setting scene.P scene.Q
-        (calm_by m (header 1 0 (suc (length captured)) ∷ scene.setting.address first
+        (calm_by m (closure_header (suc (length captured)) ∷ scene.setting.address first
         ∷ (cs ++ other_words scene.setting.address first 0 others)) st) total
         (ap Some fits_word) fits
         (others_named h' (scene.calm world h' (bigger cs) all room_asked size waiting frames_fit) (length captured) 0
@@ -532,16 +535,16 @@ module _ (scene : Scene) (world : WorldState) (h : Heap) (allowed : scene.allowe
             store_others s (local_word s slot) (length captured) first 1 others (taking k))
 
         later_words : h.alloc + 8 * total ≤ scene.setting.top → (m : Memory) (new : Locals)
-            → Stored m (header 1 0 (suc (length captured)) ∷ scene.setting.address first ∷ []) → Storing new
+            → Stored m (closure_header (suc (length captured)) ∷ scene.setting.address first ∷ []) → Storing new
             → On m new behind
         later_words fits m new st ing =
-            captured_stored captured 0 m (header 1 0 (suc (length captured)) ∷ scene.setting.address first ∷ []) new
+            captured_stored captured 0 m (closure_header (suc (length captured)) ∷ scene.setting.address first ∷ []) new
             (store_others s (local_word s slot) (length captured) first 1 others (taking k)) bound refl st ing
             (omega (arith, fits))
             (λ cs m' now carried st' ing'.
             let size_is = long cs carried in
             others_stored (length captured) first 0 others m'
-            (header 1 0 (suc (length captured)) ∷ scene.setting.address first ∷ cs) now (taking k)
+            (closure_header (suc (length captured)) ∷ scene.setting.address first ∷ cs) now (taking k)
             (omega (arith, size_is)) st' ing' (omega (arith, fits)) (λ j lt.
             let p = stand (suc j) (omega (arith, lt)) in
             let e : first + suc j ≡ first + suc (0 + j) = omega arith in
@@ -550,16 +553,17 @@ module _ (scene : Scene) (world : WorldState) (h : Heap) (allowed : scene.allowe
 
         heads : h.alloc + 8 * total ≤ scene.setting.top → (new : Locals) → Stored h.memory [] → Storing new
             → On h.memory new (
-            Store (Number (word_header 1 (suc (length captured)))) (Word (local_word s slot)) 0 (
+            Store (Number (word_header (kind_number Closure) (suc (length captured)))) (Word (local_word s slot)) 0 (
             CodeOf (operand_word s 0) first (
             Store (Word (operand_word s 0)) (Word (local_word s slot)) 8 behind)))
         heads fits new st ing =
-            let head = header 1 0 (suc (length captured)) in
+            let head = closure_header (suc (length captured)) in
             let code = scene.setting.address first in
             let head_is = ap Some (header_word 1 (suc (length captured)) (omega arith) narrow) in
             let p = stand 0 (omega arith) in
             let none : first + 0 ≡ first = omega arith in
-            stores_at (Number (word_header 1 (suc (length captured)))) head 0 h.memory [] new _ head_is
+            stores_at (Number (word_header (kind_number Closure) (suc (length captured)))) head 0 h.memory []
+            new _ head_is
             (header_small 1 (suc (length captured)) (omega arith) narrow) st ing refl (omega (arith, fits))
             (λ m st'.
             code_addresses scene.setting scene.P scene.Q (calm_by m (head ∷ []) st') p.0

@@ -22,8 +22,8 @@ use Rattle.flat_ir.specs.declared.code.Operand.{Operand}
 use Rattle.flat_ir.specs.declared.code.Operation.TheVariants.{Move, Tuple, Proj}
 use Rattle.flat_ir.specs.Closed.{operand_bound, operands_bound, operation_bound}
 use Rattle.flat_ir.specs.Machine.{FlatValue, FlatValues, Group, Locals as FlatLocals, value, values}
+use Rattle.object_layout.specs.Kinds.{kind_number}
 use Rattle.coercion_norm.specs.Objects.{Object, Fixed, bytes_of, bytes_of_all, object_at}
-use Rattle.coercion_norm.specs.ObjectsOfRows.{header}
 use Rattle.rt_cast.specs.Frames.{frame_room, waiting_room}
 use Rattle.rt_cast.specs.States.{Heap}
 use Rattle.lower.specs.Storage.{Filled}
@@ -31,7 +31,7 @@ use Rattle.lower.specs.declared.numbering.Shape.{Shape}
 use Rattle.lower.specs.Numbering.{operand_word, test_word}
 use Rattle.lower.specs.Emit.{found, found_all, of_kind, part, perform}
 use Rattle.lower.specs.Emit.{header as word_header}
-use Rattle.lower.proofs.heap.Objects.{object_behind, stored_words, bytes_below}
+use Rattle.lower.proofs.heap.Objects.{object_behind, stored_words, bytes_below, tuple_header}
 use Rattle.lower.proofs.heap.Filled.{WordThere, word_there, header_there, filled_more, filled_above, in_list}
 use Rattle.lower.proofs.heap.CarriedLater.{as_many, all_small, part_carried, all_later}
 use Rattle.lower.proofs.words.Arithmetic.{header_word, header_small, kind_read, header_is}
@@ -114,7 +114,8 @@ module _ (scene : Scene) (world : WorldState) (h : Heap) (allowed : scene.allowe
       let most : length os ≤ 8 = grind (arith, sizes.1) in
       fetch_all_reads scene world h allowed objects filled waiting size frames_fit rests s count group depth locals os
       0 parts.0
-      (omega (arith, most)) room words knows (Build d (Number (word_header 4 (length os)) ∷ found_all s 0 os) k)
+      (omega (arith, most)) room words knows
+      (Build d (Number (word_header (kind_number TupleKind) (length os)) ∷ found_all s 0 os) k)
       (λ ws new carried are changed. made parts.0 least most ws new carried are changed)
     where
       values_long : (os : List Operand) → length (values locals group os) ≡ length os
@@ -125,32 +126,33 @@ module _ (scene : Scene) (world : WorldState) (h : Heap) (allowed : scene.allowe
           (new : Locals) → CarryAll scene objects (in_row (values locals group os)) ws
           → words_of new (found_all s 0 os) ≡ Some ws → ChangesFrom (operand_word s 0) (length os) words new
           → Arrives scene (at world h waiting size rests new
-          (Build d (Number (word_header 4 (length os)) ∷ found_all s 0 os) k))
+          (Build d (Number (word_header (kind_number TupleKind) (length os)) ∷ found_all s 0 os) k))
       made bound least most ws new carried are changed =
           let long : length ws ≡ length os = as_many scene.l scene.setting.address scene.procs scene.meaning scene.laws
           scene.places objects (values locals group os) ws carried ∙ values_long os in
-          let head : (4 + 4294967296 * length os) % 2 ^ 64 ≡ header 4 0 (length ws) =
+          let head : (4 + 4294967296 * length os) % 2 ^ 64 ≡ tuple_header (length ws) =
           ap (λ n. (4 + 4294967296 * n) % 2 ^ 64) (sym long) ∙ header_word 4 (length ws) (omega arith)
           (omega (arith, long, most)) in
-          let o : Object = Fixed (header 4 0 (length ws)) ws in
+          let o : Object = Fixed (tuple_header (length ws)) ws in
           let small = all_small scene.l scene.setting.address scene.procs scene.meaning scene.laws scene.places objects
           scene.setting scene.placed h filled (in_row (values locals group os)) ws carried in
           let asked : scene.allowed world (h.words + suc (length ws)) =
           subst (λ n. scene.allowed world (h.words + suc n)) (sym long) room_asked in
           builds scene.setting scene.P scene.Q calm
-          (header 4 0 (length ws) ∷ ws) (ap₂ and_more (ap Some head) are) (omega (arith, long, most)) lt
+          (tuple_header (length ws) ∷ ws) (ap₂ and_more (ap Some head) are) (omega (arith, long, most)) lt
           (scene.calm world (record h { words = h.words + suc (length ws) }) objects
           (filled_above scene.meaning scene.setting scene.l scene.placed objects h h.memory (h.words + suc (length ws))
           filled (λ i l. refl)) asked size waiting frames_fit) enough
           (λ fits. go (o ∷ []) (record {
-            memory = store_words (header 4 0 (length ws) ∷ ws) h.alloc h.memory;
-            alloc = h.alloc + 8 * length (header 4 0 (length ws) ∷ ws);
-            words = h.words + length (header 4 0 (length ws) ∷ ws);
+            memory = store_words (tuple_header (length ws) ∷ ws) h.alloc h.memory;
+            alloc = h.alloc + 8 * length (tuple_header (length ws) ∷ ws);
+            words = h.words + length (tuple_header (length ws) ∷ ws);
           }) (filled_more scene.meaning scene.setting scene.l scene.placed objects (o ∷ []) h
-          (store_words (header 4 0 (length ws) ∷ ws) h.alloc h.memory)
-          (h.alloc + 8 * length (header 4 0 (length ws) ∷ ws)) (h.words + length (header 4 0 (length ws) ∷ ws)) filled
-          (λ i l. bytes_below (header 4 0 (length ws) ∷ ws) h.alloc h.memory i l) (
-            stored_words (header 4 0 (length ws) ∷ ws) h.alloc h.memory
+          (store_words (tuple_header (length ws) ∷ ws) h.alloc h.memory)
+          (h.alloc + 8 * length (tuple_header (length ws) ∷ ws))
+          (h.words + length (tuple_header (length ws) ∷ ws)) filled
+          (λ i l. bytes_below (tuple_header (length ws) ∷ ws) h.alloc h.memory i l) (
+            stored_words (tuple_header (length ws) ∷ ws) h.alloc h.memory
                 (header_small 4 (length ws) (omega arith) (omega (arith, long, most)), small),
             tt,
           ) (scene.laws.keeps_more scene.l objects scene.number o (record {
@@ -160,7 +162,7 @@ module _ (scene : Scene) (world : WorldState) (h : Heap) (allowed : scene.allowe
             long = omega arith;
             free = refl;
             allowed = within (length ws) (omega (arith, long, least)) (omega (arith, long, most));
-          }) filled.keeps) (omega arith) fits) (λ i l. bytes_below (header 4 0 (length ws) ∷ ws) h.alloc h.memory i l)
+          }) filled.keeps) (omega arith) fits) (λ i l. bytes_below (tuple_header (length ws) ∷ ws) h.alloc h.memory i l)
           asked
           h.alloc
           (set_local d h.alloc new) (
@@ -250,15 +252,15 @@ module _ (scene : Scene) (world : WorldState) (h : Heap) (allowed : scene.allowe
           let less : i < length c.0 = in_list c.0 i p.0 p.1 in
           let short : nat_lt i 8 ≡ true = lt_true i 8 (omega (arith, less, c.3)) in
           let head = header_there scene.meaning scene.setting scene.l scene.placed objects h filled x
-          (Fixed (header 4 0 (length c.0)) c.0) c.1 in
+          (Fixed (tuple_header (length c.0)) c.0) c.1 in
           let there = word_there scene.meaning scene.setting scene.l scene.placed objects h filled x
-          (header 4 0 (length c.0)) c.0 c.1
+          (tuple_header (length c.0)) c.0 c.1
           (suc i) p.0 (x + (8 + 8 * i)) p.1 (omega arith) in
           subst (λ b. Arrives scene (at world h waiting size rests new (
-          if b then of_kind s a 4 (Load d a (8 + 8 * i) Done) other k
+          if b then of_kind s a (kind_number TupleKind) (Load d a (8 + 8 * i) Done) other k
           else Call d scene.run.project (a ∷ Number (cast_unsigned w64 (pos i)) ∷ Number 1 ∷ Number 0 ∷ []) k)))
           (sym short)
-          (comes_on scene.setting scene.P scene.Q (is_of_kind a x 4 (length c.0)
+          (comes_on scene.setting scene.P scene.Q (is_of_kind a x (kind_number TupleKind) (length c.0)
           (Load d a (8 + 8 * i) Done) other k new (omega arith) found_is
           (subst (WordThere scene.meaning scene.setting scene.l scene.placed h.memory x) (header_is 4 (length c.0))
           head)

@@ -197,9 +197,6 @@ module _ (scene : Scene) (world : WorldState) (h : Heap) (allowed : scene.allowe
       (go w (set_local d w mid) carried (word_here d w mid)
       (λ j ne side. word_other d w mid j ne ∙ touched d n new z few changed j ne side)))
 
-  flag_carried : (b : Bool) (w : ℕ) → w ≡ flag b → Carries scene objects (RunBool b) w
-  flag_carried b w e = e
-
   module _ (o p : Operand) (a b : ℤ) (ea : value locals group o ≡ RunInt a) (eb : value locals group p ≡ RunInt b)
       (bound : operands_bound s.captured count depth (o ∷ p ∷ []) ≡ true) (d : ℕ) (lt : d < size) (k : Code) where
     abbrev x : LowSource
