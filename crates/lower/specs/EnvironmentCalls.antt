@@ -18,5 +18,13 @@ print_byte_call = 2
 abbrev pub read_int_call : ℕ
 read_int_call = 7
 
+-- code gives up for want of region
+abbrev pub region_out_call : ℕ
+region_out_call = 5
+
+-- and for want of stack
+abbrev pub stack_out_call : ℕ
+stack_out_call = 6
+
 abbrev pub line_feed : ℕ
 line_feed = 10

@@ -1,7 +1,8 @@
 -- Sets of procedures that serve, and that of the merged scheme.
-use Rattle.std.specs.Prelude.{ℕ, suc, ◌+◌, ◌≡◌, true, List, [], ◌++◌, length, Some, slice_get}
+use Rattle.std.specs.Prelude.{ℕ, suc, ◌+◌, ◌≡◌, true, false, List, [], ◌++◌, length, Some, slice_get}
 use Rattle.low_ir.specs.Procedures.{Proc}
 use Rattle.low_ir.specs.Closed.{each_closed}
+use Rattle.low_ir.specs.Counting.{any_calls}
 use Rattle.rt_cast.specs.declared.numbers.CastProc.TheVariants.{Cast, Project}
 use Rattle.rt_cast.specs.ProcNumbers.{cast_proc_number}
 use Rattle.rt_cast.specs.Procs.{cast_procs, how_many_cast_procs}
@@ -10,17 +11,23 @@ use Rattle.rt_refs.specs.RefProcs.{ref_procs, ref_place}
 use Rattle.lower.specs.declared.served.CastWay.{CastWay}
 use Rattle.lower.specs.declared.served.ProcSet.{ProcSet}
 use Rattle.lower.specs.declared.served.Served.{Served}
+use Rattle.lower.specs.EnvironmentCalls.{region_out_call, stack_out_call}
 use Rattle.lower.specs.Serving.{Serve}
 
 -- the procedures of a set stand in a program, numbered from a first number on
 abbrev pub StandFrom : List Proc → ℕ → List Proc → Type 0
 StandFrom procs first set = (k : ℕ) (p : Proc) → slice_get set k ≡ Some p → slice_get procs (k + first) ≡ Some p
 
+-- no procedure gives up for want of room by itself, so where a run stops for want of room, room is wanting
+abbrev pub GiveUpNowhere : List Proc → Type 0
+GiveUpNowhere procs = (any_calls region_out_call procs ≡ false) × (any_calls stack_out_call procs ≡ false)
+
 -- Wherever a set stands in a program, those of its procedures that have a number in `numbers` serve, and all of them
--- are closed. Its last two are those of products and quotients.
+-- are closed; none gives up for want of room. Its last two are those of products and quotients.
 pub record ServesAnywhere (set : List Proc) (first : ℕ) (numbers : Served) : Type 0 where
   pub serve : (procs : List Proc) → StandFrom procs first set → Serve numbers procs
   pub closed : (procs : List Proc) → StandFrom procs first set → each_closed procs set ≡ true
+  pub persist : GiveUpNowhere set
   -- products and quotients stand last, in this order
   pub multiply_last : suc (suc numbers.multiply) ≡ length set + first
   pub divide_last : suc numbers.divide ≡ length set + first

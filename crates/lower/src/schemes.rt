@@ -22,7 +22,7 @@ ghost use Rattle.lower.specs.Lowered.{lowered};
 ghost use Rattle.lower.specs.MadePrograms.{MadeFollows, MadeKeeps, StaticsServe};
 ghost use Rattle.lower.specs.Meanings.{Meaning, MeaningLaws};
 ghost use Rattle.lower.specs.Serving.{all_narrow};
-ghost use Rattle.lower.specs.Sets.{ServesAnywhere, numbers_of, with_casts};
+ghost use Rattle.lower.specs.Sets.{GiveUpNowhere, ServesAnywhere, numbers_of, with_casts};
 
 use crate::casts::cast_ways;
 use crate::copies::push_copies;
@@ -78,7 +78,8 @@ pub trait Scheme {
             (layout self.now types.now table.now.nodes casts.now start statics region)) };
 
     /// The procedures, numbered from `first` on, 64 at most, the last two of which are those of products and quotients.
-    /// Wherever they stand in a program, they are closed there, and take what they are handed.
+    /// Wherever they stand in a program, they are closed there, and take what they are handed. None of them gives up for
+    /// want of room: only a request or a frame that doesn't fit does.
     fn procs(&self, alloc: Global, first: u32) -> Result<ProcSet, OutOfMemory>
         requires { first < 2 ^ 31 }
         ensures procs { IfOk result (λ set. procs_of set.procs ≡ procs_from self.now first) }
@@ -155,6 +156,7 @@ pub fn lower_over<S: Scheme>(
     ensures statics { IfOk result (λ low. low.statics ≡ statics) }
     ensures closed { IfOk result (λ low. is_closed_flat (flat_procs_of flat.now.procs) flat.now.entry ≡ true
         → is_closed (procs_of low.procs) low.entry ≡ true) }
+    ensures persists { IfOk result (λ low. GiveUpNowhere (procs_of low.procs)) }
     ensures narrow { IfOk result (λ low. all_narrow (flat_procs_of flat.now.procs) ≡ true) }
 {
     let entry = flat.procs.len();
@@ -176,8 +178,9 @@ pub fn lower_over<S: Scheme>(
 
 /// The program over words of a flat program, whose casts are made as the scheme says where they aren't made in
 /// place: the procedures that the definition gives, behind them those of the scheme, and what stands in memory for its
-/// casts. It is closed where the flat program is. Then, and where the scheme covers the casts, its run follows that of
-/// the numbered procedures in the mode of the scheme, wherever it is loaded, within their account.
+/// casts, which serves the scheme where that covers the casts. It is closed where the flat program is. Then its run
+/// follows that of the numbered procedures in the mode of the scheme, wherever it is loaded, within their account. No
+/// procedure gives up for want of room by itself.
 pub fn lower_with<S: Scheme>(
     alloc: Global,
     flat: &FlatProgram,
@@ -198,6 +201,10 @@ pub fn lower_with<S: Scheme>(
     ensures casts { IfOk result (λ low. length low.statics.cast_at ≡ length casts.now) }
     ensures closed { IfOk result (λ low. is_closed_flat (flat_procs_of flat.now.procs) flat.now.entry ≡ true
         → is_closed (procs_of low.procs) low.entry ≡ true) }
+    ensures persists { IfOk result (λ low. GiveUpNowhere (procs_of low.procs)) }
+    ensures serves { IfOk result (λ low. S.covers scheme.now types.now coercions.now.nodes casts.now → (region : ℕ)
+        → StaticsServe (S.meaning scheme.now) types.now (row_casts casts.now) FIRST_ADDRESS low.statics region
+        (S.layout scheme.now types.now coercions.now.nodes casts.now FIRST_ADDRESS low.statics region)) }
     ensures follows { IfOk result (λ low. S.covers scheme.now types.now coercions.now.nodes casts.now
         → is_closed_flat (flat_procs_of flat.now.procs) flat.now.entry ≡ true
         → MadeFollows (S.meaning scheme.now)

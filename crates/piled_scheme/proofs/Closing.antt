@@ -61,6 +61,7 @@ pub piled_serves_anywhere : (first : ℕ) → ServesAnywhere (piled_procs first)
 piled_serves_anywhere first = record {
   serve = λ procs s. piled_serves procs first s;
   closed = λ procs s. piled_closed procs first s;
+  persist = (refl, refl);
   multiply_last = omega arith;
   divide_last = omega arith;
 }

@@ -1,10 +1,11 @@
 -- The program of a scheme is the lowered one, and closed, and the merged scheme's procedures are those of its set.
 use Rattle.std.proofs.Common.{true, ℕ, suc, ◌+◌, ◌≡◌, List, [], ◌∷◌, ◌++◌, length, map, Option, Some, ◌∙◌, ap, subst}
-use Rattle.std.proofs.Common.{append_assoc}
+use Rattle.std.proofs.Common.{append_assoc, inl, inr, refl}
 use Rattle.grift_base.specs.Types.{TypeRow}
 use Rattle.low_ir.specs.declared.programs.LowProc.{LowProc}
 use Rattle.low_ir.specs.Procedures.{Proc}
 use Rattle.low_ir.specs.Closed.{is_closed}
+use Rattle.low_ir.specs.Counting.{any_calls}
 use Rattle.low_ir.specs.Views.{procs_of}
 use Rattle.flat_ir.specs.Bodies.{Proc as FlatProc}
 use Rattle.flat_ir.specs.Closed.{is_closed as flat_is_closed}
@@ -14,7 +15,9 @@ use Rattle.rt_refs.specs.RefProcs.{ref_procs}
 use Rattle.lower.specs.declared.served.CastWay.{CastWay}
 use Rattle.lower.specs.declared.served.Served.{Served}
 use Rattle.lower.specs.Lowered.{low_proc, entry_proc, lowered}
-use Rattle.lower.specs.Sets.{ServesAnywhere, with_casts, merged_procs}
+use Rattle.lower.specs.EnvironmentCalls.{region_out_call, stack_out_call}
+use Rattle.lower.specs.Sets.{GiveUpNowhere, ServesAnywhere, with_casts, merged_procs}
+use Rattle.lower.proofs.closing.RoomCalls.{lowered_none}
 use Rattle.lower.proofs.closing.Sets.{programs_with_sets_are_closed}
 
 -- what serves goes behind the lowered procedures
@@ -48,6 +51,15 @@ module _ (numbers_from : ℕ → Served) (procs_from : ℕ → List Proc) (run g
       let anywhere = subst (λ f. ServesAnywhere (procs_from first) f (numbers_from first)) at serves in
       ap (λ c. is_closed whole c) many ∙ (ap (λ ps. is_closed ps (length flat)) comes_to
       ∙ programs_with_sets_are_closed (procs_from first) (numbers_from first) words ways flat entry told anywhere h)
+
+  pub program_gives_up_nowhere : ServesAnywhere (procs_from first) first (numbers_from first) → GiveUpNowhere whole
+  program_gives_up_nowhere serves =
+      let run_by = with_casts (numbers_from first) words ways in (
+        ap (any_calls region_out_call) comes_to
+            ∙ lowered_none region_out_call (inl refl) run_by flat entry told (procs_from first) serves.persist.0,
+        ap (any_calls stack_out_call) comes_to
+            ∙ lowered_none stack_out_call (inr refl) run_by flat entry told (procs_from first) serves.persist.1,
+      )
 
 pub merged_list : (first : ℕ) (start more others whole : List LowProc) → procs_of start ≡ cast_procs first
     → more ≡ others → procs_of others ≡ ref_procs (how_many_cast_procs + first) (cast first)

@@ -115,6 +115,7 @@ pub merged_serves_anywhere : (first : ℕ) → ServesAnywhere (merged_procs firs
 merged_serves_anywhere first = record {
   serve = λ procs s. merged_serves procs first s;
   closed = λ procs s. merged_closed procs first s;
+  persist = (refl, refl);
   multiply_last = omega arith;
   divide_last = omega arith;
 }

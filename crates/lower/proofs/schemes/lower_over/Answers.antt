@@ -7,7 +7,7 @@ use Rattle.low_ir.specs.Views.{procs_of}
 use Rattle.coercion_norm.specs.CastRows.{row_casts}
 use Rattle.lower.specs.CastWays.{cast_ways}
 use Rattle.lower.specs.Sets.{numbers_of, with_casts}
-use Rattle.lower.proofs.closing.Schemes.{program_is_closed, program_is_lowered}
+use Rattle.lower.proofs.closing.Schemes.{program_gives_up_nowhere, program_is_closed, program_is_lowered}
 use Rattle.lower.proofs.schemes.lower_over.Goals as goal
 
 pub returns-clause-procs : goal.returns-clause-procs
@@ -42,3 +42,16 @@ returns-clause-closed g c = λ closed.
     (c.len-entry.result + 1) c.in_ok-set.ensures.numbers (ap procs_of c.as_slice.ensures ∙ c.in_ok-set.ensures.procs)
     runs c.in_ok-procs.ensures c.in_ok-push_copies.ensures c.len-entry.result c.in_ok-set.ensures.serves
     at many closed
+
+pub returns-clause-persists : goal.returns-clause-persists
+returns-clause-persists g c =
+    let flat = c.args.flat.now in
+    let ways = cast_ways c.args.types.now (row_casts c.args.casts.now) in
+    let runs = c.in_ok-run.ensures
+    ∙ ap (λ m. with_casts (numbers_of c.in_ok-set.set) c.args.statics.cast_at m) c.in_ok-ways.ensures in
+    program_gives_up_nowhere (λ first. g.S.Scheme.numbers_from c.args.scheme.now first)
+    (λ first. g.S.Scheme.procs_from c.args.scheme.now first) c.in_ok-run.run' (numbers_of c.in_ok-set.set)
+    c.args.statics.cast_at ways (flat_procs_of flat.procs) flat.entry (row_of c.row.result.now)
+    (procs_of c.in_ok-procs.procs) (procs_of c.as_slice.result.now) (procs_of c.push_copies.new.procs)
+    (c.len-entry.result + 1) c.in_ok-set.ensures.numbers (ap procs_of c.as_slice.ensures ∙ c.in_ok-set.ensures.procs)
+    runs c.in_ok-procs.ensures c.in_ok-push_copies.ensures c.in_ok-set.ensures.serves

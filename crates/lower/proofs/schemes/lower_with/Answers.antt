@@ -57,3 +57,18 @@ returns-clause-keeps g c =
     (S.layout s types nodes casts first_address given region)) (sym statics) (c.in_ok-statics.ensures.serves covers))
     c.row.ensures (ap suc many) (procs (row_of c.row.result.now) c.row.ensures) (entry ∙ many) closed narrow) over.procs
     over.entry over.statics over.narrow
+
+pub returns-clause-serves : goal.returns-clause-serves
+returns-clause-serves g c =
+    let s = c.args.scheme.now in
+    let S = g.S.Scheme in
+    let types = c.args.types.now in
+    let nodes = c.args.coercions.now.nodes in
+    let casts = c.args.casts.now in
+    let over = c.lower_over.ensures in
+    of_four c.lower_over.result _ _ _ _ _
+    (λ low procs entry statics narrow covers.
+    subst (λ (given : Statics). (region : ℕ)
+    → StaticsServe (S.meaning s) types (row_casts casts) first_address given region
+    (S.layout s types nodes casts first_address given region)) (sym statics) (c.in_ok-statics.ensures.serves covers))
+    over.procs over.entry over.statics over.narrow
