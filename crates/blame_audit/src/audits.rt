@@ -34,7 +34,7 @@ pub fn audit(alloc: Global, elab: &Elab, types: &TypeTable) -> Result<LabelIds, 
         → NeverBlames (program_over types.now elab.now) p × CastsStayUp (program_over types.now elab.now) p) }
     ensures no_verdict { IfOk result (λ safe. TellsNoSafeBlame types.now elab.now) }
 {
-    // The table is one: `len` says that no row stands twice and that parts stand before wholes.
+    // The table is one: `len` says that no row stands twice and that its types are trees.
     types.len();
     let labels = elab.labels.len() as u32;
     let marks = marks_of(alloc, elab.casts.as_slice(), types, labels)?;

@@ -42,7 +42,7 @@ fn run(alloc: Global, progress: &mut Progress, program: &Program) -> Result<Type
 {
     let mut scopes = Scopes::new(alloc);
     let done = elaborate(alloc, progress, &mut scopes, &program.body);
-    // No row stands twice, and parts stand before wholes.
+    // No row stands twice, and types are trees.
     progress.types.len();
     done
 }

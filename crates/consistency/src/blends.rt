@@ -84,7 +84,7 @@ fn form_row(
     ensures known { OnOk result (AreFormed types.new known.new) }
     ensures grown { HasMoreRows types.old types.new }
 {
-    // The table is one: `len` says that no row stands twice and that parts stand before wholes.
+    // The table is one: `len` says that no row stands twice and that its types are trees.
     types.len();
     let row = types.row(a);
     let other = types.row(b);
@@ -96,11 +96,11 @@ fn form_row(
     }
     let pairs = pairs_of_parts(alloc, row, other)?;
     let parts = form_each(alloc, known, types, pairs.as_slice())?;
-    // The table is one: `len` says that no row stands twice and that parts stand before wholes.
+    // The table is one: `len` says that no row stands twice and that its types are trees.
     types.len();
     let both = row_with_parts(alloc, types.row(a), parts.as_slice())?;
     let c = types.intern(both)?;
-    // The table is one: `len` says that no row stands twice and that parts stand before wholes.
+    // The table is one: `len` says that no row stands twice and that its types are trees.
     types.len();
     Ok(c)
 }
@@ -122,11 +122,11 @@ fn form_each(
     ensures known { OnOk result (AreFormed types.new known.new) }
     ensures grown { HasMoreRows types.old types.new }
 {
-    // The table is one: `len` says that no row stands twice and that parts stand before wholes.
+    // The table is one: `len` says that no row stands twice and that its types are trees.
     types.len();
     let mut parts = Vec::new(alloc);
     for pair in pairs {
-        // The table is one: `len` says that no row stands twice and that parts stand before wholes.
+        // The table is one: `len` says that no row stands twice and that its types are trees.
         types.len();
         let part = form(alloc, known, types, pair.first, pair.second)?;
         push(&mut parts, part)?;

@@ -93,7 +93,7 @@ fn check_rows(
     ensures answer { IfOk result (λ answer. answer ≡ consistent types.now a.0 b.0) }
     ensures known { AreConsistent types.now known.new }
 {
-    // The table is one: `len` says that no row stands twice and that parts stand before wholes.
+    // The table is one: `len` says that no row stands twice and that its types are trees.
     types.len();
     match (types.row(a), types.row(b)) {
         (Row::Dyn, _) | (_, Row::Dyn) => Ok(true),

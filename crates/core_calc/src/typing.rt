@@ -36,7 +36,7 @@ pub fn typed(alloc: Global, core: &Core, types: &TypeTable) -> Result<Option<Typ
     ensures none { IfOk result (λ answer. IfNone answer ((labels type : ℕ)
         → ¬ ProgramTermHasType types.now labels (term_of core.now) type)) }
 {
-    // The table is one: `len` says that no row stands twice and that parts stand before wholes.
+    // The table is one: `len` says that no row stands twice and that its types are trees.
     types.len();
     match program_type(alloc, types, core) {
         Ok(ty) => Ok(Some(ty)),

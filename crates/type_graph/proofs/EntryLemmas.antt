@@ -161,7 +161,7 @@ module _ (es new : List (Row × Measure)) (row : Row) (m : Measure) (old : TypeR
       subst (λ (t : TypeRows). length t < MOST_ENTRIES) (sym seen) room in
       let measure_here : IsMeasureOfParts (table_of es) (parts_of (row_of row)) m =
       subst (λ (t : TypeRows). IsMeasureOfParts t (parts_of (row_of row)) m) (sym seen) measure in
-      let pushed = IsKept-push (table_of es) (row_of row) fits_here kept.parts_first (values_of es) m lengths kept
+      let pushed = IsKept-push (table_of es) (row_of row) fits_here kept.finite (values_of es) m lengths kept
       room_here measure_here in
       subst (λ (l : List (Row × Measure)). IsKept (table_of l) (values_of l)) (sym goes_last)
       (subst (λ (t : TypeRows). IsKept t (values_of (es ++ (row, m) ∷ []))) (sym (table_of-push es row m))

@@ -8,7 +8,7 @@ use Rattle.std.proofs.lemmas.Option.{slice_get_within, slice_get-get_or, get_or_
 use Rattle.grift_base.specs.Tables.{HasNoRepeats, Interns}
 use Rattle.grift_base.specs.Types.{TypeRow, TypeRows, row_at, parts_of}
 use Rattle.type_graph.specs.Forming.{equal_rows, place_where, at_place_or_last, intern}
-use Rattle.type_graph.specs.Trees.{row_parts, PartsFirst, sum_of, size, above_all, height}
+use Rattle.type_graph.specs.Trees.{row_parts, EndsWithin, Ends, AreFinite, sum_of, size, above_all, height}
 use Rattle.type_graph.specs.TypeTables.{HasWidth, HaveWidths, AreLow, MayBePart, FitsTable, IsOrderedTable, IsMeasure}
 use Rattle.type_graph.specs.TypeTables.{IsMeasureOfParts, IsKept}
 use Rattle.type_graph.specs.TypeTables.{HasMoreRows}
@@ -17,7 +17,8 @@ use Rattle.type_graph.specs.declared.tables.TheConstants.{MOST_HEIGHT, SIZE_SHOW
 use Rattle.grift_base.specs.declared.places.TheConstants.{MOST_ENTRIES}
 use Rattle.type_graph.proofs.Places.{none_is_not_some, same_some, get_last, get_before_or_last, HasNoRepeats-push}
 use Rattle.type_graph.proofs.RowLemmas.{rows_are_equal, row_is_itself}
-use Rattle.type_graph.proofs.TreeLemmas.{size_by_parts, height_by_parts, size_grown, height_grown}
+use Rattle.type_graph.proofs.TreeLemmas.{ends_by_parts, ends_deeper, ends_grown, size_by_parts, height_by_parts}
+use Rattle.type_graph.proofs.TreeLemmas.{size_grown, height_grown}
 
 -- ---- the place of a row
 
@@ -97,11 +98,21 @@ intern-from_Interns row old new place apart interns at_place = by_place (place_w
 
 -- ---- one row more
 
+before_or_last : (a n : ℕ) → a < suc n → (a < n) ⊎ (a ≡ n)
+before_or_last zero zero h = inr refl
+before_or_last zero (suc n) h = inl (omega arith)
+before_or_last (suc a) zero h = absurd (omega arith)
+before_or_last (suc a) (suc n) h = more (before_or_last a n (omega arith))
+  where
+    more : (a < n) ⊎ (a ≡ n) → (suc a < suc n) ⊎ (suc a ≡ suc n)
+    more (inl k) = inl (omega arith)
+    more (inr k) = inr (ap suc k)
+
 -- a type and its row in a table with one row more
 abbrev InNewRow : TypeRows → TypeRow → ℕ → TypeRow → Type 0
 InNewRow types row type other = (row_at types type ≡ Some other) ⊎ ((type ≡ length types) × (row ≡ other))
 
-module _ (types : TypeRows) (row : TypeRow) (fits : FitsTable types row) (first : PartsFirst types) where
+module _ (types : TypeRows) (row : TypeRow) (fits : FitsTable types row) (finite : AreFinite types) where
   abbrev new : TypeRows
   new = types ++ row ∷ []
 
@@ -116,15 +127,43 @@ module _ (types : TypeRows) (row : TypeRow) (fits : FitsTable types row) (first 
   abbrev longer : HasMoreRows types new
   longer = (row ∷ [], refl)
 
-  -- parts stand before wholes
-  pub PartsFirst-push : PartsFirst new
-  PartsFirst-push type other e = by_place (get_before_or_last types row other type e)
+  new_length : length new ≡ suc (length types)
+  new_length =
+      length-append types (row ∷ []) ∙ (let one_more : length types + 1 ≡ suc (length types) = omega arith in one_more)
+
+  -- types are trees in the new table too
+  pub AreFinite-push : AreFinite new
+  AreFinite-push = record {
+    closed = λ type other e. closed_at type other (get_before_or_last types row other type e);
+    ends = λ type within. ends_at type (before_or_last type (length types) (let e = new_length in omega arith));
+  }
     where
-      by_place : InNewRow types row type other → All (λ part. part < type) (parts_of other)
-      by_place (inl f) = first type other f
-      by_place (inr f) =
-          subst (λ r. All (λ part. part < type) (parts_of r)) f.1
-          (subst (λ n. All (λ part. part < n) (parts_of row)) (sym f.0) there)
+      room : length types ≤ length new
+      room = let e = new_length in omega arith
+
+      closed_at : (type : ℕ) (other : TypeRow) → InNewRow types row type other →
+          All (λ part. part < length new) (parts_of other)
+      closed_at type other (inl f) =
+          All-weaker (λ part. part < length types) (λ part. part < length new) (λ part below. let r = room in omega arith)
+          (parts_of other) (finite.closed type other f)
+      closed_at type other (inr f) =
+          subst (λ r. All (λ part. part < length new) (parts_of r)) f.1
+          (All-weaker (λ part. part < length types) (λ part. part < length new)
+          (λ part below. let r = room in omega arith) (parts_of row) there)
+
+      ends_at : (type : ℕ) → (type < length types) ⊎ (type ≡ length types) → Ends new type
+      ends_at type (inl old) =
+          subst (λ n. EndsWithin n new type) (sym new_length)
+          (ends_deeper new (length types) type
+          (ends_grown types new finite.closed longer (length types) type old (finite.ends type old)))
+      ends_at type (inr last) =
+          subst (λ n. EndsWithin n new type) (sym new_length)
+          (ends_by_parts new (length types) type
+          (subst (λ r. All (EndsWithin (length types) new) (row_parts r))
+          (sym (ap (λ k. slice_get new k) last ∙ get_last types row))
+          (All-weaker (λ part. part < length types) (EndsWithin (length types) new)
+          (λ part below. ends_grown types new finite.closed longer (length types) part below (finite.ends part below))
+          (parts_of row) there)))
 
   pub HaveWidths-push : HaveWidths types → HaveWidths new
   HaveWidths-push widths type other e = by_place (get_before_or_last types row other type e)
@@ -133,35 +172,31 @@ module _ (types : TypeRows) (row : TypeRow) (fits : FitsTable types row) (first 
       by_place (inl f) = widths type other f
       by_place (inr f) = subst HasWidth f.1 fits.width
 
-  new_length : length new ≡ suc (length types)
-  new_length =
-      length-append types (row ∷ []) ∙ (let one_more : length types + 1 ≡ suc (length types) = omega arith in one_more)
-
   sums_kept : (parts : List ℕ) → All (λ part. part < length types) parts
       → sum_of (size new) parts ≡ sum_of (size types) parts
   sums_kept [] all = refl
   sums_kept (part ∷ parts) all =
-      ap₂ ◌+◌ (size_grown types new first longer part (All-head (λ x. x < length types) part parts all))
+      ap₂ ◌+◌ (size_grown types new finite longer part (All-head (λ x. x < length types) part parts all))
       (sums_kept parts (All-tail (λ x. x < length types) part parts all))
 
   greatest_kept : (parts : List ℕ) → All (λ part. part < length types) parts →
       above_all (height new) parts ≡ above_all (height types) parts
   greatest_kept [] all = refl
   greatest_kept (part ∷ parts) all =
-      ap₂ (λ a b. max (suc a) b) (height_grown types new first longer part
+      ap₂ (λ a b. max (suc a) b) (height_grown types new finite longer part
       (All-head (λ x. x < length types) part parts all))
       (greatest_kept parts (All-tail (λ x. x < length types) part parts all))
 
   -- size and height of the new type
   pub size-new : size new (length types) ≡ suc (sum_of (size types) (parts_of row))
   size-new =
-      size_by_parts new PartsFirst-push (length types) (let e = new_length in omega arith)
+      size_by_parts new AreFinite-push (length types) (let e = new_length in omega arith)
       ∙ ap (λ r. suc (sum_of (size new) (row_parts r))) (get_last types row)
       ∙ ap suc (sums_kept (parts_of row) there)
 
   pub height-new : height new (length types) ≡ above_all (height types) (parts_of row)
   height-new =
-      height_by_parts new PartsFirst-push (length types) (let e = new_length in omega arith)
+      height_by_parts new AreFinite-push (length types) (let e = new_length in omega arith)
       ∙ ap (λ r. above_all (height new) (row_parts r)) (get_last types row)
       ∙ greatest_kept (parts_of row) there
 
@@ -176,19 +211,9 @@ module _ (types : TypeRows) (row : TypeRow) (fits : FitsTable types row) (first 
   pub AreLow-push : AreLow types → AreLow new
   AreLow-push low type within = by_order (before_or_last type (length types) (let e = new_length in omega arith))
     where
-      before_or_last : (a n : ℕ) → a < suc n → (a < n) ⊎ (a ≡ n)
-      before_or_last zero zero h = inr refl
-      before_or_last zero (suc n) h = inl (omega arith)
-      before_or_last (suc a) zero h = absurd (omega arith)
-      before_or_last (suc a) (suc n) h = more (before_or_last a n (omega arith))
-        where
-          more : (a < n) ⊎ (a ≡ n) → (suc a < suc n) ⊎ (suc a ≡ suc n)
-          more (inl k) = inl (omega arith)
-          more (inr k) = inr (ap suc k)
-
       by_order : (type < length types) ⊎ (type ≡ length types) → height new type ≤ MOST_HEIGHT
       by_order (inl old) =
-          subst (λ h. h ≤ MOST_HEIGHT) (sym (height_grown types new first longer type old)) (low type old)
+          subst (λ h. h ≤ MOST_HEIGHT) (sym (height_grown types new finite longer type old)) (low type old)
       by_order (inr last) =
           subst (λ h. h ≤ MOST_HEIGHT) (sym (ap (height new) last ∙ height-new)) (not_too_high (parts_of row) low_parts)
 
@@ -197,7 +222,7 @@ module _ (types : TypeRows) (row : TypeRow) (fits : FitsTable types row) (first 
       length types < MOST_ENTRIES → IsMeasureOfParts types (parts_of row) m → IsKept new (measures ++ m ∷ [])
   IsKept-push measures m same kept room measure = record {
     most = let e = new_length in omega arith;
-    parts_first = PartsFirst-push;
+    finite = AreFinite-push;
     widths = HaveWidths-push kept.widths;
     low = AreLow-push kept.low;
     measured = λ type n e. by_place type n (get_before_or_last measures m n type e);
@@ -209,8 +234,8 @@ module _ (types : TypeRows) (row : TypeRow) (fits : FitsTable types row) (first 
           let old = kept.measured type n f in
           let within : type < length types = let w = slice_get_within measures type n f in omega arith in
           record {
-            height_is = old.height_is ∙ sym (height_grown types new first longer type within);
-            size_is = old.size_is ∙ ap (min SIZE_SHOWN) (sym (size_grown types new first longer type within));
+            height_is = old.height_is ∙ sym (height_grown types new finite longer type within);
+            size_is = old.size_is ∙ ap (min SIZE_SHOWN) (sym (size_grown types new finite longer type within));
           }
       by_place type n (inr f) =
           let last : type ≡ length types = f.0 ∙ same in
@@ -229,9 +254,9 @@ IsOrderedTable-intern types row table fits = by_place (place_where (equal_rows r
     by_place None e = record {
       distinct = HasNoRepeats-push types row table.distinct
           (λ k f. place_missing (equal_rows row) types e k row f (row_is_itself row));
-      parts_first = PartsFirst-push types row fits table.parts_first;
-      widths = HaveWidths-push types row fits table.parts_first table.widths;
-      low = AreLow-push types row fits table.parts_first table.low;
+      finite = AreFinite-push types row fits table.finite;
+      widths = HaveWidths-push types row fits table.finite table.widths;
+      low = AreLow-push types row fits table.finite table.low;
     }
 
 -- an interned row stands at its place

@@ -49,17 +49,17 @@ measure_more types parts k d m p n within old one h s =
 -- ---- what is above all parts
 
 -- each part is below what is above all
-pub part_below_all : (parts : List TypeId) (k : ℕ) (d : TypeId) → k < length parts →
-    (get_or parts k d).0 < above_all (λ part. part) (places_of parts)
-part_below_all [] k d within = absurd (omega arith)
-part_below_all (part ∷ parts) zero d within = omega arith
-part_below_all (part ∷ parts) (suc k) d within = let later = part_below_all parts k d (omega arith) in omega arith
+pub part_below_all : (f : ℕ → ℕ) (parts : List TypeId) (k : ℕ) (d : TypeId) → k < length parts →
+    f (get_or parts k d).0 < above_all f (places_of parts)
+part_below_all f [] k d within = absurd (omega arith)
+part_below_all f (part ∷ parts) zero d within = omega arith
+part_below_all f (part ∷ parts) (suc k) d within = let later = part_below_all f parts k d (omega arith) in omega arith
 
 -- what is above all parts is at most what they are all below
-pub above_all-most : (bound : ℕ) (parts : List ℕ) → All (λ part. part < bound) parts
-    → above_all (λ part. part) parts ≤ bound
-above_all-most bound [] all = omega arith
-above_all-most bound (part ∷ parts) all =
-    let head = All-head (λ x. x < bound) part parts all in
-    let rest = above_all-most bound parts (All-tail (λ x. x < bound) part parts all) in
+pub above_all-most : (f : ℕ → ℕ) (bound : ℕ) (parts : List ℕ) → All (λ part. f part < bound) parts →
+    above_all f parts ≤ bound
+above_all-most f bound [] all = omega arith
+above_all-most f bound (part ∷ parts) all =
+    let head = All-head (λ x. f x < bound) part parts all in
+    let rest = above_all-most f bound parts (All-tail (λ x. f x < bound) part parts all) in
     omega arith

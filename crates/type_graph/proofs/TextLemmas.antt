@@ -8,25 +8,25 @@ use Rattle.grift_base.specs.Types.{TypeRow, TypeRows, IntRow, BoolRow, UnitRow, 
 use Rattle.grift_base.specs.Types.{VectRow, row_at}
 use Rattle.grift_base.specs.declared.places.TypeId.{TypeId}
 use Rattle.type_graph.specs.Rows.{places_of}
-use Rattle.type_graph.specs.Trees.{PartsFirst, row_parts}
+use Rattle.type_graph.specs.Trees.{EndsWithin, AreFinite, row_parts}
 use Rattle.type_graph.specs.Texts.{each_before_space, each_behind_space, row_text, text_to, type_text}
-use Rattle.type_graph.proofs.TreeLemmas.{row_parts_below}
+use Rattle.type_graph.proofs.TreeLemmas.{ends_deeper, parts_end_twice}
 
 -- ---- types in a row
 
-before_same : (f g : ℕ → List ℕ) (below : ℕ) (xs : List ℕ) → ((s : ℕ) → s < below → f s ≡ g s) →
-    All (λ x. x < below) xs → each_before_space f xs ≡ each_before_space g xs
-before_same f g below [] same all = refl
-before_same f g below (x ∷ xs) same all =
-    ap₂ (λ a b. a ++ codes " " ++ b) (same x (All-head (λ x. x < below) x xs all))
-    (before_same f g below xs same (All-tail (λ x. x < below) x xs all))
+before_same : (f g : ℕ → List ℕ) (P : ℕ → Type 0) (xs : List ℕ) → ((s : ℕ) → P s → f s ≡ g s) →
+    All P xs → each_before_space f xs ≡ each_before_space g xs
+before_same f g P [] same all = refl
+before_same f g P (x ∷ xs) same all =
+    ap₂ (λ a b. a ++ codes " " ++ b) (same x (All-head P x xs all))
+    (before_same f g P xs same (All-tail P x xs all))
 
-behind_same : (f g : ℕ → List ℕ) (below : ℕ) (xs : List ℕ) → ((s : ℕ) → s < below → f s ≡ g s) →
-    All (λ x. x < below) xs → each_behind_space f xs ≡ each_behind_space g xs
-behind_same f g below [] same all = refl
-behind_same f g below (x ∷ xs) same all =
-    ap₂ (λ a b. codes " " ++ a ++ b) (same x (All-head (λ x. x < below) x xs all))
-    (behind_same f g below xs same (All-tail (λ x. x < below) x xs all))
+behind_same : (f g : ℕ → List ℕ) (P : ℕ → Type 0) (xs : List ℕ) → ((s : ℕ) → P s → f s ≡ g s) →
+    All P xs → each_behind_space f xs ≡ each_behind_space g xs
+behind_same f g P [] same all = refl
+behind_same f g P (x ∷ xs) same all =
+    ap₂ (λ a b. codes " " ++ a ++ b) (same x (All-head P x xs all))
+    (behind_same f g P xs same (All-tail P x xs all))
 
 pub each_before_space-push : (f : ℕ → List ℕ) (xs : List ℕ) (x : ℕ) →
     each_before_space f (xs ++ x ∷ []) ≡ each_before_space f xs ++ (f x ++ codes " ")
@@ -50,44 +50,47 @@ split_last P (x ∷ xs) a all =
     let rest = split_last P xs a (All-tail P x (xs ++ a ∷ []) all) in
     (All-cons P x xs (All-head P x (xs ++ a ∷ []) all) rest.0, rest.1)
 
-row_text-same : (f g : ℕ → List ℕ) (below : ℕ) (row : Option TypeRow) → ((s : ℕ) → s < below → f s ≡ g s) →
-    All (λ x. x < below) (row_parts row) → row_text f row ≡ row_text g row
-row_text-same f g below (Some IntRow) same all = refl
-row_text-same f g below (Some BoolRow) same all = refl
-row_text-same f g below (Some UnitRow) same all = refl
-row_text-same f g below (Some DynRow) same all = refl
-row_text-same f g below (Some (FunRow parameters answer)) same all =
-    let parts = split_last (λ x. x < below) parameters answer all in
-    ap₂ (λ a b. codes "(" ++ a ++ codes "-> " ++ b ++ codes ")") (before_same f g below parameters same parts.0)
+row_text-same : (f g : ℕ → List ℕ) (P : ℕ → Type 0) (row : Option TypeRow) → ((s : ℕ) → P s → f s ≡ g s) →
+    All P (row_parts row) → row_text f row ≡ row_text g row
+row_text-same f g P (Some IntRow) same all = refl
+row_text-same f g P (Some BoolRow) same all = refl
+row_text-same f g P (Some UnitRow) same all = refl
+row_text-same f g P (Some DynRow) same all = refl
+row_text-same f g P (Some (FunRow parameters answer)) same all =
+    let parts = split_last P parameters answer all in
+    ap₂ (λ a b. codes "(" ++ a ++ codes "-> " ++ b ++ codes ")") (before_same f g P parameters same parts.0)
     (same answer parts.1)
-row_text-same f g below (Some (TupleRow parts)) same all =
-    ap (λ a. codes "(Tuple" ++ a ++ codes ")") (behind_same f g below parts same all)
-row_text-same f g below (Some (RefRow content)) same all =
-    ap (λ a. codes "(Ref " ++ a ++ codes ")") (same content (All-head (λ x. x < below) content [] all))
-row_text-same f g below (Some (VectRow content)) same all =
-    ap (λ a. codes "(Vect " ++ a ++ codes ")") (same content (All-head (λ x. x < below) content [] all))
-row_text-same f g below None same all = refl
+row_text-same f g P (Some (TupleRow parts)) same all =
+    ap (λ a. codes "(Tuple" ++ a ++ codes ")") (behind_same f g P parts same all)
+row_text-same f g P (Some (RefRow content)) same all =
+    ap (λ a. codes "(Ref " ++ a ++ codes ")") (same content (All-head P content [] all))
+row_text-same f g P (Some (VectRow content)) same all =
+    ap (λ a. codes "(Vect " ++ a ++ codes ")") (same content (All-head P content [] all))
+row_text-same f g P None same all = refl
 
-module _ (types : TypeRows) (first : PartsFirst types) where
-  text_steady : (n m a : ℕ) → a < n → a < m → text_to n types a ≡ text_to m types a
-  text_steady zero m a one two = absurd (omega arith)
-  text_steady (suc n) zero a one two = absurd (omega arith)
-  text_steady (suc n) (suc m) a one two =
-      row_text-same (text_to n types) (text_to m types) a (row_at types a)
-      (λ s below. text_steady n m s (omega arith) (omega arith)) (row_parts_below types a (row_at types a) first refl)
+text_steady : (types : TypeRows) (n m a : ℕ) → EndsWithin n types a → EndsWithin m types a →
+    text_to n types a ≡ text_to m types a
+text_steady types zero m a one two = cc
+text_steady types (suc n) zero a one two = cc
+text_steady types (suc n) (suc m) a one two =
+    row_text-same (text_to n types) (text_to m types) (λ s. EndsWithin n types s × EndsWithin m types s) (row_at types a)
+    (λ s both. text_steady types n m s both.0 both.1) (parts_end_twice types n m a one two)
 
-  -- a type's text is that of its row, with the texts of its parts
-  pub text_by_row : (a : ℕ) → a < length types → type_text types a ≡ row_text (type_text types) (row_at types a)
-  text_by_row a within = text_steady (length types) (suc (length types)) a within (omega arith)
+-- a type's text is that of its row, with the texts of its parts
+pub text_by_row : (types : TypeRows) → AreFinite types → (a : ℕ) → a < length types →
+    type_text types a ≡ row_text (type_text types) (row_at types a)
+text_by_row types finite a within =
+    let ends = finite.ends a within in
+    text_steady types (length types) (suc (length types)) a ends (ends_deeper types (length types) a ends)
 
 -- ---- what is written piece by piece
 
 -- a type's text behind another
-module _ (types : TypeRows) (first : PartsFirst types) (a : ℕ) (within : a < length types) (before : List ℕ) where
+module _ (types : TypeRows) (finite : AreFinite types) (a : ℕ) (within : a < length types) (before : List ℕ) where
   behind_row : (row : TypeRow) → row_at types a ≡ Some row → (written : List ℕ) →
       written ≡ before ++ row_text (type_text types) (Some row) → written ≡ before ++ type_text types a
   behind_row row at written e =
-      e ∙ ap (λ l. before ++ l) (sym (text_by_row types first a within ∙ ap (row_text (type_text types)) at))
+      e ∙ ap (λ l. before ++ l) (sym (text_by_row types finite a within ∙ ap (row_text (type_text types)) at))
 
   pub fun_written : (parameters : List ℕ) (answer : ℕ) → row_at types a ≡ Some (FunRow parameters answer) →
       (((before ++ codes "(") ++ each_before_space (type_text types) parameters) ++ codes "-> ")

@@ -1,6 +1,6 @@
--- Types as trees. What is read off a type is read to a depth; a table in which parts stand before wholes is deep enough
--- at its length.
-use Rattle.std.specs.Prelude.{◌≡◌, ℕ, zero, suc, ◌+◌, max, ◌<◌, All, Bool, true, false, ◌&&◌, List, [], ◌∷◌, length}
+-- Types as trees. What is read off a type is read to a depth; the number of a table's rows is deep enough for each of its
+-- types that ends.
+use Rattle.std.specs.Prelude.{◌≡◌, ℕ, zero, suc, ◌+◌, max, ◌<◌, All, Bool, true, false, ◌&&◌, ◌||◌, List, [], ◌∷◌, length}
 use Rattle.std.specs.Prelude.{Option, Some, None}
 use Rattle.grift_base.specs.Types.{TypeRow, TypeRows, row_at, parts_of, same_head}
 
@@ -8,10 +8,34 @@ abbrev pub row_parts : Option TypeRow → List ℕ
 row_parts (Some row) = parts_of row
 row_parts None = []
 
--- each part of a row stands before it
-abbrev pub PartsFirst : TypeRows → Type 0
-PartsFirst types =
-    (type : ℕ) (row : TypeRow) → row_at types type ≡ Some row → All (λ part. part < type) (parts_of row)
+-- ---- types that end
+
+-- the parts of rows are places of the table, in any order
+abbrev pub IsClosed : TypeRows → Type 0
+IsClosed types =
+    (type : ℕ) (row : TypeRow) → row_at types type ≡ Some row → All (λ part. part < length types) (parts_of row)
+
+abbrev pub any_of : (ℕ → Bool) → List ℕ → Bool
+any_of holds [] = false
+any_of holds (part ∷ parts) = holds part || any_of holds parts
+
+-- whether a type has a path of this many parts below it
+abbrev pub deep_to : ℕ → TypeRows → ℕ → Bool
+deep_to zero types type = true
+deep_to (suc depth) types type = any_of (λ part. deep_to depth types part) (row_parts (row_at types type))
+
+-- no path below the type has this many parts
+abbrev pub EndsWithin : ℕ → TypeRows → ℕ → Type 0
+EndsWithin depth types type = deep_to depth types type ≡ false
+
+-- no path below the type is as long as the table, so none meets a row twice
+abbrev pub Ends : TypeRows → ℕ → Type 0
+Ends types type = EndsWithin (length types) types type
+
+-- a table whose types are trees: its rows have their parts there, and each type ends
+pub record AreFinite (types : TypeRows) : Type 0 where
+  pub closed : IsClosed types
+  pub ends : (type : ℕ) → type < length types → Ends types type
 
 -- ---- sizes
 

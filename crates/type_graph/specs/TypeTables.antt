@@ -3,7 +3,7 @@ use Rattle.std.specs.Prelude.{◌≡◌, ◌++◌, ℕ, ◌<◌, ◌≤◌, All,
 use Rattle.grift_base.specs.Tables.{HasNoRepeats}
 use Rattle.grift_base.specs.Types.{TypeRow, TypeRows, IntRow, BoolRow, UnitRow, DynRow, FunRow, TupleRow, RefRow}
 use Rattle.grift_base.specs.Types.{VectRow, row_at, parts_of}
-use Rattle.type_graph.specs.Trees.{PartsFirst, height, size, above_all, sum_of}
+use Rattle.type_graph.specs.Trees.{AreFinite, height, size, above_all, sum_of}
 use Rattle.type_graph.specs.declared.tables.Measure.{Measure}
 use Rattle.type_graph.specs.declared.tables.TheConstants.{MOST_HEIGHT, SIZE_SHOWN}
 use Rattle.grift_base.specs.declared.places.TheConstants.{MOST_ENTRIES}
@@ -26,10 +26,10 @@ HaveWidths types = (type : ℕ) (row : TypeRow) → row_at types type ≡ Some r
 abbrev pub AreLow : TypeRows → Type 0
 AreLow types = (type : ℕ) → type < length types → height types type ≤ MOST_HEIGHT
 
--- a table of types: no row stands in it twice, parts stand before wholes, and rows aren't too wide or high
+-- a table of types: no row stands in it twice, its types are trees, and rows aren't too wide or high
 pub record IsOrderedTable (types : TypeRows) : Type 0 where
   pub distinct : HasNoRepeats types
-  pub parts_first : PartsFirst types
+  pub finite : AreFinite types
   pub widths : HaveWidths types
   pub low : AreLow types
 
@@ -62,7 +62,7 @@ pub record IsMeasureOfParts (types : TypeRows) (parts : List ℕ) (m : Measure) 
 -- what a table keeps beside that its rows are distinct
 pub record IsKept (types : TypeRows) (measures : List Measure) : Type 0 where
   pub most : length types ≤ MOST_ENTRIES
-  pub parts_first : PartsFirst types
+  pub finite : AreFinite types
   pub widths : HaveWidths types
   pub low : AreLow types
   pub measured : (type : ℕ) (m : Measure) → slice_get measures type ≡ Some m → IsMeasure types type m

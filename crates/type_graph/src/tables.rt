@@ -85,7 +85,7 @@ impl TypeTable {
         })
     }
 
-    /// How many rows there are. No row stands twice, and parts stand before wholes.
+    /// How many rows there are. No row stands twice, and types are trees.
     pub fn len(&self) -> u32
         ensures len { result ≡ length self.now }
         ensures table { IsOrderedTable self.now }
@@ -212,7 +212,7 @@ impl TypeTable {
         requires b { b.0 < length self.now }
         ensures { IsTrue result ↔ AreSame self.now a.0 b.0 }
     {
-        // The table is one: `len` says that no row stands twice and that parts stand before wholes.
+        // The table is one: `len` says that no row stands twice and that its types are trees.
         self.len();
         a == b
     }

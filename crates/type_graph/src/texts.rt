@@ -26,7 +26,7 @@ fn write_type(text: &mut Text, types: &TypeTable, t: TypeId) -> Result<(), OutOf
     requires { t.0 < length types.now }
     ensures { OnOk result (text.new ≡ text.old ++ type_text types.now t.0) }
 {
-    // The table is one: `len` says that no row stands twice and that parts stand before wholes.
+    // The table is one: `len` says that no row stands twice and that its types are trees.
     types.len();
     match types.row(t) {
         Row::Int => text.extend(b"Int"),

@@ -10,7 +10,7 @@ pub returns-clause-place : goal.returns-clause-place
 returns-clause-place c = λ types row. row_at-intern row types
 
 pub returns-clause-size : goal.returns-clause-size
-returns-clause-size c = λ types more a first within. size_grown types (types ++ more) first (more, refl) a within
+returns-clause-size c = λ types more a finite within. size_grown types (types ++ more) finite (more, refl) a within
 
 pub returns-clause-height : goal.returns-clause-height
-returns-clause-height c = λ types more a first within. height_grown types (types ++ more) first (more, refl) a within
+returns-clause-height c = λ types more a finite within. height_grown types (types ++ more) finite (more, refl) a within

@@ -5,7 +5,7 @@ pub returns-clause-table : goal.returns-clause-table
 returns-clause-table c =
     rw (← c.self.view_is) (record {
       distinct = table_has_no_repeats c.self.inside.rows.entries c.len.ensures.unique;
-      parts_first = c.self.invariant.parts_first;
+      finite = c.self.invariant.finite;
       widths = c.self.invariant.widths;
       low = c.self.invariant.low;
     })

@@ -1,7 +1,7 @@
-use Rattle.std.proofs.Common.{◌≡◌, ℕ, suc, true, sym, ◌∙◌, subst, arith}
+use Rattle.std.proofs.Common.{◌≡◌, ℕ, true, sym, ◌∙◌, subst}
 use Rattle.std.proofs.lemmas.Bool.{eqb-true, eq-eqb}
 use Rattle.type_graph.specs.Trees.{agree_to}
-use Rattle.type_graph.proofs.TreeLemmas.{agreeing_types_are_one, type_agrees_with_itself}
+use Rattle.type_graph.proofs.TreeLemmas.{same_types_are_one, type_agrees_with_itself}
 use Rattle.type_graph.proofs.tables.TypeTable.same.Goals as goal
 
 pub returns : goal.returns
@@ -13,9 +13,8 @@ returns c =
       λ equal depth.
           let same : a ≡ b = eqb-true a b (sym c.eq.ensures ∙ equal) in
           subst (λ n. agree_to depth types a n ≡ true) same
-          (type_agrees_with_itself types table.distinct table.parts_first depth a c.requires.a),
+          (type_agrees_with_itself types table.finite.closed depth a c.requires.a),
       λ agree.
-          let same : a ≡ b =
-          agreeing_types_are_one types table.distinct table.parts_first (suc a) a b (omega arith) (agree (suc a)) in
+          let same : a ≡ b = same_types_are_one types table.distinct table.finite a b agree in
           c.eq.ensures ∙ eq-eqb a b same,
     )
