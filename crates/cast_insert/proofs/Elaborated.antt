@@ -158,8 +158,10 @@ mutual
 no_types : IsFormedTable []
 no_types = record {
   distinct = (λ i j within e. absurd (omega arith));
-  parts_first = (λ type row e. absurd
-      (none_is_not_some row e));
+  finite = record {
+    closed = λ type row e. absurd (none_is_not_some row e);
+    ends = λ type within. absurd (omega arith);
+  };
 }
 
 at_the_end : {A : Type 0} (P : A → Work → Type 0) (made : Made A) (a : A) (after : Work) → Keeps P made → made ≡ Makes

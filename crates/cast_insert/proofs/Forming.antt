@@ -46,7 +46,7 @@ row_within types type row e = slice_get_within types type row e
 -- the parts of a row of a table have rows
 pub parts_within : (types : TypeRows) (type : ℕ) (row : TypeRow) → IsFormedTable types →
     row_at types type ≡ Some row → AreRows types (parts_of row)
-parts_within types type row table e = parts_below types type row table.parts_first e
+parts_within types type row table e = parts_below types type row table.finite e
 
 -- a row over types that were formed before
 intern_after : (old middle : TypeRows) (row : TypeRow) → IsFormedTable middle → HasMoreRows old middle →
@@ -136,7 +136,7 @@ related_later types new (x ∷ xs) [] table later more ones others e = cc
 related_later types new (x ∷ xs) (y ∷ ys) table later more ones others e =
     let both = and_parts (consistent types x y) (related (consistent types) xs ys) e in
     and_from (consistent new x y) (related (consistent new) xs ys)
-    (consistent_kept types new table.parts_first later.parts_first more x y (head_row types x xs ones)
+    (consistent_kept types new table.finite later.finite more x y (head_row types x xs ones)
     (head_row types y ys others) ∙ both.0)
     (related_later types new xs ys table later more (tail_rows types x xs ones) (tail_rows types y ys others) both.1)
 
@@ -204,4 +204,4 @@ blend_formed zero a b types table one two e = (table, same_rows types, one)
 blend_formed (suc depth) a b types table one two e =
     rows_formed (blend_to depth) (λ s t others kept three four f. blend_formed depth s t others kept three four f) a b
     types (row_at types a) (row_at types b) table one two refl refl
-    (sym (consistent_by_rows types table.parts_first a b one) ∙ e)
+    (sym (consistent_by_rows types table.finite a b one) ∙ e)

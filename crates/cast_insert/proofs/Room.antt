@@ -36,7 +36,7 @@ grows_last (Err fault) a b c f g = g
 
 pub more_grows : (a b : TypeRows) → IsOrderedTable a → HasMoreRows a b → Grows a b
 more_grows a b table more = record {
-  kept = λ type within. (later_within a b type more within, height_grown a b table.parts_first more type within);
+  kept = λ type within. (later_within a b type more within, height_grown a b table.finite more type within);
 }
 
 pub interned_grows : (row : TypeRow) (old new : TypeRows) (type : ℕ) → IsOrderedTable old →
@@ -147,7 +147,7 @@ small_part types type there small =
 height_of_row : (types : TypeRows) (type : ℕ) (row : TypeRow) → IsOrderedTable types →
     row_at types type ≡ Some row → height types type ≡ above_all (height types) (parts_of row)
 height_of_row types type row table e =
-    height_by_parts types table.parts_first type (slice_get_within types type row e)
+    height_by_parts types table.finite type (slice_get_within types type row e)
     ∙ ap (λ row. above_all (height types) (row_parts row)) e
 
 -- the parts of a type that may be one may be parts too
@@ -155,7 +155,7 @@ pub parts_of_part : (types : TypeRows) (type : ℕ) (row : TypeRow) → IsOrdere
     row_at types type ≡ Some row → MayBePart types type → AreParts types (parts_of row)
 parts_of_part types type row table e h = record {
   each = λ k d within.
-      let there = parts_within types type row table.parts_first e k d within in
+      let there = parts_within types type row table.finite e k d within in
       let below = below_above (height types) (parts_of row) k d within in
       let high = height_of_row types type row table e in
       let l = h.low in

@@ -7,20 +7,20 @@ use Rattle.std.proofs.lemmas.List.Elements.{All-weaker}
 use Rattle.grift_base.specs.Tables.{HasNoRepeats}
 use Rattle.grift_base.specs.Types.{TypeRow, TypeRows, row_at, parts_of}
 use Rattle.type_graph.specs.Forming.{equal_rows, place_where, at_place_or_last, intern}
-use Rattle.type_graph.specs.Trees.{PartsFirst}
+use Rattle.type_graph.specs.Trees.{AreFinite}
 use Rattle.type_graph.specs.TypeTables.{HasMoreRows}
 use Rattle.type_graph.proofs.Public.{more_length, intern_adds, row_at-intern, place_missing, row_is_itself}
-use Rattle.type_graph.proofs.Public.{get_before_or_last, HasNoRepeats-push, all_parts_within}
+use Rattle.type_graph.proofs.Public.{HasNoRepeats-push, AreFinite-push, all_parts_within}
 use Rattle.core_calc.specs.Typing.{IsTypeTable}
 
--- a table as it is formed: no row stands in it twice, and the parts of a row stand before it
+-- a table as it is formed: no row stands in it twice, and its types are trees
 pub record IsFormedTable (types : TypeRows) : Type 0 where
   pub distinct : HasNoRepeats types
-  pub parts_first : PartsFirst types
+  pub finite : AreFinite types
 
 -- the table is one of the calculus
 pub type_table : (types : TypeRows) → IsFormedTable types → IsTypeTable types
-type_table types table = record { distinct = table.distinct; closed = all_parts_within types table.parts_first }
+type_table types table = record { distinct = table.distinct; closed = all_parts_within types table.finite }
 
 -- each of these is the place of a row
 abbrev pub AreRows : TypeRows → List ℕ → Type 0
@@ -37,17 +37,6 @@ more_parts a b parts f all =
 abbrev pub Interned : TypeRows → TypeRow → ℕ → TypeRows → Type 0
 Interned old row type new = IsFormedTable new × HasMoreRows old new × (row_at new type ≡ Some row)
 
-parts_first_push : (types : TypeRows) (row : TypeRow) → PartsFirst types → AreRows types (parts_of row) →
-    PartsFirst (types ++ row ∷ [])
-parts_first_push types row first parts type other e = by_place (get_before_or_last types row other type e)
-  where
-    by_place : (row_at types type ≡ Some other) ⊎ ((type ≡ length types) × (row ≡ other)) →
-        All (λ part. part < type) (parts_of other)
-    by_place (inl f) = first type other f
-    by_place (inr f) =
-        subst (λ r. All (λ part. part < type) (parts_of r)) f.1
-        (subst (λ n. All (λ part. part < n) (parts_of row)) (sym f.0) parts)
-
 pub intern_keeps : (types : TypeRows) (row : TypeRow) → IsFormedTable types → AreRows types (parts_of row) →
     Interned types row (intern row types).0 (intern row types).1
 intern_keeps types row table parts =
@@ -59,5 +48,5 @@ intern_keeps types row table parts =
     table_after None e = record {
       distinct = HasNoRepeats-push types row table.distinct
           (λ k f. place_missing (equal_rows row) types e k row f (row_is_itself row));
-      parts_first = parts_first_push types row table.parts_first parts;
+      finite = AreFinite-push types row table.finite parts;
     }

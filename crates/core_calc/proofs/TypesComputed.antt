@@ -425,10 +425,10 @@ pub no_program_term : (types : TypeRows) (term : Term) → program_type types te
 no_program_term types term e labels type h =
     some_is_not_none type (sym (program_type_computed types labels term type h) ∙ e)
 
--- each part of a row has a row, where parts stand before wholes
+-- each part of a row has a row, where the table is one
 table_of_ordered : (types : TypeRows) → IsOrderedTable types → IsTypeTable types
 table_of_ordered types table =
-    record { distinct = table.distinct; closed = all_parts_within types table.parts_first }
+    record { distinct = table.distinct; closed = all_parts_within types table.finite }
 
 -- where a table's look-up tells whether it has a row, the place is the computed one
 pub place_is_computed : (types : TypeRows) (row : TypeRow) (found : Option TypeId) → IsOrderedTable types →

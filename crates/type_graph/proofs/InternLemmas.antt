@@ -8,7 +8,7 @@ use Rattle.std.proofs.lemmas.Option.{slice_get_within, slice_get-get_or, get_or_
 use Rattle.grift_base.specs.Tables.{HasNoRepeats, Interns}
 use Rattle.grift_base.specs.Types.{TypeRow, TypeRows, row_at, parts_of}
 use Rattle.type_graph.specs.Forming.{equal_rows, place_where, at_place_or_last, intern}
-use Rattle.type_graph.specs.Trees.{row_parts, EndsWithin, Ends, AreFinite, sum_of, size, above_all, height}
+use Rattle.type_graph.specs.Trees.{row_parts, EndsWithin, AreFinite, sum_of, size, above_all, height}
 use Rattle.type_graph.specs.TypeTables.{HasWidth, HaveWidths, AreLow, MayBePart, FitsTable, IsOrderedTable, IsMeasure}
 use Rattle.type_graph.specs.TypeTables.{IsMeasureOfParts, IsKept}
 use Rattle.type_graph.specs.TypeTables.{HasMoreRows}
@@ -112,6 +112,51 @@ before_or_last (suc a) (suc n) h = more (before_or_last a n (omega arith))
 abbrev InNewRow : TypeRows → TypeRow → ℕ → TypeRow → Type 0
 InNewRow types row type other = (row_at types type ≡ Some other) ⊎ ((type ≡ length types) × (row ≡ other))
 
+one_row_more : (types : TypeRows) (row : TypeRow) → length (types ++ row ∷ []) ≡ suc (length types)
+one_row_more types row =
+    length-append types (row ∷ []) ∙ (let one_more : length types + 1 ≡ suc (length types) = omega arith in one_more)
+
+-- types are trees where a row is put behind a table that has its parts
+module _ (types : TypeRows) (row : TypeRow) (finite : AreFinite types)
+    (there : All (λ part. part < length types) (parts_of row)) where
+  abbrev longer_table : TypeRows
+  longer_table = types ++ row ∷ []
+
+  abbrev has_more : HasMoreRows types longer_table
+  has_more = (row ∷ [], refl)
+
+  part_there : (part : ℕ) → part < length types → part < length longer_table
+  part_there part below = let e = one_row_more types row in omega arith
+
+  ends_longer : (part : ℕ) → part < length types → EndsWithin (length types) longer_table part
+  ends_longer part below = ends_grown types longer_table finite.closed has_more (length types) part below (finite.ends part below)
+
+  pub AreFinite-push : AreFinite longer_table
+  AreFinite-push = record {
+    closed = λ type other e. closed_at type other (get_before_or_last types row other type e);
+    ends = λ type within. subst (λ n. EndsWithin n longer_table type) (sym (one_row_more types row))
+        (ends_at type (before_or_last type (length types) (let e = one_row_more types row in omega arith)));
+  }
+    where
+      closed_at : (type : ℕ) (other : TypeRow) → InNewRow types row type other →
+          All (λ part. part < length longer_table) (parts_of other)
+      closed_at type other (inl f) =
+          All-weaker (λ part. part < length types) (λ part. part < length longer_table) part_there (parts_of other)
+          (finite.closed type other f)
+      closed_at type other (inr f) =
+          subst (λ r. All (λ part. part < length longer_table) (parts_of r)) f.1
+          (All-weaker (λ part. part < length types) (λ part. part < length longer_table) part_there (parts_of row) there)
+
+      ends_at : (type : ℕ) → (type < length types) ⊎ (type ≡ length types) →
+          EndsWithin (suc (length types)) longer_table type
+      ends_at type (inl old) = ends_deeper longer_table (length types) type (ends_longer type old)
+      ends_at type (inr last) =
+          ends_by_parts longer_table (length types) type
+          (subst (λ r. All (EndsWithin (length types) longer_table) (row_parts r))
+          (sym (ap (λ k. slice_get longer_table k) last ∙ get_last types row))
+          (All-weaker (λ part. part < length types) (EndsWithin (length types) longer_table) ends_longer (parts_of row)
+          there))
+
 module _ (types : TypeRows) (row : TypeRow) (fits : FitsTable types row) (finite : AreFinite types) where
   abbrev new : TypeRows
   new = types ++ row ∷ []
@@ -126,44 +171,6 @@ module _ (types : TypeRows) (row : TypeRow) (fits : FitsTable types row) (finite
 
   abbrev longer : HasMoreRows types new
   longer = (row ∷ [], refl)
-
-  new_length : length new ≡ suc (length types)
-  new_length =
-      length-append types (row ∷ []) ∙ (let one_more : length types + 1 ≡ suc (length types) = omega arith in one_more)
-
-  -- types are trees in the new table too
-  pub AreFinite-push : AreFinite new
-  AreFinite-push = record {
-    closed = λ type other e. closed_at type other (get_before_or_last types row other type e);
-    ends = λ type within. ends_at type (before_or_last type (length types) (let e = new_length in omega arith));
-  }
-    where
-      room : length types ≤ length new
-      room = let e = new_length in omega arith
-
-      closed_at : (type : ℕ) (other : TypeRow) → InNewRow types row type other →
-          All (λ part. part < length new) (parts_of other)
-      closed_at type other (inl f) =
-          All-weaker (λ part. part < length types) (λ part. part < length new) (λ part below. let r = room in omega arith)
-          (parts_of other) (finite.closed type other f)
-      closed_at type other (inr f) =
-          subst (λ r. All (λ part. part < length new) (parts_of r)) f.1
-          (All-weaker (λ part. part < length types) (λ part. part < length new)
-          (λ part below. let r = room in omega arith) (parts_of row) there)
-
-      ends_at : (type : ℕ) → (type < length types) ⊎ (type ≡ length types) → Ends new type
-      ends_at type (inl old) =
-          subst (λ n. EndsWithin n new type) (sym new_length)
-          (ends_deeper new (length types) type
-          (ends_grown types new finite.closed longer (length types) type old (finite.ends type old)))
-      ends_at type (inr last) =
-          subst (λ n. EndsWithin n new type) (sym new_length)
-          (ends_by_parts new (length types) type
-          (subst (λ r. All (EndsWithin (length types) new) (row_parts r))
-          (sym (ap (λ k. slice_get new k) last ∙ get_last types row))
-          (All-weaker (λ part. part < length types) (EndsWithin (length types) new)
-          (λ part below. ends_grown types new finite.closed longer (length types) part below (finite.ends part below))
-          (parts_of row) there)))
 
   pub HaveWidths-push : HaveWidths types → HaveWidths new
   HaveWidths-push widths type other e = by_place (get_before_or_last types row other type e)
@@ -190,13 +197,13 @@ module _ (types : TypeRows) (row : TypeRow) (fits : FitsTable types row) (finite
   -- size and height of the new type
   pub size-new : size new (length types) ≡ suc (sum_of (size types) (parts_of row))
   size-new =
-      size_by_parts new AreFinite-push (length types) (let e = new_length in omega arith)
+      size_by_parts new (AreFinite-push types row finite there) (length types) (let e = one_row_more types row in omega arith)
       ∙ ap (λ r. suc (sum_of (size new) (row_parts r))) (get_last types row)
       ∙ ap suc (sums_kept (parts_of row) there)
 
   pub height-new : height new (length types) ≡ above_all (height types) (parts_of row)
   height-new =
-      height_by_parts new AreFinite-push (length types) (let e = new_length in omega arith)
+      height_by_parts new (AreFinite-push types row finite there) (length types) (let e = one_row_more types row in omega arith)
       ∙ ap (λ r. above_all (height new) (row_parts r)) (get_last types row)
       ∙ greatest_kept (parts_of row) there
 
@@ -209,7 +216,7 @@ module _ (types : TypeRows) (row : TypeRow) (fits : FitsTable types row) (finite
       omega arith
 
   pub AreLow-push : AreLow types → AreLow new
-  AreLow-push low type within = by_order (before_or_last type (length types) (let e = new_length in omega arith))
+  AreLow-push low type within = by_order (before_or_last type (length types) (let e = one_row_more types row in omega arith))
     where
       by_order : (type < length types) ⊎ (type ≡ length types) → height new type ≤ MOST_HEIGHT
       by_order (inl old) =
@@ -221,8 +228,8 @@ module _ (types : TypeRows) (row : TypeRow) (fits : FitsTable types row) (finite
   pub IsKept-push : (measures : List Measure) (m : Measure) → length measures ≡ length types → IsKept types measures →
       length types < MOST_ENTRIES → IsMeasureOfParts types (parts_of row) m → IsKept new (measures ++ m ∷ [])
   IsKept-push measures m same kept room measure = record {
-    most = let e = new_length in omega arith;
-    finite = AreFinite-push;
+    most = let e = one_row_more types row in omega arith;
+    finite = AreFinite-push types row finite there;
     widths = HaveWidths-push kept.widths;
     low = AreLow-push kept.low;
     measured = λ type n e. by_place type n (get_before_or_last measures m n type e);
@@ -254,7 +261,8 @@ IsOrderedTable-intern types row table fits = by_place (place_where (equal_rows r
     by_place None e = record {
       distinct = HasNoRepeats-push types row table.distinct
           (λ k f. place_missing (equal_rows row) types e k row f (row_is_itself row));
-      finite = AreFinite-push types row fits table.finite;
+      finite = AreFinite-push types row table.finite
+          (All-weaker (MayBePart types) (λ part. part < length types) (λ part h. h.there) (parts_of row) fits.parts);
       widths = HaveWidths-push types row fits table.finite table.widths;
       low = AreLow-push types row fits table.finite table.low;
     }

@@ -8,6 +8,6 @@ pub use Rattle.type_graph.proofs.TreeLemmas.{size_by_parts, height_by_parts, par
 pub use Rattle.type_graph.proofs.TreeLemmas.{ends_within_new, ends_grown, size_grown, height_grown}
 pub use Rattle.type_graph.proofs.TreeLemmas.{same_types_are_one, type_agrees_with_itself}
 pub use Rattle.type_graph.proofs.InternLemmas.{place_found, place_missing, intern-from_Interns, IsOrderedTable-intern}
-pub use Rattle.type_graph.proofs.InternLemmas.{row_at-intern, intern_adds, intern_there}
+pub use Rattle.type_graph.proofs.InternLemmas.{AreFinite-push, row_at-intern, intern_adds, intern_there}
 pub use Rattle.type_graph.proofs.MeasureLemmas.{part_at, part_below_all, above_all-most}
 pub use Rattle.type_graph.proofs.TextLemmas.{text_by_row, fun_parts}

@@ -1,5 +1,5 @@
-use Rattle.std.proofs.Common.{◌≡◌, ℕ, ◌<◌, ◌≤◌, ◌++◌, List, [], length, get_or, Some, ap, ◌∙◌, arith}
-use Rattle.std.specs.Prelude.{All, codes}
+use Rattle.std.proofs.Common.{◌≡◌, ℕ, ◌<◌, ◌++◌, List, [], length, get_or, Some, ap, ◌∙◌, arith}
+use Rattle.std.specs.Prelude.{codes}
 use Rattle.std.proofs.lemmas.List.Elements.{All-head}
 use Rattle.grift_base.specs.Types.{FunRow, TupleRow, RefRow, VectRow, row_at}
 use Rattle.type_graph.specs.Rows.{places_of, row_of}
