@@ -28,7 +28,7 @@ pub(crate) fn put(types: &mut TypeTable, row: Row) -> Result<TypeId, OutOfMemory
     ensures stands { IfOk result (λ ty. StandsOn types.old (parts_of (row_of row)) types.new ty.0) }
     ensures leaf { parts_of (row_of row) ≡ [] → IfOk result (λ ty. MayBePart types.new ty.0) }
 {
-    // The table is one: `len` says that parts stand before wholes.
+    // The table is one: `len` says that its types are trees.
     types.len();
     let ty = types.intern(row)?;
     types.len();
