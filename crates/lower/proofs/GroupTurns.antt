@@ -29,7 +29,8 @@ pub store_more : (s : Shape) (d captured first place left less next test address
     → ((k : Code) → ahead a (store_others s d captured first place left k) ≡ ahead start (whole k))
     → Adds a b (λ k. store_far test d (Number one) offset k) → Adds b c (put (CodeOfStep address number))
     → Adds c e (λ k. store_far test d (Word address) (offset + 8) k)
-    → test ≡ test_word s → address ≡ operand_word s 0 → one ≡ header 1 1 → offset ≡ function_offset captured place
+    → test ≡ test_word s → address ≡ operand_word s 0 → one ≡ header (kind_number Closure) 1 → offset
+    ≡ function_offset captured place
     → number ≡ first + place → next ≡ place + 1 → left ≡ suc less
     → (k : Code) → ahead e (store_others s d captured first next less k) ≡ ahead start (whole k)
 store_more s d captured first place left less next test address one offset number a b c e start whole kept x y z t w

@@ -25,15 +25,20 @@ use Rattle.rt_cast.specs.WholeObjects.{Wholes}
 use Rattle.rt_refs.specs.CallLaws.{Resumes}
 use Rattle.lower.specs.Emit.{cast_word}
 use Rattle.lower.specs.Meanings.{Meaning}
+use Rattle.object_layout.specs.Kinds.{kind_number}
+use Rattle.object_layout.specs.declared.kinds.Kind.TheVariants.{Closure, Proxy, Tuple as TupleKind, Boxed, Vector}
 
 -- what a middle wraps is of its kind: a function, a tuple, a box or a vector
 abbrev pub WrapsKind : Layout → List Object → Coercion → ℕ → Type 0
 WrapsKind l objects (Middle Fun parts) target =
-    (code : ℕ) × (rest : List ℕ) × There l objects target (Fixed (header 1 0 (suc (length rest))) (code ∷ rest))
+    (code : ℕ) × (rest : List ℕ) × There l objects target
+    (Fixed (header (kind_number Closure) 0 (suc (length rest))) (code ∷ rest))
 WrapsKind l objects (Middle Tup parts) target =
-    (words : List ℕ) × There l objects target (Fixed (header 4 0 (length words)) words)
-WrapsKind l objects (Middle Ref parts) target = (count : ℕ) × There l objects target (Cell (header 5 0 count) count)
-WrapsKind l objects (Middle Vec parts) target = (count : ℕ) × There l objects target (Cell (header 6 0 count) count)
+    (words : List ℕ) × There l objects target (Fixed (header (kind_number TupleKind) 0 (length words)) words)
+WrapsKind l objects (Middle Ref parts) target = (count : ℕ) × There l objects target
+    (Cell (header (kind_number Boxed) 0 count) count)
+WrapsKind l objects (Middle Vec parts) target = (count : ℕ) × There l objects target
+    (Cell (header (kind_number Vector) 0 count) count)
 WrapsKind l objects Id target = Unit {0}
 WrapsKind l objects (Fail label) target = Unit {0}
 WrapsKind l objects (Inject g kept) target = Unit {0}
@@ -44,7 +49,8 @@ abbrev pub merged_wraps : Layout → List Object → List Coercion → ℕ → �
 merged_wraps l objects [] target w = ⊥
 merged_wraps l objects (c ∷ d ∷ casts) target w = ⊥
 merged_wraps l objects (c ∷ []) target w =
-    (wc : ℕ) × There l objects w (Fixed (header 2 0 2) (target ∷ wc ∷ [])) × Held l objects c wc × IsLow l c
+    (wc : ℕ) × There l objects w (Fixed (header (kind_number Proxy) 0 2) (target ∷ wc ∷ [])) × Held l objects c wc
+    × IsLow l c
     × WrapsKind l objects c target
 
 -- each cast is handed on as a word that holds its coercion among the static objects

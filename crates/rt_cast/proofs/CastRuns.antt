@@ -81,6 +81,7 @@ use Rattle.std.proofs.Common.{◌⊎◌, sym, cond, nat_eq, not}
 use Rattle.std.specs.Prelude.{◌&&◌, ◌||◌, if◌then◌else◌}
 use Rattle.grift_base.specs.Types.{IntRow, BoolRow, UnitRow, DynRow, FunRow, TupleRow, RefRow, VectRow, is_dyn}
 use Rattle.rt_cast.proofs.Objects.{proxy_header, dyn_header, fail_header, inject_header, project_header}
+use Rattle.rt_cast.specs.ComposeCodes.{cast_place, coerce_place, compose_place}
 
 small_kind : (kind : ObjectKind) → number_of kind < 256
 small_kind Closure = omega arith
@@ -423,8 +424,8 @@ module _ {V : Type 0} (walk : Walk V) (low : walk.l.tallest ≤ 65534) (A : Type
           (computes walk objects fine proxy_header 255 2 refl refl (kind_read 2 0 2 (omega arith)) refl
           (if_true walk objects fine 2 2 refl refl refl
           (loads walk objects fine wv proxy_header (hv.0 ∷ hv.1 ∷ []) 2 hv.1 refl hv.2 refl refl refl
-          (calls walk objects fine (hv.1 ∷ wc ∷ []) (proc 2 12 (compose_code walk.first)) refl
-          (walk.stands 1 _ refl) refl
+          (calls walk objects fine (hv.1 ∷ wc ∷ []) (compose_proc walk.first) refl
+          (walk.stands compose_place _ refl) refl
           (does _ objects h fine _ hv.1 wc hv.4 hc
           (λ new h' w count locals rests' b grows fine' held is. comes_back walk new fine' w is refl
           (loads walk new fine' wv proxy_header (hv.0 ∷ hv.1 ∷ []) 1 hv.0 refl
@@ -489,7 +490,7 @@ module _ {V : Type 0} (walk : Walk V) (low : walk.l.tallest ≤ 65534) (A : Type
       (λ rests. if_false walk objects fine 13 8 refl refl refl
       (if_true walk objects fine 13 13 refl refl refl
       (loads walk objects fine wc (inject_header y1) ws 1 hc.0 refl hc.2 refl refl refl
-      (calls walk objects fine (wv ∷ hc.0 ∷ []) (proc 2 10 (cast_code walk.first)) refl (walk.stands 2 _ refl) refl
+      (calls walk objects fine (wv ∷ hc.0 ∷ []) (cast_proc walk.first) refl (walk.stands cast_place _ refl) refl
       (does _ objects h fine _ wv hc.0 hv hc.3
       (after B _ objects waiting _ 9 refl (apply_plain R n g u) (λ y. GivesValue (InDyn kept y)) go
       (λ y go' new h' w grows fine' held.
@@ -571,7 +572,7 @@ module _ {V : Type 0} (walk : Walk V) (low : walk.l.tallest ≤ 65534) (A : Type
                 (loads walk objects fine wc (project_header y1) ws 1 hc.0 l1 hc.2 refl refl refl
                 (loads walk objects fine wc (project_header y1) ws 2 label l1 hc.2 refl refl refl
                 (calls walk objects fine (o.0 ∷ hc.0 ∷ label ∷ []) (coerce_proc walk.first) refl
-                (walk.stands 0 _ refl) refl
+                (walk.stands coerce_place _ refl) refl
                 (casts hv.3 lk _ objects h fine _ o.0 hc.0 o.2 hc.3
                 (part_small walk objects h fine wc (project_header y1) ws hc.2 2 label refl)
                 (λ new h' w count locals' rests' b grows fine' held is. comes_back walk new fine' w is refl
@@ -579,11 +580,13 @@ module _ {V : Type 0} (walk : Walk V) (low : walk.l.tallest ≤ 65534) (A : Type
                 (there_still walk.l objects new wc _ grows hc.2)
                 refl
                 refl refl
-                (calls walk new fine' (w ∷ hc.1 ∷ []) (compose_proc walk.first) refl (walk.stands 1 _ refl) refl
+                (calls walk new fine' (w ∷ hc.1 ∷ []) (compose_proc walk.first) refl
+                (walk.stands compose_place _ refl) refl
                 (composes hv.3 lk _ new h' fine' _ w hc.1 held (held_still walk.l objects new grows i hc.1 hc.4)
                 (λ new2 h2 w2 count2 locals2 rests2 b2 grows2 fine2 held2 is2. comes_back walk new2 fine2 w2 is2 refl
                 (let far2 = grows_on objects new new2 grows grows2 in
-                tail_calls walk new2 fine2 (hv.0 ∷ w2 ∷ []) (cast_proc walk.first) refl (walk.stands 2 _ refl) refl
+                tail_calls walk new2 fine2 (hv.0 ∷ w2 ∷ []) (cast_proc walk.first) refl
+                (walk.stands cast_place _ refl) refl
                 (finals hv.3 lk _ new2 h2 fine2 waiting hv.0 w2 (carried_still objects new2 far2 x hv.0 hv.4) held2
                 (rebased B objects new2 waiting far2 (apply_final R n e2 x) go)))))))))))))) (
                   omega arith,
@@ -644,7 +647,7 @@ module _ {V : Type 0} (walk : Walk V) (low : walk.l.tallest ≤ 65534) (A : Type
                     (arith, f)) s.narrow) refl
                     (loads walk objects fine wc (project_header y1) ws 3 hc.1 l1 hc.2 refl refl refl
                     (tail_calls walk objects fine (hv.0 ∷ hc.1 ∷ []) (cast_proc walk.first) refl
-                    (walk.stands 2 _ refl) refl
+                    (walk.stands cast_place _ refl) refl
                     (subst (λ c. CastDoes cost2 (suc above) asks2 price2 (compose_to R n c i) x
                     (apply_final R n (compose_to R n c i) x)) is_id (finals hv.3 ((walk.types.heights kept n).1 hv.2))
                     B objects h fine waiting hv.0 hc.1 hv.4 hc.4

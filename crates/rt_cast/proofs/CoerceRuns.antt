@@ -57,6 +57,8 @@ use Rattle.rt_cast.proofs.ComposeSteps.{type_small, type_still, parts_less, word
 use Rattle.rt_cast.proofs.ComposeRuns.{AllCasts}
 use Rattle.rt_cast.proofs.Walks.{Walk}
 use Rattle.rt_cast.proofs.Objects.{inject_header, project_header}
+use Rattle.rt_cast.specs.ComposeCodes.{coerce_middle_place, coerce_part_place, coerce_place, pair_place, raise_place}
+use Rattle.rt_cast.specs.Procs.{coerce_proc, raise_proc}
 
 long_fun : (ps qs : List ℕ) (a b : ℕ) → nat_eq (length ps) (length qs) ≡ (length (ps ++ a ∷ []) == length
     (qs ++ b ∷ []))
@@ -202,15 +204,15 @@ module _ {V : Type 0} (walk : Walk V) where
 
   coerce_stands : (r : ℕ) → r ≤ 8 → slice_get walk.setting.procs (coerce_of walk.first r) ≡ Some (middle_proc walk.first
       (coerce_part walk.first) r)
-  coerce_stands zero le = walk.stands 18 _ refl
-  coerce_stands (suc zero) le = walk.stands 19 _ refl
-  coerce_stands (suc (suc zero)) le = walk.stands 20 _ refl
-  coerce_stands (suc (suc (suc zero))) le = walk.stands 21 _ refl
-  coerce_stands (suc (suc (suc (suc zero)))) le = walk.stands 22 _ refl
-  coerce_stands (suc (suc (suc (suc (suc zero))))) le = walk.stands 23 _ refl
-  coerce_stands (suc (suc (suc (suc (suc (suc zero)))))) le = walk.stands 24 _ refl
-  coerce_stands (suc (suc (suc (suc (suc (suc (suc zero))))))) le = walk.stands 25 _ refl
-  coerce_stands (suc (suc (suc (suc (suc (suc (suc (suc zero)))))))) le = walk.stands 26 _ refl
+  coerce_stands zero le = walk.stands (coerce_middle_place 0) _ refl
+  coerce_stands (suc zero) le = walk.stands (coerce_middle_place 1) _ refl
+  coerce_stands (suc (suc zero)) le = walk.stands (coerce_middle_place 2) _ refl
+  coerce_stands (suc (suc (suc zero))) le = walk.stands (coerce_middle_place 3) _ refl
+  coerce_stands (suc (suc (suc (suc zero)))) le = walk.stands (coerce_middle_place 4) _ refl
+  coerce_stands (suc (suc (suc (suc (suc zero))))) le = walk.stands (coerce_middle_place 5) _ refl
+  coerce_stands (suc (suc (suc (suc (suc (suc zero)))))) le = walk.stands (coerce_middle_place 6) _ refl
+  coerce_stands (suc (suc (suc (suc (suc (suc (suc zero))))))) le = walk.stands (coerce_middle_place 7) _ refl
+  coerce_stands (suc (suc (suc (suc (suc (suc (suc (suc zero)))))))) le = walk.stands (coerce_middle_place 8) _ refl
   coerce_stands (suc (suc (suc (suc (suc (suc (suc (suc (suc r))))))))) le = absurd (omega arith)
 
   abbrev R : ℕ → TypeRow
@@ -246,11 +248,11 @@ module _ {V : Type 0} (walk : Walk V) where
           no_locals)
           (in_order cast_go b) rests waiting h)
       by true rests go =
-          tail_calls walk objects fine (y ∷ x ∷ label ∷ []) (proc 3 11 (coerce_code walk.first)) refl (walk.stands 0 _
+          tail_calls walk objects fine (y ∷ x ∷ label ∷ []) (coerce_proc walk.first) refl (walk.stands coerce_place _
           refl) refl
           (back _ objects h fine waiting y x hy hx small go)
       by false rests go =
-          tail_calls walk objects fine (x ∷ y ∷ label ∷ []) (proc 3 11 (coerce_code walk.first)) refl (walk.stands 0 _
+          tail_calls walk objects fine (x ∷ y ∷ label ∷ []) (coerce_proc walk.first) refl (walk.stands coerce_place _
           refl) refl
           (there _ objects h fine waiting x y hx hy small go)
 
@@ -289,7 +291,8 @@ module _ {V : Type 0} (walk : Walk V) where
       known1
       known2 there back low objects h fine waiting wf wt hf ht go =
       at_most walk ((middle_made walk (raise walk.first) (coerce_part walk.first) (proc 6 6 (part_code cast_go))
-      (walk.stands 5 _ refl) (walk.stands 7 _ refl) refl refl (cost + 4) above asks (price + 81) offset total
+      (walk.stands raise_place _ refl) (walk.stands coerce_part_place _ refl) refl refl (cost + 4) above asks
+      (price + 81) offset total
       (few_parts kind total few.0)
       objects waiting kind few wf wt total label (type_header from) (type_header to) (type_words from)
       (type_words to) (type_there walk objects wf from hf) (type_there walk objects wt to ht)
@@ -484,7 +487,8 @@ module _ {V : Type 0} (walk : Walk V) where
           ∙ (less_back (kind_number kind) ∙ omega (arith, numbers kind))) refl
           (if_false walk objects fine (kind_number kind) 11 refl refl (lt_false (kind_number kind) 11 ge)
           (tail_calls walk objects fine (wf ∷ wt ∷ kind_number kind ∷ 2 ∷ label ∷ [])
-          (proc 5 24 (middle_code (raise walk.first) (coerce_part walk.first) first_word 2)) refl (walk.stands 8 _
+          (proc 5 24 (middle_code (raise walk.first) (coerce_part walk.first) first_word 2)) refl
+          (walk.stands pair_place _
           refl) refl
           (middles_between n le below from to label small lf lt kind some first_word (λ k. 1) (λ k. omega arith) 2 wide
           (sym (ap length slots1)) (sym (ap length slots2)) (λ k a. twice_got from c parts1 slots1 k a)
@@ -574,7 +578,7 @@ module _ {V : Type 0} (walk : Walk V) where
       let e : max 0 (tall to) ≡ max (tall to) 0 = omega arith in
       at_most walk
       (if_true walk objects fine (type_kind (R from)) 19 refl refl (eq_true (type_kind (R from)) 19 dyn)
-      (calls walk objects fine (0 ∷ wt ∷ []) (proc 2 3 raise_code) refl (walk.stands 5 _ refl) refl
+      (calls walk objects fine (0 ∷ wt ∷ []) raise_proc refl (walk.stands raise_place _ refl) refl
       (raised walk objects h fine _ 0 wt (tall to) (type_tall walk objects wt to ht)
       (λ count2 locals2 rests2 a2 is2. comes_back walk objects fine H is2 refl
       (computes walk objects fine H 16 (compute Sll H 16) refl refl refl refl
@@ -613,7 +617,7 @@ module _ {V : Type 0} (walk : Walk V) where
       at_most walk
       (if_false walk objects fine (type_kind (R from)) 19 refl refl other
       (if_true walk objects fine (type_kind (R to)) 19 refl refl (eq_true (type_kind (R to)) 19 dyn)
-      (calls walk objects fine (0 ∷ wf ∷ []) (proc 2 3 raise_code) refl (walk.stands 5 _ refl) refl
+      (calls walk objects fine (0 ∷ wf ∷ []) raise_proc refl (walk.stands raise_place _ refl) refl
       (raised walk objects h fine _ 0 wf (tall from) (type_tall walk objects wf from hf)
       (λ count2 locals2 rests2 a2 is2. comes_back walk objects fine H is2 refl
       (computes walk objects fine H 16 (compute Sll H 16) refl refl refl refl

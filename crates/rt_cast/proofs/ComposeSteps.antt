@@ -47,6 +47,8 @@ use Rattle.rt_cast.proofs.PartWords.{count, nth, word_at, got, as_many, nth_held
 use Rattle.rt_cast.proofs.PartWords.{follow_list}
 use Rattle.rt_cast.proofs.Walks.{Walk}
 use Rattle.rt_cast.proofs.Objects.{inject_header, project_header}
+use Rattle.rt_cast.specs.ComposeCodes.{coerce_place, compose_place, final_place, middle_place, part_place, raise_place}
+use Rattle.rt_cast.specs.Procs.{coerce_proc, compose_proc, final_proc, raise_proc}
 
 pub type_numbers : (row : TypeRow) → type_kind row < 256
 type_numbers IntRow = omega arith
@@ -149,15 +151,15 @@ module _ {V : Type 0} (walk : Walk V) where
 
   pub middle_stands : (r : ℕ) → r ≤ 8 → slice_get walk.setting.procs (middle_of walk.first r) ≡ Some
       (middle_proc walk.first (part walk.first) r)
-  middle_stands zero le = walk.stands 9 _ refl
-  middle_stands (suc zero) le = walk.stands 10 _ refl
-  middle_stands (suc (suc zero)) le = walk.stands 11 _ refl
-  middle_stands (suc (suc (suc zero))) le = walk.stands 12 _ refl
-  middle_stands (suc (suc (suc (suc zero)))) le = walk.stands 13 _ refl
-  middle_stands (suc (suc (suc (suc (suc zero))))) le = walk.stands 14 _ refl
-  middle_stands (suc (suc (suc (suc (suc (suc zero)))))) le = walk.stands 15 _ refl
-  middle_stands (suc (suc (suc (suc (suc (suc (suc zero))))))) le = walk.stands 16 _ refl
-  middle_stands (suc (suc (suc (suc (suc (suc (suc (suc zero)))))))) le = walk.stands 17 _ refl
+  middle_stands zero le = walk.stands (middle_place 0) _ refl
+  middle_stands (suc zero) le = walk.stands (middle_place 1) _ refl
+  middle_stands (suc (suc zero)) le = walk.stands (middle_place 2) _ refl
+  middle_stands (suc (suc (suc zero))) le = walk.stands (middle_place 3) _ refl
+  middle_stands (suc (suc (suc (suc zero)))) le = walk.stands (middle_place 4) _ refl
+  middle_stands (suc (suc (suc (suc (suc zero))))) le = walk.stands (middle_place 5) _ refl
+  middle_stands (suc (suc (suc (suc (suc (suc zero)))))) le = walk.stands (middle_place 6) _ refl
+  middle_stands (suc (suc (suc (suc (suc (suc (suc zero))))))) le = walk.stands (middle_place 7) _ refl
+  middle_stands (suc (suc (suc (suc (suc (suc (suc (suc zero)))))))) le = walk.stands (middle_place 8) _ refl
   middle_stands (suc (suc (suc (suc (suc (suc (suc (suc (suc r))))))))) le = absurd (omega arith)
 
   -- the procedure for so many parts as a word says
@@ -387,16 +389,16 @@ module _ {V : Type 0} (walk : Walk V) where
       (if_false walk objects fine hk 13 refl refl (no_middle kind 13 (inr (omega arith)))
       (if_true walk objects fine 13 13 refl refl refl
       (loads walk objects fine wd (inject_header y2) words2 1 hd.0 refl hd.2 refl refl refl
-      (calls walk objects fine (wc ∷ hd.0 ∷ []) (proc 2 12 (compose_code walk.first)) refl (walk.stands 1 _ refl) refl
+      (calls walk objects fine (wc ∷ hd.0 ∷ []) (compose_proc walk.first) refl (walk.stands compose_place _ refl) refl
       (rec _ objects h fine _ wc hd.0 hc hd.3
       (λ new h' w count locals rests' a grows fine' held is. comes_back walk new fine' w is refl
       (loads walk new fine' wd (inject_header y2) words2 2 hd.1 refl
       (there_still walk.l objects new wd _ grows hd.2) refl
       refl refl
-      (calls walk new fine' (0 ∷ w ∷ []) (proc 2 3 raise_code) refl (walk.stands 5 _ refl) refl
+      (calls walk new fine' (0 ∷ w ∷ []) raise_proc refl (walk.stands raise_place _ refl) refl
       (raised walk new h' fine' _ 0 w y (has_height walk.l new e w (omega (arith, low)) held)
       (λ count2 locals2 rests2 a2 is2. comes_back walk new fine' (max 0 y) is2 refl
-      (calls walk new fine' (max 0 y ∷ hd.1 ∷ []) (proc 2 3 raise_code) refl (walk.stands 5 _ refl) refl
+      (calls walk new fine' (max 0 y ∷ hd.1 ∷ []) raise_proc refl (walk.stands raise_place _ refl) refl
       (raised walk new h' fine' _ (max 0 y) hd.1 (th kept) (type_tall new hd.1 kept (type_still objects new hd.1 kept
       hd.4))
       (λ count3 locals3 rests3 a3 is3. comes_back walk new fine' H is3 refl
@@ -451,21 +453,21 @@ module _ {V : Type 0} (walk : Walk V) where
       (reads_first objects h fine waiting wc wd 14 y1 3 ws hc.2 (omega arith)
       (λ rests. if_true walk objects fine 14 14 refl refl refl
       (loads walk objects fine wc (project_header y1) ws 3 hc.1 refl hc.2 refl refl refl
-      (calls walk objects fine (hc.1 ∷ wd ∷ []) (proc 2 12 (compose_code walk.first)) refl (walk.stands 1 _ refl) refl
+      (calls walk objects fine (hc.1 ∷ wd ∷ []) (compose_proc walk.first) refl (walk.stands compose_place _ refl) refl
       (rec _ objects h fine _ hc.1 wd hc.4 hd
       (λ new h' w count locals rests' a grows fine' held is. comes_back walk new fine' w is refl
-      (calls walk new fine' (w ∷ []) (proc 1 2 final_code) refl (walk.stands 6 _ refl) refl
+      (calls walk new fine' (w ∷ []) final_proc refl (walk.stands final_place _ refl) refl
       (finals walk new h' fine' _ e w held
       (λ count1 locals1 rests1 a1 is1. comes_back walk new fine' (final_word e w) is1 refl
       (loads walk new fine' wc (project_header y1) ws 1 hc.0 refl (there_still walk.l objects new wc _ grows hc.2) refl
       refl refl
       (loads walk new fine' wc (project_header y1) ws 2 label refl (there_still walk.l objects new wc _ grows hc.2) refl
       refl refl
-      (calls walk new fine' (0 ∷ hc.0 ∷ []) (proc 2 3 raise_code) refl (walk.stands 5 _ refl) refl
+      (calls walk new fine' (0 ∷ hc.0 ∷ []) raise_proc refl (walk.stands raise_place _ refl) refl
       (raised walk new h' fine' _ 0 hc.0 (th wanted) (type_tall new hc.0 wanted (type_still objects new hc.0 wanted
       hc.3))
       (λ count2 locals2 rests2 a2 is2. comes_back walk new fine' (max 0 (th wanted)) is2 refl
-      (calls walk new fine' (max 0 (th wanted) ∷ final_word e w ∷ []) (proc 2 3 raise_code) refl (walk.stands 5 _ refl)
+      (calls walk new fine' (max 0 (th wanted) ∷ final_word e w ∷ []) raise_proc refl (walk.stands raise_place _ refl)
       refl
       (raised walk new h' fine' _ (max 0 (th wanted)) (final_word e w) y (has_height walk.l new (final e) (final_word e
       w) (omega (arith, low)) (final_held walk.l new e w held))
@@ -535,20 +537,20 @@ module _ {V : Type 0} (walk : Walk V) where
       (loads walk objects fine wc (inject_header y1) ws1 2 hc.1 refl hc.2 refl refl refl
       (loads walk objects fine wd (project_header y2) ws2 1 hd.0 refl hd.2 refl refl refl
       (loads walk objects fine wd (project_header y2) ws2 2 label refl hd.2 refl refl refl
-      (calls walk objects fine (hc.1 ∷ hd.0 ∷ label ∷ []) (proc 3 11 (coerce_code walk.first)) refl (walk.stands 0 _
+      (calls walk objects fine (hc.1 ∷ hd.0 ∷ label ∷ []) (coerce_proc walk.first) refl (walk.stands coerce_place _
       refl) refl
       (casts _ objects h fine _ hc.1 hd.0 hc.4 hd.3 (part_small objects h fine wd (project_header y2) ws2 hd.2 2 label
       refl)
       (λ new h' w count locals rests' a grows fine' held is. comes_back walk new fine' w is refl
       (loads walk new fine' wd (project_header y2) ws2 3 hd.1 refl (there_still walk.l objects new wd _ grows hd.2) refl
       refl refl
-      (calls walk new fine' (w ∷ hd.1 ∷ []) (proc 2 12 (compose_code walk.first)) refl (walk.stands 1 _ refl) refl
+      (calls walk new fine' (w ∷ hd.1 ∷ []) (compose_proc walk.first) refl (walk.stands compose_place _ refl) refl
       (rec1 _ new h' fine' _ w hd.1 held (held_still walk.l objects new grows i hd.1 hd.4)
       (λ new2 h2 w2 count2 locals2 rests2 a2 grows2 fine2 held2 is2. comes_back walk new2 fine2 w2 is2 refl
       (let far2 = grows_on objects new new2 grows grows2 in
       loads walk new2 fine2 wc (inject_header y1) ws1 1 hc.0 refl (there_still walk.l objects new2 wc _ far2 hc.2) refl
       refl refl
-      (tail_calls walk new2 fine2 (hc.0 ∷ w2 ∷ []) (proc 2 12 (compose_code walk.first)) refl (walk.stands 1 _ refl)
+      (tail_calls walk new2 fine2 (hc.0 ∷ w2 ∷ []) (compose_proc walk.first) refl (walk.stands compose_place _ refl)
       refl
       (rec2 _ new2 h2 fine2 waiting hc.0 w2 (held_still walk.l objects new2 far2 g hc.0 hc.3) held2
       (λ new3 h3 w3 count3 locals3 rests3 a3 grows3 fine3 held3 is3. go new3 h3 w3 count3 locals3 rests3 a3
@@ -575,11 +577,11 @@ module _ {V : Type 0} (walk : Walk V) where
           (kind_number kind ∷ n ∷ k ∷ x ∷ y ∷ e ∷ []) no_locals)
           (in_order (λ x y. TailCall (compose walk.first) (x ∷ y ∷ [])) b) rests waiting h)
       by true rests go =
-          tail_calls walk objects fine (y ∷ x ∷ []) (proc 2 12 (compose_code walk.first)) refl (walk.stands 1 _ refl)
+          tail_calls walk objects fine (y ∷ x ∷ []) (compose_proc walk.first) refl (walk.stands compose_place _ refl)
           refl
           (back _ objects h fine waiting y x hy hx go)
       by false rests go =
-          tail_calls walk objects fine (x ∷ y ∷ []) (proc 2 12 (compose_code walk.first)) refl (walk.stands 1 _ refl)
+          tail_calls walk objects fine (x ∷ y ∷ []) (compose_proc walk.first) refl (walk.stands compose_place _ refl)
           refl
           (there _ objects h fine waiting x y hx hy go)
 
@@ -630,8 +632,9 @@ module _ {V : Type 0} (walk : Walk V) where
           let m : list_of (follow_at next kind cs ds) r 0 ≡ follow_parts next kind cs ds = follow_list next kind
           (follow_at next kind cs ds) cs ds 0 r (omega (arith, c1, c2)) (λ i lt. let z : 0 + i ≡ i = omega arith in
           ap (follow_at next kind cs ds) z) in
-          at_most walk ((middle_made walk (raise walk.first) (part walk.first) (part_proc walk.first) (walk.stands 5 _
-          refl) (walk.stands 4 _ refl) refl refl (cost + 4) above asks (price + 77) each_word r
+          at_most walk ((middle_made walk (raise walk.first) (part walk.first) (part_proc walk.first)
+          (walk.stands raise_place _
+          refl) (walk.stands part_place _ refl) refl refl (cost + 4) above asks (price + 77) each_word r
           (few_parts kind r wide.0) objects waiting
           kind wide wc wd n1 0 (header (kind_number kind) y1 n1) (header (kind_number other) y2 n2) hc.0 hd.0 hc.1
           hd.1 (follow_at next kind cs ds) (word_at hc.0) (word_at hd.0) suc (λ k. omega arith) (λ k lt. got hc.0 k

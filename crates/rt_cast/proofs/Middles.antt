@@ -39,6 +39,7 @@ use Rattle.rt_cast.proofs.Steps.{computes, if_true, if_false, builds, calls, com
 use Rattle.rt_cast.proofs.Small.{grows_not, grows_on, there_still, HasHeight, not_zero, raised, numbers}
 use Rattle.rt_cast.proofs.Small.{ReachedIn}
 use Rattle.rt_cast.proofs.Walks.{Walk}
+use Rattle.rt_cast.specs.Procs.{raise_proc}
 
 -- ---- what is held stays held
 
@@ -327,7 +328,7 @@ module _ {V : Type 0} (walk : Walk V) where
   pub one_more : (objects : List Object) (o : Object) → Grows objects (objects ++ o ∷ [])
   one_more objects o = record { more = o ∷ []; is = refl }
 
-  module _ (raise part : ℕ) (p : Proc) (raise_stands : slice_get walk.setting.procs raise ≡ Some (proc 2 3 raise_code))
+  module _ (raise part : ℕ) (p : Proc) (raise_stands : slice_get walk.setting.procs raise ≡ Some raise_proc)
       (part_stands : slice_get walk.setting.procs part ≡ Some p) (takes : serves 6 p ≡ true)
       (enters : entering p.words ≡ 15) where
     module _ (cost above asks price : ℕ) (offset : ℕ → ℕ) (total : ℕ) (few : total ≤ 8) (objects : List Object)
@@ -545,7 +546,7 @@ module _ {V : Type 0} (walk : Walk V) where
           (does k lt _ now h _ grows fine
           (λ new h' w count locals rests' a grows' fine' held is. comes_back walk new fine' w is (lt_true (16 + k) 24
           (omega (arith, lt, few)))
-          (calls walk new fine' (top_to (height_in walk.l) E k ∷ w ∷ []) (proc 2 3 raise_code)
+          (calls walk new fine' (top_to (height_in walk.l) E k ∷ w ∷ []) raise_proc
           (ap₂ (λ a b. and_more a (and_more b (Some []))) (three_five k (X k) (Y k) w L ∙ at.top) (three_new k (X k)
           (Y k) w L)) raise_stands refl
           (raised walk new h' fine' _ (top_to (height_in walk.l) E k) w (coercion_height (height_in walk.l) (E k))

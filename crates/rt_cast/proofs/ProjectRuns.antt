@@ -55,6 +55,7 @@ use Rattle.rt_cast.proofs.CastRuns.{rebased, after, GoesOn, whole_above, no_high
 use Rattle.rt_cast.proofs.CastRuns.{by_either}
 use Rattle.rt_cast.proofs.CastDecisions.{low_of, by_inject, by_cast as decided_cast}
 use Rattle.rt_cast.proofs.Objects.{proxy_header, dyn_header, tuple_header}
+use Rattle.rt_cast.specs.ComposeCodes.{cast_place, project_place}
 
 -- ---- lists and rows
 
@@ -332,7 +333,8 @@ module _ {V : Type 0} (walk : Walk V) (low : walk.l.tallest ≤ 65534) (A : Type
           (loads walk objects fine wv proxy_header ws2 2 hv.1 refl hv.2 refl refl refl
           (computes walk objects fine hv.1 (8 * k) (hv.1 + 8 * k) refl refl (let z = v.end in omega (arith, z)) refl
           (loads_at walk objects fine (hv.1 + 8 * k) q.0 refl v refl
-          (tail_calls walk objects fine (p.word ∷ q.0 ∷ []) (cast_proc walk.first) refl (walk.stands 2 _ refl) refl
+          (tail_calls walk objects fine (p.word ∷ q.0 ∷ []) (cast_proc walk.first) refl
+          (walk.stands cast_place _ refl) refl
           (by_either walk low A IsHeld still is_solid d ld.normal (no_higher walk low A IsHeld still is_solid d ld) x B
           objects h fine waiting p.word q.0 p.carried q.2 (subst (Goes B objects waiting) (sym done) go))))))))))))))
           (omega arith, omega arith, omega (arith, words_are), omega (arith, price_is))
@@ -551,7 +553,8 @@ module _ {V : Type 0} (walk : Walk V) (low : walk.l.tallest ≤ 65534) (A : Type
               (computes walk objects fine k 3 (8 * k) refl refl (let z = w.end in omega (arith, z)) refl
               (computes walk objects fine (8 * k) d.0 (8 * k + d.0) refl refl (let z = w.end in omega (arith, z)) refl
               (loads_at walk objects fine (8 * k + d.0) (walk.l.type_at part) refl w refl
-              (calls walk objects fine (hv.0 ∷ k ∷ 1 ∷ label ∷ []) (project_proc walk.first) refl (walk.stands 3 _ refl)
+              (calls walk objects fine (hv.0 ∷ k ∷ 1 ∷ label ∷ []) (project_proc walk.first) refl
+              (walk.stands project_place _ refl)
               refl
               (tuple_part_done _ objects h fine tuples _ x hv.0 k label hv.4 (part_value head parts walk.l.types k x)
               refl

@@ -11,44 +11,80 @@ use Rattle.coercion_norm.specs.ObjectsOfRows.{header}
 use Rattle.rt_cast.specs.Words.{kind_mask, count_bits}
 use Rattle.rt_cast.specs.PartCodes.{either, put_header, pick}
 
+-- Which place a procedure has among all of them; its number is the place behind the first number.
+abbrev pub coerce_place : ℕ
+coerce_place = 0
+
+abbrev pub compose_place : ℕ
+compose_place = 1
+
+abbrev pub cast_place : ℕ
+cast_place = 2
+
+abbrev pub project_place : ℕ
+project_place = 3
+
+abbrev pub part_place : ℕ
+part_place = 4
+
+abbrev pub raise_place : ℕ
+raise_place = 5
+
+abbrev pub final_place : ℕ
+final_place = 6
+
+abbrev pub coerce_part_place : ℕ
+coerce_part_place = 7
+
+abbrev pub pair_place : ℕ
+pair_place = 8
+
+-- the composition of so many parts
+abbrev pub middle_place : ℕ → ℕ
+middle_place r = 9 + r
+
+-- a cast's coercion of so many parts
+abbrev pub coerce_middle_place : ℕ → ℕ
+coerce_middle_place r = 18 + r
+
 module _ (first : ℕ) where
   abbrev pub coerce : ℕ
-  coerce = 0 + first
+  coerce = coerce_place + first
 
   abbrev pub compose : ℕ
-  compose = 1 + first
+  compose = compose_place + first
 
   abbrev pub cast : ℕ
-  cast = 2 + first
+  cast = cast_place + first
 
   abbrev pub project : ℕ
-  project = 3 + first
+  project = project_place + first
 
   -- one part of a composition
   abbrev pub part : ℕ
-  part = 4 + first
+  part = part_place + first
 
   abbrev pub raise : ℕ
-  raise = 5 + first
+  raise = raise_place + first
 
   abbrev pub final : ℕ
-  final = 6 + first
+  final = final_place + first
 
   -- one part of a cast's coercion
   abbrev pub coerce_part : ℕ
-  coerce_part = 7 + first
+  coerce_part = coerce_part_place + first
 
   -- read and write of a reference or a vector
   abbrev pub pair : ℕ
-  pair = 8 + first
+  pair = pair_place + first
 
   -- the composition of so many parts
   abbrev pub middle_of : ℕ → ℕ
-  middle_of r = 9 + r + first
+  middle_of r = middle_place r + first
 
   -- a cast's coercion of so many parts
   abbrev pub coerce_of : ℕ → ℕ
-  coerce_of r = 18 + r + first
+  coerce_of r = coerce_middle_place r + first
 
   -- ---- compose
 

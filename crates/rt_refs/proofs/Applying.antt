@@ -30,6 +30,7 @@ use Rattle.rt_refs.proofs.Calling.{Has, word_here, word_other, casts_of}
 use Rattle.rt_refs.specs.CallLaws.{CastInTurn, ComesToCall, GoesOnTo, Resumes}
 use Rattle.rt_refs.proofs.InTurn.{arguments_cast_in_turn}
 use Rattle.rt_cast.proofs.Public.{proxy_header}
+use Rattle.rt_cast.specs.ComposeCodes.{cast_place}
 
 -- no word is farther, and no procedure is left for more
 slot_low : (i : ℕ) → slot_price i ≤ 13
@@ -212,7 +213,8 @@ module _ {V : Type 0} (reading : Halt → Ending V) (setting : Setting) (l : Lay
           (at_most v
           (tail_calls v objects fine (wv ∷ resumes.word ∷ []) (cast_proc first)
           (ap₂ and_more (word_here w.answer wv w.rest.locals) (ap (λ o. and_more o (Some []))
-          (word_other w.answer wv w.rest.locals resumes.place resumes.other ∙ resumes.is))) (v.stands 2 _ refl) refl
+          (word_other w.answer wv w.rest.locals resumes.place resumes.other ∙ resumes.is)))
+          (v.stands cast_place _ refl) refl
           (by_either v low A IsHeld still is_solid c lc.normal below u End objects (heap_of s) fine s.waiting wv
           resumes.word hv resumes.held
           (ends reading setting l first s exhausts ready head IsHeld still is_solid low objects r some

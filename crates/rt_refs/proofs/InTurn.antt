@@ -33,6 +33,7 @@ use Rattle.rt_refs.proofs.Calling.{Casts, Found, Goes, Has, all_carried_still, c
 use Rattle.rt_refs.proofs.Calling.{has_above, has_below, has_more, has_words, longer, number_near, part_held, part_low}
 use Rattle.rt_refs.proofs.Calling.{small_number, word_here, word_near, word_other}
 use Rattle.rt_refs.specs.CallLaws.{CallsAt, AtArgument, CastInTurn, Stretch, where_comes}
+use Rattle.rt_cast.specs.ComposeCodes.{cast_place}
 
 -- ---- later states
 
@@ -325,7 +326,7 @@ module _ {V : Type 0} (reading : Halt → Ending V) (setting : Setting) (l : Lay
               (calls w objects here (word ∷ part ∷ []) (cast_proc first)
               (ap₂ and_more (word_other 11 part locals (suc k) (eq_false (suc k) 11 (λ e. omega (arith, e, small))) ∙
               next)
-              (ap (λ x. and_more x (Some [])) (word_here 11 part locals))) (w.stands 2 _ refl) refl
+              (ap (λ x. and_more x (Some [])) (word_here 11 part locals))) (w.stands cast_place _ refl) refl
               (cast_behind w low A IsHeld still is_solid (heads k) End End objects h here s.waiting
               (record { count = 13; locals = l11; code = asking j (suc k); rests = Done ∷ rests }) (suc k)
               (lt_true (suc k) 13 (omega (arith, small))) d ld v word part hv hd o refl some values blames)))) (

@@ -39,6 +39,7 @@ use Rattle.std.proofs.Common.{subst, ◌<◌, ◌∙◌}
 use Rattle.low_ir.specs.Steps.{set_local}
 use Rattle.rt_refs.proofs.Finding.{one_kind, behind_under, found, part_taken, index_traps}
 use Rattle.rt_cast.proofs.Public.{proxy_header}
+use Rattle.rt_cast.specs.ComposeCodes.{cast_place}
 
 module _ {V : Type 0} (reading : Halt → Ending V) (setting : Setting) (l : Layout) (first : ℕ) (s : LowState)
     (exhausts : reading (Lacks Region) ≡ Exhausted) (ready : IsReady setting l first) {A : Type 0} (head : A → TypeHead)
@@ -106,7 +107,7 @@ module _ {V : Type 0} (reading : Halt → Ending V) (setting : Setting) (l : Lay
           (computes v objects fine (8 * i) wa (wa + 8 * i) refl (f1 ∙ e1) (let q = there.end in omega (arith, q)) refl
           (loads_at v objects fine (wa + 8 * i) word refl there refl
           (tail_calls v objects fine (word ∷ wd ∷ []) (cast_proc first)
-          (ap (λ o. and_more (Some word) (and_more o (Some []))) f5) (v.stands 2 _ refl) refl
+          (ap (λ o. and_more (Some word) (and_more o (Some []))) f5) (v.stands cast_place _ refl) refl
           (by_either v low A IsHeld still is_solid d ld.normal below x End objects (heap_of s) fine s.waiting word wd
           hx hd
           (ends reading setting l first s exhausts ready head IsHeld still is_solid low objects r some

@@ -35,6 +35,7 @@ use Rattle.machine_words.proofs.Public.{stored_outside}
 use Rattle.coercion_norm.proofs.Public.{found_within, object_kept}
 use Rattle.coercion_norm.specs.Objects.{Cell, object_at}
 use Rattle.rt_refs.proofs.Finding.{KeepsCoercion, behind_under, found, part_taken, index_traps}
+use Rattle.rt_cast.specs.ComposeCodes.{cast_place}
 
 abbrev store_code : Code
 store_code = find_element (Store (Word 3) (Word 2) 8 (Return (Number 0)))
@@ -245,7 +246,7 @@ module _ {V : Type 0} (reading : Halt → Ending V) (setting : Setting) (l : Lay
           (λ wd taken rests' hd ld f1 f2 f3 f5.
           at_most v
           (calls v objects fine (word ∷ wd ∷ []) (cast_proc first)
-          (ap₂ and_more (f3 ∙ e3) (ap (λ o. and_more o (Some [])) f5)) (v.stands 2 _ refl) refl
+          (ap₂ and_more (f3 ∙ e3) (ap (λ o. and_more o (Some [])) f5)) (v.stands cast_place _ refl) refl
           (cast_behind v low A IsHeld still is_solid head End (More 3 0 0 12 End) objects (heap_of s) fine s.waiting
           (record { count = 6; locals = taken; code = store_code; rests = rests' }) 3 refl d ld x word wd hx hd r e some
           (λ y q new h' word' grows fine' hy.

@@ -129,7 +129,8 @@ module _ (types : TypeRows) (row : TypeRow) (finite : AreFinite types)
   part_there part below = let e = one_row_more types row in omega arith
 
   ends_longer : (part : ℕ) → part < length types → EndsWithin (length types) longer_table part
-  ends_longer part below = ends_grown types longer_table finite.closed has_more (length types) part below (finite.ends part below)
+  ends_longer part below = ends_grown types longer_table finite.closed has_more (length types) part below
+      (finite.ends part below)
 
   pub AreFinite-push : AreFinite longer_table
   AreFinite-push = record {
@@ -145,7 +146,8 @@ module _ (types : TypeRows) (row : TypeRow) (finite : AreFinite types)
           (finite.closed type other f)
       closed_at type other (inr f) =
           subst (λ r. All (λ part. part < length longer_table) (parts_of r)) f.1
-          (All-weaker (λ part. part < length types) (λ part. part < length longer_table) part_there (parts_of row) there)
+          (All-weaker (λ part. part < length types) (λ part. part < length longer_table) part_there
+          (parts_of row) there)
 
       ends_at : (type : ℕ) → (type < length types) ⊎ (type ≡ length types) →
           EndsWithin (suc (length types)) longer_table type
@@ -197,13 +199,15 @@ module _ (types : TypeRows) (row : TypeRow) (fits : FitsTable types row) (finite
   -- size and height of the new type
   pub size-new : size new (length types) ≡ suc (sum_of (size types) (parts_of row))
   size-new =
-      size_by_parts new (AreFinite-push types row finite there) (length types) (let e = one_row_more types row in omega arith)
+      size_by_parts new (AreFinite-push types row finite there) (length types)
+      (let e = one_row_more types row in omega arith)
       ∙ ap (λ r. suc (sum_of (size new) (row_parts r))) (get_last types row)
       ∙ ap suc (sums_kept (parts_of row) there)
 
   pub height-new : height new (length types) ≡ above_all (height types) (parts_of row)
   height-new =
-      height_by_parts new (AreFinite-push types row finite there) (length types) (let e = one_row_more types row in omega arith)
+      height_by_parts new (AreFinite-push types row finite there) (length types)
+      (let e = one_row_more types row in omega arith)
       ∙ ap (λ r. above_all (height new) (row_parts r)) (get_last types row)
       ∙ greatest_kept (parts_of row) there
 
@@ -216,7 +220,8 @@ module _ (types : TypeRows) (row : TypeRow) (fits : FitsTable types row) (finite
       omega arith
 
   pub AreLow-push : AreLow types → AreLow new
-  AreLow-push low type within = by_order (before_or_last type (length types) (let e = one_row_more types row in omega arith))
+  AreLow-push low type within = by_order
+      (before_or_last type (length types) (let e = one_row_more types row in omega arith))
     where
       by_order : (type < length types) ⊎ (type ≡ length types) → height new type ≤ MOST_HEIGHT
       by_order (inl old) =

@@ -5,4 +5,5 @@ mod InternLemmas
 mod EntryLemmas
 mod MeasureLemmas
 mod TextLemmas
+mod Examples
 pub mod Public

@@ -3,7 +3,8 @@ pub use Rattle.type_graph.proofs.Places.{none_is_not_some, same_some, slice_get_
 pub use Rattle.type_graph.proofs.Places.{get_before_or_last, HasNoRepeats-push}
 pub use Rattle.type_graph.proofs.RowLemmas.{rows_are_equal, row_is_itself}
 pub use Rattle.type_graph.proofs.TreeLemmas.{same_rows, more_rows, more_length, row_stays, row_same, later_within}
-pub use Rattle.type_graph.proofs.TreeLemmas.{parts_within, all_parts_within, both_of, parts_end, parts_end_twice, ends_by_parts, ends_deeper}
+pub use Rattle.type_graph.proofs.TreeLemmas.{parts_within, all_parts_within, both_of, parts_end, parts_end_twice}
+pub use Rattle.type_graph.proofs.TreeLemmas.{ends_by_parts, ends_deeper}
 pub use Rattle.type_graph.proofs.TreeLemmas.{size_by_parts, height_by_parts, parts_lower, height_within}
 pub use Rattle.type_graph.proofs.TreeLemmas.{ends_within_new, ends_grown, size_grown, height_grown}
 pub use Rattle.type_graph.proofs.TreeLemmas.{same_types_are_one, type_agrees_with_itself}

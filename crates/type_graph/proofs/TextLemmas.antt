@@ -73,7 +73,8 @@ text_steady : (types : TypeRows) (n m a : ℕ) → EndsWithin n types a → Ends
 text_steady types zero m a one two = cc
 text_steady types (suc n) zero a one two = cc
 text_steady types (suc n) (suc m) a one two =
-    row_text-same (text_to n types) (text_to m types) (λ s. EndsWithin n types s × EndsWithin m types s) (row_at types a)
+    row_text-same (text_to n types) (text_to m types) (λ s. EndsWithin n types s × EndsWithin m types s)
+    (row_at types a)
     (λ s both. text_steady types n m s both.0 both.1) (parts_end_twice types n m a one two)
 
 -- a type's text is that of its row, with the texts of its parts

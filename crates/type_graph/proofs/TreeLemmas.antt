@@ -49,7 +49,8 @@ none_of holds (part ∷ parts) e =
     let both = or_parts (holds part) (any_of holds parts) e in
     All-cons (λ x. holds x ≡ false) part parts both.0 (none_of holds parts both.1)
 
-pub any_of-none : (holds : ℕ → Bool) (parts : List ℕ) → All (λ part. holds part ≡ false) parts → any_of holds parts ≡ false
+pub any_of-none : (holds : ℕ → Bool) (parts : List ℕ) → All (λ part. holds part ≡ false) parts → any_of holds parts
+    ≡ false
 any_of-none holds [] all = refl
 any_of-none holds (part ∷ parts) all =
     ap₂ ◌||◌ (All-head (λ x. holds x ≡ false) part parts all)
@@ -282,7 +283,8 @@ module _ (types : TypeRows) (distinct : HasNoRepeats types) where
       (row_at types a) (row_at types b) refl refl (parts_end types depth a ends) e
 
 -- two types of a table that are the same are one
-pub same_types_are_one : (types : TypeRows) → HasNoRepeats types → AreFinite types → (a b : ℕ) → AreSame types a b → a ≡ b
+pub same_types_are_one : (types : TypeRows) → HasNoRepeats types → AreFinite types → (a b : ℕ) → AreSame types a b →
+    a ≡ b
 same_types_are_one types distinct finite a b same = by_row (row_at types a) refl
   where
     by_row : (row : Option TypeRow) → row_at types a ≡ row → a ≡ b

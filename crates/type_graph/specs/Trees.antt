@@ -1,7 +1,7 @@
--- Types as trees. What is read off a type is read to a depth; the number of a table's rows is deep enough for each of its
--- types that ends.
-use Rattle.std.specs.Prelude.{◌≡◌, ℕ, zero, suc, ◌+◌, max, ◌<◌, All, Bool, true, false, ◌&&◌, ◌||◌, List, [], ◌∷◌, length}
-use Rattle.std.specs.Prelude.{Option, Some, None}
+-- Types as trees. What is read off a type is read to a depth; the number of a table's rows is deep enough for each of
+-- its types that ends.
+use Rattle.std.specs.Prelude.{◌≡◌, ℕ, zero, suc, ◌+◌, max, ◌<◌, All, Bool, true, false, ◌&&◌, ◌||◌, List, [], ◌∷◌}
+use Rattle.std.specs.Prelude.{length, Option, Some, None}
 use Rattle.grift_base.specs.Types.{TypeRow, TypeRows, row_at, parts_of, same_head}
 
 abbrev pub row_parts : Option TypeRow → List ℕ

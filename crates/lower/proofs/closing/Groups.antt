@@ -14,6 +14,8 @@ use Rattle.lower.specs.Emit.{make_group, group_code}
 use Rattle.lower.proofs.closing.Knowledge.{Known, More, more_same, more_then, Reads, read_more, read_word, Ends}
 use Rattle.lower.proofs.closing.Knowledge.{compute_ends, store_ends, code_of_ends, request_ends, take_ends}
 use Rattle.lower.proofs.closing.Operands.{Ready, ready_more, store_far_ends, fetch_ends, local_within}
+use Rattle.object_layout.specs.Kinds.{kind_number}
+use Rattle.object_layout.specs.declared.kinds.Kind.TheVariants.{Closure}
 
 module _ (procs : List Proc) (n : ℕ) where
   -- what goes on where more is known
@@ -49,7 +51,7 @@ module _ (procs : List Proc) (n : ℕ) where
       let room = r.room in
       let offset = function_offset captured i in
       let rest = store_others s d captured first (suc i) left k in
-      store_far_ends procs n a t d (Number (header 1 1)) offset
+      store_far_ends procs n a t d (Number (header (kind_number Closure) 1)) offset
       (CodeOf w (first + i) (store_far t d (Word w) (offset + 8) rest)) Q (omega arith) rd refl
       (λ b m. code_of_ends procs n b w (first + i) (store_far t d (Word w) (offset + 8) rest) Q (omega arith)
       (omega arith)
@@ -104,10 +106,11 @@ module _ (procs : List Proc) (n : ℕ) where
       let functions = store_others s d few first 1 others taken in
       let stored = store_captured s d 0 os functions in
       let addressed = Store (Word w) (Word d) 8 stored in
-      let began = Store (Number (header 1 (suc few))) (Word d) 0 (CodeOf w first addressed) in
+      let began = Store (Number (header (kind_number Closure) (suc few))) (Word d) 0 (CodeOf w first addressed) in
       request_ends procs n a d (Number words) began Q (omega arith) refl
       (λ b m h. let rd = read_word procs n b d (omega arith) h in
-      store_ends procs n b (Number (header 1 (suc few))) (Word d) 0 (CodeOf w first addressed) Q refl rd refl
+      store_ends procs n b (Number (header (kind_number Closure) (suc few))) (Word d) 0
+      (CodeOf w first addressed) Q refl rd refl
       (code_of_ends procs n b w first addressed Q (omega arith) (omega arith)
       (λ c m' h'. let up = more_then a b c m m' in
       let rd' = read_more procs n b c (Word d) m' rd in

@@ -32,6 +32,8 @@ use Rattle.lower.specs.Emit.{header, make_cast, load_far, store_far, leader_code
 use Rattle.lower.specs.Emit.{found_all, of_kind, source_at, operator, part, perform, store_captured, store_others}
 use Rattle.lower.specs.Emit.{name_others, group_words, group_code, Then, ToCaller, Into, call, call_by, give, choose}
 use Rattle.lower.specs.Emit.{apply_words, is_sibling, emit}
+use Rattle.object_layout.specs.Kinds.{kind_number}
+use Rattle.object_layout.specs.declared.kinds.Kind.TheVariants.{Closure, Tuple as TupleKind}
 
 -- ---- what stands in front of a code leaves just where that does
 
@@ -93,7 +95,8 @@ store_others_leaves s d captured first i (suc n) k =
     let t = test_word s in
     let rest = store_others s d captured first (suc i) n k in
     let second = store_far t d (Word w) (function_offset captured i + 8) rest in
-    store_far_leaves t d (Number (header 1 1)) (function_offset captured i) (CodeOf w (first + i) second)
+    store_far_leaves t d (Number (header (kind_number Closure) 1)) (function_offset captured i)
+    (CodeOf w (first + i) second)
     ∙ (store_far_leaves t d (Word w) (function_offset captured i + 8) rest
     ∙ store_others_leaves s d captured first (suc i) n k)
 
@@ -179,7 +182,7 @@ module _ (run : Served) where
       let way = way_at (slice_get run.ways number) in
       fetch_leaves s (operand_word s 0) o (make_cast run s d x number way k) ∙ cast_leaves s d x number way k h
   perform_leaves s d (Tuple os) k h =
-      fetch_all_leaves s 0 os (Build d (Number (header 4 (length os)) ∷ found_all s 0 os) k) ∙ h
+      fetch_all_leaves s 0 os (Build d (Number (header (kind_number TupleKind) (length os)) ∷ found_all s 0 os) k) ∙ h
   perform_leaves s d (Proj o i) k h =
       let x = found s (operand_word s 0) o in
       fetch_leaves s (operand_word s 0) o (part run s d x i k) ∙ part_leaves s d x i k h

@@ -35,6 +35,8 @@ use Rattle.lower.proofs.closing.Knowledge.{read_word, read_then, read_two, Ends,
 use Rattle.lower.proofs.closing.Knowledge.{ends_done, set_ends, compute_ends, load_ends, store_ends, build_ends}
 use Rattle.lower.proofs.closing.Knowledge.{more_same, environment_ends, two_words_end, call_ends, if_ends}
 use Rattle.lower.proofs.closing.Operands.{Ready, fetch_ends, fetch_all_ends, source_read}
+use Rattle.object_layout.specs.Kinds.{kind_number}
+use Rattle.object_layout.specs.declared.kinds.Kind.TheVariants.{Boxed, Tuple as TupleKind}
 
 -- a procedure that takes so many words may be handed so many
 pub takes_these : (o : Option Proc) (count : ℕ) (ss : List LowSource) → length ss ≡ count → takes count o ≡ true
@@ -148,8 +150,8 @@ module _ (procs : List Proc) (n : ℕ) where
     operator_ends s d Newline x y z a k Q l t rx ry rz go = printed s d 2 (Number 10) a k Q l t refl go
     operator_ends s d ReadInt x y z a k Q l t rx ry rz go = reads_number s d a k Q l t go
     operator_ends s d MakeBox x y z a k Q l t rx ry rz go =
-        build_ends procs n a d (Number (header 5 1) ∷ x ∷ []) k Q l
-        (read_two procs n a (Number (header 5 1)) x refl rx) (omega arith) go
+        build_ends procs n a d (Number (header (kind_number Boxed) 1) ∷ x ∷ []) k Q l
+        (read_two procs n a (Number (header (kind_number Boxed) 1)) x refl rx) (omega arith) go
     operator_ends s d Unbox x y z a k Q l t rx ry rz go =
         of_kind_ends s a x 5 (Load d x 8 Done) (CallOf d run.read (Number 0 ∷ x ∷ Number 0 ∷ []) Done) k (Sets a d) Q t
         rx
@@ -293,10 +295,11 @@ module _ (procs : List Proc) (n : ℕ) where
         bound in
         let long = leb-true (length os) 8 (and_parts (nat_le 1 (length os)) (nat_le (length os) 8) parts.1).1 in
         let same = found_length s 0 os in
-        fetch_all_ends procs n s captured group depth os 0 a (Build d (Number (header 4 (length os)) ∷ ss) k) Q
+        fetch_all_ends procs n s captured group depth os 0 a
+        (Build d (Number (header (kind_number TupleKind) (length os)) ∷ ss) k) Q
         (omega arith) r parts.0
-        (λ b m qs. build_ends procs n b d (Number (header 4 (length os)) ∷ ss) k Q l
-        (read_then procs n b (Number (header 4 (length os))) ss refl qs) (omega arith)
+        (λ b m qs. build_ends procs n b d (Number (header (kind_number TupleKind) (length os)) ∷ ss) k Q l
+        (read_then procs n b (Number (header (kind_number TupleKind) (length os))) ss refl qs) (omega arith)
         (λ c m' h. go c (more_then a b c m m') h))
     perform_ends s captured group depth d (Proj o i) a k Q l r bound go =
         let w = operand_word s 0 in

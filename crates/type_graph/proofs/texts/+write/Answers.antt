@@ -18,7 +18,8 @@ nowhere = record { 0 = 0 }
 
 pub write_each_before_space-write_type-requires : goal.write_each_before_space-write_type-requires
 write_each_before_space-write_type-requires t c =
-    let below = part_below_all (height c.args.types.now) c.args.parts.now c.loop-part.part-index nowhere c.loop-part-test.true in (
+    let below = part_below_all
+    (height c.args.types.now) c.args.parts.now c.loop-part.part-index nowhere c.loop-part-test.true in (
       omega (arith, c.decreases, below),
       part_at (λ part. part < length c.args.types.now) c.args.parts.now c.loop-part.part-index nowhere
           c.loop-part-test.true
@@ -35,7 +36,8 @@ write_each_before_space-loop-part-preserved t c =
 
 pub write_each_behind_space-write_type-requires : goal.write_each_behind_space-write_type-requires
 write_each_behind_space-write_type-requires t c =
-    let below = part_below_all (height c.args.types.now) c.args.parts.now c.loop-part.part-index nowhere c.loop-part-test.true in (
+    let below = part_below_all
+    (height c.args.types.now) c.args.parts.now c.loop-part.part-index nowhere c.loop-part-test.true in (
       omega (arith, c.decreases, below),
       part_at (λ part. part < length c.args.types.now) c.args.parts.now c.loop-part.part-index nowhere
           c.loop-part-test.true
@@ -102,7 +104,8 @@ write_type-write_type-requires-in-Ref t c =
     let finite = c.len.ensures.table.finite in
     let below =
     All-head (λ part. height types part < height types a) c.in-Ref.content.0 [] (parts_lower types finite a _ row) in
-    (omega (arith, c.decreases, below), All-head (λ part. part < length types) c.in-Ref.content.0 [] (finite.closed a _ row))
+    (omega (arith, c.decreases, below), All-head (λ part. part < length types) c.in-Ref.content.0 []
+    (finite.closed a _ row))
 
 pub write_type-write_type-requires-in-Vect : goal.write_type-write_type-requires-in-Vect
 write_type-write_type-requires-in-Vect t c =
@@ -113,7 +116,8 @@ write_type-write_type-requires-in-Vect t c =
     let finite = c.len.ensures.table.finite in
     let below =
     All-head (λ part. height types part < height types a) c.in-Vect.content.0 [] (parts_lower types finite a _ row) in
-    (omega (arith, c.decreases, below), All-head (λ part. part < length types) c.in-Vect.content.0 [] (finite.closed a _ row))
+    (omega (arith, c.decreases, below), All-head (λ part. part < length types) c.in-Vect.content.0 []
+    (finite.closed a _ row))
 
 pub write_type-returns-in_ok-write_type-in-Fun : goal.write_type-returns-in_ok-write_type-in-Fun
 write_type-returns-in_ok-write_type-in-Fun t c =
