@@ -103,9 +103,11 @@ write_type-write_type-requires-in-Ref t c =
     c.row.ensures ∙ ap (λ r. Some (row_of r)) c.in-Ref.is in
     let finite = c.len.ensures.table.finite in
     let below =
-    All-head (λ part. height types part < height types a) c.in-Ref.content.0 [] (parts_lower types finite a _ row) in
-    (omega (arith, c.decreases, below), All-head (λ part. part < length types) c.in-Ref.content.0 []
-    (finite.closed a _ row))
+    All-head (λ part. height types part < height types a) c.in-Ref.content.0 [] (parts_lower types finite a _ row) in (
+      omega (arith, c.decreases, below),
+      All-head (λ part. part < length types) c.in-Ref.content.0 []
+          (finite.closed a _ row),
+    )
 
 pub write_type-write_type-requires-in-Vect : goal.write_type-write_type-requires-in-Vect
 write_type-write_type-requires-in-Vect t c =
@@ -115,9 +117,11 @@ write_type-write_type-requires-in-Vect t c =
     c.row.ensures ∙ ap (λ r. Some (row_of r)) c.in-Vect.is in
     let finite = c.len.ensures.table.finite in
     let below =
-    All-head (λ part. height types part < height types a) c.in-Vect.content.0 [] (parts_lower types finite a _ row) in
-    (omega (arith, c.decreases, below), All-head (λ part. part < length types) c.in-Vect.content.0 []
-    (finite.closed a _ row))
+    All-head (λ part. height types part < height types a) c.in-Vect.content.0 [] (parts_lower types finite a _ row) in (
+      omega (arith, c.decreases, below),
+      All-head (λ part. part < length types) c.in-Vect.content.0 []
+          (finite.closed a _ row),
+    )
 
 pub write_type-returns-in_ok-write_type-in-Fun : goal.write_type-returns-in_ok-write_type-in-Fun
 write_type-returns-in_ok-write_type-in-Fun t c =
