@@ -115,7 +115,8 @@ outcome_is types a b outcome known e h = subst (λ (o : ℕ × TypeRows). FormsB
 
 module _ (depth : ℕ) (forms : FormsBlends depth) (types : TypeRows) (a b : ℕ) (table : IsOrderedTable types)
     (a_there : a < length types) (b_there : b < length types) (h : consistent types a b ≡ true)
-    (deep : EndsWithin (suc depth) types a) (row other : TypeRow) (at_a : row_at types a ≡ Some row) (at_b : row_at types b ≡ Some other) where
+    (deep : EndsWithin (suc depth) types a) (row other : TypeRow) (at_a : row_at types a ≡ Some row)
+    (at_b : row_at types b ≡ Some other) where
   -- the blend is there already
   there_already : (c : ℕ) → IsFormed types a b c → FormsBlend types a b (blend_to (suc depth) a b types)
   there_already c formed =

@@ -201,7 +201,8 @@ check_rows-check-requires-in-Vect-Vect t c =
     c.row-2.ensures ∙ ap (λ r. Some (row_of r)) c.in-Vect-Vect.is-1 in
     let high : ℕ = height types a in
     let below =
-    All-head (λ part. height types part < high) c.in-Vect-Vect.content.0 [] (parts_lower types table.finite a _ row) in (
+    All-head (λ part. height types part < high) c.in-Vect-Vect.content.0 []
+    (parts_lower types table.finite a _ row) in (
       omega (arith, c.decreases, below),
       (
         All-head (λ part. part < length types) c.in-Vect-Vect.content.0 []
