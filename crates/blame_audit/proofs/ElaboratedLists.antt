@@ -3,7 +3,7 @@ use Rattle.std.proofs.Common.{◌≡◌, ◌↔◌, ℕ, ◌<◌, length, refl, 
 use Rattle.std.specs.Prelude.{Contains}
 use Rattle.grift_base.specs.Tables.{HasNoRepeats}
 use Rattle.grift_base.specs.Types.{TypeRows}
-use Rattle.type_graph.specs.Trees.{PartsFirst}
+use Rattle.type_graph.specs.Trees.{AreFinite}
 use Rattle.core_calc.specs.Views.{term_of}
 use Rattle.surface_syntax.specs.Trees.{Expr}
 use Rattle.cast_insert.specs.declared.insertion.Elab.{Elab}
@@ -55,12 +55,12 @@ module _ (types : TypeRows) (elab : Elab) (is : IsElaborated types elab) where
   pub entries_name_known : AllNameKnown (length elab.labels) (length types) (entries_of elab.casts)
   entries_name_known = known.1
 
-  module _ (first : PartsFirst types) where
+  module _ (finite : AreFinite types) where
     -- what is listed is safe
     pub listed_labels_are_exact : (p : ℕ) → Contains (safe_labels_in types elab) p
         ↔ ((p < length elab.labels) × IsSafe types (entries_of elab.casts) p)
     listed_labels_are_exact p =
-        safe_labels_are_exact types first (entries_of elab.casts) (length elab.labels) entries_name_known
+        safe_labels_are_exact types finite (entries_of elab.casts) (length elab.labels) entries_name_known
         (safe_labels_in types elab) refl p
 
     -- ... and never blamed

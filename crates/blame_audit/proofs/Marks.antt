@@ -7,7 +7,7 @@ use Rattle.std.proofs.lemmas.Bool.{and_parts, and_from, eq-eqb, ne_eqb, cases_eq
 use Rattle.std.proofs.lemmas.List.{map_more}
 use Rattle.grift_base.specs.declared.places.LabelId.{LabelId}
 use Rattle.grift_base.specs.Types.{TypeRows}
-use Rattle.type_graph.specs.Trees.{PartsFirst}
+use Rattle.type_graph.specs.Trees.{AreFinite}
 use Rattle.core_calc.proofs.Public.{none_is_not_some, same_some, get_kept, get_last, get_before_or_last}
 use Rattle.cast_insert.specs.declared.casts.CastEntry.{CastEntry}
 use Rattle.cast_insert.specs.Making.{Entry, CastFrom, PartOf}
@@ -168,13 +168,13 @@ mark_at types entries n marks p d within e =
 
 -- ---- safe labels are those of the definition
 
-spoils_allows : (types : TypeRows) → PartsFirst types → (labels : ℕ) (entry : Entry) (p : ℕ) →
+spoils_allows : (types : TypeRows) → AreFinite types → (labels : ℕ) (entry : Entry) (p : ℕ) →
     NamesKnown labels (length types) entry → is_spared p (spoils types entry) ≡ true → Allows types p entry
-spoils_allows types first labels (CastFrom label from to inside) p fits e =
+spoils_allows types finite labels (CastFrom label from to inside) p fits e =
     λ same. by_answer (up types from to) refl same
   where
     by_answer : (b : Bool) → up types from to ≡ b → label ≡ p → Up types from to
-    by_answer true goes same = (up_is_exact types first from to fits.1 fits.2).0 goes
+    by_answer true goes same = (up_is_exact types finite from to fits.1 fits.2).0 goes
     by_answer false goes same =
         absurd (not_spared (nat_eq label p) (eq-eqb label p same)
         (sym (ap (λ b. is_spared p (cond b None (Some label))) goes) ∙ e))
@@ -182,16 +182,16 @@ spoils_allows types first labels (CastFrom label from to inside) p fits e =
         not_spared : (b : Bool) → b ≡ true → not b ≡ true → ⊥
         not_spared true f g = false_is_not_true g
         not_spared false f g = false_is_not_true f
-spoils_allows types first labels (PartOf label k) p fits e =
+spoils_allows types finite labels (PartOf label k) p fits e =
     λ same. not_spared (nat_eq label p) (eq-eqb label p same) e
   where
     not_spared : (b : Bool) → b ≡ true → not b ≡ true → ⊥
     not_spared true f g = false_is_not_true g
     not_spared false f g = false_is_not_true f
 
-allows_spares : (types : TypeRows) → PartsFirst types → (labels : ℕ) (entry : Entry) (p : ℕ) →
+allows_spares : (types : TypeRows) → AreFinite types → (labels : ℕ) (entry : Entry) (p : ℕ) →
     NamesKnown labels (length types) entry → Allows types p entry → is_spared p (spoils types entry) ≡ true
-allows_spares types first labels (CastFrom label from to inside) p fits allowed = by_cases (cases_eq label p)
+allows_spares types finite labels (CastFrom label from to inside) p fits allowed = by_cases (cases_eq label p)
   where
     spared : (b : Bool) → nat_eq label p ≡ false → is_spared p (cond b None (Some label)) ≡ true
     spared true e = refl
@@ -200,16 +200,16 @@ allows_spares types first labels (CastFrom label from to inside) p fits allowed 
     by_cases : (label ≡ p) ⊎ (label ≡ p → ⊥) → is_spared p (cond (up types from to) None (Some label)) ≡ true
     by_cases (inl same) =
         ap (λ b. is_spared p (cond b None (Some label)))
-        ((up_is_exact types first from to fits.1 fits.2).1 (allowed same))
+        ((up_is_exact types finite from to fits.1 fits.2).1 (allowed same))
     by_cases (inr apart) = spared (up types from to) (ne_eqb label p apart)
-allows_spares types first labels (PartOf label k) p fits allowed = ap not (ne_eqb label p allowed)
+allows_spares types finite labels (PartOf label k) p fits allowed = ap not (ne_eqb label p allowed)
 
-module _ (types : TypeRows) (first : PartsFirst types) (labels p : ℕ) where
+module _ (types : TypeRows) (finite : AreFinite types) (labels p : ℕ) where
   pub is_safe_by_entries : (entries : List Entry) → AllNameKnown labels (length types) entries →
       is_safe types entries p ≡ true → IsSafe types entries p
   is_safe_by_entries [] fit e place entry at = absurd (none_is_not_some entry at)
   is_safe_by_entries (head ∷ rest) fit e zero entry at =
-      subst (Allows types p) (same_some head entry at) (spoils_allows types first labels head p (fit 0 head refl)
+      subst (Allows types p) (same_some head entry at) (spoils_allows types finite labels head p (fit 0 head refl)
       (and_parts (is_spared p (spoils types head)) (is_safe types rest p) e).0)
   is_safe_by_entries (head ∷ rest) fit e (suc place) entry at =
       is_safe_by_entries rest (λ k other there. fit (suc k) other there)
@@ -220,7 +220,7 @@ module _ (types : TypeRows) (first : PartsFirst types) (labels p : ℕ) where
   entries_make_safe [] fit safe = refl
   entries_make_safe (head ∷ rest) fit safe =
       and_from (is_spared p (spoils types head)) (is_safe types rest p)
-      (allows_spares types first labels head p (fit 0 head refl) (safe 0 head refl))
+      (allows_spares types finite labels head p (fit 0 head refl) (safe 0 head refl))
       (entries_make_safe rest (λ k other there. fit (suc k) other there) (λ k other there. safe (suc k) other there))
 
 -- ---- what the list of safe labels contains
@@ -286,16 +286,16 @@ get_there (y ∷ ys) zero x d e = (omega arith, same_some y x e)
 get_there (y ∷ ys) (suc k) x d e = let rest = get_there ys k x d e in (let below = rest.0 in omega arith, rest.1)
 
 -- the safe labels are those of the definition
-pub safe_labels_are_exact : (types : TypeRows) → PartsFirst types → (entries : List Entry) (labels : ℕ) →
+pub safe_labels_are_exact : (types : TypeRows) → AreFinite types → (entries : List Entry) (labels : ℕ) →
     AllNameKnown labels (length types) entries → (safe : List ℕ) → safe ≡ safe_labels types entries labels → (p : ℕ) →
     Contains safe p ↔ ((p < labels) × IsSafe types entries p)
-safe_labels_are_exact types first entries labels fit safe listed p = (
+safe_labels_are_exact types finite entries labels fit safe listed p = (
   λ has.
       let found = place_in types entries labels has.0 p
       (sym (ap (λ xs. slice_get xs has.0) listed) ∙ get_within safe has.0 p has.1 ∙ ap Some has.2) in
-      (found.0, is_safe_by_entries types first labels p entries fit found.1),
+      (found.0, is_safe_by_entries types finite labels p entries fit found.1),
   λ both.
-      let there = in_place types entries labels p both.0 (entries_make_safe types first labels p entries fit both.1) in
+      let there = in_place types entries labels p both.0 (entries_make_safe types finite labels p entries fit both.1) in
       let at = get_there safe there.0 p p (ap (λ xs. slice_get xs there.0) listed ∙ there.1) in
       (there.0, at.0, at.1),
 )

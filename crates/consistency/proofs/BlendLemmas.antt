@@ -5,7 +5,7 @@ use Rattle.std.proofs.Common.{subst, arith, append_assoc, length-append}
 use Rattle.std.specs.Prelude.{◌&&◌, ◌||◌, All, MatchBool, option_map, slice_index}
 use Rattle.std.proofs.lemmas.Bool.{and_parts, eqb-true, eq-eqb}
 use Rattle.std.proofs.lemmas.List.{map_more, length-map, take_more, take_all, length-take-le, map-append}
-use Rattle.std.proofs.lemmas.List.Elements.{All-head, All-tail, All-cons, All-nil, All-weaker}
+use Rattle.std.proofs.lemmas.List.Elements.{All-head, All-tail, All-cons, All-nil}
 use Rattle.std.proofs.Common.{rules}
 use Rattle.std.proofs.lemmas.Option.{slice_get_within}
 use Rattle.grift_base.specs.Tables.{HasNoRepeats}
@@ -14,12 +14,12 @@ use Rattle.grift_base.specs.Types.{TypeRow, TypeRows, IntRow, BoolRow, UnitRow, 
 use Rattle.grift_base.specs.Types.{VectRow, row_at, parts_of, is_dyn, same_head}
 use Rattle.type_graph.specs.Rows.{places_of}
 use Rattle.type_graph.specs.Forming.{Forming, formed, intern, place_where, at_place_or_last, equal_rows}
-use Rattle.type_graph.specs.Trees.{PartsFirst, related, height, above_all, row_parts}
+use Rattle.type_graph.specs.Trees.{EndsWithin, AreFinite, related, height, above_all, row_parts}
 use Rattle.type_graph.specs.TypeTables.{HasMoreRows, MayBePart, HasWidth, FitsTable, IsOrderedTable}
 use Rattle.type_graph.specs.declared.tables.TheConstants.{MOST_HEIGHT}
 use Rattle.type_graph.proofs.Public.{none_is_not_some, same_some, get_kept, row_stays}
-use Rattle.type_graph.proofs.Public.{later_within, height_grown, height_by_parts, place_found, place_missing}
-use Rattle.type_graph.proofs.Public.{rows_are_equal, row_is_itself}
+use Rattle.type_graph.proofs.Public.{later_within, parts_end, height_grown, height_by_parts, place_found}
+use Rattle.type_graph.proofs.Public.{place_missing, rows_are_equal, row_is_itself}
 use Rattle.consistency.specs.declared.pairs.Pair.{Pair}
 use Rattle.std.specs.HashMap.{get}
 use Rattle.consistency.specs.contracts.pairs.PairPartialEq.TheImpl.{ghosts}
@@ -163,9 +163,9 @@ blend_stays (suc depth) types new a b c more h = (
 )
 
 -- a blend that is there stays there
-pub IsFormed-grown : (types new : TypeRows) (a b c : ℕ) → PartsFirst types → HasMoreRows types new →
+pub IsFormed-grown : (types new : TypeRows) (a b c : ℕ) → AreFinite types → HasMoreRows types new →
     IsFormed types a b c → IsFormed new a b c
-IsFormed-grown types new a b c first more h =
+IsFormed-grown types new a b c finite more h =
     let top = h.blends 1 in
     let a_within = slice_get_within types a top.0 top.3 in
     let b_within = slice_get_within types b top.1 top.4 in
@@ -173,25 +173,25 @@ IsFormed-grown types new a b c first more h =
       there = later_within types new c more h.there;
       again = λ later depth deep.
           let here = ap (λ rows. rows ++ later) more.1 ∙ append_assoc types more.0 later in
-          subst (λ (rows : TypeRows). blend_to depth a b rows ≡ (c, rows)) (sym here)
-          (h.again (more.0 ++ later) depth deep);
+          subst (λ (rows : TypeRows). EndsWithin depth rows a → blend_to depth a b rows ≡ (c, rows)) (sym here)
+          (h.again (more.0 ++ later) depth) deep;
       blends = λ depth. blend_stays depth types new a b c more (h.blends depth);
       low =
-          let at_a = height_grown types new first more a a_within in
-          let at_b = height_grown types new first more b b_within in
-          let at_c = height_grown types new first more c h.there in
+          let at_a = height_grown types new finite more a a_within in
+          let at_b = height_grown types new finite more b b_within in
+          let at_c = height_grown types new finite more c h.there in
           let low = h.low in
           omega arith;
     }
 
-pub EachFormed-grown : (types new : TypeRows) (pairs : List Pair) (cs : List TypeId) → PartsFirst types →
+pub EachFormed-grown : (types new : TypeRows) (pairs : List Pair) (cs : List TypeId) → AreFinite types →
     HasMoreRows types new → EachFormed types pairs cs → EachFormed new pairs cs
-EachFormed-grown types new [] [] first more h = tt
-EachFormed-grown types new [] (c ∷ cs) first more h = h
-EachFormed-grown types new (pair ∷ pairs) [] first more h = h
-EachFormed-grown types new (pair ∷ pairs) (c ∷ cs) first more h = (
-  IsFormed-grown types new pair.first.0 pair.second.0 c.0 first more h.0,
-  EachFormed-grown types new pairs cs first more h.1,
+EachFormed-grown types new [] [] finite more h = tt
+EachFormed-grown types new [] (c ∷ cs) finite more h = h
+EachFormed-grown types new (pair ∷ pairs) [] finite more h = h
+EachFormed-grown types new (pair ∷ pairs) (c ∷ cs) finite more h = (
+  IsFormed-grown types new pair.first.0 pair.second.0 c.0 finite more h.0,
+  EachFormed-grown types new pairs cs finite more h.1,
 )
 
 pub EachFormed-push : (types : TypeRows) (pairs : List Pair) (cs : List TypeId) (pair : Pair) (c : TypeId) →
@@ -228,14 +228,15 @@ AllBlend-from_EachFormed depth types (pair ∷ pairs) (c ∷ cs) h = (
 
 -- parts that were blended are blended to the same once more
 each_again : (depth : ℕ) (types more : TypeRows) (pairs : List Pair) (cs : List TypeId) →
-    EachFormed types pairs cs → All (λ s. s < depth) (firsts pairs) →
+    EachFormed types pairs cs → All (EndsWithin depth (types ++ more)) (firsts pairs) →
     blend_each (blend_to depth) (firsts pairs) (seconds pairs) (types ++ more) ≡ (places_of cs, types ++ more)
 each_again depth types more [] [] h deep = refl
 each_again depth types more [] (c ∷ cs) h deep = absurd h
 each_again depth types more (pair ∷ pairs) [] h deep = absurd h
 each_again depth types more (pair ∷ pairs) (c ∷ cs) h deep =
-    let head = h.0.again more depth (All-head (λ s. s < depth) pair.first.0 (firsts pairs) deep) in
-    let rest = each_again depth types more pairs cs h.1 (All-tail (λ s. s < depth) pair.first.0 (firsts pairs) deep) in
+    let ends : ℕ → Type 0 = EndsWithin depth (types ++ more) in
+    let head = h.0.again more depth (All-head ends pair.first.0 (firsts pairs) deep) in
+    let rest = each_again depth types more pairs cs h.1 (All-tail ends pair.first.0 (firsts pairs) deep) in
     ap (λ (done : ℕ × TypeRows). (
       done.0 ∷ (blend_each (blend_to depth) (firsts pairs) (seconds pairs) done.1).0,
       (blend_each (blend_to depth) (firsts pairs) (seconds pairs) done.1).1,
@@ -307,16 +308,16 @@ plain_blend blended a b row other types e f =
     ∙ ap (λ t. cond t (formed b) joined types) f
 
 -- what consistency says of two rows that aren't Dyn
-pub plain_consistent : (types : TypeRows) (a b : ℕ) (row other : TypeRow) → PartsFirst types → a < length types →
+pub plain_consistent : (types : TypeRows) (a b : ℕ) (row other : TypeRow) → AreFinite types → a < length types →
     row_at types a ≡ Some row → row_at types b ≡ Some other → is_dyn row ≡ false → is_dyn other ≡ false →
     consistent types a b ≡ true →
     (same_head row other ≡ true) × (related (consistent types) (parts_of row) (parts_of other) ≡ true)
-plain_consistent types a b row other first within at_a at_b e f h =
+plain_consistent types a b row other finite within at_a at_b e f h =
     let heads : Bool = same_head row other in
     let parts : Bool = related (consistent types) (parts_of row) (parts_of other) in
     let by_rows : (is_dyn row || is_dyn other || (heads && parts)) ≡ true =
     ap₂ (λ r o. consistent_rows (consistent types) r o) (sym at_a) (sym at_b)
-    ∙ sym (consistent_by_rows types first a b within) ∙ h in
+    ∙ sym (consistent_by_rows types finite a b within) ∙ h in
     let plain : (heads && parts) ≡ true =
     ap₂ (λ s t. s || t || (heads && parts)) (sym e) (sym f) ∙ by_rows in
     and_parts heads parts plain
@@ -352,7 +353,7 @@ pub parts_are_low : (types : TypeRows) (a : ℕ) (row : TypeRow) → IsOrderedTa
 parts_are_low types a row table at =
     let within = slice_get_within types a row at in
     let high : height types a ≡ above_all (height types) (parts_of row) =
-    height_by_parts types table.parts_first a within ∙ ap (λ r. above_all (height types) (row_parts r)) at in
+    height_by_parts types table.finite a within ∙ ap (λ r. above_all (height types) (row_parts r)) at in
     let low = table.low a within in
     below_all (height types) (parts_of row) MOST_HEIGHT (omega arith)
 
@@ -407,11 +408,12 @@ module _ (middle : TypeRows) (a b : ℕ) (row other : TypeRow) (pairs : List Pai
       width = HasWidth-with_parts row (places_of cs) as_many (table.widths a row at_a);
     }
 
-    deep_enough : (depth : ℕ) → a < suc depth → All (λ s. s < depth) (firsts pairs)
-    deep_enough depth deep =
-        subst (λ (parts : List ℕ). All (λ s. s < depth) parts) (sym left)
-        (All-weaker (λ s. s < a) (λ s. s < depth) (λ s below. omega arith) (parts_of row)
-        (table.parts_first a row at_a))
+    -- in each table that has its row there, the parts of the first type end within one depth less
+    deep_enough : (rows : TypeRows) → row_at rows a ≡ Some row → (depth : ℕ) → EndsWithin (suc depth) rows a →
+        All (EndsWithin depth rows) (firsts pairs)
+    deep_enough rows at depth deep =
+        subst (λ (parts : List ℕ). All (EndsWithin depth rows) parts) (ap row_parts at ∙ sym left)
+        (parts_end rows depth a deep)
 
     -- in the table that it went into
     module _ (new : TypeRows) (c : ℕ) (ordered : IsOrderedTable new) (grown : HasMoreRows middle new)
@@ -423,10 +425,11 @@ module _ (middle : TypeRows) (a b : ℕ) (row other : TypeRow) (pairs : List Pai
       new_b = row_stays middle new b other grown at_b
 
       new_each : EachFormed new pairs cs
-      new_each = EachFormed-grown middle new pairs cs table.parts_first grown each
+      new_each = EachFormed-grown middle new pairs cs table.finite grown each
 
-      formed_again : (more : TypeRows) (depth : ℕ) → a < depth → blend_to depth a b (new ++ more) ≡ (c, new ++ more)
-      formed_again more zero deep = absurd (omega arith)
+      formed_again : (more : TypeRows) (depth : ℕ) → EndsWithin depth (new ++ more) a →
+          blend_to depth a b (new ++ more) ≡ (c, new ++ more)
+      formed_again more zero deep = cc
       formed_again more (suc depth) deep =
           ap₂ (λ r o. blend_rows (blend_to depth) a b r o (new ++ more)) (get_kept new more a row new_a)
           (get_kept new more b other new_b)
@@ -434,7 +437,8 @@ module _ (middle : TypeRows) (a b : ℕ) (row other : TypeRow) (pairs : List Pai
           ∙ ap₂ (λ xs ys. intern (with_parts row (blend_each (blend_to depth) xs ys (new ++ more)).0)
           (blend_each (blend_to depth) xs ys (new ++ more)).1) (sym left) (sym right)
           ∙ ap (λ (done : List ℕ × TypeRows). intern (with_parts row done.0) done.1)
-          (each_again depth new more pairs cs new_each (deep_enough depth deep))
+          (each_again depth new more pairs cs new_each
+          (deep_enough (new ++ more) (get_kept new more a row new_a) depth deep))
           ∙ intern_there_more both new more c ordered.distinct at_c
 
       blends : (depth : ℕ) → IsBlendTo depth new a b c
@@ -462,7 +466,7 @@ module _ (middle : TypeRows) (a b : ℕ) (row other : TypeRow) (pairs : List Pai
 
       height_of : (k : ℕ) (r : TypeRow) → row_at new k ≡ Some r → height new k ≡ above_all (height new) (parts_of r)
       height_of k r at =
-          height_by_parts new ordered.parts_first k (slice_get_within new k r at)
+          height_by_parts new ordered.finite k (slice_get_within new k r at)
           ∙ ap (λ o. above_all (height new) (row_parts o)) at
 
       no_higher : height new c ≤ max (height new a) (height new b)
@@ -485,17 +489,17 @@ module _ (middle : TypeRows) (a b : ℕ) (row other : TypeRow) (pairs : List Pai
 
       -- and it is what was to be formed from the table before
       pub computes : (old : TypeRows) → row_at old a ≡ Some row → row_at old b ≡ Some other →
-          ((depth : ℕ) → All (λ s. s < depth) (firsts pairs) →
+          ((depth : ℕ) → All (EndsWithin depth old) (firsts pairs) →
           blend_each (blend_to depth) (firsts pairs) (seconds pairs) old ≡ (places_of cs, middle)) →
-          intern both middle ≡ (c, new) → (depth : ℕ) → a < depth → blend_to depth a b old ≡ (c, new)
-      computes old old_a old_b parts last zero deep = absurd (omega arith)
+          intern both middle ≡ (c, new) → (depth : ℕ) → EndsWithin depth old a → blend_to depth a b old ≡ (c, new)
+      computes old old_a old_b parts last zero deep = cc
       computes old old_a old_b parts last (suc depth) deep =
           ap₂ (λ r o. blend_rows (blend_to depth) a b r o old) old_a old_b
           ∙ plain_blend (blend_to depth) a b row other old row_plain other_plain
           ∙ ap₂ (λ xs ys. intern (with_parts row (blend_each (blend_to depth) xs ys old).0)
           (blend_each (blend_to depth) xs ys old).1) (sym left) (sym right)
           ∙ ap (λ (done : List ℕ × TypeRows). intern (with_parts row done.0) done.1)
-          (parts depth (deep_enough depth deep))
+          (parts depth (deep_enough old old_a depth deep))
           ∙ last
 
 -- ---- blends with Dyn
@@ -528,8 +532,9 @@ module _ (types : TypeRows) (a b : ℕ) (row other : TypeRow) (at_a : row_at typ
     low = omega arith;
   }
     where
-      again : (more : TypeRows) (depth : ℕ) → a < depth → blend_to depth a b (types ++ more) ≡ (a, types ++ more)
-      again more zero deep = absurd (omega arith)
+      again : (more : TypeRows) (depth : ℕ) → EndsWithin depth (types ++ more) a →
+          blend_to depth a b (types ++ more) ≡ (a, types ++ more)
+      again more zero deep = cc
       again more (suc depth) deep =
           ap₂ (λ r o. blend_rows (blend_to depth) a b r o (types ++ more)) (get_kept types more a row at_a)
           (get_kept types more b other at_b)
@@ -565,8 +570,9 @@ module _ (types : TypeRows) (a b : ℕ) (row other : TypeRow) (at_a : row_at typ
     low = omega arith;
   }
     where
-      again : (more : TypeRows) (depth : ℕ) → a < depth → blend_to depth a b (types ++ more) ≡ (b, types ++ more)
-      again more zero deep = absurd (omega arith)
+      again : (more : TypeRows) (depth : ℕ) → EndsWithin depth (types ++ more) a →
+          blend_to depth a b (types ++ more) ≡ (b, types ++ more)
+      again more zero deep = cc
       again more (suc depth) deep =
           ap₂ (λ r o. blend_rows (blend_to depth) a b r o (types ++ more)) (get_kept types more a row at_a)
           (get_kept types more b other at_b)
@@ -598,10 +604,10 @@ module _ (types : TypeRows) (a b : ℕ) (row other : TypeRow) (at_a : row_at typ
 same_pair : (x y : Pair) → ghosts.eq x y ≡ true → x ≡ y
 same_pair = search rules
 
-pub AreFormed-grown : (types new : TypeRows) (known : Blends) → PartsFirst types → HasMoreRows types new →
+pub AreFormed-grown : (types new : TypeRows) (known : Blends) → AreFinite types → HasMoreRows types new →
     AreFormed types known → AreFormed new known
-AreFormed-grown types new known first more h pair c e =
-    IsFormed-grown types new pair.first.0 pair.second.0 c.0 first more (h pair c e)
+AreFormed-grown types new known finite more h pair c e =
+    IsFormed-grown types new pair.first.0 pair.second.0 c.0 finite more (h pair c e)
 
 known_from : (types : TypeRows) (old : Blends) (key pair : Pair) (c d : TypeId) (same : Bool) →
     ghosts.eq key pair ≡ same →
@@ -625,11 +631,11 @@ AreFormed-insert types old new key c h one updates pair d e =
 
 -- ---- pairs in a list
 
-pub first_below_all : (pairs : List Pair) (k : ℕ) (d : Pair) → k < length pairs →
-    (get_or pairs k d).first.0 < above_all (λ part. part) (firsts pairs)
-first_below_all [] k d within = absurd (omega arith)
-first_below_all (pair ∷ pairs) zero d within = omega arith
-first_below_all (pair ∷ pairs) (suc k) d within = let later = first_below_all pairs k d (omega arith) in omega arith
+pub first_below_all : (f : ℕ → ℕ) (pairs : List Pair) (k : ℕ) (d : Pair) → k < length pairs →
+    f (get_or pairs k d).first.0 < above_all f (firsts pairs)
+first_below_all f [] k d within = absurd (omega arith)
+first_below_all f (pair ∷ pairs) zero d within = omega arith
+first_below_all f (pair ∷ pairs) (suc k) d within = let later = first_below_all f pairs k d (omega arith) in omega arith
 
 pub one_more_computed : (depth : ℕ) (old middle new : TypeRows) (pairs : List Pair) (k : ℕ) (d : Pair)
     (cs : List TypeId)

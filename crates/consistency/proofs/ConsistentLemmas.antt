@@ -10,45 +10,46 @@ use Rattle.grift_base.specs.declared.places.TypeId.{TypeId}
 use Rattle.grift_base.specs.Types.{TypeRow, TypeRows, FunRow, row_at, parts_of, is_dyn, same_head, TupleRow, RefRow}
 use Rattle.grift_base.specs.Types.{VectRow}
 use Rattle.type_graph.specs.Rows.{places_of}
-use Rattle.type_graph.specs.Trees.{PartsFirst, related}
+use Rattle.type_graph.specs.Trees.{row_parts, EndsWithin, AreFinite, related}
 use Rattle.type_graph.specs.TypeTables.{HasMoreRows}
-use Rattle.type_graph.proofs.Public.{row_same, more_length, parts_within}
+use Rattle.type_graph.proofs.Public.{row_same, parts_within, parts_end_twice, ends_deeper, ends_within_new}
 use Rattle.consistency.specs.Consistency.{consistent_rows, consistent_to, consistent}
 
 -- ---- parts one by one
 
-related_same : (f g : ℕ → ℕ → Bool) (below : ℕ) (xs ys : List ℕ) → ((s t : ℕ) → s < below → f s t ≡ g s t) →
-    All (λ x. x < below) xs → related f xs ys ≡ related g xs ys
-related_same f g below [] [] same all = refl
-related_same f g below [] (y ∷ ys) same all = refl
-related_same f g below (x ∷ xs) [] same all = refl
-related_same f g below (x ∷ xs) (y ∷ ys) same all =
-    ap₂ ◌&&◌ (same x y (All-head (λ x. x < below) x xs all))
-    (related_same f g below xs ys same (All-tail (λ x. x < below) x xs all))
+related_same : (f g : ℕ → ℕ → Bool) (P : ℕ → Type 0) (xs ys : List ℕ) → ((s t : ℕ) → P s → f s t ≡ g s t) →
+    All P xs → related f xs ys ≡ related g xs ys
+related_same f g P [] [] same all = refl
+related_same f g P [] (y ∷ ys) same all = refl
+related_same f g P (x ∷ xs) [] same all = refl
+related_same f g P (x ∷ xs) (y ∷ ys) same all =
+    ap₂ ◌&&◌ (same x y (All-head P x xs all)) (related_same f g P xs ys same (All-tail P x xs all))
 
-rows_same : (f g : ℕ → ℕ → Bool) (below : ℕ) (row other : Option TypeRow) → ((s t : ℕ) → s < below → f s t ≡ g s t) →
-    ((r : TypeRow) → row ≡ Some r → All (λ x. x < below) (parts_of r)) →
-    consistent_rows f row other ≡ consistent_rows g row other
-rows_same f g below (Some row) (Some other) same parts =
+rows_same : (f g : ℕ → ℕ → Bool) (P : ℕ → Type 0) (row other : Option TypeRow) → ((s t : ℕ) → P s → f s t ≡ g s t) →
+    All P (row_parts row) → consistent_rows f row other ≡ consistent_rows g row other
+rows_same f g P (Some row) (Some other) same parts =
     ap (λ b. is_dyn row || is_dyn other || (same_head row other && b))
-    (related_same f g below (parts_of row) (parts_of other) same (parts row refl))
-rows_same f g below (Some row) None same parts = refl
-rows_same f g below None other same parts = refl
+    (related_same f g P (parts_of row) (parts_of other) same parts)
+rows_same f g P (Some row) None same parts = refl
+rows_same f g P None other same parts = refl
 
 -- ---- at each depth that is deep enough
 
-module _ (types : TypeRows) (first : PartsFirst types) where
-  consistent_steady : (n m a b : ℕ) → a < n → a < m → consistent_to n types a b ≡ consistent_to m types a b
-  consistent_steady zero m a b one two = absurd (omega arith)
-  consistent_steady (suc n) zero a b one two = absurd (omega arith)
-  consistent_steady (suc n) (suc m) a b one two =
-      rows_same (consistent_to n types) (consistent_to m types) a (row_at types a) (row_at types b)
-      (λ s t below. consistent_steady n m s t (omega arith) (omega arith)) (λ r e. first a r e)
+consistent_steady : (types : TypeRows) (n m a b : ℕ) → EndsWithin n types a → EndsWithin m types a →
+    consistent_to n types a b ≡ consistent_to m types a b
+consistent_steady types zero m a b one two = cc
+consistent_steady types (suc n) zero a b one two = cc
+consistent_steady types (suc n) (suc m) a b one two =
+    rows_same (consistent_to n types) (consistent_to m types) (λ s. EndsWithin n types s × EndsWithin m types s)
+    (row_at types a) (row_at types b) (λ s t both. consistent_steady types n m s t both.0 both.1)
+    (parts_end_twice types n m a one two)
 
-  -- the rule of consistency, for the types of a table
-  pub consistent_by_rows : (a b : ℕ) → a < length types →
-      consistent types a b ≡ consistent_rows (consistent types) (row_at types a) (row_at types b)
-  consistent_by_rows a b within = consistent_steady (length types) (suc (length types)) a b within (omega arith)
+-- the rule of consistency, for the types of a table
+pub consistent_by_rows : (types : TypeRows) → AreFinite types → (a b : ℕ) → a < length types →
+    consistent types a b ≡ consistent_rows (consistent types) (row_at types a) (row_at types b)
+consistent_by_rows types finite a b within =
+    let ends = finite.ends a within in
+    consistent_steady types (length types) (suc (length types)) a b ends (ends_deeper types (length types) a ends)
 
 -- ---- where rows are added
 
@@ -72,9 +73,9 @@ rows_kept f g n (Some row) (Some other) same all others =
 rows_kept f g n (Some row) None same all others = refl
 rows_kept f g n None other same all others = refl
 
-module _ (types new : TypeRows) (first : PartsFirst types) (later : PartsFirst new) (more : HasMoreRows types new) where
+module _ (types new : TypeRows) (finite : AreFinite types) (later : AreFinite new) (more : HasMoreRows types new) where
   there : (a : ℕ) (r : TypeRow) → row_at types a ≡ Some r → All (λ x. x < length types) (parts_of r)
-  there a r e = parts_within types a r first e
+  there a r e = parts_within types a r finite e
 
   consistent_to_kept : (depth a b : ℕ) → a < length types → b < length types →
       consistent_to depth new a b ≡ consistent_to depth types a b
@@ -88,9 +89,9 @@ module _ (types new : TypeRows) (first : PartsFirst types) (later : PartsFirst n
   -- types are consistent in the larger table where they are in the smaller
   pub consistent_kept : (a b : ℕ) → a < length types → b < length types → consistent new a b ≡ consistent types a b
   consistent_kept a b one two =
-      let longer = more_length types new more in
-      consistent_steady new later (length new) (length types) a b (omega arith) one
-      ∙ consistent_to_kept (length types) a b one two
+      consistent_to_kept (length new) a b one two
+      ∙ consistent_steady types (length new) (length types) a b (ends_within_new types new finite more a one)
+      (finite.ends a one)
 
 -- ---- parts in lists
 
@@ -183,11 +184,11 @@ and_true : (b : Bool) → (b && true) ≡ b
 and_true true = refl
 and_true false = refl
 
-module _ (types : TypeRows) (first : PartsFirst types) (a b : ℕ) (within : a < length types) where
+module _ (types : TypeRows) (finite : AreFinite types) (a b : ℕ) (within : a < length types) where
   by_rows : (row other : TypeRow) → row_at types a ≡ Some row → row_at types b ≡ Some other →
       consistent types a b ≡ consistent_rows (consistent types) (Some row) (Some other)
   by_rows row other at_a at_b =
-      consistent_by_rows types first a b within ∙ ap₂ (λ r o. consistent_rows (consistent types) r o) at_a at_b
+      consistent_by_rows types finite a b within ∙ ap₂ (λ r o. consistent_rows (consistent types) r o) at_a at_b
 
   pub functions_consistent : (xs ys : List ℕ) (x y : ℕ) → row_at types a ≡ Some (FunRow xs x) →
       row_at types b ≡ Some (FunRow ys y) →

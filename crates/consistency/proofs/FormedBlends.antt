@@ -2,15 +2,15 @@
 use Rattle.std.proofs.Common.{◌≡◌, ℕ, zero, suc, ◌<◌, Bool, true, false, List, [], ◌∷◌, length}
 use Rattle.std.proofs.Common.{Some, refl, sym, ap, ap₂, ◌∙◌, subst, arith, append-nil}
 use Rattle.std.specs.Prelude.{All}
-use Rattle.std.proofs.lemmas.List.Elements.{All-head, All-tail, All-weaker}
+use Rattle.std.proofs.lemmas.List.Elements.{All-head, All-tail, All-cons, All-nil, All-weaker}
 use Rattle.grift_base.specs.declared.places.TypeId.{TypeId}
 use Rattle.grift_base.specs.Types.{TypeRow, TypeRows, row_at, parts_of, is_dyn}
 use Rattle.type_graph.specs.Rows.{places_of}
 use Rattle.type_graph.specs.Forming.{intern}
-use Rattle.type_graph.specs.Trees.{PartsFirst, related}
+use Rattle.type_graph.specs.Trees.{row_parts, IsClosed, EndsWithin, AreFinite, related}
 use Rattle.type_graph.specs.TypeTables.{HasMoreRows, IsOrderedTable}
 use Rattle.type_graph.proofs.Public.{slice_get_at, same_rows, more_rows, later_within, parts_within, row_stays}
-use Rattle.type_graph.proofs.Public.{IsOrderedTable-intern, row_at-intern, intern_adds}
+use Rattle.type_graph.proofs.Public.{parts_end, ends_grown, IsOrderedTable-intern, row_at-intern, intern_adds}
 use Rattle.consistency.specs.declared.pairs.Pair.{Pair}
 use Rattle.consistency.specs.Consistency.{consistent}
 use Rattle.consistency.specs.Blending.{with_parts, blend_each, blend_rows, blend_to, blend}
@@ -51,46 +51,58 @@ seconds-pair_up (x ∷ xs) (y ∷ ys) e = ap (λ l. y ∷ l) (seconds-pair_up xs
 -- ---- parts
 
 -- what stays of pairs that may be blended where rows are added
-MayBlend-grown : (types new : TypeRows) (pairs : List Pair) → PartsFirst types → PartsFirst new →
+MayBlend-grown : (types new : TypeRows) (pairs : List Pair) → AreFinite types → AreFinite new →
     HasMoreRows types new →
     All (MayBlend types) pairs → All (MayBlend new) pairs
-MayBlend-grown types new pairs first later more all =
+MayBlend-grown types new pairs finite later more all =
     All-weaker (MayBlend types) (MayBlend new) (λ pair may. record {
       first_there = later_within types new pair.first.0 more may.first_there;
       second_there = later_within types new pair.second.0 more may.second_there;
       consistent_pair =
-          consistent_kept types new first later more pair.first.0 pair.second.0 may.first_there may.second_there
+          consistent_kept types new finite later more pair.first.0 pair.second.0 may.first_there may.second_there
           ∙ may.consistent_pair;
     }) pairs all
+
+-- and their first types end within a depth still
+firsts_end : (depth : ℕ) (types new : TypeRows) (pairs : List Pair) → IsClosed types → HasMoreRows types new →
+    All (MayBlend types) pairs → All (EndsWithin depth types) (firsts pairs) → All (EndsWithin depth new) (firsts pairs)
+firsts_end depth types new [] closed more may deep = All-nil (EndsWithin depth new)
+firsts_end depth types new (pair ∷ pairs) closed more may deep =
+    All-cons (EndsWithin depth new) pair.first.0 (firsts pairs)
+    (ends_grown types new closed more depth pair.first.0 (All-head (MayBlend types) pair pairs may).first_there
+    (All-head (EndsWithin depth types) pair.first.0 (firsts pairs) deep))
+    (firsts_end depth types new pairs closed more (All-tail (MayBlend types) pair pairs may)
+    (All-tail (EndsWithin depth types) pair.first.0 (firsts pairs) deep))
 
 abbrev FormsBlends : ℕ → Type 0
 FormsBlends depth =
     (types : TypeRows) (a b : ℕ) → IsOrderedTable types → a < length types → b < length types →
-    consistent types a b ≡ true → a < depth → FormsBlend types a b (blend_to depth a b types)
+    consistent types a b ≡ true → EndsWithin depth types a → FormsBlend types a b (blend_to depth a b types)
 
 abbrev FormsEach : TypeRows → List Pair → List ℕ × TypeRows → Type 0
 FormsEach types pairs outcome =
     IsOrderedTable outcome.1 × HasMoreRows types outcome.1 × EachFormed outcome.1 pairs (ids outcome.0)
 
 each_forms : (depth : ℕ) → FormsBlends depth → (pairs : List Pair) (types : TypeRows) → IsOrderedTable types →
-    All (MayBlend types) pairs → All (λ s. s < depth) (firsts pairs) →
+    All (MayBlend types) pairs → All (EndsWithin depth types) (firsts pairs) →
     FormsEach types pairs (blend_each (blend_to depth) (firsts pairs) (seconds pairs) types)
 each_forms depth forms [] types table may deep = (table, same_rows types, tt)
 each_forms depth forms (pair ∷ pairs) types table may deep =
     let a : ℕ = pair.first.0 in
     let b : ℕ = pair.second.0 in
     let head = All-head (MayBlend types) pair pairs may in
+    let others = All-tail (MayBlend types) pair pairs may in
     let one = forms types a b table head.first_there head.second_there head.consistent_pair
-    (All-head (λ s. s < depth) a (firsts pairs) deep) in
+    (All-head (EndsWithin depth types) a (firsts pairs) deep) in
     let middle : TypeRows = (blend_to depth a b types).1 in
     let rest = each_forms depth forms pairs middle one.table
-    (MayBlend-grown types middle pairs table.parts_first one.table.parts_first one.grown
-    (All-tail (MayBlend types) pair pairs may))
-    (All-tail (λ s. s < depth) a (firsts pairs) deep) in
+    (MayBlend-grown types middle pairs table.finite one.table.finite one.grown others)
+    (firsts_end depth types middle pairs table.finite.closed one.grown others
+    (All-tail (EndsWithin depth types) a (firsts pairs) deep)) in
     let last : TypeRows = (blend_each (blend_to depth) (firsts pairs) (seconds pairs) middle).1 in (
       rest.0,
       more_rows types middle last one.grown rest.1,
-      (IsFormed-grown middle last a b (blend_to depth a b types).0 one.table.parts_first rest.1 one.formed, rest.2),
+      (IsFormed-grown middle last a b (blend_to depth a b types).0 one.table.finite rest.1 one.formed, rest.2),
     )
 
 -- ---- rows
@@ -102,19 +114,20 @@ outcome_is : (types : TypeRows) (a b : ℕ) (outcome known : ℕ × TypeRows) �
 outcome_is types a b outcome known e h = subst (λ (o : ℕ × TypeRows). FormsBlend types a b o) (sym e) h
 
 module _ (depth : ℕ) (forms : FormsBlends depth) (types : TypeRows) (a b : ℕ) (table : IsOrderedTable types)
-    (a_there : a < length types) (b_there : b < length types) (h : consistent types a b ≡ true) (deep : a < suc depth)
-    (row other : TypeRow) (at_a : row_at types a ≡ Some row) (at_b : row_at types b ≡ Some other) where
+    (a_there : a < length types) (b_there : b < length types) (h : consistent types a b ≡ true)
+    (deep : EndsWithin (suc depth) types a) (row other : TypeRow) (at_a : row_at types a ≡ Some row)
+    (at_b : row_at types b ≡ Some other) where
   -- the blend is there already
   there_already : (c : ℕ) → IsFormed types a b c → FormsBlend types a b (blend_to (suc depth) a b types)
   there_already c formed =
       outcome_is types a b (blend_to (suc depth) a b types) (c, types)
-      (subst (λ (rows : TypeRows). blend_to (suc depth) a b rows ≡ (c, rows)) (append-nil types)
-      (formed.again [] (suc depth) deep))
+      (subst (λ (rows : TypeRows). EndsWithin (suc depth) rows a → blend_to (suc depth) a b rows ≡ (c, rows))
+      (append-nil types) (formed.again [] (suc depth)) deep)
       (record { table = table; grown = same_rows types; formed = formed })
 
   plain_forms : is_dyn row ≡ false → is_dyn other ≡ false → FormsBlend types a b (blend_to (suc depth) a b types)
   plain_forms row_plain other_plain =
-      let parts = plain_consistent types a b row other table.parts_first a_there at_a at_b row_plain other_plain h in
+      let parts = plain_consistent types a b row other table.finite a_there at_a at_b row_plain other_plain h in
       let xs : List ℕ = parts_of row in
       let ys : List ℕ = parts_of other in
       let lengths = heads_have_one_width row other parts.0 in
@@ -123,13 +136,13 @@ module _ (depth : ℕ) (forms : FormsBlends depth) (types : TypeRows) (a b : ℕ
       let right : seconds pairs ≡ ys = seconds-pair_up xs ys lengths in
       let may = All-MayBlend types pairs
       (subst (λ (l : List ℕ). All (λ s. s < length types) l) (sym left)
-      (parts_within types a row table.parts_first at_a))
+      (parts_within types a row table.finite at_a))
       (subst (λ (l : List ℕ). All (λ s. s < length types) l) (sym right)
-      (parts_within types b other table.parts_first at_b))
+      (parts_within types b other table.finite at_b))
       (ap₂ (λ l m. related (consistent types) l m) left right ∙ parts.1) in
-      let parts_deep : All (λ s. s < depth) (firsts pairs) =
-      subst (λ (l : List ℕ). All (λ s. s < depth) l) (sym left)
-      (All-weaker (λ s. s < a) (λ s. s < depth) (λ s below. omega arith) xs (table.parts_first a row at_a)) in
+      let parts_deep : All (EndsWithin depth types) (firsts pairs) =
+      subst (λ (l : List ℕ). All (EndsWithin depth types) l) (ap row_parts at_a ∙ sym left)
+      (parts_end types depth a deep) in
       let each = each_forms depth forms pairs types table may parts_deep in
       let done : List ℕ × TypeRows = blend_each (blend_to depth) (firsts pairs) (seconds pairs) types in
       let middle : TypeRows = done.1 in
@@ -163,7 +176,7 @@ module _ (depth : ℕ) (forms : FormsBlends depth) (types : TypeRows) (a b : ℕ
 
 -- with fuel enough
 blend_to_forms : (depth : ℕ) → FormsBlends depth
-blend_to_forms zero types a b table one two h deep = absurd (omega arith)
+blend_to_forms zero types a b table one two h deep = cc
 blend_to_forms (suc depth) types a b table one two h deep =
     let at_a = slice_get_at types a one in
     let at_b = slice_get_at types b two in
@@ -172,4 +185,5 @@ blend_to_forms (suc depth) types a b table one two h deep =
 
 pub blend_forms : (types : TypeRows) (a b : ℕ) → IsOrderedTable types → a < length types → b < length types →
     consistent types a b ≡ true → FormsBlend types a b (blend a b types)
-blend_forms types a b table one two h = blend_to_forms (length types) types a b table one two h one
+blend_forms types a b table one two h =
+    blend_to_forms (length types) types a b table one two h (table.finite.ends a one)

@@ -6,7 +6,7 @@ use Rattle.std.specs.declared.hash.FoldHasher.{FoldHasher}
 use Rattle.std.specs.declared.hash.BuildHasherDefault.{BuildHasherDefault}
 use Rattle.grift_base.specs.declared.places.TypeId.{TypeId}
 use Rattle.grift_base.specs.Types.{TypeRows}
-use Rattle.type_graph.specs.Trees.{height}
+use Rattle.type_graph.specs.Trees.{EndsWithin, height}
 use Rattle.type_graph.specs.TypeTables.{HasMoreRows, IsOrderedTable}
 use Rattle.consistency.specs.declared.pairs.Pair.{Pair}
 use Rattle.consistency.specs.contracts.pairs.PairPartialEq.TheImpl.{ghosts}
@@ -30,9 +30,10 @@ pub record MayBlend (types : TypeRows) (pair : Pair) : Type 0 where
   pub second_there : pair.second.0 < length types
   pub consistent_pair : consistent types pair.first.0 pair.second.0 ≡ true
 
--- forming the blend of two types gives this type, and turns the first table into the second
+-- forming the blend of two types, to each depth within which the first of them ends, gives this type, and turns the
+-- first table into the second
 abbrev pub GivesBlend : TypeRows → ℕ → ℕ → ℕ → TypeRows → Type 0
-GivesBlend old a b c new = (depth : ℕ) → a < depth → blend_to depth a b old ≡ (c, new)
+GivesBlend old a b c new = (depth : ℕ) → EndsWithin depth old a → blend_to depth a b old ≡ (c, new)
 
 -- The blend of two types is there: forming it once more, also in a table with more rows, gives it and adds none.
 pub record IsFormed (types : TypeRows) (a b c : ℕ) : Type 0 where

@@ -3,6 +3,7 @@
 ghost use Rattle.std.specs.Prelude.{◌≡◌, ◌<◌, ◌++◌, ◌∷◌, [], ℕ, All, IfOk, OnOk, length, true};
 ghost use Rattle.grift_base.specs.Types.{is_dyn, parts_of, same_head};
 ghost use Rattle.type_graph.specs.Rows.{places_of, row_of};
+ghost use Rattle.type_graph.specs.Trees.{EndsWithin};
 ghost use Rattle.type_graph.specs.TypeTables.{HasMoreRows};
 ghost use Rattle.consistency.specs.Consistency.{consistent};
 ghost use Rattle.consistency.specs.Blending.{IsBlend, blend, blend_each, blend_to, with_parts};
@@ -32,6 +33,8 @@ pub fn blend(
     ensures blends { IfOk result (λ c. IsBlend types.new a.0 b.0 c.0) }
     ensures grown { HasMoreRows types.old types.new }
 {
+    // The table is one: `len` says that no row stands twice and that its types are trees.
+    types.len();
     let mut known = HashMap::new(alloc);
     form(alloc, &mut known, types, a, b)
 }
@@ -115,7 +118,7 @@ fn form_each(
 ) -> Result<Vec<TypeId>, OutOfMemory>
     requires pairs { All (MayBlend types.old) pairs.now }
     requires known { AreFormed types.old known.old }
-    ensures computed { IfOk result (λ parts. (depth : ℕ) → All (λ s. s < depth) (firsts pairs.now)
+    ensures computed { IfOk result (λ parts. (depth : ℕ) → All (EndsWithin depth types.old) (firsts pairs.now)
         → blend_each (blend_to depth) (firsts pairs.now) (seconds pairs.now) types.old
         ≡ (places_of parts.items, types.new)) }
     ensures formed { IfOk result (λ parts. EachFormed types.new pairs.now parts.items) }

@@ -2,7 +2,7 @@
 
 ghost use Rattle.std.specs.Prelude.{◌≡◌, ◌<◌, ◌++◌, ℕ, length, true};
 ghost use Rattle.grift_base.specs.Types.{TypeRows, row_at};
-ghost use Rattle.type_graph.specs.Trees.{PartsFirst};
+ghost use Rattle.type_graph.specs.Trees.{AreFinite};
 ghost use Rattle.type_graph.specs.TypeTables.{IsOrderedTable};
 ghost use Rattle.consistency.specs.Consistency.{consistent, consistent_rows};
 ghost use Rattle.consistency.specs.Blending.{blend};
@@ -11,9 +11,9 @@ ghost use Rattle.consistency.specs.Known.{FormsBlend};
 /// Consistency goes by rows: Dyn is consistent with every type, and two other types are where their heads are equal
 /// and their parts are consistent. It stays what it is where rows are added.
 pub fn consistency_goes_by_rows()
-    ensures rows { (types : TypeRows) (a b : ℕ) → PartsFirst types → a < length types
+    ensures rows { (types : TypeRows) (a b : ℕ) → AreFinite types → a < length types
         → consistent types a b ≡ consistent_rows (consistent types) (row_at types a) (row_at types b) }
-    ensures kept { (types more : TypeRows) (a b : ℕ) → PartsFirst types → PartsFirst (types ++ more)
+    ensures kept { (types more : TypeRows) (a b : ℕ) → AreFinite types → AreFinite (types ++ more)
         → a < length types → b < length types → consistent (types ++ more) a b ≡ consistent types a b }
 {}
 

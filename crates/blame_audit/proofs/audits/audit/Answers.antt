@@ -53,17 +53,17 @@ returns-clause-exact c p =
     omega (arith, c.loop-label-test.false, c.loop-label.auto.label-end, c.len-labels.ensures.len) in
     let listed = c.loop-label.invariant ∙ ap (safe_labels c.args.types.now (entries_of c.args.elab.now.casts)) all in
     subst P (sym listed) (listed_labels_are_exact c.args.types.now c.args.elab.now c.requires
-    c.len.ensures.table.parts_first p)
+    c.len.ensures.table.finite p)
 
 pub returns-clause-never_blamed : goal.returns-clause-never_blamed
 returns-clause-never_blamed c p has =
     let all : c.loop-label.label ≡ length c.args.elab.now.labels =
     omega (arith, c.loop-label-test.false, c.loop-label.auto.label-end, c.len-labels.ensures.len) in
     let listed = c.loop-label.invariant ∙ ap (safe_labels c.args.types.now (entries_of c.args.elab.now.casts)) all in
-    listed_labels_are_never_blamed c.args.types.now c.args.elab.now c.requires c.len.ensures.table.parts_first p
+    listed_labels_are_never_blamed c.args.types.now c.args.elab.now c.requires c.len.ensures.table.finite p
     (subst (λ (safe : List ℕ). Contains safe p) listed has)
 
 pub returns-clause-no_verdict : goal.returns-clause-no_verdict
 returns-clause-no_verdict c =
-    no_verdict_blames_a_listed_label c.args.types.now c.args.elab.now c.requires c.len.ensures.table.parts_first
+    no_verdict_blames_a_listed_label c.args.types.now c.args.elab.now c.requires c.len.ensures.table.finite
     c.len-labels.ensures.distinct

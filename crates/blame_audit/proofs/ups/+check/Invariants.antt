@@ -1,22 +1,23 @@
 use Rattle.std.proofs.Common.{◌≡◌, ◌+◌, ◌*◌, true, take}
 use Rattle.type_graph.specs.Rows.{places_of}
-use Rattle.type_graph.specs.Trees.{above_all, related}
+use Rattle.type_graph.specs.Trees.{above_all, height, related}
 use Rattle.blame_audit.specs.Up.{up}
 use Rattle.blame_audit.specs.Known.{AreUp}
 use Rattle.blame_audit.proofs.ups.+check.Given as goal
 
 abbrev pub decreases-check : goal.decreases-check
-decreases-check l = 3 * (l.a.0 + l.b.0) + 2
+decreases-check l = 3 * (height l.types.now l.a.0 + height l.types.now l.b.0) + 2
 
 abbrev pub decreases-check_rows : goal.decreases-check_rows
-decreases-check_rows l = 3 * (l.a.0 + l.b.0) + 1
+decreases-check_rows l = 3 * (height l.types.now l.a.0 + height l.types.now l.b.0) + 1
 
 abbrev pub decreases-check_both_ways : goal.decreases-check_both_ways
-decreases-check_both_ways l = 3 * (l.a.0 + l.b.0) + 3
+decreases-check_both_ways l = 3 * (height l.types.now l.a.0 + height l.types.now l.b.0) + 3
 
 abbrev pub decreases-check_each : goal.decreases-check_each
 decreases-check_each l =
-    3 * (above_all (λ part. part) (places_of l.parts.now) + above_all (λ part. part) (places_of l.others.now))
+    3 * (above_all (height l.types.now) (places_of l.parts.now)
+    + above_all (height l.types.now) (places_of l.others.now))
 
 abbrev pub invariant-check_each-loop-i : goal.invariant-check_each-loop-i
 invariant-check_each-loop-i l = record {

@@ -5,11 +5,11 @@ use Rattle.std.proofs.lemmas.List.{map_more, take_more, length-map}
 use Rattle.grift_base.specs.declared.places.TypeId.{TypeId}
 use Rattle.grift_base.specs.Types.{TypeRow, TypeRows, row_at, parts_of}
 use Rattle.type_graph.specs.Rows.{places_of, row_of}
-use Rattle.type_graph.specs.Trees.{above_all, related}
+use Rattle.type_graph.specs.Trees.{EndsWithin, above_all, height, related}
 use Rattle.type_graph.specs.Forming.{intern}
 use Rattle.type_graph.specs.TypeTables.{HasMoreRows, FitsTable}
 use Rattle.type_graph.proofs.Public.{same_some, row_stays, more_rows, later_within, parts_within, above_all-most}
-use Rattle.type_graph.proofs.Public.{fun_parts, intern_adds}
+use Rattle.type_graph.proofs.Public.{parts_lower, ends_grown, height_grown, fun_parts, intern_adds}
 use Rattle.consistency.specs.declared.pairs.Pair.{Pair}
 use Rattle.consistency.specs.Consistency.{consistent}
 use Rattle.consistency.specs.Blending.{blend_each, blend_to, with_parts}
@@ -29,8 +29,9 @@ pub form-returns-in-Some-clause-computed : goal.form-returns-in-Some-clause-comp
 form-returns-in-Some-clause-computed t c = λ depth deep.
     let there = c.requires.known (record { first = c.args.a; second = c.args.b }) c.in-Some.c
     (sym c.get.ensures.value ∙ sym c.copied.ensures ∙ c.in-Some.is) in
-    subst (λ (rows : TypeRows). blend_to depth c.args.a.0 c.args.b.0 rows ≡ (c.in-Some.c.0, rows))
-    (append-nil c.args.types.now) (there.again [] depth deep)
+    subst (λ (rows : TypeRows). EndsWithin depth rows c.args.a.0 →
+    blend_to depth c.args.a.0 c.args.b.0 rows ≡ (c.in-Some.c.0, rows))
+    (append-nil c.args.types.now) (there.again [] depth) deep
 
 pub form-returns-in-Some-clause-formed : goal.form-returns-in-Some-clause-formed
 form-returns-in-Some-clause-formed t c =
@@ -49,15 +50,18 @@ form_each-form-requires t c =
     let now = c.loop-pair.types in
     let pair : Pair = get_or c.args.pairs.now c.loop-pair.pair-index nowhere in
     let may : MayBlend old pair = c.requires.pairs c.loop-pair.pair-index nowhere c.loop-pair-test.true in
-    let below = first_below_all c.args.pairs.now c.loop-pair.pair-index nowhere c.loop-pair-test.true in
-    let grown = c.loop-pair.invariant.grown in (
-      omega (arith, c.decreases, below),
+    let below =
+    first_below_all (height old) c.args.pairs.now c.loop-pair.pair-index nowhere c.loop-pair-test.true in
+    let grown = c.loop-pair.invariant.grown in
+    let high : height now pair.first.0 ≡ height old pair.first.0 =
+    height_grown old now c.len.ensures.table.finite grown pair.first.0 may.first_there in (
+      omega (arith, c.decreases, below, high),
       (
         later_within old now pair.first.0 grown may.first_there,
         (
           later_within old now pair.second.0 grown may.second_there,
           (
-            consistent_kept old now c.len.ensures.table.parts_first c.len-in-loop-pair.ensures.table.parts_first grown
+            consistent_kept old now c.len.ensures.table.finite c.len-in-loop-pair.ensures.table.finite grown
                 pair.first.0 pair.second.0 may.first_there may.second_there
                 ∙ may.consistent_pair,
             c.loop-pair.invariant.known,
@@ -83,15 +87,19 @@ form_each-loop-pair-preserved t c =
           (subst (λ (ps : List Pair). EachFormed new ps (parts ++ c.in_ok-part.part ∷ []))
           (sym (take_more pairs k nowhere c.loop-pair-test.true))
           (EachFormed-push new (take k pairs) parts pair c.in_ok-part.part
-          (EachFormed-grown now new (take k pairs) parts c.len-in-loop-pair.ensures.table.parts_first
+          (EachFormed-grown now new (take k pairs) parts c.len-in-loop-pair.ensures.table.finite
           c.in_ok-part.ensures.grown c.loop-pair.invariant.formed)
           c.in_ok-part.ensures.formed));
       computed = λ depth deep.
-          let all = fun_parts (λ s. s < depth) (firsts (take k pairs)) pair.first.0
-          (subst (λ (xs : List ℕ). All (λ s. s < depth) xs)
+          let all = fun_parts (EndsWithin depth old) (firsts (take k pairs)) pair.first.0
+          (subst (λ (xs : List ℕ). All (EndsWithin depth old) xs)
           (map_more (λ (p : Pair). p.first.0) pairs k nowhere c.loop-pair-test.true) deep) in
+          let may : MayBlend old pair = c.requires.pairs k nowhere c.loop-pair-test.true in
+          let ends : EndsWithin depth now pair.first.0 =
+          ends_grown old now c.len.ensures.table.finite.closed c.loop-pair.invariant.grown depth pair.first.0
+          may.first_there all.1 in
           one_more_computed depth old now new pairs k nowhere parts c.in_ok-part.part c.loop-pair-test.true
-          (c.loop-pair.invariant.computed depth all.0) (c.in_ok-part.ensures.computed depth all.1)
+          (c.loop-pair.invariant.computed depth all.0) (c.in_ok-part.ensures.computed depth ends)
           ∙ ap (λ (cs : List TypeId). (places_of cs, new)) (sym c.in_ok-push.ensures);
     }
 
@@ -115,20 +123,21 @@ form_row-form_each-requires t c =
     let row = row_of c.row-row.result.now in
     let other = row_of c.row-other.result.now in
     let parts =
-    plain_consistent types a b row other table.parts_first c.requires.a c.row-row.ensures c.row-other.ensures
+    plain_consistent types a b row other table.finite c.requires.a c.row-row.ensures c.row-other.ensures
     (sym c.is_dyn.ensures ∙ c.if-is_dyn.false) (sym c.is_dyn-2.ensures ∙ c.if-is_dyn-2.false) c.requires.consistent in
     let pairs = c.in_ok-pairs.pairs.items in
-    let most : above_all (λ part. part) (firsts pairs) ≤ a =
-    subst (λ (xs : List ℕ). above_all (λ part. part) xs ≤ a) (sym c.in_ok-pairs.ensures.firsts)
-    (above_all-most a (parts_of row) (table.parts_first a row c.row-row.ensures)) in
+    let high : ℕ = height types a in
+    let most : above_all (height types) (firsts pairs) ≤ high =
+    subst (λ (xs : List ℕ). above_all (height types) xs ≤ high) (sym c.in_ok-pairs.ensures.firsts)
+    (above_all-most (height types) high (parts_of row) (parts_lower types table.finite a row c.row-row.ensures)) in
     rw c.as_slice.ensures.value (
       omega (arith, c.decreases, most),
       (
         All-MayBlend types pairs
             (subst (λ (xs : List ℕ). All (λ s. s < length types) xs) (sym c.in_ok-pairs.ensures.firsts)
-            (parts_within types a row table.parts_first c.row-row.ensures))
+            (parts_within types a row table.finite c.row-row.ensures))
             (subst (λ (xs : List ℕ). All (λ s. s < length types) xs) (sym c.in_ok-pairs.ensures.seconds)
-            (parts_within types b other table.parts_first c.row-other.ensures))
+            (parts_within types b other table.finite c.row-other.ensures))
             (ap₂ (λ xs ys. related (consistent types) xs ys) c.in_ok-pairs.ensures.firsts c.in_ok-pairs.ensures.seconds
             ∙ parts.1),
         c.requires.known,
@@ -146,7 +155,7 @@ form_row-row_with_parts-requires t c =
     let other : TypeRow = row_of c.row-other.result.now in
     let row_plain = sym c.is_dyn.ensures ∙ c.if-is_dyn.false in
     let other_plain = sym c.is_dyn-2.ensures ∙ c.if-is_dyn-2.false in
-    let parts = plain_consistent types a b row other c.len.ensures.table.parts_first c.requires.a c.row-row.ensures
+    let parts = plain_consistent types a b row other c.len.ensures.table.finite c.requires.a c.row-row.ensures
     c.row-other.ensures row_plain other_plain c.requires.consistent in
     let grown = c.in_ok-parts.ensures.grown in
     let at_a : row_at middle a ≡ Some row = row_stays types middle a row grown c.row-row.ensures in
@@ -172,7 +181,7 @@ form_row-intern-requires t c =
     let other : TypeRow = row_of c.row-other.result.now in
     let row_plain = sym c.is_dyn.ensures ∙ c.if-is_dyn.false in
     let other_plain = sym c.is_dyn-2.ensures ∙ c.if-is_dyn-2.false in
-    let parts = plain_consistent types a b row other c.len.ensures.table.parts_first c.requires.a c.row-row.ensures
+    let parts = plain_consistent types a b row other c.len.ensures.table.finite c.requires.a c.row-row.ensures
     c.row-other.ensures row_plain other_plain c.requires.consistent in
     let grown = c.in_ok-parts.ensures.grown in
     let at_a : row_at middle a ≡ Some row = row_stays types middle a row grown c.row-row.ensures in
@@ -201,7 +210,7 @@ form_row-returns-clause-computed t c =
     let other : TypeRow = row_of c.row-other.result.now in
     let row_plain = sym c.is_dyn.ensures ∙ c.if-is_dyn.false in
     let other_plain = sym c.is_dyn-2.ensures ∙ c.if-is_dyn-2.false in
-    let parts = plain_consistent types a b row other c.len.ensures.table.parts_first c.requires.a c.row-row.ensures
+    let parts = plain_consistent types a b row other c.len.ensures.table.finite c.requires.a c.row-row.ensures
     c.row-other.ensures row_plain other_plain c.requires.consistent in
     let grown = c.in_ok-parts.ensures.grown in
     let at_a : row_at middle a ≡ Some row = row_stays types middle a row grown c.row-row.ensures in
@@ -224,7 +233,7 @@ form_row-returns-clause-computed t c =
     computes middle a b row other pairs cs table at_a at_b row_plain other_plain parts.0 c.in_ok-pairs.ensures.firsts
     c.in_ok-pairs.ensures.seconds each new c.in_ok-c.c.0 c.len-3.ensures.table added at_c types c.row-row.ensures
     c.row-other.ensures
-    (λ depth. subst (λ (ps : List Pair). All (λ s. s < depth) (firsts ps) →
+    (λ depth. subst (λ (ps : List Pair). All (EndsWithin depth types) (firsts ps) →
     blend_each (blend_to depth) (firsts ps) (seconds ps) types ≡ (places_of cs, middle)) c.as_slice.ensures.value
     (c.in_ok-parts.ensures.computed depth))
     (ap (λ r. intern r middle) (sym both) ∙ c.in_ok-c.ensures.ok)
@@ -240,7 +249,7 @@ form_row-returns-clause-formed t c =
     let other : TypeRow = row_of c.row-other.result.now in
     let row_plain = sym c.is_dyn.ensures ∙ c.if-is_dyn.false in
     let other_plain = sym c.is_dyn-2.ensures ∙ c.if-is_dyn-2.false in
-    let parts = plain_consistent types a b row other c.len.ensures.table.parts_first c.requires.a c.row-row.ensures
+    let parts = plain_consistent types a b row other c.len.ensures.table.finite c.requires.a c.row-row.ensures
     c.row-other.ensures row_plain other_plain c.requires.consistent in
     let grown = c.in_ok-parts.ensures.grown in
     let at_a : row_at middle a ≡ Some row = row_stays types middle a row grown c.row-row.ensures in
@@ -270,5 +279,5 @@ form_row-returns-clause-known t c =
     let added =
     subst (λ (rows : TypeRows). HasMoreRows middle rows) (ap (λ (d : ℕ × TypeRows). d.1) c.in_ok-c.ensures.ok)
     (intern_adds (row_of c.in_ok-both.both) middle) in
-    AreFormed-grown middle c.intern.new.self c.form_each.new.known c.len-2.ensures.table.parts_first added
+    AreFormed-grown middle c.intern.new.self c.form_each.new.known c.len-2.ensures.table.finite added
     c.in_ok-parts.ensures.known

@@ -5,8 +5,8 @@ use Rattle.std.proofs.lemmas.List.Elements.{All-head}
 use Rattle.grift_base.specs.declared.places.TypeId.{TypeId}
 use Rattle.grift_base.specs.Types.{FunRow, TupleRow, RefRow, VectRow, row_at}
 use Rattle.type_graph.specs.Rows.{places_of, row_of}
-use Rattle.type_graph.specs.Trees.{related}
-use Rattle.type_graph.proofs.Public.{parts_within, part_at, part_below_all, above_all-most, fun_parts}
+use Rattle.type_graph.specs.Trees.{height, related}
+use Rattle.type_graph.proofs.Public.{parts_within, parts_lower, part_at, part_below_all, above_all-most, fun_parts}
 use Rattle.consistency.specs.Consistency.{consistent}
 use Rattle.consistency.proofs.ConsistentLemmas.{related_more, related_fails, related_lengths, functions_consistent}
 use Rattle.consistency.proofs.ConsistentLemmas.{tuples_consistent, references_consistent, vectors_consistent}
@@ -28,7 +28,7 @@ check_each-returns-then-parts-others-clause-answer t c =
 pub check_each-check-requires : goal.check_each-check-requires
 check_each-check-requires t c =
     let same : length c.args.parts.now ≡ length c.args.others.now = c.if-parts-others.false in
-    let below = part_below_all c.args.parts.now c.loop-i.i nowhere c.loop-i-test.true in (
+    let below = part_below_all (height c.args.types.now) c.args.parts.now c.loop-i.i nowhere c.loop-i-test.true in (
       omega (arith, c.decreases, below),
       (
         part_at (λ part. part < length c.args.types.now) c.args.parts.now c.loop-i.i nowhere c.loop-i-test.true
@@ -66,14 +66,15 @@ check_rows-check_each-requires t c =
     c.row.ensures ∙ ap (λ r. Some (row_of r)) c.in-Fun-Fun.is-0 in
     let other : row_at types c.args.b.0 ≡ Some (FunRow (places_of c.in-Fun-Fun.others) c.in-Fun-Fun.other.0) =
     c.row-2.ensures ∙ ap (λ r. Some (row_of r)) c.in-Fun-Fun.is-1 in
-    let first = fun_parts (λ part. part < a) _ _ (table.parts_first a _ row) in
-    let most = above_all-most a (places_of c.in-Fun-Fun.parameters) first.0 in
+    let high : ℕ = height types a in
+    let lower = fun_parts (λ part. height types part < high) _ _ (parts_lower types table.finite a _ row) in
+    let most = above_all-most (height types) high (places_of c.in-Fun-Fun.parameters) lower.0 in
     rw (c.as_slice.ensures, c.as_slice-in-Fun-Fun.ensures) (
       omega (arith, c.decreases, most),
       (
-        (fun_parts (λ part. part < length types) _ _ (parts_within types a _ table.parts_first row)).0,
+        (fun_parts (λ part. part < length types) _ _ (parts_within types a _ table.finite row)).0,
         (
-          (fun_parts (λ part. part < length types) _ _ (parts_within types c.args.b.0 _ table.parts_first other)).0,
+          (fun_parts (λ part. part < length types) _ _ (parts_within types c.args.b.0 _ table.finite other)).0,
           c.requires.known,
         ),
       ),
@@ -88,7 +89,7 @@ check_rows-returns-then-not-branch-clause-answer t c =
     sym c.if-not-branch.true
     ∙ (rw (c.as_slice.ensures, c.as_slice-in-Fun-Fun.ensures) at c.in_ok-check_each-in-Fun-Fun.ensures.answer) in
     ap (λ b. b && consistent types c.in-Fun-Fun.result.0 c.in-Fun-Fun.other.0) answer
-    ∙ sym (functions_consistent types c.len.ensures.table.parts_first c.args.a.0 c.args.b.0 c.requires.a xs ys
+    ∙ sym (functions_consistent types c.len.ensures.table.finite c.args.a.0 c.args.b.0 c.requires.a xs ys
     c.in-Fun-Fun.result.0 c.in-Fun-Fun.other.0 (c.row.ensures ∙ ap (λ r. Some (row_of r)) c.in-Fun-Fun.is-0)
     (c.row-2.ensures ∙ ap (λ r. Some (row_of r)) c.in-Fun-Fun.is-1))
 
@@ -101,12 +102,14 @@ check_rows-check-requires t c =
     c.row.ensures ∙ ap (λ r. Some (row_of r)) c.in-Fun-Fun.is-0 in
     let other : row_at types c.args.b.0 ≡ Some (FunRow (places_of c.in-Fun-Fun.others) c.in-Fun-Fun.other.0) =
     c.row-2.ensures ∙ ap (λ r. Some (row_of r)) c.in-Fun-Fun.is-1 in
-    let below : c.in-Fun-Fun.result.0 < a = (fun_parts (λ part. part < a) _ _ (table.parts_first a _ row)).1 in (
+    let high : ℕ = height types a in
+    let below : height types c.in-Fun-Fun.result.0 < high =
+    (fun_parts (λ part. height types part < high) _ _ (parts_lower types table.finite a _ row)).1 in (
       omega (arith, c.decreases, below),
       (
-        (fun_parts (λ part. part < length types) _ _ (parts_within types a _ table.parts_first row)).1,
+        (fun_parts (λ part. part < length types) _ _ (parts_within types a _ table.finite row)).1,
         (
-          (fun_parts (λ part. part < length types) _ _ (parts_within types c.args.b.0 _ table.parts_first other)).1,
+          (fun_parts (λ part. part < length types) _ _ (parts_within types c.args.b.0 _ table.finite other)).1,
           c.in_ok-check_each-in-Fun-Fun.ensures.known,
         ),
       ),
@@ -122,7 +125,7 @@ check_rows-returns-else-not-branch-clause-answer t c =
     ∙ (rw (c.as_slice.ensures, c.as_slice-in-Fun-Fun.ensures) at c.in_ok-check_each-in-Fun-Fun.ensures.answer) in
     same_answer c.check.result _ _ c.check.ensures.answer
     (ap (λ b. b && consistent types c.in-Fun-Fun.result.0 c.in-Fun-Fun.other.0) answer
-    ∙ sym (functions_consistent types c.len.ensures.table.parts_first c.args.a.0 c.args.b.0 c.requires.a xs ys
+    ∙ sym (functions_consistent types c.len.ensures.table.finite c.args.a.0 c.args.b.0 c.requires.a xs ys
     c.in-Fun-Fun.result.0 c.in-Fun-Fun.other.0 (c.row.ensures ∙ ap (λ r. Some (row_of r)) c.in-Fun-Fun.is-0)
     (c.row-2.ensures ∙ ap (λ r. Some (row_of r)) c.in-Fun-Fun.is-1)))
 
@@ -135,12 +138,14 @@ check_rows-check_each-requires-in-Tuple-Tuple t c =
     c.row.ensures ∙ ap (λ r. Some (row_of r)) c.in-Tuple-Tuple.is-0 in
     let other : row_at types c.args.b.0 ≡ Some (TupleRow (places_of c.in-Tuple-Tuple.others)) =
     c.row-2.ensures ∙ ap (λ r. Some (row_of r)) c.in-Tuple-Tuple.is-1 in
-    let most = above_all-most a (places_of c.in-Tuple-Tuple.parts) (table.parts_first a _ row) in
+    let most =
+    above_all-most (height types) (height types a) (places_of c.in-Tuple-Tuple.parts)
+    (parts_lower types table.finite a _ row) in
     rw (c.as_slice-in-Tuple-Tuple.ensures, c.as_slice-in-Tuple-Tuple-2.ensures) (
       omega (arith, c.decreases, most),
       (
-        parts_within types a _ table.parts_first row,
-        (parts_within types c.args.b.0 _ table.parts_first other, c.requires.known),
+        parts_within types a _ table.finite row,
+        (parts_within types c.args.b.0 _ table.finite other, c.requires.known),
       ),
     )
 
@@ -150,7 +155,7 @@ check_rows-returns-in-Tuple-Tuple-clause-answer t c =
     same_answer c.check_each-in-Tuple-Tuple.result _ _
     (rw (c.as_slice-in-Tuple-Tuple.ensures, c.as_slice-in-Tuple-Tuple-2.ensures)
     at c.check_each-in-Tuple-Tuple.ensures.answer)
-    (sym (tuples_consistent types c.len.ensures.table.parts_first c.args.a.0 c.args.b.0 c.requires.a
+    (sym (tuples_consistent types c.len.ensures.table.finite c.args.a.0 c.args.b.0 c.requires.a
     (places_of c.in-Tuple-Tuple.parts) (places_of c.in-Tuple-Tuple.others)
     (c.row.ensures ∙ ap (λ r. Some (row_of r)) c.in-Tuple-Tuple.is-0)
     (c.row-2.ensures ∙ ap (λ r. Some (row_of r)) c.in-Tuple-Tuple.is-1)))
@@ -164,13 +169,15 @@ check_rows-check-requires-in-Ref-Ref t c =
     c.row.ensures ∙ ap (λ r. Some (row_of r)) c.in-Ref-Ref.is-0 in
     let other : row_at types c.args.b.0 ≡ Some (RefRow c.in-Ref-Ref.other.0) =
     c.row-2.ensures ∙ ap (λ r. Some (row_of r)) c.in-Ref-Ref.is-1 in
-    let below = All-head (λ part. part < a) c.in-Ref-Ref.content.0 [] (table.parts_first a _ row) in (
+    let high : ℕ = height types a in
+    let below =
+    All-head (λ part. height types part < high) c.in-Ref-Ref.content.0 [] (parts_lower types table.finite a _ row) in (
       omega (arith, c.decreases, below),
       (
-        All-head (λ part. part < length types) c.in-Ref-Ref.content.0 [] (parts_within types a _ table.parts_first row),
+        All-head (λ part. part < length types) c.in-Ref-Ref.content.0 [] (parts_within types a _ table.finite row),
         (
           All-head (λ part. part < length types) c.in-Ref-Ref.other.0 []
-              (parts_within types c.args.b.0 _ table.parts_first other),
+              (parts_within types c.args.b.0 _ table.finite other),
           c.requires.known,
         ),
       ),
@@ -179,7 +186,7 @@ check_rows-check-requires-in-Ref-Ref t c =
 pub check_rows-returns-in-Ref-Ref-clause-answer : goal.check_rows-returns-in-Ref-Ref-clause-answer
 check_rows-returns-in-Ref-Ref-clause-answer t c =
     same_answer c.check-in-Ref-Ref.result _ _ c.check-in-Ref-Ref.ensures.answer
-    (sym (references_consistent c.args.types.now c.len.ensures.table.parts_first c.args.a.0 c.args.b.0 c.requires.a
+    (sym (references_consistent c.args.types.now c.len.ensures.table.finite c.args.a.0 c.args.b.0 c.requires.a
     c.in-Ref-Ref.content.0 c.in-Ref-Ref.other.0 (c.row.ensures ∙ ap (λ r. Some (row_of r)) c.in-Ref-Ref.is-0)
     (c.row-2.ensures ∙ ap (λ r. Some (row_of r)) c.in-Ref-Ref.is-1)))
 
@@ -192,14 +199,17 @@ check_rows-check-requires-in-Vect-Vect t c =
     c.row.ensures ∙ ap (λ r. Some (row_of r)) c.in-Vect-Vect.is-0 in
     let other : row_at types c.args.b.0 ≡ Some (VectRow c.in-Vect-Vect.other.0) =
     c.row-2.ensures ∙ ap (λ r. Some (row_of r)) c.in-Vect-Vect.is-1 in
-    let below = All-head (λ part. part < a) c.in-Vect-Vect.content.0 [] (table.parts_first a _ row) in (
+    let high : ℕ = height types a in
+    let below =
+    All-head (λ part. height types part < high) c.in-Vect-Vect.content.0 []
+    (parts_lower types table.finite a _ row) in (
       omega (arith, c.decreases, below),
       (
         All-head (λ part. part < length types) c.in-Vect-Vect.content.0 []
-            (parts_within types a _ table.parts_first row),
+            (parts_within types a _ table.finite row),
         (
           All-head (λ part. part < length types) c.in-Vect-Vect.other.0 []
-              (parts_within types c.args.b.0 _ table.parts_first other),
+              (parts_within types c.args.b.0 _ table.finite other),
           c.requires.known,
         ),
       ),
@@ -208,6 +218,6 @@ check_rows-check-requires-in-Vect-Vect t c =
 pub check_rows-returns-in-Vect-Vect-clause-answer : goal.check_rows-returns-in-Vect-Vect-clause-answer
 check_rows-returns-in-Vect-Vect-clause-answer t c =
     same_answer c.check-in-Vect-Vect.result _ _ c.check-in-Vect-Vect.ensures.answer
-    (sym (vectors_consistent c.args.types.now c.len.ensures.table.parts_first c.args.a.0 c.args.b.0 c.requires.a
+    (sym (vectors_consistent c.args.types.now c.len.ensures.table.finite c.args.a.0 c.args.b.0 c.requires.a
     c.in-Vect-Vect.content.0 c.in-Vect-Vect.other.0 (c.row.ensures ∙ ap (λ r. Some (row_of r)) c.in-Vect-Vect.is-0)
     (c.row-2.ensures ∙ ap (λ r. Some (row_of r)) c.in-Vect-Vect.is-1)))
