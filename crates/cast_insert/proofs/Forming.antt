@@ -127,18 +127,17 @@ split_last types (x ∷ xs) a all =
     (rows_then types x xs (head_row types x (xs ++ a ∷ []) all) rest.0, rest.1)
 
 -- types that are consistent one by one are so in a larger table
-related_later : (types new : TypeRows) (xs ys : List ℕ) → IsFormedTable types → IsFormedTable new →
-    HasMoreRows types new → AreRows types xs → AreRows types ys → related (consistent types) xs ys ≡ true →
+related_later : (types new : TypeRows) (xs ys : List ℕ) → IsFormedTable types → HasMoreRows types new → AreRows types xs → AreRows types ys → related (consistent types) xs ys ≡ true →
     related (consistent new) xs ys ≡ true
-related_later types new [] [] table later more ones others e = refl
-related_later types new [] (y ∷ ys) table later more ones others e = cc
-related_later types new (x ∷ xs) [] table later more ones others e = cc
-related_later types new (x ∷ xs) (y ∷ ys) table later more ones others e =
+related_later types new [] [] table more ones others e = refl
+related_later types new [] (y ∷ ys) table more ones others e = cc
+related_later types new (x ∷ xs) [] table more ones others e = cc
+related_later types new (x ∷ xs) (y ∷ ys) table more ones others e =
     let both = and_parts (consistent types x y) (related (consistent types) xs ys) e in
     and_from (consistent new x y) (related (consistent new) xs ys)
-    (consistent_kept types new table.finite later.finite more x y (head_row types x xs ones)
+    (consistent_kept types new table.finite more x y (head_row types x xs ones)
     (head_row types y ys others) ∙ both.0)
-    (related_later types new xs ys table later more (tail_rows types x xs ones) (tail_rows types y ys others) both.1)
+    (related_later types new xs ys table more (tail_rows types x xs ones) (tail_rows types y ys others) both.1)
 
 module _ (blended : ℕ → ℕ → Forming ℕ) (forms : FormsTypes blended) where
   each_formed : (xs ys : List ℕ) (types : TypeRows) → IsFormedTable types → AreRows types xs → AreRows types ys →
@@ -154,7 +153,7 @@ module _ (blended : ℕ → ℕ → Forming ℕ) (forms : FormsTypes blended) wh
       let both = and_parts (consistent types x y) (related (consistent types) xs ys) e in
       let t = forms x y types table (head_row types x xs ones) (head_row types y ys others) both.0 in
       let one = blended x y types in
-      let later = related_later types one.1 xs ys table t.0 t.1 (tail_rows types x xs ones)
+      let later = related_later types one.1 xs ys table t.1 (tail_rows types x xs ones)
       (tail_rows types y ys others) both.1 in
       let r = each_formed xs ys one.1 t.0 (more_parts types one.1 xs t.1 (tail_rows types x xs ones))
       (more_parts types one.1 ys t.1 (tail_rows types y ys others)) later in

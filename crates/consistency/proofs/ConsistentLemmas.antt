@@ -73,7 +73,7 @@ rows_kept f g n (Some row) (Some other) same all others =
 rows_kept f g n (Some row) None same all others = refl
 rows_kept f g n None other same all others = refl
 
-module _ (types new : TypeRows) (finite : AreFinite types) (later : AreFinite new) (more : HasMoreRows types new) where
+module _ (types new : TypeRows) (finite : AreFinite types) (more : HasMoreRows types new) where
   there : (a : ℕ) (r : TypeRow) → row_at types a ≡ Some r → All (λ x. x < length types) (parts_of r)
   there a r e = parts_within types a r finite e
 

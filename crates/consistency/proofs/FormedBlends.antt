@@ -51,15 +51,14 @@ seconds-pair_up (x ∷ xs) (y ∷ ys) e = ap (λ l. y ∷ l) (seconds-pair_up xs
 -- ---- parts
 
 -- what stays of pairs that may be blended where rows are added
-MayBlend-grown : (types new : TypeRows) (pairs : List Pair) → AreFinite types → AreFinite new →
-    HasMoreRows types new →
+MayBlend-grown : (types new : TypeRows) (pairs : List Pair) → AreFinite types → HasMoreRows types new →
     All (MayBlend types) pairs → All (MayBlend new) pairs
-MayBlend-grown types new pairs finite later more all =
+MayBlend-grown types new pairs finite more all =
     All-weaker (MayBlend types) (MayBlend new) (λ pair may. record {
       first_there = later_within types new pair.first.0 more may.first_there;
       second_there = later_within types new pair.second.0 more may.second_there;
       consistent_pair =
-          consistent_kept types new finite later more pair.first.0 pair.second.0 may.first_there may.second_there
+          consistent_kept types new finite more pair.first.0 pair.second.0 may.first_there may.second_there
           ∙ may.consistent_pair;
     }) pairs all
 
@@ -96,7 +95,7 @@ each_forms depth forms (pair ∷ pairs) types table may deep =
     (All-head (EndsWithin depth types) a (firsts pairs) deep) in
     let middle : TypeRows = (blend_to depth a b types).1 in
     let rest = each_forms depth forms pairs middle one.table
-    (MayBlend-grown types middle pairs table.finite one.table.finite one.grown others)
+    (MayBlend-grown types middle pairs table.finite one.grown others)
     (firsts_end depth types middle pairs table.finite.closed one.grown others
     (All-tail (EndsWithin depth types) a (firsts pairs) deep)) in
     let last : TypeRows = (blend_each (blend_to depth) (firsts pairs) (seconds pairs) middle).1 in (

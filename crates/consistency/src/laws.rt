@@ -13,7 +13,7 @@ ghost use Rattle.consistency.specs.Known.{FormsBlend};
 pub fn consistency_goes_by_rows()
     ensures rows { (types : TypeRows) (a b : ℕ) → AreFinite types → a < length types
         → consistent types a b ≡ consistent_rows (consistent types) (row_at types a) (row_at types b) }
-    ensures kept { (types more : TypeRows) (a b : ℕ) → AreFinite types → AreFinite (types ++ more)
+    ensures kept { (types more : TypeRows) (a b : ℕ) → AreFinite types
         → a < length types → b < length types → consistent (types ++ more) a b ≡ consistent types a b }
 {}
 

@@ -20,7 +20,7 @@ its_size = refl
 a_box_of_itself : deep_to 1 (RefRow 0 ∷ []) 0 ≡ true
 a_box_of_itself = refl
 
--- neither has a function from a vector of itself to Int; Int has one
+-- nor has a function from a vector of itself to Int; Int has one
 abbrev round : TypeRows
 round = FunRow (1 ∷ []) 2 ∷ VectRow 0 ∷ IntRow ∷ []
 

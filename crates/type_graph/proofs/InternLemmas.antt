@@ -8,7 +8,7 @@ use Rattle.std.proofs.lemmas.Option.{slice_get_within, slice_get-get_or, get_or_
 use Rattle.grift_base.specs.Tables.{HasNoRepeats, Interns}
 use Rattle.grift_base.specs.Types.{TypeRow, TypeRows, row_at, parts_of}
 use Rattle.type_graph.specs.Forming.{equal_rows, place_where, at_place_or_last, intern}
-use Rattle.type_graph.specs.Trees.{row_parts, EndsWithin, AreFinite, sum_of, size, above_all, height}
+use Rattle.type_graph.specs.Trees.{row_parts, EndsWithin, PartsFirst, AreFinite, sum_of, size, above_all, height}
 use Rattle.type_graph.specs.TypeTables.{HasWidth, HaveWidths, AreLow, MayBePart, FitsTable, IsOrderedTable, IsMeasure}
 use Rattle.type_graph.specs.TypeTables.{IsMeasureOfParts, IsKept}
 use Rattle.type_graph.specs.TypeTables.{HasMoreRows}
@@ -271,6 +271,24 @@ IsOrderedTable-intern types row table fits = by_place (place_where (equal_rows r
       widths = HaveWidths-push types row fits table.finite table.widths;
       low = AreLow-push types row fits table.finite table.low;
     }
+
+-- parts stand before wholes where a row is interned, if they did before
+pub PartsFirst-intern : (types : TypeRows) (row : TypeRow) → PartsFirst types → FitsTable types row →
+    PartsFirst (intern row types).1
+PartsFirst-intern types row first fits = by_place (place_where (equal_rows row) types)
+  where
+    there : All (λ part. part < length types) (parts_of row)
+    there = All-weaker (MayBePart types) (λ part. part < length types) (λ part h. h.there) (parts_of row) fits.parts
+
+    last : (type : ℕ) (other : TypeRow) → InNewRow types row type other → All (λ part. part < type) (parts_of other)
+    last type other (inl f) = first type other f
+    last type other (inr f) =
+        subst (λ r. All (λ part. part < type) (parts_of r)) f.1
+        (subst (λ n. All (λ part. part < n) (parts_of row)) (sym f.0) there)
+
+    by_place : (o : Option ℕ) → PartsFirst (at_place_or_last o row types).1
+    by_place (Some k) = first
+    by_place None = λ type other e. last type other (get_before_or_last types row other type e)
 
 -- an interned row stands at its place
 pub row_at-intern : (row : TypeRow) (types : TypeRows) → row_at (intern row types).1 (intern row types).0 ≡ Some row

@@ -32,6 +32,11 @@ EndsWithin depth types type = deep_to depth types type ≡ false
 abbrev pub Ends : TypeRows → ℕ → Type 0
 Ends types type = EndsWithin (length types) types type
 
+-- each part of a row stands before it, as in a table that was filled row by row; no table is asked this
+abbrev pub PartsFirst : TypeRows → Type 0
+PartsFirst types =
+    (type : ℕ) (row : TypeRow) → row_at types type ≡ Some row → All (λ part. part < type) (parts_of row)
+
 -- a table whose types are trees: its rows have their parts there, and each type ends
 pub record AreFinite (types : TypeRows) : Type 0 where
   pub closed : IsClosed types

@@ -48,7 +48,7 @@ impl Measure {
     }
 }
 
-/// Distinct rows, in order of first use, each behind its parts.
+/// Distinct rows, in order of first use.
 pub struct TypeTable {
     rows: IndexMap<Row, Measure>,
 }

@@ -61,7 +61,7 @@ form_each-form-requires t c =
         (
           later_within old now pair.second.0 grown may.second_there,
           (
-            consistent_kept old now c.len.ensures.table.finite c.len-in-loop-pair.ensures.table.finite grown
+            consistent_kept old now c.len.ensures.table.finite grown
                 pair.first.0 pair.second.0 may.first_there may.second_there
                 ∙ may.consistent_pair,
             c.loop-pair.invariant.known,

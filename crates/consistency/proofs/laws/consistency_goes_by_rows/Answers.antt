@@ -6,5 +6,5 @@ pub returns-clause-rows : goal.returns-clause-rows
 returns-clause-rows c = λ types a b finite within. consistent_by_rows types finite a b within
 
 pub returns-clause-kept : goal.returns-clause-kept
-returns-clause-kept c = λ types more a b finite later one two.
-    consistent_kept types (types ++ more) finite later (more, refl) a b one two
+returns-clause-kept c = λ types more a b finite one two.
+    consistent_kept types (types ++ more) finite (more, refl) a b one two
