@@ -23,8 +23,8 @@ args_next first from zero (x ∷ xs) d h =
     ap (λ n. put_item first (Real (FIRST_ARGUMENT + n)) x ∷ []) same
 args_next first from (suc i) (x ∷ xs) d h =
     let same : suc from + i ≡ from + suc i = omega arith in
-    ap (λ ys. put_item first (Real (FIRST_ARGUMENT + from)) x
-        ∷ ys) (args_next first (suc from) i xs d (omega (arith, h))
+    ap (λ ys. put_item first (Real (FIRST_ARGUMENT + from)) x ∷ ys)
+        (args_next first (suc from) i xs d (omega (arith, h))
     ∙ ap (λ n. args_items first (suc from) (take i xs)
         ++ (put_item first (Real (FIRST_ARGUMENT + n)) (get_or xs i d) ∷ [])) same)
 

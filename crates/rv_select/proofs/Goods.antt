@@ -430,9 +430,8 @@ module _ (M : ℕ → Held) (procs : List Proc) (n first out : ℕ) (fixed_out :
             (source_reg first SECOND_SCRATCH b) in
           subst (Ok M K) (sym (append_assoc (source_items SECOND_SCRATCH b) (item ∷ code_items first out m rest) ys))
           (source_ok M first out SECOND_SCRATCH b known K _ hk kb (λ J w vb.
-          plain_ok M item J
-            _ tt (λ z r. two_read M J (source_reg first FIRST_SCRATCH a) (source_reg first SECOND_SCRATCH b) z (w _ va)
-              vb r)
+          plain_ok M item J _ tt (λ z r.
+            two_read M J (source_reg first FIRST_SCRATCH a) (source_reg first SECOND_SCRATCH b) z (w _ va) vb r)
           (next J (has_up K J first known w hk))))
   good_code (LowLoad d a offset rest) m known k L ys h e s go =
       let g = parted procs n known (LowLoad d a offset rest) _ k e in
@@ -453,9 +452,8 @@ module _ (M : ℕ → Held) (procs : List Proc) (n first out : ℕ) (fixed_out :
       (source_ok M first out FIRST_SCRATCH a known L _ h ka (λ K u va.
       subst (Ok M K) (sym (append_assoc (source_items SECOND_SCRATCH b) (item ∷ code) ys))
       (source_ok M first out SECOND_SCRATCH b known K _ (has_up L K first known u h) kb (λ J w vb.
-      plain_ok M item J
-        _ tt (λ z r. two_read M J (source_reg first FIRST_SCRATCH a) (source_reg first SECOND_SCRATCH b) z (w _ va) vb
-          r)
+      plain_ok M item J _ tt (λ z r.
+        two_read M J (source_reg first FIRST_SCRATCH a) (source_reg first SECOND_SCRATCH b) z (w _ va) vb r)
       (good_code rest m known k _ ys (has_up K J first known w (has_up L K first known u h)) g.1 s go)))))
   good_code (LowCodeOf d i rest) m known k L ys h e s go =
       let g = parted procs n known (LowCodeOf d i rest) _ k e in
@@ -530,10 +528,10 @@ module _ (M : ℕ → Held) (procs : List Proc) (n first out : ℕ) (fixed_out :
       let h1 : Has K1 first known = has_up K K1 first known (up_reg (Real FIRST_SCRATCH) K) hk in
       plain_ok M (ComputeWith Sll (Real FIRST_SCRATCH) reg 3) K _ tt (λ z r. one_read M K reg z v r) (
       plain_ok M (Compute Add (Real ALLOCATION) (Real ALLOCATION) (Real FIRST_SCRATCH)) K1 _ tt (λ z r.
-      two_read M K1 (Real ALLOCATION) (Real FIRST_SCRATCH) z (h1.0 ALLOCATION refl) (reg_there (Real FIRST_SCRATCH) K)
-        r) (
-      good_code rest m known k
-        _ ys (has_up K1 (with_reg (Real ALLOCATION) K1) first known (up_reg (Real ALLOCATION) K1) h1) g.1 s
+      two_read M K1 (Real ALLOCATION) (Real FIRST_SCRATCH) z (h1.0 ALLOCATION refl)
+        (reg_there (Real FIRST_SCRATCH) K) r) (
+      good_code rest m known k _ ys
+        (has_up K1 (with_reg (Real ALLOCATION) K1) first known (up_reg (Real ALLOCATION) K1) h1) g.1 s
       go))))
   good_code (LowEnvironment number a b d e rest) m known k L ys h q s go =
       let g = parted procs n known (LowEnvironment number a b d e rest) _ k q in

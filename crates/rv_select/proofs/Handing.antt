@@ -42,9 +42,8 @@ args_known from (w ∷ ws) known = args_known (suc from) ws (also_known (FIRST_A
 -- what was known stays known
 pub known_low : (ws : List ℕ) (from q : ℕ) (known : ℕ → Bool) → known q ≡ true → args_known from ws known q ≡ true
 known_low [] from q known h = h
-known_low (w
-    ∷ ws) from q known h = known_low ws (suc from) q (also_known (FIRST_ARGUMENT + from) known)
-        (kept (q == FIRST_ARGUMENT + from))
+known_low (w ∷ ws) from q known h =
+    known_low ws (suc from) q (also_known (FIRST_ARGUMENT + from) known) (kept (q == FIRST_ARGUMENT + from))
   where
     kept : (c : Bool) → (c || known q) ≡ true
     kept true = refl
@@ -64,8 +63,8 @@ known_args (w ∷ ws) from i known h k =
         → args_known from (w ∷ ws) known (FIRST_ARGUMENT + i) ≡ true
     pick true e ih =
         let same : (FIRST_ARGUMENT + i == FIRST_ARGUMENT + from) ≡ true = grind arith in
-        known_low ws (suc from) (FIRST_ARGUMENT + i) (also_known (FIRST_ARGUMENT + from) known) (ap (λ c. c
-          || known (FIRST_ARGUMENT + i)) same)
+        known_low ws (suc from) (FIRST_ARGUMENT + i) (also_known (FIRST_ARGUMENT + from) known)
+        (ap (λ c. c || known (FIRST_ARGUMENT + i)) same)
     pick false e ih = let later : suc from ≤ i = grind arith in ih later
 
 -- as many words as sources
@@ -281,8 +280,8 @@ module _ {V : Type 0} (reading : Halt → Ending V) (setting : Setting) where
         does_item reading setting P Q (plus_steps n k) (prices setting t.active.found
         (params_items t.active.found.first (suc from) n) left) t t1 _ s.0 (move_local reading setting t
         (t.active.found.first + from) (Real (FIRST_ARGUMENT + from)) word
-        (ap (λ b. if b
-          && (is_fixed (FIRST_ARGUMENT + from) || t.known (FIRST_ARGUMENT + from)) then Some word else None)
+        (ap (λ b. if b && (is_fixed (FIRST_ARGUMENT + from) || t.known (FIRST_ARGUMENT + from)) then Some word else
+          None)
         (readable from n f) ∙ ap (λ b. if b then Some word else None)
         (or_known (is_fixed (FIRST_ARGUMENT + from)) (kn from (omega arith) (omega arith))))
           (own t.active.found from n g))

@@ -61,14 +61,14 @@ module _ (first out : ℕ) where
   code_has (Request d a rest) m w h k = later (source_items THIRD_SCRATCH a) _ w (code_has rest m w h k)
   code_has (Take a rest) m w h k = later (source_items THIRD_SCRATCH a) _ w (code_has rest m w h k)
   code_has (LowEnvironment number a b d e rest) m w h k =
-      later (put_item first (Real FIRST_ARGUMENT) a ∷ put_item first (Real SECOND_ARGUMENT) b
-        ∷ []) _ w (code_has rest m w h k)
+      later (put_item first (Real FIRST_ARGUMENT) a ∷ put_item first (Real SECOND_ARGUMENT) b ∷ []) _ w
+        (code_has rest m w h k)
   code_has (LowCall d i args rest) m w h k = later (args_items first 0 args) _ w (code_has rest m w h k)
   code_has (LowCallAt d f args rest) m w h k =
       later (source_items THIRD_SCRATCH f) _ w (later (args_items first 0 args) _ w (code_has rest m w h k))
   code_has (If cond a b one other rest) m w h k =
-      later (source_items FIRST_SCRATCH a)
-        _ w (later (source_items SECOND_SCRATCH b) _ w (in_branch h k (code_has other (suc (suc m)) w)
+      later (source_items FIRST_SCRATCH a) _ w
+        (later (source_items SECOND_SCRATCH b) _ w (in_branch h k (code_has other (suc (suc m)) w)
       (code_has one (suc (suc m) + marks_in other) w) (code_has rest (suc (suc m) + marks_in other + marks_in one) w)
       (cases_lt w (suc (suc m)))))
     where
@@ -243,12 +243,12 @@ module _ (S : List ℕ) where
     code_well Done m h t s = tt
     code_well (Set d a rest) m h t s = (put_well first (Virtual (first + d)) a tt, code_well rest m h t s)
     code_well (LowCompute op d a b rest) m h t s =
-        with_source FIRST_SCRATCH a
-          _ refl (well_append (second_items (is_small op b) b) _ (second_well (is_small op b) b)
+        with_source FIRST_SCRATCH a _ refl
+          (well_append (second_items (is_small op b) b) _ (second_well (is_small op b) b)
         (compute_well op first d a b (is_small op b), code_well rest m h t s))
     code_well (LowLoad d a offset rest) m h t s =
-        with_source FIRST_SCRATCH a
-          _ refl ((tt, (tt, (readable_source first FIRST_SCRATCH a refl, tt))), code_well rest m h.1 t s)
+        with_source FIRST_SCRATCH a _ refl
+          ((tt, (tt, (readable_source first FIRST_SCRATCH a refl, tt))), code_well rest m h.1 t s)
     code_well (LowStore b a offset rest) m h t s =
         with_source FIRST_SCRATCH a _ refl (with_source SECOND_SCRATCH b _ refl
         ((tt, (readable_source first FIRST_SCRATCH a refl, (readable_source first SECOND_SCRATCH b refl, tt))),
@@ -333,8 +333,8 @@ module _ (S : List ℕ) where
     code_well (LowReturn a) m h t s = (put_well first (Real ANSWER) a refl, ((tt, (refl, tt)), tt))
     code_well (LowTailCall k args) m h t s = with_args args _ h (((there k t, tt), handed args h), tt)
     code_well (LowTailCallAt f args) m h t s =
-        with_source THIRD_SCRATCH f
-          _ refl (with_args args _ h ((tt, (readable_source first THIRD_SCRATCH f refl, handed args h)), tt))
+        with_source THIRD_SCRATCH f _ refl
+          (with_args args _ h ((tt, (readable_source first THIRD_SCRATCH f refl, handed args h)), tt))
 
   procs_well : (n : ℕ) → ((k : ℕ) → k < n → Contains S k) → (ps : List Proc) (k first mark : ℕ) → AreSmall ps
       → AllThere n ps → ((w : ℕ) → Has (procs_items k first mark ps) w → Contains S w)
